@@ -1,0 +1,40 @@
+use crate::Rule;
+use std::alloc::{AllocError, AllocFailed};
+
+/// Why a text was refused: the number of the refusal, and the line where the fault stands.
+///
+/// Lines count from 1, comments and blank lines too. Want of memory (M1) and a device's fault (L5, L6)
+/// stand at no line, and have line 0.
+#[derive(Clone, Copy, Debug, PartialEq, Eq)]
+pub struct Fault {
+    pub rule: Rule,
+    pub line: usize,
+}
+
+impl From<AllocError> for Fault {
+    ghost use Rattle.std.specs.Prelude.{◌≡◌};
+    ghost use Rattle.iocm_types.specs.Fault.{memory};
+
+    ghost from_gives = { λ _ e. e ≡ memory };
+
+    fn from(_error: AllocError) -> Fault {
+        Fault {
+            rule: Rule::M1,
+            line: 0,
+        }
+    }
+}
+
+impl<T: Drop> From<AllocFailed<T>> for Fault {
+    ghost use Rattle.std.specs.Prelude.{◌≡◌};
+    ghost use Rattle.iocm_types.specs.Fault.{memory};
+
+    ghost from_gives = { λ _ e. e ≡ memory };
+
+    fn from(_error: AllocFailed<T>) -> Fault {
+        Fault {
+            rule: Rule::M1,
+            line: 0,
+        }
+    }
+}
