@@ -1,0 +1,9 @@
+pub mod Configuration
+pub mod Mask
+pub mod Naming
+pub mod Numbering
+pub mod PathList
+pub mod Record
+pub mod Sight
+pub mod Table
+pub mod View

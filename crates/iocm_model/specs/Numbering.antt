@@ -1,0 +1,58 @@
+-- Subchannel numbers: in each channel subsystem and subchannel set the devices that are reached there
+-- have one each, the same in every image of the channel subsystem. Own.
+use Rattle.std.specs.Prelude.{◌≡◌, ℕ, ◌+◌, ◌==◌, ◌&&◌, Bool, true, false, not, List, [], ◌∷◌, map, filter, is_some, Option, Some}
+use Rattle.std.specs.List.{flat_map}
+use Rattle.std.specs.FinMap.{FinMap, get, entries, from_entries}
+use Rattle.iocm_types.specs.declared.place.Place.{Place}
+use Rattle.iocm_types.specs.declared.place.NumberCell.{NumberCell}
+use Rattle.iocm_types.specs.declared.key.Key.TheVariants.{Device}
+use Rattle.iocm_types.specs.Place.{place_cmp, cell_cmp}
+use Rattle.iocm_model.specs.Record.{Rec, DeviceRecord, device}
+use Rattle.iocm_model.specs.Configuration.{Configuration, Lookup, lookup_of, devices_of}
+use Rattle.iocm_model.specs.PathList.{path_list}
+
+-- the number of a device at its place
+abbrev pub Numbering : Type 0
+Numbering = FinMap place_cmp ℕ
+
+abbrev pub is_empty : {A : Type 0} → List A → Bool
+is_empty [] = true
+is_empty (x ∷ xs) = false
+
+-- whether a channel subsystem reaches a device: its path list there isn't empty
+abbrev pub is_reached : Lookup → ℕ → DeviceRecord → Bool
+is_reached c css d = not (is_empty (path_list c css d.units))
+
+-- whether there is such a device of the set, and it is reached
+abbrev pub is_record_reached : Lookup → ℕ → Option Rec → Bool
+is_record_reached c css (Some (device d)) = is_reached c css d
+is_record_reached c css _ = false
+
+-- a numbering has exactly the devices that are reached, and no number twice
+pub record IsNumbering (c : Lookup) (n : Numbering) : Type 0 where
+  pub domain : (p : Place) → is_some (get n p) ≡ is_record_reached c p.css (c (Device p.set p.device))
+  pub apart : (p q : Place) (number : ℕ) → p.css ≡ q.css → p.set ≡ q.set
+      → get n p ≡ Some number → get n q ≡ Some number → p ≡ q
+
+-- the devices of a set that are reached, in the order of their numbers
+abbrev pub reached_in : Configuration → ℕ → ℕ → List ℕ
+reached_in c css set =
+    map (λ (d : DeviceRecord). d.number) (filter (λ (d : DeviceRecord). d.set == set && is_reached (lookup_of c) css d) (devices_of c))
+
+-- numbers from n on, one after the other
+abbrev pub numbered : ℕ → ℕ → ℕ → List ℕ → List (Place × ℕ)
+numbered css set n [] = []
+numbered css set n (d ∷ ds) = (record { css = css; set = set; device = d }, n) ∷ numbered css set (n + 1) ds
+
+-- at opening: 0, 1, 2, .. in order of device number, in each channel subsystem and set
+abbrev pub opening : Configuration → Numbering
+opening c = from_entries (flat_map (λ css. flat_map (λ set. numbered css set 0 (reached_in c css set)) (0 ∷ 1 ∷ 2 ∷ 3 ∷ []))
+    (0 ∷ 1 ∷ 2 ∷ 3 ∷ 4 ∷ 5 ∷ []))
+
+-- the number cells: which device each number is
+abbrev pub cells_of : Numbering → FinMap cell_cmp ℕ
+cells_of n = from_entries (map (λ (e : Place × ℕ). (record { css = e.0.css; set = e.0.set; number = e.1 }, e.0.device)) (entries n))
+
+-- the device that has a number
+abbrev pub device_at : Numbering → NumberCell → Option ℕ
+device_at n cell = get (cells_of n) cell

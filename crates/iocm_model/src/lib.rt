@@ -1,0 +1,2 @@
+//! What the product means, and no code that runs.
+#![tactic(auto)]

@@ -1,0 +1,136 @@
+ghost use Rattle.std.specs.Prelude.{◌≡◌, IfOk};
+
+use crate::Carried;
+use crate::carried::copy_carried;
+use crate::copies::{copy_device, copy_path, copy_unit};
+use iocm_types::{
+    Chpid, Css, CssLink, CssPath, DevNo, Key, List, Mif, Name, PathKind, SetNo, UnitNo, UnitRange,
+};
+use std::alloc::{AllocError, Allocator, Global};
+use std::marker::Model;
+
+/// A channel path: how it is used, and the names of the images in its access and its candidate list,
+/// each list ascending with each name once.
+#[derive(Debug, Drop)]
+pub struct PathFields<A: Allocator = Global> {
+    pub css: Css,
+    pub number: Chpid,
+    pub kind: PathKind,
+    pub access: List<Name, A>,
+    pub candidates: List<Name, A>,
+    pub carried: Vec<Carried<A>, A>,
+}
+
+/// A control unit: its paths and their links in the order of the text, channel subsystems ascending,
+/// its ranges of unit addresses, and its CUADD.
+#[derive(Debug, Drop)]
+pub struct UnitFields<A: Allocator = Global> {
+    pub number: UnitNo,
+    pub paths: List<CssPath, A>,
+    pub ranges: List<UnitRange, A>,
+    pub links: List<CssLink, A>,
+    pub cuadd: Option<u8>,
+    pub carried: Vec<Carried<A>, A>,
+}
+
+/// A device: its control units in their order, its unit address, and the names of its candidates,
+/// ascending with each once, where it lists them.
+#[derive(Debug, Drop)]
+pub struct DeviceFields<A: Allocator = Global> {
+    pub set: SetNo,
+    pub number: DevNo,
+    pub units: List<UnitNo, A>,
+    pub unit_address: u8,
+    pub candidates: Option<List<Name, A>>,
+    pub carried: Vec<Carried<A>, A>,
+}
+
+/// The eight kinds of records with their fields. A `Record` has one of these inside.
+#[derive(Debug, Drop)]
+pub enum RecordBody<A: Allocator = Global> {
+    /// What an ID statement carries.
+    Id(Vec<Carried<A>, A>),
+    /// What a RESOURCE statement carries.
+    Resource(Vec<Carried<A>, A>),
+    /// An image: its channel subsystem, its MIF image ID there, and its name.
+    Image(Css, Mif, Name),
+    /// Below which number the subchannels of a set stay in a channel subsystem.
+    Limit(Css, SetNo, u16),
+    Path(PathFields<A>),
+    Unit(UnitFields<A>),
+    Device(DeviceFields<A>),
+    /// That a path of a channel subsystem is online to the image of this name.
+    Online(Css, Chpid, Name),
+}
+
+/// A record of a configuration. Contracts see it as a plain value, whatever its allocator.
+#[derive(Debug, Drop)]
+pub struct Record<A: Allocator = Global> {
+    body: RecordBody<A>,
+}
+
+impl<A: Allocator> Model for Record<A> {
+    ghost use Rattle.iocm_model.specs.Record.{Rec};
+
+    ghost Value = { Rec };
+
+    ghost use Rattle.iocm_records.specs.Meaning.{record_of};
+
+    ghost view = { λ r. record_of r.body };
+}
+
+impl<A: Allocator> Record<A> {
+    ghost use Rattle.iocm_model.specs.Record.{key_of};
+    ghost use Rattle.iocm_records.specs.Meaning.{record_of};
+
+    pub fn new(body: RecordBody<A>) -> Self
+        ensures { result ≡ record_of body }
+    {
+        Record { body }
+    }
+
+    pub fn body(&self) -> &RecordBody<A>
+        ensures { record_of result.now ≡ self.now }
+    {
+        &self.body
+    }
+
+    pub fn into_body(self) -> RecordBody<A>
+        ensures { record_of result ≡ self }
+    {
+        self.body
+    }
+
+    /// The key that the record stands under.
+    pub fn key(&self) -> Key
+        ensures { result ≡ key_of self.now }
+    {
+        match &self.body {
+            RecordBody::Id(_) => Key::Id,
+            RecordBody::Resource(_) => Key::Resource,
+            RecordBody::Image(css, mif, _) => Key::Image(*css, *mif),
+            RecordBody::Limit(css, set, _) => Key::Limit(*css, *set),
+            RecordBody::Path(path) => Key::Path(path.css, path.number),
+            RecordBody::Unit(unit) => Key::Unit(unit.number),
+            RecordBody::Device(device) => Key::Device(device.set, device.number),
+            RecordBody::Online(css, path, name) => Key::Online(*css, *path, *name),
+        }
+    }
+
+    /// An equal record under another allocator.
+    pub fn copy_in<B: Allocator + Clone>(&self, alloc: B) -> Result<Record<B>, AllocError>
+        ensures { IfOk result (λ copy. copy ≡ self.now) }
+    {
+        let body = match &self.body {
+            RecordBody::Id(carried) => RecordBody::Id(copy_carried(carried, alloc)?),
+            RecordBody::Resource(carried) => RecordBody::Resource(copy_carried(carried, alloc)?),
+            RecordBody::Image(css, mif, name) => RecordBody::Image(*css, *mif, *name),
+            RecordBody::Limit(css, set, limit) => RecordBody::Limit(*css, *set, *limit),
+            RecordBody::Path(path) => RecordBody::Path(copy_path(path, alloc)?),
+            RecordBody::Unit(unit) => RecordBody::Unit(copy_unit(unit, alloc)?),
+            RecordBody::Device(device) => RecordBody::Device(copy_device(device, alloc)?),
+            RecordBody::Online(css, path, name) => RecordBody::Online(*css, *path, *name),
+        };
+        Ok(Record { body })
+    }
+}
