@@ -1,0 +1,5 @@
+pub mod Operands
+pub mod Operation
+pub mod Pieces
+pub mod Place
+pub mod Statement
