@@ -57,7 +57,7 @@ same_key _ _ = false
 -- two of these operands have the same key
 abbrev pub has_twins : List Operand → Bool
 has_twins [] = false
-has_twins (e ∷ es) = list_any (λ (other : Operand). same_key e.0 other.0) es || has_twins es
+has_twins (e ∷ es) = list_any (λ (other : Operand). same_key other.0 e.0) es || has_twins es
 
 -- the operands, if no two have the same key
 abbrev pub without_twins : Fault → List Operand → Result (List Operand) Fault
