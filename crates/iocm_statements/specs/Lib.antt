@@ -1,3 +1,5 @@
+pub mod Items
+pub mod Numbers
 pub mod Operands
 pub mod Operation
 pub mod Pieces

@@ -2,6 +2,7 @@
 use Rattle.std.specs.Prelude.{ℕ, ◌+◌, ◌==◌, ◌&&◌, ◌||◌, nat_eq, nat_le, Bool, true, false, not, if◌then◌else◌, Option, None, Some, List, [], ◌∷◌, length, take, drop, Result, Ok, Err}
 use Rattle.std.specs.Option.{option_map, option_and_then}
 use Rattle.std.specs.List.{list_all, list_any}
+use Rattle.std.specs.Map.{lookup}
 use Rattle.std.specs.Str.{bytes_eq}
 use Rattle.iocm_types.specs.declared.fault.Fault.{Fault}
 use Rattle.iocm_types.specs.declared.rule.Rule.{Rule}
@@ -73,3 +74,21 @@ operands_of line text =
     operand_texts (at S6 line) text >>= λ texts.
     each (operand_of (at S4 line)) 0 texts >>= λ operands.
     without_twins (at S2 line) operands
+
+-- this key is this keyword
+abbrev pub is_under : List ℕ → OperandKey → Bool
+is_under keyword (Keyword word) = bytes_eq word keyword
+is_under keyword (Bare place) = false
+
+-- the text of the operand with this keyword, if there is one
+abbrev pub text_under : List ℕ → List Operand → Option (List ℕ)
+text_under keyword operands = lookup (is_under keyword) operands
+
+-- this operand is this word alone
+abbrev pub is_bare_word : List ℕ → Operand → Bool
+is_bare_word word ((Keyword keyword), text) = false
+is_bare_word word ((Bare place), text) = bytes_eq text word
+
+-- one of these operands is this word alone
+abbrev pub has_bare : List ℕ → List Operand → Bool
+has_bare word operands = list_any (is_bare_word word) operands

@@ -1,5 +1,7 @@
 #![tactic(auto)]
 
+mod item;
+mod number;
 mod operand;
 mod operands;
 mod operation;
@@ -8,6 +10,8 @@ mod place;
 mod split;
 mod statement;
 
+pub use item::{css, inside, inside_css, is_enclosed, items, items_or_one};
+pub use number::{decimal, hex};
 pub use operands::{OperandKey, Operands};
 pub use operation::Operation;
 pub use parser::parse;
