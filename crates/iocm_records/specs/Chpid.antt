@@ -1,0 +1,103 @@
+-- The CHPID statement: a channel path, and the images that it is online to.
+-- IOCP User's Guide, CHPID statement; the forms and defaults are own.
+use Rattle.std.specs.Prelude.{ℕ, ◌==◌, ◌||◌, nat_eq, Bool, true, false, not, if◌then◌else◌, Option, None, Some, List, [], ◌∷◌, map, Result, Ok, Err, codes}
+use Rattle.std.specs.List.{list_any}
+use Rattle.std.specs.Option.{option_map_or}
+use Rattle.std.specs.Str.{bytes_eq}
+use Rattle.iocm_types.specs.declared.fault.Fault.{Fault}
+use Rattle.iocm_types.specs.declared.css_path.CssPath.{CssPath}
+use Rattle.iocm_types.specs.Fault.{◌>>=◌, or_fault}
+use Rattle.iocm_types.specs.Name.{name_of}
+use Rattle.iocm_statements.specs.Items.{items_of, items_or_one, is_enclosed}
+use Rattle.iocm_statements.specs.Numbers.{hex_of}
+use Rattle.iocm_records.specs.ByCss.{is_css_word, begins_with_css, is_group, css_item}
+use Rattle.iocm_records.specs.NameSet.{names_of}
+
+-- a path number, one or two digits
+abbrev pub path_number : List ℕ → Option ℕ
+path_number text = hex_of 255 2 text
+
+-- (cc) in CSS 0, or (CSS(n),cc)
+abbrev pub path_of_items : Fault → List (List ℕ) → Result CssPath Fault
+path_of_items fault (number ∷ []) =
+    or_fault fault (path_number number) >>= λ path. Ok (record { css = 0; path = path })
+path_of_items fault (css ∷ number ∷ []) =
+    or_fault fault (css_item css) >>= λ n. or_fault fault (path_number number) >>= λ path. Ok (record { css = n; path = path })
+path_of_items fault _ = Err fault
+
+-- a list whose only item is a list has one outer pair of parentheses more
+abbrev pub without_outer : Fault → List (List ℕ) → Result (List (List ℕ)) Fault
+without_outer fault (item ∷ []) = items_or_one fault item
+without_outer fault items = Ok items
+
+-- the path of PATH: cc, (cc), (CSS(n),cc), or one outer pair more
+abbrev pub path_of : Fault → List ℕ → Result CssPath Fault
+path_of fault text = items_or_one fault text >>= λ items. without_outer fault items >>= path_of_items fault
+
+-- the items of the group (CSS(n),..) of this channel subsystem; there is one item or more
+abbrev pub own_items : Fault → ℕ → List (List ℕ) → Result (List (List ℕ)) Fault
+own_items fault css (word ∷ item ∷ items) =
+    if option_map_or (nat_eq css) false (css_item word) then Ok (item ∷ items) else Err fault
+own_items fault css _ = Err fault
+
+-- a list whose only item is the group ((CSS(n),..)) stands for the group's items
+abbrev pub without_inner_group : Fault → ℕ → List (List ℕ) → Result (List (List ℕ)) Fault
+without_inner_group fault css (item ∷ []) =
+    if is_group item then (items_of fault item >>= own_items fault css) else Ok (item ∷ [])
+without_inner_group fault css items = Ok items
+
+-- the items, without the group (CSS(n),..) or ((CSS(n),..)) of the path's own channel subsystem round them
+abbrev pub without_group : Fault → ℕ → List (List ℕ) → Result (List (List ℕ)) Fault
+without_group fault css items = if begins_with_css items then own_items fault css items else without_inner_group fault css items
+
+-- the items of PARTITION
+abbrev pub partition_items : Fault → ℕ → List ℕ → Result (List (List ℕ)) Fault
+partition_items fault css text = items_of fault text >>= without_group fault css
+
+-- the access and the candidate list of a path
+pub record Lists : Type 0 where
+  pub access : List (List ℕ)
+  pub candidates : List (List ℕ)
+
+-- a list, `0` or `=`
+abbrev pub is_list_form : List ℕ → Bool
+is_list_form item = is_enclosed item || bytes_eq item (codes "0") || bytes_eq item (codes "=")
+
+-- the names of a list: a list of names, a name alone, or `0` or `(0)` for none
+abbrev pub list_of : Fault → List ℕ → Result (List (List ℕ)) Fault
+list_of fault item =
+    if bytes_eq item (codes "0") || bytes_eq item (codes "(0)") then Ok []
+    else (items_or_one fault item >>= names_of fault)
+
+-- the candidate list: `=` or `(=)` for the access list, else as an access list
+abbrev pub candidates_of : Fault → List (List ℕ) → List ℕ → Result (List (List ℕ)) Fault
+candidates_of fault access item =
+    if bytes_eq item (codes "=") || bytes_eq item (codes "(=)") then Ok access else list_of fault item
+
+-- the candidates where none are listed: of a SHARED path all images of its channel subsystem, else the access list
+abbrev pub default_candidates : Bool → List (List ℕ) → List (List ℕ) → List (List ℕ)
+default_candidates shared all access = if shared then all else access
+
+-- one or two lists: access, candidates
+abbrev pub listed : Fault → Bool → List (List ℕ) → List (List ℕ) → Result Lists Fault
+listed fault shared all (item ∷ []) =
+    list_of fault item >>= λ access. Ok (record { access = access; candidates = default_candidates shared all access })
+listed fault shared all (first ∷ second ∷ []) =
+    list_of fault first >>= λ access. candidates_of fault access second >>= λ candidates.
+    Ok (record { access = access; candidates = candidates })
+listed fault shared all _ = Err fault
+
+-- names alone are the access list
+abbrev pub named : Fault → Bool → List (List ℕ) → List (List ℕ) → Result Lists Fault
+named fault shared all items =
+    names_of fault items >>= λ access. Ok (record { access = access; candidates = default_candidates shared all access })
+
+-- the lists of PARTITION; all are the names of the path's channel subsystem
+abbrev pub lists_of_items : Fault → Bool → List (List ℕ) → List (List ℕ) → Result Lists Fault
+lists_of_items fault shared all items =
+    if list_any is_list_form items then listed fault shared all items else named fault shared all items
+
+-- without PARTITION a SHARED path has all images of its channel subsystem in both lists, another path none
+abbrev pub lists_of : Fault → Bool → ℕ → List (List ℕ) → Option (List ℕ) → Result Lists Fault
+lists_of fault shared css all (Some text) = partition_items fault css text >>= lists_of_items fault shared all
+lists_of fault shared css all None = Ok (if shared then record { access = all; candidates = all } else record { access = []; candidates = [] })

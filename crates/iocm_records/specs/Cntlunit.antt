@@ -1,0 +1,62 @@
+-- The CNTLUNIT statement: a control unit with its paths and its unit addresses.
+-- IOCP User's Guide, CNTLUNIT statement; the forms and defaults are own.
+use Rattle.std.specs.Prelude.{ℕ, ◌==◌, Bool, true, false, if◌then◌else◌, Option, None, Some, List, [], ◌∷◌, map, Result, Ok, Err}
+use Rattle.std.specs.Option.{option_and_then}
+use Rattle.iocm_types.specs.declared.fault.Fault.{Fault}
+use Rattle.iocm_types.specs.declared.css_path.CssPath.{CssPath}
+use Rattle.iocm_types.specs.declared.unit_range.UnitRange.{UnitRange}
+use Rattle.iocm_types.specs.Fault.{◌>>=◌, or_fault}
+use Rattle.iocm_types.specs.Each.{each}
+use Rattle.iocm_statements.specs.Items.{items_or_one, is_enclosed}
+use Rattle.iocm_statements.specs.Numbers.{hex_of, decimal_of}
+use Rattle.iocm_records.specs.ByCss.{by_css, in_css_order}
+use Rattle.iocm_records.specs.Chpid.{path_number}
+
+-- the number of a control unit, one to four digits, up to FFFE
+abbrev pub unit_number : List ℕ → Option ℕ
+unit_number text = hex_of 65534 4 text
+
+-- a path of a channel subsystem
+abbrev pub path_item : Fault → ℕ × List ℕ → Result (ℕ × ℕ) Fault
+path_item fault item = or_fault fault (path_number item.1) >>= λ path. Ok (item.0, path)
+
+-- the paths of PATH, with channel subsystems ascending
+abbrev pub paths_of : Fault → List ℕ → Result (List CssPath) Fault
+paths_of fault text = by_css fault text >>= λ items. each (λ _ item. path_item fault item) 0 items >>= λ paths.
+    Ok (map (λ (p : ℕ × ℕ). record { css = p.0; path = p.1 }) (in_css_order paths))
+
+-- the same where PATH is there, and no path without it
+abbrev pub paths_of_value : Fault → Option (List ℕ) → Result (List CssPath) Fault
+paths_of_value fault (Some text) = paths_of fault text
+paths_of_value fault None = Ok []
+
+-- a decimal count, 1 to a limit
+abbrev pub count_of : ℕ → List ℕ → Option ℕ
+count_of limit text = option_and_then (λ n. if n == 0 then None else Some n) (decimal_of limit text)
+
+-- a range of unit addresses: a start, and a count of 1 to 256, which is 1 where it isn't there
+abbrev pub range_of_items : Fault → List (List ℕ) → Result UnitRange Fault
+range_of_items fault (start ∷ []) =
+    or_fault fault (hex_of 255 2 start) >>= λ n. Ok (record { start = n; count = 1 })
+range_of_items fault (start ∷ count ∷ []) =
+    or_fault fault (hex_of 255 2 start) >>= λ n. or_fault fault (count_of 256 count) >>= λ c. Ok (record { start = n; count = c })
+range_of_items fault _ = Err fault
+
+abbrev pub range_of : Fault → List ℕ → Result UnitRange Fault
+range_of fault text = items_or_one fault text >>= range_of_items fault
+
+-- whether the first item is a list
+abbrev pub begins_with_list : List (List ℕ) → Bool
+begins_with_list [] = false
+begins_with_list (item ∷ items) = is_enclosed item
+
+-- ranges, where the first item is a list, or one range
+abbrev pub ranges_of_items : Fault → List (List ℕ) → Result (List UnitRange) Fault
+ranges_of_items fault items =
+    if begins_with_list items then each (λ _ text. range_of fault text) 0 items
+    else (range_of_items fault items >>= λ range. Ok (range ∷ []))
+
+-- the ranges of UNITADD; without it all 256 addresses
+abbrev pub ranges_of : Fault → Option (List ℕ) → Result (List UnitRange) Fault
+ranges_of fault (Some text) = items_or_one fault text >>= ranges_of_items fault
+ranges_of fault None = Ok (record { start = 0; count = 256 } ∷ [])

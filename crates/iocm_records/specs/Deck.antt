@@ -1,0 +1,154 @@
+-- What a configuration deck means: the records of its statements, or the first fault.
+-- IOCP User's Guide; the order of faults is own.
+use Rattle.std.specs.Prelude.{ℕ, ◌+◌, ◌||◌, Bool, true, false, is_some, is_none, not, if◌then◌else◌, Option, None, Some, List, [], ◌∷◌, ◌++◌, map, Result, Ok, Err, codes, unwrap_or}
+use Rattle.std.specs.List.{list_any}
+use Rattle.std.specs.Result.{result_ok}
+use Rattle.std.specs.FinMap.{find}
+use Rattle.iocm_types.specs.declared.fault.Fault.{Fault}
+use Rattle.iocm_types.specs.declared.rule.Rule.{Rule}
+use Rattle.iocm_types.specs.declared.rule.Rule.TheVariants.{S1, S3, S4, S5, S7, S8}
+use Rattle.iocm_types.specs.declared.css_path.CssPath.{CssPath}
+use Rattle.iocm_types.specs.declared.path_kind.PathKind.TheVariants.{Dedicated, Shared}
+use Rattle.iocm_types.specs.Fault.{◌>>=◌, or_fault, at}
+use Rattle.iocm_types.specs.Key.{key_cmp}
+use Rattle.iocm_statements.specs.declared.operation.Operation.{Operation}
+use Rattle.iocm_statements.specs.declared.operation.Operation.TheVariants.{Id, Resource, Chpid, Cntlunit, Iodevice, Online, Row, Group, Choose, End}
+use Rattle.iocm_statements.specs.declared.statement.Statement.{Statement}
+use Rattle.iocm_statements.specs.Operands.{Operand, text_under, has_bare}
+use Rattle.iocm_model.specs.Record.{Rec, ImageRecord, DeviceRecord, PathRecord, id, resource, image, limit, path, unit, device, online, key_of}
+use Rattle.iocm_model.specs.Configuration.{keyed}
+use Rattle.iocm_records.specs.Resource.{partition_images, names_in}
+use Rattle.iocm_records.specs.Chpid.{Lists, path_of, lists_of}
+use Rattle.iocm_records.specs.Cntlunit.{unit_number, paths_of_value, ranges_of}
+use Rattle.iocm_records.specs.Iodevice.{Devices, devices_of, units_of, first_address, device_at, places}
+use Rattle.iocm_records.specs.LeftOut.{is_left_out, is_other_form}
+
+-- the images that a RESOURCE statement gives; without PARTITION there are none
+abbrev pub resource_images : Fault → List Operand → Result (List ImageRecord) Fault
+resource_images fault operands = partition_images fault (text_under (codes "PARTITION") operands)
+
+-- the records of a RESOURCE statement
+abbrev pub resource_records : Fault → List Operand → Result (List Rec) Fault
+resource_records fault operands = resource_images fault operands >>= λ images. Ok (map image images)
+
+-- the record of a path, and one for each image that it is online to
+abbrev pub path_records : CssPath → Bool → Lists → List Rec
+path_records p shared lists =
+    path (record { css = p.css; number = p.path; kind = if shared then Shared else Dedicated;
+        access = lists.access; candidates = lists.candidates; carried = [] })
+    ∷ map (λ name. online (record { css = p.css; path = p.path; name = name })) lists.access
+
+-- the records of a CHPID statement, in a machine of these images
+abbrev pub chpid_records : Fault → List ImageRecord → List Operand → Result (List Rec) Fault
+chpid_records fault images operands =
+    or_fault fault (text_under (codes "PATH") operands) >>= path_of fault >>= λ (p : CssPath).
+    let shared = has_bare (codes "SHARED") operands in
+    lists_of fault shared p.css (names_in p.css images) (text_under (codes "PARTITION") operands) >>= λ lists.
+    Ok (path_records p shared lists)
+
+-- the record of a CNTLUNIT statement
+abbrev pub cntlunit_records : Fault → List Operand → Result (List Rec) Fault
+cntlunit_records fault operands =
+    or_fault fault (text_under (codes "CUNUMBR") operands) >>= λ text. or_fault fault (unit_number text) >>= λ number.
+    paths_of_value fault (text_under (codes "PATH") operands) >>= λ paths.
+    ranges_of fault (text_under (codes "UNITADD") operands) >>= λ ranges.
+    Ok (unit (record { number = number; paths = paths; ranges = ranges; links = []; cuadd = None; carried = [] }) ∷ [])
+
+-- the records of an IODEVICE statement, one for each device
+abbrev pub iodevice_records : Fault → List Operand → Result (List Rec) Fault
+iodevice_records fault operands =
+    or_fault fault (text_under (codes "ADDRESS") operands) >>= devices_of fault >>= λ (devices : Devices).
+    units_of fault (text_under (codes "CUNUMBR") operands) >>= λ units.
+    first_address fault devices.count (text_under (codes "UNITADD") operands) >>= λ address.
+    Ok (map (λ place. device (device_at devices units address place)) (places 0 devices.count))
+
+-- the records of a statement; in a statement of the other operations there are none
+abbrev pub statement_records : Fault → List ImageRecord → Operation → List Operand → Result (List Rec) Fault
+statement_records fault images Resource operands = resource_records fault operands
+statement_records fault images Chpid operands = chpid_records fault images operands
+statement_records fault images Cntlunit operands = cntlunit_records fault operands
+statement_records fault images Iodevice operands = iodevice_records fault operands
+statement_records fault images _ operands = Ok []
+
+-- an operation of change decks
+abbrev pub is_of_changes : Operation → Bool
+is_of_changes Id = false
+is_of_changes Resource = false
+is_of_changes Chpid = false
+is_of_changes Cntlunit = false
+is_of_changes Iodevice = false
+is_of_changes _ = true
+
+-- what was read so far: whether there was a RESOURCE statement, and the records
+pub record Progress : Type 0 where
+  pub resource : Bool
+  pub records : List Rec
+
+-- the keyword that a statement can't do without
+abbrev pub required_of : Operation → Option (List ℕ)
+required_of Chpid = Some (codes "PATH")
+required_of Cntlunit = Some (codes "CUNUMBR")
+required_of Iodevice = Some (codes "ADDRESS")
+required_of _ = None
+
+-- whether it is missing
+abbrev pub lacks_required : Option (List ℕ) → List Operand → Bool
+lacks_required (Some keyword) operands = is_none (text_under keyword operands)
+lacks_required None operands = false
+
+-- a statement that only one of may stand in a deck
+abbrev pub is_repeated : Bool → Operation → Bool
+is_repeated resource Resource = resource
+is_repeated resource _ = false
+
+-- the whole statement is left out, so far: ID
+abbrev pub is_statement_left_out : Operation → Bool
+is_statement_left_out Id = true
+is_statement_left_out _ = false
+
+-- the records of a statement, or its first fault: S1, S7, S3, S5, S4
+abbrev pub read_statement : List ImageRecord → Bool → Statement → Result (List Rec) Fault
+read_statement images resource s =
+    if is_of_changes s.operation then Err (at S1 s.line)
+    else if is_repeated resource s.operation then Err (at S7 s.line)
+    else if lacks_required (required_of s.operation) s.operands then Err (at S3 s.line)
+    else if is_statement_left_out s.operation || list_any (is_left_out s.operation) s.operands then Err (at S5 s.line)
+    else if list_any (is_other_form s.operation) s.operands then Err (at S4 s.line)
+    else statement_records (at S4 s.line) images s.operation s.operands
+
+-- whether a record of this key is there
+abbrev pub has_key : List Rec → Rec → Bool
+has_key records r = is_some (find key_cmp (key_of r) (keyed records))
+
+-- records with further ones behind them, if each brings a key that isn't there
+unfoldable pub with_records : Fault → List Rec → List Rec → Result (List Rec) Fault
+with_records fault records [] = Ok records
+with_records fault records (r ∷ rs) = if has_key records r then Err fault else with_records fault (records ++ r ∷ []) rs
+
+-- whether a statement is RESOURCE
+abbrev pub is_resource : Operation → Bool
+is_resource Resource = true
+is_resource _ = false
+
+-- what was read with a further statement
+abbrev pub progress_after : List ImageRecord → Progress → Statement → Result Progress Fault
+progress_after images p s =
+    read_statement images p.resource s >>= λ rs. with_records (at S8 s.line) p.records rs >>= λ records.
+    Ok (record { resource = p.resource || is_resource s.operation; records = records })
+
+-- the records of statements behind what was read so far
+unfoldable pub read_from : List ImageRecord → Progress → List Statement → Result (List Rec) Fault
+read_from images p [] = Ok p.records
+read_from images p (s ∷ ss) = progress_after images p s >>= λ q. read_from images q ss
+
+-- the images of a machine, which defaults look at wherever the RESOURCE statement stands; a RESOURCE statement
+-- with a fault refuses the deck, and then they are of no account
+abbrev pub machine_images : List Statement → List ImageRecord
+machine_images [] = []
+machine_images (s ∷ ss) =
+    if is_resource s.operation then unwrap_or (result_ok (resource_images (at S4 s.line) s.operands)) []
+    else machine_images ss
+
+-- the records of a deck, or its first fault
+abbrev pub deck_records : List Statement → Result (List Rec) Fault
+deck_records ss = read_from (machine_images ss) (record { resource = false; records = [] }) ss
