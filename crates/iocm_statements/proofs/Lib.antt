@@ -1,3 +1,4 @@
 mod Cutting
+mod Relation
 mod Splitting
 mod Twins

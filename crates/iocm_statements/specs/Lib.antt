@@ -1,3 +1,4 @@
+pub mod Cutting
 pub mod Items
 pub mod Numbers
 pub mod Operands
