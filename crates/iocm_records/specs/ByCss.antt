@@ -20,7 +20,7 @@ begins_with_css (item ∷ items) = is_css_word item
 
 -- a list whose first item is CSS(..)
 abbrev pub is_group : List ℕ → Bool
-is_group text = option_map_or begins_with_css false (list_items text)
+is_group text = option_map_or begins_with_css (list_items text) false
 
 -- the channel subsystem of the item CSS(n), 0 to 5
 abbrev pub css_item : List ℕ → Option ℕ

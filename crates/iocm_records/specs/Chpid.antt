@@ -37,7 +37,7 @@ path_of fault text = items_or_one fault text >>= λ items. without_outer fault i
 -- the items of the group (CSS(n),..) of this channel subsystem; there is one item or more
 abbrev pub own_items : Fault → ℕ → List (List ℕ) → Result (List (List ℕ)) Fault
 own_items fault css (word ∷ item ∷ items) =
-    if option_map_or (nat_eq css) false (css_item word) then Ok (item ∷ items) else Err fault
+    if option_map_or (nat_eq css) (css_item word) false then Ok (item ∷ items) else Err fault
 own_items fault css _ = Err fault
 
 -- a list whose only item is the group ((CSS(n),..)) stands for the group's items

@@ -1,7 +1,7 @@
 -- What a configuration deck means: the records of its statements, or the first fault.
 -- IOCP User's Guide; the order of faults is own.
 use Rattle.std.specs.Prelude.{ℕ, ◌+◌, ◌||◌, Bool, true, false, is_some, is_none, not, if◌then◌else◌, Option, None, Some, List, [], ◌∷◌, ◌++◌, map, Result, Ok, Err, codes, unwrap_or}
-use Rattle.std.specs.List.{list_any}
+use Rattle.std.specs.List.{list_any, range_with_len}
 use Rattle.std.specs.Result.{result_ok}
 use Rattle.std.specs.FinMap.{find}
 use Rattle.iocm_types.specs.declared.fault.Fault.{Fault}
@@ -20,7 +20,7 @@ use Rattle.iocm_model.specs.Configuration.{keyed}
 use Rattle.iocm_records.specs.Resource.{partition_images, names_in}
 use Rattle.iocm_records.specs.Chpid.{Lists, path_of, lists_of}
 use Rattle.iocm_records.specs.Cntlunit.{unit_number, paths_of_value, ranges_of}
-use Rattle.iocm_records.specs.Iodevice.{Devices, devices_of, units_of, first_address, device_at, places}
+use Rattle.iocm_records.specs.Iodevice.{Devices, devices_of, units_of, first_address, device_at}
 use Rattle.iocm_records.specs.LeftOut.{is_left_out, is_other_form}
 
 -- the images that a RESOURCE statement gives; without PARTITION there are none
@@ -60,7 +60,7 @@ iodevice_records fault operands =
     or_fault fault (text_under (codes "ADDRESS") operands) >>= devices_of fault >>= λ (devices : Devices).
     units_of fault (text_under (codes "CUNUMBR") operands) >>= λ units.
     first_address fault devices.count (text_under (codes "UNITADD") operands) >>= λ address.
-    Ok (map (λ place. device (device_at devices units address place)) (places 0 devices.count))
+    Ok (map (λ place. device (device_at devices units address place)) (range_with_len 0 devices.count))
 
 -- the records of a statement; in a statement of the other operations there are none
 abbrev pub statement_records : Fault → List ImageRecord → Operation → List Operand → Result (List Rec) Fault
@@ -81,7 +81,7 @@ is_of_changes _ = true
 
 -- what was read so far: whether there was a RESOURCE statement, and the records
 pub record Progress : Type 0 where
-  pub resource : Bool
+  pub seen : Bool
   pub records : List Rec
 
 -- the keyword that a statement can't do without
@@ -98,8 +98,8 @@ lacks_required None operands = false
 
 -- a statement that only one of may stand in a deck
 abbrev pub is_repeated : Bool → Operation → Bool
-is_repeated resource Resource = resource
-is_repeated resource _ = false
+is_repeated seen Resource = seen
+is_repeated seen _ = false
 
 -- the whole statement is left out, so far: ID
 abbrev pub is_statement_left_out : Operation → Bool
@@ -108,9 +108,9 @@ is_statement_left_out _ = false
 
 -- the records of a statement, or its first fault: S1, S7, S3, S5, S4
 abbrev pub read_statement : List ImageRecord → Bool → Statement → Result (List Rec) Fault
-read_statement images resource s =
+read_statement images seen s =
     if is_of_changes s.operation then Err (at S1 s.line)
-    else if is_repeated resource s.operation then Err (at S7 s.line)
+    else if is_repeated seen s.operation then Err (at S7 s.line)
     else if lacks_required (required_of s.operation) s.operands then Err (at S3 s.line)
     else if is_statement_left_out s.operation || list_any (is_left_out s.operation) s.operands then Err (at S5 s.line)
     else if list_any (is_other_form s.operation) s.operands then Err (at S4 s.line)
@@ -133,8 +133,8 @@ is_resource _ = false
 -- what was read with a further statement
 abbrev pub progress_after : List ImageRecord → Progress → Statement → Result Progress Fault
 progress_after images p s =
-    read_statement images p.resource s >>= λ rs. with_records (at S8 s.line) p.records rs >>= λ records.
-    Ok (record { resource = p.resource || is_resource s.operation; records = records })
+    read_statement images p.seen s >>= λ rs. with_records (at S8 s.line) p.records rs >>= λ records.
+    Ok (record { seen = p.seen || is_resource s.operation; records = records })
 
 -- the records of statements behind what was read so far
 unfoldable pub read_from : List ImageRecord → Progress → List Statement → Result (List Rec) Fault
@@ -151,4 +151,4 @@ machine_images (s ∷ ss) =
 
 -- the records of a deck, or its first fault
 abbrev pub deck_records : List Statement → Result (List Rec) Fault
-deck_records ss = read_from (machine_images ss) (record { resource = false; records = [] }) ss
+deck_records ss = read_from (machine_images ss) (record { seen = false; records = [] }) ss

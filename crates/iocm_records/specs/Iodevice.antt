@@ -1,6 +1,6 @@
 -- The IODEVICE statement: devices that are alike, one after the other.
 -- IOCP User's Guide, IODEVICE statement; the forms, the defaults and the most devices of a statement are own.
-use Rattle.std.specs.Prelude.{ℕ, suc, zero, ◌+◌, ◌%◌, ◌-◌, nat_le, Bool, if◌then◌else◌, Option, None, Some, List, [], ◌∷◌, map, Result, Ok, Err}
+use Rattle.std.specs.Prelude.{ℕ, ◌+◌, ◌%◌, ◌-◌, nat_le, Bool, if◌then◌else◌, Option, None, Some, List, [], ◌∷◌, map, Result, Ok, Err}
 use Rattle.std.specs.Option.{option_map_or}
 use Rattle.iocm_types.specs.declared.fault.Fault.{Fault}
 use Rattle.iocm_types.specs.Fault.{◌>>=◌, or_fault}
@@ -41,11 +41,6 @@ abbrev pub first_address : Fault → ℕ → Option (List ℕ) → Result (Optio
 first_address fault count (Some text) =
     or_fault fault (hex_of 255 2 text) >>= λ first. if nat_le (first + count) 256 then Ok (Some first) else Err fault
 first_address fault count None = Ok None
-
--- so many places, counted from a first one
-abbrev pub places : ℕ → ℕ → List ℕ
-places first zero = []
-places first (suc n) = first ∷ places (first + 1) n
 
 -- the unit address of the device at a place: one more for each device, or the last two digits of its number
 abbrev pub address_at : Option ℕ → ℕ → ℕ → ℕ

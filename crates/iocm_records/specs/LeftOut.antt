@@ -1,6 +1,6 @@
 -- Forms that this product leaves out, and words that stand in another form than their own.
 -- IOCP User's Guide; which forms are left out is own.
-use Rattle.std.specs.Prelude.{ℕ, ◌&&◌, ◌||◌, nat_le, Bool, true, false, not, if◌then◌else◌, Option, None, Some, List, [], ◌∷◌, length, count_by, codes}
+use Rattle.std.specs.Prelude.{ℕ, ◌&&◌, ◌||◌, nat_le, Bool, true, false, not, if◌then◌else◌, Option, None, Some, List, [], ◌∷◌, length, count_by, codes, unwrap_or}
 use Rattle.std.specs.List.{list_any}
 use Rattle.std.specs.Option.{option_map_or, option_and_then}
 use Rattle.std.specs.Result.{result_ok}
@@ -22,8 +22,8 @@ count_decimals items = count_by (is_number is_decimal_digit) items
 
 -- the item CSS(..) with two decimal numbers or more
 abbrev pub spans_css : List ℕ → Bool
-spans_css text = option_map_or (λ items. nat_le 2 (count_decimals items)) false
-    (option_and_then (λ inner. result_ok (pieces_of no_list inner)) (inside_css text))
+spans_css text = option_map_or (λ items. nat_le 2 (count_decimals items))
+    (option_and_then (λ inner. result_ok (pieces_of no_list inner)) (inside_css text)) false
 
 -- one of the items at any depth names several channel subsystems
 abbrev pub names_several_css : List ℕ → Bool
@@ -44,7 +44,7 @@ behind_css (item ∷ items) = if begins_with_css (item ∷ items) then items els
 
 -- the items of the only item, where that is a group
 abbrev pub items_of_only : List (List ℕ) → List (List ℕ)
-items_of_only (item ∷ []) = if is_group item then option_map_or (λ items. items) [] (list_items item) else item ∷ []
+items_of_only (item ∷ []) = if is_group item then unwrap_or (list_items item) [] else item ∷ []
 items_of_only items = items
 
 -- whether the last item is REC
@@ -55,7 +55,7 @@ ends_with_rec (item ∷ items) = ends_with_rec items
 
 -- whether the last item of PARTITION, behind its CSS(..) if it has one, is REC
 abbrev pub is_reconfigurable : List ℕ → Bool
-is_reconfigurable text = option_map_or (λ items. ends_with_rec (behind_css (items_of_only items))) false (list_items text)
+is_reconfigurable text = option_map_or (λ items. ends_with_rec (behind_css (items_of_only items))) (list_items text) false
 
 -- the keywords that a statement's table names, so far
 abbrev pub keywords_of : Operation → List (List ℕ)

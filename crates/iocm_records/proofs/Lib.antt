@@ -1,0 +1,4 @@
+pub mod Any
+pub mod Opening
+pub mod Levels
+pub mod Naming
