@@ -1,4 +1,7 @@
 pub mod Any
-pub mod Opening
+pub mod Filtering
+pub mod Gathering
+pub mod Images
 pub mod Levels
 pub mod Naming
+pub mod Opening

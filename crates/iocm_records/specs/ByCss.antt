@@ -1,11 +1,10 @@
 -- Lists by channel subsystem: ((CSS(0),..),(CSS(1),..)), one such group alone, or items alone for CSS 0.
 -- IOCP User's Guide, PATH and PARTITION keywords; which forms are taken is own.
-use Rattle.std.specs.Prelude.{ℕ, ◌==◌, Bool, true, false, is_some, if◌then◌else◌, Option, None, Some, List, [], ◌∷◌, map, filter, Result, Ok, Err}
+use Rattle.std.specs.Prelude.{ℕ, ◌==◌, Bool, true, false, is_some, if◌then◌else◌, Option, None, Some, List, [], ◌∷◌, ◌++◌, map, filter, Result, Ok, Err}
 use Rattle.std.specs.List.{list_any, flat_map}
 use Rattle.std.specs.Option.{option_map_or}
 use Rattle.iocm_types.specs.declared.fault.Fault.{Fault}
 use Rattle.iocm_types.specs.Fault.{◌>>=◌, or_fault}
-use Rattle.iocm_types.specs.Each.{each}
 use Rattle.iocm_statements.specs.Items.{items_of, inside_css, css_of}
 use Rattle.iocm_records.specs.Leaves.{list_items}
 
@@ -36,15 +35,16 @@ group_items fault _ = Err fault
 abbrev pub group_of : Fault → List ℕ → Result (List (ℕ × List ℕ)) Fault
 group_of fault text = items_of fault text >>= group_items fault
 
--- lists end to end
-abbrev pub joined : {A : Type 0} → List (List A) → List A
-joined lists = flat_map (λ list. list) lists
+-- what each text gives, end to end, or the first fault
+unfoldable pub gathered : {A : Type 0} → (List ℕ → Result (List A) Fault) → List (List ℕ) → Result (List A) Fault
+gathered read [] = Ok []
+gathered read (text ∷ texts) = read text >>= λ ys. gathered read texts >>= λ zs. Ok (ys ++ zs)
 
 -- one group alone, or groups, or items alone
 abbrev pub by_css_items : Fault → List (List ℕ) → Result (List (ℕ × List ℕ)) Fault
 by_css_items fault items =
     if begins_with_css items then group_items fault items
-    else if list_any is_group items then (each (λ _ text. group_of fault text) 0 items >>= λ groups. Ok (joined groups))
+    else if list_any is_group items then gathered (group_of fault) items
     else Ok (map (λ i. (0, i)) items)
 
 -- the items of a list by channel subsystem, each with its channel subsystem, in the order of the text

@@ -10,6 +10,7 @@ use Rattle.iocm_types.specs.Fault.{◌>>=◌, or_fault}
 use Rattle.iocm_types.specs.Name.{name_of}
 use Rattle.iocm_statements.specs.Items.{items_of, items_or_one, is_enclosed}
 use Rattle.iocm_statements.specs.Numbers.{hex_of}
+use Rattle.iocm_records.specs.declared.chpid.Lists.{Lists}
 use Rattle.iocm_records.specs.ByCss.{is_css_word, begins_with_css, is_group, css_item}
 use Rattle.iocm_records.specs.NameSet.{names_of}
 
@@ -53,11 +54,6 @@ without_group fault css items = if begins_with_css items then own_items fault cs
 -- the items of PARTITION
 abbrev pub partition_items : Fault → ℕ → List ℕ → Result (List (List ℕ)) Fault
 partition_items fault css text = items_of fault text >>= without_group fault css
-
--- the access and the candidate list of a path
-pub record Lists : Type 0 where
-  pub access : List (List ℕ)
-  pub candidates : List (List ℕ)
 
 -- a list, `0` or `=`
 abbrev pub is_list_form : List ℕ → Bool

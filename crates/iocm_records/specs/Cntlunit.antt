@@ -16,13 +16,13 @@ use Rattle.iocm_records.specs.Chpid.{path_number}
 abbrev pub unit_number : List ℕ → Option ℕ
 unit_number text = hex_of 65534 4 text
 
--- a path of a channel subsystem
-abbrev pub path_item : Fault → ℕ × List ℕ → Result (ℕ × ℕ) Fault
-path_item fault item = or_fault fault (path_number item.1) >>= λ path. Ok (item.0, path)
+-- a path at some place of a list by channel subsystem
+abbrev pub path_item : Fault → ℕ → ℕ × List ℕ → Result (ℕ × ℕ) Fault
+path_item fault place item = or_fault fault (path_number item.1) >>= λ path. Ok (item.0, path)
 
 -- the paths of PATH, with channel subsystems ascending
 abbrev pub paths_of : Fault → List ℕ → Result (List CssPath) Fault
-paths_of fault text = by_css fault text >>= λ items. each (λ _ item. path_item fault item) 0 items >>= λ paths.
+paths_of fault text = by_css fault text >>= λ items. each (path_item fault) 0 items >>= λ paths.
     Ok (map (λ (p : ℕ × ℕ). record { css = p.0; path = p.1 }) (in_css_order paths))
 
 -- the same where PATH is there, and no path without it
@@ -42,8 +42,9 @@ range_of_items fault (start ∷ count ∷ []) =
     or_fault fault (hex_of 255 2 start) >>= λ n. or_fault fault (count_of 256 count) >>= λ c. Ok (record { start = n; count = c })
 range_of_items fault _ = Err fault
 
-abbrev pub range_of : Fault → List ℕ → Result UnitRange Fault
-range_of fault text = items_or_one fault text >>= range_of_items fault
+-- a range at some place of a list
+abbrev pub range_item : Fault → ℕ → List ℕ → Result UnitRange Fault
+range_item fault place text = items_or_one fault text >>= range_of_items fault
 
 -- whether the first item is a list
 abbrev pub begins_with_list : List (List ℕ) → Bool
@@ -53,7 +54,7 @@ begins_with_list (item ∷ items) = is_enclosed item
 -- ranges, where the first item is a list, or one range
 abbrev pub ranges_of_items : Fault → List (List ℕ) → Result (List UnitRange) Fault
 ranges_of_items fault items =
-    if begins_with_list items then each (λ _ text. range_of fault text) 0 items
+    if begins_with_list items then each (range_item fault) 0 items
     else (range_of_items fault items >>= λ range. Ok (range ∷ []))
 
 -- the ranges of UNITADD; without it all 256 addresses

@@ -17,10 +17,12 @@ use Rattle.iocm_statements.specs.declared.statement.Statement.{Statement}
 use Rattle.iocm_statements.specs.Operands.{Operand, text_under, has_bare}
 use Rattle.iocm_model.specs.Record.{Rec, ImageRecord, DeviceRecord, PathRecord, id, resource, image, limit, path, unit, device, online, key_of}
 use Rattle.iocm_model.specs.Configuration.{keyed}
+use Rattle.iocm_records.specs.declared.chpid.Lists.{Lists}
+use Rattle.iocm_records.specs.declared.iodevice.Devices.{Devices}
 use Rattle.iocm_records.specs.Resource.{partition_images, names_in}
-use Rattle.iocm_records.specs.Chpid.{Lists, path_of, lists_of}
+use Rattle.iocm_records.specs.Chpid.{path_of, lists_of}
 use Rattle.iocm_records.specs.Cntlunit.{unit_number, paths_of_value, ranges_of}
-use Rattle.iocm_records.specs.Iodevice.{Devices, devices_of, units_of, first_address, device_at}
+use Rattle.iocm_records.specs.Iodevice.{devices_of, units_of, first_address, device_at}
 use Rattle.iocm_records.specs.LeftOut.{is_left_out, is_other_form}
 
 -- the images that a RESOURCE statement gives; without PARTITION there are none

@@ -8,12 +8,8 @@ use Rattle.iocm_types.specs.Each.{each}
 use Rattle.iocm_statements.specs.Items.{items_or_one}
 use Rattle.iocm_statements.specs.Numbers.{hex_of}
 use Rattle.iocm_model.specs.Record.{DeviceRecord}
+use Rattle.iocm_records.specs.declared.iodevice.Devices.{Devices}
 use Rattle.iocm_records.specs.Cntlunit.{unit_number, count_of}
-
--- the devices of a statement: the first, and how many there are
-pub record Devices : Type 0 where
-  pub first : ℕ
-  pub count : ℕ
 
 -- no device number is past FFFF
 abbrev pub devices_within : Fault → ℕ → ℕ → Result Devices Fault
@@ -31,9 +27,13 @@ devices_of_items fault _ = Err fault
 abbrev pub devices_of : Fault → List ℕ → Result Devices Fault
 devices_of fault text = items_or_one fault text >>= devices_of_items fault
 
+-- a control unit at some place of a list
+abbrev pub unit_item : Fault → ℕ → List ℕ → Result ℕ Fault
+unit_item fault place text = or_fault fault (unit_number text)
+
 -- the control units of CUNUMBR, in its order; without it none
 abbrev pub units_of : Fault → Option (List ℕ) → Result (List ℕ) Fault
-units_of fault (Some text) = items_or_one fault text >>= each (λ _ number. or_fault fault (unit_number number)) 0
+units_of fault (Some text) = items_or_one fault text >>= each (unit_item fault) 0
 units_of fault None = Ok []
 
 -- the first unit address of UNITADD, if it is there; the last one is not past FF

@@ -26,9 +26,9 @@ pair_of fault (name ∷ digit ∷ []) =
     else (or_fault fault (name_of name) >>= λ n. Ok (Some (mif, n)))
 pair_of fault _ = Err fault
 
--- the same in a channel subsystem
-abbrev pub image_of_item : Fault → ℕ × List ℕ → Result (ℕ × Option (ℕ × List ℕ)) Fault
-image_of_item fault item = items_of fault item.1 >>= λ items. pair_of fault items >>= λ pair. Ok (item.0, pair)
+-- the same at some place of a list by channel subsystem
+abbrev pub image_item : Fault → ℕ → ℕ × List ℕ → Result (ℕ × Option (ℕ × List ℕ)) Fault
+image_item fault place item = items_of fault item.1 >>= λ items. pair_of fault items >>= λ pair. Ok (item.0, pair)
 
 -- the image that stands in a channel subsystem, if there is one
 abbrev pub image_there : ℕ × Option (ℕ × List ℕ) → Option ImageRecord
@@ -37,7 +37,7 @@ image_there (css, Some (mif, name)) = Some (record { css = css; mif = mif; name 
 
 -- the images of PARTITION, with channel subsystems ascending
 abbrev pub images_of : Fault → List ℕ → Result (List ImageRecord) Fault
-images_of fault text = by_css fault text >>= λ items. each (λ _ item. image_of_item fault item) 0 items >>= λ pairs.
+images_of fault text = by_css fault text >>= λ items. each (image_item fault) 0 items >>= λ pairs.
     Ok (filter_map image_there (in_css_order pairs))
 
 -- the same where PARTITION is there, and no image without it

@@ -2,10 +2,13 @@
 
 mod by_css;
 mod carried;
+mod chpid;
 mod copies;
+mod iodevice;
 mod leaves;
 mod name_set;
 mod record;
+mod resource;
 
 pub use carried::Carried;
 pub use record::{DeviceFields, PathFields, Record, RecordBody, UnitFields};

@@ -22,6 +22,9 @@ impl Model for Css {
 }
 
 impl Css {
+    /// Channel subsystem 0, where items stand that name none.
+    pub const FIRST: Css = Css { number: 0 };
+
     /// The channel subsystem of this number, if there is one.
     pub fn new(number: u8) -> Option<Self>
         ensures valid { IsSome result ↔ (number < 6) }
