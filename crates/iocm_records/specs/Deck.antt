@@ -8,6 +8,7 @@ use Rattle.iocm_types.specs.declared.fault.Fault.{Fault}
 use Rattle.iocm_types.specs.declared.rule.Rule.{Rule}
 use Rattle.iocm_types.specs.declared.rule.Rule.TheVariants.{S1, S3, S4, S5, S7, S8}
 use Rattle.iocm_types.specs.declared.css_path.CssPath.{CssPath}
+use Rattle.iocm_types.specs.declared.path_kind.PathKind.{PathKind}
 use Rattle.iocm_types.specs.declared.path_kind.PathKind.TheVariants.{Dedicated, Shared}
 use Rattle.iocm_types.specs.Fault.{◌>>=◌, or_fault, at}
 use Rattle.iocm_types.specs.Key.{key_cmp}
@@ -34,19 +35,22 @@ abbrev pub resource_records : Fault → List Operand → Result (List Rec) Fault
 resource_records fault operands = resource_images fault operands >>= λ images. Ok (map image images)
 
 -- the record of a path, and one for each image that it is online to
-abbrev pub path_records : CssPath → Bool → Lists → List Rec
-path_records p shared lists =
-    path (record { css = p.css; number = p.path; kind = if shared then Shared else Dedicated;
+abbrev pub path_records : CssPath → PathKind → Lists → List Rec
+path_records p kind lists =
+    path (record { css = p.css; number = p.path; kind = kind;
         access = lists.access; candidates = lists.candidates; carried = [] })
     ∷ map (λ name. online (record { css = p.css; path = p.path; name = name })) lists.access
+
+-- how a path is used
+abbrev pub kind_of : List Operand → PathKind
+kind_of operands = if has_bare (codes "SHARED") operands then Shared else Dedicated
 
 -- the records of a CHPID statement, in a machine of these images
 abbrev pub chpid_records : Fault → List ImageRecord → List Operand → Result (List Rec) Fault
 chpid_records fault images operands =
     or_fault fault (text_under (codes "PATH") operands) >>= path_of fault >>= λ (p : CssPath).
-    let shared = has_bare (codes "SHARED") operands in
-    lists_of fault shared p.css (names_in p.css images) (text_under (codes "PARTITION") operands) >>= λ lists.
-    Ok (path_records p shared lists)
+    lists_of fault (kind_of operands) p.css (names_in p.css images) (text_under (codes "PARTITION") operands) >>= λ lists.
+    Ok (path_records p (kind_of operands) lists)
 
 -- the record of a CNTLUNIT statement
 abbrev pub cntlunit_records : Fault → List Operand → Result (List Rec) Fault
