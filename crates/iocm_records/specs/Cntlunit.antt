@@ -20,10 +20,14 @@ unit_number text = hex_of 65534 4 text
 abbrev pub path_item : Fault → ℕ → ℕ × List ℕ → Result (ℕ × ℕ) Fault
 path_item fault place item = or_fault fault (path_number item.1) >>= λ path. Ok (item.0, path)
 
+-- a path with its channel subsystem
+abbrev pub css_path : ℕ × ℕ → CssPath
+css_path p = record { css = p.0; path = p.1 }
+
 -- the paths of PATH, with channel subsystems ascending
 abbrev pub paths_of : Fault → List ℕ → Result (List CssPath) Fault
 paths_of fault text = by_css fault text >>= λ items. each (path_item fault) 0 items >>= λ paths.
-    Ok (map (λ (p : ℕ × ℕ). record { css = p.0; path = p.1 }) (in_css_order paths))
+    Ok (map css_path (in_css_order paths))
 
 -- the same where PATH is there, and no path without it
 abbrev pub paths_of_value : Fault → Option (List ℕ) → Result (List CssPath) Fault
@@ -34,12 +38,16 @@ paths_of_value fault None = Ok []
 abbrev pub count_of : ℕ → List ℕ → Option ℕ
 count_of limit text = option_and_then (λ n. if n == 0 then None else Some n) (decimal_of limit text)
 
+-- a unit address, one or two hexadecimal digits
+abbrev pub address_of : List ℕ → Option ℕ
+address_of text = hex_of 255 2 text
+
 -- a range of unit addresses: a start, and a count of 1 to 256, which is 1 where it isn't there
 abbrev pub range_of_items : Fault → List (List ℕ) → Result UnitRange Fault
 range_of_items fault (start ∷ []) =
-    or_fault fault (hex_of 255 2 start) >>= λ n. Ok (record { start = n; count = 1 })
+    or_fault fault (address_of start) >>= λ n. Ok (record { start = n; count = 1 })
 range_of_items fault (start ∷ count ∷ []) =
-    or_fault fault (hex_of 255 2 start) >>= λ n. or_fault fault (count_of 256 count) >>= λ c. Ok (record { start = n; count = c })
+    or_fault fault (address_of start) >>= λ n. or_fault fault (count_of 256 count) >>= λ c. Ok (record { start = n; count = c })
 range_of_items fault _ = Err fault
 
 -- a range at some place of a list

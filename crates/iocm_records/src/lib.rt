@@ -3,6 +3,7 @@
 mod by_css;
 mod carried;
 mod chpid;
+mod cntlunit;
 mod copies;
 mod iodevice;
 mod leaves;
