@@ -8,5 +8,4 @@ pub fn pieces_are_those_of_the_text()
     ensures only { FindsNoOthers }
     ensures balanced { CutsBalanced }
     ensures unbalanced { CutsNoOthers }
-{
-}
+{}

@@ -17,14 +17,14 @@ returns-then-is_some c =
     let here = YieldsList-turn road c.loop-key.yielded c.loop-key.key-iterator c.loop-key.yielded_by c.next.result c.next.new.self (c.in-Some.key, c.in-Some.text) c.in-Some.is c.next.ensures.steps in
     let front = YieldsList-so_far road c.loop-key.yielded c.loop-key.key-iterator c.loop-key.yielded_by in
     let found : is_some (lookup (derived.ghosts.eq c.in-Some.key) c.loop-key.yielded) ≡ true =
-        rw (← c.loop-key.invariant.kept) (ap is_some (sym c.in_ok-insert.ensures.old) ∙ sym c.if-is_some.ensures) in
+    rw (← c.loop-key.invariant.kept) (ap is_some (sym c.in_ok-insert.ensures.old) ∙ sym c.if-is_some.ensures) in
     let twins : has_twins c.args.operands.items ≡ true = twin_found c.args.operands.items c.loop-key.yielded c.in-Some.key c.in-Some.text front here found in
     inr (rw twins refl)
 
 pub loop-key-preserved : goal.loop-key-preserved
 loop-key-preserved c =
     let absent : is_some (lookup (derived.ghosts.eq c.in-Some.key) c.loop-key.map.entries) ≡ false =
-        ap is_some (sym c.in_ok-insert.ensures.old) ∙ sym c.if-is_some.ensures in
+    ap is_some (sym c.in_ok-insert.ensures.old) ∙ sym c.if-is_some.ensures in
     record {
       kept = c.in_ok-insert.ensures.entries
           ∙ insert_entry-new derived.ghosts.eq c.loop-key.map c.in-Some.key c.in-Some.text (none_from _ absent)
