@@ -10,7 +10,7 @@ use Rattle.iocm_types.specs.Fault.{◌>>=◌, or_fault}
 use Rattle.iocm_statements.specs.declared.place.Place.{Place}
 use Rattle.iocm_statements.specs.Place.{start, is_outside, step, cuts}
 use Rattle.iocm_statements.specs.Pieces.{onto_first, pieces_from, pieces_of}
-use Rattle.iocm_statements.specs.Cutting.{place_behind, IsBalanced, IsUncut, IsCutInto, FindsPieces, FindsNoOthers, CutsBalanced, CutsNoOthers}
+use Rattle.iocm_statements.specs.Cutting.{place_behind, IsBalanced, IsUncut, FindsPieces, FindsNoOthers, CutsBalanced, CutsNoOthers}
 
 -- ---- places
 

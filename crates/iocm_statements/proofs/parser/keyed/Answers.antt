@@ -1,7 +1,6 @@
 -- A key that the map has is a twin; one that it lacks is none.
-use Rattle.std.proofs.Common.{◌≡◌, ◌++◌, ◌∷◌, List, [], ◌∙◌, sym, ap, inr, true, false, is_some, vec_len, refl}
+use Rattle.std.proofs.Common.{◌≡◌, ◌++◌, ◌∷◌, List, [], ◌∙◌, sym, ap, inr, true, false, is_some, refl}
 use Rattle.std.specs.Map.{lookup}
-use Rattle.std.specs.Vec.Iter.{into_iter_items, into_iter_len}
 use Rattle.std.proofs.lemmas.Iterator.Adapters.{YieldsList-from_vec}
 use Rattle.std.proofs.lemmas.Iterator.Consumers.{YieldsList-turn, YieldsList-so_far}
 use Rattle.indexmap.proofs.CallerLemmas.{insert_entry-new}

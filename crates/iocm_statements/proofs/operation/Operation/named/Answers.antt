@@ -1,5 +1,5 @@
 -- Each longer name, read byte by byte, is the operation's.
-use Rattle.std.proofs.Common.{◌≡◌, ℕ, List, length, codes, refl, arith}
+use Rattle.std.proofs.Common.{◌≡◌, codes, refl, arith}
 use Rattle.std.proofs.lemmas.Slice.Eq.{text_from_reads}
 use Rattle.iocm_statements.proofs.operation.Operation.named.Goals as goal
 
