@@ -1,6 +1,6 @@
 -- The pieces of a text, as cutting finds them, are those of the relation, and no others are.
-use Rattle.std.proofs.Common.{◌≡◌, ◌≢◌, ℕ, Bool, true, false, not, cond, ◌&&◌, ◌==◌, Option, None, Some, List, [], ◌∷◌, ◌++◌, All, Result, Ok, Err, refl, sym, ap, ◌∙◌, subst}
-use Rattle.std.proofs.lemmas.Bool.{eqb-true, false≢true}
+use Rattle.std.proofs.Common.{◌≡◌, ◌≢◌, ℕ, Bool, true, false, cond, Option, None, Some, List, [], ◌∷◌, ◌++◌, All, Result, Ok, Err, refl, sym, ap, ◌∙◌, subst}
+use Rattle.std.proofs.lemmas.Bool.{false≢true}
 use Rattle.std.proofs.lemmas.List.{append-nil}
 use Rattle.std.proofs.lemmas.List.Elements.{All-nil, All-cons, All-head, All-tail}
 use Rattle.std.specs.List.{join_with_byte}
@@ -9,55 +9,9 @@ use Rattle.iocm_types.specs.declared.fault.Fault.{Fault}
 use Rattle.iocm_types.specs.Fault.{◌>>=◌, or_fault}
 use Rattle.iocm_statements.specs.declared.place.Place.{Place}
 use Rattle.iocm_statements.specs.Place.{start, is_outside, step, cuts}
+use Rattle.iocm_statements.proofs.Places.{start_is_outside, comma_cuts, outside_is_start, cuts_at_start, cuts_at_comma, step_over_cut}
 use Rattle.iocm_statements.specs.Pieces.{onto_first, pieces_from, pieces_of}
 use Rattle.iocm_statements.specs.Cutting.{place_behind, IsBalanced, IsUncut, FindsPieces, FindsNoOthers, CutsBalanced, CutsNoOthers}
-
--- ---- places
-
-both_left : (x y : Bool) → (x && y) ≡ true → x ≡ true
-both_left true y h = refl
-both_left false y h = h
-
-both_right : (x y : Bool) → (x && y) ≡ true → y ≡ true
-both_right true y h = h
-both_right false y h = absurd (false≢true h)
-
-not_quoted : (q : Bool) → not q ≡ true → q ≡ false
-not_quoted true h = sym h
-not_quoted false h = refl
-
-outside_is_start : (p : Place) → is_outside p ≡ true → p ≡ start
-unfolding is_outside
-outside_is_start p out =
-    let depth : p.depth ≡ 0 = eqb-true p.depth 0 (both_right (not p.quoted) (p.depth == 0) out) in
-    let quoted : p.quoted ≡ false = not_quoted p.quoted (both_left (not p.quoted) (p.depth == 0) out) in
-    λ i. record { depth = depth i; quoted = quoted i }
-
-start_is_outside : is_outside start ≡ true
-unfolding is_outside
-start_is_outside = refl
-
-comma_cuts : cuts start 44 ≡ true
-unfolding cuts is_outside
-comma_cuts = refl
-
-comma_steps : step start 44 ≡ Some start
-unfolding step
-comma_steps = refl
-
-cuts_at_start : (p : Place) (b : ℕ) → cuts p b ≡ true → p ≡ start
-unfolding cuts
-cuts_at_start p b cut = outside_is_start p (both_left (is_outside p) (b == 44) cut)
-
-cuts_at_comma : (p : Place) (b : ℕ) → cuts p b ≡ true → b ≡ 44
-unfolding cuts
-cuts_at_comma p b cut = eqb-true b 44 (both_right (is_outside p) (b == 44) cut)
-
-step_over_cut : (p : Place) (b : ℕ) → cuts p b ≡ true → step p b ≡ Some p
-step_over_cut p b cut =
-    let place = cuts_at_start p b cut in
-    let comma = cuts_at_comma p b cut in
-    (λ i. step (place i) (comma i)) ∙ comma_steps ∙ ap Some (sym place)
 
 -- ---- pieces that begin at any place
 

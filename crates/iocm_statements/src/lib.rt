@@ -27,7 +27,7 @@ mod statement;
 mod tests;
 
 pub use item::{css, inside, inside_css, is_enclosed, items, items_or_one};
-pub use laws::pieces_are_those_of_the_text;
+pub use laws::{operands_are_what_their_texts_say, pieces_are_those_of_the_text};
 pub use number::{decimal, hex};
 pub use operands::{OperandKey, Operands};
 pub use operation::Operation;
