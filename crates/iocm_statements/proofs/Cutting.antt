@@ -1,11 +1,11 @@
 -- The steps of the loop that cuts a text.
-use Rattle.std.proofs.Common.{◌≡◌, ℕ, ◌+◌, ◌<◌, ◌≤◌, Bool, true, false, cond, Option, None, Some, List, [], ◌∷◌, ◌++◌, length, get_or, drop, Result, Ok, Err, refl, sym, ap, append_assoc, add-one, drop-cons}
+use Rattle.std.proofs.Common.{◌≡◌, ℕ, ◌+◌, ◌<◌, ◌≤◌, true, false, None, Some, List, [], ◌∷◌, ◌++◌, length, get_or, drop, Result, Ok, Err, refl, sym, ap, append_assoc, add-one, drop-cons}
 use Rattle.std.proofs.Math.ListN.{drop_of_length-le}
 use Rattle.std.proofs.lemmas.List.{append-nil}
 use Rattle.iocm_types.specs.declared.fault.Fault.{Fault}
-use Rattle.iocm_types.specs.Fault.{◌>>=◌, or_fault}
+use Rattle.iocm_types.specs.Fault.{◌>>=◌}
 use Rattle.iocm_statements.specs.declared.place.Place.{Place}
-use Rattle.iocm_statements.specs.Place.{start, is_outside, step, cuts}
+use Rattle.iocm_statements.specs.Place.{is_outside, step, cuts}
 use Rattle.iocm_statements.specs.Pieces.{onto_first, pieces_from}
 
 -- the pieces that are cut, and the one at hand, in front of those of the rest

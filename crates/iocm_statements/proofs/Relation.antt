@@ -1,6 +1,6 @@
 -- The pieces of a text, as cutting finds them, are those of the relation, and no others are.
-use Rattle.std.proofs.Common.{◌≡◌, ◌≢◌, ℕ, Bool, true, false, not, cond, ◌&&◌, ◌==◌, Option, None, Some, List, [], ◌∷◌, ◌++◌, All, Result, Ok, Err, refl, sym, ap, ◌∙◌, subst}
-use Rattle.std.proofs.lemmas.Bool.{eqb-true, false≢true}
+use Rattle.std.proofs.Common.{◌≡◌, ◌≢◌, ℕ, Bool, true, false, cond, Option, None, Some, List, [], ◌∷◌, ◌++◌, All, Result, Ok, Err, refl, sym, ap, ◌∙◌, subst}
+use Rattle.std.proofs.lemmas.Bool.{false≢true}
 use Rattle.std.proofs.lemmas.List.{append-nil}
 use Rattle.std.proofs.lemmas.List.Elements.{All-nil, All-cons, All-head, All-tail}
 use Rattle.std.specs.List.{join_with_byte}
@@ -9,55 +9,9 @@ use Rattle.iocm_types.specs.declared.fault.Fault.{Fault}
 use Rattle.iocm_types.specs.Fault.{◌>>=◌, or_fault}
 use Rattle.iocm_statements.specs.declared.place.Place.{Place}
 use Rattle.iocm_statements.specs.Place.{start, is_outside, step, cuts}
+use Rattle.iocm_statements.proofs.Places.{start_is_outside, comma_cuts, outside_is_start, cuts_at_start, cuts_at_comma, step_over_cut}
 use Rattle.iocm_statements.specs.Pieces.{onto_first, pieces_from, pieces_of}
-use Rattle.iocm_statements.specs.Cutting.{place_behind, IsBalanced, IsUncut, IsCutInto, FindsPieces, FindsNoOthers, CutsBalanced, CutsNoOthers}
-
--- ---- places
-
-both_left : (x y : Bool) → (x && y) ≡ true → x ≡ true
-both_left true y h = refl
-both_left false y h = h
-
-both_right : (x y : Bool) → (x && y) ≡ true → y ≡ true
-both_right true y h = h
-both_right false y h = absurd (false≢true h)
-
-not_quoted : (q : Bool) → not q ≡ true → q ≡ false
-not_quoted true h = sym h
-not_quoted false h = refl
-
-outside_is_start : (p : Place) → is_outside p ≡ true → p ≡ start
-unfolding is_outside
-outside_is_start p out =
-    let depth : p.depth ≡ 0 = eqb-true p.depth 0 (both_right (not p.quoted) (p.depth == 0) out) in
-    let quoted : p.quoted ≡ false = not_quoted p.quoted (both_left (not p.quoted) (p.depth == 0) out) in
-    λ i. record { depth = depth i; quoted = quoted i }
-
-start_is_outside : is_outside start ≡ true
-unfolding is_outside
-start_is_outside = refl
-
-comma_cuts : cuts start 44 ≡ true
-unfolding cuts is_outside
-comma_cuts = refl
-
-comma_steps : step start 44 ≡ Some start
-unfolding step
-comma_steps = refl
-
-cuts_at_start : (p : Place) (b : ℕ) → cuts p b ≡ true → p ≡ start
-unfolding cuts
-cuts_at_start p b cut = outside_is_start p (both_left (is_outside p) (b == 44) cut)
-
-cuts_at_comma : (p : Place) (b : ℕ) → cuts p b ≡ true → b ≡ 44
-unfolding cuts
-cuts_at_comma p b cut = eqb-true b 44 (both_right (is_outside p) (b == 44) cut)
-
-step_over_cut : (p : Place) (b : ℕ) → cuts p b ≡ true → step p b ≡ Some p
-step_over_cut p b cut =
-    let place = cuts_at_start p b cut in
-    let comma = cuts_at_comma p b cut in
-    (λ i. step (place i) (comma i)) ∙ comma_steps ∙ ap Some (sym place)
+use Rattle.iocm_statements.specs.Cutting.{place_behind, IsBalanced, IsUncut, FindsPieces, FindsNoOthers, CutsBalanced, CutsNoOthers}
 
 -- ---- pieces that begin at any place
 
@@ -78,9 +32,9 @@ empty_piece = record { ends = refl; uncut = λ a b e _. no_parts a b e }
 
 longer_piece : (p q : Place) (b : ℕ) (piece : List ℕ) → cuts p b ≡ false → step p b ≡ Some q → IsPieceFrom q piece → IsPieceFrom p (b ∷ piece)
 longer_piece p q b piece kept next at = record {
-    ends = rw next at.ends;
-    uncut = parts;
-  }
+  ends = rw next at.ends;
+  uncut = parts;
+}
   where
     parts : (a c : List ℕ) → b ∷ piece ≡ a ++ 44 ∷ c → place_behind p a ≢ Some start
     parts [] c e h =
@@ -94,9 +48,9 @@ longer_piece p q b piece kept next at = record {
 
 shorter_piece : (p q : Place) (b : ℕ) (piece : List ℕ) → step p b ≡ Some q → IsPieceFrom p (b ∷ piece) → IsPieceFrom q piece
 shorter_piece p q b piece next at = record {
-    ends = rw next at at.ends;
-    uncut = λ a c e h. at.uncut (b ∷ a) c (ap (λ xs. b ∷ xs) e) (rw next h);
-  }
+  ends = rw next at at.ends;
+  uncut = λ a c e h. at.uncut (b ∷ a) c (ap (λ xs. b ∷ xs) e) (rw next h);
+}
 
 -- ---- what is found
 
@@ -145,7 +99,7 @@ found_from fault p (b ∷ bs) = by (cuts p b) refl (λ q. found_from fault q bs)
   where
     by : (cut : Bool) → cuts p b ≡ cut → ((q : Place) → Found fault q bs (pieces_from fault q bs))
         → Found fault p (b ∷ bs) (cond cut (pieces_from fault p bs >>= λ pieces. Ok ([] ∷ pieces))
-            (or_fault fault (step p b) >>= λ q. pieces_from fault q bs >>= λ pieces. Ok (onto_first (b ∷ []) pieces)))
+        (or_fault fault (step p b) >>= λ q. pieces_from fault q bs >>= λ pieces. Ok (onto_first (b ∷ []) pieces)))
     by true cut rest = found_cut fault p b bs (pieces_from fault p bs) cut (rest p)
     by false kept rest = found_step fault p b bs (step p b) kept refl rest
 
@@ -162,7 +116,7 @@ only_piece fault more pieces rest (b ∷ piece) p at = by (cuts p b) refl (step 
     by : (cut : Bool) → cuts p b ≡ cut → (next : Option Place) → step p b ≡ next
         → ((q : Place) → IsPieceFrom q piece → pieces_from fault q (piece ++ more) ≡ Ok (piece ∷ pieces))
         → cond cut (pieces_from fault p (piece ++ more) >>= λ found. Ok ([] ∷ found))
-            (or_fault fault next >>= λ q. pieces_from fault q (piece ++ more) >>= λ found. Ok (onto_first (b ∷ []) found)) ≡ Ok ((b ∷ piece) ∷ pieces)
+        (or_fault fault next >>= λ q. pieces_from fault q (piece ++ more) >>= λ found. Ok (onto_first (b ∷ []) found)) ≡ Ok ((b ∷ piece) ∷ pieces)
     by true cut next is found =
         absurd (at.uncut [] piece (ap (λ c. c ∷ piece) (cuts_at_comma p b cut)) (ap Some (cuts_at_start p b cut)))
     by false kept None is found =
@@ -177,7 +131,7 @@ only_from fault [] p piece at =
     ap (pieces_from fault p) (sym (append-nil piece)) ∙ only_piece fault [] [] ended piece p at.0
 only_from fault (next ∷ pieces) p piece at =
     let rest = only_from fault pieces start next
-        (All-head (IsPieceFrom start) next pieces at.1, All-tail (IsPieceFrom start) next pieces at.1) in
+    (All-head (IsPieceFrom start) next pieces at.1, All-tail (IsPieceFrom start) next pieces at.1) in
     let cut : pieces_from fault start (44 ∷ join_with_byte 44 (next ∷ pieces)) ≡ Ok ([] ∷ next ∷ pieces) = rw (comma_cuts, rest) refl in
     only_piece fault (44 ∷ join_with_byte 44 (next ∷ pieces)) (next ∷ pieces) cut piece p at.0
 
@@ -210,7 +164,7 @@ finds_no_others fault text [] at = absurd (at.some refl)
 finds_no_others fault text (piece ∷ pieces) at =
     let each : All (IsPieceFrom start) (piece ∷ pieces) = λ k d h. record { ends = at.balanced k d h; uncut = at.uncut k d h } in
     ap (pieces_of fault) (sym at.joined)
-        ∙ only_from fault pieces start piece (All-head (IsPieceFrom start) piece pieces each, All-tail (IsPieceFrom start) piece pieces each)
+    ∙ only_from fault pieces start piece (All-head (IsPieceFrom start) piece pieces each, All-tail (IsPieceFrom start) piece pieces each)
 
 pub cuts_balanced : CutsBalanced
 cuts_balanced fault text e is = subst (Found fault start text) is (found_from fault start text)

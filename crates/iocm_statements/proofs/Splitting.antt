@@ -1,5 +1,5 @@
 -- The steps of the search for the equal sign of an operand.
-use Rattle.std.proofs.Common.{◌≡◌, ℕ, ◌+◌, ◌<◌, ◌≤◌, Bool, true, false, cond, Option, None, Some, List, [], ◌∷◌, length, get_or, drop, refl, sym, ap, add_assoc, add-one, drop-cons, arith}
+use Rattle.std.proofs.Common.{◌≡◌, ℕ, suc, ◌+◌, ◌<◌, ◌≤◌, true, false, Option, None, Some, List, ◌∷◌, length, get_or, drop, refl, ap, add-one, drop-cons, arith}
 use Rattle.std.proofs.Math.ListN.{drop_of_length-le}
 use Rattle.std.specs.Option.{option_map}
 use Rattle.iocm_statements.specs.declared.place.Place.{Place}
@@ -13,7 +13,7 @@ further i found = option_map (λ n. i + n) found
 opened : (text : List ℕ) (i : ℕ) → i < length text → drop i text ≡ get_or text i 0 ∷ drop (i + 1) text
 opened text i within = rw (add-one, drop-cons text i 0 within) refl
 
-one_further : (i : ℕ) (found : Option ℕ) → further i (option_map (λ n. 1 + n) found) ≡ further (i + 1) found
+one_further : (i : ℕ) (found : Option ℕ) → further i (option_map suc found) ≡ further (i + 1) found
 unfolding further
 one_further i None = refl
 one_further i (Some n) = ap Some (omega arith)

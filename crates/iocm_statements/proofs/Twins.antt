@@ -67,11 +67,11 @@ cut_at : (items yielded : List Operand) (e : Operand)
     → yielded ++ e ∷ drop (length yielded + 1) items ≡ items
 cut_at items yielded e front here =
     let opened : drop (length yielded) items ≡ e ∷ drop (length yielded + 1) items =
-        rw (add-one, drop-cons items (length yielded) e here.0, ← here.1) refl in
+    rw (add-one, drop-cons items (length yielded) e here.0, ← here.1) refl in
     let same : yielded ≡ take (length yielded) items = sym (map-id yielded) ∙ front in
     ap (λ (xs : List Operand). xs ++ e ∷ drop (length yielded + 1) items) same
-        ∙ ap (λ (xs : List Operand). take (length yielded) items ++ xs) (sym opened)
-        ∙ take-append-drop (length yielded) items
+    ∙ ap (λ (xs : List Operand). take (length yielded) items ++ xs) (sym opened)
+    ∙ take-append-drop (length yielded) items
 
 -- an operand at hand whose key came before makes twins of all operands
 pub twin_found : (items yielded : List Operand) (key : OperandKey) (text : List ℕ)
@@ -80,4 +80,4 @@ pub twin_found : (items yielded : List Operand) (key : OperandKey) (text : List 
     → is_some (lookup (derived.ghosts.eq key) yielded) ≡ true → has_twins items ≡ true
 twin_found items yielded key text front here found =
     subst (λ (es : List Operand). has_twins es ≡ true) (cut_at items yielded (key, text) front here)
-        (becomes_twin yielded (drop (length yielded + 1) items) key text found)
+    (becomes_twin yielded (drop (length yielded + 1) items) key text found)

@@ -5,4 +5,5 @@ pub mod Operands
 pub mod Operation
 pub mod Pieces
 pub mod Place
+pub mod Splitting
 pub mod Statement

@@ -1,11 +1,10 @@
 -- Operands: a keyword and its value, or a bare text; and a statement's operands in their order.
-use Rattle.std.specs.Prelude.{ℕ, ◌+◌, ◌==◌, ◌&&◌, ◌||◌, nat_eq, nat_le, Bool, true, false, not, if◌then◌else◌, Option, None, Some, List, [], ◌∷◌, length, take, drop, Result, Ok, Err}
+use Rattle.std.specs.Prelude.{ℕ, suc, ◌+◌, ◌==◌, ◌&&◌, ◌||◌, nat_eq, nat_le, Bool, false, not, if◌then◌else◌, Option, None, Some, List, [], ◌∷◌, length, take, drop, Result, Ok, Err}
 use Rattle.std.specs.Option.{option_map, option_and_then}
 use Rattle.std.specs.List.{list_all, list_any}
 use Rattle.std.specs.Map.{lookup}
 use Rattle.std.specs.Str.{bytes_eq}
 use Rattle.iocm_types.specs.declared.fault.Fault.{Fault}
-use Rattle.iocm_types.specs.declared.rule.Rule.{Rule}
 use Rattle.iocm_types.specs.declared.rule.Rule.TheVariants.{S2, S4, S6}
 use Rattle.iocm_types.specs.Fault.{◌>>=◌, at}
 use Rattle.iocm_types.specs.Each.{each}
@@ -24,7 +23,7 @@ unfoldable pub equals_from : Place → List ℕ → Option ℕ
 equals_from p [] = None
 equals_from p (b ∷ bs) =
     if sets p b then Some 0
-    else option_and_then (λ q. option_map (λ n. 1 + n) (equals_from q bs)) (step p b)
+    else option_and_then (λ q. option_map suc (equals_from q bs)) (step p b)
 
 -- A to Z and 0 to 9
 abbrev pub is_keyword_byte : ℕ → Bool

@@ -1,4 +1,5 @@
 -- Where a byte of a text stands: inside parentheses, inside quotes, or outside both.
+-- Bytes by their codes: 39 is a quote, 40 and 41 are parentheses, 44 is a comma, 61 an equal sign.
 use Rattle.std.specs.Prelude.{ℕ, ◌+◌, ◌-◌, ◌==◌, ◌&&◌, Bool, false, not, if◌then◌else◌, Option, None, Some}
 use Rattle.iocm_statements.specs.declared.place.Place.{Place}
 

@@ -1,7 +1,6 @@
 -- Statements with their operands.
-use Rattle.std.specs.Prelude.{ℕ, List, Result, Ok}
+use Rattle.std.specs.Prelude.{List, Result, Ok}
 use Rattle.iocm_types.specs.declared.fault.Fault.{Fault}
-use Rattle.iocm_types.specs.declared.rule.Rule.{Rule}
 use Rattle.iocm_types.specs.declared.rule.Rule.TheVariants.{S1}
 use Rattle.iocm_types.specs.Fault.{◌>>=◌, or_fault, at}
 use Rattle.iocm_types.specs.Each.{each}

@@ -5,7 +5,8 @@ ghost use Rattle.iocm_statements.specs.Numbers as numbers;
 fn are_hex_digits(text: &[u8]) -> bool
     ensures { result ≡ list_all numbers.is_hex_digit text.now }
 {
-    text.iter().all(|byte| matches!(*byte, b'0'..=b'9' | b'A'..=b'F'))
+    text.iter()
+        .all(|byte| matches!(*byte, b'0'..=b'9' | b'A'..=b'F'))
 }
 
 fn are_decimal_digits(text: &[u8]) -> bool

@@ -94,7 +94,11 @@ pub(crate) fn make_operands(
 }
 
 /// The texts of the operands of an operand part; an empty part has none.
-pub(crate) fn operand_texts(alloc: Global, text: &[u8], unmatched: Fault) -> Result<Vec<Text>, Fault>
+pub(crate) fn operand_texts(
+    alloc: Global,
+    text: &[u8],
+    unmatched: Fault,
+) -> Result<Vec<Text>, Fault>
     ensures { Gives (λ v. v.items) result (operand_texts unmatched text.now) }
 {
     if text.is_empty() {

@@ -1,7 +1,6 @@
 -- A key that the map has is a twin; one that it lacks is none.
-use Rattle.std.proofs.Common.{◌≡◌, ◌++◌, ◌∷◌, List, [], ◌∙◌, sym, ap, inr, true, false, is_some, vec_len, refl}
+use Rattle.std.proofs.Common.{◌≡◌, ◌++◌, ◌∷◌, List, [], ◌∙◌, sym, ap, inr, true, false, is_some, refl}
 use Rattle.std.specs.Map.{lookup}
-use Rattle.std.specs.Vec.Iter.{into_iter_items, into_iter_len}
 use Rattle.std.proofs.lemmas.Iterator.Adapters.{YieldsList-from_vec}
 use Rattle.std.proofs.lemmas.Iterator.Consumers.{YieldsList-turn, YieldsList-so_far}
 use Rattle.indexmap.proofs.CallerLemmas.{insert_entry-new}
@@ -17,14 +16,14 @@ returns-then-is_some c =
     let here = YieldsList-turn road c.loop-key.yielded c.loop-key.key-iterator c.loop-key.yielded_by c.next.result c.next.new.self (c.in-Some.key, c.in-Some.text) c.in-Some.is c.next.ensures.steps in
     let front = YieldsList-so_far road c.loop-key.yielded c.loop-key.key-iterator c.loop-key.yielded_by in
     let found : is_some (lookup (derived.ghosts.eq c.in-Some.key) c.loop-key.yielded) ≡ true =
-        rw (← c.loop-key.invariant.kept) (ap is_some (sym c.in_ok-insert.ensures.old) ∙ sym c.if-is_some.ensures) in
+    rw (← c.loop-key.invariant.kept) (ap is_some (sym c.in_ok-insert.ensures.old) ∙ sym c.if-is_some.ensures) in
     let twins : has_twins c.args.operands.items ≡ true = twin_found c.args.operands.items c.loop-key.yielded c.in-Some.key c.in-Some.text front here found in
     inr (rw twins refl)
 
 pub loop-key-preserved : goal.loop-key-preserved
 loop-key-preserved c =
     let absent : is_some (lookup (derived.ghosts.eq c.in-Some.key) c.loop-key.map.entries) ≡ false =
-        ap is_some (sym c.in_ok-insert.ensures.old) ∙ sym c.if-is_some.ensures in
+    ap is_some (sym c.in_ok-insert.ensures.old) ∙ sym c.if-is_some.ensures in
     record {
       kept = c.in_ok-insert.ensures.entries
           ∙ insert_entry-new derived.ghosts.eq c.loop-key.map c.in-Some.key c.in-Some.text (none_from _ absent)
