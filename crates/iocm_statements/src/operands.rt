@@ -1,4 +1,6 @@
-ghost use Rattle.std.specs.Prelude.{◌≡◌};
+ghost use Rattle.std.specs.Prelude.{◌≡◌, ◌<◌, length, slice_index_or};
+ghost use Rattle.std.specs.Option.{option_copied};
+ghost use Rattle.iocm_statements.specs.Operands as operand;
 
 use indexmap::IndexMap;
 use iocm_types::Text;
@@ -10,6 +12,18 @@ use std::marker::Model;
 pub enum OperandKey {
     Keyword(Text),
     Bare(usize),
+}
+
+impl OperandKey {
+    /// Whether it is the keyword `keyword`.
+    pub fn is_under(&self, keyword: &[u8]) -> bool
+        ensures { result ≡ operand.is_under keyword.now self.now }
+    {
+        match self {
+            OperandKey::Keyword(word) => word.as_slice() == keyword,
+            OperandKey::Bare(_) => false,
+        }
+    }
 }
 
 /// The operands of a statement in their order. Contracts see the list of keys and texts.
@@ -28,9 +42,64 @@ impl Model for Operands {
 }
 
 impl Operands {
+    /// The operands of a map, in its order.
     pub fn from_map(map: IndexMap<OperandKey, Text>) -> Self
         ensures { result ≡ map.entries }
     {
         Operands { map }
+    }
+
+    /// How many operands there are.
+    pub fn len(&self) -> usize
+        ensures { result ≡ length self.now }
+    {
+        self.map.len()
+    }
+
+    /// The key and the text of the operand at `index`, counted from 0 in the order of the statement.
+    pub fn at(&self, index: usize) -> (&OperandKey, &[u8])
+        requires { index < length self.now }
+        ensures { (result.0.now, result.1.now) ≡ slice_index_or self.now index (result.0.now, result.1.now) }
+    {
+        let Some((key, text)) = self.map.get_index(index) else {
+            unreachable!()
+        };
+        (key, text.as_slice())
+    }
+
+    /// The text of the operand with this keyword, which is empty for `FOO=`.
+    pub fn get(&self, keyword: &[u8]) -> Option<&[u8]>
+        ensures { option_copied result ≡ operand.text_under keyword.now self.now }
+    {
+        for index in 0..self.len() {
+            let (key, text) = self.at(index);
+            if key.is_under(keyword) {
+                return Some(text);
+            }
+        }
+        None
+    }
+
+    /// Whether one of the operands is `word` alone, with no equal sign.
+    pub fn has_bare(&self, word: &[u8]) -> bool
+        ensures { result ≡ operand.has_bare word.now self.now }
+    {
+        for index in 0..self.len() {
+            let (key, text) = self.at(index);
+            if is_bare_word(key, text, word) {
+                return true;
+            }
+        }
+        false
+    }
+}
+
+/// Whether the operand with this key and text is `word` alone.
+fn is_bare_word(key: &OperandKey, text: &[u8], word: &[u8]) -> bool
+    ensures { result ≡ operand.is_bare_word word.now (key.now, text.now) }
+{
+    match key {
+        OperandKey::Keyword(_) => false,
+        OperandKey::Bare(_) => text == word,
     }
 }

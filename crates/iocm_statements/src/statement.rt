@@ -1,12 +1,13 @@
 use crate::{Operands, Operation};
 use iocm_types::Text;
 
-/// A statement of a deck: the name field, the operation, the operands in their order, and the line
-/// of its first record.
+/// A statement of a deck, as `parse` gives it.
 #[derive(Debug, Drop)]
 pub struct Statement {
+    /// The name field, which configuration decks ignore.
     pub name: Text,
     pub operation: Operation,
     pub operands: Operands,
+    /// The line of its first record, counted from 1.
     pub line: usize,
 }

@@ -1,0 +1,6 @@
+mod Cutting
+mod Places
+mod Relation
+mod Saying
+mod Splitting
+mod Twins

@@ -1,0 +1,48 @@
+-- What it is to cut a text at its commas, as a relation between the text and its pieces.
+use Rattle.std.specs.Prelude.{◌≡◌, ◌≢◌, ℕ, Option, Some, List, [], ◌∷◌, ◌++◌, All, Ok, Err}
+use Rattle.std.specs.Option.{option_and_then}
+use Rattle.std.specs.List.{join_with_byte}
+use Rattle.iocm_types.specs.declared.fault.Fault.{Fault}
+use Rattle.iocm_statements.specs.declared.place.Place.{Place}
+use Rattle.iocm_statements.specs.Place.{start, step}
+use Rattle.iocm_statements.specs.Pieces.{pieces_of}
+
+-- the place behind a text that begins at this place
+abbrev pub place_behind : Place → List ℕ → Option Place
+place_behind p [] = Some p
+place_behind p (b ∷ bs) = option_and_then (λ q. place_behind q bs) (step p b)
+
+-- parentheses match and quotes end
+abbrev pub IsBalanced : List ℕ → Type 0
+IsBalanced text = place_behind start text ≡ Some start
+
+-- each comma of the piece stands inside parentheses or quotes
+abbrev pub IsUncut : List ℕ → Type 0
+IsUncut piece = (a b : List ℕ) → piece ≡ a ++ 44 ∷ b → place_behind start a ≢ Some start
+
+-- there are pieces; joined by commas they are the text; each is balanced, and has no comma at which to cut
+pub record IsCutInto (text : List ℕ) (pieces : List (List ℕ)) : Type 0 where
+  pub some : pieces ≢ []
+  pub joined : join_with_byte 44 pieces ≡ text
+  pub balanced : All IsBalanced pieces
+  pub uncut : All IsUncut pieces
+
+-- pieces that are found are pieces of the text
+abbrev pub FindsPieces : Type 0
+FindsPieces = (fault : Fault) (text : List ℕ) (pieces : List (List ℕ))
+    → pieces_of fault text ≡ Ok pieces → IsCutInto text pieces
+
+-- no other pieces than these are pieces of the text
+abbrev pub FindsNoOthers : Type 0
+FindsNoOthers = (fault : Fault) (text : List ℕ) (pieces : List (List ℕ))
+    → IsCutInto text pieces → pieces_of fault text ≡ Ok pieces
+
+-- a balanced text is cut
+abbrev pub CutsBalanced : Type 0
+CutsBalanced = (fault : Fault) (text : List ℕ) (e : Fault)
+    → pieces_of fault text ≡ Err e → (e ≡ fault) × ¬ IsBalanced text
+
+-- no other text is cut
+abbrev pub CutsNoOthers : Type 0
+CutsNoOthers = (fault : Fault) (text : List ℕ) (pieces : List (List ℕ))
+    → pieces_of fault text ≡ Ok pieces → IsBalanced text

@@ -1,0 +1,20 @@
+-- The operations by their names.
+use Rattle.std.specs.Prelude.{ℕ, List, if◌then◌else◌, Option, None, Some, codes}
+use Rattle.std.specs.Str.{bytes_eq}
+use Rattle.iocm_statements.specs.declared.operation.Operation.{Operation}
+use Rattle.iocm_statements.specs.declared.operation.Operation.TheVariants.{Id, Resource, Chpid, Cntlunit, Iodevice, Online, Row, Group, Choose, End}
+
+-- the operation of this name, if there is one
+abbrev pub operation_named : List ℕ → Option Operation
+operation_named name =
+    if bytes_eq name (codes "ID") then Some Id
+    else if bytes_eq name (codes "RESOURCE") then Some Resource
+    else if bytes_eq name (codes "CHPID") then Some Chpid
+    else if bytes_eq name (codes "CNTLUNIT") then Some Cntlunit
+    else if bytes_eq name (codes "IODEVICE") then Some Iodevice
+    else if bytes_eq name (codes "ONLINE") then Some Online
+    else if bytes_eq name (codes "ROW") then Some Row
+    else if bytes_eq name (codes "GROUP") then Some Group
+    else if bytes_eq name (codes "CHOOSE") then Some Choose
+    else if bytes_eq name (codes "END") then Some End
+    else None

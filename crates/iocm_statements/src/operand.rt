@@ -1,0 +1,108 @@
+ghost use Rattle.std.specs.Prelude.{◌≡◌, ◌+◌, ◌≤◌, length, IfSome};
+ghost use Rattle.std.specs.List.{list_all};
+ghost use Rattle.iocm_types.specs.Fault.{Gives};
+ghost use Rattle.iocm_types.specs.Each.{each};
+ghost use Rattle.iocm_statements.specs.Place.{start};
+ghost use Rattle.iocm_statements.specs.Operands.{equals_from, is_keyword_byte, is_keyword, keyword_operand, operand_of, operand_texts};
+
+use crate::OperandKey;
+use crate::place::Place;
+use crate::split::pieces;
+use iocm_types::{Fault, Text};
+use std::alloc::Global;
+
+/// Where the first equal sign outside parentheses and quotes stands.
+#[tactic(auto, using(crate::proofs::Splitting::splitting))]
+fn equals_at(text: &[u8]) -> Option<usize>
+    ensures found { result ≡ equals_from start text.now }
+    ensures within { IfSome result (λ n. n + 1 ≤ length text.now) }
+{
+    let mut place = Place::start();
+    for (index, byte) in text.iter().enumerate() {
+        if place.sets(*byte) {
+            return Some(index);
+        }
+        place = place.after(*byte)?;
+    }
+    None
+}
+
+fn are_keyword_bytes(text: &[u8]) -> bool
+    ensures { result ≡ list_all is_keyword_byte text.now }
+{
+    text.iter()
+        .all(|byte| byte.is_ascii_uppercase() || byte.is_ascii_digit())
+}
+
+fn is_keyword(text: &[u8]) -> bool
+    ensures { result ≡ is_keyword text.now }
+{
+    !text.is_empty() && are_keyword_bytes(text)
+}
+
+/// The operand whose equal sign stands at `equals`.
+fn keyword_operand(
+    alloc: Global,
+    text: &[u8],
+    equals: usize,
+    malformed: Fault,
+) -> Result<(OperandKey, Text), Fault>
+    requires { equals + 1 ≤ length text.now }
+    ensures { Gives (λ operand. operand) result (keyword_operand malformed text.now equals) }
+{
+    let (keyword, rest) = text.split_at(equals);
+    let (_, value) = rest.split_at(1);
+    if !is_keyword(keyword) {
+        return Err(malformed);
+    }
+    let key = OperandKey::Keyword(Text::from_slice(alloc, keyword)?);
+    Ok((key, Text::from_slice(alloc, value)?))
+}
+
+/// The operand at this place of its statement.
+fn make_operand(
+    alloc: Global,
+    place: usize,
+    text: &[u8],
+    malformed: Fault,
+) -> Result<(OperandKey, Text), Fault>
+    ensures { Gives (λ operand. operand) result (operand_of malformed place text.now) }
+{
+    if text.is_empty() {
+        return Err(malformed);
+    }
+    match equals_at(text) {
+        Some(equals) => keyword_operand(alloc, text, equals, malformed),
+        None => Ok((OperandKey::Bare(place), Text::from_slice(alloc, text)?)),
+    }
+}
+
+/// All operands of these texts, in order.
+#[tactic(auto, using(iocm_types::proofs::Each::each_steps))]
+pub(crate) fn make_operands(
+    alloc: Global,
+    texts: &[Text],
+    malformed: Fault,
+) -> Result<Vec<(OperandKey, Text)>, Fault>
+    ensures { Gives (λ v. v.items) result (each (operand_of malformed) 0 texts.now) }
+{
+    let mut operands = Vec::new(alloc);
+    for (place, text) in texts.iter().enumerate() {
+        operands.push(make_operand(alloc, place, text.as_slice(), malformed)?)?;
+    }
+    Ok(operands)
+}
+
+/// The texts of the operands of an operand part; an empty part has none.
+pub(crate) fn operand_texts(
+    alloc: Global,
+    text: &[u8],
+    unmatched: Fault,
+) -> Result<Vec<Text>, Fault>
+    ensures { Gives (λ v. v.items) result (operand_texts unmatched text.now) }
+{
+    if text.is_empty() {
+        return Ok(Vec::new(alloc));
+    }
+    pieces(alloc, text, unmatched)
+}
