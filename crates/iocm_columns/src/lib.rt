@@ -2,6 +2,8 @@
 
 mod card;
 mod joined;
+mod lines;
 
 pub use card::Card;
 pub use joined::Joined;
+pub use lines::cards;

@@ -1,0 +1,5 @@
+pub mod Cards
+
+
+
+
