@@ -1,5 +1,2 @@
 pub mod Cards
-
-
-
-
+pub mod Device
