@@ -1,3 +1,4 @@
 pub mod Consuming
 pub mod Cutting
 pub mod Listing
+pub mod Refusing

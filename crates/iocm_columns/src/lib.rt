@@ -4,8 +4,9 @@ mod card;
 mod device;
 mod joined;
 mod lines;
+mod reading;
 
 pub use card::Card;
 pub use device::Device;
 pub use joined::Joined;
-pub use lines::cards;
+pub use reading::read_cards;

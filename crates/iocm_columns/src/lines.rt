@@ -10,7 +10,7 @@ use std::alloc::Global;
 
 /// All lines of `text` as cards, or the fault of the first line that is refused.
 #[tactic(auto, using(crate::proofs::Listing::first_steps))]
-pub fn cards(alloc: Global, text: &[u8]) -> Result<Vec<Card>, Fault>
+pub(crate) fn cards(alloc: Global, text: &[u8]) -> Result<Vec<Card>, Fault>
     ensures { Gives (λ v. v.items) result (cards_of text.now) }
 {
     let mut cards = Vec::new(alloc);
