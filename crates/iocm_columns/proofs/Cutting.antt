@@ -1,10 +1,10 @@
 -- A text is its first line and the lines of what follows.
-use Rattle.std.proofs.Common.{◌≡◌, ℕ, ◌+◌, ◌<◌, Bool, true, false, List, [], ◌∷◌, ◌++◌, length, take, drop, refl, sym, ap, ◌∙◌, arith, eqb, nat_lt, cond, Some, None}
+use Rattle.std.proofs.Common.{◌≡◌, ℕ, ◌+◌, ◌<◌, Bool, false, List, [], ◌∷◌, ◌++◌, length, take, drop, refl, sym, ap, ◌∙◌, arith, eqb, nat_lt, Some}
 use Rattle.std.specs.List.{All, slice_split, position, position_or_len}
 use Rattle.std.specs.Str.Lines.{lines, lines_of_parts, strip_carriage_return}
 use Rattle.std.proofs.lemmas.List.{drop-drop}
 use Rattle.std.proofs.lemmas.Bool.Decides.{nat_tests}
-use borrow.Author.Tests.{ltb-true}
+use Rattle.iocm_columns.proofs.Finding.{found_there}
 use Rattle.std.proofs.lemmas.List.Splits.{slice_split_none, slice_split_first, length-slice_split}
 
 one_part : (line : List ℕ) → 0 < length line → lines_of_parts (line ∷ []) ≡ line ∷ []
@@ -17,10 +17,6 @@ lines_of_one text some none = ap lines_of_parts (slice_split_none (λ b. eqb b 1
 first_part : (line : List ℕ) (parts : List (List ℕ)) → 0 < length parts → lines_of_parts (line ∷ parts) ≡ strip_carriage_return line ∷ lines_of_parts parts
 first_part line [] some = absurd (omega arith)
 first_part line (part ∷ parts) some = refl
-
-found_there : (n len i : ℕ) (e : Bool) → nat_lt n len ≡ e → cond e (Some n) None ≡ Some i → (i ≡ n) × (n < len)
-found_there n len i true is same = (cc, ltb-true n len is)
-found_there n len i false is same = cc
 
 -- the first LF ends the first line
 pub lines_of_more : (text : List ℕ) (at : ℕ) → position (λ b. eqb b 10) text ≡ Some at

@@ -1,4 +1,9 @@
 pub mod Consuming
 pub mod Cutting
+pub mod Finding
+pub mod Gathering
+pub mod Grouping
 pub mod Listing
 pub mod Refusing
+pub mod Walking
+pub mod Scanning

@@ -1,2 +1,6 @@
 pub mod Cards
+pub mod Columns
 pub mod Device
+pub mod Part
+pub mod Records
+pub mod Statements

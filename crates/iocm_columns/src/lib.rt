@@ -1,12 +1,19 @@
 #![tactic(auto)]
 
 mod card;
+mod columns;
 mod device;
+mod going;
 mod joined;
 mod lines;
+mod part;
 mod reading;
+mod record;
+mod statement;
+mod words;
 
 pub use card::Card;
 pub use device::Device;
 pub use joined::Joined;
 pub use reading::read_cards;
+pub use statement::join;
