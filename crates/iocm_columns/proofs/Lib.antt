@@ -7,3 +7,4 @@ pub mod Listing
 pub mod Refusing
 pub mod Walking
 pub mod Scanning
+pub mod Slicing

@@ -3,4 +3,5 @@ pub mod Columns
 pub mod Device
 pub mod Part
 pub mod Records
+pub mod Slices
 pub mod Statements
