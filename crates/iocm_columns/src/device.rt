@@ -1,6 +1,6 @@
 ghost use Rattle.std.specs.Prelude.{◌≡◌, ◌-◌, ◌+◌, ◌^◌, ◌<◌, ◌≤◌, ◌⊎◌, ◌==◌, true, length, take, vec_len, IfOk, IfErr, IfSome, OnOk, Ok};
 ghost use Rattle.std.specs.Io.KnownBytes.{Consumes, IsAtEnd};
-ghost use Rattle.iocm_columns.specs.Device.{reader_of, reads_of, has_failed, has_ended, unreadable, IsOpen, StopsShort};
+ghost use Rattle.iocm_columns.specs.Device.{reader_of, reads_of, has_failed, has_ended, unreadable, IsOpen, IsWhole, StopsShort};
 ghost use Rattle.iocm_types.specs.Fault.{memory};
 
 use iocm_types::{Fault, Rule};
@@ -69,7 +69,7 @@ impl<R: Read> Device<R> {
         requires room { reads_of self.old + limit < 2 ^ 64 }
         ensures reads { reads_of self.new ≤ reads_of self.old + limit }
         ensures bytes { IfOk result (λ v. IfSome (R.remaining (reader_of self.old)) (λ bytes. v.items ≡ bytes)) }
-        ensures ended { OnOk result (has_ended self.new ≡ true) }
+        ensures whole { OnOk result (IsWhole self.new) }
         ensures fault { IfErr result (λ e. (e ≡ memory) ⊎ ((e ≡ unreadable) × StopsShort self.new (reads_of self.old + limit))) }
     {
         let mut buffer = make_buffer(alloc, BUFFER_LEN)?;

@@ -1,6 +1,6 @@
-ghost use Rattle.std.specs.Prelude.{◌≡◌, ◌+◌, ◌^◌, ◌<◌, ◌≤◌, ℕ, true, List, IfSome, OnOk, Err};
+ghost use Rattle.std.specs.Prelude.{◌≡◌, ◌+◌, ◌^◌, ◌<◌, ◌≤◌, ◌⊎◌, ℕ, List, IfSome, Err};
 ghost use Rattle.iocm_columns.specs.Cards.{cards_of};
-ghost use Rattle.iocm_columns.specs.Device.{reader_of, reads_of, has_ended, unreadable, GivesIfReadable, IsOpen, StopsShort};
+ghost use Rattle.iocm_columns.specs.Device.{reader_of, reads_of, unreadable, GivesIfReadable, IsOpen, IsUnread, IsWhole, StopsShort};
 
 use crate::lines::cards;
 use crate::{Card, Device};
@@ -18,10 +18,10 @@ pub fn read_cards<R: Read>(alloc: Global, device: &mut Device<R>, limit: u64) ->
     requires open { IsOpen device.old }
     requires room { reads_of device.old + limit < 2 ^ 64 }
     ensures reads { reads_of device.new ≤ reads_of device.old + limit }
-    ensures known { IfSome (R.remaining (reader_of device.old)) (λ bytes. GivesIfReadable (λ v. v.items) result (cards_of bytes)) }
-    ensures some { (bytes : List ℕ) × GivesIfReadable (λ v. v.items) result (cards_of bytes) }
+    ensures known_bytes { IfSome (R.remaining (reader_of device.old)) (λ bytes. GivesIfReadable (λ v. v.items) result (cards_of bytes)) }
+    ensures some_bytes { (bytes : List ℕ) × GivesIfReadable (λ v. v.items) result (cards_of bytes) }
     ensures unreadable { result ≡ Err unreadable → StopsShort device.new (reads_of device.old + limit) }
-    ensures ended { OnOk result (has_ended device.new ≡ true) }
+    ensures whole { IsWhole device.new ⊎ IsUnread result }
 {
     let text = device.read_to_end(alloc, limit)?;
     cards(alloc, text.as_slice())
