@@ -33,8 +33,8 @@ unfolding each
 none_unreadable n [] is = cc
 none_unreadable n (x ∷ xs) is =
     first_unreadable (card_of n x) (each card_of (n + 1) xs)
-        (refused_otherwise (not (list_all is_printable x)) (nat_lt 80 (length x)) n (record { line = n; bytes = x }))
-        (none_unreadable (n + 1) xs) is
+    (refused_otherwise (not (list_all is_printable x)) (nat_lt 80 (length x)) n (record { line = n; bytes = x }))
+    (none_unreadable (n + 1) xs) is
 
 -- no text is unreadable
 pub never_unreadable : (text : List ℕ) → cards_of text ≡ Err unreadable → ⊥

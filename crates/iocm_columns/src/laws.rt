@@ -10,11 +10,9 @@ ghost use Rattle.iocm_columns.specs.Statements.{groups, statement_of};
 pub fn text_is_slices()
     ensures found { (r : Record) (rs : List Record) → (slices : List (List ℕ)) × AreSlicesOf r rs slices × ((statement_of (r ∷ rs)).text ≡ concat slices) }
     ensures only { (r : Record) (rs : List Record) (slices : List (List ℕ)) → AreSlicesOf r rs slices → (statement_of (r ∷ rs)).text ≡ concat slices }
-{
-}
+{}
 
 /// The records of all statements, one after the other, are the records of the deck.
 pub fn groups_are_records()
     ensures { (rs : List Record) → flat_map (λ group. group) (groups rs) ≡ rs }
-{
-}
+{}

@@ -91,7 +91,9 @@ fn front_len(quoting: bool, columns: &[u8]) -> usize
 fn quoting_after(quoting: bool, taken: &[u8]) -> bool
     ensures { result ≡ fold switched quoting taken.now }
 {
-    taken.iter().fold(quoting, |inside, byte| switch(inside, *byte))
+    taken
+        .iter()
+        .fold(quoting, |inside, byte| switch(inside, *byte))
 }
 
 #[tactic(auto, unfolding(crate::specs::Part::switched))]
@@ -115,7 +117,11 @@ fn going_after(text: &[u8], quoting: bool, through: bool) -> Going
     if text.is_empty() || has_comma_end(text, quoting) {
         return Going::AtNext;
     }
-    if through { Going::Exactly } else { Going::Ended }
+    if through {
+        Going::Exactly
+    } else {
+        Going::Ended
+    }
 }
 
 fn has_comma_end(text: &[u8], quoting: bool) -> bool

@@ -14,7 +14,11 @@ use std::io::Read;
 /// of `limit` reads gave the end); then the lines are checked in order, each for L1 before L2. The
 /// forms of lines are those of the IOCP User's Guide, coding IOCP macroinstructions; the limits are own.
 #[tactic(auto, using(crate::proofs::Refusing::never_unreadable))]
-pub fn read_cards<R: Read>(alloc: Global, device: &mut Device<R>, limit: u64) -> Result<Vec<Card>, Fault>
+pub fn read_cards<R: Read>(
+    alloc: Global,
+    device: &mut Device<R>,
+    limit: u64,
+) -> Result<Vec<Card>, Fault>
     requires open { IsOpen device.old }
     requires room { reads_of device.old + limit < 2 ^ 64 }
     ensures reads { reads_of device.new ≤ reads_of device.old + limit }

@@ -8,5 +8,5 @@ invariant-loop g l = record {
   counted : reads_of l.self ≡ reads_of l.fn.self + l.counter;
   open_yet : IsOpen l.self;
   room : 0 < vec_len l.buffer;
-  gathered : Consumes (g.R.Read.remaining (reader_of l.fn.self)) (g.R.Read.remaining (reader_of l.self)) l.bytes.items
+  gathered : Consumes (g.R.Read.remaining (reader_of l.fn.self)) (g.R.Read.remaining (reader_of l.self)) l.bytes.items;
 }
