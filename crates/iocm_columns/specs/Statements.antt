@@ -2,9 +2,11 @@
 use Rattle.std.specs.Prelude.{ℕ, List, [], ◌∷◌, ◌++◌, map, Option, None, Some, Result, Ok, Err, if◌then◌else◌}
 use Rattle.std.specs.List.{fold}
 use Rattle.iocm_types.specs.declared.fault.Fault.{Fault}
+use Rattle.iocm_types.specs.Fault.{◌>>=◌}
 use Rattle.iocm_columns.specs.declared.card.Card.{Card}
 use Rattle.iocm_columns.specs.declared.joined.Joined.{Joined}
 use Rattle.iocm_columns.specs.declared.record.Record.{Record}
+use Rattle.iocm_columns.specs.Cards.{cards_of}
 use Rattle.iocm_columns.specs.Columns.{is_continued, name_of, operation_of, behind_operation, continuation_area}
 use Rattle.iocm_columns.specs.Part.{Part, part_after, continued}
 use Rattle.iocm_columns.specs.Records.{records_of, first_breach}
@@ -40,3 +42,7 @@ unless_breach None records = Ok (map statement_of (groups records))
 -- the statements of a deck, or its first fault (L3, L4) by place
 abbrev pub statements_of : List Card → Result (List Joined) Fault
 statements_of cards = unless_breach (first_breach (records_of cards)) (records_of cards)
+
+-- the statements of the bytes of a deck, or its first fault: that of a line comes before that of a record
+abbrev pub joined_of : List ℕ → Result (List Joined) Fault
+joined_of bytes = cards_of bytes >>= statements_of
