@@ -1,3 +1,4 @@
 pub mod Each
 pub mod KeyOrder
 pub mod Padding
+pub mod Sorted
