@@ -1,4 +1,5 @@
 pub mod Each
 pub mod KeyOrder
 pub mod Padding
+pub mod Permuted
 pub mod Sorted

@@ -1,18 +1,16 @@
 -- A vector in the order of its elements' keys, seen as a finite map: what a binary search finds there, and what a
 -- write, an insert and a remove at that place do to the map. R is the order of keys, `key` and `value` read an element.
-use Rattle.std.proofs.Common.{◌≡◌, ℕ, suc, zero, ◌+◌, ◌<◌, ◌≤◌, Bool, true, false, not, cond, List, [], ◌∷◌, length, get_or, take, drop, set, Result, Ok, Err, MatchResult, Option, Some, None, refl, sym, ap, subst, ◌∙◌, arith, map, T, ◌&&◌}
+use Rattle.std.proofs.Common.{◌≡◌, ℕ, suc, zero, ◌+◌, ◌<◌, ◌≤◌, Bool, true, false, cond, List, [], ◌∷◌, length, get_or, set, Result, Ok, Err, MatchResult, Option, Some, None, refl, sym, ap, subst, ◌∙◌, arith, map, T, ◌&&◌}
 use Rattle.std.specs.List.{insert, remove, HoldsAt}
-use Rattle.std.specs.List.Sorted.{IsBinarySearchResult, IsSearchInRange, IsNonDecreasingBy, IsPartitionPoint, IsSortedByKey}
+use Rattle.std.specs.List.Sorted.{IsBinarySearchResult, IsSearchInRange}
 use Rattle.std.specs.Ordering.{is_lt, is_eq, eq_by_cmp, ordering_reverse}
 use Rattle.std.specs.declared.cmp.Ordering.{Ordering}
 use Rattle.std.specs.declared.cmp.Ordering.TheVariants.{Less, Equal, Greater}
 use Rattle.std.specs.Cmp.{IsTotalOrder, tied_back, alike_right}
 use Rattle.std.specs.FinMap as maps
-use Rattle.std.specs.FinMap.{IsAntisymmetric, find, put, is_sorted, entries, get, from_sorted, entries-from_sorted, get-from_sorted, entries-insert, same_entries_map, same_map}
-use Rattle.std.specs.FinMap.Entries.{below_all, is_sorted-put, find_tied}
+use Rattle.std.specs.FinMap.{IsAntisymmetric, find, put, is_sorted, get, from_sorted, entries-from_sorted, get-from_sorted, entries-insert, same_entries_map, same_map}
+use Rattle.std.specs.FinMap.Entries.{below_all, is_sorted-put}
 use Rattle.std.proofs.lemmas.List.Sorted.{searchable_from_sorted}
-use Rattle.std.specs.List.Sorted.{IsPermutation}
-use Rattle.std.proofs.lemmas.List.Sums.{sum_by-cons}
 use native.Mathlib.Numerals.{unary_clauses}
 
 less_is : (r : Ordering) → T (is_lt r) → r ≡ Less
