@@ -124,6 +124,12 @@ module _ {X K V : Type 0} (R : K → K → Ordering) (key : X → K) (value : X 
     get_place k (y ∷ xs) zero x h item = rw h (ap (λ z. Some (value z)) (sym item))
     get_place k (y ∷ xs) (suc i) x h item = rw h.0 (get_place k xs i x h.1 item)
 
+    -- at a place the map has something
+    pub place_taken : (k : K) (xs : List X) (i : ℕ) → IsPlace R key k xs i → find R k (keyed_by key value xs) ≡ None → ⊥
+    place_taken k [] i h none = h
+    place_taken k (y ∷ xs) zero h none = let tie : R k (key y) ≡ Equal = h in let no = rw tie at none in cc
+    place_taken k (y ∷ xs) (suc i) h none = let above : R k (key y) ≡ Greater = h.0 in place_taken k xs i h.1 (rw above at none)
+
     -- where there is a gap the map has nothing
     pub get_gap : (k : K) (xs : List X) (i : ℕ) → T (is_sorted R (keyed_by key value xs)) → IsGap R key k xs i
         → find R k (keyed_by key value xs) ≡ None
