@@ -5,3 +5,4 @@ pub mod Images
 pub mod Levels
 pub mod Naming
 pub mod Opening
+pub mod Places

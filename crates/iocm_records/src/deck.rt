@@ -1,0 +1,118 @@
+ghost use Rattle.std.specs.Prelude.{◌≡◌, IfOk};
+ghost use Rattle.iocm_types.specs.Fault.{Gives};
+ghost use Rattle.iocm_records.specs.Deck as deck;
+
+use crate::left_out::{has_left_out, has_other_form};
+use crate::resource::ImageEntry;
+use crate::statements::statement_records;
+use crate::Record;
+
+use iocm_statements::{Operands, Operation, Statement};
+use iocm_types::{Fault, Rule};
+use std::alloc::{AllocError, Global};
+
+fn is_of_changes(operation: Operation) -> bool
+    ensures { result ≡ deck.is_of_changes operation }
+{
+    match operation {
+        Operation::Id => false,
+        Operation::Resource => false,
+        Operation::Chpid => false,
+        Operation::Cntlunit => false,
+        Operation::Iodevice => false,
+        _ => true,
+    }
+}
+
+fn is_resource(operation: Operation) -> bool
+    ensures { result ≡ deck.is_resource operation }
+{
+    match operation {
+        Operation::Resource => true,
+        _ => false,
+    }
+}
+
+// A statement of which one stands in a deck already; seen says whether a RESOURCE statement does.
+fn is_repeated(seen: bool, operation: Operation) -> bool
+    ensures { result ≡ deck.is_repeated seen operation }
+{
+    match operation {
+        Operation::Resource => seen,
+        _ => false,
+    }
+}
+
+fn lacks_required(operation: Operation, operands: &Operands) -> bool
+    ensures { result ≡ deck.lacks_required (deck.required_of operation) operands.now }
+{
+    match operation {
+        Operation::Chpid => operands.get(b"PATH").is_none(),
+        Operation::Cntlunit => operands.get(b"CUNUMBR").is_none(),
+        Operation::Iodevice => operands.get(b"ADDRESS").is_none(),
+        _ => false,
+    }
+}
+
+fn is_statement_left_out(operation: Operation) -> bool
+    ensures { result ≡ deck.is_statement_left_out operation }
+{
+    match operation {
+        Operation::Id => true,
+        _ => false,
+    }
+}
+
+// Whether the statement or one of its operands is left out.
+fn is_left_out(alloc: Global, statement: &Statement) -> Result<bool, AllocError>
+    ensures { IfOk result (λ answer. answer ≡ deck.is_left_out_statement statement.now) }
+{
+    if is_statement_left_out(statement.operation) {
+        return Ok(true);
+    }
+    has_left_out(alloc, statement.operation, &statement.operands)
+}
+
+// What is wrong with a statement before its values are read: S1, S7, S3, S5 or S4.
+fn first_fault(alloc: Global, seen: bool, statement: &Statement) -> Result<Option<Rule>, AllocError>
+    ensures { IfOk result (λ rule. rule ≡ deck.first_fault seen statement.now) }
+{
+    if is_of_changes(statement.operation) {
+        return Ok(Some(Rule::S1));
+    }
+    if is_repeated(seen, statement.operation) {
+        return Ok(Some(Rule::S7));
+    }
+    if lacks_required(statement.operation, &statement.operands) {
+        return Ok(Some(Rule::S3));
+    }
+    if is_left_out(alloc, statement)? {
+        return Ok(Some(Rule::S5));
+    }
+    if has_other_form(statement.operation, &statement.operands) {
+        return Ok(Some(Rule::S4));
+    }
+    Ok(None)
+}
+
+/// The records of a statement, or its first fault: S1, S7, S3, S5, S4.
+pub fn read_statement(
+    alloc: Global,
+    images: &[ImageEntry],
+    seen: bool,
+    statement: &Statement,
+) -> Result<Vec<Record>, Fault>
+    ensures { Gives (λ v. v.items) result (deck.read_statement images.now seen statement.now) }
+{
+    let line = statement.line;
+    match first_fault(alloc, seen, statement)? {
+        Some(rule) => Err(Fault { rule, line }),
+        None => {
+            let malformed = Fault {
+                rule: Rule::S4,
+                line,
+            };
+            statement_records(alloc, images, statement.operation, &statement.operands, malformed)
+        }
+    }
+}
