@@ -157,25 +157,36 @@ abbrev pub is_resource : Operation → Bool
 is_resource Resource = true
 is_resource _ = false
 
--- what was read with a further statement
+-- what was read, with the records of a further statement
+abbrev pub with_statement : Fault → Progress → Bool → List Rec → Result Progress Fault
+with_statement fault p has_resource rs = with_records fault p.records rs >>= λ records.
+    Ok (record { seen = p.seen || has_resource; records = records })
+
+-- what was read, with a further statement
 abbrev pub progress_after : List ImageRecord → Progress → Statement → Result Progress Fault
 progress_after images p s =
-    read_statement images p.seen s >>= λ rs. with_records (at S8 s.line) p.records rs >>= λ records.
-    Ok (record { seen = p.seen || is_resource s.operation; records = records })
+    read_statement images p.seen s >>= with_statement (at S8 s.line) p (is_resource s.operation)
 
 -- the records of statements behind what was read so far
 unfoldable pub read_from : List ImageRecord → Progress → List Statement → Result (List Rec) Fault
 read_from images p [] = Ok p.records
 read_from images p (s ∷ ss) = progress_after images p s >>= λ q. read_from images q ss
 
+-- the images that a RESOURCE statement gives, or none where it has a fault
+abbrev pub images_or_none : Statement → List ImageRecord
+images_or_none s = unwrap_or (result_ok (resource_images (at S4 s.line) s.operands)) []
+
 -- the images of a machine, which defaults look at wherever the RESOURCE statement stands; a RESOURCE statement
 -- with a fault refuses the deck, and then they are of no account
 abbrev pub machine_images : List Statement → List ImageRecord
 machine_images [] = []
 machine_images (s ∷ ss) =
-    if is_resource s.operation then unwrap_or (result_ok (resource_images (at S4 s.line) s.operands)) []
-    else machine_images ss
+    if is_resource s.operation then images_or_none s else machine_images ss
+
+-- before the first statement
+abbrev pub nothing_read : Progress
+nothing_read = record { seen = false; records = [] }
 
 -- the records of a deck, or its first fault
 abbrev pub deck_records : List Statement → Result (List Rec) Fault
-deck_records ss = read_from (machine_images ss) (record { seen = false; records = [] }) ss
+deck_records ss = read_from (machine_images ss) nothing_read ss

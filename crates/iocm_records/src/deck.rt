@@ -1,10 +1,12 @@
 ghost use Rattle.std.specs.Prelude.{◌≡◌, IfOk};
 ghost use Rattle.iocm_types.specs.Fault.{Gives};
+ghost use Rattle.iocm_model.specs.Configuration.{HasNoKeyTwice};
 ghost use Rattle.iocm_records.specs.Deck as deck;
 
 use crate::left_out::{has_left_out, has_other_form};
+use crate::progress::Progress;
 use crate::resource::ImageEntry;
-use crate::statements::statement_records;
+use crate::statements::{resource_images, statement_records};
 use crate::Record;
 
 use iocm_statements::{Operands, Operation, Statement};
@@ -115,4 +117,74 @@ pub fn read_statement(
             statement_records(alloc, images, statement.operation, &statement.operands, malformed)
         }
     }
+}
+
+fn read_next(
+    alloc: Global,
+    images: &[ImageEntry],
+    progress: Progress,
+    statement: &Statement,
+) -> Result<Progress, Fault>
+    ensures { Gives (λ p. p) result (deck.progress_after images.now progress statement.now) }
+{
+    let found = read_statement(alloc, images, progress.has_resource(), statement)?;
+    let twice = Fault {
+        rule: Rule::S8,
+        line: statement.line,
+    };
+    progress.with(found, is_resource(statement.operation), twice)
+}
+
+// The images that a RESOURCE statement gives, or none where it has a fault.
+fn images_or_none(alloc: Global, statement: &Statement) -> Result<Vec<ImageEntry>, AllocError>
+    ensures { IfOk result (λ v. v.items ≡ deck.images_or_none statement.now) }
+{
+    let malformed = Fault {
+        rule: Rule::S4,
+        line: statement.line,
+    };
+    match resource_images(alloc, &statement.operands, malformed) {
+        Ok(images) => Ok(images),
+        Err(fault) => match fault.rule {
+            Rule::M1 => Err(AllocError),
+            _ => Ok(Vec::new(alloc)),
+        },
+    }
+}
+
+// The images of the machine, which defaults look at wherever the RESOURCE statement stands.
+#[tactic(auto, using(crate::proofs::Machine::machine_steps))]
+fn machine_images(alloc: Global, statements: &[Statement]) -> Result<Vec<ImageEntry>, AllocError>
+    ensures { IfOk result (λ v. v.items ≡ deck.machine_images statements.now) }
+{
+    for statement in statements {
+        if is_resource(statement.operation) {
+            return images_or_none(alloc, statement);
+        }
+    }
+    Ok(Vec::new(alloc))
+}
+
+#[tactic(auto, using(crate::proofs::Machine::read_steps))]
+fn read_all(alloc: Global, images: &[ImageEntry], statements: &[Statement]) -> Result<Progress, Fault>
+    ensures { Gives (λ p. p.records) result (deck.read_from images.now deck.nothing_read statements.now) }
+{
+    let mut progress = Progress::new(alloc);
+    for statement in statements {
+        progress = read_next(alloc, images, progress, statement)?;
+    }
+    Ok(progress)
+}
+
+/// The records of a configuration deck, no two of one key.
+///
+/// The statements are taken in order, and the first that has a fault refuses the deck with its line. Per
+/// statement S1 comes first, then S7, S3, S5, S4 and S8; M1 comes without memory.
+pub fn from_statements(alloc: Global, statements: &[Statement]) -> Result<Vec<Record>, Fault>
+    ensures records { Gives (λ v. v.items) result (deck.deck_records statements.now) }
+    ensures apart { IfOk result (λ v. HasNoKeyTwice v.items) }
+{
+    let images = machine_images(alloc, statements)?;
+    let progress = read_all(alloc, &images, statements)?;
+    Ok(progress.into_records())
 }
