@@ -1,8 +1,8 @@
 -- The keys of records, as a set of keys tells them.
-use Rattle.std.proofs.Common.{◌≡◌, ℕ, ◌+◌, ◌<◌, ◌≤◌, Bool, true, false, cond, List, [], ◌∷◌, ◌++◌, length, get_or, take, drop, map, Option, Some, None, is_some, not, Result, Ok, Err, refl, sym, ap, ◌∙◌, subst, append_assoc, is_none}
+use Rattle.std.proofs.Common.{◌≡◌, ℕ, ◌+◌, ◌<◌, ◌≤◌, Bool, true, false, cond, List, [], ◌∷◌, ◌++◌, length, get_or, take, drop, Option, Some, None, is_some, not, Ok, Err, refl, sym, ap, ◌∙◌, append_assoc}
 use Rattle.std.proofs.Math.ListN.{drop_of_length-le}
-use Rattle.std.proofs.lemmas.List.{take_more, take_all, append-nil, map-append}
-use Rattle.std.specs.Ordering.{is_eq, eq_by_cmp}
+use Rattle.std.proofs.lemmas.List.{take_more, map-append}
+use Rattle.std.specs.Ordering.{is_eq}
 use Rattle.std.specs.Cmp.{eq_by_cmp_equiv}
 use Rattle.std.specs.BTreeSet.{BTreeSet}
 use Rattle.std.specs.FinMap.{find}
@@ -33,7 +33,7 @@ pub has_key_push : (records : List Rec) (r : Rec) (q : Key) → has_key records 
     → has_key (records ++ r ∷ []) q ≡ cond (is_eq (key_cmp q (key_of r))) true (has_key records q)
 has_key_push records r q new =
     rw (keyed_push records r, find-append key_cmp keys_total (keyed records) (key_of r) r q (none_there _ new))
-       (some_of (is_eq (key_cmp q (key_of r))) r (find key_cmp q (keyed records)))
+    (some_of (is_eq (key_cmp q (key_of r))) r (find key_cmp q (keyed records)))
 
 neither : (b c : Bool) → cond b true c ≡ false → (b ≡ false) × (c ≡ false)
 neither true c e = cc
@@ -49,10 +49,15 @@ new_to_both x records key new = neither (is_eq (key_cmp key (key_of x))) (has_ke
 pub apart_push : (records : List Rec) (r : Rec) → has_key records (key_of r) ≡ false → HasNoKeyTwice records → HasNoKeyTwice (records ++ r ∷ [])
 apart_push [] r new apart = (refl, tt)
 apart_push (x ∷ records) r new apart =
-    let both = new_to_both x records (key_of r) new in
-    (rw (keyed_push records r, find-append key_cmp keys_total (keyed records) (key_of r) r (key_of x) (none_there _ both.1),
-        (eq_by_cmp_equiv keys_total).symm (key_of x) (key_of r), both.0) apart.0,
-     apart_push records r both.1 apart.1)
+    let both = new_to_both x records (key_of r) new in (
+      rw (
+        keyed_push records r,
+        find-append key_cmp keys_total (keyed records) (key_of r) r (key_of x) (none_there _ both.1),
+        (eq_by_cmp_equiv keys_total).symm (key_of x) (key_of r),
+        both.0,
+      ) apart.0,
+      apart_push records r both.1 apart.1,
+    )
 
 -- a key that was not new is there
 pub was_there : (keys : BTreeSet Key) (records : List Rec) (key key' : Key) (is_new : Bool) → IsKept keys records → key ≡ key'

@@ -1,5 +1,5 @@
 -- The steps of the loops over the statements of a deck.
-use Rattle.std.proofs.Common.{◌≡◌, ℕ, ◌+◌, ◌<◌, ◌≤◌, true, false, List, [], length, get_or, drop, Result, Ok, Err, refl}
+use Rattle.std.proofs.Common.{◌≡◌, ℕ, ◌+◌, ◌<◌, ◌≤◌, true, false, List, [], length, get_or, drop, Ok, Err, refl}
 use Rattle.std.proofs.Math.ListN.{drop_of_length-le}
 use Rattle.iocm_types.specs.declared.fault.Fault.{Fault}
 use Rattle.iocm_statements.specs.declared.statement.Statement.{Statement}

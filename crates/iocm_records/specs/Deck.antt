@@ -1,9 +1,8 @@
 -- What a configuration deck means: the records of its statements, or the first fault.
 -- IOCP User's Guide; the order of faults is own.
-use Rattle.std.specs.Prelude.{ℕ, ◌+◌, ◌||◌, Bool, true, false, is_some, is_none, not, if◌then◌else◌, Option, None, Some, List, [], ◌∷◌, ◌++◌, map, Result, Ok, Err, codes, unwrap_or}
+use Rattle.std.specs.Prelude.{ℕ, ◌||◌, Bool, true, false, is_none, if◌then◌else◌, Option, None, Some, List, [], ◌∷◌, ◌++◌, map, Result, Ok, Err, codes, unwrap_or}
 use Rattle.std.specs.List.{list_any, range_with_len}
 use Rattle.std.specs.Result.{result_ok}
-use Rattle.std.specs.FinMap.{find}
 use Rattle.iocm_types.specs.declared.fault.Fault.{Fault}
 use Rattle.iocm_types.specs.declared.rule.Rule.{Rule}
 use Rattle.iocm_types.specs.declared.rule.Rule.TheVariants.{S1, S3, S4, S5, S7, S8}
@@ -11,14 +10,11 @@ use Rattle.iocm_types.specs.declared.css_path.CssPath.{CssPath}
 use Rattle.iocm_types.specs.declared.path_kind.PathKind.{PathKind}
 use Rattle.iocm_types.specs.declared.path_kind.PathKind.TheVariants.{Dedicated, Shared}
 use Rattle.iocm_types.specs.Fault.{◌>>=◌, or_fault, at}
-use Rattle.iocm_types.specs.Key.{key_cmp}
 use Rattle.iocm_statements.specs.declared.operation.Operation.{Operation}
-use Rattle.iocm_statements.specs.declared.operation.Operation.TheVariants.{Id, Resource, Chpid, Cntlunit, Iodevice, Online, Row, Group, Choose, End}
+use Rattle.iocm_statements.specs.declared.operation.Operation.TheVariants.{Id, Resource, Chpid, Cntlunit, Iodevice}
 use Rattle.iocm_statements.specs.declared.statement.Statement.{Statement}
 use Rattle.iocm_statements.specs.Operands.{Operand, text_under, has_bare}
 use Rattle.iocm_model.specs.Record.{Rec, ImageRecord, UnitRecord, path, unit, device, image, online, key_of}
-use Rattle.iocm_model.specs.Configuration.{keyed}
-use Rattle.iocm_types.specs.declared.key.Key.{Key}
 use Rattle.iocm_records.specs.Progress.{Progress, has_key}
 use Rattle.iocm_records.specs.declared.chpid.Lists.{Lists}
 use Rattle.iocm_records.specs.declared.iodevice.Devices.{Devices}

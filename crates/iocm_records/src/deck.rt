@@ -3,12 +3,11 @@ ghost use Rattle.iocm_types.specs.Fault.{Gives};
 ghost use Rattle.iocm_model.specs.Configuration.{HasNoKeyTwice};
 ghost use Rattle.iocm_records.specs.Deck as deck;
 
+use crate::Record;
 use crate::left_out::{has_left_out, has_other_form};
 use crate::progress::Progress;
 use crate::resource::ImageEntry;
 use crate::statements::{resource_images, statement_records};
-use crate::Record;
-
 use iocm_statements::{Operands, Operation, Statement};
 use iocm_types::{Fault, Rule};
 use std::alloc::{AllocError, Global};
@@ -114,7 +113,13 @@ pub fn read_statement(
                 rule: Rule::S4,
                 line,
             };
-            statement_records(alloc, images, statement.operation, &statement.operands, malformed)
+            statement_records(
+                alloc,
+                images,
+                statement.operation,
+                &statement.operands,
+                malformed,
+            )
         }
     }
 }
@@ -166,7 +171,11 @@ fn machine_images(alloc: Global, statements: &[Statement]) -> Result<Vec<ImageEn
 }
 
 #[tactic(auto, using(crate::proofs::Machine::read_steps))]
-fn read_all(alloc: Global, images: &[ImageEntry], statements: &[Statement]) -> Result<Progress, Fault>
+fn read_all(
+    alloc: Global,
+    images: &[ImageEntry],
+    statements: &[Statement],
+) -> Result<Progress, Fault>
     ensures { Gives (λ p. p.records) result (deck.read_from images.now deck.nothing_read statements.now) }
 {
     let mut progress = Progress::new(alloc);

@@ -9,7 +9,6 @@ ghost use Rattle.iocm_records.specs.Deck.{with_records, with_statement};
 ghost use Rattle.iocm_records.specs.Progress.{has_claimed, IsKept};
 
 use crate::Record;
-
 use iocm_types::{Fault, Key};
 use std::alloc::{AllocError, Global};
 use std::collections::BTreeSet;
@@ -80,7 +79,12 @@ impl Progress {
     /// The records of a further statement behind the others, and whether it is a RESOURCE statement.
     ///
     /// Answers `fault` at a key that is there already, and M1 without memory.
-    pub fn with(self, found: Vec<Record>, is_resource: bool, fault: Fault) -> Result<Progress, Fault>
+    pub fn with(
+        self,
+        found: Vec<Record>,
+        is_resource: bool,
+        fault: Fault,
+    ) -> Result<Progress, Fault>
         ensures { Gives (λ p. p) result (with_statement fault self is_resource found.items) }
     {
         let Progress {

@@ -11,13 +11,16 @@ use crate::cntlunit::{paths_of_value, ranges_of, unit_number};
 use crate::iodevice::{Devices, devices_of, first_address, units_of};
 use crate::resource::{ImageEntry, names_in, partition_images};
 use crate::{DeviceFields, PathFields, Record, RecordBody, UnitFields};
-
 use iocm_statements::{Operands, Operation};
 use iocm_types::{Chpid, Css, DevNo, Fault, List, Name, PathKind, SetNo, UnitNo};
 use std::alloc::{AllocError, Global};
 
 /// The images that a RESOURCE statement gives; without PARTITION there are none.
-pub fn resource_images(alloc: Global, operands: &Operands, fault: Fault) -> Result<Vec<ImageEntry>, Fault>
+pub fn resource_images(
+    alloc: Global,
+    operands: &Operands,
+    fault: Fault,
+) -> Result<Vec<ImageEntry>, Fault>
     ensures { Gives (λ v. v.items) result (deck.resource_images fault operands.now) }
 {
     partition_images(alloc, operands.get(b"PARTITION"), fault)
@@ -48,7 +51,12 @@ fn online_record(css: Css, path: Chpid, name: Name) -> Record
 }
 
 // Puts a record for each name behind the others: the path is online to its image.
-fn add_online(records: &mut Vec<Record>, css: Css, path: Chpid, names: &[Name]) -> Result<(), AllocError>
+fn add_online(
+    records: &mut Vec<Record>,
+    css: Css,
+    path: Chpid,
+    names: &[Name],
+) -> Result<(), AllocError>
     ensures { OnOk result (records.new.items ≡ records.old.items ++ map (deck.online_to css path) names.now) }
 {
     for name in names {
@@ -105,14 +113,26 @@ fn kind_of(operands: &Operands) -> PathKind
     }
 }
 
-fn chpid_records(alloc: Global, images: &[ImageEntry], operands: &Operands, fault: Fault) -> Result<Vec<Record>, Fault>
+fn chpid_records(
+    alloc: Global,
+    images: &[ImageEntry],
+    operands: &Operands,
+    fault: Fault,
+) -> Result<Vec<Record>, Fault>
     ensures { Gives (λ v. v.items) result (deck.chpid_records fault images.now operands.now) }
 {
     let text = operands.get(b"PATH").ok_or(fault)?;
     let path = path_of(alloc, text, fault)?;
     let kind = kind_of(operands);
     let all = names_in(alloc, path.css, images)?;
-    let lists = lists_of(alloc, kind, path.css, &all, operands.get(b"PARTITION"), fault)?;
+    let lists = lists_of(
+        alloc,
+        kind,
+        path.css,
+        &all,
+        operands.get(b"PARTITION"),
+        fault,
+    )?;
     Ok(path_records(alloc, path.css, path.path, kind, lists)?)
 }
 

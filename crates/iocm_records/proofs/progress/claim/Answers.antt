@@ -1,5 +1,5 @@
 -- The set goes by the derived order of keys, which is the order of keys.
-use Rattle.std.proofs.Common.{◌≡◌, Bool, not, true, cond, subst}
+use Rattle.std.proofs.Common.{◌≡◌, not, true, cond, subst}
 use Rattle.std.specs.BTreeSet.{contains}
 use Rattle.std.specs.Ordering.{is_eq}
 use Rattle.std.specs.declared.cmp.Ordering.{Ordering}
@@ -14,4 +14,4 @@ returns-clause-added c =
 pub returns-clause-keys : goal.returns-clause-keys
 returns-clause-keys c =
     subst (λ (f : Key → Key → Ordering). (q : Key) → contains f c.insert.new.self q ≡ cond (is_eq (f c.args.key q)) true (contains f c.args.keys.now q))
-        derived_cmp (λ q. c.in_ok-insert.ensures.updates.0 q)
+    derived_cmp (λ q. c.in_ok-insert.ensures.updates.0 q)
