@@ -17,18 +17,15 @@ const UNREADABLE: Fault = Fault {
 };
 
 /// A reader with a count of its reads, and a note of whether a read failed and whether one gave the end.
+///
+/// Contracts see these by `reader_of`, `reads_of`, `has_failed` and `has_ended`. The notes are what tells a
+/// fault of the device (L5) from a fault of its bytes. The form is own.
 #[derive(Drop)]
 pub struct Device<R> {
     reader: R,
     reads: u64,
     failed: bool,
     ended: bool,
-}
-
-fn make_buffer(alloc: Global, len: usize) -> Result<Vec<u8>, AllocError>
-    ensures { IfOk result (λ buffer. vec_len buffer ≡ len) }
-{
-    Ok(vec![in alloc; 0; len]?)
 }
 
 impl<R> Device<R> {
@@ -108,4 +105,11 @@ impl<R: Read> Device<R> {
             }
         }
     }
+}
+
+/// A buffer of `len` bytes.
+fn make_buffer(alloc: Global, len: usize) -> Result<Vec<u8>, AllocError>
+    ensures { IfOk result (λ buffer. vec_len buffer ≡ len) }
+{
+    Ok(vec![in alloc; 0; len]?)
 }
