@@ -13,8 +13,10 @@ ghost use Rattle.iocm_columns.specs.Statements.{joined_of, statements_of};
 /// first record of each, and the text is the concatenation of one slice of the columns of each record;
 /// no other statements have this relation to the records.
 pub fn statements_are_slices()
-    ensures found { (cards : List Card) (joined : List Joined) → statements_of cards ≡ Ok joined → AreStatementsOf (records_of cards) joined }
-    ensures only { (cards : List Card) (joined : List Joined) → AreStatementsOf (records_of cards) joined → statements_of cards ≡ Ok joined }
+    ensures found { (cards : List Card) (joined : List Joined)
+        → statements_of cards ≡ Ok joined → AreStatementsOf (records_of cards) joined }
+    ensures only { (cards : List Card) (joined : List Joined)
+        → AreStatementsOf (records_of cards) joined → statements_of cards ≡ Ok joined }
 {}
 
 /// Worked examples of decks and what they give.

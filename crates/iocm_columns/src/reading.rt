@@ -26,9 +26,12 @@ pub fn read_cards<R: Read>(
     requires open { IsOpen device.old }
     requires room { reads_of device.old + limit < 2 ^ 64 }
     ensures reads { reads_of device.new ≤ reads_of device.old + limit }
-    ensures known_bytes { IfSome (R.remaining (reader_of device.old)) (λ bytes. GivesIfReadable (λ v. v.items) result (cards_of bytes)) }
-    ensures some_bytes { (bytes : List ℕ) × GivesIfReadable (λ v. v.items) result (cards_of bytes) }
-    ensures unreadable { result ≡ Err unreadable → StopsShort device.new (reads_of device.old + limit) }
+    ensures known_bytes { IfSome (R.remaining (reader_of device.old))
+        (λ bytes. GivesIfReadable (λ v. v.items) result (cards_of bytes)) }
+    ensures some_bytes { (bytes : List ℕ)
+        × GivesIfReadable (λ v. v.items) result (cards_of bytes) }
+    ensures unreadable { result ≡ Err unreadable
+        → StopsShort device.new (reads_of device.old + limit) }
     ensures whole { IsWhole device.new ⊎ IsUnread result }
 {
     let text = device.read_to_end(alloc, limit)?;

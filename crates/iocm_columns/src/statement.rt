@@ -53,7 +53,8 @@ fn statements(alloc: Global, rows: &[Record]) -> Result<Vec<Joined>, AllocError>
 #[tactic(auto, using(crate::proofs::Grouping::grouping))]
 fn continuations_len(first: &Record, more: &[Record]) -> usize
     ensures within { result ≤ length more.now }
-    ensures groups { groups (first.now ∷ more.now) ≡ (first.now ∷ take result more.now) ∷ groups (drop result more.now) }
+    ensures groups { groups (first.now ∷ more.now)
+        ≡ (first.now ∷ take result more.now) ∷ groups (drop result more.now) }
 {
     if !first.columns.is_continued() {
         return 0;
@@ -80,7 +81,8 @@ fn make_statement(alloc: Global, first: &Record, more: &[Record]) -> Result<Join
 
 /// The operand part that begins in these columns and goes on in these continuations.
 fn operands(alloc: Global, columns: &[u8], more: &[Record]) -> Result<Text, AllocError>
-    ensures { IfOk result (λ text. text ≡ (fold with_continuation (part_after [] columns.now) more.now).text) }
+    ensures { IfOk result
+        (λ text. text ≡ (fold with_continuation (part_after [] columns.now) more.now).text) }
 {
     let mut part = Part::begin(alloc, columns)?;
     for row in more {
