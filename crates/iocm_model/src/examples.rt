@@ -1,4 +1,4 @@
-ghost use Rattle.iocm_model.specs.Examples.{BaseViews, ViewsWithoutCandidate, TurnedViews, Unseen};
+ghost use Rattle.iocm_model.specs.Examples.{BaseViews, ViewsWithoutCandidate, TurnedViews, Unseen, BaseNumbers, BaseRows};
 
 /// Worked examples of views, on the example deck and its variants: each is computed from the definitions.
 pub fn views_are_as_worked()
@@ -6,5 +6,10 @@ pub fn views_are_as_worked()
     ensures candidate { ViewsWithoutCandidate }
     ensures turned { TurnedViews }
     ensures unseen { Unseen }
-{
-}
+{}
+
+/// The numbers of the example deck at opening, its views and its table, computed from the definitions.
+pub fn numbers_are_as_worked()
+    ensures numbers { BaseNumbers }
+    ensures rows { BaseRows }
+{}
