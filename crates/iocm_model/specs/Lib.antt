@@ -4,6 +4,7 @@ pub mod Examples
 pub mod Mask
 pub mod Naming
 pub mod Numbering
+pub mod Orders
 pub mod PathList
 pub mod Record
 pub mod Sight

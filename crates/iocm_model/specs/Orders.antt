@@ -1,0 +1,118 @@
+-- The six orders and the device end, on a live record and its view.
+-- Principles of Operation, START, HALT, CLEAR, TEST, MODIFY and STORE SUBCHANNEL; that condition code 3 is tried before
+-- 1, and 1 before 2, that a subchannel without a view counts as not provided, and START's test of the paths, are own.
+use Rattle.std.specs.Prelude.{ℕ, ◌+◌, ◌==◌, ◌||◌, Bool, true, false, not, bit_and, if◌then◌else◌}
+use Rattle.iocm_types.specs.declared.live.Function.{Function}
+use Rattle.iocm_types.specs.declared.live.Function.TheVariants as function
+use Rattle.iocm_types.specs.declared.live.Phase.{Phase}
+use Rattle.iocm_types.specs.declared.live.Phase.TheVariants.{Idle, Busy, Pending}
+use Rattle.iocm_types.specs.declared.live.Live.{Live}
+use Rattle.iocm_types.specs.declared.order.Order.{Order}
+use Rattle.iocm_types.specs.declared.order.Order.TheVariants.{Start, Halt, Clear, Test, Store, Modify}
+use Rattle.iocm_types.specs.declared.order.Io.{Io}
+use Rattle.iocm_types.specs.declared.order.Io.TheVariants.{Code, Status, Stored}
+use Rattle.iocm_types.specs.declared.scsw.ScswBits.{ScswBits}
+use Rattle.iocm_types.specs.declared.view.View.{View}
+
+-- a live record that nobody has touched: not enabled, all installed paths, parameter 0, idle
+abbrev pub fresh : ℕ → Live
+fresh pim = record { enabled = false; lpm = pim; parm = 0; phase = Idle }
+
+-- the subchannel can be altered: nothing is in progress and nothing is pending
+abbrev pub is_quiet : Phase → Bool
+is_quiet Idle = true
+is_quiet _ = false
+
+-- a function is in progress
+abbrev pub is_busy : Phase → Bool
+is_busy (Busy f) = true
+is_busy _ = false
+
+-- status is pending
+abbrev pub is_pending : Phase → Bool
+is_pending (Pending f) = true
+is_pending _ = false
+
+-- a halt or a clear function is in progress
+abbrev pub is_ending : Phase → Bool
+is_ending (Busy function.Halt) = true
+is_ending (Busy function.Clear) = true
+is_ending _ = false
+
+-- the bit of a function, and the bits of a phase: the function's, and 8 more while its status is pending
+abbrev pub function_bit : Function → ℕ
+function_bit function.Start = 1
+function_bit function.Halt = 2
+function_bit function.Clear = 4
+
+abbrev pub bits_of : Phase → ScswBits
+bits_of Idle = record { 0 = 0 }
+bits_of (Busy f) = record { 0 = function_bit f }
+bits_of (Pending f) = record { 0 = 8 + function_bit f }
+
+-- condition code 3: not enabled, or for START no path that is both available and in the logical-path mask; MODIFY and
+-- STORE are there for a subchannel that is not enabled
+abbrev pub is_not_operational : Order → View → Live → Bool
+is_not_operational Start v l = not l.enabled || (bit_and l.lpm v.pam == 0)
+is_not_operational Halt v l = not l.enabled
+is_not_operational Clear v l = not l.enabled
+is_not_operational Test v l = not l.enabled
+is_not_operational (Modify s) v l = false
+is_not_operational Store v l = false
+
+-- condition code 1: status is pending; for TEST, that none is; CLEAR and STORE never give it
+abbrev pub is_status_in_the_way : Order → Phase → Bool
+is_status_in_the_way Start p = is_pending p
+is_status_in_the_way Halt p = is_pending p
+is_status_in_the_way (Modify s) p = is_pending p
+is_status_in_the_way Test p = not (is_pending p)
+is_status_in_the_way Clear p = false
+is_status_in_the_way Store p = false
+
+-- condition code 2: a function is in progress; for HALT a halt or clear function; CLEAR, TEST and STORE never give it
+abbrev pub is_busy_with_another : Order → Phase → Bool
+is_busy_with_another Start p = is_busy p
+is_busy_with_another (Modify s) p = is_busy p
+is_busy_with_another Halt p = is_ending p
+is_busy_with_another Clear p = false
+is_busy_with_another Test p = false
+is_busy_with_another Store p = false
+
+-- the condition code of an order where the subchannel has a view: 3, 1, 2 or 0, tried in this order
+abbrev pub code_of : Order → View → Live → ℕ
+code_of o v l =
+    if is_not_operational o v l then 3
+    else if is_status_in_the_way o l.phase then 1
+    else if is_busy_with_another o l.phase then 2
+    else 0
+
+-- what an order with condition code 0 answers
+abbrev pub accepted : Order → View → Live → Io
+accepted Test v l = Status (bits_of l.phase)
+accepted Store v l = Stored (record { device = v.device; pim = v.pim; pam = v.pam; lpm = l.lpm; enabled = l.enabled; parm = l.parm; bits = bits_of l.phase })
+accepted _ v l = Code 0
+
+-- what it leaves
+abbrev pub performed : Order → Live → Live
+performed Start l = record l { phase = Busy function.Start }
+performed Halt l = record l { phase = Busy function.Halt }
+performed Clear l = record l { phase = Busy function.Clear }
+performed Test l = record l { phase = Idle }
+performed (Modify s) l = record l { enabled = s.enabled; lpm = s.lpm; parm = s.parm }
+performed Store l = l
+
+-- the answer to an order, and what it leaves, where the subchannel has a view
+abbrev pub answer_of : Order → View → Live → Io
+answer_of o v l = let code = code_of o v l in if code == 0 then accepted o v l else Code code
+
+abbrev pub live_after : Order → View → Live → Live
+live_after o v l = if code_of o v l == 0 then performed o l else l
+
+-- a device end turns a function in progress into its pending status, and else changes nothing
+abbrev pub ended_phase : Phase → Phase
+ended_phase (Busy f) = Pending f
+ended_phase Idle = Idle
+ended_phase (Pending f) = Pending f
+
+abbrev pub ended : Live → Live
+ended l = record l { phase = ended_phase l.phase }

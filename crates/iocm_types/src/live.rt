@@ -1,0 +1,31 @@
+use crate::Mask;
+
+/// A function that a subchannel performs (Principles of Operation, basic I/O functions).
+#[derive(Clone, Copy, Debug, PartialEq, Eq)]
+pub enum Function {
+    Start,
+    Halt,
+    Clear,
+}
+
+/// Where a subchannel is in its work. The phases are own; the Principles of Operation have function,
+/// activity and status control bits for them.
+#[derive(Clone, Copy, Debug, PartialEq, Eq)]
+pub enum Phase {
+    /// Nothing is in progress or pending.
+    Idle,
+    /// The function is in progress.
+    Busy(Function),
+    /// The function has ended, and its status is pending.
+    Pending(Function),
+}
+
+/// What a subchannel remembers while it is there: whether it is enabled, its logical-path mask, its
+/// interruption parameter, and its phase (Principles of Operation, path-management-control word).
+#[derive(Clone, Copy, Debug, PartialEq, Eq)]
+pub struct Live {
+    pub enabled: bool,
+    pub lpm: Mask,
+    pub parm: u32,
+    pub phase: Phase,
+}
