@@ -7,6 +7,9 @@ pub mod Numbering
 pub mod Orders
 pub mod PathList
 pub mod Record
+pub mod Renumbering
+pub mod Rules
 pub mod Sight
+pub mod State
 pub mod Table
 pub mod View
