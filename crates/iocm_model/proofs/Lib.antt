@@ -1,3 +1,4 @@
 pub mod Breaches
 pub mod Listed
+pub mod Lowest
 pub mod Worked

@@ -2,6 +2,7 @@ pub mod BaseDeck
 pub mod Configuration
 pub mod Examples
 pub mod FirstBreach
+pub mod LowestFree
 pub mod Mask
 pub mod Naming
 pub mod Numbering

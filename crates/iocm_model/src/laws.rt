@@ -1,9 +1,18 @@
 ghost use Rattle.iocm_model.specs.FirstBreach.{AnswersTheFirst, AnswersNone};
+ghost use Rattle.iocm_model.specs.LowestFree.{LowestFreeIsFree, LowestFreeIsFound};
 
 /// The first breach of the rules: its rule is broken at its key, no record with a smaller key breaks that
 /// rule, and no record breaks a rule before it; there is none exactly where every rule is kept.
 pub fn the_first_breach_is_first()
     ensures found { AnswersTheFirst }
     ensures none { AnswersNone }
+{
+}
+
+/// The lowest free number of a channel subsystem and set isn't used, and each smaller one is; where fewer
+/// numbers than some count are used, it is below that count, so an arriving device always finds one.
+pub fn the_lowest_free_number_is_free()
+    ensures free { LowestFreeIsFree }
+    ensures found { LowestFreeIsFound }
 {
 }
