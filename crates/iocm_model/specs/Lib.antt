@@ -1,5 +1,6 @@
 pub mod BaseDeck
 pub mod Configuration
+pub mod Edit
 pub mod Examples
 pub mod FirstBreach
 pub mod LowestFree
