@@ -1,4 +1,5 @@
 pub mod Breaches
 pub mod Listed
 pub mod Lowest
+pub mod Nodes
 pub mod Worked

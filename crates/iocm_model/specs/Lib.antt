@@ -15,4 +15,5 @@ pub mod Rules
 pub mod Sight
 pub mod State
 pub mod Table
+pub mod Tree
 pub mod View

@@ -1,4 +1,5 @@
 ghost use Rattle.iocm_model.specs.FirstBreach.{AnswersTheFirst, AnswersNone};
+ghost use Rattle.iocm_model.specs.Tree.{NodesAreBounded};
 ghost use Rattle.iocm_model.specs.LowestFree.{LowestFreeIsFree, LowestFreeIsFound};
 
 /// The first breach of the rules: its rule is broken at its key, no record with a smaller key breaks that
@@ -14,5 +15,12 @@ pub fn the_first_breach_is_first()
 pub fn the_lowest_free_number_is_free()
     ensures free { LowestFreeIsFree }
     ensures found { LowestFreeIsFound }
+{
+}
+
+/// A change tree has at most as many nodes as its depth times its leaves, so the limits on depth and leaves
+/// bound the numbers of its nodes.
+pub fn the_nodes_of_a_tree_are_bounded()
+    ensures bounded { NodesAreBounded }
 {
 }

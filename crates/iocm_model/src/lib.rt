@@ -12,4 +12,4 @@ mod examples;
 mod laws;
 
 pub use examples::{numbers_are_as_worked, views_are_as_worked};
-pub use laws::{the_first_breach_is_first, the_lowest_free_number_is_free};
+pub use laws::{the_first_breach_is_first, the_lowest_free_number_is_free, the_nodes_of_a_tree_are_bounded};
