@@ -20,6 +20,7 @@ use std::marker::Model;
 
 /// An image of a configuration, with the paths that it reaches and those that are online to it looked up
 /// once: its views of many devices follow quickly. Contracts see the configuration and the image.
+#[derive(Drop)]
 pub struct ImageSight<'a, A: Allocator> {
     config: &'a Config<A>,
     image: Image,
