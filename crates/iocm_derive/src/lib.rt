@@ -7,6 +7,7 @@
 #![tactic(auto)]
 
 mod first_numbers;
+mod image_sight;
 mod lookup;
 mod masks;
 mod paths;
@@ -14,6 +15,7 @@ mod sight;
 mod view;
 
 pub use first_numbers::opening;
+pub use image_sight::ImageSight;
 pub use masks::{pam, pim};
 pub use paths::path_list;
 pub use sight::sees;
