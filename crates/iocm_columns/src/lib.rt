@@ -1,7 +1,33 @@
+//! From the bytes of a deck to joined statements, the first two stages of reading.
+//!
+//! `read_cards` reads a device to its end and checks each line (L5, L1, L2). `join` puts each statement
+//! and its continuations together (L3, L4) and takes its name, operation and operand part out of the
+//! columns. The layer above may rely on this: each answer is exactly what the definitions `cards_of` and
+//! `statements_of` say of the bytes, or their first fault; only want of memory may come instead.
+//!
+//! Begin with `specs/Cards.antt` and `specs/Statements.antt`, which say what a line, a record and a
+//! statement are, then `reading.rt` and `statement.rt`. `laws.rt` states what a statement's text is in
+//! other words: one slice of the columns of each of its records.
 #![tactic(auto)]
 
 mod card;
+mod columns;
+mod device;
+mod going;
 mod joined;
+mod laws;
+mod lines;
+mod part;
+mod reading;
+mod record;
+mod statement;
+#[cfg(test)]
+mod tests;
+mod words;
 
 pub use card::Card;
+pub use device::Device;
 pub use joined::Joined;
+pub use laws::{decks_are_joined, groups_are_records, text_is_slices};
+pub use reading::read_cards;
+pub use statement::join;

@@ -1,0 +1,10 @@
+pub mod Consuming
+pub mod Cutting
+pub mod Finding
+pub mod Gathering
+pub mod Grouping
+pub mod Listing
+pub mod Refusing
+pub mod Walking
+pub mod Scanning
+pub mod Slicing

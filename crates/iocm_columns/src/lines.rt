@@ -1,0 +1,88 @@
+ghost use Rattle.std.specs.Prelude.{◌≡◌, ◌<◌, ◌≤◌, ◌==◌, false, ◌+◌, [], ◌∷◌, length, All, IfNone, IfSome, MatchOption, take, drop};
+ghost use Rattle.std.specs.List.{list_all, position};
+ghost use Rattle.std.specs.Str.Lines.{lines, strip_carriage_return};
+ghost use Rattle.iocm_types.specs.Fault.{Gives};
+ghost use Rattle.iocm_columns.specs.Cards.{card_of, cards_of, is_printable};
+
+use crate::Card;
+use iocm_types::{Fault, Rule, Text};
+use std::alloc::Global;
+
+/// All lines of `text` as cards, or the fault of the first line that is refused.
+#[tactic(auto, using(crate::proofs::Listing::first_steps))]
+pub(crate) fn cards(alloc: Global, text: &[u8]) -> Result<Vec<Card>, Fault>
+    ensures { Gives (λ v. v.items) result (cards_of text.now) }
+{
+    let mut cards = Vec::new(alloc);
+    let mut rest = text;
+    let mut above = 0;
+    while let Some((line, more)) = next_line(rest) {
+        above += 1;
+        cards.push(make_card(alloc, above, line)?)?;
+        rest = more;
+    }
+    Ok(cards)
+}
+
+/// The first line of `text` without its line end, and what follows it; none where no line is left.
+#[tactic(auto, using(crate::proofs::Cutting::first_lines))]
+fn next_line(text: &[u8]) -> Option<(&[u8], &[u8])>
+    ensures lines { MatchOption result (lines text.now ≡ []) (λ p. lines text.now ≡ p.0.now ∷ lines p.1.now) }
+    ensures shorter { IfSome result (λ p. length p.1.now < length text.now) }
+{
+    if text.is_empty() {
+        return None;
+    }
+    match line_feed(text) {
+        None => Some((text, &[])),
+        Some(at) => {
+            let (line, end) = text.split_at(at);
+            let (_, more) = end.split_at(1);
+            Some((without_return(line), more))
+        }
+    }
+}
+
+fn line_feed(text: &[u8]) -> Option<usize>
+    ensures found { result ≡ position (λ b. b == 10) text.now }
+    ensures none { IfNone result (All (λ b. (b == 10) ≡ false) text.now) }
+{
+    text.iter().position(|byte| *byte == b'\n')
+}
+
+/// The line without the one carriage return at its end, if it has one.
+fn without_return(line: &[u8]) -> &[u8]
+    ensures { result.now ≡ strip_carriage_return line.now }
+{
+    match line {
+        [front @ .., b'\r'] => front,
+        _ => line,
+    }
+}
+
+fn make_card(alloc: Global, line: usize, bytes: &[u8]) -> Result<Card, Fault>
+    ensures { Gives (λ c. c) result (card_of line bytes.now) }
+{
+    if !are_printable(bytes) {
+        return Err(Fault {
+            rule: Rule::L1,
+            line,
+        });
+    }
+    if bytes.len() > 80 {
+        return Err(Fault {
+            rule: Rule::L2,
+            line,
+        });
+    }
+    Ok(Card {
+        line,
+        bytes: Text::from_slice(alloc, bytes)?,
+    })
+}
+
+fn are_printable(bytes: &[u8]) -> bool
+    ensures { result ≡ list_all is_printable bytes.now }
+{
+    bytes.iter().all(|byte| 0x20 <= *byte && *byte <= 0x7e)
+}

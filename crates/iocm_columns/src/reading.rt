@@ -1,0 +1,32 @@
+ghost use Rattle.std.specs.Prelude.{◌≡◌, ◌+◌, ◌^◌, ◌<◌, ◌≤◌, ◌⊎◌, ℕ, List, IfSome, Err};
+ghost use Rattle.iocm_columns.specs.Cards.{cards_of};
+ghost use Rattle.iocm_columns.specs.Device.{reader_of, reads_of, unreadable, GivesIfReadable, IsOpen, IsUnread, IsWhole, StopsShort};
+
+use crate::lines::cards;
+use crate::{Card, Device};
+use iocm_types::Fault;
+use std::alloc::Global;
+use std::io::Read;
+
+/// The lines of a deck, read from `device` to its end by at most `limit` further reads.
+///
+/// The read that gives the end is one of them. All bytes are read first (L5: a read failed, or none
+/// of `limit` reads gave the end); then the lines are checked in order, each for L1 before L2. The
+/// forms of lines are those of the IOCP User's Guide, coding IOCP macroinstructions; the limits are own.
+#[tactic(auto, using(crate::proofs::Refusing::never_unreadable))]
+pub fn read_cards<R: Read>(
+    alloc: Global,
+    device: &mut Device<R>,
+    limit: u64,
+) -> Result<Vec<Card>, Fault>
+    requires open { IsOpen device.old }
+    requires room { reads_of device.old + limit < 2 ^ 64 }
+    ensures reads { reads_of device.new ≤ reads_of device.old + limit }
+    ensures known_bytes { IfSome (R.remaining (reader_of device.old)) (λ bytes. GivesIfReadable (λ v. v.items) result (cards_of bytes)) }
+    ensures some_bytes { (bytes : List ℕ) × GivesIfReadable (λ v. v.items) result (cards_of bytes) }
+    ensures unreadable { result ≡ Err unreadable → StopsShort device.new (reads_of device.old + limit) }
+    ensures whole { IsWhole device.new ⊎ IsUnread result }
+{
+    let text = device.read_to_end(alloc, limit)?;
+    cards(alloc, text.as_slice())
+}

@@ -1,0 +1,81 @@
+ghost use Rattle.std.specs.Prelude.{◌≡◌, ◌≤◌, [], ◌∷◌, length, map, take, drop, IfOk};
+ghost use Rattle.std.specs.List.{fold};
+ghost use Rattle.iocm_types.specs.Fault.{Gives};
+ghost use Rattle.iocm_columns.specs.Part.{part_after};
+ghost use Rattle.iocm_columns.specs.Statements.{groups, statement_of, statements_of, with_continuation};
+
+use crate::part::Part;
+use crate::record::{Record, find_breach, records};
+use crate::{Card, Joined};
+use iocm_types::{Fault, Text};
+use std::alloc::{AllocError, Global};
+
+/// The statements of a deck, each with its continuations joined.
+///
+/// L4 where a record is continued and none follows, L3 where columns 1 to 15 of a continuation are not
+/// blank, the first of them by place. Source: IOCP User's Guide, coding IOCP macroinstructions; where a
+/// part goes on is own.
+pub fn join(alloc: Global, cards: &[Card]) -> Result<Vec<Joined>, Fault>
+    ensures { Gives (λ v. v.items) result (statements_of cards.now) }
+{
+    let rows = records(alloc, cards)?;
+    if let Some(fault) = find_breach(rows.as_slice()) {
+        return Err(fault);
+    }
+    Ok(statements(alloc, rows.as_slice())?)
+}
+
+/// Each record with its continuations, as a statement.
+#[tactic(auto, using(crate::proofs::Grouping::grouping))]
+fn statements(alloc: Global, rows: &[Record]) -> Result<Vec<Joined>, AllocError>
+    ensures { IfOk result (λ v. v.items ≡ map statement_of (groups rows.now)) }
+{
+    let mut statements = Vec::new(alloc);
+    let mut rest = rows;
+    while let Some((first, more)) = rest.split_first() {
+        let (continuations, others) = more.split_at(continuations_len(first, more));
+        statements.push(make_statement(alloc, first, continuations)?)?;
+        rest = others;
+    }
+    Ok(statements)
+}
+
+/// How many records behind the first belong to it.
+#[tactic(auto, using(crate::proofs::Grouping::grouping))]
+fn continuations_len(first: &Record, more: &[Record]) -> usize
+    ensures within { result ≤ length more.now }
+    ensures groups { groups (first.now ∷ more.now) ≡ (first.now ∷ take result more.now) ∷ groups (drop result more.now) }
+{
+    if !first.columns.is_continued() {
+        return 0;
+    }
+    for (place, row) in more.iter().enumerate() {
+        if !row.columns.is_continued() {
+            return place + 1;
+        }
+    }
+    more.len()
+}
+
+fn make_statement(alloc: Global, first: &Record, more: &[Record]) -> Result<Joined, AllocError>
+    ensures { IfOk result (λ joined. joined ≡ statement_of (first.now ∷ more.now)) }
+{
+    let (name, operation, columns) = first.columns.words();
+    Ok(Joined {
+        line: first.line,
+        name: Text::from_slice(alloc, name)?,
+        operation: Text::from_slice(alloc, operation)?,
+        text: operands(alloc, columns, more)?,
+    })
+}
+
+/// The operand part that begins in these columns and goes on in these continuations.
+fn operands(alloc: Global, columns: &[u8], more: &[Record]) -> Result<Text, AllocError>
+    ensures { IfOk result (λ text. text ≡ (fold with_continuation (part_after [] columns.now) more.now).text) }
+{
+    let mut part = Part::begin(alloc, columns)?;
+    for row in more {
+        part.go_on(row.columns.continuation())?;
+    }
+    Ok(part.into_text())
+}
