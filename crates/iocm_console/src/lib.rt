@@ -1,0 +1,15 @@
+//! What each command prints, over any reader and any writer.
+#![tactic(auto)]
+
+mod cell;
+mod error;
+mod output;
+mod refusal;
+mod row;
+mod status;
+
+pub use error::ConsoleError;
+pub use output::Output;
+pub use refusal::Refusal;
+pub use row::{Row, write_heading, write_row};
+pub use status::Status;
