@@ -1,0 +1,18 @@
+//! What follows from a configuration and its numbers: path lists, sight, masks and views.
+//!
+//! Nothing is kept here: each function reads a `Config` and `Numbers`, takes no memory, and answers exactly
+//! what its definition in the model says. `view_at` is what an image sees at one subchannel; `path_list`,
+//! `sees`, `pim` and `pam` are its parts. `opening` gives each reached device its first number.
+//! Begin with `view.rt`.
+#![tactic(auto)]
+
+mod lookup;
+mod masks;
+mod paths;
+mod sight;
+mod view;
+
+pub use masks::{pam, pim};
+pub use paths::path_list;
+pub use sight::sees;
+pub use view::{image_view, view_at};

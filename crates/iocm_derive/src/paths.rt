@@ -1,0 +1,57 @@
+ghost use Rattle.std.specs.Prelude.{◌≡◌, ◌≤◌, ◌++◌, [], ◌∷◌, length, take};
+ghost use Rattle.iocm_model.specs.Configuration.{lookup_of};
+ghost use Rattle.iocm_model.specs.PathList.{paths_in, unit_paths, view_paths};
+ghost use Rattle.iocm_derive.specs.Derived.{paths_at};
+
+use crate::lookup::{find_device, find_paths};
+use iocm_config::Config;
+use iocm_types::{Css, CssPath, DevNo, Paths, SetNo, UnitNo};
+use std::alloc::Allocator;
+
+/// The first eight paths by which a channel subsystem reaches a device: the paths of its control units there,
+/// joined in the order of CUNUMBR, each unit's in the order of PATH. Empty where there is no such device.
+pub fn path_list<A: Allocator>(config: &Config<A>, css: Css, set: SetNo, device: DevNo) -> Paths
+    ensures { result ≡ paths_at (lookup_of config.now.records) css set device }
+{
+    match find_device(config, set, device) {
+        Some(fields) => paths_of_units(config, css, fields.units.as_slice()),
+        None => Paths::new(),
+    }
+}
+
+/// The first eight paths of these units in a channel subsystem.
+pub fn paths_of_units<A: Allocator>(config: &Config<A>, css: Css, units: &[UnitNo]) -> Paths
+    ensures { result ≡ view_paths (lookup_of config.now.records) css units.now }
+{
+    let mut paths = Paths::new();
+    for unit in units {
+        add_paths(&mut paths, css, find_paths(config, *unit));
+    }
+    paths
+}
+
+/// Puts the paths of a channel subsystem at the end, up to eight in all.
+fn add_paths(paths: &mut Paths, css: Css, more: &[CssPath])
+    requires { length paths.old ≤ 8 }
+    ensures paths { paths.new ≡ take 8 (paths.old ++ paths_in css more.now) }
+    ensures short { length paths.new ≤ 8 }
+{
+    for path in more {
+        add_path(paths, css, *path);
+    }
+}
+
+/// Puts a path at the end if it is of the channel subsystem and there are less than eight.
+fn add_path(paths: &mut Paths, css: Css, path: CssPath)
+    requires { length paths.old ≤ 8 }
+    ensures paths { paths.new ≡ take 8 (paths.old ++ paths_in css (path ∷ [])) }
+    ensures short { length paths.new ≤ 8 }
+{
+    if path.css != css {
+        return;
+    }
+    if paths.is_full() {
+        return;
+    }
+    paths.push(path.path);
+}

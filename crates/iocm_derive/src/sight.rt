@@ -1,0 +1,82 @@
+ghost use Rattle.std.specs.Prelude.{◌≡◌};
+ghost use Rattle.std.specs.List.{list_any};
+ghost use Rattle.std.specs.Option.{option_copied};
+ghost use Rattle.iocm_model.specs.Configuration.{lookup_of};
+ghost use Rattle.iocm_model.specs.PathList.{path_list, unit_paths, paths_in};
+ghost use Rattle.iocm_model.specs.Sight as model;
+ghost use Rattle.iocm_records.specs.Meaning.{device_of};
+ghost use Rattle.iocm_derive.specs.Derived.{sees};
+
+use crate::lookup::{find_device, find_image, find_paths, reaches_path};
+use iocm_config::Config;
+use iocm_records::DeviceFields;
+use iocm_types::{Css, CssPath, DevNo, Image, List, Name, SetNo, UnitNo};
+use std::alloc::Allocator;
+
+/// Whether an image sees a device of a set: the device lists no candidates or the image among them, and the
+/// image reaches one of the paths to it. False where the image or the device isn't there.
+pub fn sees<A: Allocator>(config: &Config<A>, image: Image, set: SetNo, device: DevNo) -> bool
+    ensures { result ≡ sees (lookup_of config.now.records) image set device }
+{
+    let Some((css, name)) = find_image(config, image) else {
+        return false;
+    };
+    match find_device(config, set, device) {
+        Some(fields) => sees_device(config, css, name, fields),
+        None => false,
+    }
+}
+
+/// Whether the image of a name sees a device that is there.
+pub fn sees_device<A: Allocator>(
+    config: &Config<A>,
+    css: Css,
+    name: Name,
+    device: &DeviceFields<A>,
+) -> bool
+    ensures { result ≡ model.sees (lookup_of config.now.records) css name (device_of device.now) }
+{
+    is_candidate(device.candidates.as_ref(), name)
+        && reaches_units(config, css, name, device.units.as_slice())
+}
+
+/// Whether no candidates are listed, or the name is among them.
+pub fn is_candidate<A: Allocator>(candidates: Option<&List<Name, A>>, name: Name) -> bool
+    ensures { result ≡ model.is_candidate name (option_copied candidates.entry) }
+{
+    match candidates {
+        Some(names) => has_name(names.as_slice(), name),
+        None => true,
+    }
+}
+
+/// Whether a list has a name.
+pub fn has_name(names: &[Name], name: Name) -> bool
+    ensures { result ≡ model.has_name name names.now }
+{
+    names.iter().any(|other| name == *other)
+}
+
+/// Whether the image of a name reaches one of the paths of these units.
+fn reaches_units<A: Allocator>(config: &Config<A>, css: Css, name: Name, units: &[UnitNo]) -> bool
+    ensures { result ≡ list_any (model.reaches (lookup_of config.now.records) css name) (path_list (lookup_of config.now.records) css units.now) }
+{
+    for unit in units {
+        if reaches_any(config, css, name, find_paths(config, *unit)) {
+            return true;
+        }
+    }
+    false
+}
+
+/// Whether the image of a name reaches one of these paths that are in its channel subsystem.
+fn reaches_any<A: Allocator>(config: &Config<A>, css: Css, name: Name, paths: &[CssPath]) -> bool
+    ensures { result ≡ list_any (model.reaches (lookup_of config.now.records) css name) (paths_in css paths.now) }
+{
+    for path in paths {
+        if path.css == css && reaches_path(config, css, name, path.path) {
+            return true;
+        }
+    }
+    false
+}
