@@ -1,9 +1,11 @@
 ghost use Rattle.std.specs.Prelude.{◌≡◌, [], ◌∷◌, ◌++◌, is_none, unwrap_or, IfOk, OnOk, Some};
 ghost use Rattle.std.specs.Option.{option_map};
 ghost use Rattle.std.specs.List.{filter};
+ghost use Rattle.std.specs.Result.{result_ok};
+ghost use Rattle.iocm_statements.specs.Pieces.{pieces_of};
 ghost use Rattle.iocm_records.specs.Leaves.{list_items, no_lists, items_in, leaves, leaves_within, no_list};
 
-use iocm_statements::items;
+use iocm_statements::{items, pieces};
 use iocm_types::{Fault, Rule, Text};
 use std::alloc::{AllocError, Global};
 
@@ -23,6 +25,19 @@ pub fn find_items(alloc: Global, text: &[u8]) -> Result<Option<Vec<Text>>, Alloc
 {
     match items(alloc, text, no_list_fault()) {
         Ok(items) => Ok(Some(items)),
+        Err(fault) => match fault.rule {
+            Rule::M1 => Err(AllocError),
+            _ => Ok(None),
+        },
+    }
+}
+
+/// The pieces of a text between its commas, where its parentheses and quotes match.
+pub fn find_pieces(alloc: Global, text: &[u8]) -> Result<Option<Vec<Text>>, AllocError>
+    ensures { IfOk result (λ found. option_map (λ v. v.items) found ≡ result_ok (pieces_of no_list text.now)) }
+{
+    match pieces(alloc, text, no_list_fault()) {
+        Ok(pieces) => Ok(Some(pieces)),
         Err(fault) => match fault.rule {
             Rule::M1 => Err(AllocError),
             _ => Ok(None),

@@ -7,6 +7,7 @@ mod cntlunit;
 mod copies;
 mod iodevice;
 mod leaves;
+mod left_out;
 mod name_set;
 mod record;
 mod resource;

@@ -28,7 +28,7 @@ mod tests;
 
 pub use item::{css, inside, inside_css, is_enclosed, items, items_or_one};
 pub use laws::{operands_are_what_their_texts_say, pieces_are_those_of_the_text};
-pub use number::{decimal, hex};
+pub use number::{decimal, hex, is_decimal_number, is_hex_number};
 pub use operands::{OperandKey, Operands};
 pub use operation::Operation;
 pub use parser::parse;

@@ -15,13 +15,15 @@ fn are_decimal_digits(text: &[u8]) -> bool
     text.iter().all(|byte| byte.is_ascii_digit())
 }
 
-fn is_hex_number(text: &[u8]) -> bool
+/// Whether `text` is a hexadecimal number: one digit or more, 0 to 9 and A to F in upper case.
+pub fn is_hex_number(text: &[u8]) -> bool
     ensures { result ≡ numbers.is_number numbers.is_hex_digit text.now }
 {
     !text.is_empty() && are_hex_digits(text)
 }
 
-fn is_decimal_number(text: &[u8]) -> bool
+/// Whether `text` is a decimal number: one digit or more.
+pub fn is_decimal_number(text: &[u8]) -> bool
     ensures { result ≡ numbers.is_number numbers.is_decimal_digit text.now }
 {
     !text.is_empty() && are_decimal_digits(text)
