@@ -7,9 +7,11 @@ mod output;
 mod refusal;
 mod row;
 mod status;
+mod table;
 
 pub use error::ConsoleError;
 pub use output::Output;
 pub use refusal::Refusal;
 pub use row::{Row, write_heading, write_row};
 pub use status::Status;
+pub use table::write_table;

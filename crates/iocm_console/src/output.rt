@@ -1,9 +1,8 @@
-ghost use Rattle.std.specs.Prelude.{◌≡◌, true, false, ◌++◌, ◌∷◌, [], IsOk, OnOk, IfErr};
-ghost use Rattle.std.specs.Io.KnownBytes.{Appends, Keeps};
+ghost use Rattle.std.specs.Prelude.{◌≡◌, false, ◌++◌, ◌∷◌, [], IsOk, OnOk, IfErr};
+ghost use Rattle.std.specs.Io.KnownBytes.{Keeps};
 ghost use Rattle.iocm_model.specs.Table.{line_of, heading};
-ghost use Rattle.iocm_console.specs.Output.{writer_of, has_failed};
+ghost use Rattle.iocm_console.specs.Output.{writer_of, has_failed, Prints, FailedToWrite};
 ghost use Rattle.iocm_console.specs.Refusal.{refusal_line};
-ghost use Rattle.iocm_console.specs.declared.error.ConsoleError.TheVariants as error;
 
 use crate::row::{write_heading, write_row};
 use crate::{ConsoleError, Refusal};
@@ -42,7 +41,7 @@ impl<W> Output<W> {
         ensures writer { writer_of self.new ≡ writer_of self.old }
         ensures ok { OnOk result (IsOk written) }
         ensures works { OnOk result (has_failed self.new ≡ has_failed self.old) }
-        ensures fault { IfErr result (λ e. (e ≡ error.Write) × (has_failed self.new ≡ true)) }
+        ensures fault { IfErr result (FailedToWrite self.new) }
     {
         match written {
             Ok(()) => Ok(()),
@@ -57,9 +56,9 @@ impl<W> Output<W> {
 impl<W: Write> Output<W> {
     /// Writes the heading of the table. Takes no memory.
     pub(crate) fn heading(&mut self) -> Result<(), ConsoleError>
-        ensures text { OnOk result (Appends (W.contents (writer_of self.old)) (W.contents (writer_of self.new)) (heading ++ 10 ∷ [])) }
+        ensures text { OnOk result (Prints W.contents self.old self.new (heading ++ 10 ∷ [])) }
         ensures works { OnOk result (has_failed self.new ≡ has_failed self.old) }
-        ensures fault { IfErr result (λ e. (e ≡ error.Write) × (has_failed self.new ≡ true)) }
+        ensures fault { IfErr result (FailedToWrite self.new) }
     {
         let written = write_heading(&mut self.writer);
         self.note(written)
@@ -67,9 +66,9 @@ impl<W: Write> Output<W> {
 
     /// Writes the line of a subchannel. Takes no memory.
     pub(crate) fn row(&mut self, id: SubId, view: &View) -> Result<(), ConsoleError>
-        ensures text { OnOk result (Appends (W.contents (writer_of self.old)) (W.contents (writer_of self.new)) (line_of (id, view.now) ++ 10 ∷ [])) }
+        ensures text { OnOk result (Prints W.contents self.old self.new (line_of (id, view.now) ++ 10 ∷ [])) }
         ensures works { OnOk result (has_failed self.new ≡ has_failed self.old) }
-        ensures fault { IfErr result (λ e. (e ≡ error.Write) × (has_failed self.new ≡ true)) }
+        ensures fault { IfErr result (FailedToWrite self.new) }
     {
         let written = write_row(&mut self.writer, id, view);
         self.note(written)
@@ -77,9 +76,9 @@ impl<W: Write> Output<W> {
 
     /// Writes a refusal. Takes no memory.
     pub(crate) fn refusal(&mut self, fault: Fault) -> Result<(), ConsoleError>
-        ensures text { OnOk result (Appends (W.contents (writer_of self.old)) (W.contents (writer_of self.new)) (refusal_line fault)) }
+        ensures text { OnOk result (Prints W.contents self.old self.new (refusal_line fault)) }
         ensures works { OnOk result (has_failed self.new ≡ has_failed self.old) }
-        ensures fault { IfErr result (λ e. (e ≡ error.Write) × (has_failed self.new ≡ true)) }
+        ensures fault { IfErr result (FailedToWrite self.new) }
     {
         let refusal = Refusal(fault);
         let written = writeln!(self.writer, "{refusal}");
@@ -90,7 +89,7 @@ impl<W: Write> Output<W> {
     pub(crate) fn flush(&mut self) -> Result<(), ConsoleError>
         ensures text { Keeps (W.contents (writer_of self.old)) (W.contents (writer_of self.new)) }
         ensures works { OnOk result (has_failed self.new ≡ has_failed self.old) }
-        ensures fault { IfErr result (λ e. (e ≡ error.Write) × (has_failed self.new ≡ true)) }
+        ensures fault { IfErr result (FailedToWrite self.new) }
     {
         let written = self.writer.flush();
         self.note(written)
