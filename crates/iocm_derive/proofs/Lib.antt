@@ -1,2 +1,4 @@
 pub mod Eight
 pub mod Joined
+pub mod OneByOne
+pub mod SetBySet

@@ -6,12 +6,14 @@
 //! Begin with `view.rt`.
 #![tactic(auto)]
 
+mod first_numbers;
 mod lookup;
 mod masks;
 mod paths;
 mod sight;
 mod view;
 
+pub use first_numbers::opening;
 pub use masks::{pam, pim};
 pub use paths::path_list;
 pub use sight::sees;
