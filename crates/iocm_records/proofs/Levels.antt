@@ -1,5 +1,5 @@
 -- The leaves of a value, level by level.
-use Rattle.std.proofs.Common.{◌≡◌, ℕ, suc, ◌+◌, ◌-◌, ◌<◌, ◌≤◌, List, [], ◌∷◌, ◌++◌, length, refl, sym, ap, ◌∙◌, append_assoc, arith}
+use Rattle.std.proofs.Common.{◌≡◌, ℕ, suc, ◌+◌, ◌-◌, ◌<◌, ◌≤◌, List, ◌++◌, refl, sym, append_assoc, arith}
 use Rattle.iocm_records.specs.Leaves.{no_lists, items_in, leaves_within}
 
 -- a level that was opened

@@ -1,7 +1,10 @@
 pub mod Any
+pub mod Claiming
 pub mod Filtering
 pub mod Gathering
 pub mod Images
 pub mod Levels
+pub mod Machine
 pub mod Naming
 pub mod Opening
+pub mod Places

@@ -1,6 +1,6 @@
 -- Lists by channel subsystem: ((CSS(0),..),(CSS(1),..)), one such group alone, or items alone for CSS 0.
 -- IOCP User's Guide, PATH and PARTITION keywords; which forms are taken is own.
-use Rattle.std.specs.Prelude.{ℕ, ◌==◌, Bool, true, false, is_some, if◌then◌else◌, Option, None, Some, List, [], ◌∷◌, ◌++◌, map, filter, Result, Ok, Err}
+use Rattle.std.specs.Prelude.{ℕ, ◌==◌, Bool, false, is_some, if◌then◌else◌, Option, List, [], ◌∷◌, ◌++◌, map, filter, Result, Ok, Err}
 use Rattle.std.specs.List.{list_any, flat_map}
 use Rattle.std.specs.Option.{option_map_or}
 use Rattle.iocm_types.specs.declared.fault.Fault.{Fault}

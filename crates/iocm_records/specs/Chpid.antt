@@ -1,6 +1,6 @@
 -- The CHPID statement: a channel path, and the images that it is online to.
 -- IOCP User's Guide, CHPID statement; the forms and defaults are own.
-use Rattle.std.specs.Prelude.{ℕ, ◌==◌, ◌||◌, nat_eq, Bool, true, false, not, if◌then◌else◌, Option, None, Some, List, [], ◌∷◌, map, Result, Ok, Err, codes}
+use Rattle.std.specs.Prelude.{ℕ, ◌==◌, ◌||◌, Bool, false, if◌then◌else◌, Option, None, Some, List, [], ◌∷◌, Result, Ok, Err, codes}
 use Rattle.std.specs.List.{list_any}
 use Rattle.std.specs.Option.{option_map_or}
 use Rattle.std.specs.Str.{bytes_eq}
@@ -9,11 +9,10 @@ use Rattle.iocm_types.specs.declared.css_path.CssPath.{CssPath}
 use Rattle.iocm_types.specs.declared.path_kind.PathKind.{PathKind}
 use Rattle.iocm_types.specs.declared.path_kind.PathKind.TheVariants.{Dedicated, Shared, Reconfigurable}
 use Rattle.iocm_types.specs.Fault.{◌>>=◌, or_fault}
-use Rattle.iocm_types.specs.Name.{name_of}
 use Rattle.iocm_statements.specs.Items.{items_of, items_or_one, is_enclosed}
 use Rattle.iocm_statements.specs.Numbers.{hex_of}
 use Rattle.iocm_records.specs.declared.chpid.Lists.{Lists}
-use Rattle.iocm_records.specs.ByCss.{is_css_word, begins_with_css, is_group, css_item}
+use Rattle.iocm_records.specs.ByCss.{begins_with_css, is_group, css_item}
 use Rattle.iocm_records.specs.NameSet.{names_of}
 
 -- a path number, one or two digits

@@ -1,6 +1,6 @@
 -- The CNTLUNIT statement: a control unit with its paths and its unit addresses.
 -- IOCP User's Guide, CNTLUNIT statement; the forms and defaults are own.
-use Rattle.std.specs.Prelude.{ℕ, ◌==◌, Bool, true, false, if◌then◌else◌, Option, None, Some, List, [], ◌∷◌, map, Result, Ok, Err}
+use Rattle.std.specs.Prelude.{ℕ, ◌==◌, Bool, false, if◌then◌else◌, Option, None, Some, List, [], ◌∷◌, map, Result, Ok, Err}
 use Rattle.std.specs.Option.{option_and_then}
 use Rattle.iocm_types.specs.declared.fault.Fault.{Fault}
 use Rattle.iocm_types.specs.declared.css_path.CssPath.{CssPath}

@@ -1,9 +1,8 @@
 -- What a configuration deck means: the records of its statements, or the first fault.
 -- IOCP User's Guide; the order of faults is own.
-use Rattle.std.specs.Prelude.{ℕ, ◌+◌, ◌||◌, Bool, true, false, is_some, is_none, not, if◌then◌else◌, Option, None, Some, List, [], ◌∷◌, ◌++◌, map, Result, Ok, Err, codes, unwrap_or}
+use Rattle.std.specs.Prelude.{ℕ, ◌||◌, Bool, true, false, is_none, if◌then◌else◌, Option, None, Some, List, [], ◌∷◌, ◌++◌, map, Result, Ok, Err, codes, unwrap_or}
 use Rattle.std.specs.List.{list_any, range_with_len}
 use Rattle.std.specs.Result.{result_ok}
-use Rattle.std.specs.FinMap.{find}
 use Rattle.iocm_types.specs.declared.fault.Fault.{Fault}
 use Rattle.iocm_types.specs.declared.rule.Rule.{Rule}
 use Rattle.iocm_types.specs.declared.rule.Rule.TheVariants.{S1, S3, S4, S5, S7, S8}
@@ -11,13 +10,12 @@ use Rattle.iocm_types.specs.declared.css_path.CssPath.{CssPath}
 use Rattle.iocm_types.specs.declared.path_kind.PathKind.{PathKind}
 use Rattle.iocm_types.specs.declared.path_kind.PathKind.TheVariants.{Dedicated, Shared}
 use Rattle.iocm_types.specs.Fault.{◌>>=◌, or_fault, at}
-use Rattle.iocm_types.specs.Key.{key_cmp}
 use Rattle.iocm_statements.specs.declared.operation.Operation.{Operation}
-use Rattle.iocm_statements.specs.declared.operation.Operation.TheVariants.{Id, Resource, Chpid, Cntlunit, Iodevice, Online, Row, Group, Choose, End}
+use Rattle.iocm_statements.specs.declared.operation.Operation.TheVariants.{Id, Resource, Chpid, Cntlunit, Iodevice}
 use Rattle.iocm_statements.specs.declared.statement.Statement.{Statement}
 use Rattle.iocm_statements.specs.Operands.{Operand, text_under, has_bare}
-use Rattle.iocm_model.specs.Record.{Rec, ImageRecord, DeviceRecord, PathRecord, id, resource, image, limit, path, unit, device, online, key_of}
-use Rattle.iocm_model.specs.Configuration.{keyed}
+use Rattle.iocm_model.specs.Record.{Rec, ImageRecord, UnitRecord, path, unit, device, image, online, key_of}
+use Rattle.iocm_records.specs.Progress.{Progress, has_key}
 use Rattle.iocm_records.specs.declared.chpid.Lists.{Lists}
 use Rattle.iocm_records.specs.declared.iodevice.Devices.{Devices}
 use Rattle.iocm_records.specs.Resource.{partition_images, names_in}
@@ -34,12 +32,19 @@ resource_images fault operands = partition_images fault (text_under (codes "PART
 abbrev pub resource_records : Fault → List Operand → Result (List Rec) Fault
 resource_records fault operands = resource_images fault operands >>= λ images. Ok (map image images)
 
+-- that a path is online to the image of a name
+abbrev pub online_to : ℕ → ℕ → List ℕ → Rec
+online_to css number name = online (record { css = css; path = number; name = name })
+
+-- the record of a path alone
+abbrev pub path_record : ℕ → ℕ → PathKind → List (List ℕ) → List (List ℕ) → Rec
+path_record css number kind access candidates =
+    path (record { css = css; number = number; kind = kind; access = access; candidates = candidates; carried = [] })
+
 -- the record of a path, and one for each image that it is online to
-abbrev pub path_records : CssPath → PathKind → Lists → List Rec
-path_records p kind lists =
-    path (record { css = p.css; number = p.path; kind = kind;
-        access = lists.access; candidates = lists.candidates; carried = [] })
-    ∷ map (λ name. online (record { css = p.css; path = p.path; name = name })) lists.access
+abbrev pub path_records : ℕ → ℕ → PathKind → Lists → List Rec
+path_records css number kind lists =
+    path_record css number kind lists.access lists.candidates ∷ map (online_to css number) lists.access
 
 -- how a path is used
 abbrev pub kind_of : List Operand → PathKind
@@ -50,15 +55,23 @@ abbrev pub chpid_records : Fault → List ImageRecord → List Operand → Resul
 chpid_records fault images operands =
     or_fault fault (text_under (codes "PATH") operands) >>= path_of fault >>= λ (p : CssPath).
     lists_of fault (kind_of operands) p.css (names_in p.css images) (text_under (codes "PARTITION") operands) >>= λ lists.
-    Ok (path_records p (kind_of operands) lists)
+    Ok (path_records p.css p.path (kind_of operands) lists)
 
--- the record of a CNTLUNIT statement
-abbrev pub cntlunit_records : Fault → List Operand → Result (List Rec) Fault
-cntlunit_records fault operands =
+-- the control unit of a CNTLUNIT statement
+abbrev pub unit_fields : Fault → List Operand → Result UnitRecord Fault
+unit_fields fault operands =
     or_fault fault (text_under (codes "CUNUMBR") operands) >>= λ text. or_fault fault (unit_number text) >>= λ number.
     paths_of_value fault (text_under (codes "PATH") operands) >>= λ paths.
     ranges_of fault (text_under (codes "UNITADD") operands) >>= λ ranges.
-    Ok (unit (record { number = number; paths = paths; ranges = ranges; links = []; cuadd = None; carried = [] }) ∷ [])
+    Ok (record { number = number; paths = paths; ranges = ranges; links = []; cuadd = None; carried = [] })
+
+-- the record of a CNTLUNIT statement
+abbrev pub cntlunit_records : Fault → List Operand → Result (List Rec) Fault
+cntlunit_records fault operands = unit_fields fault operands >>= λ (u : UnitRecord). Ok (unit u ∷ [])
+
+-- the record of the device at a place of its statement
+abbrev pub device_record : Devices → List ℕ → Option ℕ → ℕ → Rec
+device_record devices units address place = device (device_at devices units address place)
 
 -- the records of an IODEVICE statement, one for each device
 abbrev pub iodevice_records : Fault → List Operand → Result (List Rec) Fault
@@ -66,7 +79,7 @@ iodevice_records fault operands =
     or_fault fault (text_under (codes "ADDRESS") operands) >>= devices_of fault >>= λ (devices : Devices).
     units_of fault (text_under (codes "CUNUMBR") operands) >>= λ units.
     first_address fault devices.count (text_under (codes "UNITADD") operands) >>= λ address.
-    Ok (map (λ place. device (device_at devices units address place)) (range_with_len 0 devices.count))
+    Ok (map (device_record devices units address) (range_with_len 0 devices.count))
 
 -- the records of a statement; in a statement of the other operations there are none
 abbrev pub statement_records : Fault → List ImageRecord → Operation → List Operand → Result (List Rec) Fault
@@ -84,11 +97,6 @@ is_of_changes Chpid = false
 is_of_changes Cntlunit = false
 is_of_changes Iodevice = false
 is_of_changes _ = true
-
--- what was read so far: whether there was a RESOURCE statement, and the records
-pub record Progress : Type 0 where
-  pub seen : Bool
-  pub records : List Rec
 
 -- the keyword that a statement can't do without
 abbrev pub required_of : Operation → Option (List ℕ)
@@ -112,49 +120,69 @@ abbrev pub is_statement_left_out : Operation → Bool
 is_statement_left_out Id = true
 is_statement_left_out _ = false
 
+-- the statement or one of its operands is left out
+abbrev pub is_left_out_statement : Statement → Bool
+is_left_out_statement s = is_statement_left_out s.operation || list_any (is_left_out s.operation) s.operands
+
+-- what is wrong with a statement before its values are read, in this order
+abbrev pub first_fault : Bool → Statement → Option Rule
+first_fault seen s =
+    if is_of_changes s.operation then Some S1
+    else if is_repeated seen s.operation then Some S7
+    else if lacks_required (required_of s.operation) s.operands then Some S3
+    else if is_left_out_statement s then Some S5
+    else if list_any (is_other_form s.operation) s.operands then Some S4
+    else None
+
+-- the records of a statement with this first fault, or without one; a malformed value is S4
+abbrev pub records_unless : Option Rule → List ImageRecord → Statement → Result (List Rec) Fault
+records_unless (Some rule) images s = Err (at rule s.line)
+records_unless None images s = statement_records (at S4 s.line) images s.operation s.operands
+
 -- the records of a statement, or its first fault: S1, S7, S3, S5, S4
 abbrev pub read_statement : List ImageRecord → Bool → Statement → Result (List Rec) Fault
-read_statement images seen s =
-    if is_of_changes s.operation then Err (at S1 s.line)
-    else if is_repeated seen s.operation then Err (at S7 s.line)
-    else if lacks_required (required_of s.operation) s.operands then Err (at S3 s.line)
-    else if is_statement_left_out s.operation || list_any (is_left_out s.operation) s.operands then Err (at S5 s.line)
-    else if list_any (is_other_form s.operation) s.operands then Err (at S4 s.line)
-    else statement_records (at S4 s.line) images s.operation s.operands
-
--- whether a record of this key is there
-abbrev pub has_key : List Rec → Rec → Bool
-has_key records r = is_some (find key_cmp (key_of r) (keyed records))
+read_statement images seen s = records_unless (first_fault seen s) images s
 
 -- records with further ones behind them, if each brings a key that isn't there
 unfoldable pub with_records : Fault → List Rec → List Rec → Result (List Rec) Fault
 with_records fault records [] = Ok records
-with_records fault records (r ∷ rs) = if has_key records r then Err fault else with_records fault (records ++ r ∷ []) rs
+with_records fault records (r ∷ rs) = if has_key records (key_of r) then Err fault else with_records fault (records ++ r ∷ []) rs
 
 -- whether a statement is RESOURCE
 abbrev pub is_resource : Operation → Bool
 is_resource Resource = true
 is_resource _ = false
 
--- what was read with a further statement
+-- what was read, with the records of a further statement
+abbrev pub with_statement : Fault → Progress → Bool → List Rec → Result Progress Fault
+with_statement fault p has_resource rs = with_records fault p.records rs >>= λ records.
+    Ok (record { seen = p.seen || has_resource; records = records })
+
+-- what was read, with a further statement
 abbrev pub progress_after : List ImageRecord → Progress → Statement → Result Progress Fault
 progress_after images p s =
-    read_statement images p.seen s >>= λ rs. with_records (at S8 s.line) p.records rs >>= λ records.
-    Ok (record { seen = p.seen || is_resource s.operation; records = records })
+    read_statement images p.seen s >>= with_statement (at S8 s.line) p (is_resource s.operation)
 
 -- the records of statements behind what was read so far
 unfoldable pub read_from : List ImageRecord → Progress → List Statement → Result (List Rec) Fault
 read_from images p [] = Ok p.records
 read_from images p (s ∷ ss) = progress_after images p s >>= λ q. read_from images q ss
 
+-- the images that a RESOURCE statement gives, or none where it has a fault
+abbrev pub images_or_none : Statement → List ImageRecord
+images_or_none s = unwrap_or (result_ok (resource_images (at S4 s.line) s.operands)) []
+
 -- the images of a machine, which defaults look at wherever the RESOURCE statement stands; a RESOURCE statement
 -- with a fault refuses the deck, and then they are of no account
 abbrev pub machine_images : List Statement → List ImageRecord
 machine_images [] = []
 machine_images (s ∷ ss) =
-    if is_resource s.operation then unwrap_or (result_ok (resource_images (at S4 s.line) s.operands)) []
-    else machine_images ss
+    if is_resource s.operation then images_or_none s else machine_images ss
+
+-- before the first statement
+abbrev pub nothing_read : Progress
+nothing_read = record { seen = false; records = [] }
 
 -- the records of a deck, or its first fault
 abbrev pub deck_records : List Statement → Result (List Rec) Fault
-deck_records ss = read_from (machine_images ss) (record { seen = false; records = [] }) ss
+deck_records ss = read_from (machine_images ss) nothing_read ss

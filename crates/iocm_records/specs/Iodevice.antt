@@ -1,7 +1,6 @@
 -- The IODEVICE statement: devices that are alike, one after the other.
 -- IOCP User's Guide, IODEVICE statement; the forms, the defaults and the most devices of a statement are own.
-use Rattle.std.specs.Prelude.{ℕ, ◌+◌, ◌%◌, ◌-◌, nat_le, Bool, if◌then◌else◌, Option, None, Some, List, [], ◌∷◌, map, Result, Ok, Err}
-use Rattle.std.specs.Option.{option_map_or}
+use Rattle.std.specs.Prelude.{ℕ, ◌+◌, ◌%◌, nat_le, if◌then◌else◌, Option, None, Some, List, [], ◌∷◌, Result, Ok, Err}
 use Rattle.iocm_types.specs.declared.fault.Fault.{Fault}
 use Rattle.iocm_types.specs.Fault.{◌>>=◌, or_fault}
 use Rattle.iocm_types.specs.Each.{each}

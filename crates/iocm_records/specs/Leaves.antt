@@ -1,5 +1,5 @@
 -- The items of a value at every depth.
-use Rattle.std.specs.Prelude.{ℕ, suc, zero, Bool, List, [], ◌∷◌, ◌++◌, filter, length, Option, is_none, unwrap_or}
+use Rattle.std.specs.Prelude.{ℕ, suc, zero, List, [], ◌∷◌, ◌++◌, filter, length, Option, is_none, unwrap_or}
 use Rattle.std.specs.List.{flat_map}
 use Rattle.std.specs.Result.{result_ok}
 use Rattle.iocm_types.specs.declared.fault.Fault.{Fault}

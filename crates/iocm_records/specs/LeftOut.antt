@@ -1,13 +1,12 @@
 -- Forms that this product leaves out, and words that stand in another form than their own.
 -- IOCP User's Guide; which forms are left out is own.
-use Rattle.std.specs.Prelude.{ℕ, ◌&&◌, ◌||◌, nat_le, Bool, true, false, not, if◌then◌else◌, Option, None, Some, List, [], ◌∷◌, ◌-◌, length, slice_get, count_by, codes, unwrap_or}
+use Rattle.std.specs.Prelude.{ℕ, ◌&&◌, ◌||◌, nat_le, Bool, true, false, not, if◌then◌else◌, List, [], ◌∷◌, ◌-◌, length, slice_get, count_by, codes, unwrap_or}
 use Rattle.std.specs.List.{list_any}
 use Rattle.std.specs.Option.{option_map_or, option_and_then}
 use Rattle.std.specs.Result.{result_ok}
 use Rattle.std.specs.Str.{bytes_eq}
 use Rattle.iocm_statements.specs.declared.operation.Operation.{Operation}
-use Rattle.iocm_statements.specs.declared.operation.Operation.TheVariants.{Id, Resource, Chpid, Cntlunit, Iodevice, Online, Row, Group, Choose, End}
-use Rattle.iocm_statements.specs.declared.operands.OperandKey.{OperandKey}
+use Rattle.iocm_statements.specs.declared.operation.Operation.TheVariants.{Resource, Chpid, Cntlunit, Iodevice}
 use Rattle.iocm_statements.specs.declared.operands.OperandKey.TheVariants.{Keyword, Bare}
 use Rattle.iocm_statements.specs.Operands.{Operand}
 use Rattle.iocm_statements.specs.Items.{inside_css}

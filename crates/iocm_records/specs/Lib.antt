@@ -7,4 +7,5 @@ pub mod Leaves
 pub mod LeftOut
 pub mod Meaning
 pub mod NameSet
+pub mod Progress
 pub mod Resource

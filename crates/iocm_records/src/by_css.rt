@@ -4,7 +4,6 @@ ghost use Rattle.iocm_types.specs.Fault.{Gives};
 ghost use Rattle.iocm_records.specs.ByCss as by;
 
 use crate::leaves::find_items;
-
 use iocm_statements::{css, inside_css, items};
 use iocm_types::{Css, Fault, Text};
 use std::alloc::{AllocError, Global};
@@ -125,7 +124,11 @@ pub fn by_css(alloc: Global, text: &[u8], fault: Fault) -> Result<Vec<(Css, Text
 }
 
 // The pairs of one channel subsystem go behind what was found.
-fn add_css<T: Copy>(pairs: &[(Css, T)], css: u8, found: &mut Vec<(Css, T)>) -> Result<(), AllocError>
+fn add_css<T: Copy>(
+    pairs: &[(Css, T)],
+    css: u8,
+    found: &mut Vec<(Css, T)>,
+) -> Result<(), AllocError>
     ensures { OnOk result (found.new.items ≡ found.old.items ++ filter (λ p. p.0 == css) pairs.now) }
 {
     for pair in pairs {
@@ -138,7 +141,10 @@ fn add_css<T: Copy>(pairs: &[(Css, T)], css: u8, found: &mut Vec<(Css, T)>) -> R
 }
 
 /// The pairs with channel subsystems ascending, and each one's in their order.
-pub fn in_css_order<T: Copy + Drop>(alloc: Global, pairs: &[(Css, T)]) -> Result<Vec<(Css, T)>, AllocError>
+pub fn in_css_order<T: Copy + Drop>(
+    alloc: Global,
+    pairs: &[(Css, T)],
+) -> Result<Vec<(Css, T)>, AllocError>
     ensures { IfOk result (λ found. found.items ≡ by.in_css_order pairs.now) }
 {
     let mut found = Vec::new(alloc);

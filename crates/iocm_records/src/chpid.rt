@@ -6,7 +6,6 @@ ghost use Rattle.iocm_records.specs.Chpid as meaning;
 
 use crate::by_css::{begins_with_css, css_item, is_group};
 use crate::name_set::names_of;
-
 use iocm_statements::{hex, is_enclosed, items, items_or_one};
 use iocm_types::{Chpid, Css, CssPath, Fault, List, Name, PathKind, Text};
 use std::alloc::{AllocError, Global};
@@ -109,7 +108,12 @@ fn group_items(alloc: Global, css: Css, group: &[u8], fault: Fault) -> Result<Ve
     own_items(alloc, css, &items, fault)
 }
 
-fn without_inner_group(alloc: Global, css: Css, items: Vec<Text>, fault: Fault) -> Result<Vec<Text>, Fault>
+fn without_inner_group(
+    alloc: Global,
+    css: Css,
+    items: Vec<Text>,
+    fault: Fault,
+) -> Result<Vec<Text>, Fault>
     ensures { Gives (λ v. v.items) result (meaning.without_inner_group fault css items.items) }
 {
     match items.as_slice() {
@@ -123,7 +127,12 @@ fn without_inner_group(alloc: Global, css: Css, items: Vec<Text>, fault: Fault) 
     }
 }
 
-fn without_group(alloc: Global, css: Css, items: Vec<Text>, fault: Fault) -> Result<Vec<Text>, Fault>
+fn without_group(
+    alloc: Global,
+    css: Css,
+    items: Vec<Text>,
+    fault: Fault,
+) -> Result<Vec<Text>, Fault>
     ensures { Gives (λ v. v.items) result (meaning.without_group fault css items.items) }
 {
     if begins_with_css(&items) {
@@ -175,7 +184,12 @@ fn list_of(alloc: Global, item: &[u8], fault: Fault) -> Result<List<Name>, Fault
 }
 
 // The candidate list: `=` or `(=)` for the access list, else as an access list.
-fn candidates_of(alloc: Global, access: &List<Name>, item: &[u8], fault: Fault) -> Result<List<Name>, Fault>
+fn candidates_of(
+    alloc: Global,
+    access: &List<Name>,
+    item: &[u8],
+    fault: Fault,
+) -> Result<List<Name>, Fault>
     ensures { Gives (λ names. names) result (meaning.candidates_of fault access.now item.now) }
 {
     if is_same_list(item) {
@@ -190,7 +204,12 @@ fn copy_names(alloc: Global, names: &[Name]) -> Result<List<Name>, AllocError>
     Ok(List::from_vec(Vec::from_slice(alloc, names)?))
 }
 
-fn default_candidates(alloc: Global, kind: PathKind, all: &[Name], access: &List<Name>) -> Result<List<Name>, AllocError>
+fn default_candidates(
+    alloc: Global,
+    kind: PathKind,
+    all: &[Name],
+    access: &List<Name>,
+) -> Result<List<Name>, AllocError>
     ensures { IfOk result (λ names. names ≡ meaning.default_candidates kind all.now access.now) }
 {
     match kind {
@@ -201,7 +220,13 @@ fn default_candidates(alloc: Global, kind: PathKind, all: &[Name], access: &List
 }
 
 // One or two lists: access, candidates.
-fn listed(alloc: Global, kind: PathKind, all: &[Name], items: &[Text], fault: Fault) -> Result<Lists, Fault>
+fn listed(
+    alloc: Global,
+    kind: PathKind,
+    all: &[Name],
+    items: &[Text],
+    fault: Fault,
+) -> Result<Lists, Fault>
     ensures { Gives (λ lists. lists) result (meaning.listed fault kind all.now items.now) }
 {
     match items {
@@ -220,7 +245,13 @@ fn listed(alloc: Global, kind: PathKind, all: &[Name], items: &[Text], fault: Fa
 }
 
 // Names alone are the access list.
-fn named(alloc: Global, kind: PathKind, all: &[Name], items: &[Text], fault: Fault) -> Result<Lists, Fault>
+fn named(
+    alloc: Global,
+    kind: PathKind,
+    all: &[Name],
+    items: &[Text],
+    fault: Fault,
+) -> Result<Lists, Fault>
     ensures { Gives (λ lists. lists) result (meaning.named fault kind all.now items.now) }
 {
     let access = names_of(alloc, items, fault)?;
@@ -228,7 +259,13 @@ fn named(alloc: Global, kind: PathKind, all: &[Name], items: &[Text], fault: Fau
     Ok(Lists { access, candidates })
 }
 
-fn lists_of_items(alloc: Global, kind: PathKind, all: &[Name], items: &[Text], fault: Fault) -> Result<Lists, Fault>
+fn lists_of_items(
+    alloc: Global,
+    kind: PathKind,
+    all: &[Name],
+    items: &[Text],
+    fault: Fault,
+) -> Result<Lists, Fault>
     ensures { Gives (λ lists. lists) result (meaning.lists_of_items fault kind all.now items.now) }
 {
     if has_list_form(items) {

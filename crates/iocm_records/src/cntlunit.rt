@@ -8,7 +8,6 @@ ghost use Rattle.iocm_records.specs.Cntlunit as meaning;
 
 use crate::by_css::{by_css, in_css_order};
 use crate::chpid::path_number;
-
 use iocm_statements::{decimal, hex, is_enclosed, items_or_one};
 use iocm_types::{Chpid, Css, CssPath, Fault, Text, UnitNo, UnitRange};
 use std::alloc::{AllocError, Global};
@@ -30,7 +29,11 @@ fn path_item(item: &(Css, Text), fault: Fault) -> Result<(Css, Chpid), Fault>
 }
 
 #[tactic(auto, using(iocm_types::proofs::Each::each_steps))]
-fn read_paths(alloc: Global, items: &[(Css, Text)], fault: Fault) -> Result<Vec<(Css, Chpid)>, Fault>
+fn read_paths(
+    alloc: Global,
+    items: &[(Css, Text)],
+    fault: Fault,
+) -> Result<Vec<(Css, Chpid)>, Fault>
     ensures { Gives (λ v. v.items) result (each (meaning.path_item fault) 0 items.now) }
 {
     let mut paths = Vec::new(alloc);
@@ -67,7 +70,11 @@ fn paths_of(alloc: Global, text: &[u8], fault: Fault) -> Result<Vec<CssPath>, Fa
 /// The paths of the value of PATH, with channel subsystems ascending; without it there are none.
 ///
 /// Answers `fault` where the value is malformed, and M1 without memory.
-pub fn paths_of_value(alloc: Global, text: Option<&[u8]>, fault: Fault) -> Result<Vec<CssPath>, Fault>
+pub fn paths_of_value(
+    alloc: Global,
+    text: Option<&[u8]>,
+    fault: Fault,
+) -> Result<Vec<CssPath>, Fault>
     ensures { Gives (λ v. v.items) result (meaning.paths_of_value fault (option_copied text.entry)) }
 {
     match text {

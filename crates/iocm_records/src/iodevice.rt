@@ -5,7 +5,6 @@ ghost use Rattle.iocm_types.specs.Fault.{Gives};
 ghost use Rattle.iocm_records.specs.Iodevice as meaning;
 
 use crate::cntlunit::{count_of, unit_number};
-
 use iocm_statements::{hex, items_or_one};
 use iocm_types::{Fault, Text, UnitNo};
 use std::alloc::Global;

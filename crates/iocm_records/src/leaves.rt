@@ -61,7 +61,11 @@ pub fn find_leaves(alloc: Global, text: &[u8]) -> Result<Vec<Text>, AllocError>
 }
 
 // The items of the lists among these texts; those that are no lists go to what was found.
-fn open_level(alloc: Global, level: Vec<Text>, found: &mut Vec<Text>) -> Result<Vec<Text>, AllocError>
+fn open_level(
+    alloc: Global,
+    level: Vec<Text>,
+    found: &mut Vec<Text>,
+) -> Result<Vec<Text>, AllocError>
     ensures next { IfOk result (λ next. next.items ≡ items_in level.items) }
     ensures found { OnOk result (found.new.items ≡ found.old.items ++ no_lists level.items) }
 {
@@ -72,7 +76,12 @@ fn open_level(alloc: Global, level: Vec<Text>, found: &mut Vec<Text>) -> Result<
     Ok(next)
 }
 
-fn open_text(alloc: Global, text: Text, next: &mut Vec<Text>, found: &mut Vec<Text>) -> Result<(), AllocError>
+fn open_text(
+    alloc: Global,
+    text: Text,
+    next: &mut Vec<Text>,
+    found: &mut Vec<Text>,
+) -> Result<(), AllocError>
     ensures next { OnOk result (next.new.items ≡ next.old.items ++ unwrap_or (list_items text) []) }
     ensures found { OnOk result (found.new.items ≡ found.old.items ++ no_lists (text ∷ [])) }
 {

@@ -4,8 +4,9 @@ ghost use Rattle.iocm_records.specs.LeftOut as meaning;
 
 use crate::by_css::{is_css_word, is_group};
 use crate::leaves::{find_items, find_leaves, find_pieces};
-
-use iocm_statements::{OperandKey, Operands, Operation, inside_css, is_decimal_number, is_hex_number};
+use iocm_statements::{
+    OperandKey, Operands, Operation, inside_css, is_decimal_number, is_hex_number,
+};
 use iocm_types::Text;
 use std::alloc::{AllocError, Global};
 
@@ -138,10 +139,14 @@ fn is_keyword(operation: Operation, text: &[u8]) -> bool
         Operation::Resource => text == b"PARTITION".as_slice(),
         Operation::Chpid => text == b"PATH".as_slice() || text == b"PARTITION".as_slice(),
         Operation::Cntlunit => {
-            text == b"CUNUMBR".as_slice() || text == b"PATH".as_slice() || text == b"UNITADD".as_slice()
+            text == b"CUNUMBR".as_slice()
+                || text == b"PATH".as_slice()
+                || text == b"UNITADD".as_slice()
         }
         Operation::Iodevice => {
-            text == b"ADDRESS".as_slice() || text == b"CUNUMBR".as_slice() || text == b"UNITADD".as_slice()
+            text == b"ADDRESS".as_slice()
+                || text == b"CUNUMBR".as_slice()
+                || text == b"UNITADD".as_slice()
         }
         _ => false,
     }
@@ -169,7 +174,12 @@ fn is_path_value_left_out(alloc: Global, keyword: &[u8], text: &[u8]) -> Result<
     Ok(false)
 }
 
-fn is_value_left_out(alloc: Global, operation: Operation, keyword: &[u8], text: &[u8]) -> Result<bool, AllocError>
+fn is_value_left_out(
+    alloc: Global,
+    operation: Operation,
+    keyword: &[u8],
+    text: &[u8],
+) -> Result<bool, AllocError>
     ensures { IfOk result (λ answer. answer ≡ meaning.is_value_left_out operation keyword.now text.now) }
 {
     match operation {
@@ -183,7 +193,12 @@ fn is_value_left_out(alloc: Global, operation: Operation, keyword: &[u8], text: 
     }
 }
 
-fn is_left_out(alloc: Global, operation: Operation, key: &OperandKey, text: &[u8]) -> Result<bool, AllocError>
+fn is_left_out(
+    alloc: Global,
+    operation: Operation,
+    key: &OperandKey,
+    text: &[u8],
+) -> Result<bool, AllocError>
     ensures { IfOk result (λ answer. answer ≡ meaning.is_left_out operation (key.now, text.now)) }
 {
     match key {
@@ -200,7 +215,11 @@ fn is_left_out(alloc: Global, operation: Operation, key: &OperandKey, text: &[u8
 /// Whether an operand is left out: one that the statement's table doesn't name, or a value in a form
 /// that this product leaves out.
 #[tactic(auto, using(crate::proofs::Any::any_steps))]
-pub fn has_left_out(alloc: Global, operation: Operation, operands: &Operands) -> Result<bool, AllocError>
+pub fn has_left_out(
+    alloc: Global,
+    operation: Operation,
+    operands: &Operands,
+) -> Result<bool, AllocError>
     ensures { IfOk result (λ answer. answer ≡ list_any (meaning.is_left_out operation) operands.now) }
 {
     for index in 0..operands.len() {

@@ -10,7 +10,6 @@ ghost use Rattle.iocm_records.specs.Resource as meaning;
 
 use crate::by_css::{by_css, in_css_order};
 use crate::name_set::add_name;
-
 use iocm_statements::{hex, items};
 use iocm_types::{Css, Fault, Mif, Name, Text};
 use std::alloc::{AllocError, Global};
@@ -123,7 +122,11 @@ fn images_of(alloc: Global, text: &[u8], fault: Fault) -> Result<Vec<ImageEntry>
 /// The images of the value of PARTITION, with channel subsystems ascending; without it there are none.
 ///
 /// Answers `fault` where the value is malformed, and M1 without memory.
-pub fn partition_images(alloc: Global, text: Option<&[u8]>, fault: Fault) -> Result<Vec<ImageEntry>, Fault>
+pub fn partition_images(
+    alloc: Global,
+    text: Option<&[u8]>,
+    fault: Fault,
+) -> Result<Vec<ImageEntry>, Fault>
     ensures { Gives (λ v. v.items) result (meaning.partition_images fault (option_copied text.entry)) }
 {
     match text {

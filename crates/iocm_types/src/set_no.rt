@@ -22,6 +22,9 @@ impl Model for SetNo {
 }
 
 impl SetNo {
+    /// Subchannel set 0, where devices stand that name none.
+    pub const FIRST: SetNo = SetNo { number: 0 };
+
     /// The subchannel set of this number, if there is one.
     pub fn new(number: u8) -> Option<Self>
         ensures valid { IsSome result ↔ (number < 4) }

@@ -1,5 +1,4 @@
 -- A group that is refused refuses the list.
-use Rattle.std.proofs.Common.{refl}
 use Rattle.std.proofs.lemmas.Result.{err_from_is_err_and}
 use Rattle.iocm_records.specs.ByCss.{group_of}
 use Rattle.iocm_records.proofs.Gathering.{gathered_refused}

@@ -1,6 +1,4 @@
-use Rattle.std.proofs.Common.{◌≡◌, ◌==◌, drop, fold, map, filter, []}
-use Rattle.iocm_model.specs.Record.{ImageRecord}
-use Rattle.iocm_records.specs.NameSet.{with_name}
+use Rattle.std.proofs.Common.{◌≡◌, drop, []}
 use Rattle.iocm_records.proofs.Images.{images_named}
 use Rattle.iocm_records.proofs.resource.names_in.Given as goal
 

@@ -1,0 +1,199 @@
+ghost use Rattle.std.specs.Prelude.{◌≡◌, IfOk};
+ghost use Rattle.iocm_types.specs.Fault.{Gives};
+ghost use Rattle.iocm_model.specs.Configuration.{HasNoKeyTwice};
+ghost use Rattle.iocm_records.specs.Deck as deck;
+
+use crate::Record;
+use crate::left_out::{has_left_out, has_other_form};
+use crate::progress::Progress;
+use crate::resource::ImageEntry;
+use crate::statements::{resource_images, statement_records};
+use iocm_statements::{Operands, Operation, Statement};
+use iocm_types::{Fault, Rule};
+use std::alloc::{AllocError, Global};
+
+fn is_of_changes(operation: Operation) -> bool
+    ensures { result ≡ deck.is_of_changes operation }
+{
+    match operation {
+        Operation::Id => false,
+        Operation::Resource => false,
+        Operation::Chpid => false,
+        Operation::Cntlunit => false,
+        Operation::Iodevice => false,
+        _ => true,
+    }
+}
+
+fn is_resource(operation: Operation) -> bool
+    ensures { result ≡ deck.is_resource operation }
+{
+    match operation {
+        Operation::Resource => true,
+        _ => false,
+    }
+}
+
+// A statement of which one stands in a deck already; seen says whether a RESOURCE statement does.
+fn is_repeated(seen: bool, operation: Operation) -> bool
+    ensures { result ≡ deck.is_repeated seen operation }
+{
+    match operation {
+        Operation::Resource => seen,
+        _ => false,
+    }
+}
+
+fn lacks_required(operation: Operation, operands: &Operands) -> bool
+    ensures { result ≡ deck.lacks_required (deck.required_of operation) operands.now }
+{
+    match operation {
+        Operation::Chpid => operands.get(b"PATH").is_none(),
+        Operation::Cntlunit => operands.get(b"CUNUMBR").is_none(),
+        Operation::Iodevice => operands.get(b"ADDRESS").is_none(),
+        _ => false,
+    }
+}
+
+fn is_statement_left_out(operation: Operation) -> bool
+    ensures { result ≡ deck.is_statement_left_out operation }
+{
+    match operation {
+        Operation::Id => true,
+        _ => false,
+    }
+}
+
+// Whether the statement or one of its operands is left out.
+fn is_left_out(alloc: Global, statement: &Statement) -> Result<bool, AllocError>
+    ensures { IfOk result (λ answer. answer ≡ deck.is_left_out_statement statement.now) }
+{
+    if is_statement_left_out(statement.operation) {
+        return Ok(true);
+    }
+    has_left_out(alloc, statement.operation, &statement.operands)
+}
+
+// What is wrong with a statement before its values are read: S1, S7, S3, S5 or S4.
+fn first_fault(alloc: Global, seen: bool, statement: &Statement) -> Result<Option<Rule>, AllocError>
+    ensures { IfOk result (λ rule. rule ≡ deck.first_fault seen statement.now) }
+{
+    if is_of_changes(statement.operation) {
+        return Ok(Some(Rule::S1));
+    }
+    if is_repeated(seen, statement.operation) {
+        return Ok(Some(Rule::S7));
+    }
+    if lacks_required(statement.operation, &statement.operands) {
+        return Ok(Some(Rule::S3));
+    }
+    if is_left_out(alloc, statement)? {
+        return Ok(Some(Rule::S5));
+    }
+    if has_other_form(statement.operation, &statement.operands) {
+        return Ok(Some(Rule::S4));
+    }
+    Ok(None)
+}
+
+/// The records of a statement, or its first fault: S1, S7, S3, S5, S4.
+pub fn read_statement(
+    alloc: Global,
+    images: &[ImageEntry],
+    seen: bool,
+    statement: &Statement,
+) -> Result<Vec<Record>, Fault>
+    ensures { Gives (λ v. v.items) result (deck.read_statement images.now seen statement.now) }
+{
+    let line = statement.line;
+    match first_fault(alloc, seen, statement)? {
+        Some(rule) => Err(Fault { rule, line }),
+        None => {
+            let malformed = Fault {
+                rule: Rule::S4,
+                line,
+            };
+            statement_records(
+                alloc,
+                images,
+                statement.operation,
+                &statement.operands,
+                malformed,
+            )
+        }
+    }
+}
+
+fn read_next(
+    alloc: Global,
+    images: &[ImageEntry],
+    progress: Progress,
+    statement: &Statement,
+) -> Result<Progress, Fault>
+    ensures { Gives (λ p. p) result (deck.progress_after images.now progress statement.now) }
+{
+    let found = read_statement(alloc, images, progress.has_resource(), statement)?;
+    let twice = Fault {
+        rule: Rule::S8,
+        line: statement.line,
+    };
+    progress.with(found, is_resource(statement.operation), twice)
+}
+
+// The images that a RESOURCE statement gives, or none where it has a fault.
+fn images_or_none(alloc: Global, statement: &Statement) -> Result<Vec<ImageEntry>, AllocError>
+    ensures { IfOk result (λ v. v.items ≡ deck.images_or_none statement.now) }
+{
+    let malformed = Fault {
+        rule: Rule::S4,
+        line: statement.line,
+    };
+    match resource_images(alloc, &statement.operands, malformed) {
+        Ok(images) => Ok(images),
+        Err(fault) => match fault.rule {
+            Rule::M1 => Err(AllocError),
+            _ => Ok(Vec::new(alloc)),
+        },
+    }
+}
+
+// The images of the machine, which defaults look at wherever the RESOURCE statement stands.
+#[tactic(auto, using(crate::proofs::Machine::machine_steps))]
+fn machine_images(alloc: Global, statements: &[Statement]) -> Result<Vec<ImageEntry>, AllocError>
+    ensures { IfOk result (λ v. v.items ≡ deck.machine_images statements.now) }
+{
+    for statement in statements {
+        if is_resource(statement.operation) {
+            return images_or_none(alloc, statement);
+        }
+    }
+    Ok(Vec::new(alloc))
+}
+
+#[tactic(auto, using(crate::proofs::Machine::read_steps))]
+fn read_all(
+    alloc: Global,
+    images: &[ImageEntry],
+    statements: &[Statement],
+) -> Result<Progress, Fault>
+    ensures { Gives (λ p. p.records) result (deck.read_from images.now deck.nothing_read statements.now) }
+{
+    let mut progress = Progress::new(alloc);
+    for statement in statements {
+        progress = read_next(alloc, images, progress, statement)?;
+    }
+    Ok(progress)
+}
+
+/// The records of a configuration deck, no two of one key.
+///
+/// The statements are taken in order, and the first that has a fault refuses the deck with its line. Per
+/// statement S1 comes first, then S7, S3, S5, S4 and S8; M1 comes without memory.
+pub fn from_statements(alloc: Global, statements: &[Statement]) -> Result<Vec<Record>, Fault>
+    ensures records { Gives (λ v. v.items) result (deck.deck_records statements.now) }
+    ensures apart { IfOk result (λ v. HasNoKeyTwice v.items) }
+{
+    let images = machine_images(alloc, statements)?;
+    let progress = read_all(alloc, &images, statements)?;
+    Ok(progress.into_records())
+}
