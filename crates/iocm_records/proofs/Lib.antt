@@ -8,3 +8,4 @@ pub mod Machine
 pub mod Naming
 pub mod Opening
 pub mod Places
+pub mod Rows

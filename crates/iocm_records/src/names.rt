@@ -1,17 +1,63 @@
-ghost use Rattle.std.specs.Prelude.{◌≡◌, ◌-◌, ◌++◌, length, map, slice_get};
-ghost use Rattle.std.specs.Option.{option_copied};
-ghost use Rattle.iocm_types.specs.declared.named.Named.TheVariants as named;
+ghost use Rattle.std.specs.Prelude.{◌≡◌, [], ◌++◌, map, slice_get, unwrap_or};
+ghost use Rattle.iocm_model.specs.Naming as names;
 
-use iocm_types::{CssPath, Key, Name, Named, UnitNo};
+use iocm_types::{CssPath, Key, List, Name, Named, UnitNo};
+use std::alloc::Allocator;
 
-// The image at a place of one list, and then of another.
-#[tactic(auto, using(crate::proofs::Places::names_in_row))]
-fn image_at(first: &[Name], second: &[Name], place: usize) -> Option<Named>
-    ensures { result ≡ slice_get (map named.Image first.now ++ map named.Image second.now) place }
+// The images of these names, as what a record names.
+fn image_at(list: &[Name], place: usize) -> Option<Named>
+    ensures { result ≡ slice_get (map names.image_named list.now) place }
 {
-    if place < first.len() {
-        Some(Named::Image(first[place]))
-    } else {
-        only_image_at(second, place - first.len())
+    let name = list.get(place)?;
+    Some(Named::Image(*name))
+}
+
+/// What a path names: the images of its access list, then those of its candidate list.
+#[tactic(auto, using(crate::proofs::Rows::rows))]
+pub fn path_names(access: &[Name], candidates: &[Name], place: usize) -> Option<Named>
+    ensures { result ≡ slice_get (map names.image_named access.now ++ map names.image_named candidates.now) place }
+{
+    if place < access.len() {
+        return image_at(access, place);
     }
+    image_at(candidates, place - access.len())
+}
+
+/// What a unit names: its paths.
+pub fn unit_names(paths: &[CssPath], place: usize) -> Option<Named>
+    ensures { result ≡ slice_get (map names.path_named paths.now) place }
+{
+    let path = paths.get(place)?;
+    Some(Named::Record(Key::Path(path.css, path.path)))
+}
+
+fn unit_at(units: &[UnitNo], place: usize) -> Option<Named>
+    ensures { result ≡ slice_get (map names.unit_named units.now) place }
+{
+    let unit = units.get(place)?;
+    Some(Named::Record(Key::Unit(*unit)))
+}
+
+fn candidate_at<A: Allocator>(candidates: &Option<List<Name, A>>, place: usize) -> Option<Named>
+    ensures { result ≡ slice_get (map names.image_named (unwrap_or candidates.now [])) place }
+{
+    match candidates {
+        Some(list) => image_at(list.as_slice(), place),
+        None => None,
+    }
+}
+
+/// What a device names: its units, then the images of its candidates.
+#[tactic(auto, using(crate::proofs::Rows::rows))]
+pub fn device_names<A: Allocator>(
+    units: &[UnitNo],
+    candidates: &Option<List<Name, A>>,
+    place: usize,
+) -> Option<Named>
+    ensures { result ≡ slice_get (map names.unit_named units.now ++ map names.image_named (unwrap_or candidates.now [])) place }
+{
+    if place < units.len() {
+        return unit_at(units, place);
+    }
+    candidate_at(candidates, place - units.len())
 }

@@ -1,10 +1,12 @@
-ghost use Rattle.std.specs.Prelude.{◌≡◌, IfOk};
+ghost use Rattle.std.specs.Prelude.{◌≡◌, slice_get, IfOk};
 
 use crate::Carried;
 use crate::carried::copy_carried;
 use crate::copies::{copy_device, copy_path, copy_unit};
+use crate::names::{device_names, path_names, unit_names};
 use iocm_types::{
-    Chpid, Css, CssLink, CssPath, DevNo, Key, List, Mif, Name, PathKind, SetNo, UnitNo, UnitRange,
+    Chpid, Css, CssLink, CssPath, DevNo, Key, List, Mif, Name, Named, PathKind, SetNo, UnitNo,
+    UnitRange,
 };
 use std::alloc::{AllocError, Allocator, Global};
 use std::marker::Model;
@@ -81,6 +83,7 @@ impl<A: Allocator> Model for Record<A> {
 
 impl<A: Allocator> Record<A> {
     ghost use Rattle.iocm_model.specs.Record.{key_of};
+    ghost use Rattle.iocm_model.specs.Naming.{named_by};
     ghost use Rattle.iocm_records.specs.Meaning.{record_of};
 
     pub fn new(body: RecordBody<A>) -> Self
@@ -114,6 +117,33 @@ impl<A: Allocator> Record<A> {
             RecordBody::Unit(unit) => Key::Unit(unit.number),
             RecordBody::Device(device) => Key::Device(device.set, device.number),
             RecordBody::Online(css, path, name) => Key::Online(*css, *path, *name),
+        }
+    }
+
+    /// The thing at a place, counted from 0, of all that the record names: a device its units and the
+    /// images of its candidates, a unit its paths, a path the images of its access and its candidate
+    /// list, an online record its path and its image. Nothing past the end.
+    pub fn names(&self, place: usize) -> Option<Named>
+        ensures { result ≡ slice_get (named_by self.now) place }
+    {
+        match &self.body {
+            RecordBody::Path(path) => path_names(
+                path.access.as_slice(),
+                path.candidates.as_slice(),
+                place,
+            ),
+            RecordBody::Unit(unit) => unit_names(unit.paths.as_slice(), place),
+            RecordBody::Device(device) => device_names(
+                device.units.as_slice(),
+                &device.candidates,
+                place,
+            ),
+            RecordBody::Online(css, path, name) => match place {
+                0 => Some(Named::Record(Key::Path(*css, *path))),
+                1 => Some(Named::Image(*name)),
+                _ => None,
+            },
+            _ => None,
         }
     }
 
