@@ -1,5 +1,5 @@
 -- The lines of a list are those of its parts, one after the other.
-use Rattle.std.proofs.Common.{◌≡◌, ℕ, ◌==◌, ◌+◌, ◌<◌, List, [], ◌∷◌, ◌++◌, length, take, map, filter, get_or, Bool, true, false, Option, Some, None, arith, refl, ◌∙◌, sym, ap}
+use Rattle.std.proofs.Common.{◌≡◌, ℕ, ◌==◌, ◌+◌, ◌<◌, List, [], ◌∷◌, ◌++◌, length, take, map, filter, get_or, Bool, true, false, Some, None, arith, refl, ◌∙◌, sym, ap}
 use Rattle.std.specs.List.{flat_map, filter_map}
 use Rattle.std.proofs.lemmas.List.{take_more, map-append, append-nil, append_assoc}
 use Rattle.std.proofs.lemmas.List.Elements.{filter-append, filter_map-append}
@@ -15,7 +15,7 @@ use Rattle.iocm_model.specs.Record.{Rec, ImageRecord, image}
 use Rattle.std.specs.FinMap.{entries}
 use Rattle.iocm_types.specs.declared.key.Key.{Key}
 use Rattle.iocm_types.specs.declared.sub_id.SubId.{SubId}
-use Rattle.iocm_model.specs.Configuration.{Configuration, Lookup, lookup_of, keyed, image_of, images_of, records_of}
+use Rattle.iocm_model.specs.Configuration.{Configuration, Lookup, lookup_of, keyed, image_of, records_of}
 use Rattle.iocm_model.specs.Numbering.{Numbering, cells_of}
 use Rattle.iocm_model.specs.Table.{line_of, heading, table_of}
 use Rattle.iocm_model.specs.View.{row_at, image_view}

@@ -2,3 +2,4 @@ pub mod Lines
 pub mod Output
 pub mod Refusal
 pub mod Status
+pub mod Show

@@ -6,6 +6,7 @@ mod error;
 mod output;
 mod refusal;
 mod row;
+mod show;
 mod status;
 mod table;
 
@@ -13,5 +14,6 @@ pub use error::ConsoleError;
 pub use output::Output;
 pub use refusal::Refusal;
 pub use row::{Row, write_heading, write_row};
+pub use show::show_deck;
 pub use status::Status;
 pub use table::write_table;

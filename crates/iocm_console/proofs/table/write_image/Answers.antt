@@ -1,4 +1,4 @@
-use Rattle.std.proofs.Common.{rules, refl, ◌∙◌}
+use Rattle.std.proofs.Common.{refl, ◌∙◌}
 use Rattle.iocm_console.proofs.Printing.{appends_as, appends_nothing, appends_then}
 use Rattle.iocm_console.proofs.Rows.{image_lines_more, image_lines-nil}
 use Rattle.iocm_console.proofs.table.write_image.Goals as goal

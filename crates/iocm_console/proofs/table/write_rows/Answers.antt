@@ -1,4 +1,4 @@
-use Rattle.std.proofs.Common.{rules, refl, ◌∙◌}
+use Rattle.std.proofs.Common.{refl, ◌∙◌}
 use Rattle.iocm_console.proofs.Printing.{appends_as, appends_nothing, appends_then}
 use Rattle.iocm_console.proofs.Rows.{record_lines_more, record_lines-nil}
 use Rattle.iocm_console.proofs.table.write_rows.Goals as goal

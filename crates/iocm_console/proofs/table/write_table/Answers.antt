@@ -1,4 +1,3 @@
-use Rattle.std.proofs.Common.{rules}
 use Rattle.std.proofs.lemmas.Result.{on_ok_weaker}
 use Rattle.iocm_console.proofs.Printing.{appends_as, appends_then}
 use Rattle.iocm_console.proofs.Rows.{table_lines}
