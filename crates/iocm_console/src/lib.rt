@@ -14,6 +14,6 @@ pub use error::ConsoleError;
 pub use output::Output;
 pub use refusal::Refusal;
 pub use row::{Row, write_heading, write_row};
-pub use show::show_deck;
+pub use show::{refuse, show_deck};
 pub use status::Status;
 pub use table::write_table;

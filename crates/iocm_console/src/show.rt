@@ -70,8 +70,8 @@ fn answer_unread<W: Write>(fault: Fault, output: &mut Output<W>) -> Result<Statu
     refuse(fault, output)
 }
 
-/// Prints a refusal.
-fn refuse<W: Write>(fault: Fault, output: &mut Output<W>) -> Result<Status, ConsoleError>
+/// Prints a refusal. Takes no memory.
+pub fn refuse<W: Write>(fault: Fault, output: &mut Output<W>) -> Result<Status, ConsoleError>
     ensures text { IfOk result (Says W.contents output.old output.new (refused fault)) }
     ensures works { OnOk result (has_failed output.new ≡ has_failed output.old) }
     ensures fault { IfErr result (FailedToWrite output.new) }
