@@ -1,3 +1,7 @@
+ghost use Rattle.std.specs.Prelude.{◌≡◌, [], Some, IfOk, IfErr, map};
+ghost use Rattle.clap.specs.Words.{HasKind, app_of};
+ghost use Rattle.iocm.specs.CommandLine.{iocm_app, stated, words_of, mistakes, mistakes_or_missing};
+
 use clap::error::ErrorKind;
 use clap::{Arg, Error};
 use std::alloc::{AllocError, Global};
@@ -11,7 +15,9 @@ pub enum Command<'a> {
 }
 
 /// The command lines that `iocm` understands.
-fn iocm<'a>(alloc: Global) -> Result<clap::Command<'a>, AllocError> {
+fn iocm<'a>(alloc: Global) -> Result<clap::Command<'a>, AllocError>
+    ensures { IfOk result (λ c. app_of c ≡ iocm_app) }
+{
     let deck = Arg::new(alloc, "DECK")
         .required(true)
         .help("A configuration deck: the file of its input statements");
@@ -30,7 +36,11 @@ fn iocm<'a>(alloc: Global) -> Result<clap::Command<'a>, AllocError> {
 /// The command of the words of a command line, of which the first is the program's name.
 ///
 /// Help and every mistake in the words are `clap`'s errors; want of memory is one of the kind `OutOfMemory`.
-pub fn command_of<'a, S: AsStr>(alloc: Global, words: &'a [S]) -> Result<Command<'a>, Error> {
+pub fn command_of<'a, S: AsStr>(alloc: Global, words: &'a [S]) -> Result<Command<'a>, Error>
+    ensures command { IfOk result (λ c. stated (map S.text words.entry.now) ≡ Some (words_of c)) }
+    ensures accepted { IfOk result (λ _. mistakes (map S.text words.entry.now) ≡ []) }
+    ensures mistaken { IfErr result (HasKind (mistakes_or_missing (map S.text words.entry.now))) }
+{
     let mut iocm = iocm(alloc)?;
     let matches = iocm.try_get_matches_from_mut(words)?;
     if let Some(show) = matches.subcommand_matches("show") {
