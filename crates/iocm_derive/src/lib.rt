@@ -12,6 +12,8 @@ mod lookup;
 mod masks;
 mod paths;
 mod sight;
+#[cfg(test)]
+mod tests;
 mod view;
 
 pub use first_numbers::opening;
