@@ -1,7 +1,7 @@
 use Rattle.std.proofs.Common.{refl, ◌∙◌}
 use Rattle.iocm_console.proofs.Printing.{appends_as, appends_nothing, appends_then}
 use Rattle.iocm_console.proofs.Rows.{image_lines_more, image_lines-nil}
-use Rattle.iocm_console.proofs.table.write_image.Goals as goal
+use Rattle.iocm_console.proofs.table.write_cells.Goals as goal
 
 pub loop-place-init : goal.loop-place-init
 loop-place-init g c = (appends_as _ _ _ _ (appends_nothing _) (image_lines-nil _ _), refl)
