@@ -22,14 +22,22 @@ impl Model for Css {
 }
 
 impl Css {
+    /// Channel subsystem 0, where items stand that name none.
+    pub const FIRST: Css = Css { number: 0 };
+
     /// The channel subsystem of this number, if there is one.
     pub fn new(number: u8) -> Option<Self>
         ensures valid { IsSome result ↔ (number < 6) }
         ensures value { IfSome result (λ v. v ≡ number) }
     {
-        if number < 6 { Some(Css { number }) } else { None }
+        if number < 6 {
+            Some(Css { number })
+        } else {
+            None
+        }
     }
 
+    /// The number, 0 to 5.
     pub fn number(self) -> u8
         ensures value { result ≡ self }
         ensures range { result < 6 }

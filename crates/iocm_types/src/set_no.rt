@@ -22,14 +22,22 @@ impl Model for SetNo {
 }
 
 impl SetNo {
+    /// Subchannel set 0, where devices stand that name none.
+    pub const FIRST: SetNo = SetNo { number: 0 };
+
     /// The subchannel set of this number, if there is one.
     pub fn new(number: u8) -> Option<Self>
         ensures valid { IsSome result ↔ (number < 4) }
         ensures value { IfSome result (λ v. v ≡ number) }
     {
-        if number < 4 { Some(SetNo { number }) } else { None }
+        if number < 4 {
+            Some(SetNo { number })
+        } else {
+            None
+        }
     }
 
+    /// The number, 0 to 3.
     pub fn number(self) -> u8
         ensures value { result ≡ self }
         ensures range { result < 4 }
