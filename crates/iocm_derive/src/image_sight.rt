@@ -61,6 +61,13 @@ impl<'a, A: Allocator> ImageSight<'a, A> {
         }
     }
 
+    /// The image whose views these are.
+    pub fn image(&self) -> Image
+        ensures { result ≡ record { css = self.now.image.css; mif = self.now.image.mif } }
+    {
+        self.image
+    }
+
     /// What the image sees of the device of a number in a set, if it is there and seen.
     pub fn view(&self, set: SetNo, device: DevNo) -> Option<View>
         ensures { result ≡ model.image_view (lookup_of self.now.records) self.now.image set device }
