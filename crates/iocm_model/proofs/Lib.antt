@@ -1,2 +1,4 @@
+pub mod FirstNumbers
 pub mod Listed
+pub mod Parts
 pub mod Worked

@@ -9,5 +9,7 @@
 #![tactic(auto)]
 
 mod examples;
+mod laws;
 
 pub use examples::{numbers_are_as_worked, views_are_as_worked};
+pub use laws::opening_is_a_numbering;
