@@ -73,3 +73,145 @@ impl Write for Sheet<'_> {
         }
     }
 }
+
+/// What `show_deck` answers of the base deck, read 100 bytes at a time, the read behind `good` failing.
+fn show_base(alloc: Global, good: u64, limit: u64, sheet: Sheet) -> Result<Status, ConsoleError> {
+    let mut device = Device::new(Halting {
+        bytes: BASE,
+        step: 100,
+        good,
+    });
+    let mut output = Output::new(sheet);
+    show_deck(alloc, &mut device, limit, &mut output)
+}
+
+/// What `show_deck` prints of a deck, and how it ends; a device's fault is shown by its text.
+fn printed(alloc: Global, deck: &[u8]) -> Result<Vec<u8>, AllocError> {
+    let mut bytes = Vec::with_capacity(alloc, 1024)?;
+    let mut device = Device::new(deck);
+    let mut output = Output::new(Sheet {
+        bytes: &mut bytes,
+        room: 1024,
+        is_flushed: true,
+    });
+    let ended = show_deck(alloc, &mut device, 10, &mut output);
+    let end = match ended {
+        Ok(status) => format!(in alloc; "{}", status.code())?,
+        Err(fault) => format!(in alloc; "{fault}")?,
+    };
+    bytes.extend_from_slice(end.as_bytes())?;
+    Ok(bytes)
+}
+
+#[test]
+fn a_deck_gives_its_table_and_done(rt: HostRuntime) -> Result<(), Fail> {
+    let mut bytes = Vec::with_capacity(rt.alloc(), 1024)?;
+    let sheet = Sheet {
+        bytes: &mut bytes,
+        room: 1024,
+        is_flushed: true,
+    };
+    let ended = show_base(rt.alloc(), 100, 100, sheet);
+    assert!(rt; matches!(ended, Ok(Status::Done)));
+    assert_eq!(rt; bytes.as_slice(), BASE_TABLE);
+    Ok(())
+}
+
+#[test]
+fn a_refusal_is_one_line_and_refused(rt: HostRuntime) -> Result<(), Fail> {
+    let twice = b"         CHPID PATH=50\n         CHPID PATH=50\n";
+    assert_eq!(rt;
+        printed(rt.alloc(), twice)?.as_slice(),
+        b"refused S8 line 2\n1".as_slice()
+    );
+    let tab = b"*\n*\n\t\n";
+    assert_eq!(rt;
+        printed(rt.alloc(), tab)?.as_slice(),
+        b"refused L1 line 3\n1".as_slice()
+    );
+    let empty = b"";
+    assert_eq!(rt;
+        printed(rt.alloc(), empty)?.as_slice(),
+        b"CSS IM SET SUBC DEVN PIM PAM CHPIDS\n0".as_slice()
+    );
+    Ok(())
+}
+
+#[test]
+fn a_read_that_fails_leaves_nothing_written(rt: HostRuntime) -> Result<(), Fail> {
+    // The deck has 339 bytes: four reads give them, and the fifth the end.
+    for (good, limit) in [(0, 100), (2, 100), (4, 100), (100, 0), (100, 4)] {
+        let mut bytes = Vec::with_capacity(rt.alloc(), 1024)?;
+        let sheet = Sheet {
+            bytes: &mut bytes,
+            room: 1024,
+            is_flushed: true,
+        };
+        let ended = show_base(rt.alloc(), good, limit, sheet);
+        assert!(rt; matches!(ended, Err(ConsoleError::Read)), "{good} {limit}");
+        assert!(rt; bytes.is_empty(), "{good} {limit}");
+    }
+    Ok(())
+}
+
+#[test]
+fn a_write_that_fails_is_a_fault(rt: HostRuntime) -> Result<(), Fail> {
+    for room in [0, 20, 36, 37, 100, BASE_TABLE.len() - 1] {
+        let mut bytes = Vec::with_capacity(rt.alloc(), 1024)?;
+        let sheet = Sheet {
+            bytes: &mut bytes,
+            room,
+            is_flushed: true,
+        };
+        let ended = show_base(rt.alloc(), 100, 100, sheet);
+        assert!(rt; matches!(ended, Err(ConsoleError::Write)), "{room}");
+        assert!(rt; BASE_TABLE.starts_with(bytes.as_slice()), "{room}");
+    }
+    Ok(())
+}
+
+#[test]
+fn a_flush_that_fails_is_a_fault(rt: HostRuntime) -> Result<(), Fail> {
+    let mut bytes = Vec::with_capacity(rt.alloc(), 1024)?;
+    let sheet = Sheet {
+        bytes: &mut bytes,
+        room: 1024,
+        is_flushed: false,
+    };
+    let ended = show_base(rt.alloc(), 100, 100, sheet);
+    assert!(rt; matches!(ended, Err(ConsoleError::Write)));
+    Ok(())
+}
+
+#[test]
+fn a_writer_that_keeps_the_table_to_itself_is_flushed(rt: HostRuntime) -> Result<(), Fail> {
+    let mut bytes = Vec::with_capacity(rt.alloc(), 1024)?;
+    let sheet = Sheet {
+        bytes: &mut bytes,
+        room: 100,
+        is_flushed: true,
+    };
+    let mut device = Device::new(BASE);
+    let mut output = Output::new(BufWriter::new(rt.alloc(), sheet)?);
+    let ended = show_deck(rt.alloc(), &mut device, 10, &mut output);
+    assert!(rt; matches!(ended, Err(ConsoleError::Write)));
+    assert!(rt; output.has_failed());
+    Ok(())
+}
+
+#[test]
+fn want_of_memory_is_refused_alone(rt: HostRuntime) -> Result<(), Fail> {
+    let Ok(mut bytes) = Vec::with_capacity(rt.alloc(), 1024) else {
+        return Ok(());
+    };
+    let sheet = Sheet {
+        bytes: &mut bytes,
+        room: 1024,
+        is_flushed: true,
+    };
+    let ended = show_base(rt.alloc(), 100, 100, sheet);
+    let is_shown = matches!(ended, Ok(Status::Done)) && bytes.as_slice() == BASE_TABLE;
+    let is_refused = matches!(ended, Ok(Status::Refused)) && bytes.as_slice() == WANT_OF_MEMORY;
+    assert!(rt; is_shown || is_refused);
+    Ok(())
+}
