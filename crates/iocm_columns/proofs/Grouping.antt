@@ -1,6 +1,5 @@
 -- The records of one statement, one by one.
-use Rattle.std.proofs.Common.{◌≡◌, ℕ, ◌+◌, ◌<◌, ◌≤◌, Bool, true, false, cond, List, [], ◌∷◌, ◌++◌, length, get_or, take, drop, refl, sym, ap, ◌∙◌, arith}
-use Rattle.std.specs.List.{flat_map}
+use Rattle.std.proofs.Common.{◌≡◌, ℕ, ◌+◌, ◌<◌, ◌≤◌, true, false, List, [], ◌∷◌, ◌++◌, length, get_or, take, drop, refl, sym, ap, arith}
 use Rattle.std.proofs.lemmas.List.{take_more, drop_more, append_assoc, take_all}
 use Rattle.std.proofs.Math.ListN.{drop_of_length-le}
 use Rattle.iocm_columns.specs.declared.record.Record.{Record}
@@ -49,18 +48,3 @@ groups_of_none [] none = refl
 groups_of_none (r ∷ rs) none = absurd (omega arith)
 
 pub ruleset grouping = (group_alone, group_begins, group_goes_on, group_ends, group_is_last, groups_of_none)
-
-group_opened : (r : Record) (gs : List (List Record)) → flat_map (λ group. group) (onto_group (r ∷ []) gs) ≡ r ∷ flat_map (λ group. group) gs
-group_opened r [] = refl
-group_opened r (g ∷ gs) = refl
-
-grouped_at : (r : Record) (rs : List Record) → flat_map (λ group. group) (groups rs) ≡ rs → (e : Bool)
-    → flat_map (λ group. group) (cond e (onto_group (r ∷ []) (groups rs)) ((r ∷ []) ∷ groups rs)) ≡ r ∷ rs
-grouped_at r rs same true = group_opened r (groups rs) ∙ ap (λ l. r ∷ l) same
-grouped_at r rs same false = ap (λ l. r ∷ l) same
-
--- the records of all statements, one after the other
-pub groups_joined : (rs : List Record) → flat_map (λ group. group) (groups rs) ≡ rs
-unfolding groups
-groups_joined [] = refl
-groups_joined (r ∷ rs) = grouped_at r rs (groups_joined rs) (is_continued r.columns)

@@ -8,3 +8,4 @@ pub mod Refusing
 pub mod Walking
 pub mod Scanning
 pub mod Slicing
+pub mod Relating

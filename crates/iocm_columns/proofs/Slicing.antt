@@ -1,12 +1,12 @@
 -- The columns that a part takes are the slices of the relation, and no others are.
-use Rattle.std.proofs.Common.{◌≡◌, ◌⊎◌, inl, inr, ℕ, Bool, true, false, not, ◌&&◌, eqb, cond, IsTrue, List, [], ◌∷◌, ◌++◌, length, refl, sym, ap, subst, ◌∙◌, append_assoc, append-nil}
-use Rattle.std.specs.List.{fold, concat, flat_map}
+use Rattle.std.proofs.Common.{◌≡◌, ◌⊎◌, inl, inr, ℕ, Bool, true, false, not, ◌&&◌, eqb, cond, IsTrue, List, [], ◌∷◌, ◌++◌, refl, sym, ap, subst, ◌∙◌, append_assoc, append-nil}
+use Rattle.std.specs.List.{fold, concat}
 use Rattle.std.proofs.lemmas.List.Sums.{fold-append}
 use Rattle.std.proofs.lemmas.Bool.{eqb-true, eq-eqb, and_parts, not-true, both_ways}
 use Rattle.iocm_columns.specs.declared.going.Going.{Going}
 use Rattle.iocm_columns.specs.declared.going.Going.TheVariants.{Exactly, AtNext, Ended}
 use Rattle.iocm_columns.specs.declared.record.Record.{Record}
-use Rattle.iocm_columns.specs.Columns.{is_blank, after_blanks, behind_operation, continuation_area}
+use Rattle.iocm_columns.specs.Columns.{after_blanks, behind_operation, continuation_area}
 use Rattle.iocm_columns.specs.Part.{switched, is_quoting, ends, front, Part, part_with}
 use Rattle.iocm_columns.specs.Statements.{with_continuation, statement_of}
 use Rattle.iocm_columns.specs.Slices.{IsFront, AreSlices, AreSlicesOf, going_behind}

@@ -1,5 +1,5 @@
 -- The first breach of a deck is that of its first record, or that of the records behind it.
-use Rattle.std.proofs.Common.{◌≡◌, Option, None, Some, List, [], ◌∷◌, length, refl, arith}
+use Rattle.std.proofs.Common.{◌≡◌, None, Some, List, [], ◌∷◌, length, refl, arith}
 use Rattle.iocm_types.specs.declared.fault.Fault.{Fault}
 use Rattle.iocm_columns.specs.declared.record.Record.{Record}
 use Rattle.iocm_columns.specs.Records.{breach, first_breach}

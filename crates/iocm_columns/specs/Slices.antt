@@ -1,9 +1,11 @@
--- A statement's text as slices of its records' columns.
-use Rattle.std.specs.Prelude.{◌≡◌, ◌⊎◌, ⊤, ℕ, ◌==◌, Bool, false, IsTrue, List, [], ◌∷◌, ◌++◌, length}
+-- What the statements of a deck are, as a relation to all of its records: their texts are slices of the records' columns.
+use Rattle.std.specs.Prelude.{◌≡◌, ◌⊎◌, ⊤, ℕ, ◌==◌, true, false, IsTrue, List, [], ◌∷◌, ◌++◌, length}
+use Rattle.std.specs.List.{concat}
 use Rattle.iocm_columns.specs.declared.going.Going.{Going}
 use Rattle.iocm_columns.specs.declared.going.Going.TheVariants.{Exactly, AtNext, Ended}
+use Rattle.iocm_columns.specs.declared.joined.Joined.{Joined}
 use Rattle.iocm_columns.specs.declared.record.Record.{Record}
-use Rattle.iocm_columns.specs.Columns.{after_blanks, behind_operation, continuation_area}
+use Rattle.iocm_columns.specs.Columns.{after_blanks, behind_operation, continuation_area, has_margin, is_continued, name_of, operation_of}
 use Rattle.iocm_columns.specs.Part.{is_quoting, going_of}
 
 -- a slice at the front of some columns, behind a text: each blank in it is inside quotes, and it stops
@@ -38,3 +40,24 @@ AreSlicesOf r rs [] = ⊥
 AreSlicesOf r rs (s ∷ ss) =
     let columns = behind_operation r.columns in
     IsFront [] columns s × AreSlices s (going_behind [] columns s) rs ss
+
+-- a record with exactly its continuations behind it: each but the last one is continued, by one with blank columns 1 to 15
+abbrev pub IsContinuedBy : Record → List Record → Type 0
+IsContinuedBy r [] = is_continued r.columns ≡ false
+IsContinuedBy r (c ∷ cs) = (is_continued r.columns ≡ true) × (has_margin c.columns ≡ true) × IsContinuedBy c cs
+
+-- a statement of a record and its continuations: name and operation stand in the record, the text is slices of all of them
+pub record IsStatementOf (r : Record) (rs : List Record) (joined : Joined) : Type 0 where
+  pub line : joined.line ≡ r.line
+  pub name : joined.name ≡ name_of r.columns
+  pub operation : joined.operation ≡ operation_of r.columns
+  pub slices : List (List ℕ)
+  pub in_columns : AreSlicesOf r rs slices
+  pub text : joined.text ≡ concat slices
+
+-- the statements of some records, which stand one after the other in all of them
+abbrev pub AreStatementsOf : List Record → List Joined → Type 0
+AreStatementsOf rs [] = rs ≡ []
+AreStatementsOf rs (joined ∷ others) =
+    (first : Record) × (more : List Record) × (rest : List Record) × (rs ≡ first ∷ (more ++ rest)) × IsContinuedBy first more
+    × IsStatementOf first more joined × AreStatementsOf rest others

@@ -17,18 +17,15 @@ const UNREADABLE: Fault = Fault {
 };
 
 /// A reader with a count of its reads, and a note of whether a read failed and whether one gave the end.
+///
+/// Contracts see these by `reader_of`, `reads_of`, `has_failed` and `has_ended`. The notes are what tells a
+/// fault of the device (L5) from a fault of its bytes. The form is own.
 #[derive(Drop)]
 pub struct Device<R> {
     reader: R,
     reads: u64,
     failed: bool,
     ended: bool,
-}
-
-fn make_buffer(alloc: Global, len: usize) -> Result<Vec<u8>, AllocError>
-    ensures { IfOk result (λ buffer. vec_len buffer ≡ len) }
-{
-    Ok(vec![in alloc; 0; len]?)
 }
 
 impl<R> Device<R> {
@@ -68,9 +65,11 @@ impl<R: Read> Device<R> {
         requires open { IsOpen self.old }
         requires room { reads_of self.old + limit < 2 ^ 64 }
         ensures reads { reads_of self.new ≤ reads_of self.old + limit }
-        ensures bytes { IfOk result (λ v. IfSome (R.remaining (reader_of self.old)) (λ bytes. v.items ≡ bytes)) }
+        ensures bytes { IfOk result
+            (λ v. IfSome (R.remaining (reader_of self.old)) (λ bytes. v.items ≡ bytes)) }
         ensures whole { OnOk result (IsWhole self.new) }
-        ensures fault { IfErr result (λ e. (e ≡ memory) ⊎ ((e ≡ unreadable) × StopsShort self.new (reads_of self.old + limit))) }
+        ensures fault { IfErr result (λ e. (e ≡ memory)
+            ⊎ ((e ≡ unreadable) × StopsShort self.new (reads_of self.old + limit))) }
     {
         let mut buffer = make_buffer(alloc, BUFFER_LEN)?;
         let mut bytes = Vec::new(alloc);
@@ -90,7 +89,8 @@ impl<R: Read> Device<R> {
         requires room { 0 < length buffer.old }
         ensures within { IfOk result (λ n. n ≤ length buffer.new) }
         ensures reads { reads_of self.new ≡ reads_of self.old + 1 }
-        ensures bytes { IfOk result (λ n. Consumes (R.remaining (reader_of self.old)) (R.remaining (reader_of self.new)) (take n buffer.new)) }
+        ensures bytes { IfOk result (λ n. Consumes (R.remaining (reader_of self.old))
+            (R.remaining (reader_of self.new)) (take n buffer.new)) }
         ensures ended { IfOk result (λ n. has_ended self.new ≡ (n == 0)) }
         ensures end { result ≡ Ok 0 → IsAtEnd (R.remaining (reader_of self.new)) }
         ensures works { OnOk result (has_failed self.new ≡ has_failed self.old) }
@@ -108,4 +108,11 @@ impl<R: Read> Device<R> {
             }
         }
     }
+}
+
+/// A buffer of `len` bytes.
+fn make_buffer(alloc: Global, len: usize) -> Result<Vec<u8>, AllocError>
+    ensures { IfOk result (λ buffer. vec_len buffer ≡ len) }
+{
+    Ok(vec![in alloc; 0; len]?)
 }

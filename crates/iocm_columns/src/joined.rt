@@ -4,8 +4,12 @@ use iocm_types::Text;
 /// operation and the operand part, without remarks.
 #[derive(Debug, Drop)]
 pub struct Joined {
+    /// The number of the first record's line.
     pub line: usize,
+    /// The name field, from column 1 to the first blank; empty if column 1 is blank.
     pub name: Text,
+    /// The word behind the name; empty if there is none.
     pub operation: Text,
+    /// The operand part, of all records.
     pub text: Text,
 }

@@ -1,24 +1,22 @@
 //! What holds of the definitions themselves. Each law is the contract of a function that does nothing.
-ghost use Rattle.std.specs.Prelude.{◌≡◌, ℕ, List, [], ◌∷◌};
+ghost use Rattle.std.specs.Prelude.{◌≡◌, List, [], ◌∷◌};
 ghost use Rattle.iocm_types.specs.declared.rule.Rule.TheVariants.{L1, L3, L4};
 ghost use Rattle.iocm_types.specs.Fault.{at};
-ghost use Rattle.std.specs.List.{concat, flat_map};
-ghost use Rattle.iocm_columns.specs.declared.record.Record.{Record};
-
+ghost use Rattle.iocm_columns.specs.declared.card.Card.{Card};
+ghost use Rattle.iocm_columns.specs.declared.joined.Joined.{Joined};
 ghost use Rattle.iocm_columns.specs.Examples.{deck_with_tab, deck_without_end, deck_without_margin, device_deck, device_statement};
-ghost use Rattle.iocm_columns.specs.Slices.{AreSlicesOf};
-ghost use Rattle.iocm_columns.specs.Statements.{groups, joined_of, statement_of};
+ghost use Rattle.iocm_columns.specs.Records.{records_of};
+ghost use Rattle.iocm_columns.specs.Slices.{AreStatementsOf};
+ghost use Rattle.iocm_columns.specs.Statements.{joined_of, statements_of};
 
-/// The text of a statement is the concatenation of one slice for each of its records, and no other
-/// slices have that relation to the records.
-pub fn text_is_slices()
-    ensures found { (r : Record) (rs : List Record) → (slices : List (List ℕ)) × AreSlicesOf r rs slices × ((statement_of (r ∷ rs)).text ≡ concat slices) }
-    ensures only { (r : Record) (rs : List Record) (slices : List (List ℕ)) → AreSlicesOf r rs slices → (statement_of (r ∷ rs)).text ≡ concat slices }
-{}
-
-/// The records of all statements, one after the other, are the records of the deck.
-pub fn groups_are_records()
-    ensures { (rs : List Record) → flat_map (λ group. group) (groups rs) ≡ rs }
+/// The statements of a deck stand one after the other in all of its records, name and operation in the
+/// first record of each, and the text is the concatenation of one slice of the columns of each record;
+/// no other statements have this relation to the records.
+pub fn statements_are_slices()
+    ensures found { (cards : List Card) (joined : List Joined)
+        → statements_of cards ≡ Ok joined → AreStatementsOf (records_of cards) joined }
+    ensures only { (cards : List Card) (joined : List Joined)
+        → AreStatementsOf (records_of cards) joined → statements_of cards ≡ Ok joined }
 {}
 
 /// Worked examples of decks and what they give.
@@ -27,5 +25,4 @@ pub fn decks_are_joined()
     ensures margin { joined_of deck_without_margin ≡ Err (at L3 3) }
     ensures end { joined_of deck_without_end ≡ Err (at L4 2) }
     ensures tab { joined_of deck_with_tab ≡ Err (at L1 2) }
-{
-}
+{}

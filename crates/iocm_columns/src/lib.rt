@@ -28,6 +28,6 @@ mod words;
 pub use card::Card;
 pub use device::Device;
 pub use joined::Joined;
-pub use laws::{decks_are_joined, groups_are_records, text_is_slices};
+pub use laws::{decks_are_joined, statements_are_slices};
 pub use reading::read_cards;
 pub use statement::join;

@@ -27,7 +27,8 @@ pub(crate) fn cards(alloc: Global, text: &[u8]) -> Result<Vec<Card>, Fault>
 /// The first line of `text` without its line end, and what follows it; none where no line is left.
 #[tactic(auto, using(crate::proofs::Cutting::first_lines))]
 fn next_line(text: &[u8]) -> Option<(&[u8], &[u8])>
-    ensures lines { MatchOption result (lines text.now ≡ []) (λ p. lines text.now ≡ p.0.now ∷ lines p.1.now) }
+    ensures lines { MatchOption result (lines text.now ≡ [])
+        (λ p. lines text.now ≡ p.0.now ∷ lines p.1.now) }
     ensures shorter { IfSome result (λ p. length p.1.now < length text.now) }
 {
     if text.is_empty() {

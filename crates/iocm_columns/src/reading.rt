@@ -10,9 +10,13 @@ use std::io::Read;
 
 /// The lines of a deck, read from `device` to its end by at most `limit` further reads.
 ///
-/// The read that gives the end is one of them. All bytes are read first (L5: a read failed, or none
-/// of `limit` reads gave the end); then the lines are checked in order, each for L1 before L2. The
-/// forms of lines are those of the IOCP User's Guide, coding IOCP macroinstructions; the limits are own.
+/// All bytes are read first. L5: a read failed, or none of `limit` reads gave the end; the read that gives
+/// the end is one of them. Then the lines are checked in order, comments and blank lines and columns 73
+/// to 80 too, each for L1 (a byte that is not printable ASCII) before L2 (more than 80 bytes). A line
+/// ends at LF or where the bytes end, and none follows a last LF. One CR directly before an LF belongs
+/// to the line end and isn't counted; any other CR is L1.
+///
+/// Source: a card of 80 columns, as in the IOCP User's Guide, coding macroinstructions; the rest is own.
 #[tactic(auto, using(crate::proofs::Refusing::never_unreadable))]
 pub fn read_cards<R: Read>(
     alloc: Global,
@@ -22,9 +26,12 @@ pub fn read_cards<R: Read>(
     requires open { IsOpen device.old }
     requires room { reads_of device.old + limit < 2 ^ 64 }
     ensures reads { reads_of device.new ≤ reads_of device.old + limit }
-    ensures known_bytes { IfSome (R.remaining (reader_of device.old)) (λ bytes. GivesIfReadable (λ v. v.items) result (cards_of bytes)) }
-    ensures some_bytes { (bytes : List ℕ) × GivesIfReadable (λ v. v.items) result (cards_of bytes) }
-    ensures unreadable { result ≡ Err unreadable → StopsShort device.new (reads_of device.old + limit) }
+    ensures known_bytes { IfSome (R.remaining (reader_of device.old))
+        (λ bytes. GivesIfReadable (λ v. v.items) result (cards_of bytes)) }
+    ensures some_bytes { (bytes : List ℕ)
+        × GivesIfReadable (λ v. v.items) result (cards_of bytes) }
+    ensures unreadable { result ≡ Err unreadable
+        → StopsShort device.new (reads_of device.old + limit) }
     ensures whole { IsWhole device.new ⊎ IsUnread result }
 {
     let text = device.read_to_end(alloc, limit)?;

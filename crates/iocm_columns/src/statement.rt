@@ -12,9 +12,18 @@ use std::alloc::{AllocError, Global};
 
 /// The statements of a deck, each with its continuations joined.
 ///
-/// L4 where a record is continued and none follows, L3 where columns 1 to 15 of a continuation are not
-/// blank, the first of them by place. Source: IOCP User's Guide, coding IOCP macroinstructions; where a
-/// part goes on is own.
+/// Cards that are blank in columns 1 to 72 or have an asterisk in column 1 are skipped, also between
+/// continuations and inside quotes. A card with a nonblank column 72 is continued by the next one that
+/// isn't skipped: L4 with its line where none follows, L3 with the line of the continuation where columns
+/// 1 to 15 of that aren't blank; the first of them by place, in remarks too. A statement stands in columns 1
+/// to 71, a continuation in columns 16 to 71. The name begins in column 1, the operation is the next word,
+/// and the operand part begins behind it and ends before the first blank outside quotes.
+///
+/// The operand part goes on exactly at column 16 where it ran through column 71 and is inside quotes or
+/// has no comma there; at the first nonblank from column 16 on where it is empty or ends in a comma
+/// outside quotes; else the continuations are remark.
+///
+/// Source: IOCP User's Guide, coding macroinstructions, continuation; where a part goes on is own.
 pub fn join(alloc: Global, cards: &[Card]) -> Result<Vec<Joined>, Fault>
     ensures { Gives (λ v. v.items) result (statements_of cards.now) }
 {
@@ -44,7 +53,8 @@ fn statements(alloc: Global, rows: &[Record]) -> Result<Vec<Joined>, AllocError>
 #[tactic(auto, using(crate::proofs::Grouping::grouping))]
 fn continuations_len(first: &Record, more: &[Record]) -> usize
     ensures within { result ≤ length more.now }
-    ensures groups { groups (first.now ∷ more.now) ≡ (first.now ∷ take result more.now) ∷ groups (drop result more.now) }
+    ensures groups { groups (first.now ∷ more.now)
+        ≡ (first.now ∷ take result more.now) ∷ groups (drop result more.now) }
 {
     if !first.columns.is_continued() {
         return 0;
@@ -71,7 +81,8 @@ fn make_statement(alloc: Global, first: &Record, more: &[Record]) -> Result<Join
 
 /// The operand part that begins in these columns and goes on in these continuations.
 fn operands(alloc: Global, columns: &[u8], more: &[Record]) -> Result<Text, AllocError>
-    ensures { IfOk result (λ text. text ≡ (fold with_continuation (part_after [] columns.now) more.now).text) }
+    ensures { IfOk result
+        (λ text. text ≡ (fold with_continuation (part_after [] columns.now) more.now).text) }
 {
     let mut part = Part::begin(alloc, columns)?;
     for row in more {

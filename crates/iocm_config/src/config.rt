@@ -72,7 +72,7 @@ impl<A: Allocator> Config<A> {
     pub fn walk(&self) -> &[Record<A>]
         ensures { keyed result.now ≡ map.entries self.now.records }
     {
-        &self.records
+        self.records.as_slice()
     }
 
     /// Room for this many more records.

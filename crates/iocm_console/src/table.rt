@@ -7,7 +7,7 @@ ghost use Rattle.iocm_console.specs.Output.{has_failed, Prints, FailedToWrite};
 
 use crate::{ConsoleError, Output};
 use iocm_config::Config;
-use iocm_derive::image_view;
+use iocm_derive::ImageSight;
 use iocm_numbers::{CellDevice, Numbers};
 use iocm_records::{Record, RecordBody};
 use iocm_types::{Image, Name, SubId};
@@ -76,7 +76,7 @@ fn write_record<A: Allocator, W: Write>(
     }
 }
 
-/// Writes the lines of an image at some number cells.
+/// Writes the lines of an image at some number cells. The paths that the image reaches are looked up once.
 fn write_image<A: Allocator, W: Write>(
     output: &mut Output<W>,
     config: &Config<A>,
@@ -87,8 +87,22 @@ fn write_image<A: Allocator, W: Write>(
     ensures works { OnOk result (has_failed output.new ≡ has_failed output.old) }
     ensures fault { IfErr result (FailedToWrite output.new) }
 {
+    let sight = ImageSight::new(config, image.image, image.name);
+    write_cells(output, &sight, cells)
+}
+
+/// Writes the lines of an image at some number cells.
+fn write_cells<A: Allocator, W: Write>(
+    output: &mut Output<W>,
+    sight: &ImageSight<'_, A>,
+    cells: &[CellDevice],
+) -> Result<(), ConsoleError>
+    ensures text { OnOk result (Prints W.contents output.old output.new (image_lines (lookup_of sight.now.records) sight.now.image (celled cells.now))) }
+    ensures works { OnOk result (has_failed output.new ≡ has_failed output.old) }
+    ensures fault { IfErr result (FailedToWrite output.new) }
+{
     for place in cells {
-        write_cell(output, config, image, *place)?;
+        write_cell(output, sight, *place)?;
     }
     Ok(())
 }
@@ -97,39 +111,38 @@ fn write_image<A: Allocator, W: Write>(
 /// the device there.
 fn write_cell<A: Allocator, W: Write>(
     output: &mut Output<W>,
-    config: &Config<A>,
-    image: &NamedImage,
+    sight: &ImageSight<'_, A>,
     place: CellDevice,
 ) -> Result<(), ConsoleError>
-    ensures text { OnOk result (Prints W.contents output.old output.new (image_lines (lookup_of config.now.records) (image_record image.now) (celled (place ∷ [])))) }
+    ensures text { OnOk result (Prints W.contents output.old output.new (image_lines (lookup_of sight.now.records) sight.now.image (celled (place ∷ [])))) }
     ensures works { OnOk result (has_failed output.new ≡ has_failed output.old) }
     ensures fault { IfErr result (FailedToWrite output.new) }
 {
-    if place.cell.css != image.image.css {
+    let image = sight.image();
+    if place.cell.css != image.css {
         return Ok(());
     }
-    write_seen(output, config, image, place)
+    write_seen(output, sight, place)
 }
 
 /// Writes the line of an image at a number cell of its channel subsystem, if it sees the device there.
 fn write_seen<A: Allocator, W: Write>(
     output: &mut Output<W>,
-    config: &Config<A>,
-    image: &NamedImage,
+    sight: &ImageSight<'_, A>,
     place: CellDevice,
 ) -> Result<(), ConsoleError>
-    requires { place.cell.css ≡ image.now.image.css }
-    ensures text { OnOk result (Prints W.contents output.old output.new (image_lines (lookup_of config.now.records) (image_record image.now) (celled (place ∷ [])))) }
+    requires { place.cell.css ≡ sight.now.image.css }
+    ensures text { OnOk result (Prints W.contents output.old output.new (image_lines (lookup_of sight.now.records) sight.now.image (celled (place ∷ [])))) }
     ensures works { OnOk result (has_failed output.new ≡ has_failed output.old) }
     ensures fault { IfErr result (FailedToWrite output.new) }
 {
     let cell = place.cell;
     let id = SubId {
-        image: image.image,
+        image: sight.image(),
         set: cell.set,
         number: cell.number,
     };
-    match image_view(config, image.image, image.name, cell.set, place.device) {
+    match sight.view(cell.set, place.device) {
         Some(view) => output.row(id, &view),
         None => Ok(()),
     }

@@ -1,4 +1,6 @@
+pub mod BaseDeck
 pub mod Configuration
+pub mod Examples
 pub mod Mask
 pub mod Naming
 pub mod Numbering

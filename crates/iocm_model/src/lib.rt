@@ -1,2 +1,13 @@
-//! What the product means, and no code that runs.
+//! What the product means, and no code that runs: the definitions that every contract above cites.
+//!
+//! Each subject has one file in `specs/`: the records of a configuration, path lists, which devices an image
+//! sees, the masks, subchannel numbers, views, and the table. They are pure: no allocator, capacity or pointer
+//! stands in them. A reviewer reads these files, in the order of `docs/DEFINITIONS.md`, to know what is claimed.
+//!
+//! The functions here have empty bodies: their contracts are worked examples that the prover computes from
+//! the definitions, on the example deck and variants of it (`specs/BaseDeck.antt`, `specs/Examples.antt`).
 #![tactic(auto)]
+
+mod examples;
+
+pub use examples::{numbers_are_as_worked, views_are_as_worked};

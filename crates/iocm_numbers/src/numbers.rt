@@ -79,7 +79,7 @@ impl<A: Allocator> Numbers<A> {
     pub fn cells(&self) -> &[CellDevice]
         ensures { celled result.now ≡ map.entries (cells_of self.now.numbers) }
     {
-        &self.cells
+        self.cells.as_slice()
     }
 
     /// Room for this many more numbers.

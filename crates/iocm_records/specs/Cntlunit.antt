@@ -69,3 +69,8 @@ ranges_of_items fault items =
 abbrev pub ranges_of : Fault → Option (List ℕ) → Result (List UnitRange) Fault
 ranges_of fault (Some text) = items_or_one fault text >>= ranges_of_items fault
 ranges_of fault None = Ok (record { start = 0; count = 256 } ∷ [])
+
+-- the control unit address of CUADD, one or two digits, if it is there
+abbrev pub cuadd_of : Fault → Option (List ℕ) → Result (Option ℕ) Fault
+cuadd_of fault (Some text) = or_fault fault (hex_of 255 2 text) >>= λ n. Ok (Some n)
+cuadd_of fault None = Ok None

@@ -20,7 +20,7 @@ use Rattle.iocm_records.specs.declared.chpid.Lists.{Lists}
 use Rattle.iocm_records.specs.declared.iodevice.Devices.{Devices}
 use Rattle.iocm_records.specs.Resource.{partition_images, names_in}
 use Rattle.iocm_records.specs.Chpid.{path_of, lists_of}
-use Rattle.iocm_records.specs.Cntlunit.{unit_number, paths_of_value, ranges_of}
+use Rattle.iocm_records.specs.Cntlunit.{unit_number, paths_of_value, ranges_of, cuadd_of}
 use Rattle.iocm_records.specs.Iodevice.{devices_of, units_of, first_address, device_at}
 use Rattle.iocm_records.specs.LeftOut.{is_left_out, is_other_form}
 
@@ -63,7 +63,8 @@ unit_fields fault operands =
     or_fault fault (text_under (codes "CUNUMBR") operands) >>= λ text. or_fault fault (unit_number text) >>= λ number.
     paths_of_value fault (text_under (codes "PATH") operands) >>= λ paths.
     ranges_of fault (text_under (codes "UNITADD") operands) >>= λ ranges.
-    Ok (record { number = number; paths = paths; ranges = ranges; links = []; cuadd = None; carried = [] })
+    cuadd_of fault (text_under (codes "CUADD") operands) >>= λ cuadd.
+    Ok (record { number = number; paths = paths; ranges = ranges; links = []; cuadd = cuadd; carried = [] })
 
 -- the record of a CNTLUNIT statement
 abbrev pub cntlunit_records : Fault → List Operand → Result (List Rec) Fault

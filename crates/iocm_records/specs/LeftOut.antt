@@ -62,7 +62,7 @@ is_reconfigurable text = option_map_or (λ items. ends_with_rec (behind_css (ite
 abbrev pub keywords_of : Operation → List (List ℕ)
 keywords_of Resource = codes "PARTITION" ∷ []
 keywords_of Chpid = codes "PATH" ∷ codes "PARTITION" ∷ []
-keywords_of Cntlunit = codes "CUNUMBR" ∷ codes "PATH" ∷ codes "UNITADD" ∷ []
+keywords_of Cntlunit = codes "CUNUMBR" ∷ codes "PATH" ∷ codes "UNITADD" ∷ codes "CUADD" ∷ []
 keywords_of Iodevice = codes "ADDRESS" ∷ codes "CUNUMBR" ∷ codes "UNITADD" ∷ []
 keywords_of _ = []
 

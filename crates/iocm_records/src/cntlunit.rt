@@ -188,3 +188,15 @@ pub fn ranges_of(alloc: Global, text: Option<&[u8]>, fault: Fault) -> Result<Vec
         )?),
     }
 }
+
+/// The control unit address of the value of CUADD, one or two hexadecimal digits, if it is there.
+///
+/// Answers `fault` where the value is malformed.
+pub fn cuadd_of(text: Option<&[u8]>, fault: Fault) -> Result<Option<u8>, Fault>
+    ensures { Gives (λ a. a) result (meaning.cuadd_of fault (option_copied text.entry)) }
+{
+    match text {
+        Some(text) => Ok(Some(address(text).ok_or(fault)?)),
+        None => Ok(None),
+    }
+}

@@ -131,6 +131,23 @@ fn is_reconfigurable(alloc: Global, text: &[u8]) -> Result<bool, AllocError>
     }
 }
 
+// Whether the table of CNTLUNIT names the keyword, so far.
+fn is_unit_keyword(text: &[u8]) -> bool
+    ensures { result ≡ meaning.is_among text.now (meaning.keywords_of Operation.Cntlunit) }
+{
+    if text == b"CUNUMBR".as_slice() || text == b"PATH".as_slice() {
+        return true;
+    }
+    text == b"UNITADD".as_slice() || text == b"CUADD".as_slice()
+}
+
+// Whether the table of IODEVICE names the keyword, so far.
+fn is_device_keyword(text: &[u8]) -> bool
+    ensures { result ≡ meaning.is_among text.now (meaning.keywords_of Operation.Iodevice) }
+{
+    text == b"ADDRESS".as_slice() || text == b"CUNUMBR".as_slice() || text == b"UNITADD".as_slice()
+}
+
 // Whether the statement's table names the keyword, so far.
 fn is_keyword(operation: Operation, text: &[u8]) -> bool
     ensures { result ≡ meaning.is_among text.now (meaning.keywords_of operation) }
@@ -138,16 +155,8 @@ fn is_keyword(operation: Operation, text: &[u8]) -> bool
     match operation {
         Operation::Resource => text == b"PARTITION".as_slice(),
         Operation::Chpid => text == b"PATH".as_slice() || text == b"PARTITION".as_slice(),
-        Operation::Cntlunit => {
-            text == b"CUNUMBR".as_slice()
-                || text == b"PATH".as_slice()
-                || text == b"UNITADD".as_slice()
-        }
-        Operation::Iodevice => {
-            text == b"ADDRESS".as_slice()
-                || text == b"CUNUMBR".as_slice()
-                || text == b"UNITADD".as_slice()
-        }
+        Operation::Cntlunit => is_unit_keyword(text),
+        Operation::Iodevice => is_device_keyword(text),
         _ => false,
     }
 }

@@ -7,7 +7,7 @@ ghost use Rattle.iocm_records.specs.Iodevice.{address_at};
 ghost use Rattle.iocm_records.specs.Deck as deck;
 
 use crate::chpid::{Lists, lists_of, path_of};
-use crate::cntlunit::{paths_of_value, ranges_of, unit_number};
+use crate::cntlunit::{cuadd_of, paths_of_value, ranges_of, unit_number};
 use crate::iodevice::{Devices, devices_of, first_address, units_of};
 use crate::resource::{ImageEntry, names_in, partition_images};
 use crate::{DeviceFields, PathFields, Record, RecordBody, UnitFields};
@@ -151,12 +151,13 @@ fn unit_fields(alloc: Global, operands: &Operands, fault: Fault) -> Result<UnitF
     let number = unit_number(text).ok_or(fault)?;
     let paths = paths_of_value(alloc, operands.get(b"PATH"), fault)?;
     let ranges = ranges_of(alloc, operands.get(b"UNITADD"), fault)?;
+    let cuadd = cuadd_of(operands.get(b"CUADD"), fault)?;
     Ok(UnitFields {
         number,
         paths: List::from_vec(paths),
         ranges: List::from_vec(ranges),
         links: List::from_vec(Vec::new(alloc)),
-        cuadd: None,
+        cuadd,
         carried: Vec::new(alloc),
     })
 }

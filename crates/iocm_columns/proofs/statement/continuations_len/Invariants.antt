@@ -1,5 +1,4 @@
-use Rattle.std.proofs.Common.{◌≡◌, ◌∷◌, ◌++◌, take, drop}
-use Rattle.std.specs.List.{onto_first}
+use Rattle.std.proofs.Common.{◌≡◌, ◌∷◌, take, drop}
 use Rattle.iocm_columns.specs.Statements.{groups, onto_group}
 use Rattle.iocm_columns.proofs.statement.continuations_len.Given as goal
 

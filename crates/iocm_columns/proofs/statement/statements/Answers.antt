@@ -1,5 +1,5 @@
 use Rattle.std.proofs.Common.{◌≡◌, ◌++◌, length, map, ap, sym, ◌∙◌, append-nil}
-use Rattle.iocm_columns.specs.Statements.{groups, statement_of}
+use Rattle.iocm_columns.specs.Statements.{statement_of}
 use Rattle.iocm_columns.proofs.Grouping.{groups_of_none}
 use Rattle.iocm_columns.proofs.statement.statements.Goals as goal
 

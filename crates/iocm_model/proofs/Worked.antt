@@ -1,0 +1,50 @@
+-- The numbers and the views of the example deck, computed.
+use Rattle.std.proofs.Common.{◌≡◌, ◌==◌, ℕ, List, [], ◌∷◌, map, filter, refl, ◌∙◌}
+use Rattle.std.specs.List.{filter_map, flat_map}
+use Rattle.std.specs.FinMap.{entries, get, get-from_entries}
+use Rattle.iocm_types.specs.declared.key.Key.{Key}
+use Rattle.iocm_types.specs.declared.place.NumberCell.{NumberCell}
+use Rattle.iocm_types.specs.Key.{key_cmp}
+use Rattle.iocm_types.specs.Place.{cell_cmp}
+use Rattle.iocm_types.proofs.KeyOrder.{keys_total, keys_exact, places_total, places_exact, cells_total, cells_exact}
+use Rattle.iocm_model.specs.Configuration.{Lookup, keyed, configuration_of, image_of}
+use Rattle.iocm_model.specs.Record.{Rec, ImageRecord}
+use Rattle.iocm_model.specs.View.{row_at, views}
+use Rattle.iocm_types.specs.declared.sub_id.SubId.{SubId}
+use Rattle.iocm_types.specs.declared.view.View.{View}
+use Rattle.iocm_model.specs.Numbering.{opening, cells_of}
+use Rattle.iocm_model.specs.BaseDeck.{base}
+use Rattle.iocm_model.specs.Examples.{found_in, BaseNumbers, BaseRows}
+use Rattle.iocm_model.proofs.Listed.{entries_in_order}
+
+base_entries : entries (configuration_of base) ≡ keyed base
+base_entries = entries_in_order key_cmp keys_total keys_exact (keyed base) tt
+
+base_lookup : (key : Key) → get (configuration_of base) key ≡ found_in base key
+base_lookup key = get-from_entries keys_total (keyed base) key
+
+pub base_numbers : BaseNumbers
+base_numbers = simp (base_entries, base_lookup) (entries_in_order _ places_total places_exact _ tt)
+
+cell_of : ℕ → ℕ → NumberCell × ℕ
+cell_of number device = (record { css = 0; set = 0; number = number }, device)
+
+base_cells : entries (cells_of (opening (configuration_of base))) ≡ cell_of 0 0x1000 ∷ cell_of 1 0x1001 ∷ cell_of 2 0x1002 ∷ cell_of 3 0x1003 ∷ []
+unfolding cell_of
+base_cells = simp base_numbers (entries_in_order cell_cmp cells_total cells_exact (cell_of 0 0x1000 ∷ cell_of 1 0x1001 ∷ cell_of 2 0x1002 ∷ cell_of 3 0x1003 ∷ []) tt)
+
+-- the rows that these records and number cells give
+rows_from : Lookup → List (Key × Rec) → List (NumberCell × ℕ) → List (SubId × View)
+rows_from found records cells = flat_map (λ (i : ImageRecord). filter_map (row_at found i) (filter (λ (e : NumberCell × ℕ). e.0.css == i.css) cells))
+    (filter_map image_of (map (λ (e : Key × Rec). e.1) records))
+
+listed_cells : List (NumberCell × ℕ)
+listed_cells = cell_of 0 0x1000 ∷ cell_of 1 0x1001 ∷ cell_of 2 0x1002 ∷ cell_of 3 0x1003 ∷ []
+
+listed : views (configuration_of base) (opening (configuration_of base)) ≡ rows_from (found_in base) (keyed base) listed_cells
+unfolding rows_from listed_cells
+listed = λ i. rows_from (λ key. base_lookup key i) (base_entries i) (base_cells i)
+
+pub base_rows : BaseRows
+unfolding rows_from listed_cells cell_of
+base_rows = listed ∙ refl
