@@ -115,4 +115,4 @@ table_lines c n cells records all places =
     let same : records ≡ records_of c = sym (records_back records) ∙ ap (map (λ (e : Key × Rec). e.1)) all in
     append_assoc heading (10 ∷ []) _
     ∙ ap (λ (xs : List ℕ). heading ++ 10 ∷ xs) (rw (← same, ← places) (sym (lines_of-flat_map
-        (λ i. filter_map (row_at (lookup_of c) i) (filter (λ (e : NumberCell × ℕ). e.0.css == i.css) cells)) (filter_map image_of records))))
+    (λ i. filter_map (row_at (lookup_of c) i) (filter (λ (e : NumberCell × ℕ). e.0.css == i.css) cells)) (filter_map image_of records))))

@@ -1,11 +1,12 @@
 -- What a command said, from what its steps said.
-use Rattle.std.proofs.Common.{◌≡◌, ◌≢◌, ℕ, List, Option, None, Some, Result, Ok, Err, OnOk, IfOk, inl, inr, sym, ap, subst, ◌∙◌}
+use Rattle.std.proofs.Common.{◌≡◌, ◌≢◌, ◌⊎◌, ℕ, List, Option, None, Some, Result, Ok, Err, OnOk, IfOk, inl, inr, sym, ap, subst, ◌∙◌}
 use Rattle.std.specs.Io.KnownBytes.{Appends, Keeps}
 use Rattle.iocm_types.specs.declared.fault.Fault.{Fault}
-use Rattle.iocm_types.specs.Fault.{◌>>=◌, Fails}
+use Rattle.iocm_types.specs.Fault.{◌>>=◌, Fails, memory}
 use Rattle.iocm_columns.specs.declared.card.Card.{Card}
 use Rattle.iocm_columns.specs.Cards.{cards_of}
-use Rattle.iocm_columns.specs.Device.{unreadable, GivesIfReadable}
+use Rattle.iocm_columns.specs.Device.{unreadable, GivesIfReadable, IsUnread, IsWhole}
+use Rattle.iocm_columns.specs.declared.device.Device.{Device}
 use Rattle.iocm_model.specs.Configuration.{Configuration}
 use Rattle.iocm_console.specs.declared.output.Output.{Output}
 use Rattle.iocm_console.specs.declared.status.Status.{Status}
@@ -45,3 +46,13 @@ module _ {W : Type 0} (contents : W → Option (List ℕ)) (old new : Output W) 
   refuses_lines view (Ok status) bytes fault readable (inl e) says = let same : fault ≡ unreadable = cc in absurd (readable same)
   refuses_lines view (Ok status) bytes fault readable (inr fails) says =
       says_fault (cards_of bytes >>= configuration_in) fault status (fails_later bytes fault fails) says
+
+  -- an answer is of all that the device gives, unless memory is wanted
+  pub answers_whole : {R X : Type 0} (device : Device R) (result : Result Status ConsoleError) (fault : Fault)
+      → OnOk result (fault ≢ unreadable) → IsWhole device ⊎ IsUnread {X = X} (Err fault) → IfOk result (Says contents old new (refused fault))
+      → IfOk result (λ status. IsWhole device ⊎ Says contents old new (refused memory) status)
+  answers_whole device (Err e) fault readable whole says = tt
+  answers_whole device (Ok status) fault readable (inl whole) says = inl whole
+  answers_whole device (Ok status) fault readable (inr (inl e)) says =
+      let same : fault ≡ memory = cc in inr (subst (λ f. Says contents old new (refused f) status) same says)
+  answers_whole device (Ok status) fault readable (inr (inr e)) says = let same : fault ≡ unreadable = cc in absurd (readable same)

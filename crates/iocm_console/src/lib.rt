@@ -9,6 +9,8 @@ mod row;
 mod show;
 mod status;
 mod table;
+#[cfg(test)]
+mod tests;
 
 pub use error::ConsoleError;
 pub use output::Output;

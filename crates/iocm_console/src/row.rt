@@ -4,9 +4,8 @@ ghost use Rattle.iocm_model.specs.Table.{line_of, heading};
 
 use crate::cell::{Hex4, Left2, Left3};
 use iocm_types::{Chpid, SubId, View};
-use std::fmt;
-use std::io;
 use std::io::Write;
+use std::{fmt, io};
 
 /// The numbers of the paths of a view, with a blank before each.
 #[derive(Clone, Copy)]
@@ -48,7 +47,10 @@ impl fmt::Display for Row<'_> {
         let pim = self.view.pim;
         let pam = self.view.pam;
         let paths = PathNumbers(self.view.paths.as_slice());
-        write!(f, "{css} {mif} {set} {number} {device} {pim}  {pam} {paths}")
+        write!(
+            f,
+            "{css} {mif} {set} {number} {device} {pim}  {pam} {paths}"
+        )
     }
 }
 

@@ -1,7 +1,7 @@
-ghost use Rattle.std.specs.Prelude.{◌≡◌, ◌≢◌, ◌+◌, ◌^◌, ◌<◌, ◌≤◌, ℕ, List, Ok, Err, false, true, IfOk, IfErr, OnOk, IfSome};
-ghost use Rattle.iocm_types.specs.Fault.{Gives};
+ghost use Rattle.std.specs.Prelude.{◌≡◌, ◌≢◌, ◌+◌, ◌^◌, ◌<◌, ◌≤◌, ◌⊎◌, ℕ, List, Ok, Err, false, true, IfOk, IfErr, OnOk, IfSome};
+ghost use Rattle.iocm_types.specs.Fault.{Gives, memory};
 ghost use Rattle.iocm_model.specs.Numbering as model;
-ghost use Rattle.iocm_columns.specs.Device.{reader_of, reads_of, unreadable, IsOpen, StopsShort};
+ghost use Rattle.iocm_columns.specs.Device.{reader_of, reads_of, unreadable, IsOpen, IsWhole, StopsShort};
 ghost use Rattle.iocm_console.specs.Output.{has_failed, FailedToWrite};
 ghost use Rattle.iocm_console.specs.Show.{configuration_in, shown, table_shown, refused, Says, SaysIfMemory};
 
@@ -30,8 +30,13 @@ struct Opened {
     numbers: Numbers,
 }
 
-/// Prints the table of the configuration that a deck describes, as it is opened, or the refusal of its
-/// first fault.
+/// Prints the table of the configuration that a deck describes, as it is opened, or the refusal of its first
+/// fault. The deck is read to its end by at most `limit` reads, and all memory is taken before the first byte
+/// is written.
+///
+/// L5 (`ConsoleError::Read`): a read failed, or none of `limit` reads gave the end; nothing is written then.
+/// L6 (`ConsoleError::Write`): a write failed; what is written up to there is not said. All other faults, want
+/// of memory (M1) too, are refusals, which are printed.
 pub fn show_deck<R: Read, W: Write>(
     alloc: Global,
     device: &mut Device<R>,
@@ -44,6 +49,7 @@ pub fn show_deck<R: Read, W: Write>(
     ensures reads { reads_of device.new ≤ reads_of device.old + limit }
     ensures known_bytes { IfSome (R.remaining (reader_of device.old)) (λ bytes. IfOk result (SaysIfMemory W.contents output.old output.new (shown bytes))) }
     ensures some_bytes { (bytes : List ℕ) × IfOk result (SaysIfMemory W.contents output.old output.new (shown bytes)) }
+    ensures whole { IfOk result (λ status. IsWhole device.new ⊎ Says W.contents output.old output.new (refused memory) status) }
     ensures written { OnOk result (has_failed output.new ≡ false) }
     ensures unreadable { result ≡ Err ConsoleError.Read → StopsShort device.new (reads_of device.old + limit) }
     ensures untouched { result ≡ Err ConsoleError.Read → output.new ≡ output.old }
