@@ -4,7 +4,7 @@ ghost use Rattle.std.specs.FinMap as map;
 ghost use Rattle.iocm_model.specs.Record.{key_of};
 ghost use Rattle.iocm_model.specs.Configuration.{keyed, configuration_of, HasNoKeyTwice};
 
-use crate::search::search;
+use crate::search::{search, search_near};
 use iocm_records::Record;
 use iocm_types::Key;
 use std::alloc::{AllocError, Allocator, Global};
@@ -64,6 +64,20 @@ impl<A: Allocator> Config<A> {
     {
         match search(&self.records, key) {
             Ok(at) => Some(&self.records[at]),
+            Err(_) => None,
+        }
+    }
+
+    /// The same as `get`, for keys that are asked for one after the other: the search begins near the place
+    /// where the last one ended, which `near` remembers. Begin with 0; it changes no answer.
+    pub fn get_near(&self, key: &Key, near: &mut usize) -> Option<&Record<A>>
+        ensures { option_copied result ≡ map.get self.now.records key.now }
+    {
+        match search_near(&self.records, key, *near) {
+            Ok(at) => {
+                *near = at;
+                Some(&self.records[at])
+            }
             Err(_) => None,
         }
     }

@@ -7,7 +7,7 @@ ghost use Rattle.iocm_console.specs.Output.{has_failed, Prints, FailedToWrite};
 
 use crate::{ConsoleError, Output};
 use iocm_config::Config;
-use iocm_derive::ImageSight;
+use iocm_derive::{ImageSight, Near};
 use iocm_numbers::{CellDevice, Numbers};
 use iocm_records::{Record, RecordBody};
 use iocm_types::{Image, Name, SubId};
@@ -101,8 +101,9 @@ fn write_cells<A: Allocator, W: Write>(
     ensures works { OnOk result (has_failed output.new ≡ has_failed output.old) }
     ensures fault { IfErr result (FailedToWrite output.new) }
 {
+    let mut near = Near::start();
     for place in cells {
-        write_cell(output, sight, *place)?;
+        write_cell(output, sight, *place, &mut near)?;
     }
     Ok(())
 }
@@ -113,6 +114,7 @@ fn write_cell<A: Allocator, W: Write>(
     output: &mut Output<W>,
     sight: &ImageSight<'_, A>,
     place: CellDevice,
+    near: &mut Near,
 ) -> Result<(), ConsoleError>
     ensures text { OnOk result (Prints W.contents output.old output.new (image_lines (lookup_of sight.now.records) sight.now.image (celled (place ∷ [])))) }
     ensures works { OnOk result (has_failed output.new ≡ has_failed output.old) }
@@ -122,7 +124,7 @@ fn write_cell<A: Allocator, W: Write>(
     if place.cell.css != image.css {
         return Ok(());
     }
-    write_seen(output, sight, place)
+    write_seen(output, sight, place, near)
 }
 
 /// Writes the line of an image at a number cell of its channel subsystem, if it sees the device there.
@@ -130,6 +132,7 @@ fn write_seen<A: Allocator, W: Write>(
     output: &mut Output<W>,
     sight: &ImageSight<'_, A>,
     place: CellDevice,
+    near: &mut Near,
 ) -> Result<(), ConsoleError>
     requires { place.cell.css ≡ sight.now.image.css }
     ensures text { OnOk result (Prints W.contents output.old output.new (image_lines (lookup_of sight.now.records) sight.now.image (celled (place ∷ [])))) }
@@ -142,7 +145,7 @@ fn write_seen<A: Allocator, W: Write>(
         set: cell.set,
         number: cell.number,
     };
-    match sight.view(cell.set, place.device) {
+    match sight.view(cell.set, place.device, near) {
         Some(view) => output.row(id, &view),
         None => Ok(()),
     }

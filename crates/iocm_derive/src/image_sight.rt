@@ -8,9 +8,9 @@ ghost use Rattle.iocm_model.specs.View as model;
 ghost use Rattle.iocm_records.specs.Meaning.{device_of};
 ghost use Rattle.iocm_derive.specs.Sighted.{IsTableOf};
 
-use crate::lookup::{find_device, find_paths, is_path_online, reaches_path};
+use crate::lookup::{Near, find_device_near, find_paths_near, is_path_online, reaches_path};
 use crate::masks::bit_if;
-use crate::paths::paths_of_units;
+use crate::paths::paths_of_units_near;
 use crate::sight::is_candidate;
 use iocm_config::Config;
 use iocm_records::DeviceFields;
@@ -68,15 +68,16 @@ impl<'a, A: Allocator> ImageSight<'a, A> {
         self.image
     }
 
-    /// What the image sees of the device of a number in a set, if it is there and seen.
-    pub fn view(&self, set: SetNo, device: DevNo) -> Option<View>
+    /// What the image sees of the device of a number in a set, if it is there and seen; `near` remembers where
+    /// the last one was found.
+    pub fn view(&self, set: SetNo, device: DevNo, near: &mut Near) -> Option<View>
         ensures { result ≡ model.image_view (lookup_of self.now.records) self.now.image set device }
     {
-        let fields = find_device(self.config, set, device)?;
-        if !self.sees_device(fields) {
+        let fields = find_device_near(self.config, set, device, near)?;
+        if !self.sees_device(fields, near) {
             return None;
         }
-        let paths = paths_of_units(self.config, self.image.css, fields.units.as_slice());
+        let paths = paths_of_units_near(self.config, self.image.css, fields.units.as_slice(), near);
         Some(View {
             device: fields.number,
             pim: self.pim(&paths),
@@ -85,18 +86,18 @@ impl<'a, A: Allocator> ImageSight<'a, A> {
         })
     }
 
-    fn sees_device(&self, device: &DeviceFields<A>) -> bool
+    fn sees_device(&self, device: &DeviceFields<A>, near: &mut Near) -> bool
         ensures { result ≡ sight.sees (lookup_of self.now.records) self.now.image.css self.now.image.name (device_of device.now) }
     {
         is_candidate(device.candidates.as_ref(), self.name)
-            && self.reaches_units(device.units.as_slice())
+            && self.reaches_units(device.units.as_slice(), near)
     }
 
-    fn reaches_units(&self, units: &[UnitNo]) -> bool
+    fn reaches_units(&self, units: &[UnitNo], near: &mut Near) -> bool
         ensures { result ≡ list_any (sight.reaches (lookup_of self.now.records) self.now.image.css self.now.image.name) (path_lists.path_list (lookup_of self.now.records) self.now.image.css units.now) }
     {
         for unit in units {
-            if self.reaches_any(find_paths(self.config, *unit)) {
+            if self.reaches_any(find_paths_near(self.config, *unit, near)) {
                 return true;
             }
         }

@@ -18,6 +18,7 @@ mod view;
 
 pub use first_numbers::opening;
 pub use image_sight::ImageSight;
+pub use lookup::Near;
 pub use masks::{pam, pim};
 pub use paths::path_list;
 pub use sight::sees;

@@ -2,7 +2,7 @@
 use Rattle.std.proofs.Common.{◌≡◌, ◌≤◌, ◌++◌, length, take, drop}
 use Rattle.iocm_model.specs.Configuration.{lookup_of}
 use Rattle.iocm_model.specs.PathList.{path_list}
-use Rattle.iocm_derive.proofs.paths.paths_of_units.Given as goal
+use Rattle.iocm_derive.proofs.paths.paths_of_units_near.Given as goal
 
 abbrev pub invariant-loop-unit : goal.invariant-loop-unit
 invariant-loop-unit g l = record {
