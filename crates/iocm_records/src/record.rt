@@ -196,60 +196,54 @@ mod tests {
     use std::test::Fail;
 
     fn list<T: Copy + Drop>(alloc: Global, item: T) -> Result<List<T>, AllocError> {
-        Ok(List::from_vec(Vec::from_slice(alloc, &[item])?))
+        let mut items = Vec::new(alloc);
+        items.push(item)?;
+        Ok(List::from_vec(items))
     }
 
     #[test]
     fn copies_name_the_same(rt: HostRuntime) -> Result<(), Fail> {
         let name = Name::new(b"LPA").ok_or("LPA")?;
-        let unit = UnitNo::new(0x1000).ok_or("1000")?;
+        let number = UnitNo::new(0x1000).ok_or("1000")?;
         let (css, path) = (Css::FIRST, Chpid::new(0x50));
         let records = [
-            Record::new(RecordBody::Path(PathFields {
+            RecordBody::Path(PathFields {
                 css,
                 number: path,
                 kind: PathKind::Dedicated,
                 access: list(rt.alloc(), name)?,
                 candidates: List::from_vec(Vec::new(rt.alloc())),
                 carried: Vec::new(rt.alloc()),
-            })),
-            Record::new(RecordBody::Unit(UnitFields {
-                number: unit,
+            }),
+            RecordBody::Unit(UnitFields {
+                number,
                 paths: list(rt.alloc(), CssPath { css, path })?,
-                ranges: list(
-                    rt.alloc(),
-                    UnitRange {
-                        start: 0,
-                        count: 16,
-                    },
-                )?,
+                ranges: List::from_vec(Vec::new(rt.alloc())),
                 links: List::from_vec(Vec::new(rt.alloc())),
                 cuadd: None,
                 carried: Vec::new(rt.alloc()),
-            })),
-            Record::new(RecordBody::Device(DeviceFields {
+            }),
+            RecordBody::Device(DeviceFields {
                 set: SetNo::FIRST,
                 number: DevNo::new(0x1000),
-                units: list(rt.alloc(), unit)?,
+                units: list(rt.alloc(), number)?,
                 unit_address: 0,
                 candidates: Some(list(rt.alloc(), name)?),
                 carried: Vec::new(rt.alloc()),
-            })),
-            Record::new(RecordBody::Online(css, path, name)),
+            }),
+            RecordBody::Online(css, path, name),
         ];
+        let image = Some(Named::Image(name));
+        let of_path = Some(Named::Record(Key::Path(css, path)));
+        let of_unit = Some(Named::Record(Key::Unit(number)));
         let named = [
-            [Some(Named::Image(name)), None],
-            [Some(Named::Record(Key::Path(css, path))), None],
-            [
-                Some(Named::Record(Key::Unit(unit))),
-                Some(Named::Image(name)),
-            ],
-            [
-                Some(Named::Record(Key::Path(css, path))),
-                Some(Named::Image(name)),
-            ],
+            (image, None),
+            (of_path, None),
+            (of_unit, image),
+            (of_path, image),
         ];
-        for (entry, [first, second]) in records.iter().zip(named) {
+        for (body, (first, second)) in records.into_iter().zip(named) {
+            let entry = Record::new(body);
             let copy = entry.copy_in(rt.alloc())?;
             assert_eq!(rt; copy.key(), entry.key());
             assert_eq!(rt; copy.names(0), first);
