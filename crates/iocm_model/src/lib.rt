@@ -12,4 +12,4 @@ mod examples;
 mod laws;
 
 pub use examples::{numbers_are_as_worked, views_are_as_worked};
-pub use laws::opening_is_a_numbering;
+pub use laws::{opening_is_a_numbering, views_are_listed};
