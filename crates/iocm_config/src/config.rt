@@ -2,7 +2,7 @@ ghost use Rattle.std.specs.Prelude.{◌≡◌, ◌+◌, ◌<◌, ◌≤◌, ◌�
 ghost use Rattle.std.specs.Option.{option_copied};
 ghost use Rattle.std.specs.FinMap as map;
 ghost use Rattle.iocm_model.specs.Record.{key_of};
-ghost use Rattle.iocm_model.specs.Configuration.{keyed, configuration_of, HasNoKeyTwice};
+ghost use Rattle.iocm_model.specs.Configuration.{keyed, configuration_of, HasNoKeyTwice, IsKeyed};
 
 use crate::search::{search, search_near};
 use iocm_records::Record;
@@ -80,6 +80,13 @@ impl<A: Allocator> Config<A> {
             }
             Err(_) => None,
         }
+    }
+
+    /// Each record stands under its own key: a fact for callers' proofs, with nothing to run.
+    pub fn has_own_keys(&self)
+        ensures { IsKeyed self.now.records }
+    {
+        let _records = &self.records;
     }
 
     /// All records, in the order of keys.

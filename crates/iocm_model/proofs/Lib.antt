@@ -1,3 +1,4 @@
+pub mod AllViews
 pub mod FirstNumbers
 pub mod Listed
 pub mod Parts

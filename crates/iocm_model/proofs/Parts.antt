@@ -12,7 +12,7 @@ abbrev pub or_else : {A : Type 0} → Option A → Option A → Option A
 or_else None b = b
 or_else (Some x) b = Some x
 
-or_none : {A : Type 0} (a : Option A) → or_else a None ≡ a
+pub or_none : {A : Type 0} (a : Option A) → or_else a None ≡ a
 or_none None = refl
 or_none (Some x) = refl
 
