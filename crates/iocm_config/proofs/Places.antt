@@ -3,13 +3,14 @@ use Rattle.std.proofs.Common.{◌≡◌, ℕ, ◌<◌, ◌≤◌, List, length, 
 use Rattle.std.specs.List.{insert, remove}
 use Rattle.std.specs.List.Sorted.{IsBinarySearchResult}
 use Rattle.std.specs.FinMap as map
+use Rattle.std.proofs.Common.{map as list_map, refl}
 use Rattle.iocm_types.specs.declared.key.Key.{Key}
 use Rattle.iocm_types.specs.Key.{key_cmp}
 use Rattle.iocm_types.proofs.KeyOrder.{keys_total, keys_exact}
 use Rattle.iocm_types.proofs.Sorted as sorted
 use Rattle.iocm_types.proofs.Sorted.{IsPlace, IsGap}
 use Rattle.iocm_model.specs.Record.{Rec, key_of}
-use Rattle.iocm_model.specs.Configuration.{Configuration, keyed, HasNoKeyTwice}
+use Rattle.iocm_model.specs.Configuration.{Configuration, keyed, HasNoKeyTwice, IsKeyed}
 use Rattle.iocm_types.proofs.Permuted.{NoKeyTwice}
 
 -- the records stand in the order of their keys
@@ -90,3 +91,13 @@ no_key_twice (x ∷ xs) h = (h.0, no_key_twice xs h.1)
 pub room_left : (k : Key) (m : Configuration) (room : ℕ) → (0 < room) ⊎ IsSome (map.get m k) → None ≡ map.get m k → 0 < room
 room_left k m room (inl h) none = h
 room_left k m room (inr h) none = let no : false ≡ true = ap is_some none ∙ h in cc
+
+second_keyed : (xs : List Rec) → list_map (λ (e : Key × Rec). e.1) (keyed xs) ≡ xs
+second_keyed [] = refl
+second_keyed (x ∷ xs) = ap {B = List Rec} (λ rs. x ∷ rs) (second_keyed xs)
+
+-- each record of the map stands under its own key
+pub own_keys : (xs : List Rec) → IsRising xs → IsKeyed (map.from_sorted (keyed xs))
+own_keys xs up =
+    let listed = map.entries-from_sorted key_cmp (keyed xs) up in
+    listed ∙ ap keyed (sym (ap (λ (es : List (Key × Rec)). list_map (λ (e : Key × Rec). e.1) es) listed ∙ second_keyed xs))

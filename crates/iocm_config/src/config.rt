@@ -2,9 +2,9 @@ ghost use Rattle.std.specs.Prelude.{◌≡◌, ◌+◌, ◌<◌, ◌≤◌, ◌�
 ghost use Rattle.std.specs.Option.{option_copied};
 ghost use Rattle.std.specs.FinMap as map;
 ghost use Rattle.iocm_model.specs.Record.{key_of};
-ghost use Rattle.iocm_model.specs.Configuration.{keyed, configuration_of, HasNoKeyTwice};
+ghost use Rattle.iocm_model.specs.Configuration.{keyed, configuration_of, HasNoKeyTwice, IsKeyed};
 
-use crate::search::search;
+use crate::search::{search, search_near};
 use iocm_records::Record;
 use iocm_types::Key;
 use std::alloc::{AllocError, Allocator, Global};
@@ -68,11 +68,32 @@ impl<A: Allocator> Config<A> {
         }
     }
 
+    /// The same as `get`, for keys that are asked for one after the other: the search begins near the place
+    /// where the last one ended, which `near` remembers. Begin with 0; it changes no answer.
+    pub fn get_near(&self, key: &Key, near: &mut usize) -> Option<&Record<A>>
+        ensures { option_copied result ≡ map.get self.now.records key.now }
+    {
+        match search_near(&self.records, key, *near) {
+            Ok(at) => {
+                *near = at;
+                Some(&self.records[at])
+            }
+            Err(_) => None,
+        }
+    }
+
+    /// Each record stands under its own key: a fact for callers' proofs, with nothing to run.
+    pub fn has_own_keys(&self)
+        ensures { IsKeyed self.now.records }
+    {
+        let _records = &self.records;
+    }
+
     /// All records, in the order of keys.
     pub fn walk(&self) -> &[Record<A>]
         ensures { keyed result.now ≡ map.entries self.now.records }
     {
-        &self.records
+        self.records.as_slice()
     }
 
     /// Room for this many more records.

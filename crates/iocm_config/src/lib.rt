@@ -9,5 +9,7 @@
 
 mod config;
 mod search;
+#[cfg(test)]
+mod tests;
 
 pub use config::Config;

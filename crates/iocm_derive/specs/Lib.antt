@@ -1,2 +1,3 @@
 pub mod Derived
 pub mod FirstNumbers
+pub mod Sighted

@@ -7,13 +7,18 @@
 #![tactic(auto)]
 
 mod first_numbers;
+mod image_sight;
 mod lookup;
 mod masks;
 mod paths;
 mod sight;
+#[cfg(test)]
+mod tests;
 mod view;
 
 pub use first_numbers::opening;
+pub use image_sight::ImageSight;
+pub use lookup::Near;
 pub use masks::{pam, pim};
 pub use paths::path_list;
 pub use sight::sees;

@@ -28,6 +28,55 @@ pub fn find_device<A: Allocator>(
     }
 }
 
+/// Where the last lookups of a device and of a control unit ended, near which the next ones begin. It changes
+/// no answer, only the time: views of many devices, one after the other, need no search.
+#[derive(Clone, Copy, Debug)]
+pub struct Near {
+    device: usize,
+    unit: usize,
+}
+
+impl Near {
+    /// Before the first lookup.
+    pub fn start() -> Self {
+        Near { device: 0, unit: 0 }
+    }
+}
+
+/// The same as `find_device`, near where the last device was found.
+pub fn find_device_near<'a, A: Allocator>(
+    config: &'a Config<A>,
+    set: SetNo,
+    device: DevNo,
+    near: &mut Near,
+) -> Option<&'a DeviceFields<A>>
+    ensures { option_map meaning.device_of (option_copied result) ≡ device_record (lookup_of config.entry.now.records) set device }
+{
+    let mut at = near.device;
+    let entry = config.get_near(&Key::Device(set, device), &mut at);
+    near.device = at;
+    match entry?.body() {
+        RecordBody::Device(fields) => Some(fields),
+        _ => None,
+    }
+}
+
+/// The same as `find_paths`, near where the last unit was found.
+pub fn find_paths_near<'a, A: Allocator>(config: &'a Config<A>, unit: UnitNo, near: &mut Near) -> &'a [CssPath]
+    ensures { result.now ≡ all_paths (lookup_of config.entry.now.records (key.Unit unit)) }
+{
+    let mut at = near.unit;
+    let entry = config.get_near(&Key::Unit(unit), &mut at);
+    near.unit = at;
+    let Some(entry) = entry else {
+        return &[];
+    };
+    match entry.body() {
+        RecordBody::Unit(fields) => fields.paths.as_slice(),
+        _ => &[],
+    }
+}
+
 /// The channel subsystem and the name in an image's record, if there is one.
 pub fn find_image<A: Allocator>(config: &Config<A>, image: Image) -> Option<(Css, Name)>
     ensures { result ≡ image_name (lookup_of config.now.records) image }

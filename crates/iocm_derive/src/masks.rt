@@ -34,7 +34,7 @@ pub fn pam<A: Allocator>(config: &Config<A>, css: Css, name: Name, paths: &Paths
 }
 
 /// The bit, or nothing.
-fn bit_if(set: bool, bit: u8) -> u8
+pub fn bit_if(set: bool, bit: u8) -> u8
     ensures { result ≡ (if set then bit else 0) }
 {
     if set { bit } else { 0 }

@@ -3,7 +3,7 @@ ghost use Rattle.iocm_model.specs.Configuration.{lookup_of};
 ghost use Rattle.iocm_model.specs.PathList.{paths_in, unit_paths, view_paths};
 ghost use Rattle.iocm_derive.specs.Derived.{paths_at};
 
-use crate::lookup::{find_device, find_paths};
+use crate::lookup::{Near, find_device, find_paths_near};
 use iocm_config::Config;
 use iocm_types::{Css, CssPath, DevNo, Paths, SetNo, UnitNo};
 use std::alloc::Allocator;
@@ -23,9 +23,22 @@ pub fn path_list<A: Allocator>(config: &Config<A>, css: Css, set: SetNo, device:
 pub fn paths_of_units<A: Allocator>(config: &Config<A>, css: Css, units: &[UnitNo]) -> Paths
     ensures { result ≡ view_paths (lookup_of config.now.records) css units.now }
 {
+    let mut near = Near::start();
+    paths_of_units_near(config, css, units, &mut near)
+}
+
+/// The same as `paths_of_units`, near where the last unit was found.
+pub fn paths_of_units_near<A: Allocator>(
+    config: &Config<A>,
+    css: Css,
+    units: &[UnitNo],
+    near: &mut Near,
+) -> Paths
+    ensures { result ≡ view_paths (lookup_of config.now.records) css units.now }
+{
     let mut paths = Paths::new();
     for unit in units {
-        add_paths(&mut paths, css, find_paths(config, *unit));
+        add_paths(&mut paths, css, find_paths_near(config, *unit, near));
     }
     paths
 }

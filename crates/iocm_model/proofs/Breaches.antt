@@ -1,7 +1,6 @@
 -- The first breach, along the rules and along the records.
 use Rattle.std.proofs.Common.{◌≡◌, Bool, true, false, cond, Option, None, Some, List, [], ◌∷◌, ◌++◌, refl, sym, ap, ◌∙◌}
 use Rattle.std.specs.List.{list_any}
-use Rattle.iocm_types.specs.declared.rule.Rule.{Rule}
 use Rattle.iocm_model.specs.Record.{Rec, key_of}
 use Rattle.iocm_model.specs.Rules.{Breach, first_record, first_breach_of, breach_or}
 use Rattle.iocm_model.specs.FirstBreach.{Law, AreKept, IsFirst, AnswersTheFirst, AnswersNone}
@@ -67,20 +66,20 @@ answered_at : (o : Option Rec) (law : Law) (laws : List Law) (records : List Rec
 answered_at (Some r) law laws records b is e later =
     let same = same_some (record { rule = law.0; key = key_of r }) b e in
     let found = first_found law.1 records r is in record {
-  before = [];
-  law = law;
-  after = laws;
-  front = found.front;
-  culprit = r;
-  back = found.back;
-  of_laws = refl;
-  of_records = found.split;
-  rule = ap (λ (x : Breach). x.rule) (sym same);
-  key = ap (λ (x : Breach). x.key) (sym same);
-  broken = found.so;
-  kept_before = tt;
-  kept_in_front = found.none_before;
-}
+      before = [];
+      law = law;
+      after = laws;
+      front = found.front;
+      culprit = r;
+      back = found.back;
+      of_laws = refl;
+      of_records = found.split;
+      rule = ap (λ (x : Breach). x.rule) (sym same);
+      key = ap (λ (x : Breach). x.key) (sym same);
+      broken = found.so;
+      kept_before = tt;
+      kept_in_front = found.none_before;
+    }
 answered_at None law laws records b is e later = let rest = later e in record {
   before = law ∷ rest.before;
   law = rest.law;

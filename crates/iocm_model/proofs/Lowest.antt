@@ -1,6 +1,6 @@
 -- The first gap in rising numbers.
-use Rattle.std.proofs.Common.{◌≡◌, ℕ, suc, ◌+◌, ◌<◌, ◌≤◌, ◌==◌, ◌&&◌, nat_eq, nat_le, nat_lt, Bool, true, false, cond, T, List, [], ◌∷◌, length, map, filter, refl, sym, ap, ◌∙◌, arith}
-use Rattle.std.proofs.lemmas.Bool.{eqb-true, eqb-false, leb-true}
+use Rattle.std.proofs.Common.{◌≡◌, ℕ, ◌+◌, ◌<◌, ◌≤◌, ◌==◌, ◌&&◌, nat_eq, Bool, true, false, cond, T, List, [], ◌∷◌, length, map, filter, refl, sym, ◌∙◌, arith}
+use Rattle.std.proofs.lemmas.Bool.{eqb-true, eqb-false}
 use Rattle.std.specs.List.{list_any}
 use Rattle.std.specs.Ordering.{nat_cmp, is_lt}
 use Rattle.std.specs.Cmp.{nat_cmp_is, ranked}
@@ -126,11 +126,12 @@ from_first : (css set : ℕ) (x : NumberCell × ℕ) (es : List (NumberCell × �
     → T (below_all cell_cmp x.0 es) → AtLeast css set (x.0.number + 1) es
 unfolding AtLeast is_in
 from_first css set x [] here h = tt
-from_first css set x (e ∷ es) here h =
-    ((λ there. let p = both _ _ here in let q = both _ _ there in
-        let w = smaller_number x.0 e.0 (eqb-true x.0.css css p.0 ∙ sym (eqb-true e.0.css css q.0)) (eqb-true x.0.set set p.1 ∙ sym (eqb-true e.0.set set q.1))
-            (front_true _ _ h) in omega arith),
-     from_first css set x es here (back_true _ _ h))
+from_first css set x (e ∷ es) here h = (
+  (λ there. let p = both _ _ here in let q = both _ _ there in
+      let w = smaller_number x.0 e.0 (eqb-true x.0.css css p.0 ∙ sym (eqb-true e.0.css css q.0)) (eqb-true x.0.set set p.1 ∙ sym (eqb-true e.0.set set q.1))
+      (front_true _ _ h) in omega arith),
+  from_first css set x es here (back_true _ _ h),
+)
 
 numbers_of : ℕ → ℕ → List (NumberCell × ℕ) → List ℕ
 numbers_of css set es = map (λ (e : NumberCell × ℕ). e.0.number) (filter (λ (e : NumberCell × ℕ). e.0.css == css && e.0.set == set) es)

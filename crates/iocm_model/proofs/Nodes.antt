@@ -30,6 +30,7 @@ mutual
   bounded (row ps) = over_parts (nodes_in ps) (depth_in ps) (leaves_in ps) (bounded_in ps)
   bounded (group ps) = over_parts (nodes_in ps) (depth_in ps) (leaves_in ps) (bounded_in ps)
   bounded (choose ps) = over_parts (nodes_in ps) (depth_in ps) (leaves_in ps) (bounded_in ps)
+
   bounded_in : (ps : Plans) → nodes_in ps ≤ depth_in ps * leaves_in ps
   bounded_in none = omega arith
   bounded_in (part p ps) = before_parts (nodes_of p) (depth_of p) (leaves_of p) (nodes_in ps) (depth_in ps) (leaves_in ps) (bounded p) (bounded_in ps)

@@ -1,7 +1,7 @@
 -- A configuration: a finite set of records, at most one of each key.
 use Rattle.std.specs.Prelude.{◌≡◌, List, [], ◌∷◌, map, Option, None, Some}
 use Rattle.std.specs.List.{filter_map}
-use Rattle.std.specs.FinMap.{FinMap, get, values, from_entries, find}
+use Rattle.std.specs.FinMap.{FinMap, get, entries, values, from_entries, find}
 use Rattle.iocm_types.specs.declared.key.Key.{Key}
 use Rattle.iocm_types.specs.Key.{key_cmp}
 use Rattle.iocm_model.specs.Record.{Rec, key_of, ImageRecord, DeviceRecord, image, device}
@@ -50,3 +50,7 @@ device_of _ = None
 -- the devices, by subchannel set and device number
 abbrev pub devices_of : Configuration → List DeviceRecord
 devices_of c = filter_map device_of (records_of c)
+
+-- each record stands under its own key
+abbrev pub IsKeyed : Configuration → Type 0
+IsKeyed c = entries c ≡ keyed (records_of c)

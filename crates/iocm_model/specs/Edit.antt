@@ -1,10 +1,10 @@
 -- One edit: what it does to the configuration, the numbers and the live records, when it is refused, and its inverse.
 -- Principles of Operation, subchannels that are not operational; all else own.
-use Rattle.std.specs.Prelude.{◌≡◌, ℕ, Bool, true, false, ◌&&◌, ◌||◌, not, is_some, is_none, if◌then◌else◌, Option, None, Some, List, [], ◌∷◌, ◌++◌, map, filter, unwrap_or, nat_eq}
+use Rattle.std.specs.Prelude.{ℕ, Bool, true, false, ◌&&◌, ◌||◌, not, if◌then◌else◌, Option, None, Some, List, [], ◌∷◌, ◌++◌, filter, nat_eq}
 use Rattle.std.specs.List.{filter_map, list_any}
-use Rattle.std.specs.Option.{option_map, option_map_or}
+use Rattle.std.specs.Option.{option_map}
 use Rattle.std.specs.Cmp.Lexicographic.{pointwise}
-use Rattle.std.specs.FinMap.{FinMap, get, insert, remove, entries, keys, contains_key, from_entries, retain_keys, find}
+use Rattle.std.specs.FinMap.{FinMap, get, insert, remove, entries, keys, contains_key, from_entries, retain_keys}
 use Rattle.iocm_types.specs.declared.key.Key.{Key}
 use Rattle.iocm_types.specs.declared.live.Live.{Live}
 use Rattle.iocm_types.specs.declared.place.Place.{Place}
@@ -13,7 +13,7 @@ use Rattle.iocm_types.specs.declared.view.View.{View}
 use Rattle.iocm_types.specs.SubId.{sub_id_cmp}
 use Rattle.iocm_model.specs.Record.{Rec}
 use Rattle.iocm_model.specs.Configuration.{Configuration}
-use Rattle.iocm_model.specs.Numbering.{Numbering, is_empty}
+use Rattle.iocm_model.specs.Numbering.{Numbering}
 use Rattle.iocm_model.specs.Renumbering.{renumbered, is_reached_at}
 use Rattle.iocm_model.specs.Orders.{fresh, is_quiet}
 use Rattle.iocm_model.specs.State.{State, Lives}

@@ -1,5 +1,5 @@
 -- What the lowest free number promises.
-use Rattle.std.specs.Prelude.{◌≡◌, ℕ, ◌<◌, ◌≤◌, ◌+◌, nat_eq, nat_le, ◌&&◌, Bool, true, false, List, [], ◌∷◌, length, Option, Some, None}
+use Rattle.std.specs.Prelude.{◌≡◌, ℕ, ◌<◌, nat_eq, Bool, true, false, length}
 use Rattle.std.specs.List.{list_any}
 use Rattle.iocm_model.specs.Numbering.{Numbering}
 use Rattle.iocm_model.specs.Renumbering.{numbers_in, lowest_free}

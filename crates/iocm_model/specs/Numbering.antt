@@ -1,6 +1,6 @@
 -- Subchannel numbers: in each channel subsystem and subchannel set the devices that are reached there
 -- have one each, the same in every image of the channel subsystem. Own.
-use Rattle.std.specs.Prelude.{◌≡◌, ℕ, ◌+◌, ◌==◌, ◌&&◌, Bool, true, false, not, List, [], ◌∷◌, map, filter, is_some, Option, Some}
+use Rattle.std.specs.Prelude.{◌≡◌, ℕ, ◌+◌, ◌<◌, ◌==◌, ◌&&◌, Bool, true, false, not, List, [], ◌∷◌, map, filter, is_some, Option, Some}
 use Rattle.std.specs.List.{flat_map}
 use Rattle.std.specs.FinMap.{FinMap, get, entries, from_entries}
 use Rattle.iocm_types.specs.declared.place.Place.{Place}
@@ -28,9 +28,9 @@ abbrev pub is_record_reached : Lookup → ℕ → Option Rec → Bool
 is_record_reached c css (Some (device d)) = is_reached c css d
 is_record_reached c css _ = false
 
--- a numbering has exactly the devices that are reached, and no number twice
+-- a numbering has exactly the devices that are reached, in six channel subsystems of four sets, and no number twice
 pub record IsNumbering (c : Lookup) (n : Numbering) : Type 0 where
-  pub domain : (p : Place) → is_some (get n p) ≡ is_record_reached c p.css (c (Device p.set p.device))
+  pub domain : (p : Place) → p.css < 6 → p.set < 4 → is_some (get n p) ≡ is_record_reached c p.css (c (Device p.set p.device))
   pub apart : (p q : Place) (number : ℕ) → p.css ≡ q.css → p.set ≡ q.set
       → get n p ≡ Some number → get n q ≡ Some number → p ≡ q
 

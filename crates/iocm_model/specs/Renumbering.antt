@@ -1,11 +1,10 @@
 -- Subchannel numbers after a change of the configuration. Own.
-use Rattle.std.specs.Prelude.{ℕ, ◌+◌, ◌==◌, ◌&&◌, Bool, true, false, nat_eq, is_some, not, cond, if◌then◌else◌, Option, None, Some, List, [], ◌∷◌, map, filter, fold}
+use Rattle.std.specs.Prelude.{ℕ, ◌+◌, ◌==◌, ◌&&◌, Bool, nat_eq, not, if◌then◌else◌, List, [], ◌∷◌, map, filter, fold}
 use Rattle.std.specs.List.{flat_map}
-use Rattle.std.specs.FinMap.{FinMap, get, insert, entries, contains_key, retain_keys}
+use Rattle.std.specs.FinMap.{insert, entries, contains_key, retain_keys}
 use Rattle.iocm_types.specs.declared.place.Place.{Place}
 use Rattle.iocm_types.specs.declared.place.NumberCell.{NumberCell}
 use Rattle.iocm_types.specs.declared.key.Key.TheVariants.{Device}
-use Rattle.iocm_types.specs.Place.{place_cmp}
 use Rattle.iocm_model.specs.Configuration.{Configuration, lookup_of}
 use Rattle.iocm_model.specs.Numbering.{Numbering, is_record_reached, reached_in, cells_of}
 

@@ -1,7 +1,7 @@
 -- The fourteen rules that a configuration in use keeps. The limits of eight in V5 and V8 are IOCP's; the rules in
 -- this form are own.
-use Rattle.std.specs.Prelude.{ℕ, ◌+◌, ◌-◌, ◌==◌, ◌&&◌, ◌||◌, nat_eq, nat_le, nat_lt, Bool, true, false, not, is_none, length, if◌then◌else◌, Option, None, Some, List, [], ◌∷◌, ◌++◌, map, filter, unwrap_or}
-use Rattle.std.specs.List.{list_any, list_all, filter_map}
+use Rattle.std.specs.Prelude.{ℕ, ◌+◌, ◌==◌, ◌&&◌, ◌||◌, nat_eq, nat_le, nat_lt, Bool, true, false, not, is_none, length, if◌then◌else◌, Option, None, Some, List, [], ◌∷◌, ◌++◌, map, filter, unwrap_or}
+use Rattle.std.specs.List.{list_any}
 use Rattle.std.specs.Option.{option_map_or}
 use Rattle.std.specs.Ordering.{is_lt}
 use Rattle.std.specs.Cmp.Lexicographic.{pointwise}
@@ -18,10 +18,10 @@ use Rattle.iocm_types.specs.declared.rule.Rule.TheVariants.{V1, V2, V3, V4, V5, 
 use Rattle.iocm_types.specs.declared.key.Key.{Key}
 use Rattle.iocm_types.specs.declared.key.Key.TheVariants.{Path, Unit, Limit}
 use Rattle.iocm_types.specs.Key.{key_cmp}
-use Rattle.iocm_model.specs.Record.{Rec, ImageRecord, PathRecord, UnitRecord, DeviceRecord, OnlineRecord, id, resource, image, limit, path, unit, device, online, key_of}
-use Rattle.iocm_model.specs.Configuration.{Configuration, Lookup, lookup_of, records_of, images_of, devices_of}
+use Rattle.iocm_model.specs.Record.{Rec, ImageRecord, UnitRecord, image, limit, path, unit, device, online, key_of}
+use Rattle.iocm_model.specs.Configuration.{Configuration, lookup_of, records_of, images_of}
 use Rattle.iocm_model.specs.PathList.{paths_in, path_list}
-use Rattle.iocm_model.specs.Sight.{has_name, record_lists}
+use Rattle.iocm_model.specs.Sight.{record_lists}
 use Rattle.iocm_model.specs.Numbering.{Numbering}
 
 -- the channel subsystems

@@ -1,6 +1,6 @@
 -- The state of a channel subsystem: the configuration, the numbers of its devices, and a live record for each subchannel.
-use Rattle.std.specs.Prelude.{ℕ, List, map, Option}
-use Rattle.std.specs.FinMap.{FinMap, get, from_entries}
+use Rattle.std.specs.Prelude.{map, Option}
+use Rattle.std.specs.FinMap.{FinMap, from_entries}
 use Rattle.iocm_types.specs.declared.live.Live.{Live}
 use Rattle.iocm_types.specs.declared.sub_id.SubId.{SubId}
 use Rattle.iocm_types.specs.declared.view.View.{View}

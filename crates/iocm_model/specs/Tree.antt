@@ -9,6 +9,7 @@ mutual
     row : Plans → Plan
     group : Plans → Plan
     choose : Plans → Plan
+
   -- the parts of a node, in order
   pub data Plans : Type 0 where
     none : Plans
@@ -25,6 +26,7 @@ abbrev mutual
   leaves_of (row ps) = or_one (leaves_in ps)
   leaves_of (group ps) = or_one (leaves_in ps)
   leaves_of (choose ps) = or_one (leaves_in ps)
+
   pub leaves_in : Plans → ℕ
   leaves_in none = 0
   leaves_in (part p ps) = leaves_of p + leaves_in ps
@@ -36,6 +38,7 @@ abbrev mutual
   depth_of (row ps) = depth_in ps + 1
   depth_of (group ps) = depth_in ps + 1
   depth_of (choose ps) = depth_in ps + 1
+
   pub depth_in : Plans → ℕ
   depth_in none = 0
   depth_in (part p ps) = max (depth_of p) (depth_in ps)
@@ -47,6 +50,7 @@ abbrev mutual
   nodes_of (row ps) = nodes_in ps + 1
   nodes_of (group ps) = nodes_in ps + 1
   nodes_of (choose ps) = nodes_in ps + 1
+
   pub nodes_in : Plans → ℕ
   nodes_in none = 0
   nodes_in (part p ps) = nodes_of p + nodes_in ps

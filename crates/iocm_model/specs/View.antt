@@ -1,12 +1,13 @@
 -- What images see at their subchannels.
 -- Principles of Operation, subchannels and the path-management-control word.
-use Rattle.std.specs.Prelude.{ℕ, ◌==◌, List, filter, Option, None, Some, if◌then◌else◌}
+use Rattle.std.specs.Prelude.{◌≡◌, ℕ, T, ◌==◌, List, filter, Option, None, Some, if◌then◌else◌}
 use Rattle.std.specs.List.{flat_map, filter_map}
 use Rattle.std.specs.Option.{option_map, option_and_then}
-use Rattle.std.specs.FinMap.{entries}
+use Rattle.std.specs.FinMap.{entries, find, is_sorted}
 use Rattle.iocm_types.specs.declared.view.View.{View}
 use Rattle.iocm_types.specs.declared.sub_id.SubId.{SubId}
 use Rattle.iocm_types.specs.declared.place.NumberCell.{NumberCell}
+use Rattle.iocm_types.specs.SubId.{sub_id_cmp}
 use Rattle.iocm_types.specs.declared.key.Key.TheVariants.{Image, Device}
 use Rattle.iocm_model.specs.Record.{ImageRecord, DeviceRecord}
 use Rattle.iocm_model.specs.Configuration.{Configuration, Lookup, lookup_of, images_of, image_of, device_of}
@@ -50,3 +51,8 @@ row_at c i cell = option_map
 abbrev pub views : Configuration → Numbering → List (SubId × View)
 views c n = flat_map (λ (i : ImageRecord). filter_map (row_at (lookup_of c) i)
     (filter (λ (e : NumberCell × ℕ). e.0.css == i.css) (entries (cells_of n)))) (images_of c)
+
+-- rows of subchannels and views: the subchannels rise, and what is found at each is its view
+pub record IsListOfViews (c : Configuration) (n : Numbering) (rows : List (SubId × View)) : Type 0 where
+  pub rising : T (is_sorted sub_id_cmp rows)
+  pub exact : (s : SubId) → find sub_id_cmp s rows ≡ view_at c n s

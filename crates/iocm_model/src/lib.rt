@@ -4,12 +4,16 @@
 //! sees, the masks, subchannel numbers, views, and the table. They are pure: no allocator, capacity or pointer
 //! stands in them. A reviewer reads these files, in the order of `docs/DEFINITIONS.md`, to know what is claimed.
 //!
-//! The functions here have empty bodies: their contracts are worked examples that the prover computes from
-//! the definitions, on the example deck and variants of it (`specs/BaseDeck.antt`, `specs/Examples.antt`).
+//! The functions here have empty bodies: their contracts are laws of the definitions (`laws.rt`), and worked
+//! examples that the prover computes from them, on the example deck and variants of it (`specs/BaseDeck.antt`,
+//! `specs/Examples.antt`).
 #![tactic(auto)]
 
 mod examples;
 mod laws;
 
 pub use examples::{numbers_are_as_worked, views_are_as_worked};
-pub use laws::{the_first_breach_is_first, the_lowest_free_number_is_free, the_nodes_of_a_tree_are_bounded};
+pub use laws::{
+    opening_is_a_numbering, the_first_breach_is_first, the_lowest_free_number_is_free,
+    the_nodes_of_a_tree_are_bounded, views_are_listed,
+};

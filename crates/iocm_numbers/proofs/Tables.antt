@@ -1,11 +1,11 @@
 -- What a search in the sorted places and in the sorted number cells says of their maps.
-use Rattle.std.proofs.Common.{◌≡◌, ℕ, ◌<◌, ◌≤◌, List, length, get_or, Result, Ok, Err, Some, None, T, sym, ap, subst, ◌∙◌}
+use Rattle.std.proofs.Common.{◌≡◌, ℕ, ◌<◌, ◌≤◌, List, length, get_or, Ok, Err, Some, None, T, sym, ap, subst, ◌∙◌}
 use Rattle.std.specs.List.{insert}
 use Rattle.std.specs.List.Sorted.{IsBinarySearchResult}
 use Rattle.std.specs.declared.cmp.Ordering.{Ordering}
 use Rattle.std.specs.Cmp.{IsTotalOrder}
 use Rattle.std.specs.FinMap as map
-use Rattle.std.proofs.Common.{[], ◌∷◌, map as list_map}
+use Rattle.std.proofs.Common.{[], map as list_map}
 use Rattle.iocm_types.specs.declared.place.Place.{Place}
 use Rattle.iocm_types.specs.declared.place.NumberCell.{NumberCell}
 use Rattle.iocm_types.specs.Place.{place_cmp, cell_cmp}
@@ -47,7 +47,7 @@ module _ {X K V : Type 0} (R : K → K → Ordering) (key : X → K) (value : X 
       → T (map.is_sorted R (keyed_by key value ys))
   rise_insert ys y is at within ended =
       subst (λ (zs : List X). T (map.is_sorted R (keyed_by key value zs))) (sym is)
-          (sorted.sorted-insert R key value total xs i y up (subst (λ (q : K). IsGap R key q xs i) at (gap_of within ended)))
+      (sorted.sorted-insert R key value total xs i y up (subst (λ (q : K). IsGap R key q xs i) at (gap_of within ended)))
 
   pub map_insert : (ys : List X) (y : X) → ys ≡ insert xs i y → k ≡ key y → i ≤ length shown → IsBinarySearchResult (λ e. R (key e) k) shown (Err i)
       → map.from_sorted {R = R} (keyed_by key value ys) ≡ map.insert (map.from_sorted (keyed_by key value xs)) (key y) (value y)

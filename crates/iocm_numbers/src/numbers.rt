@@ -31,14 +31,14 @@ impl<A: Allocator> Model for Numbers<A> {
         (λ s. (s.numbers, s.room)) (λ p. record { numbers = p.0; room = p.1 }) (λ _. refl) };
 
     ghost view = { λ n. record {
-        numbers = map.from_sorted (placed n.places.items);
-        room = min (vec_capacity n.places - vec_len n.places) (vec_capacity n.cells - vec_len n.cells)
+      numbers = map.from_sorted (placed n.places.items);
+      room = min (vec_capacity n.places - vec_len n.places) (vec_capacity n.cells - vec_len n.cells);
     } };
 
     ghost invariant = { λ n. record {
-        places_rise : T (map.is_sorted place_cmp (placed n.places.items));
-        cells_rise : T (map.is_sorted cell_cmp (celled n.cells.items));
-        same : map.from_sorted {R = cell_cmp} (celled n.cells.items) ≡ cells_of (map.from_sorted (placed n.places.items))
+      places_rise : T (map.is_sorted place_cmp (placed n.places.items));
+      cells_rise : T (map.is_sorted cell_cmp (celled n.cells.items));
+      same : map.from_sorted {R = cell_cmp} (celled n.cells.items) ≡ cells_of (map.from_sorted (placed n.places.items));
     } };
 }
 
@@ -79,7 +79,7 @@ impl<A: Allocator> Numbers<A> {
     pub fn cells(&self) -> &[CellDevice]
         ensures { celled result.now ≡ map.entries (cells_of self.now.numbers) }
     {
-        &self.cells
+        self.cells.as_slice()
     }
 
     /// Room for this many more numbers.

@@ -6,15 +6,19 @@ use Rattle.iocm_records.specs.declared.record.DeviceFields.{DeviceFields}
 use Rattle.iocm_records.specs.declared.record.RecordBody.{RecordBody}
 use Rattle.iocm_records.specs.declared.record.RecordBody.TheVariants.{Id, Resource, Image, Limit, Path, Unit, Device, Online}
 
+-- the path of these fields
 abbrev pub path_of : {A : Type 0} → PathFields A → PathRecord
 path_of p = record { css = p.css; number = p.number; kind = p.kind; access = p.access; candidates = p.candidates; carried = p.carried.items }
 
+-- the control unit of these fields
 abbrev pub unit_of : {A : Type 0} → UnitFields A → UnitRecord
 unit_of u = record { number = u.number; paths = u.paths; ranges = u.ranges; links = u.links; cuadd = u.cuadd; carried = u.carried.items }
 
+-- the device of these fields
 abbrev pub device_of : {A : Type 0} → DeviceFields A → DeviceRecord
 device_of d = record { set = d.set; number = d.number; units = d.units; unit_address = d.unit_address; candidates = d.candidates; carried = d.carried.items }
 
+-- the record of these fields
 abbrev pub record_of : {A : Type 0} → RecordBody A → Rec
 record_of (Id carried) = id carried.items
 record_of (Resource carried) = resource carried.items

@@ -23,6 +23,7 @@ impl<A: Allocator> Model for Carried<A> {
 }
 
 impl<A: Allocator> Carried<A> {
+    /// The operand with this keyword, or a bare one without.
     pub fn new(keyword: Option<Text<A>>, text: Text<A>) -> Self
         ensures { result ≡ record { keyword = keyword; text = text } }
     {
@@ -36,6 +37,7 @@ impl<A: Allocator> Carried<A> {
         self.keyword.as_ref()
     }
 
+    /// What stands behind the equal sign, or the whole of a bare text.
     pub fn text(&self) -> &Text<A>
         ensures { result.now ≡ self.now.text }
     {
@@ -44,7 +46,7 @@ impl<A: Allocator> Carried<A> {
 }
 
 impl<A: Allocator> Carried<A> {
-    /// The same operand under another allocator.
+    /// The same operand under another allocator. Answers the want of memory alone.
     pub fn copy_in<B: Allocator + Clone>(&self, alloc: B) -> Result<Carried<B>, AllocError>
         ensures { IfOk result (λ carried. carried ≡ self.now) }
     {
@@ -59,7 +61,7 @@ impl<A: Allocator> Carried<A> {
     }
 }
 
-/// The same operands under another allocator.
+/// The same operands in their order under another allocator. Answers the want of memory alone.
 pub fn copy_carried<A: Allocator, B: Allocator + Clone>(
     carried: &[Carried<A>],
     alloc: B,
@@ -71,4 +73,21 @@ pub fn copy_carried<A: Allocator, B: Allocator + Clone>(
         copies.push(operand.copy_in(alloc.clone()?)?)?;
     }
     Ok(copies)
+}
+
+#[cfg(test)]
+mod tests {
+    use super::*;
+    use std::test::Fail;
+
+    #[test]
+    fn is_copied(rt: HostRuntime) -> Result<(), Fail> {
+        let keyword = Text::from_slice(rt.alloc(), b"DESC")?;
+        let text = Text::from_slice(rt.alloc(), b"'A B'")?;
+        let copy = Carried::new(Some(keyword), text).copy_in(rt.alloc())?;
+        let keyword = copy.keyword().ok_or("bare")?;
+        assert_eq!(rt; keyword.as_slice(), b"DESC".as_slice());
+        assert_eq!(rt; copy.text().as_slice(), b"'A B'".as_slice());
+        Ok(())
+    }
 }

@@ -13,7 +13,9 @@ use std::alloc::{AllocError, Global};
 /// The access and the candidate list of a path, each ascending with each name once.
 #[derive(Debug, Drop)]
 pub struct Lists {
+    /// The names of the access list.
     pub access: List<Name>,
+    /// The names of the candidate list.
     pub candidates: List<Name>,
 }
 

@@ -188,7 +188,10 @@ fn read_all(
 /// The records of a configuration deck, no two of one key.
 ///
 /// The statements are taken in order, and the first that has a fault refuses the deck with its line. Per
-/// statement S1 comes first, then S7, S3, S5, S4 and S8; M1 comes without memory.
+/// statement the first of these counts: S1, an operation of change decks; S7, a second RESOURCE statement;
+/// S3, a required keyword that is missing; S5, an operand or a form that this product leaves out; S4, a
+/// malformed value; S8, a key that the deck has already. M1 comes without memory. (IOCP User's Guide, the
+/// statements; the numbers and the order of the faults are own.)
 pub fn from_statements(alloc: Global, statements: &[Statement]) -> Result<Vec<Record>, Fault>
     ensures records { Gives (λ v. v.items) result (deck.deck_records statements.now) }
     ensures apart { IfOk result (λ v. HasNoKeyTwice v.items) }
@@ -197,3 +200,6 @@ pub fn from_statements(alloc: Global, statements: &[Statement]) -> Result<Vec<Re
     let progress = read_all(alloc, &images, statements)?;
     Ok(progress.into_records())
 }
+
+#[cfg(test)]
+mod tests;

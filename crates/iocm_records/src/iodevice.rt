@@ -12,7 +12,9 @@ use std::alloc::Global;
 /// The devices of a statement: the number of the first, and how many there are.
 #[derive(Clone, Copy, Debug)]
 pub struct Devices {
+    /// The number of the first, at most FFFF.
     pub first: u32,
+    /// How many there are, 1 to 4096.
     pub count: u32,
 }
 

@@ -12,42 +12,61 @@ use std::alloc::{AllocError, Allocator, Global};
 use std::marker::Model;
 
 /// A channel path: how it is used, and the names of the images in its access and its candidate list,
-/// each list ascending with each name once.
+/// each list ascending with each name once (IOCP User's Guide, CHPID statement).
 #[derive(Debug, Drop)]
 pub struct PathFields<A: Allocator = Global> {
+    /// The channel subsystem of the path.
     pub css: Css,
+    /// Its number there, 00 to FF.
     pub number: Chpid,
+    /// How images use it.
     pub kind: PathKind,
+    /// The images of its access list, by name.
     pub access: List<Name, A>,
+    /// The images of its candidate list, by name.
     pub candidates: List<Name, A>,
+    /// What its statement carries along, in the order of the text.
     pub carried: Vec<Carried<A>, A>,
 }
 
 /// A control unit: its paths and their links in the order of the text, channel subsystems ascending,
-/// its ranges of unit addresses, and its CUADD.
+/// its ranges of unit addresses, and its CUADD (IOCP User's Guide, CNTLUNIT statement).
 #[derive(Debug, Drop)]
 pub struct UnitFields<A: Allocator = Global> {
+    /// Its number, 0000 to FFFE.
     pub number: UnitNo,
+    /// The channel paths that reach it.
     pub paths: List<CssPath, A>,
+    /// The unit addresses that it answers to.
     pub ranges: List<UnitRange, A>,
+    /// The links of its paths; in a channel subsystem with links the first is that of its first path there, and so on.
     pub links: List<CssLink, A>,
+    /// Its control unit address (CUADD), 00 to FF, where it has one.
     pub cuadd: Option<u8>,
+    /// What its statement carries along, in the order of the text.
     pub carried: Vec<Carried<A>, A>,
 }
 
 /// A device: its control units in their order, its unit address, and the names of its candidates,
-/// ascending with each once, where it lists them.
+/// ascending with each once, where it lists them (IOCP User's Guide, IODEVICE statement).
 #[derive(Debug, Drop)]
 pub struct DeviceFields<A: Allocator = Global> {
+    /// The subchannel set of its subchannels.
     pub set: SetNo,
+    /// Its number in the set, 0000 to FFFF.
     pub number: DevNo,
+    /// The control units that reach it.
     pub units: List<UnitNo, A>,
+    /// Its unit address on each of them, 00 to FF.
     pub unit_address: u8,
+    /// The images that may use it, by name: without a list all may, with an empty list none.
     pub candidates: Option<List<Name, A>>,
+    /// What its statement carries along, in the order of the text.
     pub carried: Vec<Carried<A>, A>,
 }
 
-/// The eight kinds of records with their fields. A `Record` has one of these inside.
+/// The eight kinds of records with their fields. A `Record` has one of these inside. The kinds are own;
+/// they follow the statements of the IOCP User's Guide.
 #[derive(Debug, Drop)]
 pub enum RecordBody<A: Allocator = Global> {
     /// What an ID statement carries.
@@ -58,8 +77,11 @@ pub enum RecordBody<A: Allocator = Global> {
     Image(Css, Mif, Name),
     /// Below which number the subchannels of a set stay in a channel subsystem.
     Limit(Css, SetNo, u16),
+    /// A channel path.
     Path(PathFields<A>),
+    /// A control unit.
     Unit(UnitFields<A>),
+    /// A device.
     Device(DeviceFields<A>),
     /// That a path of a channel subsystem is online to the image of this name.
     Online(Css, Chpid, Name),
@@ -86,25 +108,28 @@ impl<A: Allocator> Record<A> {
     ghost use Rattle.iocm_model.specs.Naming.{named_by};
     ghost use Rattle.iocm_records.specs.Meaning.{record_of};
 
+    /// The record with these fields.
     pub fn new(body: RecordBody<A>) -> Self
         ensures { result ≡ record_of body }
     {
         Record { body }
     }
 
+    /// Its fields.
     pub fn body(&self) -> &RecordBody<A>
         ensures { record_of result.now ≡ self.now }
     {
         &self.body
     }
 
+    /// Its fields with their memory.
     pub fn into_body(self) -> RecordBody<A>
         ensures { record_of result ≡ self }
     {
         self.body
     }
 
-    /// The key that the record stands under.
+    /// The key that the record stands under. A configuration has at most one record of each key.
     pub fn key(&self) -> Key
         ensures { result ≡ key_of self.now }
     {
@@ -147,7 +172,7 @@ impl<A: Allocator> Record<A> {
         }
     }
 
-    /// An equal record under another allocator.
+    /// An equal record under another allocator. Answers the want of memory alone.
     pub fn copy_in<B: Allocator + Clone>(&self, alloc: B) -> Result<Record<B>, AllocError>
         ensures { IfOk result (λ copy. copy ≡ self.now) }
     {
@@ -162,5 +187,69 @@ impl<A: Allocator> Record<A> {
             RecordBody::Online(css, path, name) => RecordBody::Online(*css, *path, *name),
         };
         Ok(Record { body })
+    }
+}
+
+#[cfg(test)]
+mod tests {
+    use super::*;
+    use std::test::Fail;
+
+    fn list<T: Copy + Drop>(alloc: Global, item: T) -> Result<List<T>, AllocError> {
+        let mut items = Vec::new(alloc);
+        items.push(item)?;
+        Ok(List::from_vec(items))
+    }
+
+    #[test]
+    fn copies_name_the_same(rt: HostRuntime) -> Result<(), Fail> {
+        let name = Name::new(b"LPA").ok_or("LPA")?;
+        let number = UnitNo::new(0x1000).ok_or("1000")?;
+        let (css, path) = (Css::FIRST, Chpid::new(0x50));
+        let records = [
+            RecordBody::Path(PathFields {
+                css,
+                number: path,
+                kind: PathKind::Dedicated,
+                access: list(rt.alloc(), name)?,
+                candidates: List::from_vec(Vec::new(rt.alloc())),
+                carried: Vec::new(rt.alloc()),
+            }),
+            RecordBody::Unit(UnitFields {
+                number,
+                paths: list(rt.alloc(), CssPath { css, path })?,
+                ranges: List::from_vec(Vec::new(rt.alloc())),
+                links: List::from_vec(Vec::new(rt.alloc())),
+                cuadd: None,
+                carried: Vec::new(rt.alloc()),
+            }),
+            RecordBody::Device(DeviceFields {
+                set: SetNo::FIRST,
+                number: DevNo::new(0x1000),
+                units: list(rt.alloc(), number)?,
+                unit_address: 0,
+                candidates: Some(list(rt.alloc(), name)?),
+                carried: Vec::new(rt.alloc()),
+            }),
+            RecordBody::Online(css, path, name),
+        ];
+        let image = Some(Named::Image(name));
+        let of_path = Some(Named::Record(Key::Path(css, path)));
+        let of_unit = Some(Named::Record(Key::Unit(number)));
+        let named = [
+            (image, None),
+            (of_path, None),
+            (of_unit, image),
+            (of_path, image),
+        ];
+        for (body, (first, second)) in records.into_iter().zip(named) {
+            let entry = Record::new(body);
+            let copy = entry.copy_in(rt.alloc())?;
+            assert_eq!(rt; copy.key(), entry.key());
+            assert_eq!(rt; copy.names(0), first);
+            assert_eq!(rt; copy.names(1), second);
+            assert_eq!(rt; copy.names(2), None);
+        }
+        Ok(())
     }
 }

@@ -18,8 +18,11 @@ use std::marker::Model;
 /// An image of the machine. Contracts see the model's record.
 #[derive(Clone, Copy, Debug)]
 pub struct ImageEntry {
+    /// Its channel subsystem.
     pub css: Css,
+    /// Its MIF image ID there.
     pub mif: Mif,
+    /// Its name.
     pub name: Name,
 }
 

@@ -1,4 +1,4 @@
--- The orders of keys, places and number cells: the derived `cmp` is the definition, each order is total,
+-- The orders of keys, places, number cells and subchannels: the derived `cmp` is the definition, each order is total,
 -- and only equal values tie.
 use Rattle.std.proofs.Common.{◌≡◌, ℕ, List, [], ◌∷◌, get_or, nat_eq, cond, refl, sym, ap, ◌∙◌}
 use Rattle.std.specs.Ordering.{nat_cmp, ordering_then}
@@ -9,13 +9,17 @@ use Rattle.std.specs.Cmp.Lexicographic.{nat_list_cmp_total}
 use Rattle.std.specs.FinMap.{IsAntisymmetric, nat_cmp-IsAntisymmetric, slice_cmp-IsAntisymmetric}
 use Rattle.iocm_types.specs.declared.key.Key.{Key}
 use Rattle.iocm_types.specs.declared.key.Key.TheVariants.{Id, Resource, Image, Limit, Path, Unit, Device, Online}
+use Rattle.iocm_types.specs.declared.image.Image as images
 use Rattle.iocm_types.specs.declared.place.Place.{Place}
 use Rattle.iocm_types.specs.declared.place.NumberCell.{NumberCell}
+use Rattle.iocm_types.specs.declared.sub_id.SubId.{SubId}
+use Rattle.iocm_types.specs.SubId.{image_cmp, sub_id_cmp}
 use Rattle.iocm_types.specs.Key.{numbers_of, key_cmp}
 use Rattle.iocm_types.specs.Place.{place_cmp, cell_cmp}
 use Rattle.iocm_types.specs.contracts.key.KeyOrd.TheImpl as of_keys
 use Rattle.iocm_types.specs.contracts.place.PlaceOrd.TheImpl as of_places
 use Rattle.iocm_types.specs.contracts.place.NumberCellOrd.TheImpl as of_cells
+use Rattle.iocm_types.specs.contracts.sub_id.SubIdOrd.TheImpl as of_subchannels
 
 then_equal : (r : Ordering) → r ≡ ordering_then r Equal
 then_equal Less = refl
@@ -106,3 +110,28 @@ pub cells_exact : IsAntisymmetric cell_cmp
 cells_exact x y e =
     let same = same_numbers x.css y.css x.set y.set x.number y.number e in
     λ i. record { css = same.0 i; set = same.1 i; number = same.2 i }
+
+-- the derived order of subchannels is the definition
+pub derived_sub_id_cmp : ◌≡◌ {A = SubId → SubId → Ordering} of_subchannels.ghosts.cmp sub_id_cmp
+derived_sub_id_cmp = refl
+
+pub images_total : IsTotalOrder image_cmp
+images_total = then_total (on_total (λ (i : images.Image). i.css) nat_cmp_total) (on_total (λ (i : images.Image). i.mif) nat_cmp_total)
+
+pub images_exact : IsAntisymmetric image_cmp
+images_exact x y e =
+    let css = nat_cmp-IsAntisymmetric x.css y.css (first_ties _ _ e) in
+    let mif = nat_cmp-IsAntisymmetric x.mif y.mif (second_ties _ _ e) in
+    λ i. record { css = css i; mif = mif i }
+
+pub sub_ids_total : IsTotalOrder sub_id_cmp
+sub_ids_total = then_total (on_total (λ (s : SubId). s.image) images_total)
+    (then_total (on_total (λ (s : SubId). s.set) nat_cmp_total) (on_total (λ (s : SubId). s.number) nat_cmp_total))
+
+pub sub_ids_exact : IsAntisymmetric sub_id_cmp
+sub_ids_exact x y e =
+    let image = images_exact x.image y.image (first_ties _ _ e) in
+    let rest = second_ties _ _ e in
+    let set = nat_cmp-IsAntisymmetric x.set y.set (first_ties _ _ rest) in
+    let number = nat_cmp-IsAntisymmetric x.number y.number (second_ties _ _ rest) in
+    λ i. record { image = image i; set = set i; number = number i }

@@ -20,7 +20,7 @@ name_is_short bytes e = leb-true (length bytes) 8
 
 read_back : (bs : List ℕ) → length bs ≤ 8
     → get_or bs 0 0 ∷ get_or bs 1 0 ∷ get_or bs 2 0 ∷ get_or bs 3 0 ∷ get_or bs 4 0 ∷ get_or bs 5 0 ∷ get_or bs 6 0 ∷ get_or bs 7 0 ∷ []
-        ≡ bs ++ replicate (8 - length bs) 0
+    ≡ bs ++ replicate (8 - length bs) 0
 read_back [] short = refl
 read_back (a ∷ []) short = refl
 read_back (a ∷ b ∷ []) short = refl

@@ -20,12 +20,14 @@ impl Model for Chpid {
 }
 
 impl Chpid {
+    /// The channel path of this number; each number is one.
     pub fn new(number: u8) -> Self
         ensures { result ≡ number }
     {
         Chpid { number }
     }
 
+    /// The number, 00 to FF.
     pub fn number(self) -> u8
         ensures { result ≡ self }
     {

@@ -30,9 +30,14 @@ impl Css {
         ensures valid { IsSome result ↔ (number < 6) }
         ensures value { IfSome result (λ v. v ≡ number) }
     {
-        if number < 6 { Some(Css { number }) } else { None }
+        if number < 6 {
+            Some(Css { number })
+        } else {
+            None
+        }
     }
 
+    /// The number, 0 to 5.
     pub fn number(self) -> u8
         ensures value { result ≡ self }
         ensures range { result < 6 }

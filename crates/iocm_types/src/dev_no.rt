@@ -20,12 +20,14 @@ impl Model for DevNo {
 }
 
 impl DevNo {
+    /// The device of this number; each number is one.
     pub fn new(number: u16) -> Self
         ensures { result ≡ number }
     {
         DevNo { number }
     }
 
+    /// The number, 0000 to FFFF.
     pub fn number(self) -> u16
         ensures { result ≡ self }
     {

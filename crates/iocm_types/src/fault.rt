@@ -7,10 +7,13 @@ use std::alloc::{AllocError, AllocFailed};
 /// stand at no line, and have line 0.
 #[derive(Clone, Copy, Debug, PartialEq, Eq)]
 pub struct Fault {
+    /// The number of the refusal.
     pub rule: Rule,
+    /// The line where the fault stands, counted from 1, or 0 for none.
     pub line: usize,
 }
 
+/// Want of memory is M1, at no line.
 impl From<AllocError> for Fault {
     ghost use Rattle.std.specs.Prelude.{◌≡◌};
     ghost use Rattle.iocm_types.specs.Fault.{memory};
@@ -25,6 +28,7 @@ impl From<AllocError> for Fault {
     }
 }
 
+/// Want of memory for a value is M1, at no line; the value is dropped.
 impl<T: Drop> From<AllocFailed<T>> for Fault {
     ghost use Rattle.std.specs.Prelude.{◌≡◌};
     ghost use Rattle.iocm_types.specs.Fault.{memory};

@@ -18,18 +18,21 @@ impl<T, A: Allocator> Model for List<T, A> {
 }
 
 impl<T, A: Allocator> List<T, A> {
+    /// The list of the items of a vector, in its memory.
     pub fn from_vec(items: Vec<T, A>) -> Self
         ensures { result ≡ items.items }
     {
         List { items }
     }
 
+    /// The items in their order.
     pub fn as_slice(&self) -> &[T]
         ensures { result.now ≡ self.now }
     {
         self.items.as_slice()
     }
 
+    /// The items with their memory.
     pub fn into_vec(self) -> Vec<T, A>
         ensures { result.items ≡ self }
     {
@@ -38,12 +41,26 @@ impl<T, A: Allocator> List<T, A> {
 }
 
 impl<T: Copy, A: Allocator> List<T, A> {
-    /// The same list under another allocator.
+    /// The same list under another allocator. Answers the want of memory alone.
     pub fn copy_in<B: Allocator>(&self, alloc: B) -> Result<List<T, B>, AllocError>
         ensures { IfOk result (λ list. list ≡ self.now) }
     {
         Ok(List {
             items: Vec::from_slice(alloc, self.items.as_slice())?,
         })
+    }
+}
+
+#[cfg(test)]
+mod tests {
+    use super::*;
+    use std::test::Fail;
+
+    #[test]
+    fn is_copied(rt: HostRuntime) -> Result<(), Fail> {
+        let list = List::from_vec(Vec::from_slice(rt.alloc(), [3u8, 1, 2].as_slice())?);
+        let copy = list.copy_in(rt.alloc())?;
+        assert_eq!(rt; copy.as_slice(), [3, 1, 2].as_slice());
+        Ok(())
     }
 }

@@ -24,19 +24,21 @@ impl Mask {
     /// The mask of no path.
     pub const NONE: Mask = Mask { bits: 0 };
 
+    /// The mask of these bits, the highest for the first path.
     pub fn from_bits(bits: u8) -> Self
         ensures { result ≡ bits }
     {
         Mask { bits }
     }
 
+    /// The bits, the highest for the first path.
     pub fn bits(self) -> u8
         ensures { result ≡ self }
     {
         self.bits
     }
 
-    /// The paths that are in both masks.
+    /// The paths that are in both masks, as the bits that both have.
     pub fn common(self, other: Mask) -> Mask
         ensures { result ≡ bit_and self other }
     {
@@ -56,5 +58,20 @@ impl fmt::Display for Mask {
     fn fmt<W: fmt::Write>(&self, f: &mut fmt::Formatter<W>) -> fmt::Result {
         let bits = self.bits;
         write!(f, "{bits:02X}")
+    }
+}
+
+#[cfg(test)]
+mod tests {
+    use super::*;
+    use std::test::Fail;
+
+    #[test]
+    fn prints_two_digits(rt: HostRuntime) -> Result<(), Fail> {
+        for (bits, text) in [(0, "00"), (0xA, "0A"), (0xC0, "C0")] {
+            let mask = Mask::from_bits(bits);
+            assert_eq!(rt; mask.to_string(rt.alloc())?.as_str(), text);
+        }
+        Ok(())
     }
 }

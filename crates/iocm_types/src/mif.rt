@@ -28,9 +28,14 @@ impl Mif {
         ensures valid { IsSome result ↔ ((0 < number) × (number < 16)) }
         ensures value { IfSome result (λ v. v ≡ number) }
     {
-        if number > 0 && number < 16 { Some(Mif { number }) } else { None }
+        if number > 0 && number < 16 {
+            Some(Mif { number })
+        } else {
+            None
+        }
     }
 
+    /// The number, 1 to F.
     pub fn number(self) -> u8
         ensures value { result ≡ self }
         ensures range { (0 < result) × (result < 16) }

@@ -3,9 +3,8 @@ ghost use Rattle.std.specs.List.{list_all};
 ghost use Rattle.iocm_types.specs.Name.{is_name, name_of, begins_with_letter, is_letter_or_digit};
 
 use std::cmp::Ordering;
-use std::fmt;
 use std::marker::Model;
-use std::str;
+use std::{fmt, str};
 
 /// The name of an image (logical partition): a letter A to Z, then letters and digits, one to eight
 /// in all, and not `REC` (IOCP User's Guide, RESOURCE statement). Contracts see its bytes.
@@ -54,6 +53,7 @@ impl Name {
         })
     }
 
+    /// Its letters and digits, one to eight.
     pub fn as_bytes(&self) -> &[u8]
         ensures bytes { result.now ≡ self.now }
         ensures name { IsTrue (is_name self.now) }
@@ -89,7 +89,10 @@ fn starts_with_letter(bytes: &[u8]) -> bool
 fn is_image_name(bytes: &[u8]) -> bool
     ensures { result ≡ is_name bytes.now }
 {
-    starts_with_letter(bytes) && are_letters_or_digits(bytes) && bytes.len() <= 8 && bytes != b"REC".as_slice()
+    starts_with_letter(bytes)
+        && are_letters_or_digits(bytes)
+        && bytes.len() <= 8
+        && bytes != b"REC".as_slice()
 }
 
 impl PartialEq for Name {
@@ -159,5 +162,32 @@ impl fmt::Display for Name {
             Ok(text) => f.write_str(text),
             Err(_) => Err(fmt::Error),
         }
+    }
+}
+
+#[cfg(test)]
+mod tests {
+    use super::*;
+    use std::test::Fail;
+
+    #[test]
+    fn takes_one_to_eight_letters_and_digits(rt: HostRuntime) -> Result<(), Fail> {
+        let names: [&[u8]; 5] = [b"A", b"Z9", b"ABCDEFGH", b"RECA", b"RE"];
+        for bytes in names {
+            let name = Name::new(bytes).ok_or("no name")?;
+            assert_eq!(rt; name.as_bytes(), bytes);
+        }
+        let others: [&[u8]; 7] = [b"", b"ABCDEFGHI", b"REC", b"lpa", b"1A", b"A-B", b"*"];
+        for bytes in others {
+            assert!(rt; Name::new(bytes).is_none());
+        }
+        Ok(())
+    }
+
+    #[test]
+    fn prints_its_letters(rt: HostRuntime) -> Result<(), Fail> {
+        let name = Name::new(b"LPA1").ok_or("no name")?;
+        assert_eq!(rt; name.to_string(rt.alloc())?.as_str(), "LPA1");
+        Ok(())
     }
 }

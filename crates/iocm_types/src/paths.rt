@@ -1,7 +1,6 @@
 ghost use Rattle.std.specs.Prelude.{◌≡◌, ◌<◌, ◌≤◌, ◌↔◌, [], ◌∷◌, ◌++◌, length, IsTrue};
 
 use crate::Chpid;
-
 use arrayvec::ArrayVec;
 use std::marker::Model;
 
@@ -33,6 +32,7 @@ impl Paths {
         }
     }
 
+    /// The paths in the order of the masks' bits, at most eight.
     pub fn as_slice(&self) -> &[Chpid]
         ensures list { result.now ≡ self.now }
         ensures most { length self.now ≤ 8 }
@@ -40,6 +40,7 @@ impl Paths {
         self.list.as_slice()
     }
 
+    /// Whether there are eight paths, so that no further one may be put in.
     pub fn is_full(&self) -> bool
         ensures full { IsTrue result ↔ (length self.now ≡ 8) }
         ensures most { length self.now ≤ 8 }
@@ -47,7 +48,7 @@ impl Paths {
         self.list.is_full()
     }
 
-    /// Puts a path at the end.
+    /// Puts a path at the end of a list that is not full.
     pub fn push(&mut self, path: Chpid)
         requires { length self.old < 8 }
         ensures { self.new ≡ self.old ++ path ∷ [] }

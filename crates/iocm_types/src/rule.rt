@@ -107,6 +107,7 @@ pub enum Rule {
     X1,
 }
 
+/// The letter and the number, as `S10`.
 impl fmt::Display for Rule {
     ghost use Rattle.std.specs.Prelude.{Some};
     ghost use Rattle.iocm_types.specs.Rule.{rule_text};
@@ -166,5 +167,19 @@ impl fmt::Display for Rule {
             Rule::M1 => "M1",
             Rule::X1 => "X1",
         })
+    }
+}
+
+#[cfg(test)]
+mod tests {
+    use super::*;
+    use std::test::Fail;
+
+    #[test]
+    fn prints_its_letter_and_number(rt: HostRuntime) -> Result<(), Fail> {
+        for (rule, text) in [(Rule::L1, "L1"), (Rule::S10, "S10"), (Rule::X1, "X1")] {
+            assert_eq!(rt; rule.to_string(rt.alloc())?.as_str(), text);
+        }
+        Ok(())
     }
 }

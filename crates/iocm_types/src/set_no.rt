@@ -30,9 +30,14 @@ impl SetNo {
         ensures valid { IsSome result ↔ (number < 4) }
         ensures value { IfSome result (λ v. v ≡ number) }
     {
-        if number < 4 { Some(SetNo { number }) } else { None }
+        if number < 4 {
+            Some(SetNo { number })
+        } else {
+            None
+        }
     }
 
+    /// The number, 0 to 3.
     pub fn number(self) -> u8
         ensures value { result ≡ self }
         ensures range { result < 4 }

@@ -28,12 +28,14 @@ impl<A: Allocator> Text<A> {
         }
     }
 
+    /// The text of the bytes of a vector, in its memory.
     pub fn from_vec(bytes: Vec<u8, A>) -> Self
         ensures { result ≡ bytes.items }
     {
         Text { bytes }
     }
 
+    /// A copy of these bytes. Answers the want of memory alone.
     pub fn from_slice(alloc: A, bytes: &[u8]) -> Result<Self, AllocError>
         ensures { IfOk result (λ text. text ≡ bytes.now) }
     {
@@ -42,7 +44,8 @@ impl<A: Allocator> Text<A> {
         })
     }
 
-    /// The first `len` bytes of `bytes`, filled up with `fill` to that length.
+    /// The first `len` bytes of `bytes`, filled up with `fill` to that length. Answers the want of memory
+    /// alone.
     pub fn padded(alloc: A, bytes: &[u8], len: usize, fill: u8) -> Result<Self, AllocError>
         ensures text { IfOk result (λ text. text ≡ take len bytes.now ++ replicate (len - length bytes.now) fill) }
         ensures len { IfOk result (λ text. length text ≡ len) }
@@ -52,24 +55,28 @@ impl<A: Allocator> Text<A> {
         Ok(Text { bytes: text })
     }
 
+    /// The bytes.
     pub fn as_slice(&self) -> &[u8]
         ensures { result.now ≡ self.now }
     {
         self.bytes.as_slice()
     }
 
+    /// The bytes with their memory.
     pub fn into_vec(self) -> Vec<u8, A>
         ensures { result.items ≡ self }
     {
         self.bytes
     }
 
+    /// How many bytes there are.
     pub fn len(&self) -> usize
         ensures { result ≡ length self.now }
     {
         self.bytes.len()
     }
 
+    /// Puts a byte at the end. Answers the want of memory alone, and then the text is as it was.
     pub fn push(&mut self, byte: u8) -> Result<(), AllocError>
         ensures ok { OnOk result (self.new ≡ self.old ++ byte ∷ []) }
         ensures err { OnErr result (self.new ≡ self.old) }
@@ -78,7 +85,7 @@ impl<A: Allocator> Text<A> {
         Ok(())
     }
 
-    /// The same bytes under another allocator.
+    /// The same bytes under another allocator. Answers the want of memory alone.
     pub fn copy_in<B: Allocator>(&self, alloc: B) -> Result<Text<B>, AllocError>
         ensures { IfOk result (λ text. text ≡ self.now) }
     {
@@ -119,5 +126,23 @@ impl<A: Allocator> Hash for Text<A> {
 
     fn hash<H: Hasher>(&self, state: &mut H) {
         self.as_slice().hash(state);
+    }
+}
+
+#[cfg(test)]
+mod tests {
+    use super::*;
+    use std::test::Fail;
+
+    #[test]
+    fn is_made_and_copied(rt: HostRuntime) -> Result<(), Fail> {
+        let mut text = Text::from_slice(rt.alloc(), b"AB")?;
+        text.push(b'C')?;
+        assert_eq!(rt; text.copy_in(rt.alloc())?.as_slice(), b"ABC".as_slice());
+        let padded = Text::padded(rt.alloc(), text.as_slice(), 5, b' ')?;
+        assert_eq!(rt; padded.as_slice(), b"ABC  ".as_slice());
+        let cut = Text::padded(rt.alloc(), text.as_slice(), 2, b' ')?;
+        assert_eq!(rt; cut.as_slice(), b"AB".as_slice());
+        Ok(())
     }
 }

@@ -27,9 +27,14 @@ impl UnitNo {
         ensures valid { IsSome result ↔ (number < 65535) }
         ensures value { IfSome result (λ v. v ≡ number) }
     {
-        if number < 65535 { Some(UnitNo { number }) } else { None }
+        if number < 65535 {
+            Some(UnitNo { number })
+        } else {
+            None
+        }
     }
 
+    /// The number, 0000 to FFFE.
     pub fn number(self) -> u16
         ensures value { result ≡ self }
         ensures range { result < 65535 }

@@ -5,8 +5,12 @@ use crate::{DevNo, Mask, Paths};
 /// path-management-control word).
 #[derive(Debug, Drop, PartialEq, Eq)]
 pub struct View {
+    /// The number of the device.
     pub device: DevNo,
+    /// The paths by which the image reaches it, the first eight.
     pub paths: Paths,
+    /// The path-installed mask: a bit for each of the paths.
     pub pim: Mask,
+    /// The path-available mask: a bit for each path that is online to the image.
     pub pam: Mask,
 }

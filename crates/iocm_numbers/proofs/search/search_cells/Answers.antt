@@ -11,5 +11,5 @@ use Rattle.iocm_numbers.proofs.search.search_cells.Goals as goal
 pub returns-clause-position : goal.returns-clause-position
 returns-clause-position c =
     subst (λ (cmp : NumberCell → NumberCell → Ordering). IsBinarySearchResult (λ (e : CellDevice). cmp e.cell c.args.cell) c.args.cells.now c.binary_search_by_key.result)
-        derived_cell_cmp
-        (c.binary_search_by_key.ensures.position (λ (e : CellDevice). e.cell) (answers_always _ _ _ (λ f a r g called. search rules)))
+    derived_cell_cmp
+    (c.binary_search_by_key.ensures.position (λ (e : CellDevice). e.cell) (answers_always _ _ _ (λ f a r g called. search rules)))

@@ -11,5 +11,5 @@ use Rattle.iocm_numbers.proofs.search.search_places.Goals as goal
 pub returns-clause-position : goal.returns-clause-position
 returns-clause-position c =
     subst (λ (cmp : Place → Place → Ordering). IsBinarySearchResult (λ (e : PlaceNumber). cmp e.place c.args.place) c.args.places.now c.binary_search_by_key.result)
-        derived_place_cmp
-        (c.binary_search_by_key.ensures.position (λ (e : PlaceNumber). e.place) (answers_always _ _ _ (λ f a r g called. search rules)))
+    derived_place_cmp
+    (c.binary_search_by_key.ensures.position (λ (e : PlaceNumber). e.place) (answers_always _ _ _ (λ f a r g called. search rules)))

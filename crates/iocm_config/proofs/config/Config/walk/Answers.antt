@@ -7,5 +7,5 @@ use Rattle.iocm_config.specs.Stored.{Stored}
 use Rattle.iocm_config.proofs.config.Config.walk.Goals as goal
 
 pub returns : goal.returns
-returns g c = ap keyed c.deref.ensures.value ∙ sym (map.entries-from_sorted key_cmp (keyed c.self.inside.records.items) c.self.invariant)
+returns g c = ap keyed c.as_slice.ensures.value ∙ sym (map.entries-from_sorted key_cmp (keyed c.self.inside.records.items) c.self.invariant)
     ∙ ap (λ (s : Stored). map.entries s.records) c.self.view_is

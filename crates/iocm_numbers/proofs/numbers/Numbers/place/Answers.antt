@@ -17,7 +17,7 @@ invariant_of-self g c =
       same = c.put_cell.ensures.entries
           ∙ ap (λ (m : FinMap cell_cmp ℕ). map.insert m cell c.args.place.device) c.self.invariant.same
           ∙ sym (cells_insert (map.from_sorted (placed c.self.inside.places.items)) c.args.place c.args.number
-              (ap (λ (s : Numbered). map.get s.numbers c.args.place) c.self.view_is ∙ c.requires.unnumbered)
-              (ap (λ (s : Numbered). device_at s.numbers cell) c.self.view_is ∙ c.requires.free))
+          (ap (λ (s : Numbered). map.get s.numbers c.args.place) c.self.view_is ∙ c.requires.unnumbered)
+          (ap (λ (s : Numbered). device_at s.numbers cell) c.self.view_is ∙ c.requires.free))
           ∙ ap cells_of (sym c.put_place.ensures.entries);
     }

@@ -1,0 +1,101 @@
+//! `iocm`, a dynamic I/O reconfiguration manager for a channel subsystem.
+//!
+//! `iocm show DECK` reads a configuration deck and prints the table of its subchannels. The exit status is
+//! 0 where a command did what it was asked to do, 1 where a text was refused (one line on standard output
+//! says why), 2 where the command line is not understood, and 3 where a file cannot be read or the output
+//! cannot be written (`fault L5` or `fault L6` on standard error).
+//!
+//! Begin with `command.rt`, the command line; all else is in `iocm_console`.
+#![tactic(auto)]
+
+mod command;
+
+use clap::error::ErrorKind;
+use command::{Command, command_of};
+use iocm_columns::Device;
+use iocm_console::{ConsoleError, Output, refuse, show_deck};
+use iocm_types::Fault;
+use std::alloc::AllocError;
+use std::env;
+use std::fs;
+use std::io;
+use std::io::BufWriter;
+use std::process::ExitCode;
+use std::rt::{Env, Files};
+
+/// How often a deck is read at most.
+const MOST_READS: u64 = 1_048_576;
+
+/// The exit status where the command line is not understood.
+const USAGE: u8 = 2;
+
+/// The exit status after a fault of a device.
+const FAULT: u8 = 3;
+
+fn main(rt: HostRuntime) -> ExitCode {
+    match run(&rt) {
+        Ok(code) => code,
+        Err(fault) => {
+            let _ = eprintln!(rt; "{fault}");
+            ExitCode::from(FAULT)
+        }
+    }
+}
+
+/// Does what the command line says.
+fn run<R: Env + Files + Print + Eprint + AllocGlobal>(rt: &R) -> Result<ExitCode, ConsoleError> {
+    let words: Vec<String> = match words(rt) {
+        Ok(words) => words,
+        Err(error) if error.kind() == io::ErrorKind::OutOfMemory => return refuse_memory(rt),
+        Err(error) => return explain_words(rt, &error),
+    };
+    match command_of(rt.alloc(), words.as_slice()) {
+        Ok(Command::Show { deck }) => show(rt, deck),
+        Err(error) => explain(rt, &error),
+    }
+}
+
+/// The words of the command line, the program's name first.
+fn words<R: Env + AllocGlobal>(rt: &R) -> io::Result<Vec<String>> {
+    Ok(env::args(rt)?.collect(rt.alloc())?)
+}
+
+/// Prints the table of the deck in a file.
+fn show<R: Files + Print + AllocGlobal>(rt: &R, path: &str) -> Result<ExitCode, ConsoleError> {
+    let Ok(file) = fs::open(rt, path) else {
+        return Err(ConsoleError::Read);
+    };
+    let Ok(writer) = BufWriter::new(rt.alloc(), io::writer(rt)) else {
+        return refuse_memory(rt);
+    };
+    let mut device = Device::new(file);
+    let mut output = Output::new(writer);
+    let status = show_deck(rt.alloc(), &mut device, MOST_READS, &mut output)?;
+    Ok(ExitCode::from(status.code()))
+}
+
+/// Prints that memory is wanted.
+fn refuse_memory<R: Print>(rt: &R) -> Result<ExitCode, ConsoleError> {
+    let mut output = Output::new(io::writer(rt));
+    let status = refuse(Fault::from(AllocError), &mut output)?;
+    Ok(ExitCode::from(status.code()))
+}
+
+/// Prints what `clap` says of the command line: help on standard output, a mistake on standard error.
+fn explain<R: Print + Eprint>(rt: &R, error: &clap::Error) -> Result<ExitCode, ConsoleError> {
+    if error.kind() == ErrorKind::OutOfMemory {
+        return refuse_memory(rt);
+    }
+    let Ok(()) = error.print(rt) else {
+        return Err(ConsoleError::Write);
+    };
+    Ok(if error.use_stderr() { ExitCode::from(USAGE) } else { ExitCode::SUCCESS })
+}
+
+/// Prints why the words of the command line cannot be read.
+fn explain_words<R: Eprint>(rt: &R, error: &io::Error) -> Result<ExitCode, ConsoleError> {
+    match eprintln!(rt; "error: {error}") {
+        Ok(()) => Ok(ExitCode::from(USAGE)),
+        Err(_) => Err(ConsoleError::Write),
+    }
+}

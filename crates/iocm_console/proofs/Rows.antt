@@ -1,0 +1,118 @@
+-- The lines of a list are those of its parts, one after the other.
+use Rattle.std.proofs.Common.{◌≡◌, ℕ, ◌==◌, ◌+◌, ◌<◌, List, [], ◌∷◌, ◌++◌, length, take, map, filter, get_or, Bool, true, false, Some, None, arith, refl, ◌∙◌, sym, ap}
+use Rattle.std.specs.List.{flat_map, filter_map}
+use Rattle.std.proofs.lemmas.List.{take_more, map-append, append-nil, append_assoc}
+use Rattle.std.proofs.lemmas.List.Elements.{filter-append, filter_map-append}
+use Rattle.std.proofs.lemmas.Grind.{flat_map-append}
+use Rattle.std.proofs.lemmas.Bool.Decides.{nat_tests}
+use Rattle.iocm_types.specs.declared.place.NumberCell.{NumberCell}
+use Rattle.iocm_numbers.specs.declared.entry.CellDevice.{CellDevice}
+use Rattle.iocm_numbers.specs.Numbered.{celled}
+use Rattle.iocm_records.specs.declared.record.RecordBody.{RecordBody}
+use Rattle.iocm_records.specs.declared.record.RecordBody.TheVariants as body
+use Rattle.iocm_records.specs.Meaning.{record_of}
+use Rattle.iocm_model.specs.Record.{Rec, ImageRecord, image}
+use Rattle.std.specs.FinMap.{entries}
+use Rattle.iocm_types.specs.declared.key.Key.{Key}
+use Rattle.iocm_types.specs.declared.sub_id.SubId.{SubId}
+use Rattle.iocm_model.specs.Configuration.{Configuration, Lookup, lookup_of, keyed, image_of, records_of}
+use Rattle.iocm_model.specs.Numbering.{Numbering, cells_of}
+use Rattle.iocm_model.specs.Table.{line_of, heading, table_of}
+use Rattle.iocm_model.specs.View.{row_at, image_view}
+use Rattle.iocm_types.specs.declared.view.View.{View}
+use Rattle.iocm_console.specs.Lines.{Cells, lines_of, image_lines, record_lines}
+
+-- the lines of an image at some cells and at further ones
+pub image_lines-append : (c : Lookup) (i : ImageRecord) (xs ys : Cells) → image_lines c i (xs ++ ys) ≡ image_lines c i xs ++ image_lines c i ys
+unfolding image_lines lines_of
+image_lines-append c i xs ys = simp (filter-append, filter_map-append, flat_map-append)
+
+-- the lines of some records and of further ones
+pub record_lines-append : (c : Lookup) (cells : Cells) (xs ys : List Rec) → record_lines c cells (xs ++ ys) ≡ record_lines c cells xs ++ record_lines c cells ys
+unfolding record_lines
+record_lines-append c cells xs ys = simp (filter_map-append, flat_map-append)
+
+-- a cell of another channel subsystem gives no line
+pub other_css : (c : Lookup) (i : ImageRecord) (e : NumberCell × ℕ) → (e.0.css == i.css) ≡ false → image_lines c i (e ∷ []) ≡ []
+unfolding image_lines lines_of
+other_css c i e h = rw h refl
+
+-- nor does one at which the image sees no device
+pub no_view : (c : Lookup) (i : ImageRecord) (e : NumberCell × ℕ) → image_view c i e.0.set e.1 ≡ None → image_lines c i (e ∷ []) ≡ []
+unfolding image_lines lines_of
+no_view c i e h = go (e.0.css == i.css) refl
+  where
+    go : (t : Bool) → (e.0.css == i.css) ≡ t → image_lines c i (e ∷ []) ≡ []
+    go true t = rw (t, h) refl
+    go false t = rw t refl
+
+-- a view gives its line
+pub one_view : (c : Lookup) (i : ImageRecord) (e : NumberCell × ℕ) (v : View) → e.0.css ≡ i.css → image_view c i e.0.set e.1 ≡ Some v
+    → image_lines c i (e ∷ []) ≡ line_of (record { image = record { css = i.css; mif = i.mif }; set = e.0.set; number = e.0.number }, v) ++ 10 ∷ []
+unfolding image_lines lines_of
+one_view c i e v same h = let t : (e.0.css == i.css) ≡ true = grind (arith, nat_tests) in rw (t, h) (append-nil _)
+
+-- the lines of an image at one more cell
+pub image_lines_more : (c : Lookup) (i : ImageRecord) (xs : List CellDevice) (k : ℕ) (x : CellDevice) → k < length xs → x ≡ get_or xs k x
+    → image_lines c i (celled (take k xs)) ++ image_lines c i (celled (x ∷ [])) ≡ image_lines c i (celled (take (k + 1) xs))
+image_lines_more c i xs k x h is =
+    sym (ap (image_lines c i) (ap celled (take_more xs k x h ∙ ap (λ y. take k xs ++ y ∷ []) (sym is)) ∙ map-append _ (take k xs) _)
+    ∙ image_lines-append c i _ _)
+
+-- the lines of one more record
+pub record_lines_more : (c : Lookup) (cells : Cells) (xs : List Rec) (k : ℕ) (x : Rec) → k < length xs → x ≡ get_or xs k x
+    → record_lines c cells (take k xs) ++ record_lines c cells (x ∷ []) ≡ record_lines c cells (take (k + 1) xs)
+record_lines_more c cells xs k x h is =
+    sym (ap (record_lines c cells) (take_more xs k x h ∙ ap (λ y. take k xs ++ y ∷ []) (sym is)) ∙ record_lines-append c cells _ _)
+
+-- the lines of a record that is an image's
+pub record_lines-image : (c : Lookup) (cells : Cells) (r : Rec) (i : ImageRecord) → r ≡ image i → image_lines c i cells ≡ record_lines c cells (r ∷ [])
+unfolding record_lines
+record_lines-image c cells r i same = rw same (sym (append-nil _))
+
+-- any other record has none
+pub record_lines-other : (c : Lookup) (cells : Cells) (r : Rec) → image_of r ≡ None → record_lines c cells (r ∷ []) ≡ []
+unfolding record_lines
+record_lines-other c cells r none = rw none refl
+
+-- no cells give no lines
+pub image_lines-nil : (c : Lookup) (i : ImageRecord) → [] ≡ image_lines c i []
+unfolding image_lines lines_of
+image_lines-nil c i = refl
+
+-- no records give no lines
+pub record_lines-nil : (c : Lookup) (cells : Cells) → [] ≡ record_lines c cells []
+unfolding record_lines
+record_lines-nil c cells = refl
+
+-- a record that is no image's
+pub no_image : {A : Type 0} (b : RecordBody A) → ((css mif : ℕ) (name : List ℕ) → b ≡ body.Image css mif name → ⊥) → image_of (record_of b) ≡ None
+no_image (body.Id x) h = refl
+no_image (body.Resource x) h = refl
+no_image (body.Image css mif name) h = absurd (h css mif name refl)
+no_image (body.Limit css set limit) h = refl
+no_image (body.Path x) h = refl
+no_image (body.Unit x) h = refl
+no_image (body.Device x) h = refl
+no_image (body.Online css path name) h = refl
+
+-- the records under their keys are the records
+records_back : (records : List Rec) → map (λ (e : Key × Rec). e.1) (keyed records) ≡ records
+records_back [] = refl
+records_back (r ∷ rs) = ap (λ xs. r ∷ xs) (records_back rs)
+
+-- lines of a list of lists of rows
+lines_of-flat_map : (f : ImageRecord → List (SubId × View)) (is : List ImageRecord) → lines_of (flat_map f is) ≡ flat_map (λ i. lines_of (f i)) is
+unfolding lines_of
+lines_of-flat_map f [] = refl
+lines_of-flat_map f (i ∷ is) = flat_map-append _ (f i) (flat_map f is) ∙ ap (λ xs. lines_of (f i) ++ xs) (lines_of-flat_map f is)
+
+-- the heading and then the lines of all records are the table
+pub table_lines : (c : Configuration) (n : Numbering) (cells : Cells) (records : List Rec) → keyed records ≡ entries c → cells ≡ entries (cells_of n)
+    → (heading ++ 10 ∷ []) ++ record_lines (lookup_of c) cells records ≡ table_of c n
+unfolding record_lines image_lines lines_of
+table_lines c n cells records all places =
+    let same : records ≡ records_of c = sym (records_back records) ∙ ap (map (λ (e : Key × Rec). e.1)) all in
+    append_assoc heading (10 ∷ []) _
+    ∙ ap (λ (xs : List ℕ). heading ++ 10 ∷ xs) (rw (← same, ← places) (sym (lines_of-flat_map
+    (λ i. filter_map (row_at (lookup_of c) i) (filter (λ (e : NumberCell × ℕ). e.0.css == i.css) cells)) (filter_map image_of records))))

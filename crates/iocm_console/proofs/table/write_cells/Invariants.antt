@@ -1,0 +1,11 @@
+use Rattle.std.proofs.Common.{take, ◌≡◌}
+use Rattle.iocm_model.specs.Configuration.{lookup_of}
+use Rattle.iocm_numbers.specs.Numbered.{celled}
+use Rattle.iocm_console.specs.Lines.{image_lines}
+use Rattle.iocm_console.specs.Output.{has_failed, Prints}
+use Rattle.iocm_console.proofs.table.write_cells.Given as goal
+
+abbrev pub invariant-loop-place : goal.invariant-loop-place
+invariant-loop-place g l =
+    Prints g.W.Write.contents l.initial.output l.output (image_lines (lookup_of l.sight.records) l.sight.image (celled (take l.place-index l.cells)))
+    × (has_failed l.output ≡ has_failed l.initial.output)

@@ -1,0 +1,31 @@
+-- The lines of the table, image by image.
+use Rattle.std.specs.Prelude.{ℕ, ◌==◌, List, [], ◌∷◌, ◌++◌, filter}
+use Rattle.std.specs.List.{flat_map, filter_map}
+use Rattle.iocm_types.specs.declared.place.NumberCell.{NumberCell}
+use Rattle.iocm_types.specs.declared.sub_id.SubId.{SubId}
+use Rattle.iocm_types.specs.declared.view.View.{View}
+use Rattle.iocm_model.specs.Record.{Rec, ImageRecord}
+use Rattle.iocm_model.specs.Configuration.{Lookup, image_of}
+use Rattle.iocm_model.specs.Table.{line_of}
+use Rattle.iocm_model.specs.View.{row_at}
+use Rattle.iocm_console.specs.declared.table.NamedImage.{NamedImage}
+
+-- number cells with their devices
+abbrev pub Cells : Type 0
+Cells = List (NumberCell × ℕ)
+
+-- the lines of some subchannels, each with its end
+unfoldable pub lines_of : List (SubId × View) → List ℕ
+lines_of rows = flat_map (λ row. line_of row ++ 10 ∷ []) rows
+
+-- the lines of an image at some number cells, of which those of its channel subsystem count
+unfoldable pub image_lines : Lookup → ImageRecord → Cells → List ℕ
+image_lines c i cells = lines_of (filter_map (row_at c i) (filter (λ (e : NumberCell × ℕ). e.0.css == i.css) cells))
+
+-- the lines of the images among some records
+unfoldable pub record_lines : Lookup → Cells → List Rec → List ℕ
+record_lines c cells records = flat_map (λ i. image_lines c i cells) (filter_map image_of records)
+
+-- the record of an image
+abbrev pub image_record : NamedImage → ImageRecord
+image_record i = record { css = i.image.css; mif = i.image.mif; name = i.name }

@@ -1,0 +1,97 @@
+ghost use Rattle.std.specs.Prelude.{◌≡◌, false, ◌++◌, ◌∷◌, [], IsOk, OnOk, IfErr};
+ghost use Rattle.std.specs.Io.KnownBytes.{Keeps};
+ghost use Rattle.iocm_model.specs.Table.{line_of, heading};
+ghost use Rattle.iocm_console.specs.Output.{writer_of, has_failed, Prints, FailedToWrite};
+ghost use Rattle.iocm_console.specs.Refusal.{refusal_line};
+
+use crate::row::{write_heading, write_row};
+use crate::{ConsoleError, Refusal};
+use iocm_types::{Fault, SubId, View};
+use std::io;
+use std::io::Write;
+
+/// A writer, and a note of whether a write to it failed.
+#[derive(Drop)]
+pub struct Output<W> {
+    writer: W,
+    failed: bool,
+}
+
+impl<W> Output<W> {
+    /// A writer to which no write has failed.
+    pub fn new(writer: W) -> Self
+        ensures writer { writer_of result ≡ writer }
+        ensures works { has_failed result ≡ false }
+    {
+        Output {
+            writer,
+            failed: false,
+        }
+    }
+
+    /// Whether a write failed.
+    pub fn has_failed(&self) -> bool
+        ensures { result ≡ has_failed self.now }
+    {
+        self.failed
+    }
+
+    /// Notes whether a write failed.
+    fn note(&mut self, written: io::Result<()>) -> Result<(), ConsoleError>
+        ensures writer { writer_of self.new ≡ writer_of self.old }
+        ensures ok { OnOk result (IsOk written) }
+        ensures works { OnOk result (has_failed self.new ≡ has_failed self.old) }
+        ensures fault { IfErr result (FailedToWrite self.new) }
+    {
+        match written {
+            Ok(()) => Ok(()),
+            Err(_) => {
+                self.failed = true;
+                Err(ConsoleError::Write)
+            }
+        }
+    }
+}
+
+impl<W: Write> Output<W> {
+    /// Writes the heading of the table. Takes no memory.
+    pub(crate) fn heading(&mut self) -> Result<(), ConsoleError>
+        ensures text { OnOk result (Prints W.contents self.old self.new (heading ++ 10 ∷ [])) }
+        ensures works { OnOk result (has_failed self.new ≡ has_failed self.old) }
+        ensures fault { IfErr result (FailedToWrite self.new) }
+    {
+        let written = write_heading(&mut self.writer);
+        self.note(written)
+    }
+
+    /// Writes the line of a subchannel. Takes no memory.
+    pub(crate) fn row(&mut self, id: SubId, view: &View) -> Result<(), ConsoleError>
+        ensures text { OnOk result (Prints W.contents self.old self.new (line_of (id, view.now) ++ 10 ∷ [])) }
+        ensures works { OnOk result (has_failed self.new ≡ has_failed self.old) }
+        ensures fault { IfErr result (FailedToWrite self.new) }
+    {
+        let written = write_row(&mut self.writer, id, view);
+        self.note(written)
+    }
+
+    /// Writes a refusal. Takes no memory.
+    pub(crate) fn refusal(&mut self, fault: Fault) -> Result<(), ConsoleError>
+        ensures text { OnOk result (Prints W.contents self.old self.new (refusal_line fault)) }
+        ensures works { OnOk result (has_failed self.new ≡ has_failed self.old) }
+        ensures fault { IfErr result (FailedToWrite self.new) }
+    {
+        let refusal = Refusal(fault);
+        let written = writeln!(self.writer, "{refusal}");
+        self.note(written)
+    }
+
+    /// Hands on what the writer still keeps to itself.
+    pub(crate) fn flush(&mut self) -> Result<(), ConsoleError>
+        ensures text { Keeps (W.contents (writer_of self.old)) (W.contents (writer_of self.new)) }
+        ensures works { OnOk result (has_failed self.new ≡ has_failed self.old) }
+        ensures fault { IfErr result (FailedToWrite self.new) }
+    {
+        let written = self.writer.flush();
+        self.note(written)
+    }
+}

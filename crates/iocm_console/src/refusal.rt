@@ -1,0 +1,23 @@
+use iocm_types::{Fault, Rule};
+use std::fmt;
+
+/// A refusal as it is printed, without the end of its line: its number and its line, and want of memory,
+/// which stands at no line, by its number alone.
+#[derive(Clone, Copy, Debug)]
+pub struct Refusal(pub Fault);
+
+impl fmt::Display for Refusal {
+    ghost use Rattle.std.specs.Prelude.{Some};
+    ghost use Rattle.iocm_console.specs.Refusal.{refusal_text};
+
+    ghost output = { λ r. Some (refusal_text r.0) };
+
+    fn fmt<W: fmt::Write>(&self, f: &mut fmt::Formatter<W>) -> fmt::Result {
+        let rule = self.0.rule;
+        let line = self.0.line;
+        match rule {
+            Rule::M1 => write!(f, "refused {rule}"),
+            _ => write!(f, "refused {rule} line {line}"),
+        }
+    }
+}

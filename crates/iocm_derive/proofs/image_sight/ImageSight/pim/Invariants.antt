@@ -1,0 +1,13 @@
+-- The bits so far, with those of the paths that are left, are the mask.
+use Rattle.std.proofs.Common.{◌≡◌, ◌+◌, ◌*◌, ◌≤◌, drop}
+use Rattle.iocm_model.specs.Configuration.{lookup_of}
+use Rattle.iocm_model.specs.Mask.{mask_from}
+use Rattle.iocm_model.specs.Sight.{reaches}
+use Rattle.iocm_derive.proofs.image_sight.ImageSight.pim.Given as goal
+
+abbrev pub invariant-loop-path : goal.invariant-loop-path
+invariant-loop-path g l = record {
+  small : l.bits + 2 * l.bit ≤ 256;
+  rest : l.bits + mask_from l.bit (reaches (lookup_of l.self.records) l.self.image.css l.self.image.name) (drop l.path-index l.path-items)
+      ≡ mask_from 128 (reaches (lookup_of l.self.records) l.self.image.css l.self.image.name) l.path-items;
+}

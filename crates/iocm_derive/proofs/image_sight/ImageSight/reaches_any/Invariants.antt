@@ -1,0 +1,12 @@
+-- None of the paths so far is reached.
+use Rattle.std.proofs.Common.{◌≡◌, drop}
+use Rattle.std.specs.List.{list_any}
+use Rattle.iocm_model.specs.Configuration.{lookup_of}
+use Rattle.iocm_model.specs.PathList.{paths_in}
+use Rattle.iocm_model.specs.Sight.{reaches}
+use Rattle.iocm_derive.proofs.image_sight.ImageSight.reaches_any.Given as goal
+
+abbrev pub invariant-loop-path : goal.invariant-loop-path
+invariant-loop-path g l =
+    list_any (reaches (lookup_of l.self.records) l.self.image.css l.self.image.name) (paths_in l.self.image.css (drop l.path-index l.paths))
+    ≡ list_any (reaches (lookup_of l.self.records) l.self.image.css l.self.image.name) (paths_in l.self.image.css l.paths)

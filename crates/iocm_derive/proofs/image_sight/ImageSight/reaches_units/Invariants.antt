@@ -1,0 +1,12 @@
+-- None of the units so far has a path that is reached.
+use Rattle.std.proofs.Common.{◌≡◌, drop}
+use Rattle.std.specs.List.{list_any}
+use Rattle.iocm_model.specs.Configuration.{lookup_of}
+use Rattle.iocm_model.specs.PathList.{path_list}
+use Rattle.iocm_model.specs.Sight.{reaches}
+use Rattle.iocm_derive.proofs.image_sight.ImageSight.reaches_units.Given as goal
+
+abbrev pub invariant-loop-unit : goal.invariant-loop-unit
+invariant-loop-unit g l =
+    list_any (reaches (lookup_of l.self.records) l.self.image.css l.self.image.name) (path_list (lookup_of l.self.records) l.self.image.css (drop l.unit-index l.units))
+    ≡ list_any (reaches (lookup_of l.self.records) l.self.image.css l.self.image.name) (path_list (lookup_of l.self.records) l.self.image.css l.units)

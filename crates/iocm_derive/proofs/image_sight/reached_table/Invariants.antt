@@ -1,0 +1,11 @@
+-- The table is right up to the number.
+use Rattle.std.proofs.Common.{◌≡◌, ℕ, ◌<◌, false, length, get_or}
+use Rattle.iocm_model.specs.Configuration.{lookup_of}
+use Rattle.iocm_model.specs.Sight.{reaches}
+use Rattle.iocm_derive.proofs.image_sight.reached_table.Given as goal
+
+abbrev pub invariant-loop-number : goal.invariant-loop-number
+invariant-loop-number g l = record {
+  long : length l.table ≡ 256;
+  right : (k : ℕ) → k < l.number → get_or l.table k false ≡ reaches (lookup_of l.config.records) l.css l.name k;
+}
