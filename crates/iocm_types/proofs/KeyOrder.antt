@@ -110,6 +110,7 @@ pub cells_exact : IsAntisymmetric cell_cmp
 cells_exact x y e =
     let same = same_numbers x.css y.css x.set y.set x.number y.number e in
     λ i. record { css = same.0 i; set = same.1 i; number = same.2 i }
+
 -- the derived order of subchannels is the definition
 pub derived_sub_id_cmp : ◌≡◌ {A = SubId → SubId → Ordering} of_subchannels.ghosts.cmp sub_id_cmp
 derived_sub_id_cmp = refl
