@@ -16,12 +16,10 @@ use iocm_columns::Device;
 use iocm_console::{ConsoleError, Output, refuse, show_deck};
 use iocm_types::Fault;
 use std::alloc::AllocError;
-use std::env;
-use std::fs;
-use std::io;
 use std::io::BufWriter;
 use std::process::ExitCode;
 use std::rt::{Env, Files};
+use std::{env, fs, io};
 
 /// How often a deck is read at most.
 const MOST_READS: u64 = 1_048_576;
@@ -89,7 +87,11 @@ fn explain<R: Print + Eprint>(rt: &R, error: &clap::Error) -> Result<ExitCode, C
     let Ok(()) = error.print(rt) else {
         return Err(ConsoleError::Write);
     };
-    Ok(if error.use_stderr() { ExitCode::from(USAGE) } else { ExitCode::SUCCESS })
+    Ok(if error.use_stderr() {
+        ExitCode::from(USAGE)
+    } else {
+        ExitCode::SUCCESS
+    })
 }
 
 /// Prints why the words of the command line cannot be read.

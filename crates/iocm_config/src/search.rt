@@ -34,7 +34,11 @@ fn is_at<A: Allocator>(records: &[Record<A>], at: usize, key: &Key) -> bool
 }
 
 /// The same as `search`, which first looks at a place near which the record may stand, and at the next one.
-pub fn search_near<A: Allocator>(records: &[Record<A>], key: &Key, near: usize) -> Result<usize, usize>
+pub fn search_near<A: Allocator>(
+    records: &[Record<A>],
+    key: &Key,
+    near: usize,
+) -> Result<usize, usize>
     ensures bound { IsSearchInRange result (length records.now) }
     ensures position { IsBinarySearchResult (λ r. key_cmp (key_of r) key.now) records.now result }
 {

@@ -62,7 +62,11 @@ pub fn find_device_near<'a, A: Allocator>(
 }
 
 /// The same as `find_paths`, near where the last unit was found.
-pub fn find_paths_near<'a, A: Allocator>(config: &'a Config<A>, unit: UnitNo, near: &mut Near) -> &'a [CssPath]
+pub fn find_paths_near<'a, A: Allocator>(
+    config: &'a Config<A>,
+    unit: UnitNo,
+    near: &mut Near,
+) -> &'a [CssPath]
     ensures { result.now ≡ all_paths (lookup_of config.entry.now.records (key.Unit unit)) }
 {
     let mut at = near.unit;

@@ -10,7 +10,7 @@ use std::test::Fail;
 /// The operation of a statement and its operands.
 type Line = (&'static [u8], &'static [u8]);
 
-const IMAGES: &'static [u8] = b"PARTITION=((CSS(0),(LPA,1),(LPB,2)),(CSS(1),(LPC,1)))";
+const IMAGES: &[u8] = b"PARTITION=((CSS(0),(LPA,1),(LPB,2)),(CSS(1),(LPC,1)))";
 
 /// A deck of these statements, one a line.
 fn deck(alloc: Global, lines: &[Line]) -> Result<Vec<Statement>, Fault> {
@@ -160,307 +160,306 @@ fn try_forms(
     rt: &impl Abort,
     alloc: Global,
     operation: &'static [u8],
-    forms: &[(&'static [u8], &'static str)],
+    forms: &[(&'static str, &'static str)],
 ) -> Result<(), Fail> {
     for (text, wanted) in forms {
-        let lines: [Line; 2] = [(b"RESOURCE", IMAGES), (operation, *text)];
+        let lines: [Line; 2] = [(b"RESOURCE", IMAGES), (operation, text.as_bytes())];
         let statements = deck(alloc, &lines)?;
         let answer = shown(alloc, statements.as_slice(), 3)?;
-        assert_eq!(rt; answer.as_str(), *wanted);
+        assert_eq!(rt; answer.as_str(), *wanted, "{text}");
     }
     Ok(())
 }
 
-const MALFORMED: &'static str = "S4 line 2";
+const MALFORMED: &str = "S4 line 2";
 
-const LEFT_OUT: &'static str = "S5 line 2";
+const LEFT_OUT: &str = "S5 line 2";
 
 #[test]
 fn reads_each_form_of_a_path(rt: HostRuntime) -> Result<(), Fail> {
-    const PATH: &'static str = "; path 0.50 dedicated /";
+    const PATH: &str = "; path 0.50 dedicated /";
     try_forms(
         &rt,
         rt.alloc(),
         b"CHPID",
         &[
-            (b"PATH=50", PATH),
-            (b"PATH=(50)", PATH),
-            (b"PATH=((50))", PATH),
-            (b"PATH=(CSS(0),50)", PATH),
-            (b"PATH=((CSS(000),50))", PATH),
-            (b"PATH=(CSS(5),F)", "; path 5.0F dedicated /"),
+            ("PATH=50", PATH),
+            ("PATH=(50)", PATH),
+            ("PATH=((50))", PATH),
+            ("PATH=(CSS(0),50)", PATH),
+            ("PATH=((CSS(000),50))", PATH),
+            ("PATH=(CSS(5),F)", "; path 5.0F dedicated /"),
             (
-                b"PATH=50,SHARED,SHARED",
+                "PATH=50,SHARED,SHARED",
                 "; path 0.50 shared LPA LPB / LPA LPB; online 0.50.LPA; online 0.50.LPB",
             ),
             (
-                b"PATH=(CSS(1),50),SHARED",
+                "PATH=(CSS(1),50),SHARED",
                 "; path 1.50 shared LPC / LPC; online 1.50.LPC",
             ),
-            (b"PATH=(CSS(2),50),SHARED", "; path 2.50 shared /"),
-            (b"PATH=", MALFORMED),
-            (b"PATH=()", MALFORMED),
-            (b"PATH=(((50)))", MALFORMED),
-            (b"PATH=((50),)", MALFORMED),
-            (b"PATH=150", MALFORMED),
-            (b"PATH=5a", MALFORMED),
-            (b"PATH='50'", MALFORMED),
-            (b"PATH=(CSS(6),50)", MALFORMED),
-            (b"PATH=(CSS(0))", MALFORMED),
-            (b"PATH=CSS(0)", MALFORMED),
-            (b"PATH=(CSS(0,A),50)", MALFORMED),
-            (b"PATH=(CSS(0,),50)", MALFORMED),
-            (b"PATH=(CSS(),50)", MALFORMED),
-            (b"PATH=(CSS(0,1)X,50)", MALFORMED),
-            (b"PATH=(CSS(0),50,5G)", MALFORMED),
-            (b"PATH=(CSS(0),50,151)", MALFORMED),
-            (b"PATH=('50',51)", MALFORMED),
-            (b"PATH=50,SHARED=", MALFORMED),
-            (b"PATH=50,SHARED=CSS(0,1)", MALFORMED),
-            (b"PATH=50,PATH", MALFORMED),
-            (b"PATH=50,PARTITION", MALFORMED),
-            (b"PATH=(50,51)", LEFT_OUT),
-            (b"PATH=(CSS(0),(50,51))", LEFT_OUT),
-            (b"PATH=(50,51,)", LEFT_OUT),
-            (b"PATH=(CSS(0,9),50)", LEFT_OUT),
-            (b"PATH=50,NOTPART", LEFT_OUT),
-            (b"PATH=50,NOTPART=LPA", LEFT_OUT),
+            ("PATH=(CSS(2),50),SHARED", "; path 2.50 shared /"),
+            ("PATH=", MALFORMED),
+            ("PATH=()", MALFORMED),
+            ("PATH=(((50)))", MALFORMED),
+            ("PATH=((50),)", MALFORMED),
+            ("PATH=150", MALFORMED),
+            ("PATH=5a", MALFORMED),
+            ("PATH='50'", MALFORMED),
+            ("PATH=(CSS(6),50)", MALFORMED),
+            ("PATH=(CSS(0))", MALFORMED),
+            ("PATH=CSS(0)", MALFORMED),
+            ("PATH=(CSS(0,A),50)", MALFORMED),
+            ("PATH=(CSS(0,),50)", MALFORMED),
+            ("PATH=(CSS(),50)", MALFORMED),
+            ("PATH=(CSS(0,1)X,50)", MALFORMED),
+            ("PATH=(CSS(0),50,5G)", MALFORMED),
+            ("PATH=(CSS(0),50,151)", MALFORMED),
+            ("PATH=('50',51)", MALFORMED),
+            ("PATH=50,SHARED=", MALFORMED),
+            ("PATH=50,SHARED=CSS(0,1)", MALFORMED),
+            ("PATH=50,PATH", MALFORMED),
+            ("PATH=50,PARTITION", MALFORMED),
+            ("PATH=(50,51)", LEFT_OUT),
+            ("PATH=(CSS(0),(50,51))", LEFT_OUT),
+            ("PATH=(50,51,)", LEFT_OUT),
+            ("PATH=(CSS(0,9),50)", LEFT_OUT),
+            ("PATH=50,NOTPART", LEFT_OUT),
+            ("PATH=50,NOTPART=LPA", LEFT_OUT),
         ],
     )
 }
 
 #[test]
 fn reads_each_form_of_an_access_list(rt: HostRuntime) -> Result<(), Fail> {
-    const LPA: &'static str = "; path 0.50 dedicated LPA / LPA; online 0.50.LPA";
-    const BOTH: &'static str =
-        "; path 0.50 dedicated LPA LPB / LPA LPB; online 0.50.LPA; online 0.50.LPB";
-    const WITH_BOTH: &'static str = "; path 0.50 dedicated LPA / LPA LPB; online 0.50.LPA";
-    const NONE: &'static str = "; path 0.50 dedicated /";
+    const LPA: &str = "; path 0.50 dedicated LPA / LPA; online 0.50.LPA";
+    const BOTH: &str = "; path 0.50 dedicated LPA LPB / LPA LPB; online 0.50.LPA; online 0.50.LPB";
+    const WITH_BOTH: &str = "; path 0.50 dedicated LPA / LPA LPB; online 0.50.LPA";
+    const NONE: &str = "; path 0.50 dedicated /";
     try_forms(
         &rt,
         rt.alloc(),
         b"CHPID",
         &[
-            (b"PATH=50,PARTITION=(LPA)", LPA),
-            (b"PATH=50,PARTITION=(LPA,LPA)", LPA),
-            (b"PATH=50,PARTITION=((LPA))", LPA),
-            (b"PATH=50,PARTITION=(CSS(0),LPA)", LPA),
-            (b"PATH=50,PARTITION=((CSS(0),LPA))", LPA),
-            (b"PATH=50,PARTITION=((LPA),=)", LPA),
-            (b"PATH=50,PARTITION=(LPA,(=))", LPA),
-            (b"PATH=50,PARTITION=(LPB,LPA)", BOTH),
-            (b"PATH=50,PARTITION=((LPB,LPA),(=))", BOTH),
-            (b"PATH=50,PARTITION=(LPA,(LPA,LPB))", WITH_BOTH),
-            (b"PATH=50,PARTITION=((CSS(0),(LPA),(LPB,LPA)))", WITH_BOTH),
+            ("PATH=50,PARTITION=(LPA)", LPA),
+            ("PATH=50,PARTITION=(LPA,LPA)", LPA),
+            ("PATH=50,PARTITION=((LPA))", LPA),
+            ("PATH=50,PARTITION=(CSS(0),LPA)", LPA),
+            ("PATH=50,PARTITION=((CSS(0),LPA))", LPA),
+            ("PATH=50,PARTITION=((LPA),=)", LPA),
+            ("PATH=50,PARTITION=(LPA,(=))", LPA),
+            ("PATH=50,PARTITION=(LPB,LPA)", BOTH),
+            ("PATH=50,PARTITION=((LPB,LPA),(=))", BOTH),
+            ("PATH=50,PARTITION=(LPA,(LPA,LPB))", WITH_BOTH),
+            ("PATH=50,PARTITION=((CSS(0),(LPA),(LPB,LPA)))", WITH_BOTH),
             (
-                b"PATH=50,SHARED,PARTITION=(LPA)",
+                "PATH=50,SHARED,PARTITION=(LPA)",
                 "; path 0.50 shared LPA / LPA LPB; online 0.50.LPA",
             ),
             (
-                b"PATH=50,SHARED,PARTITION=(0)",
+                "PATH=50,SHARED,PARTITION=(0)",
                 "; path 0.50 shared / LPA LPB",
             ),
             (
-                b"PATH=50,PARTITION=((LPA),LPC)",
+                "PATH=50,PARTITION=((LPA),LPC)",
                 "; path 0.50 dedicated LPA / LPC; online 0.50.LPA",
             ),
             (
-                b"PATH=50,PARTITION=(LPA,0)",
+                "PATH=50,PARTITION=(LPA,0)",
                 "; path 0.50 dedicated LPA /; online 0.50.LPA",
             ),
-            (b"PATH=50,PARTITION=(0,LPA)", "; path 0.50 dedicated / LPA"),
-            (b"PATH=50,PARTITION=(0)", NONE),
-            (b"PATH=50,PARTITION=((0),(0))", NONE),
-            (b"PATH=50,PARTITION=(0,=)", NONE),
-            (b"PATH=50,PARTITION=LPA", MALFORMED),
-            (b"PATH=50,PARTITION=0", MALFORMED),
-            (b"PATH=50,PARTITION==", MALFORMED),
-            (b"PATH=50,PARTITION=", MALFORMED),
-            (b"PATH=50,PARTITION=()", MALFORMED),
-            (b"PATH=50,PARTITION=(LPA,)", MALFORMED),
-            (b"PATH=50,PARTITION=(=)", MALFORMED),
-            (b"PATH=50,PARTITION=(=,LPA)", MALFORMED),
-            (b"PATH=50,PARTITION=((=),LPA)", MALFORMED),
-            (b"PATH=50,PARTITION=((LPA,0))", MALFORMED),
-            (b"PATH=50,PARTITION=((LPA),(LPB,=))", MALFORMED),
-            (b"PATH=50,PARTITION=(LPA,LPB,0)", MALFORMED),
-            (b"PATH=50,PARTITION=((LPA),(LPB),(LPA))", MALFORMED),
-            (b"PATH=50,PARTITION=(CSS(0))", MALFORMED),
-            (b"PATH=50,PARTITION=((CSS(0)))", MALFORMED),
-            (b"PATH=50,PARTITION=(CSS(1),LPC)", MALFORMED),
-            (b"PATH=50,PARTITION=((CSS(1),LPC))", MALFORMED),
-            (b"PATH=50,PARTITION=((CSS(0),LPA),(CSS(1),LPC))", MALFORMED),
-            (b"PATH=50,PARTITION=((CSS(0),LPA),LPB)", MALFORMED),
-            (b"PATH=50,PARTITION=(CSS(0,A),LPA)", MALFORMED),
-            (b"PATH=50,PARTITION=(lpa)", MALFORMED),
-            (b"PATH=50,PARTITION=(ABCDEFGHI)", MALFORMED),
-            (b"PATH=50,PARTITION=('LPA')", MALFORMED),
-            (b"PATH=50,PARTITION=(CSS(0,1),LPA)", LEFT_OUT),
-            (b"PATH=50,PARTITION=((CSS(0,1),LPA),=)", LEFT_OUT),
+            ("PATH=50,PARTITION=(0,LPA)", "; path 0.50 dedicated / LPA"),
+            ("PATH=50,PARTITION=(0)", NONE),
+            ("PATH=50,PARTITION=((0),(0))", NONE),
+            ("PATH=50,PARTITION=(0,=)", NONE),
+            ("PATH=50,PARTITION=LPA", MALFORMED),
+            ("PATH=50,PARTITION=0", MALFORMED),
+            ("PATH=50,PARTITION==", MALFORMED),
+            ("PATH=50,PARTITION=", MALFORMED),
+            ("PATH=50,PARTITION=()", MALFORMED),
+            ("PATH=50,PARTITION=(LPA,)", MALFORMED),
+            ("PATH=50,PARTITION=(=)", MALFORMED),
+            ("PATH=50,PARTITION=(=,LPA)", MALFORMED),
+            ("PATH=50,PARTITION=((=),LPA)", MALFORMED),
+            ("PATH=50,PARTITION=((LPA,0))", MALFORMED),
+            ("PATH=50,PARTITION=((LPA),(LPB,=))", MALFORMED),
+            ("PATH=50,PARTITION=(LPA,LPB,0)", MALFORMED),
+            ("PATH=50,PARTITION=((LPA),(LPB),(LPA))", MALFORMED),
+            ("PATH=50,PARTITION=(CSS(0))", MALFORMED),
+            ("PATH=50,PARTITION=((CSS(0)))", MALFORMED),
+            ("PATH=50,PARTITION=(CSS(1),LPC)", MALFORMED),
+            ("PATH=50,PARTITION=((CSS(1),LPC))", MALFORMED),
+            ("PATH=50,PARTITION=((CSS(0),LPA),(CSS(1),LPC))", MALFORMED),
+            ("PATH=50,PARTITION=((CSS(0),LPA),LPB)", MALFORMED),
+            ("PATH=50,PARTITION=(CSS(0,A),LPA)", MALFORMED),
+            ("PATH=50,PARTITION=(lpa)", MALFORMED),
+            ("PATH=50,PARTITION=(ABCDEFGHI)", MALFORMED),
+            ("PATH=50,PARTITION=('LPA')", MALFORMED),
+            ("PATH=50,PARTITION=(CSS(0,1),LPA)", LEFT_OUT),
+            ("PATH=50,PARTITION=((CSS(0,1),LPA),=)", LEFT_OUT),
         ],
     )
 }
 
 #[test]
 fn reads_each_form_of_a_control_unit(rt: HostRuntime) -> Result<(), Fail> {
-    const ALL: &'static str = "; unit 1000 00+256";
-    const PATHS: &'static str = "; unit 1000 0.50 0.51 00+256";
-    const RANGE: &'static str = "; unit 1000 20+16";
-    const ONE: &'static str = "; unit 1000 20+1";
+    const ALL: &str = "; unit 1000 00+256";
+    const PATHS: &str = "; unit 1000 0.50 0.51 00+256";
+    const RANGE: &str = "; unit 1000 20+16";
+    const ONE: &str = "; unit 1000 20+1";
     try_forms(
         &rt,
         rt.alloc(),
         b"CNTLUNIT",
         &[
-            (b"CUNUMBR=1000", ALL),
-            (b"CUNUMBR=5", "; unit 0005 00+256"),
-            (b"CUNUMBR=FFFE", "; unit FFFE 00+256"),
-            (b"CUNUMBR=FFFF", MALFORMED),
-            (b"CUNUMBR=01000", MALFORMED),
-            (b"CUNUMBR=(1000)", MALFORMED),
-            (b"CUNUMBR=", MALFORMED),
-            (b"CUNUMBR=1000,CUNUMBR", MALFORMED),
-            (b"CUNUMBR=1000,PATH=(50,51)", PATHS),
-            (b"CUNUMBR=1000,PATH=(CSS(0),50,51)", PATHS),
-            (b"CUNUMBR=1000,PATH=((CSS(0),50,51))", PATHS),
-            (b"CUNUMBR=1000,PATH=((CSS(0),50),(CSS(0),51))", PATHS),
+            ("CUNUMBR=1000", ALL),
+            ("CUNUMBR=5", "; unit 0005 00+256"),
+            ("CUNUMBR=FFFE", "; unit FFFE 00+256"),
+            ("CUNUMBR=FFFF", MALFORMED),
+            ("CUNUMBR=01000", MALFORMED),
+            ("CUNUMBR=(1000)", MALFORMED),
+            ("CUNUMBR=", MALFORMED),
+            ("CUNUMBR=1000,CUNUMBR", MALFORMED),
+            ("CUNUMBR=1000,PATH=(50,51)", PATHS),
+            ("CUNUMBR=1000,PATH=(CSS(0),50,51)", PATHS),
+            ("CUNUMBR=1000,PATH=((CSS(0),50,51))", PATHS),
+            ("CUNUMBR=1000,PATH=((CSS(0),50),(CSS(0),51))", PATHS),
             (
-                b"CUNUMBR=1000,PATH=((CSS(1),52),(CSS(0),51),(CSS(1),50))",
+                "CUNUMBR=1000,PATH=((CSS(1),52),(CSS(0),51),(CSS(1),50))",
                 "; unit 1000 0.51 1.52 1.50 00+256",
             ),
-            (b"CUNUMBR=1000,PATH=50", MALFORMED),
-            (b"CUNUMBR=1000,PATH=()", MALFORMED),
-            (b"CUNUMBR=1000,PATH=(50,)", MALFORMED),
-            (b"CUNUMBR=1000,PATH=((CSS(0),50),51)", MALFORMED),
-            (b"CUNUMBR=1000,PATH=(CSS(0))", MALFORMED),
-            (b"CUNUMBR=1000,PATH=((CSS(0)))", MALFORMED),
-            (b"CUNUMBR=1000,PATH=(CSS(6),50)", MALFORMED),
-            (b"CUNUMBR=1000,PATH=(CSS(0),(50))", MALFORMED),
-            (b"CUNUMBR=1000,PATH=(150)", MALFORMED),
-            (b"CUNUMBR=1000,PATH=((CSS(0,1),50))", LEFT_OUT),
-            (b"CUNUMBR=1000,UNITADD=((20,16))", RANGE),
-            (b"CUNUMBR=1000,UNITADD=(20,016)", RANGE),
-            (b"CUNUMBR=1000,UNITADD=((20))", ONE),
-            (b"CUNUMBR=1000,UNITADD=(20)", ONE),
-            (b"CUNUMBR=1000,UNITADD=20", ONE),
+            ("CUNUMBR=1000,PATH=50", MALFORMED),
+            ("CUNUMBR=1000,PATH=()", MALFORMED),
+            ("CUNUMBR=1000,PATH=(50,)", MALFORMED),
+            ("CUNUMBR=1000,PATH=((CSS(0),50),51)", MALFORMED),
+            ("CUNUMBR=1000,PATH=(CSS(0))", MALFORMED),
+            ("CUNUMBR=1000,PATH=((CSS(0)))", MALFORMED),
+            ("CUNUMBR=1000,PATH=(CSS(6),50)", MALFORMED),
+            ("CUNUMBR=1000,PATH=(CSS(0),(50))", MALFORMED),
+            ("CUNUMBR=1000,PATH=(150)", MALFORMED),
+            ("CUNUMBR=1000,PATH=((CSS(0,1),50))", LEFT_OUT),
+            ("CUNUMBR=1000,UNITADD=((20,16))", RANGE),
+            ("CUNUMBR=1000,UNITADD=(20,016)", RANGE),
+            ("CUNUMBR=1000,UNITADD=((20))", ONE),
+            ("CUNUMBR=1000,UNITADD=(20)", ONE),
+            ("CUNUMBR=1000,UNITADD=20", ONE),
             (
-                b"CUNUMBR=1000,UNITADD=((40,2),20,(8,256))",
+                "CUNUMBR=1000,UNITADD=((40,2),20,(8,256))",
                 "; unit 1000 40+2 20+1 08+256",
             ),
-            (b"CUNUMBR=1000,UNITADD=(20,(00,16))", MALFORMED),
-            (b"CUNUMBR=1000,UNITADD=((20,0))", MALFORMED),
-            (b"CUNUMBR=1000,UNITADD=((20,257))", MALFORMED),
-            (b"CUNUMBR=1000,UNITADD=((20,1A))", MALFORMED),
-            (b"CUNUMBR=1000,UNITADD=((120,1))", MALFORMED),
-            (b"CUNUMBR=1000,UNITADD=()", MALFORMED),
-            (b"CUNUMBR=1000,UNITADD=((20,16),)", MALFORMED),
-            (b"CUNUMBR=1000,UNITADD=((20,1,2))", MALFORMED),
-            (b"CUNUMBR=1000,UNITADD=(((20,16)))", MALFORMED),
-            (b"CUNUMBR=1000,CUADD=2", "; unit 1000 00+256 cuadd 02"),
-            (b"CUNUMBR=1000,CUADD=00", "; unit 1000 00+256 cuadd 00"),
-            (b"CUNUMBR=1000,CUADD=100", MALFORMED),
-            (b"CUNUMBR=1000,CUADD=(2)", MALFORMED),
-            (b"CUNUMBR=1000,CUADD=", MALFORMED),
+            ("CUNUMBR=1000,UNITADD=(20,(00,16))", MALFORMED),
+            ("CUNUMBR=1000,UNITADD=((20,0))", MALFORMED),
+            ("CUNUMBR=1000,UNITADD=((20,257))", MALFORMED),
+            ("CUNUMBR=1000,UNITADD=((20,1A))", MALFORMED),
+            ("CUNUMBR=1000,UNITADD=((120,1))", MALFORMED),
+            ("CUNUMBR=1000,UNITADD=()", MALFORMED),
+            ("CUNUMBR=1000,UNITADD=((20,16),)", MALFORMED),
+            ("CUNUMBR=1000,UNITADD=((20,1,2))", MALFORMED),
+            ("CUNUMBR=1000,UNITADD=(((20,16)))", MALFORMED),
+            ("CUNUMBR=1000,CUADD=2", "; unit 1000 00+256 cuadd 02"),
+            ("CUNUMBR=1000,CUADD=00", "; unit 1000 00+256 cuadd 00"),
+            ("CUNUMBR=1000,CUADD=100", MALFORMED),
+            ("CUNUMBR=1000,CUADD=(2)", MALFORMED),
+            ("CUNUMBR=1000,CUADD=", MALFORMED),
         ],
     )
 }
 
 #[test]
 fn reads_each_form_of_a_device(rt: HostRuntime) -> Result<(), Fail> {
-    const ONE: &'static str = "; device 0.1000 at 00";
-    const TWO: &'static str = "; device 0.1000 at 00; device 0.1001 at 01";
+    const ONE: &str = "; device 0.1000 at 00";
+    const TWO: &str = "; device 0.1000 at 00; device 0.1001 at 01";
     try_forms(
         &rt,
         rt.alloc(),
         b"IODEVICE",
         &[
-            (b"ADDRESS=1000", ONE),
-            (b"ADDRESS=(1000)", ONE),
-            (b"ADDRESS=(1000,1)", ONE),
-            (b"ADDRESS=(1000,002)", TWO),
+            ("ADDRESS=1000", ONE),
+            ("ADDRESS=(1000)", ONE),
+            ("ADDRESS=(1000,1)", ONE),
+            ("ADDRESS=(1000,002)", TWO),
             (
-                b"ADDRESS=(10FF,2)",
+                "ADDRESS=(10FF,2)",
                 "; device 0.10FF at FF; device 0.1100 at 00",
             ),
-            (b"ADDRESS=(FFFF,1)", "; device 0.FFFF at FF"),
-            (b"ADDRESS=A", "; device 0.000A at 0A"),
-            (b"ADDRESS=((1000,4))", MALFORMED),
-            (b"ADDRESS=(1000,0)", MALFORMED),
-            (b"ADDRESS=(1000,4097)", MALFORMED),
-            (b"ADDRESS=(1000,A)", MALFORMED),
-            (b"ADDRESS=(FFFF,2)", MALFORMED),
-            (b"ADDRESS=10000", MALFORMED),
-            (b"ADDRESS=(1000,4,5)", MALFORMED),
-            (b"ADDRESS=", MALFORMED),
-            (b"ADDRESS=()", MALFORMED),
-            (b"ADDRESS=1000,ADDRESS", MALFORMED),
+            ("ADDRESS=(FFFF,1)", "; device 0.FFFF at FF"),
+            ("ADDRESS=A", "; device 0.000A at 0A"),
+            ("ADDRESS=((1000,4))", MALFORMED),
+            ("ADDRESS=(1000,0)", MALFORMED),
+            ("ADDRESS=(1000,4097)", MALFORMED),
+            ("ADDRESS=(1000,A)", MALFORMED),
+            ("ADDRESS=(FFFF,2)", MALFORMED),
+            ("ADDRESS=10000", MALFORMED),
+            ("ADDRESS=(1000,4,5)", MALFORMED),
+            ("ADDRESS=", MALFORMED),
+            ("ADDRESS=()", MALFORMED),
+            ("ADDRESS=1000,ADDRESS", MALFORMED),
             (
-                b"ADDRESS=(1000,2),UNITADD=5",
+                "ADDRESS=(1000,2),UNITADD=5",
                 "; device 0.1000 at 05; device 0.1001 at 06",
             ),
             (
-                b"ADDRESS=(1000,2),UNITADD=FE",
+                "ADDRESS=(1000,2),UNITADD=FE",
                 "; device 0.1000 at FE; device 0.1001 at FF",
             ),
-            (b"ADDRESS=(1000,2),UNITADD=FF", MALFORMED),
-            (b"ADDRESS=(1000,2),UNITADD=100", MALFORMED),
-            (b"ADDRESS=(1000,2),UNITADD=(10)", MALFORMED),
-            (b"ADDRESS=(1000,2),UNITADD=", MALFORMED),
-            (b"ADDRESS=1000,CUNUMBR=1000", "; device 0.1000 1000 at 00"),
+            ("ADDRESS=(1000,2),UNITADD=FF", MALFORMED),
+            ("ADDRESS=(1000,2),UNITADD=100", MALFORMED),
+            ("ADDRESS=(1000,2),UNITADD=(10)", MALFORMED),
+            ("ADDRESS=(1000,2),UNITADD=", MALFORMED),
+            ("ADDRESS=1000,CUNUMBR=1000", "; device 0.1000 1000 at 00"),
             (
-                b"ADDRESS=1000,CUNUMBR=(1001,1000)",
+                "ADDRESS=1000,CUNUMBR=(1001,1000)",
                 "; device 0.1000 1001 1000 at 00",
             ),
-            (b"ADDRESS=1000,CUNUMBR=FFFF", MALFORMED),
-            (b"ADDRESS=1000,CUNUMBR=(1000,FFFF)", MALFORMED),
-            (b"ADDRESS=1000,CUNUMBR=((1000))", MALFORMED),
-            (b"ADDRESS=1000,CUNUMBR=(1000,)", MALFORMED),
-            (b"ADDRESS=1000,SCHSET=(0,1)", LEFT_OUT),
-            (b"ADDRESS=1000,NOTPART", LEFT_OUT),
-            (b"ADDRESS=1000,NOTPART=LPA", LEFT_OUT),
+            ("ADDRESS=1000,CUNUMBR=FFFF", MALFORMED),
+            ("ADDRESS=1000,CUNUMBR=(1000,FFFF)", MALFORMED),
+            ("ADDRESS=1000,CUNUMBR=((1000))", MALFORMED),
+            ("ADDRESS=1000,CUNUMBR=(1000,)", MALFORMED),
+            ("ADDRESS=1000,SCHSET=(0,1)", LEFT_OUT),
+            ("ADDRESS=1000,NOTPART", LEFT_OUT),
+            ("ADDRESS=1000,NOTPART=LPA", LEFT_OUT),
         ],
     )
 }
 
 #[test]
 fn reads_each_form_of_images(rt: HostRuntime) -> Result<(), Fail> {
-    let forms: [(&[u8], &str); 18] = [
-        (b"", ""),
+    let forms: [(&str, &str); 18] = [
+        ("", ""),
         (
-            b"PARTITION=((LPA,1),(LPB,F))",
+            "PARTITION=((LPA,1),(LPB,F))",
             "; image 0.1 LPA; image 0.F LPB",
         ),
         (
-            b"PARTITION=(CSS(0),(LPA,1),(LPB,F))",
+            "PARTITION=(CSS(0),(LPA,1),(LPB,F))",
             "; image 0.1 LPA; image 0.F LPB",
         ),
         (
-            b"PARTITION=((CSS(0),(LPA,1)),(CSS(0),(LPB,F)))",
+            "PARTITION=((CSS(0),(LPA,1)),(CSS(0),(LPB,F)))",
             "; image 0.1 LPA; image 0.F LPB",
         ),
         (
-            b"PARTITION=((CSS(1),(LPC,1)),(CSS(0),(LPB,2),(LPA,1)))",
+            "PARTITION=((CSS(1),(LPC,1)),(CSS(0),(LPB,2),(LPA,1)))",
             "; image 0.2 LPB; image 0.1 LPA; image 1.1 LPC",
         ),
-        (b"PARTITION=((*,1),(LPB,2))", "; image 0.2 LPB"),
-        (b"PARTITION", "S4 line 1"),
-        (b"PARTITION=", "S4 line 1"),
-        (b"PARTITION=LPA", "S4 line 1"),
-        (b"PARTITION=(LPA,1)", "S4 line 1"),
-        (b"PARTITION=((LPA))", "S4 line 1"),
-        (b"PARTITION=((LPA,0))", "S4 line 1"),
-        (b"PARTITION=((LPA,10))", "S4 line 1"),
-        (b"PARTITION=((REC,1))", "S4 line 1"),
-        (b"PARTITION=((*,0))", "S4 line 1"),
-        (b"PARTITION=((CSS(0),(LPA,1)),(LPB,2))", "S4 line 1"),
-        (b"PARTITION=((LPA,1),(LPB,1))", "S8 line 1"),
-        (b"PARTITION=(CSS(0,1),(LPA,1))", "S5 line 1"),
+        ("PARTITION=((*,1),(LPB,2))", "; image 0.2 LPB"),
+        ("PARTITION", "S4 line 1"),
+        ("PARTITION=", "S4 line 1"),
+        ("PARTITION=LPA", "S4 line 1"),
+        ("PARTITION=(LPA,1)", "S4 line 1"),
+        ("PARTITION=((LPA))", "S4 line 1"),
+        ("PARTITION=((LPA,0))", "S4 line 1"),
+        ("PARTITION=((LPA,10))", "S4 line 1"),
+        ("PARTITION=((REC,1))", "S4 line 1"),
+        ("PARTITION=((*,0))", "S4 line 1"),
+        ("PARTITION=((CSS(0),(LPA,1)),(LPB,2))", "S4 line 1"),
+        ("PARTITION=((LPA,1),(LPB,1))", "S8 line 1"),
+        ("PARTITION=(CSS(0,1),(LPA,1))", "S5 line 1"),
     ];
     for (text, wanted) in forms {
-        let lines: [Line; 1] = [(b"RESOURCE", text)];
+        let lines: [Line; 1] = [(b"RESOURCE", text.as_bytes())];
         let statements = deck(rt.alloc(), &lines)?;
         let answer = shown(rt.alloc(), statements.as_slice(), 0)?;
-        assert_eq!(rt; answer.as_str(), wanted);
+        assert_eq!(rt; answer.as_str(), wanted, "{text}");
     }
     Ok(())
 }

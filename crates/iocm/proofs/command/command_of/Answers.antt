@@ -12,17 +12,17 @@ returns-in_err-matches-clause-mistaken g c =
     let app_is : app_of c.in_ok-iocm.iocm ≡ iocm_app = c.in_ok-iocm.ensures in
     let kinds = c.in_err-matches.ensures.kinds (ap is_simple_and_free app_is ∙ is_stated) in
     passed_on c.from_residual-in_err-matches.result c.in_err-matches.field-0.0 (HasKind (mistakes_or_missing words))
-        (has_kind_or (mistakes words) (MissingRequiredArgument ∷ []) c.in_err-matches.field-0.0
-            (subst (λ (a : App). HasKind (fault_of a words) c.in_err-matches.field-0.0) app_is kinds))
-        c.from_residual-in_err-matches.ensures
+    (has_kind_or (mistakes words) (MissingRequiredArgument ∷ []) c.in_err-matches.field-0.0
+    (subst (λ (a : App). HasKind (fault_of a words) c.in_err-matches.field-0.0) app_is kinds))
+    c.from_residual-in_err-matches.ensures
 
 pub returns-in-Some-get_str-clause-command : goal.returns-in-Some-get_str-clause-command
 returns-in-Some-get_str-clause-command g c =
     let words : List Text = map g.S.AsStr.text c.args.words.now in
     let app_is : app_of c.in_ok-iocm.iocm ≡ iocm_app = c.in_ok-iocm.ensures in
     stated_by words c.in_ok-matches.matches (found_of c.in-Some.show.now) c.in-Some-get_str.deck.now
-        ((c.in_ok-matches.ensures.ok.2 (ap is_simple app_is ∙ is_plain)).1 ∙ ap (λ (a : App). subcommand_of a words) app_is)
-        (c.in-Some.ensures.found.0 refl) c.in-Some.ensures.rows c.in-Some-get_str.ensures
+    ((c.in_ok-matches.ensures.ok.2 (ap is_simple app_is ∙ is_plain)).1 ∙ ap (λ (a : App). subcommand_of a words) app_is)
+    (c.in-Some.ensures.found.0 refl) c.in-Some.ensures.rows c.in-Some-get_str.ensures
 
 pub returns-in-Some-get_str-clause-accepted : goal.returns-in-Some-get_str-clause-accepted
 returns-in-Some-get_str-clause-accepted g c =
