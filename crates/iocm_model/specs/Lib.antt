@@ -7,6 +7,7 @@ pub mod LowestFree
 pub mod Mask
 pub mod Naming
 pub mod Numbering
+pub mod OrderExamples
 pub mod Orders
 pub mod PathList
 pub mod Record

@@ -1,4 +1,5 @@
 ghost use Rattle.iocm_model.specs.Examples.{BaseViews, ViewsWithoutCandidate, TurnedViews, Unseen, BaseNumbers, BaseRows};
+ghost use Rattle.iocm_model.specs.OrderExamples.{AnOperation, NotOperational, StatusInTheWay, BusyWithAnother};
 
 /// Worked examples of views, on the example deck and its variants: each is computed from the definitions.
 pub fn views_are_as_worked()
@@ -12,4 +13,12 @@ pub fn views_are_as_worked()
 pub fn numbers_are_as_worked()
     ensures numbers { BaseNumbers }
     ensures rows { BaseRows }
+{}
+
+/// Orders and their condition codes on one subchannel, computed.
+pub fn orders_are_as_worked()
+    ensures operation { AnOperation }
+    ensures not_operational { NotOperational }
+    ensures status { StatusInTheWay }
+    ensures busy { BusyWithAnother }
 {}

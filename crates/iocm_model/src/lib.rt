@@ -12,7 +12,7 @@
 mod examples;
 mod laws;
 
-pub use examples::{numbers_are_as_worked, views_are_as_worked};
+pub use examples::{numbers_are_as_worked, orders_are_as_worked, views_are_as_worked};
 pub use laws::{
     opening_is_a_numbering, the_first_breach_is_first, the_lowest_free_number_is_free,
     the_nodes_of_a_tree_are_bounded, views_are_listed,
