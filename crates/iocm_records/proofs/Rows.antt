@@ -1,5 +1,5 @@
 -- A place in one list and another behind it.
-use Rattle.std.proofs.Common.{◌≡◌, ℕ, suc, zero, ◌-◌, ◌<◌, ◌≤◌, List, [], ◌∷◌, ◌++◌, length, map, slice_get, refl, ap, ◌∙◌, sym, arith}
+use Rattle.std.proofs.Common.{◌≡◌, ℕ, suc, zero, ◌-◌, ◌<◌, ◌≤◌, List, [], ◌∷◌, ◌++◌, length, map, slice_get, refl, ap, ◌∙◌, arith}
 
 -- a place in the first list
 pub row_front : {A B : Type 0} (f : A → B) (xs : List A) (ys : List B) (i : ℕ) → i < length xs → slice_get (map f xs ++ ys) i ≡ slice_get (map f xs) i

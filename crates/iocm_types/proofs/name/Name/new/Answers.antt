@@ -1,6 +1,6 @@
 -- The bytes at the eight places, and zeros past the end, are the name and its padding.
-use Rattle.std.proofs.Common.{◌≡◌, true, List, ℕ, rules, ap, Some, sym, ◌∙◌, not, ◌-◌, ◌++◌, replicate, length, refl, ◌∷◌, [], take, None, cond}
-use Rattle.iocm_types.specs.Name.{is_name, name_of}
+use Rattle.std.proofs.Common.{◌≡◌, true, rules, ap, Some, sym, ◌∙◌, refl}
+use Rattle.iocm_types.specs.Name.{is_name}
 use Rattle.iocm_types.proofs.Padding.{filled, padded, taken_back, name_is_short}
 use Rattle.iocm_types.proofs.name.Name.new.Goals as goal
 
