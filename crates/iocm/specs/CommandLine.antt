@@ -1,5 +1,5 @@
 -- What a command line means, as `clap` reads it.
-use Rattle.std.specs.Prelude.{true, List, [], ◌∷◌, Option, Some, codes, option_map}
+use Rattle.std.specs.Prelude.{◌≡◌, ◌==◌, ℕ, true, false, List, [], ◌∷◌, Option, Some, codes, option_map}
 use Rattle.clap.specs.Words.{App, Rule, Text, Kinds, new_app, new_rule, with_rule, with_subcommand, subcommand_of, first_of, fault_of}
 use Rattle.clap.specs.Kinds.{or_else}
 use Rattle.clap.specs.declared.error.kind.ErrorKind.TheVariants.{MissingRequiredArgument}
@@ -37,3 +37,8 @@ mistakes words = fault_of iocm_app words
 -- the kinds of mistakes; where there is none, that the argument is missing
 abbrev pub mistakes_or_missing : List Text → Kinds
 mistakes_or_missing words = or_else (mistakes words) (MissingRequiredArgument ∷ [])
+
+-- a command line that shows a deck whose name does not begin with a hyphen
+abbrev pub ShowsDeck : List Text → Type 0
+ShowsDeck words = (program : Text) × (first : ℕ) × (rest : List ℕ)
+    × (words ≡ program ∷ codes "show" ∷ (first ∷ rest) ∷ []) × ((first == 45) ≡ false)

@@ -1,6 +1,6 @@
 ghost use Rattle.std.specs.Prelude.{◌≡◌, [], Some, IfOk, IfErr, map};
-ghost use Rattle.clap.specs.Words.{HasKind, app_of};
-ghost use Rattle.iocm.specs.CommandLine.{iocm_app, stated, words_of, mistakes, mistakes_or_missing};
+ghost use Rattle.clap.specs.Words.{HasKind, app_of, kind_of};
+ghost use Rattle.iocm.specs.CommandLine.{iocm_app, stated, words_of, mistakes, mistakes_or_missing, ShowsDeck};
 
 use clap::error::ErrorKind;
 use clap::{Arg, Error};
@@ -35,10 +35,12 @@ fn iocm<'a>(alloc: Global) -> Result<clap::Command<'a>, AllocError>
 
 /// The command of the words of a command line, of which the first is the program's name.
 ///
-/// Help and every mistake in the words are `clap`'s errors; want of memory is one of the kind `OutOfMemory`.
+/// Help and every mistake in the words are `clap`'s errors; want of memory is one of the kind `OutOfMemory`, and
+/// nothing else keeps `show` and a deck, whose name does not begin with a hyphen, from being understood.
 pub fn command_of<'a, S: AsStr>(alloc: Global, words: &'a [S]) -> Result<Command<'a>, Error>
     ensures command { IfOk result (λ c. stated (map S.text words.entry.now) ≡ Some (words_of c)) }
     ensures accepted { IfOk result (λ _. mistakes (map S.text words.entry.now) ≡ []) }
+    ensures understood { IfErr result (λ e. ShowsDeck (map S.text words.entry.now) → kind_of e ≡ ErrorKind.OutOfMemory) }
     ensures mistaken { IfErr result (HasKind (mistakes_or_missing (map S.text words.entry.now))) }
 {
     let mut iocm = iocm(alloc)?;

@@ -45,7 +45,7 @@ fn run<R: Env + Files + Print + Eprint + AllocGlobal>(rt: &R) -> Result<ExitCode
     let words: Vec<String> = match words(rt) {
         Ok(words) => words,
         Err(error) if error.kind() == io::ErrorKind::OutOfMemory => return refuse_memory(rt),
-        Err(error) => return explain_words(rt, &error),
+        Err(_) => return explain_words(rt),
     };
     match command_of(rt.alloc(), words.as_slice()) {
         Ok(Command::Show { deck }) => show(rt, deck),
@@ -94,9 +94,9 @@ fn explain<R: Print + Eprint>(rt: &R, error: &clap::Error) -> Result<ExitCode, C
     })
 }
 
-/// Prints why the words of the command line cannot be read.
-fn explain_words<R: Eprint>(rt: &R, error: &io::Error) -> Result<ExitCode, ConsoleError> {
-    match eprintln!(rt; "error: {error}") {
+/// Prints why the words of the command line cannot be read: they are no text.
+fn explain_words<R: Eprint>(rt: &R) -> Result<ExitCode, ConsoleError> {
+    match eprintln!(rt; "error: a word of the command line is not UTF-8") {
         Ok(()) => Ok(ExitCode::from(USAGE)),
         Err(_) => Err(ConsoleError::Write),
     }
