@@ -1,7 +1,8 @@
 -- Subchannel numbers: in each channel subsystem and subchannel set the devices that are reached there
 -- have one each, the same in every image of the channel subsystem. Own.
 use Rattle.std.specs.Prelude.{◌≡◌, ℕ, ◌+◌, ◌<◌, ◌==◌, ◌&&◌, Bool, true, false, not, List, [], ◌∷◌, map, filter, is_some, Option, Some}
-use Rattle.std.specs.List.{flat_map}
+use Rattle.std.specs.List.{flat_map, list_any}
+use Rattle.std.specs.Ordering.{eq_by_cmp}
 use Rattle.std.specs.FinMap.{FinMap, get, entries, from_entries}
 use Rattle.iocm_types.specs.declared.place.Place.{Place}
 use Rattle.iocm_types.specs.declared.place.NumberCell.{NumberCell}
@@ -10,6 +11,13 @@ use Rattle.iocm_types.specs.Place.{place_cmp, cell_cmp}
 use Rattle.iocm_model.specs.Record.{Rec, DeviceRecord, device}
 use Rattle.iocm_model.specs.Configuration.{Configuration, Lookup, lookup_of, devices_of}
 use Rattle.iocm_model.specs.PathList.{path_list}
+
+-- the channel subsystems, and the subchannel sets of each
+abbrev pub subsystems : List ℕ
+subsystems = 0 ∷ 1 ∷ 2 ∷ 3 ∷ 4 ∷ 5 ∷ []
+
+abbrev pub sets : List ℕ
+sets = 0 ∷ 1 ∷ 2 ∷ 3 ∷ []
 
 -- the number of a device at its place
 abbrev pub Numbering : Type 0
@@ -39,6 +47,14 @@ abbrev pub reached_in : Configuration → ℕ → ℕ → List ℕ
 reached_in c css set =
     map (λ (d : DeviceRecord). d.number) (filter (λ (d : DeviceRecord). d.set == set && is_reached (lookup_of c) css d) (devices_of c))
 
+-- the places of all devices that are reached, by channel subsystem, set and device number
+abbrev pub reached_places : Configuration → List Place
+reached_places c = flat_map (λ css. flat_map (λ set. map (λ d. record { css = css; set = set; device = d }) (reached_in c css set)) sets) subsystems
+
+-- whether a place is that of a device that is reached
+abbrev pub is_reached_at : Configuration → Place → Bool
+is_reached_at c p = list_any (eq_by_cmp place_cmp p) (reached_places c)
+
 -- numbers from n on, one after the other
 abbrev pub numbered : ℕ → ℕ → ℕ → List ℕ → List (Place × ℕ)
 numbered css set n [] = []
@@ -46,8 +62,7 @@ numbered css set n (d ∷ ds) = (record { css = css; set = set; device = d }, n)
 
 -- at opening: 0, 1, 2, .. in order of device number, in each channel subsystem and set
 abbrev pub opening : Configuration → Numbering
-opening c = from_entries (flat_map (λ css. flat_map (λ set. numbered css set 0 (reached_in c css set)) (0 ∷ 1 ∷ 2 ∷ 3 ∷ []))
-    (0 ∷ 1 ∷ 2 ∷ 3 ∷ 4 ∷ 5 ∷ []))
+opening c = from_entries (flat_map (λ css. flat_map (λ set. numbered css set 0 (reached_in c css set)) sets) subsystems)
 
 -- the number cells: which device each number is
 abbrev pub cells_of : Numbering → FinMap cell_cmp ℕ
@@ -56,3 +71,7 @@ cells_of n = from_entries (map (λ (e : Place × ℕ). (record { css = e.0.css; 
 -- the device that has a number
 abbrev pub device_at : Numbering → NumberCell → Option ℕ
 device_at n cell = get (cells_of n) cell
+
+-- the numbering in which these cells are given away
+abbrev pub numbering_of : FinMap cell_cmp ℕ → Numbering
+numbering_of cells = from_entries (map (λ (e : NumberCell × ℕ). (record { css = e.0.css; set = e.0.set; device = e.1 }, e.0.number)) (entries cells))

@@ -1,21 +1,10 @@
 -- Subchannel numbers after a change of the configuration. Own.
 use Rattle.std.specs.Prelude.{ℕ, ◌+◌, ◌==◌, ◌&&◌, Bool, nat_eq, not, if◌then◌else◌, List, [], ◌∷◌, map, filter, fold}
-use Rattle.std.specs.List.{flat_map}
 use Rattle.std.specs.FinMap.{insert, entries, contains_key, retain_keys}
 use Rattle.iocm_types.specs.declared.place.Place.{Place}
 use Rattle.iocm_types.specs.declared.place.NumberCell.{NumberCell}
-use Rattle.iocm_types.specs.declared.key.Key.TheVariants.{Device}
-use Rattle.iocm_model.specs.Configuration.{Configuration, lookup_of}
-use Rattle.iocm_model.specs.Numbering.{Numbering, is_record_reached, reached_in, cells_of}
-
--- whether there is a device at a place that its channel subsystem reaches
-abbrev pub is_reached_at : Configuration → Place → Bool
-is_reached_at c p = is_record_reached (lookup_of c) p.css (lookup_of c (Device p.set p.device))
-
--- all places of devices that are reached, by channel subsystem, set and device number
-abbrev pub reached_places : Configuration → List Place
-reached_places c = flat_map (λ css. flat_map (λ set. map (λ d. record { css = css; set = set; device = d }) (reached_in c css set))
-    (0 ∷ 1 ∷ 2 ∷ 3 ∷ [])) (0 ∷ 1 ∷ 2 ∷ 3 ∷ 4 ∷ 5 ∷ [])
+use Rattle.iocm_model.specs.Configuration.{Configuration}
+use Rattle.iocm_model.specs.Numbering.{Numbering, reached_places, is_reached_at, cells_of}
 
 -- the numbers that are given away in a channel subsystem and set, rising
 abbrev pub numbers_in : Numbering → ℕ → ℕ → List ℕ

@@ -22,11 +22,7 @@ use Rattle.iocm_model.specs.Record.{Rec, ImageRecord, UnitRecord, image, limit, 
 use Rattle.iocm_model.specs.Configuration.{Configuration, lookup_of, records_of, images_of}
 use Rattle.iocm_model.specs.PathList.{paths_in, path_list}
 use Rattle.iocm_model.specs.Sight.{record_lists}
-use Rattle.iocm_model.specs.Numbering.{Numbering}
-
--- the channel subsystems
-abbrev pub subsystems : List ℕ
-subsystems = 0 ∷ 1 ∷ 2 ∷ 3 ∷ 4 ∷ 5 ∷ []
+use Rattle.iocm_model.specs.Numbering.{Numbering, subsystems}
 
 abbrev pub same_name : List ℕ → List ℕ → Bool
 same_name = pointwise nat_eq

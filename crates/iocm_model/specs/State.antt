@@ -1,13 +1,16 @@
 -- The state of a channel subsystem: the configuration, the numbers of its devices, and a live record for each subchannel.
-use Rattle.std.specs.Prelude.{map, Option}
-use Rattle.std.specs.FinMap.{FinMap, from_entries}
+use Rattle.std.specs.Prelude.{◌≡◌, ℕ, map, Option, Some}
+use Rattle.std.specs.FinMap.{FinMap, get, contains_key, from_entries}
+use Rattle.iocm_types.specs.declared.key.Key.{Key}
 use Rattle.iocm_types.specs.declared.live.Live.{Live}
+use Rattle.iocm_types.specs.declared.place.Place.{Place}
 use Rattle.iocm_types.specs.declared.sub_id.SubId.{SubId}
 use Rattle.iocm_types.specs.declared.view.View.{View}
 use Rattle.iocm_types.specs.SubId.{sub_id_cmp}
+use Rattle.iocm_model.specs.Record.{Rec, key_of}
 use Rattle.iocm_model.specs.Configuration.{Configuration}
-use Rattle.iocm_model.specs.Numbering.{Numbering, opening}
-use Rattle.iocm_model.specs.View.{view_at, views}
+use Rattle.iocm_model.specs.Numbering.{Numbering, opening, is_reached_at}
+use Rattle.iocm_model.specs.View.{views}
 use Rattle.iocm_model.specs.Orders.{fresh}
 
 -- the live records by subchannel
@@ -19,9 +22,20 @@ pub record State : Type 0 where
   pub numbers : Numbering
   pub lives : Lives
 
--- what an image sees at a subchannel in a state
+-- what is seen, by subchannel
+abbrev pub Views : Type 0
+Views = FinMap sub_id_cmp View
+
+abbrev pub views_of : Configuration → Numbering → Views
+views_of c n = from_entries (views c n)
+
+-- all subchannels that have a view in a state, with their views
+abbrev pub views_in : State → Views
+views_in s = views_of s.config s.numbers
+
+-- what is seen at a subchannel in a state, if it has a view
 abbrev pub seen_in : State → SubId → Option View
-seen_in s x = view_at s.config s.numbers x
+seen_in s x = get (views_in s) x
 
 -- a fresh live record for a subchannel that has a view
 abbrev pub fresh_row : SubId × View → SubId × Live
@@ -30,3 +44,23 @@ fresh_row row = (row.0, fresh row.1.pim)
 -- at opening: the first numbers, and a fresh live record for each subchannel that has a view
 abbrev pub opened : Configuration → State
 opened c = let n = opening c in record { config = c; numbers = n; lives = from_entries (map fresh_row (views c n)) }
+
+-- the numbers of a configuration: exactly the devices that a channel subsystem reaches have one there, no number twice
+pub record AreNumbersOf (c : Configuration) (n : Numbering) : Type 0 where
+  pub exact : (p : Place) → contains_key n p ≡ is_reached_at c p
+  pub apart : (p q : Place) (number : ℕ) → p.css ≡ q.css → p.set ≡ q.set → get n p ≡ Some number → get n q ≡ Some number → p ≡ q
+
+-- exactly the subchannels that have a view have a live record
+abbrev pub HasLives : State → Type 0
+HasLives s = (x : SubId) → contains_key s.lives x ≡ contains_key (views_in s) x
+
+-- each record stands under its own key
+abbrev pub HasOwnKeys : Configuration → Type 0
+HasOwnKeys c = (key : Key) (r : Rec) → get c key ≡ Some r → key_of r ≡ key
+
+-- what every state of a machine is: its records stand under their own keys, its numbers are those of its configuration, and its
+-- live records those of its subchannels
+pub record IsSound (s : State) : Type 0 where
+  pub keyed : HasOwnKeys s.config
+  pub numbered : AreNumbersOf s.config s.numbers
+  pub lived : HasLives s

@@ -10,6 +10,7 @@
 //! Begin with `fault.rt`, `key.rt` and `sub_id.rt`.
 #![tactic(auto)]
 
+mod answer;
 mod chpid;
 mod css;
 mod css_path;
@@ -28,6 +29,7 @@ mod order;
 mod path_kind;
 mod paths;
 mod place;
+mod refused;
 mod rule;
 mod scsw;
 mod set_no;
@@ -37,6 +39,7 @@ mod unit_no;
 mod unit_range;
 mod view;
 
+pub use answer::{Answer, Counts};
 pub use chpid::Chpid;
 pub use css::Css;
 pub use css_path::CssPath;
@@ -55,6 +58,7 @@ pub use order::{Io, Order, Setting, Stored};
 pub use path_kind::PathKind;
 pub use paths::{MOST_PATHS, Paths};
 pub use place::{NumberCell, Place};
+pub use refused::{At, Refused};
 pub use rule::Rule;
 pub use scsw::ScswBits;
 pub use set_no::SetNo;

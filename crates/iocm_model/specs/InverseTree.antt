@@ -1,0 +1,35 @@
+-- The tree that takes a change back. Own.
+use Rattle.std.specs.Prelude.{◌≡◌, List, [], ◌∷◌, ◌++◌, Option, Some, None, Result, Ok, Err}
+use Rattle.iocm_model.specs.State.{State, HasLives}
+use Rattle.iocm_model.specs.Edit.{Edit, edited}
+use Rattle.iocm_model.specs.Refusal.{first_busy}
+use Rattle.iocm_model.specs.Inverse.{inverse_of}
+use Rattle.iocm_model.specs.Effect.{values_in, written, edited_by_all, cells_of_edits}
+use Rattle.iocm_model.specs.Tree.{Plan, Plans, leaf, row, none, part}
+use Rattle.iocm_model.specs.Meaning.{Outcome, meaning}
+
+-- the inverses of edits that were performed from a state on, the last first
+abbrev pub inverses : List Edit → State → List Edit
+inverses [] s = []
+inverses (e ∷ es) s = inverses es (edited e s) ++ (inverse_of e s ∷ [])
+
+-- edits as the parts of a node
+abbrev pub parts_of : List Edit → Plans
+parts_of [] = none
+parts_of (e ∷ es) = part (leaf e) (parts_of es)
+
+-- the inverse tree: one Row of the inverses
+abbrev pub inverse_tree : List Edit → State → Plan
+inverse_tree es s = row (parts_of (inverses es s))
+
+-- the state that was reached, if the tree was accepted
+abbrev pub reached : Outcome → Option State
+reached (Ok r) = Some r.state
+reached (Err why) = None
+
+-- a tree takes edits back that were performed from a state on: at every state with the configuration and the numbers after
+-- them in which the altered subchannels are quiet, it is accepted, and means that state with the cells that they wrote as these were before
+abbrev pub TakesBack : Plan → List Edit → State → Type 0
+TakesBack p es s = (u : State) → HasLives u → u.config ≡ (edited_by_all es s).config → u.numbers ≡ (edited_by_all es s).numbers
+    → first_busy u.lives (cells_of_edits es s).subchannels ≡ None
+    → reached (meaning p u) ≡ Some (written (values_in s (cells_of_edits es s)) u)
