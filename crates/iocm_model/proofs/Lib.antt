@@ -1,8 +1,14 @@
 pub mod AllViews
 pub mod Breaches
+pub mod EditsGoBack
 pub mod FirstNumbers
 pub mod Listed
+pub mod LivesEdited
 pub mod Lowest
+pub mod MapCells
 pub mod Nodes
+pub mod Overwriting
 pub mod Parts
+pub mod RunsGoBack
+pub mod SameViews
 pub mod Worked

@@ -1,6 +1,6 @@
 -- The tree that takes a change back. Own.
 use Rattle.std.specs.Prelude.{◌≡◌, List, [], ◌∷◌, ◌++◌, Option, Some, None, Result, Ok, Err}
-use Rattle.iocm_model.specs.State.{State, HasLives}
+use Rattle.iocm_model.specs.State.{State, IsLike}
 use Rattle.iocm_model.specs.Edit.{Edit, edited}
 use Rattle.iocm_model.specs.Refusal.{first_busy}
 use Rattle.iocm_model.specs.Inverse.{inverse_of}
@@ -30,6 +30,6 @@ reached (Err why) = None
 -- a tree takes edits back that were performed from a state on: at every state with the configuration and the numbers after
 -- them in which the altered subchannels are quiet, it is accepted, and means that state with the cells that they wrote as these were before
 abbrev pub TakesBack : Plan → List Edit → State → Type 0
-TakesBack p es s = (u : State) → HasLives u → u.config ≡ (edited_by_all es s).config → u.numbers ≡ (edited_by_all es s).numbers
+TakesBack p es s = (u : State) → IsLike u (edited_by_all es s)
     → first_busy u.lives (cells_of_edits es s).subchannels ≡ None
     → reached (meaning p u) ≡ Some (written (values_in s (cells_of_edits es s)) u)

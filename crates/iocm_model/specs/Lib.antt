@@ -1,6 +1,7 @@
 pub mod BaseDeck
 pub mod Configuration
 pub mod Edit
+pub mod EditLaws
 pub mod Effect
 pub mod Examples
 pub mod FirstBreach
@@ -18,10 +19,12 @@ pub mod PathList
 pub mod Record
 pub mod Refusal
 pub mod Renumbering
+pub mod RenumberingLaws
 pub mod Rules
 pub mod Sight
 pub mod State
 pub mod Step
 pub mod Table
 pub mod Tree
+pub mod TreeLaws
 pub mod View

@@ -64,3 +64,9 @@ pub record IsSound (s : State) : Type 0 where
   pub keyed : HasOwnKeys s.config
   pub numbered : AreNumbersOf s.config s.numbers
   pub lived : HasLives s
+
+-- a state has the configuration and the numbers of another, and live records of its own
+pub record IsLike (u s : State) : Type 0 where
+  pub config : u.config ≡ s.config
+  pub numbers : u.numbers ≡ s.numbers
+  pub lived : HasLives u
