@@ -11,4 +11,6 @@ pub mod Overwriting
 pub mod Parts
 pub mod RunsGoBack
 pub mod SameViews
+pub mod Steps
+pub mod Trees
 pub mod Worked

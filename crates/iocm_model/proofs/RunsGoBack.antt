@@ -188,11 +188,11 @@ given_like t u xs lived other = record {
       ∙ there_by (list_any (eq_by_cmp sub_id_cmp x) xs) (get t.lives x) (get u.lives x) (seen_in t x) (lived x) (other x);
 }
 
-all_append : (es fs : List Edit) (u : State) → edited_by_all (es ++ fs) u ≡ edited_by_all fs (edited_by_all es u)
+pub all_append : (es fs : List Edit) (u : State) → edited_by_all (es ++ fs) u ≡ edited_by_all fs (edited_by_all es u)
 all_append [] fs u = refl
 all_append (e ∷ es) fs u = all_append es fs (edited e u)
 
-accepted_append : (es fs : List Edit) (u : State) → AreAccepted es u → AreAccepted fs (edited_by_all es u) → AreAccepted (es ++ fs) u
+pub accepted_append : (es fs : List Edit) (u : State) → AreAccepted es u → AreAccepted fs (edited_by_all es u) → AreAccepted (es ++ fs) u
 accepted_append [] fs u first second = second
 accepted_append (e ∷ es) fs u first second = (first.0, accepted_append es fs (edited e u) first.1 second)
 
