@@ -4,5 +4,7 @@ pub mod FirstNumbers
 pub mod Listed
 pub mod Lowest
 pub mod Nodes
+pub mod NumbersCells
+pub mod NumbersFound
 pub mod Parts
 pub mod Worked
