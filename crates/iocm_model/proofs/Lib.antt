@@ -4,7 +4,9 @@ pub mod FirstNumbers
 pub mod Listed
 pub mod Lowest
 pub mod Nodes
+pub mod NumbersBack
 pub mod NumbersCells
+pub mod NumbersChanged
 pub mod NumbersFound
 pub mod Parts
 pub mod Worked
