@@ -8,5 +8,8 @@ pub mod NumbersBack
 pub mod NumbersCells
 pub mod NumbersChanged
 pub mod NumbersFound
+pub mod NumbersFreed
+pub mod NumbersOpened
+pub mod NumbersTwice
 pub mod Parts
 pub mod Worked

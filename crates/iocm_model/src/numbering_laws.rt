@@ -2,8 +2,12 @@ ghost use Rattle.iocm_model.specs.RenumberingLaws.{
   RenumberedAreExact,
   StayersKeepTheirs,
   CarriedComeBack,
+  RenumberedAreNumbers,
   RenumberingGoesBack,
+  FreedAreNotTaken,
+  OpeningAreNumbers,
   CellsAreTheNumbers,
+  NumbersAreANumbering,
 };
 
 /// After a change exactly the devices that the new configuration reaches have a number; those that stay keep theirs, and
@@ -14,9 +18,17 @@ pub fn numbers_after_a_change()
     ensures come_back { CarriedComeBack }
 {}
 
-/// With the places that a change freed the old numbers come back.
+/// No number comes twice: not at opening, and not after a change whose carried numbers are free.
+pub fn no_number_comes_twice()
+    ensures opening { OpeningAreNumbers }
+    ensures change { RenumberedAreNumbers }
+    ensures meaning { NumbersAreANumbering }
+{}
+
+/// With the places that a change freed the old numbers come back, and none of them is taken then.
 pub fn numbers_go_back()
     ensures back { RenumberingGoesBack }
+    ensures free { FreedAreNotTaken }
 {}
 
 /// Number cells and numbers say the same.
