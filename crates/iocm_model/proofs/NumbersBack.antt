@@ -11,7 +11,7 @@ use Rattle.iocm_model.specs.Renumbering.{renumbered}
 use Rattle.iocm_model.specs.State.{AreNumbersOf}
 use Rattle.iocm_model.specs.Inverse.{freed}
 use Rattle.iocm_model.specs.RenumberingLaws.{RenumberingGoesBack}
-use Rattle.iocm_model.proofs.NumbersFound.{is_none, has_some}
+use Rattle.iocm_model.proofs.NumbersFound.{absent, present}
 use Rattle.iocm_model.proofs.NumbersChanged.{renumbered_are_exact, stayers_keep_theirs, carried_come_back}
 
 -- the freed places have what they had
@@ -21,9 +21,11 @@ get_freed n there p =
     ∙ ap (λ o. cond (not (contains_key there p)) o None) (sym (get-entries n p))
 
 module _ (before after : Configuration) (carried : List (Place × ℕ)) (n : Numbering) (numbers : AreNumbersOf before n) where
+  -- the numbers after the change
   abbrev there : Numbering
   there = renumbered after carried n
 
+  -- the numbers once it is taken back
   abbrev again : Numbering
   again = renumbered before (freed n there) there
 
@@ -32,15 +34,17 @@ module _ (before after : Configuration) (carried : List (Place × ℕ)) (n : Num
   came_back p k true was has e = stayers_keep_theirs before (freed n there) there p k was (stayers_keep_theirs after carried n p k e has)
   came_back p k false was has e =
       let gone : contains_key there p ≡ false = renumbered_are_exact after carried n p ∙ e in
-      carried_come_back before (freed n there) there p k was (is_none _ gone) (get_freed n there p ∙ ap (λ b. cond (not b) (get n p) None) gone ∙ has)
+      carried_come_back before (freed n there) there p k was (absent _ gone) (get_freed n there p ∙ ap (λ b. cond (not b) (get n p) None) gone ∙ has)
 
+  -- at each place they are the old ones, by whether the place was reached
   same_by : (p : Place) (b : Bool) → is_reached_at before p ≡ b → get again p ≡ get n p
   same_by p true e =
-      let has = has_some (get n p) (numbers.exact p ∙ e) in
+      let has = present (get n p) (numbers.exact p ∙ e) in
       came_back p has.0 (is_reached_at after p) e has.1 refl ∙ sym has.1
   same_by p false e =
-      is_none _ (renumbered_are_exact before (freed n there) there p ∙ e) ∙ sym (is_none _ (numbers.exact p ∙ e))
+      absent _ (renumbered_are_exact before (freed n there) there p ∙ e) ∙ sym (absent _ (numbers.exact p ∙ e))
 
+  -- they are the old ones
   same_again : again ≡ n
   same_again = same_map places_total places_exact _ _ (λ p. same_by p (is_reached_at before p) refl)
 

@@ -1,5 +1,6 @@
 -- What is found in the entries of a map, what a test says of it, and what is found after each entry was turned into another.
 use Rattle.std.proofs.Common.{◌≡◌, Bool, true, false, cond, ◌&&◌, ◌||◌, List, [], ◌∷◌, map, Option, Some, None, is_some, T, refl, sym, ap, subst, ◌∙◌}
+use Rattle.std.proofs.lemmas.Bool.{or_parts}
 use Rattle.std.specs.List.{list_any}
 use Rattle.std.specs.Ordering.{is_eq, is_lt, eq_by_cmp}
 use Rattle.std.specs.declared.cmp.Ordering.{Ordering}
@@ -20,33 +21,25 @@ pub second_holds : (a b : Bool) → T (a && b) → T b
 second_holds true b h = h
 second_holds false b h = absurd h
 
--- where one of two would do and none does, the first fails
-pub first_fails : (a b : Bool) → (a || b) ≡ false → a ≡ false
-first_fails true b e = e
-first_fails false b e = refl
-
--- and the second fails
-pub second_fails : (a b : Bool) → (a || b) ≡ false → b ≡ false
-second_fails true b e = cc
-second_fails false b e = e
-
 -- what is not there is none
-pub is_none : {A : Type 0} (o : Option A) → is_some o ≡ false → o ≡ None
-is_none None e = refl
-is_none (Some x) e = cc
+pub absent : {A : Type 0} (o : Option A) → is_some o ≡ false → o ≡ None
+absent None e = refl
+absent (Some x) e = cc
 
 -- what is there has a value
-pub has_some : {A : Type 0} (o : Option A) → is_some o ≡ true → (x : A) × (o ≡ Some x)
-has_some None e = cc
-has_some (Some x) e = (x, refl)
+pub present : {A : Type 0} (o : Option A) → is_some o ≡ true → (x : A) × (o ≡ Some x)
+present None e = cc
+present (Some x) e = (x, refl)
 
 -- ---- keys that tie
 
+-- a result that is equal
 equal_is : (r : Ordering) → is_eq r ≡ true → r ≡ Equal
 equal_is Less e = cc
 equal_is Equal e = refl
 equal_is Greater e = cc
 
+-- a result that is less isn't equal
 less_is : (r : Ordering) → T (is_lt r) → is_eq r ≡ false
 less_is Less h = refl
 less_is Equal h = absurd h
@@ -68,6 +61,7 @@ module _ {K X : Type 0} (R : K → K → Ordering) (total : IsTotalOrder R) (exa
   not_found q [] h = refl
   not_found q (e ∷ es) h = let apart : eq_by_cmp R q e.0 ≡ false = less_is _ (first_holds _ _ h) in rw apart (not_found q es (second_holds _ _ h))
 
+  -- `found_later`, by whether the key ties with that of the entry in front
   found_later_by : (q : K) (e : K × X) (es : List (K × X)) (v : X) (b : Bool) → eq_by_cmp R q e.0 ≡ b → T (below_all R e.0 es)
       → find R q es ≡ Some v → cond b (Some e.1) (find R q es) ≡ Some v
   found_later_by q e es v true t h is = let none : find R q es ≡ None = ap (λ k. find R k es) (same_key R exact q e.0 t) ∙ not_found e.0 es h in cc
@@ -89,13 +83,14 @@ module _ {K X : Type 0} (R : K → K → Ordering) (total : IsTotalOrder R) (exa
       let first : test e ≡ false = none e.0 e.1 (found_first e es) in
       rw first (none_passes test es (second_holds _ _ up) (λ q v is. none q v (found_later q e es v (first_holds _ _ up) is)))
 
+  -- the step of `found_fails`, by whether the key ties with that of the entry in front
   found_fails_by : (test : K × X → Bool) (e : K × X) (rest : Bool) (found : Option X) (q : K) (v : X) (b : Bool) → eq_by_cmp R q e.0 ≡ b
       → (test e || rest) ≡ false → (rest ≡ false → found ≡ Some v → test (q, v) ≡ false) → cond b (Some e.1) found ≡ Some v → test (q, v) ≡ false
   found_fails_by test e rest found q v true t none more is =
       let key : q ≡ e.0 = same_key R exact q e.0 t in
       let value : v ≡ e.1 = cc in
-      ap test (λ i. (key i, value i)) ∙ first_fails _ _ none
-  found_fails_by test e rest found q v false t none more is = more (second_fails _ _ none) is
+      ap test (λ i. (key i, value i)) ∙ (or_parts _ _ none).0
+  found_fails_by test e rest found q v false t none more is = more (or_parts _ _ none).1 is
 
   -- a test that fails at all entries fails at what is found
   pub found_fails : (test : K × X → Bool) (es : List (K × X)) (q : K) (v : X) → list_any test es ≡ false → find R q es ≡ Some v → test (q, v) ≡ false
@@ -108,6 +103,7 @@ module _ {K X : Type 0} (R : K → K → Ordering) (total : IsTotalOrder R) (exa
 module _ {K X L Y : Type 0} (R : K → K → Ordering) (total : IsTotalOrder R) (exact : IsAntisymmetric R)
     (S : L → L → Ordering) (others_total : IsTotalOrder S) (others_exact : IsAntisymmetric S)
     (turn : K × X → L × Y) (back : L × Y → K × X) (goes_back : (e : K × X) → back (turn e) ≡ e) where
+  -- the step of `found_back`, by whether the key ties with that of the first turned entry
   found_back_by : (e : K × X) (es : List (K × X)) (q : L) (v : Y) (b : Bool) → eq_by_cmp S q (turn e).0 ≡ b → T (below_all R e.0 es)
       → (find S q (map turn es) ≡ Some v → find R (back (q, v)).0 es ≡ Some (back (q, v)).1)
       → cond b (Some (turn e).1) (find S q (map turn es)) ≡ Some v → find R (back (q, v)).0 (e ∷ es) ≡ Some (back (q, v)).1
@@ -125,10 +121,12 @@ module _ {K X L Y : Type 0} (R : K → K → Ordering) (total : IsTotalOrder R) 
   found_back (e ∷ es) up q v is =
       found_back_by e es q v (eq_by_cmp S q (turn e).0) refl (first_holds _ _ up) (found_back es (second_holds _ _ up) q v) is
 
+  -- what is there is there behind any entry
   some_behind : (b : Bool) (y : Y) (rest : Option Y) → is_some rest ≡ true → is_some (cond b (Some y) rest) ≡ true
   some_behind true y rest is = refl
   some_behind false y rest is = is
 
+  -- the step of `found_on`, by whether the key ties with that of the entry in front
   found_on_by : (e : K × X) (es : List (K × X)) (k : K) (x : X) (b : Bool) → eq_by_cmp R k e.0 ≡ b
       → (find R k es ≡ Some x → is_some (find S (turn (k, x)).0 (map turn es)) ≡ true)
       → cond b (Some e.1) (find R k es) ≡ Some x → is_some (find S (turn (k, x)).0 (map turn (e ∷ es))) ≡ true

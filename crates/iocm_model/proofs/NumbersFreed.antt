@@ -1,5 +1,6 @@
 -- None of the numbers that a change freed is taken when it is taken back.
 use Rattle.std.proofs.Common.{◌≡◌, ℕ, Bool, true, false, cond, not, ◌&&◌, ◌||◌, nat_eq, eqb-true, List, [], ◌∷◌, Some, None, is_some, T, refl, sym, ap, ◌∙◌}
+use Rattle.std.proofs.lemmas.Bool.{and_parts, or_from, false_from_ne_true}
 use Rattle.std.specs.List.{filter, list_any}
 use Rattle.std.specs.FinMap.{find, get, contains_key, entries, entries_sorted, is_sorted, get-entries}
 use Rattle.std.specs.FinMap.Entries.{find-where_key, is_sorted-where_key}
@@ -13,35 +14,23 @@ use Rattle.iocm_model.specs.State.{AreNumbersOf}
 use Rattle.iocm_model.specs.Refusal.{comes_in, same_cell, has_cell_twice}
 use Rattle.iocm_model.specs.Inverse.{freed}
 use Rattle.iocm_model.specs.RenumberingLaws.{FreedAreNotTaken}
-use Rattle.iocm_model.proofs.NumbersFound.{first_holds, second_holds, has_some, not_found, found_later, found_first, none_passes}
+use Rattle.iocm_model.proofs.NumbersFound.{first_holds, second_holds, present, not_found, found_later, found_first, none_passes}
 use Rattle.iocm_model.proofs.NumbersCells.{IsApart}
 use Rattle.iocm_model.proofs.NumbersChanged.{renumbered_are_exact, stayers_keep_theirs}
 use Rattle.iocm_model.proofs.NumbersBack.{get_freed}
 use Rattle.iocm_model.proofs.NumbersTwice.{had}
 
-three_hold : (a b c : Bool) → (a && b && c) ≡ true → (a ≡ true) × (b ≡ true) × (c ≡ true)
-three_hold true true c e = (refl, refl, e)
-three_hold true false c e = cc
-three_hold false true c e = cc
-three_hold false false c e = cc
-
-neither : (a b : Bool) → a ≡ false → b ≡ false → (a || b) ≡ false
-neither a b e f = λ i. e i || f i
-
 module _ (n : Numbering) (apart : IsApart n) where
   -- places whose numbers are one cell are one place
   one_place : (p q : Place) (j k : ℕ) → get n p ≡ Some j → get n q ≡ Some k → same_cell (p, j) (q, k) ≡ true → p ≡ q
   one_place p q j k is was same =
-      let parts = three_hold (nat_eq p.css q.css) (nat_eq p.set q.set) (nat_eq j k) same in
-      apart p q j (eqb-true p.css q.css parts.0) (eqb-true p.set q.set parts.1) is (was ∙ ap Some (sym (eqb-true j k parts.2)))
-
-  not_one_cell_by : (p q : Place) (j k : ℕ) (b : Bool) → get n p ≡ Some j → get n q ≡ Some k → (p ≡ q → ⊥) → same_cell (p, j) (q, k) ≡ b → b ≡ false
-  not_one_cell_by p q j k true is was other e = absurd (other (one_place p q j k is was e))
-  not_one_cell_by p q j k false is was other e = refl
+      let parts = and_parts _ _ same in
+      let first = and_parts (nat_eq p.css q.css) (nat_eq p.set q.set) parts.0 in
+      apart p q j (eqb-true p.css q.css first.0) (eqb-true p.set q.set first.1) is (was ∙ ap Some (sym (eqb-true j k parts.1)))
 
   -- numbers of two places are two cells
   not_one_cell : (p q : Place) (j k : ℕ) → get n p ≡ Some j → get n q ≡ Some k → (p ≡ q → ⊥) → same_cell (p, j) (q, k) ≡ false
-  not_one_cell p q j k is was other = not_one_cell_by p q j k (same_cell (p, j) (q, k)) is was other refl
+  not_one_cell p q j k is was other = false_from_ne_true (same_cell (p, j) (q, k)) (λ same. other (one_place p q j k is was same))
 
   -- no cell comes twice among entries of the numbers
   no_cell_twice : (es : List (Place × ℕ)) → T (is_sorted place_cmp es) → ((q : Place) (k : ℕ) → find place_cmp q es ≡ Some k → get n q ≡ Some k)
@@ -58,9 +47,15 @@ module _ (n : Numbering) (apart : IsApart n) where
       (λ q k is. own q k (found_later place_cmp places_total places_exact q e es k (first_holds _ _ up) is)))
 
 module _ (before after : Configuration) (carried : List (Place × ℕ)) (n : Numbering) (numbers : AreNumbersOf before n) where
+  -- the numbers after the change
   abbrev there : Numbering
   there = renumbered after carried n
 
+  -- those that stay when it is taken back
+  abbrev staying : Numbering
+  staying = without_leavers before there
+
+  -- whether a place is reached again and has no number there
   abbrev comes_back : Place → Bool
   comes_back p = is_reached_at before p && not (contains_key there p)
 
@@ -68,10 +63,12 @@ module _ (before after : Configuration) (carried : List (Place × ℕ)) (n : Num
   abbrev arriving : List (Place × ℕ)
   arriving = filter (comes_in before there) (freed n there)
 
+  -- those that come in stand in order
   rising : T (is_sorted place_cmp arriving)
   rising = is_sorted-where_key place_cmp comes_back (freed n there)
       (is_sorted-where_key place_cmp (λ p. not (contains_key there p)) (entries n) (entries_sorted n))
 
+  -- `arrived`, by the two tests that one passes
   arrived_by : (q : Place) (k : ℕ) (a b : Bool) → contains_key there q ≡ b → cond (a && not b) (cond (not b) (get n q) None) None ≡ Some k
       → (contains_key there q ≡ false) × (get n q ≡ Some k)
   arrived_by q k true true e is = cc
@@ -86,27 +83,30 @@ module _ (before after : Configuration) (carried : List (Place × ℕ)) (n : Num
       ∙ ap (λ o. cond (comes_back q) o None) (get_freed n there q)) ∙ is)
 
   -- a number that stays there is the one that its place had
-  stayed : (q : Place) (k : ℕ) → get (without_leavers before there) q ≡ Some k → (contains_key there q ≡ true) × (get n q ≡ Some k)
+  stayed : (q : Place) (k : ℕ) → get staying q ≡ Some k → (contains_key there q ≡ true) × (get n q ≡ Some k)
   stayed q k is =
       let has = had before there q k is in
-      let old = has_some (get n q) (numbers.exact q ∙ has.0) in
+      let old = present (get n q) (numbers.exact q ∙ has.0) in
       let in_reach : is_reached_at after q ≡ true = sym (renumbered_are_exact after carried n q) ∙ ap is_some has.1 in
       (ap is_some has.1, old.1 ∙ sym (stayers_keep_theirs after carried n q old.0 in_reach old.1) ∙ has.1)
 
-  none_held : list_any (λ p. list_any (same_cell p) (entries (without_leavers before there))) arriving ≡ false
+  -- none of their numbers is held by a place that stays
+  none_held : list_any (λ p. list_any (same_cell p) (entries staying)) arriving ≡ false
   none_held =
-      none_passes place_cmp places_total places_exact (λ p. list_any (same_cell p) (entries (without_leavers before there))) arriving rising
-      (λ p j is. none_passes place_cmp places_total places_exact (same_cell (p, j)) (entries (without_leavers before there)) (entries_sorted (without_leavers before there))
+      none_passes place_cmp places_total places_exact (λ p. list_any (same_cell p) (entries staying)) arriving rising
+      (λ p j is. none_passes place_cmp places_total places_exact (same_cell (p, j)) (entries staying) (entries_sorted staying)
       (λ q k was.
-      let here = stayed q k (get-entries (without_leavers before there) q ∙ was) in
+      let here = stayed q k (get-entries staying q ∙ was) in
       not_one_cell n numbers.apart p q j k (arrived p j is).1 here.1
       (λ same. let gone = (arrived p j is).0 in let stays = ap (contains_key there) same ∙ here.0 in cc)))
 
+  -- none of their numbers comes twice
   none_twice : has_cell_twice arriving ≡ false
   none_twice = no_cell_twice n numbers.apart arriving rising (λ q k is. (arrived q k is).1)
 
-  none_taken : (list_any (λ p. list_any (same_cell p) (entries (without_leavers before there))) arriving || has_cell_twice arriving) ≡ false
-  none_taken = neither _ _ none_held none_twice
+  -- none of their numbers is taken
+  none_taken : (list_any (λ p. list_any (same_cell p) (entries staying)) arriving || has_cell_twice arriving) ≡ false
+  none_taken = or_from _ _ none_held none_twice
 
 -- none of the freed numbers is taken
 pub freed_are_not_taken : FreedAreNotTaken

@@ -23,14 +23,17 @@ same_parts : {A B : Type 0} (f g : A → List B) → ((x : A) → f x ≡ g x) �
 same_parts f g same xs = λ i. flat_map (λ x. same x i) xs
 
 -- the places of numbered devices are theirs
-numbered_places : (css set n : ℕ) (ds : List ℕ) → map (λ (e : Place × ℕ). e.0) (numbered css set n ds) ≡ map (λ d. record { css = css; set = set; device = d }) ds
+numbered_places : (css set n : ℕ) (ds : List ℕ) → map (λ (e : Place × ℕ). e.0) (numbered css set n ds)
+    ≡ map (λ d. record { css = css; set = set; device = d }) ds
 numbered_places css set n [] = refl
 numbered_places css set n (d ∷ ds) = ap (λ (ps : List Place). record { css = css; set = set; device = d } ∷ ps) (numbered_places css set (n + 1) ds)
 
 module _ (c : Configuration) where
+  -- the first numbers of a channel subsystem and set
   abbrev of_set : ℕ → ℕ → List (Place × ℕ)
   of_set css set = numbered css set 0 (reached_in c css set)
 
+  -- the places of a channel subsystem and set that are reached
   abbrev places_of_set : ℕ → ℕ → List Place
   places_of_set css set = map (λ d. record { css = css; set = set; device = d }) (reached_in c css set)
 
