@@ -217,12 +217,17 @@ apart_at c css s x y k is was =
     (found_set c css s x k (sym (get-from_entries places_total (all c) (at css s x)) ∙ is))
     (found_set c css s y k (sym (get-from_entries places_total (all c) (at css s y)) ∙ was))
 
+-- no number comes twice at opening
+pub opening_apart : (c : Configuration) (p q : Place) (number : ℕ) → p.css ≡ q.css → p.set ≡ q.set
+    → get (opening c) p ≡ Some number → get (opening c) q ≡ Some number → p ≡ q
+opening_apart c p q number css set is was =
+    let moved = subst (λ (y : Place). get (opening c) y ≡ Some number) (λ i. record { css = sym css i; set = sym set i; device = q.device }) was in
+    let same = apart_at c p.css p.set p.device q.device number is moved in
+    λ i. record { css = css i; set = set i; device = same i }
+
 -- the numbers at opening are a numbering
 pub opening_numbers : (c : Configuration) → IsKeyed c → IsNumbering (lookup_of c) (opening c)
 opening_numbers c keys = record {
   domain = λ p low few. domain_at c keys p.css p.set p.device low few;
-  apart = λ p q number css set is was.
-      let moved = subst (λ (y : Place). get (opening c) y ≡ Some number) (λ i. record { css = sym css i; set = sym set i; device = q.device }) was in
-      let same = apart_at c p.css p.set p.device q.device number is moved in
-      λ i. record { css = css i; set = set i; device = same i };
+  apart = opening_apart c;
 }

@@ -7,6 +7,13 @@ pub mod LivesEdited
 pub mod Lowest
 pub mod MapCells
 pub mod Nodes
+pub mod NumbersBack
+pub mod NumbersCells
+pub mod NumbersChanged
+pub mod NumbersFound
+pub mod NumbersFreed
+pub mod NumbersOpened
+pub mod NumbersTwice
 pub mod Overwriting
 pub mod Parts
 pub mod RunsGoBack

@@ -12,9 +12,13 @@
 
 mod examples;
 mod laws;
+mod numbering_laws;
 
 pub use examples::{numbers_are_as_worked, orders_are_as_worked, views_are_as_worked};
 pub use laws::{
     opening_is_a_numbering, the_first_breach_is_first, the_lowest_free_number_is_free,
     the_nodes_of_a_tree_are_bounded, views_are_listed,
+};
+pub use numbering_laws::{
+    cells_are_the_numbers, no_number_comes_twice, numbers_after_a_change, numbers_go_back,
 };
