@@ -1,9 +1,9 @@
 -- What one edit alters, writes and leaves alone, and that its inverse takes it back.
-use Rattle.std.proofs.Common.{◌≡◌, ℕ, Bool, true, false, cond, not, ◌||◌, nat_eq, eqb-true, List, [], ◌∷◌, Option, Some, None, refl, sym, ap, subst, ◌∙◌}
+use Rattle.std.proofs.Common.{◌≡◌, ℕ, Bool, true, false, cond, not, ◌||◌, nat_eq, eqb-true, List, [], ◌∷◌, Option, Some, None, refl, sym, ap, ◌∙◌}
 use Rattle.std.specs.List.{list_any}
 use Rattle.std.specs.Option.{option_eq, is_some}
 use Rattle.std.specs.Ordering.{eq_by_cmp}
-use Rattle.std.specs.FinMap.{get, entries, contains_key, same_map}
+use Rattle.std.specs.FinMap.{get, entries, same_map}
 use Rattle.iocm_types.specs.declared.key.Key.{Key}
 use Rattle.iocm_types.specs.declared.place.NumberCell.{NumberCell}
 use Rattle.iocm_types.specs.declared.sub_id.SubId.{SubId}
@@ -15,16 +15,17 @@ use Rattle.iocm_model.specs.Record.{Rec, key_of}
 use Rattle.iocm_model.specs.Configuration.{Configuration}
 use Rattle.iocm_model.specs.Numbering.{Numbering, cells_of, numbering_of}
 use Rattle.iocm_model.specs.Renumbering.{renumbered}
-use Rattle.iocm_model.specs.RenumberingLaws.{RenumberingGoesBack, CellsAreTheNumbers}
 use Rattle.iocm_model.specs.Maps.{with_value, overwritten, cells_at, differing}
-use Rattle.iocm_model.specs.State.{State, Lives, Views, views_of, views_in, seen_in, HasLives, HasOwnKeys, IsSound, IsLike}
-use Rattle.iocm_model.specs.Edit.{Action, add, delete, modify, Edit, key_edited, record_after, config_edited, same_view, lives_edited, edited, altered_between, altered_by, is_altered}
-use Rattle.iocm_model.specs.Inverse.{action_back, freed, inverse_of}
-use Rattle.iocm_model.specs.Effect.{Cells, values_in, written, cells_of_edit}
+use Rattle.iocm_model.specs.State.{State, Lives, views_of, views_in, seen_in, HasLives, HasOwnKeys, IsSound, IsLike}
+use Rattle.iocm_model.specs.Edit.{Action, Edit, key_edited, record_after, config_edited, same_view, lives_edited, edited, altered_between, altered_by, is_altered}
+use Rattle.iocm_model.specs.Inverse.{action_back, inverse_of}
+use Rattle.iocm_model.specs.Effect.{values_in, written, cells_of_edit}
 use Rattle.iocm_model.specs.EditLaws.{IsNotAmong, AltersWhatDiffers, KeepsTheOthers, HasSameKeys, GoesBack}
 use Rattle.iocm_model.proofs.MapCells.{ties, get_with_value, get_overwritten_as, in_differing, get_retained}
 use Rattle.iocm_model.proofs.SameViews.{sight_is, sight_holds}
 use Rattle.iocm_model.proofs.LivesEdited.{lives_edited_at, same_keeps, left_there, left_back}
+use Rattle.iocm_model.proofs.NumbersBack.{renumbering_goes_back}
+use Rattle.iocm_model.proofs.NumbersCells.{cells_give_numbers}
 use Rattle.iocm_model.proofs.Overwriting.{overwritten_is}
 
 not_false : (b : Bool) → not b ≡ false → b ≡ true
@@ -78,8 +79,8 @@ config_back a c own =
     let k = key_edited a in
     (λ i. with_value (config_edited a c) (back_key k (get c k) (record_after a) (own k) i) (back_record k (get c k) (record_after a) i))
     ∙ same_map keys_total keys_exact _ _ (λ q. get_with_value keys_total keys_exact (config_edited a c) k (get c k) q
-        ∙ ap (cond (eq_by_cmp key_cmp q k) (get c k)) (get_with_value keys_total keys_exact c k (record_after a) q)
-        ∙ restored (eq_by_cmp key_cmp q k) c k q (record_after a) refl)
+    ∙ ap (cond (eq_by_cmp key_cmp q k) (get c k)) (get_with_value keys_total keys_exact c k (record_after a) q)
+    ∙ restored (eq_by_cmp key_cmp q k) c k q (record_after a) refl)
 
 off_one : (b : Bool) (x y : Option Rec) → (b || false) ≡ false → cond b x y ≡ y
 off_one true x y h = cc
@@ -114,7 +115,7 @@ lives_back : (e : Edit) (s u : State) (kept : Lives) → HasLives s → ((x : Su
 lives_back e s u kept lived here same = same_map sub_ids_total sub_ids_exact _ _ (λ x.
     lives_edited_at (views_in (edited e s)) (views_in s) kept u.lives x
     ∙ left_back (seen_in s x) (seen_in (edited e s) x) (get kept x) (get s.lives x) (get u.lives x) (lived x) (here x)
-      (same x ∙ ap is_some (get_retained sub_ids_total sub_ids_exact s.lives (is_altered s (edited e s)) x))
+    (same x ∙ ap is_some (get_retained sub_ids_total sub_ids_exact s.lives (is_altered s (edited e s)) x))
     ∙ ap (λ b. cond b (get kept x) (get u.lives x)) (sym (among_altered s (edited e s) x))
     ∙ sym (get_overwritten_as sub_ids_total sub_ids_exact kept (altered_by e s) u.lives x))
 
@@ -122,30 +123,30 @@ here_of : (u t : State) → IsLike u t → (x : SubId) → is_some (get u.lives 
 here_of u t like x = like.lived x ∙ (λ i. is_some (get (views_of (like.config i) (like.numbers i)) x))
 
 -- what the inverse does
-pub inverse_gives : RenumberingGoesBack → (e : Edit) (s u : State) (kept : Lives) → IsSound s → IsLike u (edited e s) → HasSameKeys kept (inverse_of e s).kept
+pub inverse_gives : (e : Edit) (s u : State) (kept : Lives) → IsSound s → IsLike u (edited e s) → HasSameKeys kept (inverse_of e s).kept
     → edited (record (inverse_of e s) { kept = kept }) u ≡ given s kept (altered_by e s) u
-inverse_gives numbers_back e s u kept sound like same =
+inverse_gives e s u kept sound like same =
     let a = (inverse_of e s).action in
     let config : config_edited a u.config ≡ s.config = ap (config_edited a) like.config ∙ config_back e.action s.config sound.keyed in
     let numbers : renumbered (config_edited a u.config) (inverse_of e s).places u.numbers ≡ s.numbers =
-        (λ i. renumbered (config i) (inverse_of e s).places (like.numbers i)) ∙ numbers_back s.config (edited e s).config e.places s.numbers sound.numbered in
+    (λ i. renumbered (config i) (inverse_of e s).places (like.numbers i)) ∙ renumbering_goes_back s.config (edited e s).config e.places s.numbers sound.numbered in
     let lives = (λ i. lives_edited (views_of (like.config i) (like.numbers i)) (views_of (config i) (numbers i)) kept u.lives)
-        ∙ lives_back e s u kept sound.lived (here_of u (edited e s) like) same in
+    ∙ lives_back e s u kept sound.lived (here_of u (edited e s) like) same in
     λ i. record { config = config i; numbers = numbers i; lives = lives i }
 
 -- and what writing the cells does
-effect_gives : CellsAreTheNumbers → (e : Edit) (s u : State) (kept : Lives) → IsSound s → IsLike u (edited e s)
+effect_gives : (e : Edit) (s u : State) (kept : Lives) → IsSound s → IsLike u (edited e s)
     → written (record (values_in s (cells_of_edit e s)) { lives = cells_at kept (altered_by e s) }) u ≡ given s kept (altered_by e s) u
-effect_gives cells_say e s u kept sound like =
+effect_gives e s u kept sound like =
     let t = edited e s in
     let config = ap (overwritten (entries (cells_at s.config (key_edited e.action ∷ [])))) like.config
-        ∙ overwritten_is keys_total keys_exact t.config s.config (key_edited e.action ∷ []) (off_key e.action s.config) in
+    ∙ overwritten_is keys_total keys_exact t.config s.config (key_edited e.action ∷ []) (off_key e.action s.config) in
     let differ = differing nat_eq (cells_of s.numbers) (cells_of t.numbers) in
     let numbers = (λ i. numbering_of (overwritten (entries (cells_at (cells_of s.numbers) differ)) (cells_of (like.numbers i))))
-        ∙ ap numbering_of (overwritten_is cells_total cells_exact (cells_of t.numbers) (cells_of s.numbers) differ (λ q off. sym (off_numbers s.numbers t.numbers q off)))
-        ∙ cells_say s.config s.numbers sound.numbered in
+    ∙ ap numbering_of (overwritten_is cells_total cells_exact (cells_of t.numbers) (cells_of s.numbers) differ (λ q off. sym (off_numbers s.numbers t.numbers q off)))
+    ∙ cells_give_numbers s.config s.numbers sound.numbered in
     λ i. record { config = config i; numbers = numbers i; lives = overwritten (entries (cells_at kept (altered_by e s))) u.lives }
 
-pub goes_back : RenumberingGoesBack → CellsAreTheNumbers → GoesBack
-goes_back numbers_back cells_say e s u kept sound like same =
-    inverse_gives numbers_back e s u kept sound like same ∙ sym (effect_gives cells_say e s u kept sound like)
+pub goes_back : GoesBack
+goes_back e s u kept sound like same =
+    inverse_gives e s u kept sound like same ∙ sym (effect_gives e s u kept sound like)

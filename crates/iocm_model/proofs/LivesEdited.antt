@@ -1,5 +1,5 @@
 -- The live records after an edit, at one subchannel.
-use Rattle.std.proofs.Common.{◌≡◌, Bool, true, false, cond, not, nat_eq, Option, Some, None, refl, sym, ap, ◌∙◌}
+use Rattle.std.proofs.Common.{◌≡◌, Bool, true, false, cond, not, Option, Some, None, refl, sym, ap, ◌∙◌}
 use Rattle.std.specs.Option.{option_eq, option_and_then, is_some}
 use Rattle.std.specs.FinMap.{get}
 use Rattle.iocm_types.specs.declared.live.Live.{Live}
@@ -9,7 +9,7 @@ use Rattle.iocm_types.proofs.KeyOrder.{sub_ids_total, sub_ids_exact}
 use Rattle.iocm_model.specs.State.{Lives, Views}
 use Rattle.iocm_model.specs.Edit.{same_view, live_of_altered, live_edited, lives_edited}
 use Rattle.iocm_model.proofs.MapCells.{get_each}
-use Rattle.iocm_model.proofs.SameViews.{sight_is, sight_holds, sight_turned}
+use Rattle.iocm_model.proofs.SameViews.{sight_turned}
 
 -- what an edit leaves at a subchannel of which this was seen, and this is seen afterwards
 abbrev pub left_at : Option View → Option View → Option Live → Option Live → Option Live

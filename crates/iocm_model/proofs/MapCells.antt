@@ -6,7 +6,7 @@ use Rattle.std.specs.Ordering.{is_eq, is_lt, eq_by_cmp}
 use Rattle.std.specs.declared.cmp.Ordering.{Ordering}
 use Rattle.std.specs.declared.cmp.Ordering.TheVariants.{Less, Equal, Greater}
 use Rattle.std.specs.Cmp.{IsTotalOrder}
-use Rattle.std.specs.FinMap.{FinMap, IsAntisymmetric, find, is_sorted, get, insert, remove, entries, entries_sorted, keys, contains_key, from_entries, retain_keys, get-insert, get-remove, get-from_entries, get-entries, get-retain_keys, get_tied, contains_key-keys}
+use Rattle.std.specs.FinMap.{FinMap, IsAntisymmetric, find, is_sorted, get, entries, entries_sorted, keys, from_entries, retain_keys, get-insert, get-remove, get-from_entries, get-entries, get-retain_keys, contains_key-keys}
 use Rattle.std.specs.FinMap.Entries.{below_all}
 use Rattle.iocm_model.specs.Maps.{with_value, overwritten, cells_at, differing}
 use Rattle.iocm_model.proofs.Parts.{or_else, find_append}

@@ -1,24 +1,24 @@
 -- Steps on subchannels that a change doesn't alter, before it or after it; and the state at opening.
-use Rattle.std.proofs.Common.{◌≡◌, Bool, true, false, cond, ◌||◌, List, [], ◌∷◌, map, Option, Some, None, refl, sym, ap, ◌∙◌}
+use Rattle.std.proofs.Common.{◌≡◌, Bool, true, false, cond, List, [], ◌∷◌, map, Option, Some, None, refl, sym, ap, ◌∙◌}
 use Rattle.std.specs.List.{list_any}
 use Rattle.std.specs.Option.{option_zip, is_some}
 use Rattle.std.specs.Ordering.{eq_by_cmp}
-use Rattle.std.specs.FinMap.{FinMap, find, get, insert, entries, from_entries, get-insert, get-from_entries, same_map}
+use Rattle.std.specs.FinMap.{find, get, insert, entries, get-insert, get-from_entries, same_map}
 use Rattle.iocm_types.specs.declared.live.Live.{Live}
 use Rattle.iocm_types.specs.declared.sub_id.SubId.{SubId}
 use Rattle.iocm_types.specs.declared.view.View.{View}
 use Rattle.iocm_types.specs.SubId.{sub_id_cmp}
 use Rattle.iocm_types.proofs.KeyOrder.{keys_total, keys_exact, cells_total, cells_exact, sub_ids_total, sub_ids_exact}
 use Rattle.iocm_model.specs.Numbering.{cells_of, numbering_of, opening}
-use Rattle.iocm_model.specs.RenumberingLaws.{RenumberedAreNumbers, CellsAreTheNumbers, OpeningAreNumbers}
 use Rattle.iocm_model.specs.Maps.{overwritten, cells_at}
-use Rattle.iocm_model.specs.State.{State, Lives, views_of, seen_in, fresh_row}
+use Rattle.iocm_model.specs.State.{Lives, views_of, seen_in, fresh_row}
 use Rattle.iocm_model.specs.View.{views}
-use Rattle.iocm_model.specs.Edit.{Edit}
 use Rattle.iocm_model.specs.Effect.{written, edited_by_all, cells_of_edits, effect_of}
 use Rattle.iocm_model.specs.EditLaws.{IsNotAmong, OpeningIsSound, StepsElsewherePass}
 use Rattle.iocm_model.specs.Step.{Step, subchannel_in, live_stepped, lives_stepped, step_answer}
 use Rattle.iocm_model.proofs.MapCells.{ties, get_overwritten_as}
+use Rattle.iocm_model.proofs.NumbersCells.{cells_give_numbers}
+use Rattle.iocm_model.proofs.NumbersOpened.{opening_are_numbers}
 use Rattle.iocm_model.proofs.Overwriting.{overwritten_is}
 use Rattle.iocm_model.proofs.RunsGoBack.{off_keys, off_cells, off_sight, stays_sound}
 
@@ -32,10 +32,10 @@ fresh_there (row ∷ rows) x = by (eq_by_cmp sub_id_cmp x row.0) (fresh_row row)
     by true l v m o e = refl
     by false l v m o e = e
 
-pub opening_is_sound : OpeningAreNumbers → OpeningIsSound
-opening_is_sound numbers c own = record {
+pub opening_is_sound : OpeningIsSound
+opening_is_sound c own = record {
   keyed = own;
-  numbered = numbers c;
+  numbered = opening_are_numbers c;
   lived = λ x. ap is_some (get-from_entries sub_ids_total (map fresh_row (views c (opening c))) x) ∙ fresh_there (views c (opening c)) x
       ∙ ap is_some (sym (get-from_entries sub_ids_total (views c (opening c)) x));
 }
@@ -57,7 +57,7 @@ put_elsewhere from lives xs x l off = same_map sub_ids_total sub_ids_exact _ _ (
     get-insert sub_ids_total (overwritten (entries (cells_at from xs)) lives) x l y
     ∙ ap (cond (eq_by_cmp sub_id_cmp y x) (Some l)) (get_overwritten_as sub_ids_total sub_ids_exact from xs lives y)
     ∙ swapped (eq_by_cmp sub_id_cmp y x) (list_any (eq_by_cmp sub_id_cmp y) xs) (Some l) (get from y) (get lives y)
-      (λ h. ap (λ z. list_any (eq_by_cmp sub_id_cmp z) xs) (ties sub_id_cmp sub_ids_exact y x h) ∙ off)
+    (λ h. ap (λ z. list_any (eq_by_cmp sub_id_cmp z) xs) (ties sub_id_cmp sub_ids_exact y x h) ∙ off)
     ∙ ap (cond (list_any (eq_by_cmp sub_id_cmp y) xs) (get from y)) (sym (get-insert sub_ids_total lives x l y))
     ∙ sym (get_overwritten_as sub_ids_total sub_ids_exact from xs (insert lives x l) y))
 
@@ -66,18 +66,18 @@ step_elsewhere : (from lives : Lives) (xs : List SubId) (x : SubId) (step : Step
 step_elsewhere from lives xs x step None off = refl
 step_elsewhere from lives xs x step (Some p) off = put_elsewhere from lives xs x (live_stepped step p.0 p.1) off
 
-pub steps_elsewhere_pass : RenumberedAreNumbers → CellsAreTheNumbers → StepsElsewherePass
-steps_elsewhere_pass numbers_stay cells_say es s u x step sound accepted config numbers off =
+pub steps_elsewhere_pass : StepsElsewherePass
+steps_elsewhere_pass es s u x step sound accepted config numbers off =
     let t = edited_by_all es s in let w = cells_of_edits es s in let v = written (effect_of es s) u in
     let config_is : v.config ≡ t.config = ap (overwritten (entries (cells_at t.config w.keys))) config
-        ∙ overwritten_is keys_total keys_exact s.config t.config w.keys (λ q o. sym (off_keys es s q o)) in
+    ∙ overwritten_is keys_total keys_exact s.config t.config w.keys (λ q o. sym (off_keys es s q o)) in
     let numbers_is : v.numbers ≡ t.numbers = (λ i. numbering_of (overwritten (entries (cells_at (cells_of t.numbers) w.numbers)) (cells_of (numbers i))))
-        ∙ ap numbering_of (overwritten_is cells_total cells_exact (cells_of s.numbers) (cells_of t.numbers) w.numbers (λ q o. sym (off_cells es s q o)))
-        ∙ cells_say t.config t.numbers (stays_sound numbers_stay es s sound accepted).numbered in
+    ∙ ap numbering_of (overwritten_is cells_total cells_exact (cells_of s.numbers) (cells_of t.numbers) w.numbers (λ q o. sym (off_cells es s q o)))
+    ∙ cells_give_numbers t.config t.numbers (stays_sound es s sound accepted).numbered in
     let seen : seen_in v x ≡ seen_in u x = (λ i. get (views_of (config_is i) (numbers_is i)) x) ∙ off_sight es s x off
-        ∙ (λ i. get (views_of (sym config i) (sym numbers i)) x) in
+    ∙ (λ i. get (views_of (sym config i) (sym numbers i)) x) in
     let live : get v.lives x ≡ get u.lives x = get_overwritten_as sub_ids_total sub_ids_exact t.lives w.subchannels u.lives x
-        ∙ ap (λ b. cond b (get t.lives x) (get u.lives x)) off in
+    ∙ ap (λ b. cond b (get t.lives x) (get u.lives x)) off in
     let same : subchannel_in v x ≡ subchannel_in u x = λ i. option_zip (seen i) (live i) in
     let lives = ap (λ p. lives_stepped x step p v.lives) same ∙ step_elsewhere t.lives u.lives w.subchannels x step (subchannel_in u x) off in
     record {

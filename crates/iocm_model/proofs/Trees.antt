@@ -1,18 +1,17 @@
 -- An accepted tree is a run of accepted edits, and its inverse tree takes it back.
-use Rattle.std.proofs.Common.{◌≡◌, ℕ, ◌+◌, nat_eq, eqb-true, ◌≤◌, ◌<◌, nat_lt, length, Bool, true, false, cond, List, [], ◌∷◌, ◌++◌, Option, Some, None, refl, sym, ap, subst, ◌∙◌, arith}
-use Rattle.std.specs.Prelude.{Result, Ok, Err}
+use Rattle.std.proofs.Common.{◌≡◌, ℕ, ◌+◌, nat_eq, eqb-true, ◌≤◌, nat_lt, length, Bool, true, false, cond, List, [], ◌∷◌, ◌++◌, Option, Some, None, refl, sym, ap, subst, ◌∙◌, arith}
+use Rattle.std.specs.Prelude.{Ok, Err}
 use Rattle.std.proofs.lemmas.List.{length-append}
 use Rattle.iocm_types.specs.declared.refused.Refused.{Refused}
 use Rattle.iocm_model.specs.Rules.{Breach, first_breach}
-use Rattle.iocm_model.specs.RenumberingLaws.{RenumberedAreNumbers, RenumberingGoesBack, FreedAreNotTaken, CellsAreTheNumbers}
-use Rattle.iocm_model.specs.State.{State, IsSound}
+use Rattle.iocm_model.specs.State.{State}
 use Rattle.iocm_model.specs.Edit.{Edit, edited}
 use Rattle.iocm_model.specs.Refusal.{refusal_of}
 use Rattle.iocm_model.specs.Effect.{edited_by_all}
 use Rattle.iocm_model.specs.Tree.{Plan, Plans, leaf, row, group, choose, none, part, or_one, leaves_of, leaves_in, depth_of, depth_in, nodes_of, most_depth, most_leaves}
 use Rattle.iocm_model.specs.Meaning.{Run, Outcome, unless_refused, after_run, and_then, or_else, unless_broken, checked, without_parts, mean, mean_all, mean_first, meaning}
 use Rattle.iocm_model.specs.EditLaws.{AreAccepted}
-use Rattle.iocm_model.specs.TreeLaws.{IsRunFrom, AcceptedTreesAreRuns, InverseTreesTakeBack}
+use Rattle.iocm_model.specs.TreeLaws.{AcceptedTreesAreRuns, InverseTreesTakeBack}
 use Rattle.iocm_model.specs.Inverse.{inverse_of}
 use Rattle.iocm_model.specs.InverseTree.{inverses, parts_of, inverse_tree, reached}
 use Rattle.iocm_model.proofs.RunsGoBack.{accepted_append, all_append, run_back, run_goes_back}
@@ -160,16 +159,16 @@ few_leaves k m h le = let bound = at_most m h in not_over (or_one k) (one_or (na
 unless_nothing : (a b : Bool) (x y z : Outcome) → a ≡ false → b ≡ false → cond a x (cond b y z) ≡ z
 unless_nothing a b x y z p q = rw (p, q) refl
 
-pub inverse_trees_take_back : RenumberedAreNumbers → RenumberingGoesBack → FreedAreNotTaken → CellsAreTheNumbers → InverseTreesTakeBack
-inverse_trees_take_back numbers_stay numbers_back free cells_say p s w sound kept h u like quiet =
+pub inverse_trees_take_back : InverseTreesTakeBack
+inverse_trees_take_back p s w sound kept h u like quiet =
     let within = meaning_within p s w h in
     let es = w.edits in let t = inverse_tree es s in
-    let both = run_goes_back numbers_stay numbers_back free cells_say es s u sound within.run.accepted like quiet in
+    let both = run_goes_back es s u sound within.run.accepted like quiet in
     let deep : nat_lt most_depth (depth_of t) ≡ false = let d = parts_depth (inverses es s) in grind arith in
     let many : nat_lt most_leaves (leaves_of t) ≡ false = few_leaves (leaves_in (parts_of (inverses es s))) (leaves_of p) within.leaves
-        (let f = within.run.few in let k = parts_leaves (inverses es s) in let l = inverses_length es s in omega (arith, f, k, l)) in
+    (let f = within.run.few in let k = parts_leaves (inverses es s) in let l = inverses_length es s in omega (arith, f, k, l)) in
     let there : mean_all (parts_of (inverses es s)) 1 u ≡ Ok (record { state = edited_by_all (inverses es s) u; edits = inverses es s }) = parts_mean (inverses es s) 1 u both.1 in
     let rules : first_breach (edited_by_all (inverses es s) u).config (edited_by_all (inverses es s) u).numbers ≡ None =
-        ap (λ (z : State). first_breach z.config z.numbers) (run_back numbers_stay numbers_back es s u sound within.run.accepted like) ∙ kept in
+    ap (λ (z : State). first_breach z.config z.numbers) (run_back es s u sound within.run.accepted like) ∙ kept in
     ap reached (unless_nothing _ _ _ _ _ deep many ∙ ap (checked 0) there ∙ ap (λ b. unless_broken b 0 (record { state = edited_by_all (inverses es s) u; edits = inverses es s })) rules)
     ∙ ap Some both.0

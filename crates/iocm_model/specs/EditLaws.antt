@@ -1,5 +1,5 @@
 -- What edits promise: what they alter, what they write, and that they can be taken back.
-use Rattle.std.specs.Prelude.{◌≡◌, ◌↔◌, false, Option, None, Some, List, [], ◌∷◌}
+use Rattle.std.specs.Prelude.{◌≡◌, ◌↔◌, false, None, List, [], ◌∷◌}
 use Rattle.std.specs.List.{list_any}
 use Rattle.std.specs.Ordering.{eq_by_cmp}
 use Rattle.std.specs.FinMap.{get, contains_key}

@@ -1,5 +1,5 @@
 -- The tree that takes a change back. Own.
-use Rattle.std.specs.Prelude.{◌≡◌, List, [], ◌∷◌, ◌++◌, Option, Some, None, Result, Ok, Err}
+use Rattle.std.specs.Prelude.{◌≡◌, List, [], ◌∷◌, ◌++◌, Option, Some, None, Ok, Err}
 use Rattle.iocm_model.specs.State.{State, IsLike}
 use Rattle.iocm_model.specs.Edit.{Edit, edited}
 use Rattle.iocm_model.specs.Refusal.{first_busy}

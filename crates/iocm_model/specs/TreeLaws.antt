@@ -1,5 +1,5 @@
 -- What change trees promise: an accepted tree is a run of accepted edits, and its inverse tree takes it back.
-use Rattle.std.specs.Prelude.{◌≡◌, Option, None, Result, Ok}
+use Rattle.std.specs.Prelude.{◌≡◌, None, Ok}
 use Rattle.iocm_model.specs.Rules.{first_breach}
 use Rattle.iocm_model.specs.State.{State, IsSound}
 use Rattle.iocm_model.specs.Effect.{edited_by_all}

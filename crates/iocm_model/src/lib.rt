@@ -10,10 +10,16 @@
 //! `specs/Examples.antt`).
 #![tactic(auto)]
 
+mod edit_laws;
 mod examples;
 mod laws;
 mod numbering_laws;
+mod tree_laws;
 
+pub use edit_laws::{
+    an_edit_alters_what_differs, edits_go_back, edits_write_their_effect, states_stay_sound,
+    steps_elsewhere_pass,
+};
 pub use examples::{numbers_are_as_worked, orders_are_as_worked, views_are_as_worked};
 pub use laws::{
     opening_is_a_numbering, the_first_breach_is_first, the_lowest_free_number_is_free,
@@ -22,3 +28,4 @@ pub use laws::{
 pub use numbering_laws::{
     cells_are_the_numbers, no_number_comes_twice, numbers_after_a_change, numbers_go_back,
 };
+pub use tree_laws::{accepted_trees_are_runs, inverse_trees_take_back};

@@ -1,0 +1,10 @@
+-- The laws are proved of the definitions.
+use Rattle.iocm_model.proofs.EditsGoBack.{goes_back}
+use Rattle.iocm_model.proofs.RunsGoBack.{run_goes_back}
+use Rattle.iocm_model.proofs.edit_laws.edits_go_back.Goals as goal
+
+pub returns-clause-edit : goal.returns-clause-edit
+returns-clause-edit c = goes_back
+
+pub returns-clause-run : goal.returns-clause-run
+returns-clause-run c = run_goes_back

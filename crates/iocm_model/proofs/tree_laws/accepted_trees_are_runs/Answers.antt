@@ -1,0 +1,6 @@
+-- The law is proved of the definitions.
+use Rattle.iocm_model.proofs.Trees.{accepted_trees_are_runs}
+use Rattle.iocm_model.proofs.tree_laws.accepted_trees_are_runs.Goals as goal
+
+pub returns : goal.returns
+returns c = accepted_trees_are_runs

@@ -1,0 +1,13 @@
+ghost use Rattle.iocm_model.specs.TreeLaws.{AcceptedTreesAreRuns, InverseTreesTakeBack};
+
+/// An accepted tree performs edits that are accepted one after the other, and leaves a state in which the rules hold.
+pub fn accepted_trees_are_runs()
+    ensures { AcceptedTreesAreRuns }
+{}
+
+/// The Row of the inverses, the last first, is an inverse of an accepted tree: at every state with the configuration and the
+/// numbers after it in which the altered subchannels are quiet, it is accepted, and means that state with the cells that the
+/// tree wrote as these were before.
+pub fn inverse_trees_take_back()
+    ensures { InverseTreesTakeBack }
+{}
