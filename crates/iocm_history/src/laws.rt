@@ -1,5 +1,8 @@
 ghost use Rattle.iocm_history.specs.HistoryLaws.{
-    RestoringUndoesStriking, StandingChangesMarkNothing, MarksSayWhichUndo, RedoTakesUndoBack
+  RestoringUndoesStriking,
+  StandingChangesMarkNothing,
+  MarksSayWhichUndo,
+  RedoTakesUndoBack,
 };
 
 /// What an undo newly struck, taken back, is as it was before the undo.

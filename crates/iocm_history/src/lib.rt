@@ -8,4 +8,7 @@
 
 mod laws;
 
-pub use laws::{marks_say_which_undo, redo_takes_undo_back, restoring_undoes_striking, standing_changes_mark_nothing};
+pub use laws::{
+    marks_say_which_undo, redo_takes_undo_back, restoring_undoes_striking,
+    standing_changes_mark_nothing,
+};
