@@ -1,1 +1,4 @@
+pub mod EntriesAfter
 pub mod Marks
+pub mod Remarked
+pub mod StandingMarks
