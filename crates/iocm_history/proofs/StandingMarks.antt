@@ -62,7 +62,8 @@ pub record AreMarked (b : Book) (ls : List Line) : Type 0 where
   pub unmarked : (n : ℕ) → StandsOrIsAhead b n → IsUnmarked n ls
   pub fresh : (n : ℕ) → IsFresh n ls
 
-kept_mark : (n : ℕ) → kept ≢ undone_with n
+-- an entry that counts is not struck
+pub kept_mark : (n : ℕ) → kept ≢ undone_with n
 kept_mark n e = cc
 
 -- an entry is not struck when it is made
