@@ -3,5 +3,6 @@ pub mod Entry
 pub mod HistoryLaws
 pub mod Legal
 pub mod Line
+pub mod RedoLaw
 pub mod Replay
 pub mod Run
