@@ -1,6 +1,5 @@
 -- What an entry may be after a legal history: an accepted change, undo or redo, or one that marks nothing.
-use Rattle.std.proofs.Common.{◌≡◌, ◌⊎◌, inl, inr, ℕ, ◌+◌, Bool, true, false, cond, ◌||◌, eqb, List, [], ◌∷◌, Option, Some, None, Ok, Err, refl, sym, ap, subst, ◌∙◌}
-use Rattle.iocm_types.specs.declared.answer.Answer.{Answer}
+use Rattle.std.proofs.Common.{◌≡◌, inl, inr, ℕ, ◌+◌, Bool, true, false, cond, List, [], ◌∷◌, Option, Some, None, Ok, Err, refl, sym, subst}
 use Rattle.iocm_types.specs.declared.answer.Answer.TheVariants.{Changed, Undone, Redone, Shown}
 use Rattle.iocm_types.specs.declared.answer.Answer.TheVariants as answers
 use Rattle.iocm_types.specs.declared.refused.Refused.{Refused}
@@ -10,12 +9,12 @@ use Rattle.iocm_types.specs.declared.live.Live.{Live}
 use Rattle.iocm_model.specs.State.{State}
 use Rattle.iocm_model.specs.Effect.{Effect}
 use Rattle.iocm_model.specs.Meaning.{Outcome, meaning}
-use Rattle.iocm_model.specs.Step.{Step, order, device_end, step_answer, answer_in}
+use Rattle.iocm_model.specs.Step.{Step, order, device_end, step_answer}
 use Rattle.iocm_model.specs.Tree.{Plan}
 use Rattle.iocm_history.specs.Entry.{Call, at, activate, undo, redo, show, Entry, History, plain_entry}
-use Rattle.iocm_history.specs.Line.{Act, step, change, undoing, nothing, Line, line_of, lines, remarked}
+use Rattle.iocm_history.specs.Line.{Act, step, nothing, Line, line_of, remarked}
 use Rattle.iocm_history.specs.Book.{Book, is_in, is_past, booked, book}
-use Rattle.iocm_history.specs.Legal.{IsRight, unless_busy, stands_on, unless_stood_on, undo_answer, is_last_undone, redo_answer, activated, entry_in, entry_of}
+use Rattle.iocm_history.specs.Legal.{IsRight, unless_busy, stands_on, unless_stood_on, is_last_undone, activated, entry_in}
 
 -- an act that neither is a change nor an undo
 abbrev pub is_plain : Act → Bool

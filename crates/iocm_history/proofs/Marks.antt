@@ -1,9 +1,9 @@
 -- What striking, restoring and taking back do to marks.
-use Rattle.std.proofs.Common.{◌≡◌, ℕ, Bool, true, false, cond, eqb, List, [], ◌∷◌, refl, sym, ap, ◌∙◌}
-use Rattle.std.proofs.lemmas.Bool.{eqb-true, eq-eqb, ne_eqb}
+use Rattle.std.proofs.Common.{◌≡◌, ℕ, Bool, true, false, cond, eqb, List, [], ◌∷◌, refl, sym}
+use Rattle.std.proofs.lemmas.Bool.{eq-eqb, ne_eqb}
 use Rattle.std.specs.Prelude.{◌≢◌}
 use Rattle.iocm_types.specs.declared.sub_id.SubId.{SubId}
-use Rattle.iocm_history.specs.Line.{Act, Mark, kept, undone_with, lost, Line, is_change, is_step_on, is_undo, struck_mark, struck, struck_if, strike, unstruck_mark, unstruck, taken_back, restore}
+use Rattle.iocm_history.specs.Line.{Mark, kept, undone_with, lost, Line, is_change, is_step_on, struck_mark, struck, struck_if, strike, unstruck_mark, unstruck, taken_back}
 use Rattle.iocm_history.specs.HistoryLaws.{IsUnmarked, RestoringUndoesStriking}
 
 -- ---- taking back

@@ -1,16 +1,13 @@
 -- A line that the undo of a change struck is the change, or a step on a subchannel that it altered.
-use Rattle.std.proofs.Common.{◌≡◌, ◌≢◌, ◌⊎◌, inl, inr, ℕ, ◌+◌, Bool, true, false, cond, eqb, List, [], ◌∷◌, refl, sym, ap, subst, ◌∙◌, arith}
+use Rattle.std.proofs.Common.{◌≡◌, inl, inr, ℕ, ◌+◌, Bool, true, false, cond, eqb, List, [], ◌∷◌, refl, sym, subst, arith}
 use Rattle.std.proofs.lemmas.Bool.{eqb-true, eqb-false}
 use Rattle.std.specs.FinMap.{keys}
 use Rattle.iocm_types.specs.declared.answer.Answer.TheVariants.{Changed, Undone, Redone}
 use Rattle.iocm_types.specs.declared.sub_id.SubId.{SubId}
-use Rattle.iocm_model.specs.State.{State}
 use Rattle.iocm_model.specs.Effect.{Effect}
-use Rattle.iocm_model.specs.Tree.{Plan}
-use Rattle.iocm_history.specs.Entry.{Call, activate, undo, redo, Entry, History, plain_entry}
+use Rattle.iocm_history.specs.Entry.{activate, undo, redo, Entry, plain_entry}
 use Rattle.iocm_history.specs.Line.{Act, step, change, undoing, nothing, undone_with, Line, is_change, is_step_on, effect_or, change_effect, altered_by_change, struck, struck_if, strike, restore, line_of, lines, remarked}
 use Rattle.iocm_history.specs.Book.{Book, book}
-use Rattle.iocm_history.specs.Legal.{IsLegal}
 use Rattle.iocm_history.specs.HistoryLaws.{IsUnmarked, AreItsOwn, MarksSayWhichUndo}
 use Rattle.iocm_history.proofs.EntriesAfter.{is_plain, IsIdle, IsAfter, changed, undone, redone, idle, after}
 use Rattle.iocm_history.proofs.Remarked.{effect_strike, effect_restore, not_new_strike, not_new_restore, own_then}

@@ -1,18 +1,18 @@
 -- Undo and then redo of a change give back the state before the undo, with the steps between them on other subchannels.
-use Rattle.std.proofs.Common.{◌≡◌, inr, ℕ, Bool, true, false, ◌&&◌, cond, eqb, List, [], ◌∷◌, ◌++◌, map, refl, sym, ap, subst, ◌∙◌}
+use Rattle.std.proofs.Common.{◌≡◌, inr, ℕ, true, false, eqb, List, [], ◌∷◌, ◌++◌, map, refl, ap, ◌∙◌}
 use Rattle.std.proofs.lemmas.Bool.{and_parts, eq-eqb}
 use Rattle.std.specs.List.{list_all}
 use Rattle.std.specs.FinMap.{keys}
-use Rattle.iocm_types.specs.declared.answer.Answer.TheVariants.{Changed, Undone, Redone}
+use Rattle.iocm_types.specs.declared.answer.Answer.TheVariants.{Undone, Redone}
 use Rattle.iocm_types.specs.declared.sub_id.SubId.{SubId}
 use Rattle.iocm_model.specs.State.{State}
 use Rattle.iocm_model.specs.Effect.{Effect}
-use Rattle.iocm_history.specs.Entry.{Call, activate, undo, redo, Entry, History, plain_entry}
-use Rattle.iocm_history.specs.Line.{Act, step, change, undoing, nothing, Mark, lost, Line, is_undo, is_step_on, change_effect, altered_by_change, struck_if, strike, taken_back, restore, with_change, line_of, lines, remarked}
+use Rattle.iocm_history.specs.Entry.{activate, undo, redo, Entry, History, plain_entry}
+use Rattle.iocm_history.specs.Line.{Act, step, change, undoing, nothing, lost, Line, is_undo, is_step_on, change_effect, altered_by_change, struck_if, strike, taken_back, restore, with_change, line_of, lines}
 use Rattle.iocm_history.specs.Replay.{acted_if_kept, replay, state_at}
 use Rattle.iocm_history.specs.Book.{Book, is_in, book}
 use Rattle.iocm_history.specs.Legal.{IsLegal}
-use Rattle.iocm_history.specs.HistoryLaws.{IsUnmarked, is_step, is_step_call, steps_elsewhere}
+use Rattle.iocm_history.specs.HistoryLaws.{IsUnmarked, is_step, steps_elsewhere}
 use Rattle.iocm_history.specs.RedoLaw.{LegalRedoTakesUndoBack}
 use Rattle.iocm_history.proofs.EntriesAfter.{is_plain, IsIdle, IsAfter, changed, undone, redone, idle, after}
 use Rattle.iocm_history.proofs.Marks.{taken_back_strike}
@@ -93,7 +93,10 @@ idle_restore xs n (e ∷ new) ls quiet =
 -- a change that may be undone stands
 undo_stands : (n : ℕ) (b : Book) → IsAfter b (undo_entry n) → is_in n b.standing ≡ true
 undo_stands n b (changed p f is) = let calls : undo n ≡ activate p = ap (λ (e : Entry). e.call) is in cc
-undo_stands n b (undone m here is) = let calls : undo n ≡ undo m = ap (λ (e : Entry). e.call) is in let same : n ≡ m = cc in rw same here
+undo_stands n b (undone m here is) =
+    let calls : undo n ≡ undo m = ap (λ (e : Entry). e.call) is in
+    let same : n ≡ m = cc in
+    rw same here
 undo_stands n b (redone m here is) = let calls : undo n ≡ redo m = ap (λ (e : Entry). e.call) is in cc
 undo_stands n b (idle i) = let plain = i.act in cc
 
@@ -110,7 +113,9 @@ module _ (opening : State) (h between : History) (n : ℕ) (legal : IsLegal open
   unmarked_before = (history_marked opening h legal.1).unmarked n (inr (undo_stands n (book h) (after opening h (undo_entry n) legal.0)))
 
   altered_before : altered_by_change n lines_before ≡ altered
-  altered_before = ap (λ (f : Effect). keys f.lives) (idle_effect n between (line_of (undo_entry n) ∷ strike altered n (lines h)) steps ∙ effect_strike altered n n (lines h))
+  altered_before =
+      ap (λ (f : Effect). keys f.lives)
+      (idle_effect n between (line_of (undo_entry n) ∷ strike altered n (lines h)) steps ∙ effect_strike altered n n (lines h))
 
   lines_between : lines (between ++ undo_entry n ∷ h) ≡ lines_before
   unfolding lines
@@ -127,9 +132,10 @@ module _ (opening : State) (h between : History) (n : ℕ) (legal : IsLegal open
   -- the state after the redo
   redone_state : state_at opening (redo_entry n ∷ between ++ undo_entry n ∷ h) ≡ replay (state_at opening h) (steps_elsewhere altered between)
   unfolding lines
-  redone_state = ap (replay opening) redone_lines ∙ replay_append opening (steps_elsewhere altered between) (line_of (undo_entry n) ∷ lines h)
+  redone_state = ap (replay opening) redone_lines ∙ replay_append opening (steps_elsewhere altered between) _
 
 -- undo and then redo of a change, with legal steps between them
 pub redo_takes_back : LegalRedoTakesUndoBack
 redo_takes_back opening h between n legal steps =
-    redone_state opening h between n (legal_before opening between (undo_entry n ∷ h) legal) (steps_idle opening between (undo_entry n ∷ h) legal steps)
+    redone_state opening h between n (legal_before opening between (undo_entry n ∷ h) legal)
+    (steps_idle opening between (undo_entry n ∷ h) legal steps)

@@ -2,8 +2,7 @@
 use Rattle.std.proofs.Common.{◌≡◌, ◌≢◌, ◌⊎◌, ℕ, Bool, true, false, cond, eqb, List, [], ◌∷◌, refl, sym, ap, subst, ◌∙◌}
 use Rattle.std.proofs.lemmas.Bool.{eq-eqb}
 use Rattle.iocm_types.specs.declared.sub_id.SubId.{SubId}
-use Rattle.iocm_model.specs.Effect.{Effect}
-use Rattle.iocm_history.specs.Line.{Act, Mark, kept, undone_with, lost, Line, is_change, is_step_on, is_undo, effect_or, change_effect, struck_mark, struck, struck_if, strike, unstruck_mark, unstruck, taken_back, restore}
+use Rattle.iocm_history.specs.Line.{Act, Mark, kept, undone_with, lost, Line, is_change, is_step_on, is_undo, effect_or, change_effect, struck_mark, struck, struck_if, strike, unstruck_mark, taken_back, restore}
 use Rattle.iocm_history.specs.HistoryLaws.{IsUnmarked, AreItsOwn}
 
 -- the same acts, with marks that are related
@@ -33,7 +32,8 @@ module _ (R : Mark → Mark → Type 0) (itself : (m : Mark) → R m m) where
   struck_at false xs n l ls new rest = remarked_if (is_step_on xs l.act) (undone_with n) l ls (strike xs n ls) new rest
 
   -- an undo strikes some
-  pub remarked_strike : (xs : List SubId) (n : ℕ) → ((m : Mark) → R m (struck_mark (undone_with n) m)) → (ls : List Line) → AreRemarked R ls (strike xs n ls)
+  pub remarked_strike : (xs : List SubId) (n : ℕ) → ((m : Mark) → R m (struck_mark (undone_with n) m))
+      → (ls : List Line) → AreRemarked R ls (strike xs n ls)
   unfolding AreRemarked strike
   remarked_strike xs n new [] = tt
   remarked_strike xs n new (l ∷ ls) = struck_at (is_change n l.act) xs n l ls (new l.mark) (remarked_strike xs n new ls)
@@ -105,16 +105,12 @@ other_mark n k other is = let same : k ≡ n = cc in other same
 lost_mark : (n : ℕ) → lost ≢ undone_with n
 lost_mark n is = cc
 
--- nothing is, where lines stay
-pub not_new_same : (n : ℕ) (ls : List Line) → AreRemarked (NotNew n) ls ls
-not_new_same n ls = remarked_same (NotNew n) (λ m is. is) ls
-
--- nothing is, by the undo of another change
+-- the undo of another change strikes nothing newly with this one
 pub not_new_strike : (xs : List SubId) (n k : ℕ) → k ≢ n → (ls : List Line) → AreRemarked (NotNew n) ls (strike xs k ls)
 not_new_strike xs n k other ls =
     remarked_strike (NotNew n) (λ m is. is) xs k (λ m. not_new_struck n (undone_with k) m (other_mark n k other)) ls
 
--- nothing is, by a redo
+-- nor does a redo
 pub not_new_restore : (xs : List SubId) (n k : ℕ) (ls : List Line) → AreRemarked (NotNew n) ls (restore xs k ls)
 not_new_restore xs n k ls =
     remarked_restore (NotNew n) (λ m is. is) xs k (λ m. not_new_struck n lost m (lost_mark n)) (not_new_back n k) ls
@@ -149,7 +145,8 @@ unfolding AreRemarked IsFresh
 fresh_then n [] [] r new = tt
 fresh_then n [] (m ∷ ms) r new = absurd r
 fresh_then n (l ∷ ls) [] r new = absurd r
-fresh_then n (l ∷ ls) (m ∷ ms) r new = (λ is. new.0 (r.1 is), λ later. fresh_then n ls ms r.2 (new.1 (ap (is_undo n) (sym r.0) ∙ later)))
+fresh_then n (l ∷ ls) (m ∷ ms) r new =
+    (λ is. new.0 (r.1 is), λ later. fresh_then n ls ms r.2 (new.1 (ap (is_undo n) (sym r.0) ∙ later)))
 
 back_mark : (b : Bool) (n j : ℕ) → eqb n j ≡ b → cond b kept (undone_with j) ≢ undone_with n
 back_mark true n j is e = cc

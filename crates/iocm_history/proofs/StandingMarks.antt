@@ -1,19 +1,17 @@
 -- No line is struck by the undo of a change that stands, or that isn't there yet.
-use Rattle.std.proofs.Common.{◌≡◌, ◌≢◌, ◌⊎◌, inl, inr, ℕ, ◌+◌, ◌<◌, ◌≤◌, Bool, true, false, not, cond, ◌||◌, eqb, List, [], ◌∷◌, filter, refl, sym, ap, subst, ◌∙◌, arith}
-use Rattle.std.proofs.lemmas.Bool.{eqb-true, eqb-false, eq-eqb, or_right}
+use Rattle.std.proofs.Common.{◌≡◌, ◌≢◌, ◌⊎◌, inl, inr, ℕ, ◌+◌, ◌<◌, ◌≤◌, Bool, true, false, not, cond, ◌||◌, eqb, List, [], ◌∷◌, refl, sym, ap, subst, arith}
+use Rattle.std.proofs.lemmas.Bool.{eqb-true, eqb-false, or_right}
 use Rattle.std.proofs.lemmas.Map.Views.{any-filter_same}
 use Rattle.iocm_types.specs.declared.answer.Answer.TheVariants.{Changed, Undone, Redone}
 use Rattle.iocm_types.specs.declared.sub_id.SubId.{SubId}
 use Rattle.iocm_model.specs.State.{State}
-use Rattle.iocm_model.specs.Effect.{Effect}
-use Rattle.iocm_model.specs.Tree.{Plan}
-use Rattle.iocm_history.specs.Entry.{Call, activate, undo, redo, Entry, History, plain_entry}
-use Rattle.iocm_history.specs.Line.{Act, undoing, kept, undone_with, Line, is_undo, altered_by_change, strike, restore, line_of, lines, remarked}
+use Rattle.iocm_history.specs.Entry.{activate, undo, redo, Entry, History, plain_entry}
+use Rattle.iocm_history.specs.Line.{kept, undone_with, Line, altered_by_change, strike, restore, line_of, lines, remarked}
 use Rattle.iocm_history.specs.Book.{Book, is_in, without, booked, book}
 use Rattle.iocm_history.specs.Legal.{IsLegal}
 use Rattle.iocm_history.specs.HistoryLaws.{IsUnmarked, StandingChangesMarkNothing}
 use Rattle.iocm_history.proofs.EntriesAfter.{IsIdle, IsAfter, changed, undone, redone, idle, after}
-use Rattle.iocm_history.proofs.Remarked.{IsFresh, not_new_same, not_new_strike, not_new_restore, unmarked_then, fresh_then, restore_clears}
+use Rattle.iocm_history.proofs.Remarked.{IsFresh, not_new_strike, not_new_restore, unmarked_then, fresh_then, restore_clears}
 
 -- ---- numbers among others
 
@@ -25,7 +23,8 @@ or_more : (a b c : Bool) → (b ≡ true → c ≡ true) → (a || b) ≡ true �
 or_more true b c more is = refl
 or_more false b c more is = more is
 
-in_more : (b : Bool) (k m : ℕ) (ms ns : List ℕ) → (is_in k ms ≡ true → is_in k ns ≡ true) → is_in k (cond b (m ∷ ms) ms) ≡ true → is_in k (m ∷ ns) ≡ true
+in_more : (b : Bool) (k m : ℕ) (ms ns : List ℕ) → (is_in k ms ≡ true → is_in k ns ≡ true) → is_in k (cond b (m ∷ ms) ms) ≡ true
+    → is_in k (m ∷ ns) ≡ true
 in_more true k m ms ns more is = or_more (eqb k m) _ _ more is
 in_more false k m ms ns more is = or_right (eqb k m) _ (more is)
 

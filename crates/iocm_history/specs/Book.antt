@@ -3,7 +3,7 @@ use Rattle.std.specs.Prelude.{ℕ, ◌==◌, nat_le, Bool, ◌&&◌, not, List, 
 use Rattle.std.specs.List.{list_any}
 use Rattle.iocm_types.specs.declared.answer.Answer.{Answer}
 use Rattle.iocm_types.specs.declared.answer.Answer.TheVariants as answers
-use Rattle.iocm_history.specs.Entry.{Entry, History}
+use Rattle.iocm_history.specs.Entry.{History}
 
 -- how many changes were accepted; those that stand, the latest first; those that are undone, the last one undone first
 pub record Book : Type 0 where

@@ -1,5 +1,5 @@
 -- Which entry a call makes after a history, and legal histories. Own.
-use Rattle.std.specs.Prelude.{◌≡◌, ◌⊎◌, ℕ, ◌+◌, ◌==◌, length, Bool, true, false, not, if◌then◌else◌, Option, None, Some, List, [], ◌∷◌, Result, Ok, Err}
+use Rattle.std.specs.Prelude.{◌≡◌, ◌⊎◌, ℕ, ◌+◌, ◌==◌, length, Bool, true, false, if◌then◌else◌, Option, None, Some, List, [], ◌∷◌, Ok, Err}
 use Rattle.std.specs.FinMap.{len}
 use Rattle.iocm_types.specs.declared.answer.Answer.{Answer}
 use Rattle.iocm_types.specs.declared.answer.Answer.TheVariants.{Changed, Undone, Redone, Shown, Refused}

@@ -1,5 +1,5 @@
 -- Which entries of a history are struck, and by which undo. Own.
-use Rattle.std.specs.Prelude.{ℕ, ◌==◌, nat_eq, Bool, true, false, if◌then◌else◌, List, [], ◌∷◌, map}
+use Rattle.std.specs.Prelude.{ℕ, ◌==◌, Bool, true, false, if◌then◌else◌, List, [], ◌∷◌, map}
 use Rattle.std.specs.List.{list_any}
 use Rattle.std.specs.Ordering.{eq_by_cmp}
 use Rattle.std.specs.FinMap.{keys}
@@ -9,7 +9,7 @@ use Rattle.iocm_types.specs.declared.sub_id.SubId.{SubId}
 use Rattle.iocm_types.specs.SubId.{sub_id_cmp}
 use Rattle.iocm_model.specs.Effect.{Effect}
 use Rattle.iocm_model.specs.Step.{Step}
-use Rattle.iocm_history.specs.Entry.{Call, at, activate, undo, redo, show, Entry, History, no_effect}
+use Rattle.iocm_history.specs.Entry.{Call, at, activate, undo, Entry, History, no_effect}
 
 -- what an entry did: a step, an accepted change with its number and effect, an accepted undo, or nothing that counts here
 pub data Act : Type 0 where
