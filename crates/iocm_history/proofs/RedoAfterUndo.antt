@@ -12,8 +12,7 @@ use Rattle.iocm_history.specs.Line.{Act, step, change, undoing, nothing, lost, L
 use Rattle.iocm_history.specs.Replay.{acted_if_kept, replay, state_at}
 use Rattle.iocm_history.specs.Book.{Book, is_in, book}
 use Rattle.iocm_history.specs.Legal.{IsLegal}
-use Rattle.iocm_history.specs.HistoryLaws.{IsUnmarked, is_step, steps_elsewhere}
-use Rattle.iocm_history.specs.RedoLaw.{LegalRedoTakesUndoBack}
+use Rattle.iocm_history.specs.HistoryLaws.{IsUnmarked, is_step, steps_elsewhere, RedoTakesUndoBack}
 use Rattle.iocm_history.proofs.EntriesAfter.{is_plain, IsIdle, IsAfter, changed, undone, redone, idle, after}
 use Rattle.iocm_history.proofs.Marks.{taken_back_strike}
 use Rattle.iocm_history.proofs.Remarked.{effect_strike}
@@ -135,7 +134,7 @@ module _ (opening : State) (h between : History) (n : ℕ) (legal : IsLegal open
   redone_state = ap (replay opening) redone_lines ∙ replay_append opening (steps_elsewhere altered between) _
 
 -- undo and then redo of a change, with legal steps between them
-pub redo_takes_back : LegalRedoTakesUndoBack
+pub redo_takes_back : RedoTakesUndoBack
 redo_takes_back opening h between n legal steps =
     redone_state opening h between n (legal_before opening between (undo_entry n ∷ h) legal)
     (steps_idle opening between (undo_entry n ∷ h) legal steps)

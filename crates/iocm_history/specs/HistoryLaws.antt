@@ -45,9 +45,9 @@ is_step e = is_step_call e.call
 abbrev pub steps_elsewhere : List SubId → History → List Line
 steps_elsewhere xs h = map (λ (e : Entry). struck_if (is_step_on xs (line_of e).act) lost (line_of e)) h
 
--- undo and redo of a change, with steps between them: the state before the undo, with the steps on other subchannels
+-- undo and redo of a change, with legal steps between them: the state before the undo, with the steps on other subchannels
 abbrev pub RedoTakesUndoBack : Type 0
-RedoTakesUndoBack = (opening : State) (h between : History) (n : ℕ) → IsLegal opening (plain_entry (undo n) (Undone n) ∷ h)
+RedoTakesUndoBack = (opening : State) (h between : History) (n : ℕ) → IsLegal opening (between ++ plain_entry (undo n) (Undone n) ∷ h)
     → list_all is_step between ≡ true
     → state_at opening (plain_entry (redo n) (Redone n) ∷ between ++ plain_entry (undo n) (Undone n) ∷ h)
     ≡ replay (state_at opening h) (steps_elsewhere (altered_by_change n (lines h)) between)

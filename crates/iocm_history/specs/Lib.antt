@@ -3,6 +3,5 @@ pub mod Entry
 pub mod HistoryLaws
 pub mod Legal
 pub mod Line
-pub mod RedoLaw
 pub mod Replay
 pub mod Run

@@ -4,7 +4,6 @@ ghost use Rattle.iocm_history.specs.HistoryLaws.{
   MarksSayWhichUndo,
   RedoTakesUndoBack,
 };
-ghost use Rattle.iocm_history.specs.RedoLaw.{LegalRedoTakesUndoBack};
 
 /// What an undo newly struck, taken back, is as it was before the undo.
 pub fn restoring_undoes_striking()
@@ -21,13 +20,8 @@ pub fn marks_say_which_undo()
     ensures { MarksSayWhichUndo }
 {}
 
-/// Undo and then redo of a change gives the state before the undo, with the steps made between them on other subchannels.
-pub fn redo_takes_undo_back()
-    ensures { RedoTakesUndoBack }
-{}
-
 /// Undo and then redo of a change, with legal steps between them, gives the state before the undo, with the steps made
 /// between them on other subchannels.
-pub fn legal_redo_takes_undo_back()
-    ensures { LegalRedoTakesUndoBack }
+pub fn redo_takes_undo_back()
+    ensures { RedoTakesUndoBack }
 {}

@@ -9,6 +9,6 @@
 mod laws;
 
 pub use laws::{
-    legal_redo_takes_undo_back, marks_say_which_undo, redo_takes_undo_back,
-    restoring_undoes_striking, standing_changes_mark_nothing,
+    marks_say_which_undo, redo_takes_undo_back, restoring_undoes_striking,
+    standing_changes_mark_nothing,
 };
