@@ -1,0 +1,6 @@
+pub mod EntriesAfter
+pub mod Marks
+pub mod OwnMarks
+pub mod RedoAfterUndo
+pub mod Remarked
+pub mod StandingMarks

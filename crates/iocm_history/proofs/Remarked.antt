@@ -1,0 +1,179 @@
+-- Lists of lines of which the later has other marks, and what carries over from one to the other.
+use Rattle.std.proofs.Common.{◌≡◌, ◌≢◌, ◌⊎◌, ℕ, Bool, true, false, cond, eqb, List, [], ◌∷◌, refl, sym, ap, subst, ◌∙◌}
+use Rattle.std.proofs.lemmas.Bool.{eq-eqb}
+use Rattle.iocm_types.specs.declared.sub_id.SubId.{SubId}
+use Rattle.iocm_history.specs.Line.{Act, Mark, kept, undone_with, lost, Line, is_change, is_step_on, is_undo, effect_or, change_effect, struck_mark, struck, struck_if, strike, unstruck_mark, taken_back, restore}
+use Rattle.iocm_history.specs.HistoryLaws.{IsUnmarked, AreItsOwn}
+
+-- the same acts, with marks that are related
+unfoldable pub AreRemarked : (Mark → Mark → Type 0) → List Line → List Line → Type 0
+AreRemarked R [] [] = Unit {0}
+AreRemarked R (l ∷ ls) (m ∷ ms) = (m.act ≡ l.act) × R l.mark m.mark × AreRemarked R ls ms
+AreRemarked R _ _ = ⊥
+
+module _ (R : Mark → Mark → Type 0) (itself : (m : Mark) → R m m) where
+  -- the same lines
+  pub remarked_same : (ls : List Line) → AreRemarked R ls ls
+  unfolding AreRemarked
+  remarked_same [] = tt
+  remarked_same (l ∷ ls) = (refl, itself l.mark, remarked_same ls)
+
+  remarked_if : (b : Bool) (by : Mark) (l : Line) (ls ms : List Line) → R l.mark (struck_mark by l.mark) → AreRemarked R ls ms
+      → AreRemarked R (l ∷ ls) (struck_if b by l ∷ ms)
+  unfolding AreRemarked
+  remarked_if true by l ls ms new rest = (refl, new, rest)
+  remarked_if false by l ls ms new rest = (refl, itself l.mark, rest)
+
+  struck_at : (b : Bool) (xs : List SubId) (n : ℕ) (l : Line) (ls : List Line) → R l.mark (struck_mark (undone_with n) l.mark)
+      → AreRemarked R ls (strike xs n ls)
+      → AreRemarked R (l ∷ ls) (cond b (struck (undone_with n) l ∷ ls) (struck_if (is_step_on xs l.act) (undone_with n) l ∷ strike xs n ls))
+  unfolding AreRemarked
+  struck_at true xs n l ls new rest = (refl, new, remarked_same ls)
+  struck_at false xs n l ls new rest = remarked_if (is_step_on xs l.act) (undone_with n) l ls (strike xs n ls) new rest
+
+  -- an undo strikes some
+  pub remarked_strike : (xs : List SubId) (n : ℕ) → ((m : Mark) → R m (struck_mark (undone_with n) m))
+      → (ls : List Line) → AreRemarked R ls (strike xs n ls)
+  unfolding AreRemarked strike
+  remarked_strike xs n new [] = tt
+  remarked_strike xs n new (l ∷ ls) = struck_at (is_change n l.act) xs n l ls (new l.mark) (remarked_strike xs n new ls)
+
+  -- taking back
+  pub remarked_back : (n : ℕ) → ((m : Mark) → R m (unstruck_mark n m)) → (ls : List Line) → AreRemarked R ls (taken_back n ls)
+  unfolding AreRemarked
+  remarked_back n back [] = tt
+  remarked_back n back (l ∷ ls) = (refl, back l.mark, remarked_back n back ls)
+
+  restored_at : (b : Bool) (xs : List SubId) (n : ℕ) (l : Line) (ls : List Line) → R l.mark (struck_mark lost l.mark)
+      → AreRemarked R ls (taken_back n ls) → AreRemarked R ls (restore xs n ls)
+      → AreRemarked R (l ∷ ls) (cond b (l ∷ taken_back n ls) (struck_if (is_step_on xs l.act) lost l ∷ restore xs n ls))
+  unfolding AreRemarked
+  restored_at true xs n l ls new back rest = (refl, itself l.mark, back)
+  restored_at false xs n l ls new back rest = remarked_if (is_step_on xs l.act) lost l ls (restore xs n ls) new rest
+
+  -- a redo strikes some for good, and takes back
+  pub remarked_restore : (xs : List SubId) (n : ℕ) → ((m : Mark) → R m (struck_mark lost m)) → ((m : Mark) → R m (unstruck_mark n m))
+      → (ls : List Line) → AreRemarked R ls (restore xs n ls)
+  unfolding AreRemarked restore
+  remarked_restore xs n new back [] = tt
+  remarked_restore xs n new back (l ∷ ls) =
+      restored_at (is_undo n l.act) xs n l ls (new l.mark) (remarked_back n back ls) (remarked_restore xs n new back ls)
+
+-- ---- the effect of a change is the same
+
+abbrev AnyMarks : Mark → Mark → Type 0
+AnyMarks l m = Unit {0}
+
+same_effect : (R : Mark → Mark → Type 0) (n : ℕ) (ls ms : List Line) → AreRemarked R ls ms → change_effect n ms ≡ change_effect n ls
+unfolding AreRemarked
+same_effect R n [] [] r = refl
+same_effect R n [] (m ∷ ms) r = absurd r
+same_effect R n (l ∷ ls) [] r = absurd r
+same_effect R n (l ∷ ls) (m ∷ ms) r = λ i. effect_or n (r.0 i) (same_effect R n ls ms r.2 i)
+
+-- after an undo
+pub effect_strike : (xs : List SubId) (k n : ℕ) (ls : List Line) → change_effect n (strike xs k ls) ≡ change_effect n ls
+effect_strike xs k n ls = same_effect AnyMarks n ls _ (remarked_strike AnyMarks (λ m. tt) xs k (λ m. tt) ls)
+
+-- after a redo
+pub effect_restore : (xs : List SubId) (k n : ℕ) (ls : List Line) → change_effect n (restore xs k ls) ≡ change_effect n ls
+effect_restore xs k n ls = same_effect AnyMarks n ls _ (remarked_restore AnyMarks (λ m. tt) xs k (λ m. tt) (λ m. tt) ls)
+
+-- ---- nothing is newly struck by the undo of a change
+
+-- what now is struck by the undo of this change was so before
+abbrev pub NotNew : ℕ → Mark → Mark → Type 0
+NotNew n l m = m ≡ undone_with n → l ≡ undone_with n
+
+not_new_struck : (n : ℕ) (by m : Mark) → by ≢ undone_with n → NotNew n m (struck_mark by m)
+not_new_struck n by kept other is = absurd (other is)
+not_new_struck n by (undone_with k) other is = is
+not_new_struck n by lost other is = is
+
+not_new_if : (b : Bool) (n k : ℕ) → cond b kept (undone_with k) ≡ undone_with n → undone_with k ≡ undone_with n
+not_new_if true n k is = cc
+not_new_if false n k is = is
+
+not_new_back : (n k : ℕ) (m : Mark) → NotNew n m (unstruck_mark k m)
+not_new_back n k kept is = is
+not_new_back n k (undone_with j) is = not_new_if (eqb k j) n j is
+not_new_back n k lost is = is
+
+other_mark : (n k : ℕ) → k ≢ n → undone_with k ≢ undone_with n
+other_mark n k other is = let same : k ≡ n = cc in other same
+
+lost_mark : (n : ℕ) → lost ≢ undone_with n
+lost_mark n is = cc
+
+-- the undo of another change strikes nothing newly with this one
+pub not_new_strike : (xs : List SubId) (n k : ℕ) → k ≢ n → (ls : List Line) → AreRemarked (NotNew n) ls (strike xs k ls)
+not_new_strike xs n k other ls =
+    remarked_strike (NotNew n) (λ m is. is) xs k (λ m. not_new_struck n (undone_with k) m (other_mark n k other)) ls
+
+-- nor does a redo
+pub not_new_restore : (xs : List SubId) (n k : ℕ) (ls : List Line) → AreRemarked (NotNew n) ls (restore xs k ls)
+not_new_restore xs n k ls =
+    remarked_restore (NotNew n) (λ m is. is) xs k (λ m. not_new_struck n lost m (lost_mark n)) (not_new_back n k) ls
+
+-- then what had no mark of the change has none
+pub unmarked_then : (n : ℕ) (ls ms : List Line) → AreRemarked (NotNew n) ls ms → IsUnmarked n ls → IsUnmarked n ms
+unfolding AreRemarked
+unmarked_then n [] [] r none = tt
+unmarked_then n [] (m ∷ ms) r none = absurd r
+unmarked_then n (l ∷ ls) [] r none = absurd r
+unmarked_then n (l ∷ ls) (m ∷ ms) r none = (λ is. none.0 (r.1 is), unmarked_then n ls ms r.2 none.1)
+
+-- and what has its marks rightly has them rightly
+pub own_then : (n : ℕ) (xs : List SubId) (ls ms : List Line) → AreRemarked (NotNew n) ls ms → AreItsOwn n xs ls → AreItsOwn n xs ms
+unfolding AreRemarked
+own_then n xs [] [] r own = tt
+own_then n xs [] (m ∷ ms) r own = absurd r
+own_then n xs (l ∷ ls) [] r own = absurd r
+own_then n xs (l ∷ ls) (m ∷ ms) r own =
+    (λ is. subst (λ (a : Act). (is_change n a ≡ true) ⊎ (is_step_on xs a ≡ true)) (sym r.0) (own.0 (r.1 is)), own_then n xs ls ms r.2 own.1)
+
+-- ---- marks since the last undo of a change
+
+-- no line since the last undo of this change is struck by it
+unfoldable pub IsFresh : ℕ → List Line → Type 0
+IsFresh n [] = Unit {0}
+IsFresh n (l ∷ ls) = (l.mark ≢ undone_with n) × (is_undo n l.act ≡ false → IsFresh n ls)
+
+-- where nothing is newly struck by it, none is then either
+pub fresh_then : (n : ℕ) (ls ms : List Line) → AreRemarked (NotNew n) ls ms → IsFresh n ls → IsFresh n ms
+unfolding AreRemarked IsFresh
+fresh_then n [] [] r new = tt
+fresh_then n [] (m ∷ ms) r new = absurd r
+fresh_then n (l ∷ ls) [] r new = absurd r
+fresh_then n (l ∷ ls) (m ∷ ms) r new =
+    (λ is. new.0 (r.1 is), λ later. fresh_then n ls ms r.2 (new.1 (ap (is_undo n) (sym r.0) ∙ later)))
+
+back_mark : (b : Bool) (n j : ℕ) → eqb n j ≡ b → cond b kept (undone_with j) ≢ undone_with n
+back_mark true n j is e = cc
+back_mark false n j is e = let same : n ≡ j = cc in let alike : eqb n j ≡ true = eq-eqb n j same in cc
+
+back_unmarked : (n : ℕ) (m : Mark) → unstruck_mark n m ≢ undone_with n
+back_unmarked n kept e = cc
+back_unmarked n (undone_with j) e = back_mark (eqb n j) n j refl e
+back_unmarked n lost e = cc
+
+-- what is taken back is struck by its undo no more
+pub taken_back_clears : (n : ℕ) (ls : List Line) → IsUnmarked n (taken_back n ls)
+taken_back_clears n [] = tt
+taken_back_clears n (l ∷ ls) = (back_unmarked n l.mark, taken_back_clears n ls)
+
+lost_if : (b : Bool) (n : ℕ) (l : Line) → l.mark ≢ undone_with n → (struck_if b lost l).mark ≢ undone_with n
+lost_if true n l other is = other (not_new_struck n lost l.mark (lost_mark n) is)
+lost_if false n l other is = other is
+
+clears_at : (b : Bool) (xs : List SubId) (n : ℕ) (l : Line) (ls : List Line) → is_undo n l.act ≡ b → l.mark ≢ undone_with n
+    → (is_undo n l.act ≡ false → IsUnmarked n (restore xs n ls))
+    → IsUnmarked n (cond b (l ∷ taken_back n ls) (struck_if (is_step_on xs l.act) lost l ∷ restore xs n ls))
+clears_at true xs n l ls is other rest = (other, taken_back_clears n ls)
+clears_at false xs n l ls is other rest = (lost_if (is_step_on xs l.act) n l other, rest is)
+
+-- after the redo of a change no line is struck by its undo
+pub restore_clears : (xs : List SubId) (n : ℕ) (ls : List Line) → IsFresh n ls → IsUnmarked n (restore xs n ls)
+unfolding IsFresh restore
+restore_clears xs n [] new = tt
+restore_clears xs n (l ∷ ls) new = clears_at (is_undo n l.act) xs n l ls refl new.0 (λ later. restore_clears xs n ls (new.1 later))

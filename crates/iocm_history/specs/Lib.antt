@@ -1,0 +1,7 @@
+pub mod Book
+pub mod Entry
+pub mod HistoryLaws
+pub mod Legal
+pub mod Line
+pub mod Replay
+pub mod Run

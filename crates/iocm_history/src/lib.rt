@@ -1,0 +1,14 @@
+//! What a run of calls means, and no code that runs: histories, which of their entries are struck by undo and redo, the
+//! state that what is left gives, which changes stand, and which histories are legal.
+//!
+//! Each subject has one file in `specs/`; `docs/DEFINITIONS.md` goes through them. The functions here have empty bodies:
+//! their contracts are laws of the definitions. Stages (a change that is tried first and committed later) and undo of a
+//! change under later independent ones are to be added: the first in `act_of` and `entry_in`, the second in `stands_on`.
+#![tactic(auto)]
+
+mod laws;
+
+pub use laws::{
+    marks_say_which_undo, redo_takes_undo_back, restoring_undoes_striking,
+    standing_changes_mark_nothing,
+};
