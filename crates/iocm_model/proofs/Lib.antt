@@ -2,6 +2,12 @@ pub mod AllViews
 pub mod Breaches
 pub mod FirstNumbers
 pub mod Listed
+pub mod ListedMaps
+pub mod ListedEffects
+pub mod ListedRules
+pub mod ListedStates
+pub mod ListedTrees
+pub mod ListedViews
 pub mod Lowest
 pub mod Nodes
 pub mod Parts
