@@ -12,3 +12,4 @@ pub mod Lowest
 pub mod Nodes
 pub mod Parts
 pub mod Worked
+pub mod WorkedRules

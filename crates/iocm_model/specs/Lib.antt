@@ -18,6 +18,7 @@ pub mod PathList
 pub mod Record
 pub mod Refusal
 pub mod Renumbering
+pub mod RuleExamples
 pub mod Rules
 pub mod Sight
 pub mod State
