@@ -12,4 +12,5 @@ pub mod Lowest
 pub mod Nodes
 pub mod Parts
 pub mod Worked
+pub mod WorkedChanges
 pub mod WorkedRules

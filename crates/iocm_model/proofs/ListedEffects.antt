@@ -1,5 +1,5 @@
 -- Effects of edits on states as lists: the cells that edits write, their values, and what writing them does.
-use Rattle.std.proofs.Common.{◌≡◌, ℕ, ◌==◌, Option, List, [], ◌∷◌, map, refl, ap, ◌∙◌}
+use Rattle.std.proofs.Common.{◌≡◌, ℕ, ◌==◌, Option, List, [], ◌∷◌, ◌++◌, map, refl, sym, ap, ◌∙◌}
 use Rattle.std.specs.FinMap.{entries}
 use Rattle.iocm_types.specs.declared.key.Key.{Key}
 use Rattle.iocm_types.specs.declared.live.Live.{Live}
@@ -15,9 +15,10 @@ use Rattle.iocm_model.specs.Numbering.{cells_of}
 use Rattle.iocm_model.specs.State.{State}
 use Rattle.iocm_model.specs.Edit.{Edit, key_edited, edited}
 use Rattle.iocm_model.specs.Effect.{Cells, Effect, values_in, written, no_cells, both_cells, cells_of_edit, cells_of_edits, edited_by_all, effect_of}
+use Rattle.iocm_model.specs.InverseTree.{inverses}
 use Rattle.iocm_model.proofs.ListedMaps.{put_cells, cells_found, keys_differing, entries-overwritten, entries-cells_at, differing_seen}
 use Rattle.iocm_model.proofs.ListedViews.{cells_listed, cells_seen, numbering_listed, numbering_seen}
-use Rattle.iocm_model.proofs.ListedStates.{ListedState, listing, ListedEdit, edit_from, edited_listed, edited_seen, altered_listed, altered_seen}
+use Rattle.iocm_model.proofs.ListedStates.{ListedState, listing, same_by_listing, ListedEdit, edit_from, edited_listed, edited_seen, altered_listed, altered_seen, inverse_listed, inverse_seen}
 
 -- an effect as lists in order
 pub record ListedEffect : Type 0 where
@@ -115,3 +116,38 @@ effect_listed es x = values_listed (edited_all_listed es x) (edits_cells_listed 
 pub effect_seen : (es : List ListedEdit) (s : State) → effect_listing (effect_of (edits_from es) s) ≡ effect_listed es (listing s)
 effect_seen es s = values_seen (edited_by_all (edits_from es) s) (cells_of_edits (edits_from es) s)
     ∙ (λ i. values_listed (edited_all_seen es s i) (edits_cells_seen es s i))
+
+-- the state after edits, and the cells that they write, of a state that is listed
+pub edited_all_is : (es : List ListedEdit) (s : State) (x : ListedState) → listing s ≡ x → listing (edited_by_all (edits_from es) s) ≡ edited_all_listed es x
+edited_all_is es s x is = edited_all_seen es s ∙ ap (edited_all_listed es) is
+
+pub edits_cells_are : (es : List ListedEdit) (s : State) (x : ListedState) → listing s ≡ x → cells_of_edits (edits_from es) s ≡ edits_cells_listed es x
+edits_cells_are es s x is = edits_cells_seen es s ∙ ap (edits_cells_listed es) is
+
+-- what edits wrote is put back by the values before
+pub put_back : (es : List ListedEdit) (s : State) (x : ListedState) → listing s ≡ x
+    → written_listed (values_listed x (edits_cells_listed es x)) (edited_all_listed es x) ≡ x
+    → written (values_in s (cells_of_edits (edits_from es) s)) (edited_by_all (edits_from es) s) ≡ s
+put_back es s x is computed =
+    let w = cells_of_edits (edits_from es) s in
+    let t = edited_by_all (edits_from es) s in
+    same_by_listing (written (values_in s w) t) s (written_seen (values_in s w) t
+    ∙ (λ i. written_listed ((values_seen s w ∙ (λ j. values_listed (is j) (edits_cells_are es s x is j))) i)
+    (edited_all_is es s x is i))
+    ∙ computed ∙ sym is)
+
+-- the inverses of edits, the last first
+unfoldable pub inverses_listed : List ListedEdit → ListedState → List ListedEdit
+inverses_listed [] x = []
+inverses_listed (e ∷ es) x = inverses_listed es (edited_listed e x) ++ (inverse_listed e x ∷ [])
+
+edits_from-append : (es fs : List ListedEdit) → edits_from (es ++ fs) ≡ edits_from es ++ edits_from fs
+edits_from-append [] fs = refl
+edits_from-append (e ∷ es) fs = ap (λ rest. edit_from e ∷ rest) (edits_from-append es fs)
+
+pub inverses_seen : (es : List ListedEdit) (s : State) → inverses (edits_from es) s ≡ edits_from (inverses_listed es (listing s))
+unfolding inverses_listed
+inverses_seen [] s = refl
+inverses_seen (e ∷ es) s =
+    (λ i. (inverses_seen es (edited (edit_from e) s) ∙ ap (λ x. edits_from (inverses_listed es x)) (edited_seen e s)) i ++ (inverse_seen e s i ∷ []))
+    ∙ sym (edits_from-append (inverses_listed es (edited_listed e (listing s))) (inverse_listed e (listing s) ∷ []))

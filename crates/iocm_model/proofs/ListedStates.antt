@@ -3,8 +3,9 @@ use Rattle.std.proofs.Common.{◌≡◌, ℕ, ◌&&◌, ◌||◌, Bool, not, is_
 use Rattle.std.specs.List as lists
 use Rattle.std.specs.List.{filter_map, list_any}
 use Rattle.std.specs.Option.{option_map, option_or, option_eq, option_zip}
-use Rattle.std.specs.FinMap.{find, put, entries, entries_sorted, from_entries, retain_keys, get-entries, entries-insert}
+use Rattle.std.specs.FinMap.{get, find, put, entries, entries_sorted, from_entries, retain_keys, get-entries, entries-insert}
 use Rattle.std.specs.FinMap.Entries.{where_key, is_sorted-where_key}
+use Rattle.iocm_types.specs.declared.key.Key.{Key}
 use Rattle.iocm_types.specs.declared.live.Live.{Live}
 use Rattle.iocm_types.specs.declared.place.Place.{Place}
 use Rattle.iocm_types.specs.declared.sub_id.SubId.{SubId}
@@ -21,7 +22,7 @@ use Rattle.iocm_model.specs.Configuration.{Configuration}
 use Rattle.iocm_model.specs.Numbering.{Numbering, opening, is_reached_at, reached_places}
 use Rattle.iocm_model.specs.Renumbering.{renumbered}
 use Rattle.iocm_model.specs.View.{views}
-use Rattle.iocm_model.specs.State.{State, Lives, Views, views_of, views_in, fresh_row, opened}
+use Rattle.iocm_model.specs.State.{State, seen_in, Lives, Views, views_of, views_in, fresh_row, opened}
 use Rattle.iocm_model.specs.Edit.{Action, Edit, key_edited, record_after, config_edited, same_view, live_edited, lives_edited, edited, altered_between, is_altered}
 use Rattle.iocm_model.specs.Refusal.{refused_at, refused_by_key, same_cell, has_cell_twice, is_number_taken, is_live_busy, first_busy, refused_by_subchannel, refusal_of}
 use Rattle.iocm_model.specs.Inverse.{action_back, inverse_of}
@@ -42,6 +43,14 @@ pub record ListedState : Type 0 where
 
 abbrev pub listing : State → ListedState
 listing s = record { records = entries s.config; numbers = entries s.numbers; lives = entries s.lives }
+
+-- two states that are listed alike are one
+pub same_by_listing : (s t : State) → listing s ≡ listing t → s ≡ t
+same_by_listing s t is = λ i. record {
+  config = same_by_entries keys_total keys_exact s.config t.config (ap (λ (x : ListedState). x.records) is) i;
+  numbers = same_by_entries places_total places_exact s.numbers t.numbers (ap (λ (x : ListedState). x.numbers) is) i;
+  lives = same_by_entries sub_ids_total sub_ids_exact s.lives t.lives (ap (λ (x : ListedState). x.lives) is) i;
+}
 
 -- what is seen in a state
 abbrev pub views_at : ListedState → ViewList
@@ -77,12 +86,11 @@ abbrev lives_by : (SubId → Option View) → ViewList → (SubId → Option Liv
 lives_by old new kept lives = put_all sub_id_cmp (filter_map
     (λ (e : SubId × View). option_map (λ (l : Live). (e.0, l)) (live_edited (old e.0) e.1 (kept e.0) (lives e.0))) new)
 
-unfoldable pub lives_listed : ViewList → ViewList → LiveList → LiveList → LiveList
+abbrev pub lives_listed : ViewList → ViewList → LiveList → LiveList → LiveList
 lives_listed old new kept lives = lives_by (λ x. find sub_id_cmp x old) new (λ x. find sub_id_cmp x kept) (λ x. find sub_id_cmp x lives)
 
 lives_seen : (old new : Views) (kept lives : Lives)
     → entries (lives_edited old new kept lives) ≡ lives_listed (entries old) (entries new) (entries kept) (entries lives)
-unfolding lives_listed
 lives_seen old new kept lives = entries-from_entries sub_ids_total sub_ids_exact _
     ∙ (λ i. lives_by (λ x. get-entries old x i) (entries new) (λ x. get-entries kept x i) (λ x. get-entries lives x i))
 
@@ -122,11 +130,10 @@ edited_seen e s =
     }
 
 -- the subchannels whose views differ
-unfoldable pub altered_listed : ListedState → ListedState → List SubId
+abbrev pub altered_listed : ListedState → ListedState → List SubId
 altered_listed x y = keys_differing sub_id_cmp same_view (views_at x) (views_at y)
 
 pub altered_seen : (s t : State) → altered_between s t ≡ altered_listed (listing s) (listing t)
-unfolding altered_listed
 altered_seen s t = differing_seen sub_ids_total sub_ids_exact same_view (views_in s) (views_in t)
     ∙ (λ i. keys_differing sub_id_cmp same_view (views_seen s.config s.numbers i) (views_seen t.config t.numbers i))
 
@@ -140,11 +147,10 @@ taken_by places number_at staying carried = taken_of (filter (λ (e : Place × �
 abbrev taken_in : Numbers → List (Place × ℕ) → List Place → Bool
 taken_in n carried places = taken_by places (λ p. find place_cmp p n) (where_key place_cmp (is_place_in places) n) carried
 
-unfoldable pub taken_listed : Records → Numbers → List (Place × ℕ) → Bool
+abbrev pub taken_listed : Records → Numbers → List (Place × ℕ) → Bool
 taken_listed es n carried = taken_in n carried (places_listed es)
 
 pub taken_seen : (c : Configuration) (n : Numbering) (carried : List (Place × ℕ)) → is_number_taken c n carried ≡ taken_listed (entries c) (entries n) carried
-unfolding taken_listed
 taken_seen c n carried = (λ i. taken_by (reached_places c) (λ p. get-entries n p i) (entries-retain_keys places_total places_exact n (is_reached_at c) i) carried)
     ∙ ap (taken_in (entries n) carried) (places_seen c)
 
@@ -152,11 +158,10 @@ taken_seen c n carried = (λ i. taken_by (reached_places c) (λ p. get-entries n
 abbrev busy_by : (SubId → Option Live) → List SubId → Option SubId
 busy_by live_at xs = lists.find (λ x. is_live_busy (live_at x)) xs
 
-unfoldable pub busy_listed : LiveList → List SubId → Option SubId
+abbrev pub busy_listed : LiveList → List SubId → Option SubId
 busy_listed lives xs = busy_by (λ x. find sub_id_cmp x lives) xs
 
 pub busy_seen : (lives : Lives) (xs : List SubId) → first_busy lives xs ≡ busy_listed (entries lives) xs
-unfolding busy_listed
 busy_seen lives xs = λ i. busy_by (λ x. get-entries lives x i) xs
 
 -- why an edit is refused
@@ -219,6 +224,16 @@ subchannel_listed x at = option_zip (find sub_id_cmp at (views_at x)) (find sub_
 pub subchannel_seen : (s : State) (x : SubId) → subchannel_in s x ≡ subchannel_listed (listing s) x
 subchannel_seen s x = λ i. option_zip ((get-entries (views_in s) x ∙ ap (find sub_id_cmp x) (views_seen s.config s.numbers)) i) (get-entries s.lives x i)
 
+-- what is seen at a subchannel, and its live record, in a state that is listed
+pub seen_at_is : (s : State) (y : ListedState) (x : SubId) → listing s ≡ y → seen_in s x ≡ find sub_id_cmp x (views_at y)
+seen_at_is s y x is = get-entries (views_in s) x ∙ ap (find sub_id_cmp x) (views_seen s.config s.numbers) ∙ ap (λ z. find sub_id_cmp x (views_at z)) is
+
+pub live_at_is : (s : State) (y : ListedState) (x : SubId) → listing s ≡ y → get s.lives x ≡ find sub_id_cmp x y.lives
+live_at_is s y x is = get-entries s.lives x ∙ ap (λ (z : ListedState). find sub_id_cmp x z.lives) is
+
+pub record_at_is : (s : State) (y : ListedState) (key : Key) → listing s ≡ y → get s.config key ≡ find key_cmp key y.records
+record_at_is s y key is = get-entries s.config key ∙ ap (λ (z : ListedState). find key_cmp key z.records) is
+
 -- the answer to a step
 unfoldable pub answer_listed : ListedState → SubId → Step → Answer
 answer_listed x at step = step_answer step (subchannel_listed x at)
@@ -247,3 +262,10 @@ stepped_seen x step s = λ i. record {
   numbers = entries s.numbers;
   lives = (after_step_seen x step (subchannel_in s x) s.lives ∙ ap (λ o. lives_after_step x step o (entries s.lives)) (subchannel_seen s x)) i;
 }
+
+-- an answer and a step, in a state that is listed
+pub answer_is : (s : State) (y : ListedState) (x : SubId) (step : Step) → listing s ≡ y → answer_in s x step ≡ answer_listed y x step
+answer_is s y x step is = answer_seen s x step ∙ ap (λ z. answer_listed z x step) is
+
+pub stepped_is : (x : SubId) (step : Step) (s : State) (y : ListedState) → listing s ≡ y → listing (stepped x step s) ≡ stepped_listed x step y
+stepped_is x step s y is = stepped_seen x step s ∙ ap (stepped_listed x step) is

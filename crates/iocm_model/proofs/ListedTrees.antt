@@ -1,5 +1,5 @@
 -- Change trees over edits with listed live records, and what they mean in states as lists.
-use Rattle.std.proofs.Common.{◌≡◌, ℕ, ◌+◌, nat_lt, Option, Some, None, Result, Ok, Err, List, [], ◌∷◌, ◌++◌, if◌then◌else◌, refl, ap, ◌∙◌}
+use Rattle.std.proofs.Common.{◌≡◌, ℕ, ◌+◌, nat_lt, Option, Some, None, Result, Ok, Err, List, [], ◌∷◌, ◌++◌, if◌then◌else◌, refl, sym, ap, ◌∙◌}
 use Rattle.iocm_types.specs.declared.refused.At.TheVariants.{Key, Nothing}
 use Rattle.iocm_types.specs.declared.refused.Refused.{Refused}
 use Rattle.iocm_types.specs.declared.rule.Rule.TheVariants.{C1, C2}
@@ -11,7 +11,10 @@ use Rattle.iocm_model.specs.Tree.{Plan, Plans, leaf, row, group, choose, none, p
 use Rattle.iocm_model.specs.Meaning.{Run, Outcome, at_node, unless_refused, after_run, and_then, or_else, unless_broken, checked, without_parts, mean, mean_all, mean_first, meaning}
 use Rattle.iocm_model.proofs.ListedMaps.{cond_seen}
 use Rattle.iocm_model.proofs.ListedRules.{first_breach_listed, first_breach_seen}
-use Rattle.iocm_model.proofs.ListedStates.{ListedState, listing, ListedEdit, edit_from, edited_listed, edited_seen, refusal_listed, refusal_seen}
+use Rattle.iocm_model.specs.Effect.{edited_by_all}
+use Rattle.iocm_model.proofs.ListedEffects.{edits_from, edited_all_listed, edited_all_seen, edited_all_is, inverses_listed, inverses_seen}
+use Rattle.iocm_model.specs.InverseTree.{parts_of, inverse_tree, reached}
+use Rattle.iocm_model.proofs.ListedStates.{ListedState, listing, same_by_listing, ListedEdit, edit_from, edited_listed, edited_seen, refusal_listed, refusal_seen}
 
 mutual
   -- a tree, and the parts of a node
@@ -160,3 +163,55 @@ meaning_seen p s =
     ∙ ap (λ o. if deep then Err (refused_at C1 Nothing) else o)
     (cond_seen outcome_listing many _ _
     ∙ ap (λ o. if many then Err (refused_at C2 Nothing) else o) (checked_seen 0 (mean (plan_from p) 0 s) ∙ ap (checked_listed 0) (mean_seen p 0 s)))
+
+-- an outcome that is listed as accepted, with a state and edits
+pub accepted_as : (o : Outcome) (t : State) (es : List Edit) → outcome_listing o ≡ Ok (record { state = listing t; edits = es })
+    → o ≡ Ok (record { state = t; edits = es })
+accepted_as (Ok r) t es is =
+    let same : ◌≡◌ {A = ListedRun} (record { state = listing r.state; edits = r.edits }) (record { state = listing t; edits = es }) = cc in
+    λ i. Ok (record { state = same_by_listing r.state t (ap (λ (x : ListedRun). x.state) same) i; edits = (same i).edits })
+accepted_as (Err why) t es is = cc
+
+-- an outcome that is listed as refused
+pub refused_as : (o : Outcome) (why : Refused) → outcome_listing o ≡ Err why → o ≡ Err why
+refused_as (Ok r) why is = cc
+refused_as (Err other) why is = let same : other ≡ why = cc in ap Err same
+
+-- a tree that is accepted on lists, with the edits that were performed
+pub meaning_is : (p : ListedPlan) (es : List ListedEdit) (s : State) (x : ListedState) → listing s ≡ x
+    → meaning_listed p x ≡ Ok (record { state = edited_all_listed es x; edits = edits_from es })
+    → meaning (plan_from p) s ≡ Ok (record { state = edited_by_all (edits_from es) s; edits = edits_from es })
+meaning_is p es s x is computed = accepted_as (meaning (plan_from p) s) (edited_by_all (edits_from es) s) (edits_from es)
+    (meaning_seen p s ∙ ap (meaning_listed p) is ∙ computed
+    ∙ sym (λ i. Ok (record { state = (edited_all_seen es s ∙ ap (edited_all_listed es) is) i; edits = edits_from es })))
+
+-- a tree that is refused on lists
+pub meaning_refused : (p : ListedPlan) (why : Refused) (s : State) (x : ListedState) → listing s ≡ x → meaning_listed p x ≡ Err why
+    → meaning (plan_from p) s ≡ Err why
+meaning_refused p why s x is computed = refused_as (meaning (plan_from p) s) why (meaning_seen p s ∙ ap (meaning_listed p) is ∙ computed)
+
+-- edits as the parts of a node
+abbrev pub parts_listed : List ListedEdit → ListedPlans
+parts_listed [] = no_parts
+parts_listed (e ∷ es) = and_part (one e) (parts_listed es)
+
+parts_seen : (es : List ListedEdit) → parts_of (edits_from es) ≡ plans_from (parts_listed es)
+parts_seen [] = refl
+parts_seen (e ∷ es) = ap (part (leaf (edit_from e))) (parts_seen es)
+
+-- the tree that takes edits back
+pub inverse_tree_seen : (es : List ListedEdit) (s : State)
+    → inverse_tree (edits_from es) s ≡ plan_from (in_row (parts_listed (inverses_listed es (listing s))))
+inverse_tree_seen es s = ap (λ fs. row (parts_of fs)) (inverses_seen es s) ∙ ap row (parts_seen (inverses_listed es (listing s)))
+
+-- edits that are taken back on lists
+pub taken_back : (es : List ListedEdit) (s : State) (x : ListedState) → listing s ≡ x
+    → meaning_listed (in_row (parts_listed (inverses_listed es x))) (edited_all_listed es x) ≡ Ok (record { state = x; edits = edits_from (inverses_listed es x) })
+    → reached (meaning (inverse_tree (edits_from es) s) (edited_by_all (edits_from es) s)) ≡ Some s
+taken_back es s x is computed =
+    let p = in_row (parts_listed (inverses_listed es x)) in
+    let t = edited_by_all (edits_from es) s in
+    ap (λ tree. reached (meaning tree t)) (inverse_tree_seen es s ∙ ap (λ y. plan_from (in_row (parts_listed (inverses_listed es y)))) is)
+    ∙ ap reached (accepted_as (meaning (plan_from p) t) s (edits_from (inverses_listed es x))
+    (meaning_seen p t ∙ ap (meaning_listed p) (edited_all_is es s x is) ∙ computed
+    ∙ sym (λ i. Ok (record { state = is i; edits = edits_from (inverses_listed es x) }))))

@@ -54,11 +54,10 @@ reached_by at es css set = map (λ (d : DeviceRecord). d.number)
 abbrev pub places_by : Lookup → Records → List Place
 places_by at es = flat_map (λ css. flat_map (λ set. map (λ d. record { css = css; set = set; device = d }) (reached_by at es css set)) sets) subsystems
 
-unfoldable pub places_listed : Records → List Place
+abbrev pub places_listed : Records → List Place
 places_listed es = places_by (record_in es) es
 
 pub places_seen : (c : Configuration) → reached_places c ≡ places_listed (entries c)
-unfolding places_listed
 places_seen c = λ i. places_by (lookup_seen c i) (entries c)
 
 -- whether a place is one of some places
@@ -77,18 +76,16 @@ unfolding opening_listed
 opening_seen c = entries-from_entries places_total places_exact _ ∙ (λ i. first_numbers_by (lookup_seen c i) (entries c))
 
 -- the number cells of numbers, and the numbers of number cells
-unfoldable pub cells_listed : Numbers → CellList
+abbrev pub cells_listed : Numbers → CellList
 cells_listed n = put_all cell_cmp (map (λ (e : Place × ℕ). (record { css = e.0.css; set = e.0.set; number = e.1 }, e.0.device)) n)
 
 pub cells_seen : (n : Numbering) → entries (cells_of n) ≡ cells_listed (entries n)
-unfolding cells_listed
 cells_seen n = entries-from_entries cells_total cells_exact _
 
-unfoldable pub numbering_listed : CellList → Numbers
+abbrev pub numbering_listed : CellList → Numbers
 numbering_listed cells = put_all place_cmp (map (λ (e : NumberCell × ℕ). (record { css = e.0.css; set = e.0.set; device = e.1 }, e.0.number)) cells)
 
 pub numbering_seen : (cells : FinMap cell_cmp ℕ) → entries (numbering_of cells) ≡ numbering_listed (entries cells)
-unfolding numbering_listed
 numbering_seen cells = entries-from_entries places_total places_exact _
 
 -- the rows that these records and number cells give
@@ -96,29 +93,26 @@ abbrev pub rows_by : Lookup → Records → CellList → ViewList
 rows_by at es cells = flat_map (λ (i : ImageRecord). filter_map (row_at at i) (filter (λ (e : NumberCell × ℕ). e.0.css == i.css) cells))
     (filter_map image_of (map (λ e. e.1) es))
 
-unfoldable pub rows_listed : Records → Numbers → ViewList
+abbrev pub rows_listed : Records → Numbers → ViewList
 rows_listed es n = rows_by (record_in es) es (cells_listed n)
 
 pub rows_seen : (c : Configuration) (n : Numbering) → views c n ≡ rows_listed (entries c) (entries n)
-unfolding rows_listed
 rows_seen c n = λ i. rows_by (lookup_seen c i) (entries c) (cells_seen n i)
 
-unfoldable pub views_listed : Records → Numbers → ViewList
+abbrev pub views_listed : Records → Numbers → ViewList
 views_listed es n = put_all sub_id_cmp (rows_listed es n)
 
 pub views_seen : (c : Configuration) (n : Numbering) → entries (views_of c n) ≡ views_listed (entries c) (entries n)
-unfolding views_listed
 views_seen c n = entries-from_entries sub_ids_total sub_ids_exact (views c n) ∙ ap (put_all sub_id_cmp) (rows_seen c n)
 
 -- the lowest number that is free
 abbrev pub lowest_in : CellList → ℕ → ℕ → ℕ
 lowest_in cells css set = gap_from 0 (map (λ (e : NumberCell × ℕ). e.0.number) (filter (λ (e : NumberCell × ℕ). e.0.css == css && e.0.set == set) cells))
 
-unfoldable pub lowest_listed : Numbers → Place → ℕ
+abbrev pub lowest_listed : Numbers → Place → ℕ
 lowest_listed n p = lowest_in (cells_listed n) p.css p.set
 
 lowest_seen : (n : Numbering) (p : Place) → lowest_free n p.css p.set ≡ lowest_listed (entries n) p
-unfolding lowest_listed
 lowest_seen n p = ap (λ cells. lowest_in cells p.css p.set) (cells_seen n)
 
 -- a device that comes in with a number, and one that comes in without

@@ -1,4 +1,5 @@
 pub mod BaseDeck
+pub mod ChangeExamples
 pub mod Configuration
 pub mod Edit
 pub mod Effect

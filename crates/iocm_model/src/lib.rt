@@ -14,7 +14,10 @@ mod change_examples;
 mod examples;
 mod laws;
 
-pub use change_examples::rules_are_as_worked;
+pub use change_examples::{
+    numbers_change_as_worked, paths_change_as_worked, refusals_are_as_worked, rules_are_as_worked,
+    trees_are_as_worked,
+};
 pub use examples::{numbers_are_as_worked, orders_are_as_worked, views_are_as_worked};
 pub use laws::{
     opening_is_a_numbering, the_first_breach_is_first, the_lowest_free_number_is_free,
