@@ -3,6 +3,12 @@ pub mod Breaches
 pub mod EditsGoBack
 pub mod FirstNumbers
 pub mod Listed
+pub mod ListedEffects
+pub mod ListedMaps
+pub mod ListedRules
+pub mod ListedStates
+pub mod ListedTrees
+pub mod ListedViews
 pub mod LivesEdited
 pub mod Lowest
 pub mod MapCells
@@ -21,3 +27,5 @@ pub mod SameViews
 pub mod Steps
 pub mod Trees
 pub mod Worked
+pub mod WorkedChanges
+pub mod WorkedRules

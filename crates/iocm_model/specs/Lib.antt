@@ -1,4 +1,5 @@
 pub mod BaseDeck
+pub mod ChangeExamples
 pub mod Configuration
 pub mod Edit
 pub mod EditLaws
@@ -20,6 +21,7 @@ pub mod Record
 pub mod Refusal
 pub mod Renumbering
 pub mod RenumberingLaws
+pub mod RuleExamples
 pub mod Rules
 pub mod Sight
 pub mod State

@@ -10,12 +10,17 @@
 //! `specs/Examples.antt`).
 #![tactic(auto)]
 
+mod change_examples;
 mod edit_laws;
 mod examples;
 mod laws;
 mod numbering_laws;
 mod tree_laws;
 
+pub use change_examples::{
+    numbers_change_as_worked, paths_change_as_worked, refusals_are_as_worked, rules_are_as_worked,
+    trees_are_as_worked,
+};
 pub use edit_laws::{
     an_edit_alters_what_differs, edits_go_back, edits_write_their_effect, states_stay_sound,
     steps_elsewhere_pass,

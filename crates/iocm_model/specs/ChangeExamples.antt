@@ -1,0 +1,210 @@
+-- Worked examples of change, on the example deck as it is opened, as they are stated by hand.
+use Rattle.std.specs.Prelude.{◌≡◌, ℕ, true, List, [], ◌∷◌, None, Some, Ok, Err}
+use Rattle.std.specs.FinMap.{get, entries, empty}
+use Rattle.iocm_types.specs.declared.answer.Answer.TheVariants as answers
+use Rattle.iocm_types.specs.declared.key.Key.{Key}
+use Rattle.iocm_types.specs.declared.key.Key.TheVariants as key
+use Rattle.iocm_types.specs.declared.live.Phase.TheVariants.{Idle}
+use Rattle.iocm_types.specs.declared.live.Live.{Live}
+use Rattle.iocm_types.specs.declared.order.Order.TheVariants as orders
+use Rattle.iocm_types.specs.declared.order.Io.TheVariants as io
+use Rattle.iocm_types.specs.declared.refused.At.{At}
+use Rattle.iocm_types.specs.declared.refused.At.TheVariants as at
+use Rattle.iocm_types.specs.declared.rule.Rule.{Rule}
+use Rattle.iocm_types.specs.declared.rule.Rule.TheVariants.{V5, B1, E1, E2, E3, E4}
+use Rattle.iocm_types.specs.declared.sub_id.SubId.{SubId}
+use Rattle.iocm_model.specs.Record.{Rec, device}
+use Rattle.iocm_model.specs.Configuration.{configuration_of}
+use Rattle.iocm_model.specs.State.{State, seen_in, opened}
+use Rattle.iocm_model.specs.Edit.{Action, add, delete, modify, Edit}
+use Rattle.iocm_model.specs.Effect.{values_in, written, edited_by_all, cells_of_edits}
+use Rattle.iocm_model.specs.Tree.{Plan, leaf, row, group, choose, none, part}
+use Rattle.iocm_model.specs.InverseTree.{parts_of, inverse_tree, reached}
+use Rattle.iocm_model.specs.Meaning.{meaning}
+use Rattle.iocm_model.specs.Step.{order, device_end, stepped, answer_in}
+use Rattle.iocm_model.specs.BaseDeck.{lpb, base, online_record}
+use Rattle.iocm_model.specs.Examples.{place_of, a_view}
+use Rattle.iocm_model.specs.RuleExamples.{unit_on}
+use Rattle.iocm_model.specs.Orders.{fresh}
+
+-- the example deck, opened
+unfoldable pub base_opened : State
+base_opened = opened (configuration_of base)
+
+-- an edit that brings neither places nor live records along
+abbrev pub plain : Action → Edit
+plain a = record { action = a; places = []; kept = empty }
+
+abbrev pub added : Rec → Edit
+added r = plain (add r)
+
+abbrev pub deleted : Key → Edit
+deleted key = plain (delete key)
+
+abbrev pub modified : Rec → Edit
+modified r = plain (modify r)
+
+-- a device of set 0 on unit 1000 with this unit address
+abbrev pub device_on_1000 : ℕ → ℕ → Rec
+device_on_1000 number address = device (record { set = 0; number = number; units = 0x1000 ∷ []; unit_address = address; candidates = None; carried = [] })
+
+-- the key of a device of set 0
+abbrev pub device_key : ℕ → Key
+device_key number = key.Device 0 number
+
+-- a subchannel of set 0 of an image of channel subsystem 0: LPA is image 1 there, and LPB image 2
+abbrev pub subchannel : ℕ → ℕ → SubId
+subchannel mif number = record { image = record { css = 0; mif = mif }; set = 0; number = number }
+
+-- a tree is accepted in a state: it performs these edits, and gives the state after them
+abbrev pub Performs : Plan → List Edit → State → Type 0
+Performs p es s = meaning p s ≡ Ok (record { state = edited_by_all es s; edits = es })
+
+-- a tree is refused in a state, by this rule at this node
+abbrev pub IsRefused : Plan → Rule → ℕ → At → State → Type 0
+IsRefused p rule node place s = meaning p s ≡ Err (record { rule = rule; node = Some node; at = place })
+
+-- edits that were performed from a state on are taken back by their inverse tree: it leads back to that state
+abbrev pub IsTakenBack : List Edit → State → Type 0
+IsTakenBack es s = reached (meaning (inverse_tree es s) (edited_by_all es s)) ≡ Some s
+
+-- a device that comes in gets the lowest free number, and the others keep theirs though its device number is the smallest: in each
+-- image one subchannel is new, with a fresh live record
+abbrev pub add_0fff : Edit
+add_0fff = added (device_on_1000 0x0FFF 0x0F)
+
+pub record ADeviceComesIn : Type 0 where
+  pub accepted : Performs (leaf add_0fff) (add_0fff ∷ []) base_opened
+  pub numbers : entries (edited_by_all (add_0fff ∷ []) base_opened).numbers
+      ≡ place_of 0x0FFF 4 ∷ place_of 0x1000 0 ∷ place_of 0x1001 1 ∷ place_of 0x1002 2 ∷ place_of 0x1003 3 ∷ []
+  pub altered : (cells_of_edits (add_0fff ∷ []) base_opened).subchannels ≡ subchannel 1 4 ∷ subchannel 2 4 ∷ []
+  pub live : get (edited_by_all (add_0fff ∷ []) base_opened).lives (subchannel 2 4) ≡ Some (fresh 0xC0)
+  pub taken_back : IsTakenBack (add_0fff ∷ []) base_opened
+
+-- a device that leaves frees its number, and the next that comes in gets it: the subchannels of this number are altered
+abbrev pub one_for_another : List Edit
+one_for_another = deleted (device_key 0x1001) ∷ added (device_on_1000 0x2000 0x04) ∷ []
+
+pub record ANumberIsUsedAgain : Type 0 where
+  pub accepted : Performs (row (parts_of one_for_another)) one_for_another base_opened
+  pub numbers : entries (edited_by_all one_for_another base_opened).numbers
+      ≡ place_of 0x1000 0 ∷ place_of 0x1002 2 ∷ place_of 0x1003 3 ∷ place_of 0x2000 1 ∷ []
+  pub taken_back : IsTakenBack one_for_another base_opened
+
+-- an edit brings a number along: the device that comes in gets it where it is free, and E4 refuses one that is held
+abbrev pub with_number : ℕ → Edit
+with_number number = record { action = add (device_on_1000 0x2000 0x04); places = place_of 0x2000 number ∷ []; kept = empty }
+
+pub record ANumberComesAlong : Type 0 where
+  pub accepted : Performs (leaf (with_number 7)) (with_number 7 ∷ []) base_opened
+  pub numbers : entries (edited_by_all (with_number 7 ∷ []) base_opened).numbers
+      ≡ place_of 0x1000 0 ∷ place_of 0x1001 1 ∷ place_of 0x1002 2 ∷ place_of 0x1003 3 ∷ place_of 0x2000 7 ∷ []
+  pub held : IsRefused (leaf (with_number 3)) E4 0 (at.Key (device_key 0x2000)) base_opened
+
+-- a key that is there, on add; one that isn't, on delete and on modify
+pub record Keys : Type 0 where
+  pub there : IsRefused (leaf (added (device_on_1000 0x1000 0x04))) E1 0 (at.Key (device_key 0x1000)) base_opened
+  pub missing : IsRefused (leaf (deleted (key.Unit 0x2000))) E2 0 (at.Key (key.Unit 0x2000)) base_opened
+  pub missing_device : IsRefused (leaf (modified (device_on_1000 0x2000 0x04))) E2 0 (at.Key (device_key 0x2000)) base_opened
+
+-- an image enables a subchannel with this logical-path mask, and starts it
+abbrev pub enabled_at : SubId → ℕ → State → State
+enabled_at x lpm s = stepped x (order (orders.Modify (record { enabled = true; lpm = lpm; parm = 0 }))) s
+
+abbrev pub started_at : SubId → State → State
+started_at x s = stepped x (order orders.Start) (enabled_at x 0x80 s)
+
+-- LPA's subchannel of 1000 is started
+unfoldable pub base_started : State
+base_started = started_at (subchannel 1 0) base_opened
+
+-- a subchannel that is busy stands in the way of an edit that alters it, and of no other
+pub record ABusySubchannel : Type 0 where
+  pub refused : IsRefused (leaf (deleted (device_key 0x1000))) B1 0 (at.Subchannel (subchannel 1 0)) base_started
+  pub chosen : Performs (choose (parts_of (deleted (device_key 0x1000) ∷ deleted (device_key 0x1003) ∷ []))) (deleted (device_key 0x1003) ∷ [])
+      base_started
+
+-- LPA's subchannel of 1001 is started, and the device ends; then the status is taken by TEST
+unfoldable pub base_ended : State
+base_ended = stepped (subchannel 1 1) device_end (started_at (subchannel 1 1) base_opened)
+
+unfoldable pub base_tested : State
+base_tested = stepped (subchannel 1 1) (order orders.Test) base_ended
+
+-- so does one with status pending, until the status is taken
+pub record PendingStatus : Type 0 where
+  pub refused : IsRefused (leaf (deleted (device_key 0x1001))) B1 0 (at.Subchannel (subchannel 1 1)) base_ended
+  pub tested : Performs (leaf (deleted (device_key 0x1001))) (deleted (device_key 0x1001) ∷ []) base_tested
+  pub taken_back : IsTakenBack (deleted (device_key 0x1001) ∷ []) base_tested
+
+-- two devices change their unit addresses by way of a third one
+abbrev pub exchange : List Edit
+exchange = modified (device_on_1000 0x1002 0x05) ∷ modified (device_on_1000 0x1003 0x02) ∷ modified (device_on_1000 0x1002 0x03) ∷ []
+
+pub record AnExchange : Type 0 where
+  pub accepted : Performs (group (parts_of exchange)) exchange base_opened
+  pub first : get (edited_by_all exchange base_opened).config (device_key 0x1002) ≡ Some (device_on_1000 0x1002 0x03)
+  pub second : get (edited_by_all exchange base_opened).config (device_key 0x1003) ≡ Some (device_on_1000 0x1003 0x02)
+  pub altered : (cells_of_edits exchange base_opened).subchannels ≡ []
+  pub put_back : written (values_in base_opened (cells_of_edits exchange base_opened)) (edited_by_all exchange base_opened) ≡ base_opened
+  pub taken_back : IsTakenBack exchange base_opened
+
+-- a unit on a path that isn't there
+abbrev pub unit_2000 : Edit
+unit_2000 = added (unit_on 0x2000 (0x60 ∷ []) None)
+
+-- V5 names the node where the rules are checked: the Group, the part of a Choose, or else the root
+abbrev pub BreaksAt : Plan → ℕ → Type 0
+BreaksAt p node = IsRefused p V5 node (at.Key (key.Unit 0x2000)) base_opened
+
+pub record NodesOfBreaches : Type 0 where
+  pub in_leaf : BreaksAt (leaf unit_2000) 0
+  pub in_group : BreaksAt (group (parts_of (unit_2000 ∷ []))) 0
+  pub in_row : BreaksAt (row (parts_of (add_0fff ∷ unit_2000 ∷ []))) 0
+  pub in_group_in_row : BreaksAt (row (part (leaf add_0fff) (part (group (parts_of (unit_2000 ∷ []))) none))) 2
+  pub in_last_of_choose : BreaksAt (choose (parts_of (deleted (key.Unit 0x2000) ∷ unit_2000 ∷ []))) 2
+
+-- a Row may break a rule on its way, a Group in it may not; a Choose goes on after a part that breaks one
+pub record WhereRulesHold : Type 0 where
+  pub on_the_way : Performs (row (parts_of (unit_2000 ∷ deleted (key.Unit 0x2000) ∷ []))) (unit_2000 ∷ deleted (key.Unit 0x2000) ∷ []) base_opened
+  pub in_group : BreaksAt (row (part (group (parts_of (unit_2000 ∷ []))) (part (leaf (deleted (key.Unit 0x2000))) none))) 1
+  pub chosen : Performs (choose (parts_of (unit_2000 ∷ add_0fff ∷ []))) (add_0fff ∷ []) base_opened
+
+-- nodes are counted in preorder: a Group of two is nodes 1 to 3 here, so that the part after it is node 4
+abbrev pub AfterAGroup : Type 0
+AfterAGroup = IsRefused (row (part (group (parts_of one_for_another)) (part (leaf (added (device_on_1000 0x1000 0x04))) none))) E1 4 (at.Key (device_key 0x1000)) base_opened
+
+-- a Group without parts is accepted, and performs nothing; a Choose without parts is refused
+pub record EmptyNodes : Type 0 where
+  pub group : Performs (group none) [] base_opened
+  pub choose : IsRefused (choose none) E3 0 at.Nothing base_opened
+
+-- LPB's subchannel of 1000 is enabled, with path 51 alone in its logical-path mask
+unfoldable pub base_enabled : State
+base_enabled = enabled_at (subchannel 2 0) 0x40 base_opened
+
+abbrev pub online_51 : Edit
+online_51 = added (online_record 0x51 lpb)
+
+abbrev pub enabled_with : ℕ → Live
+enabled_with lpm = record { enabled = true; lpm = lpm; parm = 0; phase = Idle }
+
+-- a path that comes online to an image is in its path-available mask; a live record stays as it was, and what START lacked is there
+pub record APathComesOnline : Type 0 where
+  pub accepted : Performs (leaf online_51) (online_51 ∷ []) base_enabled
+  pub seen : seen_in (edited_by_all (online_51 ∷ []) base_enabled) (subchannel 2 0) ≡ a_view 0x1000 (0x50 ∷ 0x51 ∷ []) 0xC0 0xC0
+  pub live : get (edited_by_all (online_51 ∷ []) base_enabled).lives (subchannel 2 0) ≡ Some (enabled_with 0x40)
+  pub before : answer_in base_enabled (subchannel 2 0) (order orders.Start) ≡ answers.Io (io.Code 3)
+  pub afterwards : answer_in (edited_by_all (online_51 ∷ []) base_enabled) (subchannel 2 0) (order orders.Start) ≡ answers.Io (io.Code 0)
+
+-- the unit's paths the other way round
+abbrev pub turned : Edit
+turned = modified (unit_on 0x1000 (0x51 ∷ 0x50 ∷ []) None)
+
+-- where the path list changes, the logical-path mask becomes the path-installed mask, and the subchannel stays enabled; it has its
+-- old mask again where that is taken back
+pub record APathListIsTurned : Type 0 where
+  pub accepted : Performs (leaf turned) (turned ∷ []) base_enabled
+  pub seen : seen_in (edited_by_all (turned ∷ []) base_enabled) (subchannel 2 0) ≡ a_view 0x1000 (0x51 ∷ 0x50 ∷ []) 0xC0 0x40
+  pub live : get (edited_by_all (turned ∷ []) base_enabled).lives (subchannel 2 0) ≡ Some (enabled_with 0xC0)
+  pub taken_back : IsTakenBack (turned ∷ []) base_enabled
