@@ -1,13 +1,13 @@
 //! What the product means, and no code that runs: the definitions that every contract above cites.
 //!
 //! Each subject has one file in `specs/`: the records of a configuration, path lists, which devices an image
-//! sees, the masks, subchannel numbers, views, and the table; and, for what is to come, the rules, orders, edits
-//! and change trees. They are pure: no allocator, capacity or pointer stands in them. A reviewer reads these
-//! files, in the order of `docs/DEFINITIONS.md`, to know what is claimed.
+//! sees, the masks, subchannel numbers, views, and the table; and of change the rules, orders, states, edits with
+//! their refusals and inverses, effects, and change trees. They are pure: no allocator, capacity or pointer stands
+//! in them. A reviewer reads these files, in the order of `docs/DEFINITIONS.md`, to know what is claimed.
 //!
-//! The functions here have empty bodies: their contracts are laws of the definitions (`laws.rt`), and worked
-//! examples that the prover computes from them, on the example deck and variants of it (`specs/BaseDeck.antt`,
-//! `specs/Examples.antt`).
+//! The functions here have empty bodies. Their contracts are laws of the definitions (`laws`, `numbering_laws`,
+//! `edit_laws`, `tree_laws`), and worked examples that the prover computes from them, on the example deck and variants
+//! of it (`examples`, `change_examples`).
 #![tactic(auto)]
 
 mod change_examples;
