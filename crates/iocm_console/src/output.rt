@@ -1,4 +1,4 @@
-ghost use Rattle.std.specs.Prelude.{◌≡◌, false, ◌++◌, ◌∷◌, [], IsOk, OnOk, IfErr};
+ghost use Rattle.std.specs.Prelude.{◌≡◌, false, ◌++◌, ◌∷◌, [], IsOk, IsErr, OnOk, OnErr, IfErr};
 ghost use Rattle.std.specs.Io.KnownBytes.{Keeps};
 ghost use Rattle.iocm_model.specs.Table.{line_of, heading};
 ghost use Rattle.iocm_console.specs.Output.{writer_of, has_failed, Prints, FailedToWrite};
@@ -40,6 +40,7 @@ impl<W> Output<W> {
     fn note(&mut self, written: io::Result<()>) -> Result<(), ConsoleError>
         ensures writer { writer_of self.new ≡ writer_of self.old }
         ensures ok { OnOk result (IsOk written) }
+        ensures err { OnErr result (IsErr written) }
         ensures works { OnOk result (has_failed self.new ≡ has_failed self.old) }
         ensures fault { IfErr result (FailedToWrite self.new) }
     {

@@ -6,13 +6,15 @@ use Rattle.iocm_types.specs.declared.named.Named.{Named}
 use Rattle.iocm_types.specs.declared.named.Named.TheVariants.{Record, Image}
 use Rattle.iocm_model.specs.Record.{Rec, id, resource, image, limit, path, unit, device, online}
 
--- an image by its name, a path and a unit by their keys
+-- an image by its name
 abbrev pub image_named : List ℕ → Named
 image_named name = Image name
 
+-- a path by its key
 abbrev pub path_named : CssPath → Named
 path_named p = Record (Path p.css p.path)
 
+-- a unit by its key
 abbrev pub unit_named : ℕ → Named
 unit_named number = Record (Unit number)
 

@@ -47,13 +47,13 @@ own_items fault css (word ∷ item ∷ items) =
 own_items fault css _ = Err fault
 
 -- the same of a text
-abbrev pub group_items : Fault → ℕ → List ℕ → Result (List (List ℕ)) Fault
-group_items fault css text = items_of fault text >>= own_items fault css
+abbrev pub own_group_items : Fault → ℕ → List ℕ → Result (List (List ℕ)) Fault
+own_group_items fault css text = items_of fault text >>= own_items fault css
 
 -- a list whose only item is the group ((CSS(n),..)) stands for the group's items
 abbrev pub without_inner_group : Fault → ℕ → List (List ℕ) → Result (List (List ℕ)) Fault
 without_inner_group fault css (item ∷ []) =
-    if is_group item then group_items fault css item else Ok (item ∷ [])
+    if is_group item then own_group_items fault css item else Ok (item ∷ [])
 without_inner_group fault css items = Ok items
 
 -- the items, without the group (CSS(n),..) or ((CSS(n),..)) of the path's own channel subsystem round them

@@ -103,8 +103,8 @@ fn own_items(alloc: Global, css: Css, items: &[Text], fault: Fault) -> Result<Ve
     }
 }
 
-fn group_items(alloc: Global, css: Css, group: &[u8], fault: Fault) -> Result<Vec<Text>, Fault>
-    ensures { Gives (λ v. v.items) result (meaning.group_items fault css group.now) }
+fn own_group_items(alloc: Global, css: Css, group: &[u8], fault: Fault) -> Result<Vec<Text>, Fault>
+    ensures { Gives (λ v. v.items) result (meaning.own_group_items fault css group.now) }
 {
     let items = items(alloc, group, fault)?;
     own_items(alloc, css, &items, fault)
@@ -121,7 +121,7 @@ fn without_inner_group(
     match items.as_slice() {
         [item] => {
             if is_group(alloc, item.as_slice())? {
-                return group_items(alloc, css, item.as_slice(), fault);
+                return own_group_items(alloc, css, item.as_slice(), fault);
             }
             Ok(items)
         }
