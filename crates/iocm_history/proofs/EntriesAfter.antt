@@ -14,7 +14,7 @@ use Rattle.iocm_model.specs.Tree.{Plan}
 use Rattle.iocm_history.specs.Entry.{Call, at, activate, undo, redo, show, Entry, History, plain_entry}
 use Rattle.iocm_history.specs.Line.{Act, step, nothing, Line, line_of, remarked}
 use Rattle.iocm_history.specs.Book.{Book, is_in, is_past, booked, book}
-use Rattle.iocm_history.specs.Legal.{IsRight, unless_busy, stands_on, unless_stood_on, is_last_undone, activated, entry_in}
+use Rattle.iocm_history.specs.Legal.{IsRight, unless_not_quiet, stands_on, unless_stood_on, is_last_undone, activated, entry_in}
 
 -- an act that neither is a change nor an undo
 abbrev pub is_plain : Act → Bool
@@ -53,7 +53,7 @@ changed_after p b s (Ok r) = changed p _ refl
 changed_after p b s (Err why) = idle (idle_refused (activate p) why)
 
 undone_after : (n : ℕ) (b : Book) (here : Bool) (on : Option ℕ) (busy : Option SubId) (why : Refused) → is_in n b.standing ≡ here
-    → IsAfter b (plain_entry (undo n) (cond here (unless_stood_on on (unless_busy busy (Undone n))) (answers.Refused why)))
+    → IsAfter b (plain_entry (undo n) (cond here (unless_stood_on on (unless_not_quiet busy (Undone n))) (answers.Refused why)))
 undone_after n b true None None why here = undone n here refl
 undone_after n b true None (Some x) why here = idle (idle_refused (undo n) _)
 undone_after n b true (Some m) busy why here = idle (idle_refused (undo n) _)
@@ -64,7 +64,7 @@ first_in n [] is = is
 first_in n (m ∷ ms) is = rw is refl
 
 redone_after : (n : ℕ) (b : Book) (first here past : Bool) (busy : Option SubId) (why whether other : Refused) → is_last_undone n b.undone ≡ first
-    → IsAfter b (plain_entry (redo n) (cond first (unless_busy busy (Redone n))
+    → IsAfter b (plain_entry (redo n) (cond first (unless_not_quiet busy (Redone n))
     (cond here (answers.Refused why) (cond past (answers.Refused whether) (answers.Refused other)))))
 redone_after n b true here past None why whether other first = redone n (first_in n b.undone first) refl
 redone_after n b true here past (Some x) why whether other first = idle (idle_refused (redo n) _)

@@ -7,7 +7,7 @@ use Rattle.iocm_types.specs.declared.refused.At.TheVariants.{Subchannel, Change,
 use Rattle.iocm_types.specs.declared.rule.Rule.TheVariants.{J1, J2, J3, B1, M1}
 use Rattle.iocm_types.specs.declared.sub_id.SubId.{SubId}
 use Rattle.iocm_model.specs.State.{State, views_in}
-use Rattle.iocm_model.specs.Refusal.{refused_at, first_busy}
+use Rattle.iocm_model.specs.Refusal.{refused_at, first_not_quiet}
 use Rattle.iocm_model.specs.Effect.{effect_of}
 use Rattle.iocm_model.specs.Tree.{Plan}
 use Rattle.iocm_model.specs.Meaning.{Outcome, meaning}
@@ -18,9 +18,9 @@ use Rattle.iocm_history.specs.Replay.{state_at}
 use Rattle.iocm_history.specs.Book.{Book, is_in, is_past, book}
 
 -- B1 of an undo or a redo: the least subchannel of the change that isn't quiet, with no node
-abbrev pub unless_busy : Option SubId → Answer → Answer
-unless_busy (Some x) answer = Refused (refused_at B1 (Subchannel x))
-unless_busy None answer = answer
+abbrev pub unless_not_quiet : Option SubId → Answer → Answer
+unless_not_quiet (Some x) answer = Refused (refused_at B1 (Subchannel x))
+unless_not_quiet None answer = answer
 
 -- the greatest change that stands on a standing one: every later standing change does
 abbrev pub stands_on : ℕ → List ℕ → Option ℕ
@@ -35,7 +35,7 @@ unless_stood_on None answer = answer
 -- undo: J1 no such standing change; J2 a later one stands on it; B1
 abbrev pub undo_answer : ℕ → List ℕ → Option SubId → Answer
 undo_answer n standing busy =
-    if is_in n standing then unless_stood_on (stands_on n standing) (unless_busy busy (Undone n))
+    if is_in n standing then unless_stood_on (stands_on n standing) (unless_not_quiet busy (Undone n))
     else Refused (refused_at J1 Nothing)
 
 -- the last one undone of those that are undone now
@@ -46,7 +46,7 @@ is_last_undone n (m ∷ ms) = n == m
 -- redo: J1 no such change that was undone; J3 not the last one undone, or past; B1
 abbrev pub redo_answer : ℕ → Book → Option SubId → Answer
 redo_answer n b busy =
-    if is_last_undone n b.undone then unless_busy busy (Redone n)
+    if is_last_undone n b.undone then unless_not_quiet busy (Redone n)
     else if is_in n b.undone then Refused (refused_at J3 Nothing)
     else if is_past n b then Refused (refused_at J3 Nothing)
     else Refused (refused_at J1 Nothing)
@@ -71,7 +71,7 @@ entry_in s b busy show = plain_entry show (shown s b)
 -- the entry that a call makes after a history, where memory is there
 abbrev pub entry_of : State → History → Call → Entry
 entry_of opening h call = let s = state_at opening h in
-    entry_in s (book h) (λ n. first_busy s.lives (altered_by_change n (lines h))) call
+    entry_in s (book h) (λ n. first_not_quiet s.lives (altered_by_change n (lines h))) call
 
 -- the calls that may want memory
 abbrev pub may_lack_memory : Call → Bool

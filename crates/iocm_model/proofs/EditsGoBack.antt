@@ -21,7 +21,8 @@ use Rattle.iocm_model.specs.Edit.{Action, Edit, key_edited, record_after, config
 use Rattle.iocm_model.specs.Inverse.{action_back, inverse_of}
 use Rattle.iocm_model.specs.Effect.{values_in, written, cells_of_edit}
 use Rattle.iocm_model.specs.EditLaws.{IsNotAmong, AltersWhatDiffers, KeepsTheOthers, HasSameKeys, GoesBack}
-use Rattle.iocm_model.proofs.MapCells.{ties, get_with_value, get_overwritten_as, in_differing, get_retained}
+use Rattle.iocm_model.proofs.Found.{same_key}
+use Rattle.iocm_model.proofs.MapCells.{get_with_value, get_overwritten_as, in_differing, get_retained}
 use Rattle.iocm_model.proofs.SameViews.{sight_is, sight_holds}
 use Rattle.iocm_model.proofs.LivesEdited.{lives_edited_at, same_keeps, left_there, left_back}
 use Rattle.iocm_model.proofs.NumbersBack.{renumbering_goes_back}
@@ -69,7 +70,7 @@ back_record key (Some old) None = refl
 back_record key (Some old) (Some new) = refl
 
 restored : (b : Bool) (c : Configuration) (k q : Key) (new : Option Rec) → eq_by_cmp key_cmp q k ≡ b → cond b (get c k) (cond b new (get c q)) ≡ get c q
-restored true c k q new e = ap (get c) (sym (ties key_cmp keys_exact q k e))
+restored true c k q new e = ap (get c) (sym (same_key key_cmp keys_exact q k e))
 restored false c k q new e = refl
 
 -- the old record put back gives the old configuration

@@ -2,6 +2,7 @@ pub mod AllViews
 pub mod Breaches
 pub mod EditsGoBack
 pub mod FirstNumbers
+pub mod Found
 pub mod Listed
 pub mod ListedEffects
 pub mod ListedMaps
@@ -16,7 +17,6 @@ pub mod Nodes
 pub mod NumbersBack
 pub mod NumbersCells
 pub mod NumbersChanged
-pub mod NumbersFound
 pub mod NumbersFreed
 pub mod NumbersOpened
 pub mod NumbersTwice

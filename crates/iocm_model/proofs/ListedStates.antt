@@ -24,7 +24,7 @@ use Rattle.iocm_model.specs.Renumbering.{renumbered}
 use Rattle.iocm_model.specs.View.{views}
 use Rattle.iocm_model.specs.State.{State, seen_in, Lives, Views, views_of, views_in, fresh_row, opened}
 use Rattle.iocm_model.specs.Edit.{Action, Edit, key_edited, record_after, config_edited, same_view, live_edited, lives_edited, edited, altered_between, is_altered}
-use Rattle.iocm_model.specs.Refusal.{refused_at, refused_by_key, same_cell, has_cell_twice, is_number_taken, is_live_busy, first_busy, refused_by_subchannel, refusal_of}
+use Rattle.iocm_model.specs.Refusal.{refused_at, refused_by_key, same_cell, has_cell_twice, is_number_taken, is_not_quiet, first_not_quiet, refused_by_subchannel, refusal_of}
 use Rattle.iocm_model.specs.Inverse.{action_back, inverse_of}
 use Rattle.iocm_model.specs.Step.{Step, subchannel_in, step_answer, answer_in, live_stepped, lives_stepped, stepped}
 use Rattle.iocm_model.proofs.Listed.{entries_in_order}
@@ -156,12 +156,12 @@ taken_seen c n carried = (λ i. taken_by (reached_places c) (λ p. get-entries n
 
 -- the first subchannel that isn't quiet
 abbrev busy_by : (SubId → Option Live) → List SubId → Option SubId
-busy_by live_at xs = lists.find (λ x. is_live_busy (live_at x)) xs
+busy_by live_at xs = lists.find (λ x. is_not_quiet (live_at x)) xs
 
 abbrev pub busy_listed : LiveList → List SubId → Option SubId
 busy_listed lives xs = busy_by (λ x. find sub_id_cmp x lives) xs
 
-pub busy_seen : (lives : Lives) (xs : List SubId) → first_busy lives xs ≡ busy_listed (entries lives) xs
+pub busy_seen : (lives : Lives) (xs : List SubId) → first_not_quiet lives xs ≡ busy_listed (entries lives) xs
 busy_seen lives xs = λ i. busy_by (λ x. get-entries lives x i) xs
 
 -- why an edit is refused

@@ -9,16 +9,8 @@ use Rattle.std.specs.Cmp.{IsTotalOrder}
 use Rattle.std.specs.FinMap.{FinMap, IsAntisymmetric, find, is_sorted, get, entries, entries_sorted, keys, from_entries, retain_keys, get-insert, get-remove, get-from_entries, get-entries, get-retain_keys, contains_key-keys}
 use Rattle.std.specs.FinMap.Entries.{below_all}
 use Rattle.iocm_model.specs.Maps.{with_value, overwritten, cells_at, differing}
+use Rattle.iocm_model.proofs.Found.{same_key, first_holds, second_holds, not_found}
 use Rattle.iocm_model.proofs.Parts.{or_else, find_append}
-
--- keys that tie are equal
-pub ties : {K : Type 0} (R : K → K → Ordering) → IsAntisymmetric R → (x y : K) → eq_by_cmp R x y ≡ true → x ≡ y
-ties R exact x y h = by (R x y) refl h
-  where
-    by : (r : Ordering) → R x y ≡ r → is_eq r ≡ true → x ≡ y
-    by Less e h = cc
-    by Equal e h = exact x y e
-    by Greater e h = cc
 
 unwrapped : {A : Type 0} (b : Bool) (x : A) (o : Option A) (d : A) → cond b x (unwrap_or o d) ≡ unwrap_or (cond b (Some x) o) d
 unwrapped true x o d = refl
@@ -49,24 +41,11 @@ apart_or true true false = refl
 apart_or true false false = refl
 apart_or false b t = refl
 
-untied_below : (r : Ordering) → T (is_lt r) → is_eq r ≡ false
-untied_below Less h = refl
-untied_below Equal h = absurd h
-untied_below Greater h = absurd h
-
-left_true : (a b : Bool) → T (a && b) → T a
-left_true true b h = tt
-left_true false b h = h
-
-right_true : (a b : Bool) → T (a && b) → T b
-right_true true b h = h
-right_true false b h = absurd h
-
 module _ {K : Type 0} {R : K → K → Ordering} (exact : IsAntisymmetric R) where
   any_by : (b c : Bool) (q k : K) (ks : List K) (test : K → Bool) → eq_by_cmp R q k ≡ b → test k ≡ c
       → list_any (eq_by_cmp R q) (cond c (k ∷ filter test ks) (filter test ks)) ≡ (b && test q) || list_any (eq_by_cmp R q) (filter test ks)
-  any_by true true q k ks test e f = let here : test q ≡ true = ap test (ties R exact q k e) ∙ f in rw (e, here) refl
-  any_by true false q k ks test e f = let here : test q ≡ false = ap test (ties R exact q k e) ∙ f in rw here refl
+  any_by true true q k ks test e f = let here : test q ≡ true = ap test (same_key R exact q k e) ∙ f in rw (e, here) refl
+  any_by true false q k ks test e f = let here : test q ≡ false = ap test (same_key R exact q k e) ∙ f in rw here refl
   any_by false true q k ks test e f = rw e refl
   any_by false false q k ks test e f = refl
 
@@ -75,12 +54,6 @@ module _ {K : Type 0} {R : K → K → Ordering} (exact : IsAntisymmetric R) whe
   any_filter q [] test = refl
   any_filter q (k ∷ ks) test = any_by (eq_by_cmp R q k) (test k) q k ks test refl refl
       ∙ ap (λ b. (eq_by_cmp R q k && test q) || b) (any_filter q ks test) ∙ apart_or (eq_by_cmp R q k) (list_any (eq_by_cmp R q) ks) (test q)
-
-module _ {K X : Type 0} (R : K → K → Ordering) where
-  -- a key below all isn't found
-  pub not_found_below : (q : K) (es : List (K × X)) → T (below_all R q es) → find R q es ≡ None
-  not_found_below q [] h = refl
-  not_found_below q (e ∷ es) h = let apart : eq_by_cmp R q e.0 ≡ false = untied_below _ (left_true _ _ h) in rw apart (not_found_below q es (right_true _ _ h))
 
 module _ {K X : Type 0} {R : K → K → Ordering} (total : IsTotalOrder R) (exact : IsAntisymmetric R) where
   -- a map with this at a key has it there, and else what it had
@@ -96,7 +69,7 @@ module _ {K X : Type 0} {R : K → K → Ordering} (total : IsTotalOrder R) (exa
 
   found_cell : (b : Bool) (m : FinMap R X) (k q : K) (ks : List K) → eq_by_cmp R q k ≡ b
       → cond b (Some (get m k)) (cond (list_any (eq_by_cmp R q) ks) (Some (get m q)) None) ≡ cond (b || list_any (eq_by_cmp R q) ks) (Some (get m q)) None
-  found_cell true m k q ks e = ap (λ x. Some (get m x)) (sym (ties R exact q k e))
+  found_cell true m k q ks e = ap (λ x. Some (get m x)) (sym (same_key R exact q k e))
   found_cell false m k q ks e = refl
 
   find_cells : (m : FinMap R X) (ks : List K) (q : K)
@@ -134,8 +107,8 @@ module _ {K X Y : Type 0} {R : K → K → Ordering} (total : IsTotalOrder R) (e
       → eq_by_cmp R q e.0 ≡ b → g e.0 e.1 ≡ o → find R q rest ≡ option_and_then (g q) found → (b ≡ true → found ≡ None)
       → find R q (cons_option (option_map (λ (y : Y). (e.0, y)) o) rest) ≡ option_and_then (g q) (cond b (Some e.1) found)
   one_by true g q e None rest found h is more none =
-      more ∙ ap (option_and_then (g q)) (none refl) ∙ sym (ap (λ k. g k e.1) (ties R exact q e.0 h) ∙ is)
-  one_by true g q e (Some y) rest found h is more none = rw h (sym (ap (λ k. g k e.1) (ties R exact q e.0 h) ∙ is))
+      more ∙ ap (option_and_then (g q)) (none refl) ∙ sym (ap (λ k. g k e.1) (same_key R exact q e.0 h) ∙ is)
+  one_by true g q e (Some y) rest found h is more none = rw h (sym (ap (λ k. g k e.1) (same_key R exact q e.0 h) ∙ is))
   one_by false g q e None rest found h is more none = more
   one_by false g q e (Some y) rest found h is more none = rw h more
 
@@ -143,8 +116,8 @@ module _ {K X Y : Type 0} {R : K → K → Ordering} (total : IsTotalOrder R) (e
       → find R q (filter_map (λ (e : K × X). option_map (λ (y : Y). (e.0, y)) (g e.0 e.1)) es) ≡ option_and_then (g q) (find R q es)
   find_each g [] up q = refl
   find_each g (e ∷ es) up q =
-      one_by (eq_by_cmp R q e.0) g q e (g e.0 e.1) _ (find R q es) refl refl (find_each g es (right_true _ _ up) q)
-      (λ h. not_found_below R q es (subst (λ k. T (below_all R k es)) (sym (ties R exact q e.0 h)) (left_true _ _ up)))
+      one_by (eq_by_cmp R q e.0) g q e (g e.0 e.1) _ (find R q es) refl refl (find_each g es (second_holds _ _ up) q)
+      (λ h. not_found R total exact q es (subst (λ k. T (below_all R k es)) (sym (same_key R exact q e.0 h)) (first_holds _ _ up)))
 
   -- what is made of each entry of a map, where something is
   pub get_each : (g : K → X → Option Y) (m : FinMap R X) (q : K)

@@ -11,7 +11,7 @@ use Rattle.iocm_model.specs.Renumbering.{renumbered}
 use Rattle.iocm_model.specs.State.{AreNumbersOf}
 use Rattle.iocm_model.specs.Inverse.{freed}
 use Rattle.iocm_model.specs.RenumberingLaws.{RenumberingGoesBack}
-use Rattle.iocm_model.proofs.NumbersFound.{absent, present}
+use Rattle.iocm_model.proofs.Found.{absent, present}
 use Rattle.iocm_model.proofs.NumbersChanged.{renumbered_are_exact, stayers_keep_theirs, carried_come_back}
 
 -- the freed places have what they had

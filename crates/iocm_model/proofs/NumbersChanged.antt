@@ -11,7 +11,7 @@ use Rattle.iocm_model.specs.Configuration.{Configuration}
 use Rattle.iocm_model.specs.Numbering.{Numbering, reached_places, is_reached_at}
 use Rattle.iocm_model.specs.Renumbering.{lowest_free, without_leavers, with_carried, with_lowest, renumbered}
 use Rattle.iocm_model.specs.RenumberingLaws.{RenumberedAreExact, StayersKeepTheirs, CarriedComeBack}
-use Rattle.iocm_model.proofs.NumbersFound.{same_key, ties_itself}
+use Rattle.iocm_model.proofs.Found.{same_key, ties_itself}
 use Rattle.iocm_model.proofs.Parts.{untied}
 
 -- ---- one number more

@@ -11,10 +11,11 @@ use Rattle.iocm_model.specs.Configuration.{Configuration}
 use Rattle.iocm_model.specs.Numbering.{Numbering, is_reached_at}
 use Rattle.iocm_model.specs.Renumbering.{renumbered, without_leavers}
 use Rattle.iocm_model.specs.State.{AreNumbersOf}
-use Rattle.iocm_model.specs.Refusal.{comes_in, same_cell, has_cell_twice}
+use Rattle.iocm_model.specs.Renumbering.{comes_in}
+use Rattle.iocm_model.specs.Refusal.{same_cell, has_cell_twice}
 use Rattle.iocm_model.specs.Inverse.{freed}
 use Rattle.iocm_model.specs.RenumberingLaws.{FreedAreNotTaken}
-use Rattle.iocm_model.proofs.NumbersFound.{first_holds, second_holds, present, not_found, found_later, found_first, none_passes}
+use Rattle.iocm_model.proofs.Found.{first_holds, second_holds, present, not_found, found_later, found_first, none_passes}
 use Rattle.iocm_model.proofs.NumbersCells.{IsApart}
 use Rattle.iocm_model.proofs.NumbersChanged.{renumbered_are_exact, stayers_keep_theirs}
 use Rattle.iocm_model.proofs.NumbersBack.{get_freed}

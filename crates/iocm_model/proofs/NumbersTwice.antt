@@ -13,10 +13,11 @@ use Rattle.iocm_model.specs.Configuration.{Configuration}
 use Rattle.iocm_model.specs.Numbering.{Numbering, reached_places, is_reached_at, cells_of}
 use Rattle.iocm_model.specs.Renumbering.{lowest_free, without_leavers, with_carried, with_lowest}
 use Rattle.iocm_model.specs.LowestFree.{is_used}
-use Rattle.iocm_model.specs.Refusal.{comes_in, same_cell, has_cell_twice, is_number_taken}
+use Rattle.iocm_model.specs.Renumbering.{comes_in}
+use Rattle.iocm_model.specs.Refusal.{same_cell, has_cell_twice, is_number_taken}
 use Rattle.iocm_model.specs.RenumberingLaws.{RenumberedAreNumbers}
 use Rattle.iocm_model.proofs.Lowest.{lowest_free_is_free}
-use Rattle.iocm_model.proofs.NumbersFound.{present, same_key, found_fails}
+use Rattle.iocm_model.proofs.Found.{present, same_key, found_fails}
 use Rattle.iocm_model.proofs.NumbersCells.{IsApart, cell, has_cell}
 use Rattle.iocm_model.proofs.NumbersChanged.{comes_new, comes_reached, get_without, stays, before_lowest, renumbered_are_exact}
 

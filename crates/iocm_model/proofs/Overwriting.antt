@@ -6,7 +6,8 @@ use Rattle.std.specs.declared.cmp.Ordering.{Ordering}
 use Rattle.std.specs.Cmp.{IsTotalOrder, tied_itself}
 use Rattle.std.specs.FinMap.{FinMap, IsAntisymmetric, get, entries, same_map}
 use Rattle.iocm_model.specs.Maps.{overwritten, cells_at}
-use Rattle.iocm_model.proofs.MapCells.{ties, get_overwritten_as}
+use Rattle.iocm_model.proofs.Found.{same_key}
+use Rattle.iocm_model.proofs.MapCells.{get_overwritten_as}
 
 or_right : (a b : Bool) → (a || b) ≡ false → b ≡ false
 or_right true b h = cc
@@ -50,7 +51,7 @@ module _ {K : Type 0} (R : K → K → Ordering) (total : IsTotalOrder R) (exact
   found_by : (test : K → Bool) (x q : K) (xs : List K) (a b : Bool) → test x ≡ a → eq_by_cmp R q x ≡ b → cond a (Some x) (find test xs) ≡ None
       → (find test xs ≡ None → list_any (eq_by_cmp R q) xs ≡ true → test q ≡ false) → (b || list_any (eq_by_cmp R q) xs) ≡ true → test q ≡ false
   found_by test x q xs true b e f n more h = cc
-  found_by test x q xs false true e f n more h = ap test (ties R exact q x f) ∙ e
+  found_by test x q xs false true e f n more h = ap test (same_key R exact q x f) ∙ e
   found_by test x q xs false false e f n more h = more n h
 
   -- and where none is found, none passes

@@ -21,12 +21,13 @@ use Rattle.iocm_model.specs.Numbering.{cells_of, numbering_of}
 use Rattle.iocm_model.specs.Maps.{overwritten, cells_at}
 use Rattle.iocm_model.specs.State.{State, Lives, views_of, seen_in, HasLives, HasOwnKeys, IsSound, IsLike}
 use Rattle.iocm_model.specs.Edit.{Action, add, delete, modify, Edit, key_edited, record_after, config_edited, same_view, edited, altered_by, is_altered}
-use Rattle.iocm_model.specs.Refusal.{refused_by_key, is_number_taken, is_live_busy, first_busy, refused_by_subchannel, refusal_of}
+use Rattle.iocm_model.specs.Refusal.{refused_by_key, is_number_taken, is_not_quiet, first_not_quiet, refused_by_subchannel, refusal_of}
 use Rattle.iocm_model.specs.Inverse.{action_back, inverse_of}
 use Rattle.iocm_model.specs.InverseTree.{inverses}
 use Rattle.iocm_model.specs.Effect.{values_in, written, cells_of_edit, edited_by_all, cells_of_edits}
 use Rattle.iocm_model.specs.EditLaws.{IsNotAmong, AreAccepted, StaysSound, WritesItsEffect, RunGoesBack}
-use Rattle.iocm_model.proofs.MapCells.{ties, get_with_value, get_overwritten_as, get_retained}
+use Rattle.iocm_model.proofs.Found.{same_key}
+use Rattle.iocm_model.proofs.MapCells.{get_with_value, get_overwritten_as, get_retained}
 use Rattle.iocm_model.proofs.NumbersCells.{cells_give_numbers}
 use Rattle.iocm_model.proofs.NumbersFreed.{freed_are_not_taken}
 use Rattle.iocm_model.proofs.NumbersTwice.{renumbered_are_numbers}
@@ -59,12 +60,12 @@ no_key_refusal e s h = first_none _ _ h
 pub no_number_taken : (e : Edit) (s : State) → refusal_of e s ≡ None → is_number_taken (config_edited e.action s.config) s.numbers e.places ≡ false
 no_number_taken e s h = taken_not _ _ (first_none _ _ (second_none _ _ h))
 
-pub no_subchannel_busy : (e : Edit) (s : State) → refusal_of e s ≡ None → first_busy s.lives (altered_by e s) ≡ None
+pub no_subchannel_busy : (e : Edit) (s : State) → refusal_of e s ≡ None → first_not_quiet s.lives (altered_by e s) ≡ None
 no_subchannel_busy e s h = none_busy _ (second_none _ _ (second_none _ _ h))
 
 -- a subchannel among these is quiet where none is found busy
-pub quiet_at : (lives : Lives) (xs : List SubId) → first_busy lives xs ≡ None → (x : SubId) → list_any (eq_by_cmp sub_id_cmp x) xs ≡ true → is_live_busy (get lives x) ≡ false
-quiet_at lives xs none x h = none_found sub_id_cmp sub_ids_total sub_ids_exact (λ y. is_live_busy (get lives y)) xs none x h
+pub quiet_at : (lives : Lives) (xs : List SubId) → first_not_quiet lives xs ≡ None → (x : SubId) → list_any (eq_by_cmp sub_id_cmp x) xs ≡ true → is_not_quiet (get lives x) ≡ false
+quiet_at lives xs none x h = none_found sub_id_cmp sub_ids_total sub_ids_exact (λ y. is_not_quiet (get lives y)) xs none x h
 
 -- ---- off the cells of edits nothing changes
 
@@ -99,7 +100,7 @@ off_lives (e ∷ es) s x lived off =
 
 own_by : (b : Bool) (key k : Key) (after old : Option Rec) → eq_by_cmp key_cmp key k ≡ b → ((r : Rec) → after ≡ Some r → key_of r ≡ k)
     → ((r : Rec) → old ≡ Some r → key_of r ≡ key) → (r : Rec) → cond b after old ≡ Some r → key_of r ≡ key
-own_by true key k after old e own kept r h = own r h ∙ sym (ties key_cmp keys_exact key k e)
+own_by true key k after old e own kept r h = own r h ∙ sym (same_key key_cmp keys_exact key k e)
 own_by false key k after old e own kept r h = kept r h
 
 after_own : (a : Action) (r : Rec) → record_after a ≡ Some r → key_of r ≡ key_edited a
@@ -156,7 +157,7 @@ merged_by true b x y z same = refl
 merged_by false true x y z same = same refl
 merged_by false false x y z same = refl
 
-quiet_by : (b : Bool) (x y : Option Live) → (b ≡ true → is_live_busy x ≡ false) → (b ≡ false → is_live_busy y ≡ false) → is_live_busy (cond b x y) ≡ false
+quiet_by : (b : Bool) (x y : Option Live) → (b ≡ true → is_not_quiet x ≡ false) → (b ≡ false → is_not_quiet y ≡ false) → is_not_quiet (cond b x y) ≡ false
 quiet_by true x y f g = f refl
 quiet_by false x y f g = g refl
 
@@ -212,13 +213,13 @@ by_first false f g = g refl
 
 -- what a run alters was quiet before it
 pub altered_were_quiet : (es : List Edit) (s : State) (x : SubId) → HasLives s → AreAccepted es s
-    → list_any (eq_by_cmp sub_id_cmp x) (cells_of_edits es s).subchannels ≡ true → is_live_busy (get s.lives x) ≡ false
+    → list_any (eq_by_cmp sub_id_cmp x) (cells_of_edits es s).subchannels ≡ true → is_not_quiet (get s.lives x) ≡ false
 altered_were_quiet [] s x lived accepted h = cc
 altered_were_quiet (e ∷ es) s x lived accepted h =
     let t = edited e s in
     by_first (list_any (eq_by_cmp sub_id_cmp x) (altered_by e s))
     (λ here. quiet_at s.lives (altered_by e s) (no_subchannel_busy e s accepted.0) x here)
-    (λ off. ap is_live_busy (sym (keeps_the_others e s x lived off))
+    (λ off. ap is_not_quiet (sym (keeps_the_others e s x lived off))
     ∙ altered_were_quiet es t x (edited_lived e s lived) accepted.1
     (later_by _ _ (sym (any_append sub_id_cmp x (altered_by e s) (cells_of_edits es t).subchannels) ∙ h) off))
 
@@ -263,7 +264,7 @@ run_back (e ∷ es) s u sound accepted like =
 
 -- the inverse of an accepted edit is accepted where what it alters is quiet
 inverse_accepted : (e : Edit) (s v : State) → IsSound s → refusal_of e s ≡ None → IsLike v (edited e s)
-    → ((x : SubId) → list_any (eq_by_cmp sub_id_cmp x) (altered_by e s) ≡ true → is_live_busy (get v.lives x) ≡ false)
+    → ((x : SubId) → list_any (eq_by_cmp sub_id_cmp x) (altered_by e s) ≡ true → is_not_quiet (get v.lives x) ≡ false)
     → refusal_of (inverse_of e s) v ≡ None
 inverse_accepted e s v sound accepted like quiet =
     let t = edited e s in let a = (inverse_of e s).action in let k = key_edited e.action in
@@ -278,13 +279,13 @@ inverse_accepted e s v sound accepted like quiet =
     λ x. among_altered v (edited (inverse_of e s) v) x
     ∙ (λ i. not (option_eq same_view (get (views_of (like.config i) (like.numbers i)) x) (seen_in (there i) x)))
     ∙ ap not (sight_turned (seen_in t x) (seen_in s x)) ∙ sym (among_altered s t x) in
-    let by_busy : first_busy v.lives (altered_by (inverse_of e s) v) ≡ None =
-    find_none sub_id_cmp sub_ids_total sub_ids_exact (λ x. is_live_busy (get v.lives x)) (altered_by (inverse_of e s) v) (λ x h. quiet x (sym (same x) ∙ h)) in
+    let by_busy : first_not_quiet v.lives (altered_by (inverse_of e s) v) ≡ None =
+    find_none sub_id_cmp sub_ids_total sub_ids_exact (λ x. is_not_quiet (get v.lives x)) (altered_by (inverse_of e s) v) (λ x h. quiet x (sym (same x) ∙ h)) in
     none_of_three _ _ _ _ by_key by_number by_busy
 
 -- and so are those of a run
 pub inverses_accepted : (es : List Edit) (s u : State) → IsSound s → AreAccepted es s → IsLike u (edited_by_all es s)
-    → ((x : SubId) → list_any (eq_by_cmp sub_id_cmp x) (cells_of_edits es s).subchannels ≡ true → is_live_busy (get u.lives x) ≡ false)
+    → ((x : SubId) → list_any (eq_by_cmp sub_id_cmp x) (cells_of_edits es s).subchannels ≡ true → is_not_quiet (get u.lives x) ≡ false)
     → AreAccepted (inverses es s) u
 inverses_accepted [] s u sound accepted like quiet = tt
 inverses_accepted (e ∷ es) s u sound accepted like quiet =
@@ -294,8 +295,8 @@ inverses_accepted (e ∷ es) s u sound accepted like quiet =
     let sound_t = edited_sound e s sound accepted.0 in
     let v = given t t.lives later u in
     let like_v : IsLike v t = given_like t u later sound_t.lived (seen_like es t u like) in
-    let quiet_v : (x : SubId) → list_any (eq_by_cmp sub_id_cmp x) (altered_by e s) ≡ true → is_live_busy (get v.lives x) ≡ false =
-    λ x h. ap is_live_busy (overlaid_at t.lives later u.lives x)
+    let quiet_v : (x : SubId) → list_any (eq_by_cmp sub_id_cmp x) (altered_by e s) ≡ true → is_not_quiet (get v.lives x) ≡ false =
+    λ x h. ap is_not_quiet (overlaid_at t.lives later u.lives x)
     ∙ quiet_by (list_any (eq_by_cmp sub_id_cmp x) later) (get t.lives x) (get u.lives x)
     (λ l. altered_were_quiet es t x sound_t.lived accepted.1 l) (λ l. quiet x (among x ∙ ap (λ b. b || list_any (eq_by_cmp sub_id_cmp x) later) h)) in
     let there = run_back es t u sound_t accepted.1 like in

@@ -16,7 +16,8 @@ use Rattle.iocm_model.specs.View.{views}
 use Rattle.iocm_model.specs.Effect.{written, edited_by_all, cells_of_edits, effect_of}
 use Rattle.iocm_model.specs.EditLaws.{IsNotAmong, OpeningIsSound, StepsElsewherePass}
 use Rattle.iocm_model.specs.Step.{Step, subchannel_in, live_stepped, lives_stepped, step_answer}
-use Rattle.iocm_model.proofs.MapCells.{ties, get_overwritten_as}
+use Rattle.iocm_model.proofs.Found.{same_key}
+use Rattle.iocm_model.proofs.MapCells.{get_overwritten_as}
 use Rattle.iocm_model.proofs.NumbersCells.{cells_give_numbers}
 use Rattle.iocm_model.proofs.NumbersOpened.{opening_are_numbers}
 use Rattle.iocm_model.proofs.Overwriting.{overwritten_is}
@@ -57,7 +58,7 @@ put_elsewhere from lives xs x l off = same_map sub_ids_total sub_ids_exact _ _ (
     get-insert sub_ids_total (overwritten (entries (cells_at from xs)) lives) x l y
     ∙ ap (cond (eq_by_cmp sub_id_cmp y x) (Some l)) (get_overwritten_as sub_ids_total sub_ids_exact from xs lives y)
     ∙ swapped (eq_by_cmp sub_id_cmp y x) (list_any (eq_by_cmp sub_id_cmp y) xs) (Some l) (get from y) (get lives y)
-    (λ h. ap (λ z. list_any (eq_by_cmp sub_id_cmp z) xs) (ties sub_id_cmp sub_ids_exact y x h) ∙ off)
+    (λ h. ap (λ z. list_any (eq_by_cmp sub_id_cmp z) xs) (same_key sub_id_cmp sub_ids_exact y x h) ∙ off)
     ∙ ap (cond (list_any (eq_by_cmp sub_id_cmp y) xs) (get from y)) (sym (get-insert sub_ids_total lives x l y))
     ∙ sym (get_overwritten_as sub_ids_total sub_ids_exact from xs (insert lives x l) y))
 

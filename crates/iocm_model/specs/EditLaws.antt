@@ -9,7 +9,7 @@ use Rattle.iocm_model.specs.Configuration.{Configuration}
 use Rattle.iocm_model.specs.Maps.{cells_at}
 use Rattle.iocm_model.specs.State.{State, Lives, HasLives, HasOwnKeys, IsSound, IsLike, opened, seen_in}
 use Rattle.iocm_model.specs.Edit.{Edit, edited, altered_by}
-use Rattle.iocm_model.specs.Refusal.{refusal_of, first_busy}
+use Rattle.iocm_model.specs.Refusal.{refusal_of, first_not_quiet}
 use Rattle.iocm_model.specs.Inverse.{inverse_of}
 use Rattle.iocm_model.specs.InverseTree.{inverses}
 use Rattle.iocm_model.specs.Effect.{values_in, written, cells_of_edit, edited_by_all, cells_of_edits, effect_of}
@@ -58,7 +58,7 @@ GoesBack = (e : Edit) (s u : State) (kept : Lives) → IsSound s → IsLike u (e
 -- the same for a run of edits and their inverses, the last first; each of these is accepted where the altered subchannels are quiet
 abbrev pub RunGoesBack : Type 0
 RunGoesBack = (es : List Edit) (s u : State) → IsSound s → AreAccepted es s → IsLike u (edited_by_all es s)
-    → first_busy u.lives (cells_of_edits es s).subchannels ≡ None
+    → first_not_quiet u.lives (cells_of_edits es s).subchannels ≡ None
     → (edited_by_all (inverses es s) u ≡ written (values_in s (cells_of_edits es s)) u) × AreAccepted (inverses es s) u
 
 -- a step on a subchannel that a change doesn't alter, and the effect of the change, in either order: the same state and the same answer

@@ -2,7 +2,7 @@
 use Rattle.std.specs.Prelude.{◌≡◌, List, [], ◌∷◌, ◌++◌, Option, Some, None, Ok, Err}
 use Rattle.iocm_model.specs.State.{State, IsLike}
 use Rattle.iocm_model.specs.Edit.{Edit, edited}
-use Rattle.iocm_model.specs.Refusal.{first_busy}
+use Rattle.iocm_model.specs.Refusal.{first_not_quiet}
 use Rattle.iocm_model.specs.Inverse.{inverse_of}
 use Rattle.iocm_model.specs.Effect.{values_in, written, edited_by_all, cells_of_edits}
 use Rattle.iocm_model.specs.Tree.{Plan, Plans, leaf, row, none, part}
@@ -31,5 +31,5 @@ reached (Err why) = None
 -- them in which the altered subchannels are quiet, it is accepted, and means that state with the cells that they wrote as these were before
 abbrev pub TakesBack : Plan → List Edit → State → Type 0
 TakesBack p es s = (u : State) → IsLike u (edited_by_all es s)
-    → first_busy u.lives (cells_of_edits es s).subchannels ≡ None
+    → first_not_quiet u.lives (cells_of_edits es s).subchannels ≡ None
     → reached (meaning p u) ≡ Some (written (values_in s (cells_of_edits es s)) u)

@@ -36,7 +36,8 @@ abbrev pub is_record_reached : Lookup → ℕ → Option Rec → Bool
 is_record_reached c css (Some (device d)) = is_reached c css d
 is_record_reached c css _ = false
 
--- a numbering has exactly the devices that are reached, in six channel subsystems of four sets, and no number twice
+-- a numbering has exactly the devices that are reached, in six channel subsystems of four sets, and no
+-- number twice in one channel subsystem and set
 pub record IsNumbering (c : Lookup) (n : Numbering) : Type 0 where
   pub domain : (p : Place) → p.css < 6 → p.set < 4 → is_some (get n p) ≡ is_record_reached c p.css (c (Device p.set p.device))
   pub apart : (p q : Place) (number : ℕ) → p.css ≡ q.css → p.set ≡ q.set

@@ -34,10 +34,10 @@ is_pending (Pending f) = true
 is_pending _ = false
 
 -- a halt or a clear function is in progress
-abbrev pub is_ending : Phase → Bool
-is_ending (Busy function.Halt) = true
-is_ending (Busy function.Clear) = true
-is_ending _ = false
+abbrev pub is_halting_or_clearing : Phase → Bool
+is_halting_or_clearing (Busy function.Halt) = true
+is_halting_or_clearing (Busy function.Clear) = true
+is_halting_or_clearing _ = false
 
 -- the bit of a function, and the bits of a phase: the function's, and 8 more while its status is pending
 abbrev pub function_bit : Function → ℕ
@@ -73,7 +73,7 @@ is_status_in_the_way Store p = false
 abbrev pub is_busy_with_another : Order → Phase → Bool
 is_busy_with_another Start p = is_busy p
 is_busy_with_another (Modify s) p = is_busy p
-is_busy_with_another Halt p = is_ending p
+is_busy_with_another Halt p = is_halting_or_clearing p
 is_busy_with_another Clear p = false
 is_busy_with_another Test p = false
 is_busy_with_another Store p = false

@@ -3,7 +3,7 @@
 use Rattle.std.specs.Prelude.{ℕ, ◌==◌, Bool, true, false, ◌&&◌, ◌||◌, not, if◌then◌else◌, Option, None, Some, List, [], ◌∷◌, filter}
 use Rattle.std.specs.List.{list_any, find}
 use Rattle.std.specs.Option.{option_map, option_or}
-use Rattle.std.specs.FinMap.{get, entries, contains_key, retain_keys}
+use Rattle.std.specs.FinMap.{get, entries, contains_key}
 use Rattle.iocm_types.specs.declared.live.Live.{Live}
 use Rattle.iocm_types.specs.declared.place.Place.{Place}
 use Rattle.iocm_types.specs.declared.refused.At.{At}
@@ -14,7 +14,8 @@ use Rattle.iocm_types.specs.declared.rule.Rule.TheVariants.{E1, E2, E4, B1}
 use Rattle.iocm_types.specs.declared.sub_id.SubId.{SubId}
 use Rattle.iocm_model.specs.Record.{key_of}
 use Rattle.iocm_model.specs.Configuration.{Configuration}
-use Rattle.iocm_model.specs.Numbering.{Numbering, is_reached_at}
+use Rattle.iocm_model.specs.Numbering.{Numbering}
+use Rattle.iocm_model.specs.Renumbering.{comes_in, without_leavers}
 use Rattle.iocm_model.specs.Orders.{is_quiet}
 use Rattle.iocm_model.specs.State.{State, Lives}
 use Rattle.iocm_model.specs.Edit.{Action, add, delete, modify, Edit, key_edited, config_edited, altered_by}
@@ -30,10 +31,6 @@ refused_by_key (delete key) false = Some (refused_at E2 (Key key))
 refused_by_key (modify r) false = Some (refused_at E2 (Key (key_of r)))
 refused_by_key _ _ = None
 
--- a device that the configuration reaches at a place, and that has no number there yet
-abbrev pub comes_in : Configuration → Numbering → Place × ℕ → Bool
-comes_in c n carried = is_reached_at c carried.0 && not (contains_key n carried.0)
-
 -- one number of one channel subsystem and set
 abbrev pub same_cell : Place × ℕ → Place × ℕ → Bool
 same_cell a b = a.0.css == b.0.css && a.0.set == b.0.set && a.1 == b.1
@@ -46,16 +43,16 @@ has_cell_twice (p ∷ ps) = list_any (same_cell p) ps || has_cell_twice ps
 -- E4: a carried number of a device that comes in is held by a device that stays, or is carried twice
 abbrev pub is_number_taken : Configuration → Numbering → List (Place × ℕ) → Bool
 is_number_taken c n carried = let arriving = filter (comes_in c n) carried in
-    list_any (λ p. list_any (same_cell p) (entries (retain_keys n (is_reached_at c)))) arriving || has_cell_twice arriving
+    list_any (λ p. list_any (same_cell p) (entries (without_leavers c n))) arriving || has_cell_twice arriving
 
 -- a live record that isn't quiet
-abbrev pub is_live_busy : Option Live → Bool
-is_live_busy (Some l) = not (is_quiet l.phase)
-is_live_busy None = false
+abbrev pub is_not_quiet : Option Live → Bool
+is_not_quiet (Some l) = not (is_quiet l.phase)
+is_not_quiet None = false
 
 -- the first of these subchannels whose live record isn't quiet; of subchannels in order, the least
-abbrev pub first_busy : Lives → List SubId → Option SubId
-first_busy lives xs = find (λ x. is_live_busy (get lives x)) xs
+abbrev pub first_not_quiet : Lives → List SubId → Option SubId
+first_not_quiet lives xs = find (λ x. is_not_quiet (get lives x)) xs
 
 -- B1 names the subchannel
 abbrev pub refused_by_subchannel : Option SubId → Option Refused
@@ -66,4 +63,4 @@ abbrev pub refusal_of : Edit → State → Option Refused
 refusal_of e s =
     option_or (refused_by_key e.action (contains_key s.config (key_edited e.action)))
     (option_or (if is_number_taken (config_edited e.action s.config) s.numbers e.places then Some (refused_at E4 (Key (key_edited e.action))) else None)
-    (refused_by_subchannel (first_busy s.lives (altered_by e s))))
+    (refused_by_subchannel (first_not_quiet s.lives (altered_by e s))))

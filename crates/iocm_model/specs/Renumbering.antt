@@ -24,9 +24,13 @@ lowest_free n css set = gap_from 0 (numbers_in n css set)
 abbrev pub without_leavers : Configuration → Numbering → Numbering
 without_leavers c n = retain_keys n (is_reached_at c)
 
+-- a device that the configuration reaches at a place, and that has no number there yet
+abbrev pub comes_in : Configuration → Numbering → Place × ℕ → Bool
+comes_in c n carried = is_reached_at c carried.0 && not (contains_key n carried.0)
+
 -- a device that comes in and has a place carried along gets it
 abbrev pub with_carried : Configuration → Numbering → Place × ℕ → Numbering
-with_carried c n carried = if is_reached_at c carried.0 && not (contains_key n carried.0) then insert n carried.0 carried.1 else n
+with_carried c n carried = if comes_in c n carried then insert n carried.0 carried.1 else n
 
 -- a device that comes in without one gets the lowest free number
 abbrev pub with_lowest : Numbering → Place → Numbering
