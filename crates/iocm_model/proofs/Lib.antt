@@ -10,6 +10,7 @@ pub mod ListedTrees
 pub mod ListedViews
 pub mod Lowest
 pub mod Nodes
+pub mod OnLists
 pub mod Parts
 pub mod Worked
 pub mod WorkedChanges

@@ -7,8 +7,6 @@ use Rattle.iocm_model.specs.State.{State}
 use Rattle.iocm_model.specs.Edit.{Action, add, delete, modify}
 use Rattle.iocm_model.specs.Effect.{Cells}
 use Rattle.iocm_model.specs.Orders.{fresh}
-use Rattle.iocm_model.specs.Renumbering.{gap_from}
-use Rattle.iocm_model.specs.Rules.{first_record, first_breach_of}
 use Rattle.iocm_model.specs.BaseDeck.{base, lpb, online_record}
 use Rattle.iocm_model.specs.RuleExamples.{unit_on}
 use Rattle.iocm_model.specs.Record.{Rec}
@@ -18,12 +16,12 @@ use Rattle.iocm_types.specs.declared.key.Key.TheVariants as key
 use Rattle.iocm_types.specs.declared.order.Order.TheVariants as orders
 use Rattle.iocm_model.specs.Examples.{place_of}
 use Rattle.iocm_model.specs.ChangeExamples.{started_at, enabled_at, base_started, base_ended, base_tested, base_enabled, ANumberComesAlong, Keys, ABusySubchannel, PendingStatus, AnExchange, NodesOfBreaches, WhereRulesHold, AfterAGroup, EmptyNodes, APathComesOnline, APathListIsTurned, base_opened, subchannel, device_on_1000, device_key, ADeviceComesIn, ANumberIsUsedAgain}
+use Rattle.iocm_model.proofs.OnLists.{states_on_lists, on_lists}
 use Rattle.iocm_model.proofs.ListedMaps.{put_all}
-use Rattle.iocm_model.proofs.ListedViews.{entries-configuration_of, opening_listed, renumbered_listed}
-use Rattle.iocm_model.proofs.ListedRules.{first_breach_listed}
-use Rattle.iocm_model.proofs.ListedStates.{ListedState, listing, opened_listed, opened_seen, live_at_is, seen_at_is, record_at_is, answer_is, stepped_is, stepped_listed, answer_listed, inverse_listed, ListedEdit, edited_listed, refusal_listed}
-use Rattle.iocm_model.proofs.ListedEffects.{edited_all_listed, edits_cells_listed, edit_cells_listed, edited_all_is, put_back, values_listed, written_listed, edits_cells_are, inverses_listed}
-use Rattle.iocm_model.proofs.ListedTrees.{ListedPlan, one, in_row, in_group, in_choose, no_parts, and_part, mean_listed, meaning_listed, meaning_is, meaning_refused, parts_listed, taken_back}
+use Rattle.iocm_model.proofs.ListedViews.{entries-configuration_of}
+use Rattle.iocm_model.proofs.ListedStates.{ListedState, listing, opened_listed, opened_seen, live_at_is, seen_at_is, record_at_is, answer_is, stepped_is, stepped_listed, ListedEdit}
+use Rattle.iocm_model.proofs.ListedEffects.{edited_all_is, put_back, edits_cells_are}
+use Rattle.iocm_model.proofs.ListedTrees.{ListedPlan, one, in_row, in_group, in_choose, no_parts, and_part, meaning_is, meaning_refused, parts_listed, taken_back}
 
 -- the example deck, opened, as lists
 unfoldable base_listing : ListedState
@@ -35,7 +33,7 @@ base_listing = record {
 }
 
 base_computed : opened_listed (put_all key_cmp (keyed base)) ≡ base_listing
-unfolding base_listing opened_listed opening_listed
+unfolding states_on_lists base_listing
 base_computed = refl
 
 base_is : listing base_opened ≡ base_listing
@@ -63,7 +61,7 @@ abbrev add_0fff_listed : List ListedEdit
 add_0fff_listed = the_0fff ∷ []
 
 pub a_device_comes_in : ADeviceComesIn
-unfolding base_listing meaning_listed mean_listed edited_all_listed edited_listed refusal_listed first_breach_listed renumbered_listed gap_from first_record first_breach_of edits_cells_listed edit_cells_listed inverses_listed inverse_listed
+unfolding on_lists base_listing
 a_device_comes_in = record {
   accepted = meaning_is (one the_0fff) add_0fff_listed base_opened base_listing base_is refl;
   numbers = ap (λ (y : ListedState). y.numbers) (edited_all_is add_0fff_listed base_opened base_listing base_is);
@@ -76,7 +74,7 @@ abbrev one_for_another_listed : List ListedEdit
 one_for_another_listed = plain_delete (device_key 0x1001) ∷ plain_add (device_on_1000 0x2000 0x04) ∷ []
 
 pub a_number_is_used_again : ANumberIsUsedAgain
-unfolding base_listing meaning_listed mean_listed edited_all_listed edited_listed refusal_listed first_breach_listed renumbered_listed gap_from first_record first_breach_of inverses_listed inverse_listed
+unfolding on_lists base_listing
 a_number_is_used_again = record {
   accepted = meaning_is (in_row (parts_listed one_for_another_listed)) one_for_another_listed base_opened base_listing base_is refl;
   numbers = ap (λ (y : ListedState). y.numbers) (edited_all_is one_for_another_listed base_opened base_listing base_is);
@@ -87,7 +85,7 @@ abbrev with_number_listed : ℕ → ListedEdit
 with_number_listed number = record { action = add (device_on_1000 0x2000 0x04); places = place_of 0x2000 number ∷ []; kept = [] }
 
 pub a_number_comes_along : ANumberComesAlong
-unfolding base_listing meaning_listed mean_listed edited_all_listed edited_listed refusal_listed first_breach_listed renumbered_listed gap_from first_record first_breach_of
+unfolding on_lists base_listing
 a_number_comes_along = record {
   accepted = meaning_is (one (with_number_listed 7)) (with_number_listed 7 ∷ []) base_opened base_listing base_is refl;
   numbers = ap (λ (y : ListedState). y.numbers) (edited_all_is (with_number_listed 7 ∷ []) base_opened base_listing base_is);
@@ -95,7 +93,7 @@ a_number_comes_along = record {
 }
 
 pub keys_there_and_missing : Keys
-unfolding base_listing meaning_listed mean_listed edited_all_listed edited_listed refusal_listed first_breach_listed renumbered_listed gap_from first_record first_breach_of
+unfolding on_lists base_listing
 keys_there_and_missing = record {
   there = meaning_refused (one (plain_add (device_on_1000 0x1000 0x04))) _ base_opened base_listing base_is refl;
   missing = meaning_refused (one (plain_delete (key.Unit 0x2000))) _ base_opened base_listing base_is refl;
@@ -120,7 +118,7 @@ unfolding base_started started_listing
 base_started_is = started_is (subchannel 1 0) base_opened base_listing base_is
 
 pub a_busy_subchannel : ABusySubchannel
-unfolding base_listing meaning_listed mean_listed edited_all_listed edited_listed refusal_listed first_breach_listed renumbered_listed gap_from first_record first_breach_of stepped_listed started_listing
+unfolding on_lists base_listing started_listing
 a_busy_subchannel = record {
   refused = meaning_refused (one (plain_delete (device_key 0x1000))) _ base_started started_listing base_started_is refl;
   chosen = meaning_is (in_choose (parts_listed (plain_delete (device_key 0x1000) ∷ plain_delete (device_key 0x1003) ∷ [])))
@@ -146,7 +144,7 @@ abbrev delete_1001 : ListedEdit
 delete_1001 = plain_delete (device_key 0x1001)
 
 pub pending_status : PendingStatus
-unfolding base_listing meaning_listed mean_listed edited_all_listed edited_listed refusal_listed first_breach_listed renumbered_listed gap_from first_record first_breach_of inverses_listed inverse_listed stepped_listed ended_listing tested_listing
+unfolding on_lists base_listing ended_listing tested_listing
 pending_status = record {
   refused = meaning_refused (one delete_1001) _ base_ended ended_listing base_ended_is refl;
   tested = meaning_is (one delete_1001) (delete_1001 ∷ []) base_tested tested_listing base_tested_is refl;
@@ -157,7 +155,7 @@ abbrev exchange_listed : List ListedEdit
 exchange_listed = plain_modify (device_on_1000 0x1002 0x05) ∷ plain_modify (device_on_1000 0x1003 0x02) ∷ plain_modify (device_on_1000 0x1002 0x03) ∷ []
 
 pub an_exchange : AnExchange
-unfolding base_listing meaning_listed mean_listed edited_all_listed edited_listed refusal_listed first_breach_listed renumbered_listed gap_from first_record first_breach_of edits_cells_listed edit_cells_listed inverses_listed inverse_listed values_listed written_listed
+unfolding on_lists base_listing
 an_exchange = let after = edited_all_is exchange_listed base_opened base_listing base_is in record {
   accepted = meaning_is (in_group (parts_listed exchange_listed)) exchange_listed base_opened base_listing base_is refl;
   first = record_at_is _ _ (device_key 0x1002) after;
@@ -177,7 +175,7 @@ abbrev group_of_unit : ListedPlan
 group_of_unit = in_group (parts_listed (the_unit ∷ []))
 
 pub nodes_of_breaches : NodesOfBreaches
-unfolding base_listing meaning_listed mean_listed edited_all_listed edited_listed refusal_listed first_breach_listed renumbered_listed gap_from first_record first_breach_of
+unfolding on_lists base_listing
 nodes_of_breaches = record {
   in_leaf = meaning_refused (one the_unit) _ base_opened base_listing base_is refl;
   in_group = meaning_refused group_of_unit _ base_opened base_listing base_is refl;
@@ -187,7 +185,7 @@ nodes_of_breaches = record {
 }
 
 pub where_rules_hold : WhereRulesHold
-unfolding base_listing meaning_listed mean_listed edited_all_listed edited_listed refusal_listed first_breach_listed renumbered_listed gap_from first_record first_breach_of
+unfolding on_lists base_listing
 where_rules_hold = record {
   on_the_way = meaning_is (in_row (parts_listed (the_unit ∷ delete_unit ∷ []))) (the_unit ∷ delete_unit ∷ []) base_opened base_listing base_is refl;
   in_group = meaning_refused (in_row (and_part group_of_unit (and_part (one delete_unit) no_parts))) _ base_opened base_listing base_is refl;
@@ -195,12 +193,12 @@ where_rules_hold = record {
 }
 
 pub after_a_group : AfterAGroup
-unfolding base_listing meaning_listed mean_listed edited_all_listed edited_listed refusal_listed first_breach_listed renumbered_listed gap_from first_record first_breach_of
+unfolding on_lists base_listing
 after_a_group = meaning_refused (in_row (and_part (in_group (parts_listed one_for_another_listed)) (and_part (one (plain_add (device_on_1000 0x1000 0x04))) no_parts)))
     _ base_opened base_listing base_is refl
 
 pub empty_nodes : EmptyNodes
-unfolding base_listing meaning_listed mean_listed edited_all_listed edited_listed refusal_listed first_breach_listed renumbered_listed gap_from first_record first_breach_of
+unfolding on_lists base_listing
 empty_nodes = record {
   group = meaning_is (in_group no_parts) [] base_opened base_listing base_is refl;
   choose = meaning_refused (in_choose no_parts) _ base_opened base_listing base_is refl;
@@ -217,7 +215,7 @@ abbrev the_online : ListedEdit
 the_online = plain_add (online_record 0x51 lpb)
 
 pub a_path_comes_online : APathComesOnline
-unfolding base_listing meaning_listed mean_listed edited_all_listed edited_listed refusal_listed first_breach_listed renumbered_listed gap_from first_record first_breach_of stepped_listed enabled_listing answer_listed
+unfolding on_lists base_listing enabled_listing
 a_path_comes_online = let after = edited_all_is (the_online ∷ []) base_enabled enabled_listing base_enabled_is in record {
   accepted = meaning_is (one the_online) (the_online ∷ []) base_enabled enabled_listing base_enabled_is refl;
   seen = seen_at_is _ _ (subchannel 2 0) after;
@@ -230,7 +228,7 @@ abbrev the_turn : ListedEdit
 the_turn = plain_modify (unit_on 0x1000 (0x51 ∷ 0x50 ∷ []) None)
 
 pub a_path_list_is_turned : APathListIsTurned
-unfolding base_listing meaning_listed mean_listed edited_all_listed edited_listed refusal_listed first_breach_listed renumbered_listed gap_from first_record first_breach_of inverses_listed inverse_listed stepped_listed enabled_listing
+unfolding on_lists base_listing enabled_listing
 a_path_list_is_turned = let after = edited_all_is (the_turn ∷ []) base_enabled enabled_listing base_enabled_is in record {
   accepted = meaning_is (one the_turn) (the_turn ∷ []) base_enabled enabled_listing base_enabled_is refl;
   seen = seen_at_is _ _ (subchannel 2 0) after;

@@ -4,9 +4,9 @@ use Rattle.iocm_types.specs.Key.{key_cmp}
 use Rattle.iocm_model.specs.Record.{Rec}
 use Rattle.iocm_model.specs.Configuration.{keyed, configuration_of}
 use Rattle.iocm_model.specs.Numbering.{opening}
-use Rattle.iocm_model.specs.Rules.{first_record, first_breach_of}
 use Rattle.iocm_model.specs.BaseDeck.{base}
 use Rattle.iocm_model.specs.RuleExamples.{first_breach_at_opening, two_on_a_dedicated_path, nine_paths, nine_units, limit_of_three, BaseKeepsTheRules, ADedicatedPathOfTwo, AUnitOnNinePaths, ADeviceOfNineUnits, ALimitOfThree}
+use Rattle.iocm_model.proofs.OnLists.{states_on_lists}
 use Rattle.iocm_model.proofs.ListedMaps.{put_all}
 use Rattle.iocm_model.proofs.ListedViews.{entries-configuration_of, opening_listed, opening_seen}
 use Rattle.iocm_model.proofs.ListedRules.{first_breach_listed, first_breach_seen}
@@ -18,21 +18,21 @@ first_breach_of_records rs = let c = configuration_of rs in first_breach_seen c 
     ∙ (λ i. first_breach_listed (entries-configuration_of rs i) ((opening_seen c ∙ ap opening_listed (entries-configuration_of rs)) i))
 
 pub base_keeps_the_rules : BaseKeepsTheRules
-unfolding first_breach_listed opening_listed first_record first_breach_of
+unfolding states_on_lists
 base_keeps_the_rules = first_breach_of_records base ∙ refl
 
 pub a_dedicated_path_of_two : ADedicatedPathOfTwo
-unfolding first_breach_listed opening_listed first_record first_breach_of
+unfolding states_on_lists
 a_dedicated_path_of_two = first_breach_of_records two_on_a_dedicated_path ∙ refl
 
 pub a_unit_on_nine_paths : AUnitOnNinePaths
-unfolding first_breach_listed opening_listed first_record first_breach_of
+unfolding states_on_lists
 a_unit_on_nine_paths = first_breach_of_records nine_paths ∙ refl
 
 pub a_device_of_nine_units : ADeviceOfNineUnits
-unfolding first_breach_listed opening_listed first_record first_breach_of
+unfolding states_on_lists
 a_device_of_nine_units = first_breach_of_records nine_units ∙ refl
 
 pub a_limit_of_three : ALimitOfThree
-unfolding first_breach_listed opening_listed first_record first_breach_of
+unfolding states_on_lists
 a_limit_of_three = first_breach_of_records limit_of_three ∙ refl
