@@ -204,14 +204,34 @@ pub inverse_tree_seen : (es : List ListedEdit) (s : State)
     → inverse_tree (edits_from es) s ≡ plan_from (in_row (parts_listed (inverses_listed es (listing s))))
 inverse_tree_seen es s = ap (λ fs. row (parts_of fs)) (inverses_seen es s) ∙ ap row (parts_seen (inverses_listed es (listing s)))
 
--- edits that are taken back on lists
+-- the inverse tree of edits of a state that is listed
+abbrev pub inverse_tree_listed : List ListedEdit → ListedState → ListedPlan
+inverse_tree_listed es x = in_row (parts_listed (inverses_listed es x))
+
+pub inverse_tree_is : (es : List ListedEdit) (s : State) (x : ListedState) → listing s ≡ x
+    → inverse_tree (edits_from es) s ≡ plan_from (inverse_tree_listed es x)
+inverse_tree_is es s x is = inverse_tree_seen es s ∙ ap (λ y. plan_from (inverse_tree_listed es y)) is
+
+-- edits of one state that are taken back in another, which leads to a third
+pub taken_back_at : (es : List ListedEdit) (s u t : State) (x y z : ListedState) → listing s ≡ x → listing u ≡ y → listing t ≡ z
+    → meaning_listed (inverse_tree_listed es x) y ≡ Ok (record { state = z; edits = edits_from (inverses_listed es x) })
+    → reached (meaning (inverse_tree (edits_from es) s) u) ≡ Some t
+taken_back_at es s u t x y z is_x is_y is_z computed =
+    let p = inverse_tree_listed es x in
+    let inverse = edits_from (inverses_listed es x) in
+    ap (λ tree. reached (meaning tree u)) (inverse_tree_is es s x is_x)
+    ∙ ap reached (accepted_as (meaning (plan_from p) u) t inverse
+    (meaning_seen p u ∙ ap (meaning_listed p) is_y ∙ computed ∙ sym (λ i. Ok (record { state = is_z i; edits = inverse }))))
+
+-- edits that are taken back directly
 pub taken_back : (es : List ListedEdit) (s : State) (x : ListedState) → listing s ≡ x
-    → meaning_listed (in_row (parts_listed (inverses_listed es x))) (edited_all_listed es x) ≡ Ok (record { state = x; edits = edits_from (inverses_listed es x) })
+    → meaning_listed (inverse_tree_listed es x) (edited_all_listed es x) ≡ Ok (record { state = x; edits = edits_from (inverses_listed es x) })
     → reached (meaning (inverse_tree (edits_from es) s) (edited_by_all (edits_from es) s)) ≡ Some s
 taken_back es s x is computed =
-    let p = in_row (parts_listed (inverses_listed es x)) in
-    let t = edited_by_all (edits_from es) s in
-    ap (λ tree. reached (meaning tree t)) (inverse_tree_seen es s ∙ ap (λ y. plan_from (in_row (parts_listed (inverses_listed es y)))) is)
-    ∙ ap reached (accepted_as (meaning (plan_from p) t) s (edits_from (inverses_listed es x))
-    (meaning_seen p t ∙ ap (meaning_listed p) (edited_all_is es s x is) ∙ computed
-    ∙ sym (λ i. Ok (record { state = is i; edits = edits_from (inverses_listed es x) }))))
+    taken_back_at es s (edited_by_all (edits_from es) s) s x (edited_all_listed es x) x is (edited_all_is es s x is) is computed
+
+-- edits of one state that can't be taken back in another
+pub inverse_refused : (es : List ListedEdit) (why : Refused) (s u : State) (x y : ListedState) → listing s ≡ x → listing u ≡ y
+    → meaning_listed (inverse_tree_listed es x) y ≡ Err why → meaning (inverse_tree (edits_from es) s) u ≡ Err why
+inverse_refused es why s u x y is_x is_y computed =
+    ap (λ tree. meaning tree u) (inverse_tree_is es s x is_x) ∙ meaning_refused (inverse_tree_listed es x) why u y is_y computed

@@ -1,5 +1,5 @@
 -- Changes of the example deck, computed on states as lists.
-use Rattle.std.proofs.Common.{◌≡◌, ℕ, true, None, List, [], ◌∷◌, refl, ap, ◌∙◌}
+use Rattle.std.proofs.Common.{◌≡◌, ℕ, zero, suc, true, None, List, [], ◌∷◌, refl, ap, ◌∙◌}
 use Rattle.iocm_types.specs.declared.sub_id.SubId.{SubId}
 use Rattle.iocm_types.specs.Key.{key_cmp}
 use Rattle.iocm_model.specs.Configuration.{keyed, configuration_of}
@@ -15,13 +15,13 @@ use Rattle.iocm_types.specs.declared.key.Key.{Key}
 use Rattle.iocm_types.specs.declared.key.Key.TheVariants as key
 use Rattle.iocm_types.specs.declared.order.Order.TheVariants as orders
 use Rattle.iocm_model.specs.Examples.{place_of}
-use Rattle.iocm_model.specs.ChangeExamples.{started_at, enabled_at, base_started, base_ended, base_tested, base_enabled, ANumberComesAlong, Keys, ABusySubchannel, PendingStatus, AnExchange, NodesOfBreaches, WhereRulesHold, AfterAGroup, EmptyNodes, APathComesOnline, APathListIsTurned, base_opened, subchannel, device_on_1000, device_key, ADeviceComesIn, ANumberIsUsedAgain}
+use Rattle.iocm_model.specs.ChangeExamples.{LimitsOfTrees, TakenBackLater, base_grown, started_elsewhere, started_there, started_at, enabled_at, base_started, base_ended, base_tested, base_enabled, ANumberComesAlong, Keys, ABusySubchannel, PendingStatus, AnExchange, NodesOfBreaches, WhereRulesHold, AfterAGroup, EmptyNodes, APathComesOnline, APathListIsTurned, base_opened, subchannel, device_on_1000, device_key, ADeviceComesIn, ANumberIsUsedAgain}
 use Rattle.iocm_model.proofs.OnLists.{states_on_lists, on_lists}
 use Rattle.iocm_model.proofs.ListedMaps.{put_all}
 use Rattle.iocm_model.proofs.ListedViews.{entries-configuration_of}
 use Rattle.iocm_model.proofs.ListedStates.{ListedState, listing, opened_listed, opened_seen, live_at_is, seen_at_is, record_at_is, answer_is, stepped_is, stepped_listed, ListedEdit}
-use Rattle.iocm_model.proofs.ListedEffects.{edited_all_is, put_back, edits_cells_are}
-use Rattle.iocm_model.proofs.ListedTrees.{ListedPlan, one, in_row, in_group, in_choose, no_parts, and_part, meaning_is, meaning_refused, parts_listed, taken_back}
+use Rattle.iocm_model.proofs.ListedEffects.{edited_all_listed, edited_all_is, put_back, edits_cells_are}
+use Rattle.iocm_model.proofs.ListedTrees.{ListedPlan, ListedPlans, one, in_row, in_group, in_choose, no_parts, and_part, meaning_is, meaning_refused, parts_listed, taken_back, taken_back_at, inverse_refused}
 
 -- the example deck, opened, as lists
 unfoldable base_listing : ListedState
@@ -202,6 +202,46 @@ unfolding on_lists base_listing
 empty_nodes = record {
   group = meaning_is (in_group no_parts) [] base_opened base_listing base_is refl;
   choose = meaning_refused (in_choose no_parts) _ base_opened base_listing base_is refl;
+}
+
+abbrev nested_listed : ℕ → ListedPlan
+nested_listed zero = in_row no_parts
+nested_listed (suc k) = in_row (and_part (nested_listed k) no_parts)
+
+abbrev times_listed : ℕ → ListedPlan → ListedPlans
+times_listed zero p = no_parts
+times_listed (suc k) p = and_part p (times_listed k p)
+
+abbrev rows_listed_of : ℕ → ℕ → ListedPlan
+rows_listed_of many each = in_row (times_listed many (in_row (times_listed each (in_row no_parts))))
+
+pub limits_of_trees : LimitsOfTrees
+unfolding on_lists base_listing
+limits_of_trees = record {
+  deep = meaning_is (nested_listed 31) [] base_opened base_listing base_is refl;
+  too_deep = meaning_refused (nested_listed 32) _ base_opened base_listing base_is refl;
+  wide = meaning_is (rows_listed_of 64 64) [] base_opened base_listing base_is refl;
+  too_wide = meaning_refused (rows_listed_of 17 241) _ base_opened base_listing base_is refl;
+}
+
+-- the states after the device has come in
+unfoldable grown_listing : ListedState
+grown_listing = edited_all_listed add_0fff_listed base_listing
+
+base_grown_is : listing base_grown ≡ grown_listing
+unfolding base_grown grown_listing
+base_grown_is = edited_all_is add_0fff_listed base_opened base_listing base_is
+
+started_in_grown : (x : SubId) → listing (started_at x base_grown) ≡ started_listed x grown_listing
+started_in_grown x = started_is x base_grown grown_listing base_grown_is
+
+pub taken_back_later : TakenBackLater
+unfolding on_lists base_listing started_listing grown_listing started_elsewhere started_there
+taken_back_later = record {
+  elsewhere = taken_back_at add_0fff_listed base_opened started_elsewhere base_started base_listing (started_listed (subchannel 1 0) grown_listing) started_listing
+      base_is (started_in_grown (subchannel 1 0)) base_started_is refl;
+  there = inverse_refused add_0fff_listed _ base_opened started_there base_listing (started_listed (subchannel 1 4) grown_listing)
+      base_is (started_in_grown (subchannel 1 4)) refl;
 }
 
 unfoldable enabled_listing : ListedState

@@ -5,7 +5,7 @@ use Rattle.iocm_model.specs.Record.{Rec}
 use Rattle.iocm_model.specs.Configuration.{keyed, configuration_of}
 use Rattle.iocm_model.specs.Numbering.{opening}
 use Rattle.iocm_model.specs.BaseDeck.{base}
-use Rattle.iocm_model.specs.RuleExamples.{first_breach_at_opening, two_on_a_dedicated_path, nine_paths, nine_units, limit_of_three, BaseKeepsTheRules, ADedicatedPathOfTwo, AUnitOnNinePaths, ADeviceOfNineUnits, ALimitOfThree}
+use Rattle.iocm_model.specs.RuleExamples.{first_breach_at_opening, two_on_a_dedicated_path, nine_paths, nine_units, limit_of_three, BaseKeepsTheRules, ADedicatedPathOfTwo, AUnitOnNinePaths, ADeviceOfNineUnits, ALimitOfThree, TheOtherRules, name_used_again, path_of_nobody, online_without_access, online_to_two, no_path, one_path_twice, one_link, range_past_the_end, address_out_of_range, address_used_again, path_by_two_units, candidate_is_nobody, answered_by_two}
 use Rattle.iocm_model.proofs.OnLists.{states_on_lists}
 use Rattle.iocm_model.proofs.ListedMaps.{put_all}
 use Rattle.iocm_model.proofs.ListedViews.{entries-configuration_of, opening_listed, opening_seen}
@@ -36,3 +36,21 @@ a_device_of_nine_units = first_breach_of_records nine_units ∙ refl
 pub a_limit_of_three : ALimitOfThree
 unfolding states_on_lists
 a_limit_of_three = first_breach_of_records limit_of_three ∙ refl
+
+pub the_other_rules : TheOtherRules
+unfolding states_on_lists
+the_other_rules = record {
+  v1 = first_breach_of_records name_used_again;
+  v2 = first_breach_of_records path_of_nobody;
+  v4_access = first_breach_of_records online_without_access;
+  v4_exclusive = first_breach_of_records online_to_two;
+  v5_none = first_breach_of_records no_path;
+  v5_twice = first_breach_of_records one_path_twice;
+  v6 = first_breach_of_records one_link;
+  v7 = first_breach_of_records range_past_the_end;
+  v9 = first_breach_of_records address_out_of_range;
+  v10 = first_breach_of_records address_used_again;
+  v11 = first_breach_of_records path_by_two_units;
+  v12 = first_breach_of_records candidate_is_nobody;
+  v14 = first_breach_of_records answered_by_two;
+}

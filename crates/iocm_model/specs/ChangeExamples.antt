@@ -1,5 +1,5 @@
 -- Worked examples of change, on the example deck as it is opened, as they are stated by hand.
-use Rattle.std.specs.Prelude.{◌≡◌, ℕ, true, List, [], ◌∷◌, None, Some, Ok, Err}
+use Rattle.std.specs.Prelude.{◌≡◌, ℕ, zero, suc, true, List, [], ◌∷◌, None, Some, Ok, Err}
 use Rattle.std.specs.FinMap.{get, entries, empty}
 use Rattle.iocm_types.specs.declared.answer.Answer.TheVariants as answers
 use Rattle.iocm_types.specs.declared.key.Key.{Key}
@@ -11,14 +11,14 @@ use Rattle.iocm_types.specs.declared.order.Io.TheVariants as io
 use Rattle.iocm_types.specs.declared.refused.At.{At}
 use Rattle.iocm_types.specs.declared.refused.At.TheVariants as at
 use Rattle.iocm_types.specs.declared.rule.Rule.{Rule}
-use Rattle.iocm_types.specs.declared.rule.Rule.TheVariants.{V5, B1, E1, E2, E3, E4}
+use Rattle.iocm_types.specs.declared.rule.Rule.TheVariants.{V5, B1, E1, E2, E3, E4, C1, C2}
 use Rattle.iocm_types.specs.declared.sub_id.SubId.{SubId}
 use Rattle.iocm_model.specs.Record.{Rec, device}
 use Rattle.iocm_model.specs.Configuration.{configuration_of}
 use Rattle.iocm_model.specs.State.{State, seen_in, opened}
 use Rattle.iocm_model.specs.Edit.{Action, add, delete, modify, Edit}
 use Rattle.iocm_model.specs.Effect.{values_in, written, edited_by_all, cells_of_edits}
-use Rattle.iocm_model.specs.Tree.{Plan, leaf, row, group, choose, none, part}
+use Rattle.iocm_model.specs.Tree.{Plan, Plans, leaf, row, group, choose, none, part}
 use Rattle.iocm_model.specs.InverseTree.{parts_of, inverse_tree, reached}
 use Rattle.iocm_model.specs.Meaning.{meaning}
 use Rattle.iocm_model.specs.Step.{order, device_end, stepped, answer_in}
@@ -178,6 +178,41 @@ AfterAGroup = IsRefused (row (part (group (parts_of one_for_another)) (part (lea
 pub record EmptyNodes : Type 0 where
   pub group : Performs (group none) [] base_opened
   pub choose : IsRefused (choose none) E3 0 at.Nothing base_opened
+
+-- Rows in one another, and Rows of empty Rows beside one another
+abbrev pub nested : ℕ → Plan
+nested zero = row none
+nested (suc k) = row (part (nested k) none)
+
+abbrev pub times : ℕ → Plan → Plans
+times zero p = none
+times (suc k) p = part p (times k p)
+
+abbrev pub rows_of_rows : ℕ → ℕ → Plan
+rows_of_rows many each = row (times many (row (times each (row none))))
+
+-- depth 32 and 4096 leaves are accepted, and one more of either is refused, with no node
+pub record LimitsOfTrees : Type 0 where
+  pub deep : Performs (nested 31) [] base_opened
+  pub too_deep : meaning (nested 32) base_opened ≡ Err (record { rule = C1; node = None; at = at.Nothing })
+  pub wide : Performs (rows_of_rows 64 64) [] base_opened
+  pub too_wide : meaning (rows_of_rows 17 241) base_opened ≡ Err (record { rule = C2; node = None; at = at.Nothing })
+
+-- a device has come in, and then LPA starts its subchannel of 1000, or that of the new device
+unfoldable pub base_grown : State
+base_grown = edited_by_all (add_0fff ∷ []) base_opened
+
+unfoldable pub started_elsewhere : State
+started_elsewhere = started_at (subchannel 1 0) base_grown
+
+unfoldable pub started_there : State
+started_there = started_at (subchannel 1 4) base_grown
+
+-- an edit is taken back later, and the live records that it didn't alter are kept as they are then; where one that it altered is
+-- busy, that is refused, at the leaf of the inverse tree
+pub record TakenBackLater : Type 0 where
+  pub elsewhere : reached (meaning (inverse_tree (add_0fff ∷ []) base_opened) started_elsewhere) ≡ Some base_started
+  pub there : IsRefused (inverse_tree (add_0fff ∷ []) base_opened) B1 1 (at.Subchannel (subchannel 1 4)) started_there
 
 -- LPB's subchannel of 1000 is enabled, with path 51 alone in its logical-path mask
 unfoldable pub base_enabled : State

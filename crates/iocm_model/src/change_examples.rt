@@ -1,6 +1,6 @@
-ghost use Rattle.iocm_model.specs.RuleExamples.{BaseKeepsTheRules, ADedicatedPathOfTwo, AUnitOnNinePaths, ADeviceOfNineUnits, ALimitOfThree};
+ghost use Rattle.iocm_model.specs.RuleExamples.{BaseKeepsTheRules, ADedicatedPathOfTwo, AUnitOnNinePaths, ADeviceOfNineUnits, ALimitOfThree, TheOtherRules};
 ghost use Rattle.iocm_model.specs.ChangeExamples.{ADeviceComesIn, ANumberIsUsedAgain, ANumberComesAlong, Keys, ABusySubchannel, PendingStatus};
-ghost use Rattle.iocm_model.specs.ChangeExamples.{AnExchange, NodesOfBreaches, WhereRulesHold, AfterAGroup, EmptyNodes, APathComesOnline, APathListIsTurned};
+ghost use Rattle.iocm_model.specs.ChangeExamples.{AnExchange, NodesOfBreaches, WhereRulesHold, AfterAGroup, EmptyNodes, LimitsOfTrees, TakenBackLater, APathComesOnline, APathListIsTurned};
 
 /// Rules and the first breach, on the example deck and decks that break one rule before others: each is computed
 /// from the definitions.
@@ -10,6 +10,7 @@ pub fn rules_are_as_worked()
     ensures nine_paths { AUnitOnNinePaths }
     ensures nine_units { ADeviceOfNineUnits }
     ensures limit { ALimitOfThree }
+    ensures others { TheOtherRules }
 {}
 
 /// Numbers that devices get and free by edits of the example deck, and the subchannels that are altered, computed.
@@ -33,6 +34,8 @@ pub fn trees_are_as_worked()
     ensures rules { WhereRulesHold }
     ensures after_a_group { AfterAGroup }
     ensures empty { EmptyNodes }
+    ensures limits { LimitsOfTrees }
+    ensures taken_back { TakenBackLater }
 {}
 
 /// What an edit leaves of a subchannel that is enabled, where its available paths or its path list change, computed.
