@@ -13,6 +13,10 @@ unfolding gap_from first_record first_breach_of opening_listed renumbered_listed
 states_on_lists = Unit {0}
 
 -- edits, their effects and change trees
+unfoldable pub edits_on_lists : Type 0
+unfolding states_on_lists edited_listed refusal_listed inverse_listed edited_all_listed inverses_listed edit_cells_listed edits_cells_listed
+edits_on_lists = Unit {0}
+
 unfoldable pub on_lists : Type 0
-unfolding states_on_lists edited_listed refusal_listed inverse_listed values_listed written_listed edit_cells_listed edited_all_listed edits_cells_listed inverses_listed mean_listed meaning_listed
+unfolding edits_on_lists values_listed written_listed mean_listed meaning_listed
 on_lists = Unit {0}

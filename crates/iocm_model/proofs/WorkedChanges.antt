@@ -32,10 +32,12 @@ base_listing = record {
       ∷ (subchannel 2 0, fresh 0xC0) ∷ (subchannel 2 1, fresh 0xC0) ∷ (subchannel 2 2, fresh 0xC0) ∷ (subchannel 2 3, fresh 0xC0) ∷ [];
 }
 
+-- these are the lists at opening of the example deck
 base_computed : opened_listed (put_all key_cmp (keyed base)) ≡ base_listing
 unfolding states_on_lists base_listing
 base_computed = refl
 
+-- and those of its state at opening
 base_is : listing base_opened ≡ base_listing
 unfolding base_opened
 base_is = opened_seen (configuration_of base) ∙ ap opened_listed (entries-configuration_of base) ∙ base_computed
@@ -44,6 +46,7 @@ base_is = opened_seen (configuration_of base) ∙ ap opened_listed (entries-conf
 abbrev plainly : Action → ListedEdit
 plainly a = record { action = a; places = []; kept = [] }
 
+-- an add, a delete and a modify that bring nothing along
 abbrev plain_add : Rec → ListedEdit
 plain_add r = plainly (add r)
 
@@ -60,6 +63,7 @@ the_0fff = plain_add (device_on_1000 0x0FFF 0x0F)
 abbrev add_0fff_listed : List ListedEdit
 add_0fff_listed = the_0fff ∷ []
 
+-- a device that comes in
 pub a_device_comes_in : ADeviceComesIn
 unfolding on_lists base_listing
 a_device_comes_in = record {
@@ -70,9 +74,11 @@ a_device_comes_in = record {
   taken_back = taken_back add_0fff_listed base_opened base_listing base_is refl;
 }
 
+-- a device that leaves, and one that comes in
 abbrev one_for_another_listed : List ListedEdit
 one_for_another_listed = plain_delete (device_key 0x1001) ∷ plain_add (device_on_1000 0x2000 0x04) ∷ []
 
+-- a number that is used again
 pub a_number_is_used_again : ANumberIsUsedAgain
 unfolding on_lists base_listing
 a_number_is_used_again = record {
@@ -81,9 +87,11 @@ a_number_is_used_again = record {
   taken_back = taken_back one_for_another_listed base_opened base_listing base_is refl;
 }
 
+-- a device with a number
 abbrev with_number_listed : ℕ → ListedEdit
 with_number_listed number = record { action = add (device_on_1000 0x2000 0x04); places = place_of 0x2000 number ∷ []; kept = [] }
 
+-- a number that comes along
 pub a_number_comes_along : ANumberComesAlong
 unfolding on_lists base_listing
 a_number_comes_along = record {
@@ -92,6 +100,7 @@ a_number_comes_along = record {
   held = meaning_refused (one (with_number_listed 3)) _ base_opened base_listing base_is refl;
 }
 
+-- keys that are there, and that are missing
 pub keys_there_and_missing : Keys
 unfolding on_lists base_listing
 keys_there_and_missing = record {
@@ -104,19 +113,25 @@ keys_there_and_missing = record {
 abbrev enable_step : ℕ → Step
 enable_step lpm = order (orders.Modify (record { enabled = true; lpm = lpm; parm = 0 }))
 
+-- a subchannel is enabled and started, on lists
 abbrev started_listed : SubId → ListedState → ListedState
 started_listed x y = stepped_listed x (order orders.Start) (stepped_listed x (enable_step 0x80) y)
 
+-- a subchannel is started in a state that is listed
 started_is : (x : SubId) (s : State) (y : ListedState) → listing s ≡ y → listing (started_at x s) ≡ started_listed x y
-started_is x s y is = stepped_is x (order orders.Start) (enabled_at x 0x80 s) (stepped_listed x (enable_step 0x80) y) (stepped_is x (enable_step 0x80) s y is)
+started_is x s y is =
+    stepped_is x (order orders.Start) (enabled_at x 0x80 s) (stepped_listed x (enable_step 0x80) y) (stepped_is x (enable_step 0x80) s y is)
 
+-- the lists once LPA has started its subchannel of 1000
 unfoldable started_listing : ListedState
 started_listing = started_listed (subchannel 1 0) base_listing
 
+-- these are those of the state
 base_started_is : listing base_started ≡ started_listing
 unfolding base_started started_listing
 base_started_is = started_is (subchannel 1 0) base_opened base_listing base_is
 
+-- a subchannel that is busy
 pub a_busy_subchannel : ABusySubchannel
 unfolding on_lists base_listing started_listing
 a_busy_subchannel = record {
@@ -125,24 +140,30 @@ a_busy_subchannel = record {
       (plain_delete (device_key 0x1003) ∷ []) base_started started_listing base_started_is refl;
 }
 
+-- the lists once device 1001 has ended LPA's start
 unfoldable ended_listing : ListedState
 ended_listing = stepped_listed (subchannel 1 1) device_end (started_listed (subchannel 1 1) base_listing)
 
+-- these are those of the state
 base_ended_is : listing base_ended ≡ ended_listing
 unfolding base_ended ended_listing
 base_ended_is = stepped_is (subchannel 1 1) device_end (started_at (subchannel 1 1) base_opened) (started_listed (subchannel 1 1) base_listing)
     (started_is (subchannel 1 1) base_opened base_listing base_is)
 
+-- the lists once the status is taken
 unfoldable tested_listing : ListedState
 tested_listing = stepped_listed (subchannel 1 1) (order orders.Test) ended_listing
 
+-- these are those of the state
 base_tested_is : listing base_tested ≡ tested_listing
 unfolding base_tested tested_listing
 base_tested_is = stepped_is (subchannel 1 1) (order orders.Test) base_ended ended_listing base_ended_is
 
+-- device 1001 is deleted
 abbrev delete_1001 : ListedEdit
 delete_1001 = plain_delete (device_key 0x1001)
 
+-- status that is pending
 pub pending_status : PendingStatus
 unfolding on_lists base_listing ended_listing tested_listing
 pending_status = record {
@@ -151,9 +172,12 @@ pending_status = record {
   taken_back = taken_back (delete_1001 ∷ []) base_tested tested_listing base_tested_is refl;
 }
 
+-- two devices exchange their unit addresses
 abbrev exchange_listed : List ListedEdit
-exchange_listed = plain_modify (device_on_1000 0x1002 0x05) ∷ plain_modify (device_on_1000 0x1003 0x02) ∷ plain_modify (device_on_1000 0x1002 0x03) ∷ []
+exchange_listed =
+    plain_modify (device_on_1000 0x1002 0x05) ∷ plain_modify (device_on_1000 0x1003 0x02) ∷ plain_modify (device_on_1000 0x1002 0x03) ∷ []
 
+-- that they do
 pub an_exchange : AnExchange
 unfolding on_lists base_listing
 an_exchange = let after = edited_all_is exchange_listed base_opened base_listing base_is in record {
@@ -165,15 +189,18 @@ an_exchange = let after = edited_all_is exchange_listed base_opened base_listing
   taken_back = taken_back exchange_listed base_opened base_listing base_is refl;
 }
 
+-- a unit whose path isn't there is added, and deleted
 abbrev the_unit : ListedEdit
 the_unit = plain_add (unit_on 0x2000 (0x60 ∷ []) None)
 
 abbrev delete_unit : ListedEdit
 delete_unit = plain_delete (key.Unit 0x2000)
 
+-- that unit in a Group
 abbrev group_of_unit : ListedPlan
 group_of_unit = in_group (parts_listed (the_unit ∷ []))
 
+-- the nodes that a breach names
 pub nodes_of_breaches : NodesOfBreaches
 unfolding on_lists base_listing
 nodes_of_breaches = record {
@@ -184,6 +211,7 @@ nodes_of_breaches = record {
   in_last_of_choose = meaning_refused (in_choose (parts_listed (delete_unit ∷ the_unit ∷ []))) _ base_opened base_listing base_is refl;
 }
 
+-- where the rules hold in a tree
 pub where_rules_hold : WhereRulesHold
 unfolding on_lists base_listing
 where_rules_hold = record {
@@ -192,11 +220,14 @@ where_rules_hold = record {
   chosen = meaning_is (in_choose (parts_listed (the_unit ∷ the_0fff ∷ []))) (the_0fff ∷ []) base_opened base_listing base_is refl;
 }
 
+-- the node after a Group
 pub after_a_group : AfterAGroup
 unfolding on_lists base_listing
-after_a_group = meaning_refused (in_row (and_part (in_group (parts_listed one_for_another_listed)) (and_part (one (plain_add (device_on_1000 0x1000 0x04))) no_parts)))
+after_a_group = meaning_refused
+    (in_row (and_part (in_group (parts_listed one_for_another_listed)) (and_part (one (plain_add (device_on_1000 0x1000 0x04))) no_parts)))
     _ base_opened base_listing base_is refl
 
+-- nodes without parts
 pub empty_nodes : EmptyNodes
 unfolding on_lists base_listing
 empty_nodes = record {
@@ -204,6 +235,7 @@ empty_nodes = record {
   choose = meaning_refused (in_choose no_parts) _ base_opened base_listing base_is refl;
 }
 
+-- Rows in one another, and Rows of empty Rows
 abbrev nested_listed : ℕ → ListedPlan
 nested_listed zero = in_row no_parts
 nested_listed (suc k) = in_row (and_part (nested_listed k) no_parts)
@@ -215,6 +247,7 @@ times_listed (suc k) p = and_part p (times_listed k p)
 abbrev rows_listed_of : ℕ → ℕ → ListedPlan
 rows_listed_of many each = in_row (times_listed many (in_row (times_listed each (in_row no_parts))))
 
+-- the limits of depth and leaves
 pub limits_of_trees : LimitsOfTrees
 unfolding on_lists base_listing
 limits_of_trees = record {
@@ -228,32 +261,40 @@ limits_of_trees = record {
 unfoldable grown_listing : ListedState
 grown_listing = edited_all_listed add_0fff_listed base_listing
 
+-- these are those of the state
 base_grown_is : listing base_grown ≡ grown_listing
 unfolding base_grown grown_listing
 base_grown_is = edited_all_is add_0fff_listed base_opened base_listing base_is
 
+-- a subchannel is started after the device has come in
 started_in_grown : (x : SubId) → listing (started_at x base_grown) ≡ started_listed x grown_listing
 started_in_grown x = started_is x base_grown grown_listing base_grown_is
 
+-- an edit that is taken back later
 pub taken_back_later : TakenBackLater
 unfolding on_lists base_listing started_listing grown_listing started_elsewhere started_there
 taken_back_later = record {
-  elsewhere = taken_back_at add_0fff_listed base_opened started_elsewhere base_started base_listing (started_listed (subchannel 1 0) grown_listing) started_listing
+  elsewhere = taken_back_at add_0fff_listed base_opened started_elsewhere base_started
+      base_listing (started_listed (subchannel 1 0) grown_listing) started_listing
       base_is (started_in_grown (subchannel 1 0)) base_started_is refl;
   there = inverse_refused add_0fff_listed _ base_opened started_there base_listing (started_listed (subchannel 1 4) grown_listing)
       base_is (started_in_grown (subchannel 1 4)) refl;
 }
 
+-- the lists once LPB has enabled its subchannel of 1000
 unfoldable enabled_listing : ListedState
 enabled_listing = stepped_listed (subchannel 2 0) (enable_step 0x40) base_listing
 
+-- these are those of the state
 base_enabled_is : listing base_enabled ≡ enabled_listing
 unfolding base_enabled enabled_listing
 base_enabled_is = stepped_is (subchannel 2 0) (enable_step 0x40) base_opened base_listing base_is
 
+-- path 51 comes online to LPB
 abbrev the_online : ListedEdit
 the_online = plain_add (online_record 0x51 lpb)
 
+-- a path that comes online
 pub a_path_comes_online : APathComesOnline
 unfolding on_lists base_listing enabled_listing
 a_path_comes_online = let after = edited_all_is (the_online ∷ []) base_enabled enabled_listing base_enabled_is in record {
@@ -264,9 +305,11 @@ a_path_comes_online = let after = edited_all_is (the_online ∷ []) base_enabled
   afterwards = answer_is _ _ (subchannel 2 0) (order orders.Start) after;
 }
 
+-- the unit's paths are turned
 abbrev the_turn : ListedEdit
 the_turn = plain_modify (unit_on 0x1000 (0x51 ∷ 0x50 ∷ []) None)
 
+-- a path list that is turned
 pub a_path_list_is_turned : APathListIsTurned
 unfolding on_lists base_listing enabled_listing
 a_path_list_is_turned = let after = edited_all_is (the_turn ∷ []) base_enabled enabled_listing base_enabled_is in record {

@@ -17,26 +17,32 @@ pub first_breach_of_records : (rs : List Rec)
 first_breach_of_records rs = let c = configuration_of rs in first_breach_seen c (opening c)
     ∙ (λ i. first_breach_listed (entries-configuration_of rs i) ((opening_seen c ∙ ap opening_listed (entries-configuration_of rs)) i))
 
+-- the example deck keeps the rules
 pub base_keeps_the_rules : BaseKeepsTheRules
 unfolding states_on_lists
 base_keeps_the_rules = first_breach_of_records base ∙ refl
 
+-- V3
 pub a_dedicated_path_of_two : ADedicatedPathOfTwo
 unfolding states_on_lists
 a_dedicated_path_of_two = first_breach_of_records two_on_a_dedicated_path ∙ refl
 
+-- V5
 pub a_unit_on_nine_paths : AUnitOnNinePaths
 unfolding states_on_lists
 a_unit_on_nine_paths = first_breach_of_records nine_paths ∙ refl
 
+-- V8
 pub a_device_of_nine_units : ADeviceOfNineUnits
 unfolding states_on_lists
 a_device_of_nine_units = first_breach_of_records nine_units ∙ refl
 
+-- V13
 pub a_limit_of_three : ALimitOfThree
 unfolding states_on_lists
 a_limit_of_three = first_breach_of_records limit_of_three ∙ refl
 
+-- the other rules
 pub the_other_rules : TheOtherRules
 unfolding states_on_lists
 the_other_rules = record {

@@ -46,7 +46,8 @@ modified r = plain (modify r)
 
 -- a device of set 0 on unit 1000 with this unit address
 abbrev pub device_on_1000 : ℕ → ℕ → Rec
-device_on_1000 number address = device (record { set = 0; number = number; units = 0x1000 ∷ []; unit_address = address; candidates = None; carried = [] })
+device_on_1000 number address =
+    device (record { set = 0; number = number; units = 0x1000 ∷ []; unit_address = address; candidates = None; carried = [] })
 
 -- the key of a device of set 0
 abbrev pub device_key : ℕ → Key
@@ -101,9 +102,13 @@ pub record ANumberComesAlong : Type 0 where
       ≡ place_of 0x1000 0 ∷ place_of 0x1001 1 ∷ place_of 0x1002 2 ∷ place_of 0x1003 3 ∷ place_of 0x2000 7 ∷ []
   pub held : IsRefused (leaf (with_number 3)) E4 0 (at.Key (device_key 0x2000)) base_opened
 
+-- device 1000 once more, with another unit address
+abbrev pub add_1000 : Edit
+add_1000 = added (device_on_1000 0x1000 0x04)
+
 -- a key that is there, on add; one that isn't, on delete and on modify
 pub record Keys : Type 0 where
-  pub there : IsRefused (leaf (added (device_on_1000 0x1000 0x04))) E1 0 (at.Key (device_key 0x1000)) base_opened
+  pub there : IsRefused (leaf add_1000) E1 0 (at.Key (device_key 0x1000)) base_opened
   pub missing : IsRefused (leaf (deleted (key.Unit 0x2000))) E2 0 (at.Key (key.Unit 0x2000)) base_opened
   pub missing_device : IsRefused (leaf (modified (device_on_1000 0x2000 0x04))) E2 0 (at.Key (device_key 0x2000)) base_opened
 
@@ -172,7 +177,8 @@ pub record WhereRulesHold : Type 0 where
 
 -- nodes are counted in preorder: a Group of two is nodes 1 to 3 here, so that the part after it is node 4
 abbrev pub AfterAGroup : Type 0
-AfterAGroup = IsRefused (row (part (group (parts_of one_for_another)) (part (leaf (added (device_on_1000 0x1000 0x04))) none))) E1 4 (at.Key (device_key 0x1000)) base_opened
+AfterAGroup = IsRefused
+    (row (part (group (parts_of one_for_another)) (part (leaf add_1000) none))) E1 4 (at.Key (device_key 0x1000)) base_opened
 
 -- a Group without parts is accepted, and performs nothing; a Choose without parts is refused
 pub record EmptyNodes : Type 0 where

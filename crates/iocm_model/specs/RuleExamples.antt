@@ -27,8 +27,14 @@ abbrev pub shared_path : ℕ → Rec
 shared_path number = path_record number (lpa ∷ lpb ∷ []) (lpa ∷ lpb ∷ [])
 
 abbrev pub unit_on : ℕ → List ℕ → Option ℕ → Rec
-unit_on number paths cuadd =
-    unit (record { number = number; paths = map css_path paths; ranges = record { start = 0; count = 16 } ∷ []; links = []; cuadd = cuadd; carried = [] })
+unit_on number paths cuadd = unit (record {
+  number = number;
+  paths = map css_path paths;
+  ranges = record { start = 0; count = 16 } ∷ [];
+  links = [];
+  cuadd = cuadd;
+  carried = [];
+})
 
 -- the unit 1000 and this, on path 50 alone and with this CUADD
 abbrev pub unit_apart : ℕ → Rec
