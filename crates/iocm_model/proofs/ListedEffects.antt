@@ -149,6 +149,17 @@ put_back es s x is computed =
     (edited_all_is es s x is i))
     ∙ computed ∙ sym is)
 
+-- what edits do is what their effect writes
+pub replayed : (es : List ListedEdit) (s : State) (x : ListedState) → listing s ≡ x → written_listed (effect_listed es x) x ≡ edited_all_listed es x
+    → written (effect_of (edits_from es) s) s ≡ edited_by_all (edits_from es) s
+replayed es s x is computed = same_by_listing (written (effect_of (edits_from es) s) s) (edited_by_all (edits_from es) s)
+    (written_seen (effect_of (edits_from es) s) s ∙ (λ i. written_listed ((effect_seen es s ∙ ap (effect_listed es) is) i) (is i))
+    ∙ computed ∙ sym (edited_all_is es s x is))
+
+-- the effect of edits of a state that is listed
+pub effect_is : (es : List ListedEdit) (s : State) (x : ListedState) → listing s ≡ x → effect_listing (effect_of (edits_from es) s) ≡ effect_listed es x
+effect_is es s x is = effect_seen es s ∙ ap (effect_listed es) is
+
 -- the inverses of edits, the last first
 unfoldable pub inverses_listed : List ListedEdit → ListedState → List ListedEdit
 inverses_listed [] x = []

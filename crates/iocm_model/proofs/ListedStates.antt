@@ -269,6 +269,10 @@ live_at_is s y x is = get-entries s.lives x ∙ ap (λ (z : ListedState). find s
 pub record_at_is : (s : State) (y : ListedState) (key : Key) → listing s ≡ y → get s.config key ≡ find key_cmp key y.records
 record_at_is s y key is = get-entries s.config key ∙ ap (λ (z : ListedState). find key_cmp key z.records) is
 
+-- the number of a place, in a state that is listed
+pub number_at_is : (s : State) (y : ListedState) (p : Place) → listing s ≡ y → get s.numbers p ≡ find place_cmp p y.numbers
+number_at_is s y p is = get-entries s.numbers p ∙ ap (λ (z : ListedState). find place_cmp p z.numbers) is
+
 -- the answer to a step
 unfoldable pub answer_listed : ListedState → SubId → Step → Answer
 answer_listed x at step = step_answer step (subchannel_listed x at)

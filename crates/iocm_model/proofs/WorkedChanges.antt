@@ -1,11 +1,12 @@
 -- Changes of the example deck, computed on states as lists.
-use Rattle.std.proofs.Common.{◌≡◌, ℕ, zero, suc, true, None, List, [], ◌∷◌, refl, ap, ◌∙◌}
+use Rattle.std.proofs.Common.{◌≡◌, ℕ, Some, zero, suc, true, None, List, [], ◌∷◌, refl, ap, ◌∙◌}
 use Rattle.iocm_types.specs.declared.sub_id.SubId.{SubId}
+use Rattle.iocm_types.specs.declared.place.Place.{Place}
 use Rattle.iocm_types.specs.Key.{key_cmp}
 use Rattle.iocm_model.specs.Configuration.{keyed, configuration_of}
 use Rattle.iocm_model.specs.State.{State}
 use Rattle.iocm_model.specs.Edit.{Action, add, delete, modify}
-use Rattle.iocm_model.specs.Effect.{Cells}
+use Rattle.iocm_model.specs.Effect.{Effect, effect_of, Cells}
 use Rattle.iocm_model.specs.Orders.{fresh}
 use Rattle.iocm_model.specs.BaseDeck.{base, lpb, online_record}
 use Rattle.iocm_model.specs.RuleExamples.{unit_on}
@@ -15,12 +16,12 @@ use Rattle.iocm_types.specs.declared.key.Key.{Key}
 use Rattle.iocm_types.specs.declared.key.Key.TheVariants as key
 use Rattle.iocm_types.specs.declared.order.Order.TheVariants as orders
 use Rattle.iocm_model.specs.Examples.{place_of}
-use Rattle.iocm_model.specs.ChangeExamples.{LimitsOfTrees, TakenBackLater, base_grown, started_elsewhere, started_there, started_at, enabled_at, base_started, base_ended, base_tested, base_enabled, ANumberComesAlong, Keys, ABusySubchannel, PendingStatus, AnExchange, NodesOfBreaches, WhereRulesHold, AfterAGroup, EmptyNodes, APathComesOnline, APathListIsTurned, base_opened, subchannel, device_on_1000, device_key, ADeviceComesIn, ANumberIsUsedAgain}
+use Rattle.iocm_model.specs.ChangeExamples.{Writes, online_51, delete_1001, enabled_with, LiveRecordsComeAlong, AnInverse, Effects, LimitsOfTrees, TakenBackLater, base_grown, started_elsewhere, started_there, started_at, enabled_at, base_started, base_ended, base_tested, base_enabled, ANumberComesAlong, Keys, ABusySubchannel, PendingStatus, AnExchange, NodesOfBreaches, WhereRulesHold, AfterAGroup, EmptyNodes, APathComesOnline, APathListIsTurned, base_opened, subchannel, device_on_1000, device_key, ADeviceComesIn, ANumberIsUsedAgain}
 use Rattle.iocm_model.proofs.OnLists.{states_on_lists, on_lists}
 use Rattle.iocm_model.proofs.ListedMaps.{put_all}
 use Rattle.iocm_model.proofs.ListedViews.{entries-configuration_of}
-use Rattle.iocm_model.proofs.ListedStates.{ListedState, listing, opened_listed, opened_seen, live_at_is, seen_at_is, record_at_is, answer_is, stepped_is, stepped_listed, ListedEdit}
-use Rattle.iocm_model.proofs.ListedEffects.{edited_all_listed, edited_all_is, put_back, edits_cells_are}
+use Rattle.iocm_model.proofs.ListedStates.{ListedState, listing, opened_listed, opened_seen, live_at_is, seen_at_is, record_at_is, number_at_is, inverse_seen, inverse_listed, edit_from, answer_is, stepped_is, stepped_listed, ListedEdit}
+use Rattle.iocm_model.proofs.ListedEffects.{ListedEffect, written_listed, effect_listed, effect_listing, effect_is, replayed, edited_all_listed, edited_all_is, put_back, edits_cells_are}
 use Rattle.iocm_model.proofs.ListedTrees.{ListedPlan, ListedPlans, one, in_row, in_group, in_choose, no_parts, and_part, meaning_is, meaning_refused, parts_listed, taken_back, taken_back_at, inverse_refused}
 
 -- the example deck, opened, as lists
@@ -87,9 +88,12 @@ a_number_is_used_again = record {
   taken_back = taken_back one_for_another_listed base_opened base_listing base_is refl;
 }
 
--- a device with a number
+-- a device with places that come along
+abbrev with_places_listed : List (Place × ℕ) → ListedEdit
+with_places_listed places = record { action = add (device_on_1000 0x2000 0x04); places = places; kept = [] }
+
 abbrev with_number_listed : ℕ → ListedEdit
-with_number_listed number = record { action = add (device_on_1000 0x2000 0x04); places = place_of 0x2000 number ∷ []; kept = [] }
+with_number_listed number = with_places_listed (place_of 0x2000 number ∷ [])
 
 -- a number that comes along
 pub a_number_comes_along : ANumberComesAlong
@@ -98,6 +102,11 @@ a_number_comes_along = record {
   accepted = meaning_is (one (with_number_listed 7)) (with_number_listed 7 ∷ []) base_opened base_listing base_is refl;
   numbers = ap (λ (y : ListedState). y.numbers) (edited_all_is (with_number_listed 7 ∷ []) base_opened base_listing base_is);
   held = meaning_refused (one (with_number_listed 3)) _ base_opened base_listing base_is refl;
+  twice = meaning_refused (one (with_places_listed (place_of 0x2000 7 ∷ place_of 0x2000 7 ∷ []))) _ base_opened base_listing base_is refl;
+  of_another = meaning_is (one (with_places_listed (place_of 0x1000 0 ∷ []))) (with_places_listed (place_of 0x1000 0 ∷ []) ∷ [])
+      base_opened base_listing base_is refl;
+  its_own = number_at_is _ _ (place_of 0x2000 0).0
+      (edited_all_is (with_places_listed (place_of 0x1000 0 ∷ []) ∷ []) base_opened base_listing base_is);
 }
 
 -- keys that are there, and that are missing
@@ -160,16 +169,16 @@ unfolding base_tested tested_listing
 base_tested_is = stepped_is (subchannel 1 1) (order orders.Test) base_ended ended_listing base_ended_is
 
 -- device 1001 is deleted
-abbrev delete_1001 : ListedEdit
-delete_1001 = plain_delete (device_key 0x1001)
+abbrev the_1001 : ListedEdit
+the_1001 = plain_delete (device_key 0x1001)
 
 -- status that is pending
 pub pending_status : PendingStatus
 unfolding on_lists base_listing ended_listing tested_listing
 pending_status = record {
-  refused = meaning_refused (one delete_1001) _ base_ended ended_listing base_ended_is refl;
-  tested = meaning_is (one delete_1001) (delete_1001 ∷ []) base_tested tested_listing base_tested_is refl;
-  taken_back = taken_back (delete_1001 ∷ []) base_tested tested_listing base_tested_is refl;
+  refused = meaning_refused (one the_1001) _ base_ended ended_listing base_ended_is refl;
+  tested = meaning_is (one the_1001) (the_1001 ∷ []) base_tested tested_listing base_tested_is refl;
+  taken_back = taken_back (the_1001 ∷ []) base_tested tested_listing base_tested_is refl;
 }
 
 -- two devices exchange their unit addresses
@@ -300,9 +309,91 @@ unfolding on_lists base_listing enabled_listing
 a_path_comes_online = let after = edited_all_is (the_online ∷ []) base_enabled enabled_listing base_enabled_is in record {
   accepted = meaning_is (one the_online) (the_online ∷ []) base_enabled enabled_listing base_enabled_is refl;
   seen = seen_at_is _ _ (subchannel 2 0) after;
+  altered = ap (λ (w : Cells). w.subchannels) (edits_cells_are (the_online ∷ []) base_enabled enabled_listing base_enabled_is);
   live = live_at_is _ _ (subchannel 2 0) after;
   before = answer_is base_enabled enabled_listing (subchannel 2 0) (order orders.Start) base_enabled_is;
   afterwards = answer_is _ _ (subchannel 2 0) (order orders.Start) after;
+}
+
+-- live records that come along
+abbrev the_online_with_lives : ListedEdit
+the_online_with_lives = record {
+  action = add (online_record 0x51 lpb);
+  places = [];
+  kept = (subchannel 1 0, enabled_with 0x40) ∷ (subchannel 2 0, enabled_with 0x40) ∷ [];
+}
+
+pub live_records_come_along : LiveRecordsComeAlong
+unfolding on_lists base_listing
+live_records_come_along = let after = edited_all_is (the_online_with_lives ∷ []) base_opened base_listing base_is in record {
+  accepted = meaning_is (one the_online_with_lives) (the_online_with_lives ∷ []) base_opened base_listing base_is refl;
+  altered = live_at_is _ _ (subchannel 2 0) after;
+  unaltered = live_at_is _ _ (subchannel 1 0) after;
+}
+
+-- an inverse
+pub an_inverse : AnInverse
+unfolding on_lists base_listing
+an_inverse = inverse_seen the_1001 base_opened ∙ ap (λ x. edit_from (inverse_listed the_1001 x)) base_is
+
+-- an effect that is listed writes what the lists have
+writes : (f : Effect) (g : ListedEffect) → effect_listing f ≡ g → Writes f g.records g.numbers g.lives
+writes f g is = record {
+  of_records = ap (λ (h : ListedEffect). h.records) is;
+  of_numbers = ap (λ (h : ListedEffect). h.numbers) is;
+  of_lives = ap (λ (h : ListedEffect). h.lives) is;
+}
+
+-- the effect of a path that comes online
+online_effect : ListedEffect
+online_effect = record {
+  records = (key.Online 0 0x51 lpb, Some (online_record 0x51 lpb)) ∷ [];
+  numbers = [];
+  lives = (subchannel 2 0, Some (fresh 0xC0)) ∷ (subchannel 2 1, Some (fresh 0xC0)) ∷ (subchannel 2 2, Some (fresh 0xC0))
+      ∷ (subchannel 2 3, Some (fresh 0xC0)) ∷ [];
+}
+
+online_computed : effect_listed (the_online ∷ []) base_listing ≡ online_effect
+unfolding on_lists base_listing online_effect
+online_computed = refl
+
+-- the effect of a device that is deleted
+deleted_effect : ListedEffect
+deleted_effect = record {
+  records = (device_key 0x1001, None) ∷ [];
+  numbers = (record { css = 0; set = 0; number = 1 }, None) ∷ [];
+  lives = (subchannel 1 1, None) ∷ (subchannel 2 1, None) ∷ [];
+}
+
+deleted_computed : effect_listed (the_1001 ∷ []) base_listing ≡ deleted_effect
+unfolding on_lists base_listing deleted_effect
+deleted_computed = refl
+
+-- the effect of one device for another, and the lists that it leads to
+another_effect : ListedEffect
+another_effect = record {
+  records = (device_key 0x1001, None) ∷ (device_key 0x2000, Some (device_on_1000 0x2000 0x04)) ∷ [];
+  numbers = (record { css = 0; set = 0; number = 1 }, Some 0x2000) ∷ [];
+  lives = (subchannel 1 1, Some (fresh 0xC0)) ∷ (subchannel 2 1, Some (fresh 0xC0)) ∷ [];
+}
+
+another_computed : effect_listed one_for_another_listed base_listing ≡ another_effect
+unfolding on_lists base_listing another_effect
+another_computed = refl
+
+replay_computed : written_listed another_effect base_listing ≡ edited_all_listed one_for_another_listed base_listing
+unfolding on_lists base_listing another_effect
+replay_computed = refl
+
+-- effects
+pub effects : Effects
+unfolding online_effect deleted_effect
+effects = record {
+  online = writes (effect_of (online_51 ∷ []) base_opened) online_effect (effect_is (the_online ∷ []) base_opened base_listing base_is ∙ online_computed);
+  deleted = writes (effect_of (delete_1001 ∷ []) base_opened) deleted_effect
+      (effect_is (the_1001 ∷ []) base_opened base_listing base_is ∙ deleted_computed);
+  replayed = replayed one_for_another_listed base_opened base_listing base_is
+      (ap (λ f. written_listed f base_listing) another_computed ∙ replay_computed);
 }
 
 -- the unit's paths are turned

@@ -5,7 +5,7 @@ use Rattle.iocm_model.specs.Record.{Rec}
 use Rattle.iocm_model.specs.Configuration.{keyed, configuration_of}
 use Rattle.iocm_model.specs.Numbering.{opening}
 use Rattle.iocm_model.specs.BaseDeck.{base}
-use Rattle.iocm_model.specs.RuleExamples.{first_breach_at_opening, two_on_a_dedicated_path, nine_paths, nine_units, limit_of_three, BaseKeepsTheRules, ADedicatedPathOfTwo, AUnitOnNinePaths, ADeviceOfNineUnits, ALimitOfThree, TheOtherRules, name_used_again, path_of_nobody, online_without_access, online_to_two, no_path, one_path_twice, one_link, range_past_the_end, address_out_of_range, address_used_again, path_by_two_units, candidate_is_nobody, answered_by_two}
+use Rattle.iocm_model.specs.RuleExamples.{first_breach_at_opening, two_on_a_dedicated_path, nine_paths, nine_units, limit_of_three, BaseKeepsTheRules, ADedicatedPathOfTwo, AUnitOnNinePaths, ADeviceOfNineUnits, ALimitOfThree, TheOtherRules, AtTheBounds, eight_paths, limit_of_four, range_to_the_end, name_used_again, path_of_nobody, online_without_access, online_to_two, no_path, one_path_twice, one_link, range_past_the_end, address_out_of_range, address_used_again, path_by_two_units, candidate_is_nobody, answered_by_two}
 use Rattle.iocm_model.proofs.OnLists.{states_on_lists}
 use Rattle.iocm_model.proofs.ListedMaps.{put_all}
 use Rattle.iocm_model.proofs.ListedViews.{entries-configuration_of, opening_listed, opening_seen}
@@ -59,4 +59,13 @@ the_other_rules = record {
   v11 = first_breach_of_records path_by_two_units;
   v12 = first_breach_of_records candidate_is_nobody;
   v14 = first_breach_of_records answered_by_two;
+}
+
+-- at the bounds
+pub at_the_bounds : AtTheBounds
+unfolding states_on_lists
+at_the_bounds = record {
+  paths = first_breach_of_records eight_paths;
+  limit = first_breach_of_records limit_of_four;
+  range = first_breach_of_records range_to_the_end;
 }

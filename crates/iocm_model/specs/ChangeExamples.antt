@@ -1,6 +1,6 @@
 -- Worked examples of change, on the example deck as it is opened, as they are stated by hand.
-use Rattle.std.specs.Prelude.{◌≡◌, ℕ, zero, suc, true, List, [], ◌∷◌, None, Some, Ok, Err}
-use Rattle.std.specs.FinMap.{get, entries, empty}
+use Rattle.std.specs.Prelude.{◌≡◌, ℕ, zero, suc, true, List, [], ◌∷◌, Option, None, Some, Ok, Err}
+use Rattle.std.specs.FinMap.{get, entries, empty, from_entries}
 use Rattle.iocm_types.specs.declared.answer.Answer.TheVariants as answers
 use Rattle.iocm_types.specs.declared.key.Key.{Key}
 use Rattle.iocm_types.specs.declared.key.Key.TheVariants as key
@@ -8,6 +8,8 @@ use Rattle.iocm_types.specs.declared.live.Phase.TheVariants.{Idle}
 use Rattle.iocm_types.specs.declared.live.Live.{Live}
 use Rattle.iocm_types.specs.declared.order.Order.TheVariants as orders
 use Rattle.iocm_types.specs.declared.order.Io.TheVariants as io
+use Rattle.iocm_types.specs.declared.place.NumberCell.{NumberCell}
+use Rattle.iocm_types.specs.declared.place.Place.{Place}
 use Rattle.iocm_types.specs.declared.refused.At.{At}
 use Rattle.iocm_types.specs.declared.refused.At.TheVariants as at
 use Rattle.iocm_types.specs.declared.rule.Rule.{Rule}
@@ -17,7 +19,8 @@ use Rattle.iocm_model.specs.Record.{Rec, device}
 use Rattle.iocm_model.specs.Configuration.{configuration_of}
 use Rattle.iocm_model.specs.State.{State, seen_in, opened}
 use Rattle.iocm_model.specs.Edit.{Action, add, delete, modify, Edit}
-use Rattle.iocm_model.specs.Effect.{values_in, written, edited_by_all, cells_of_edits}
+use Rattle.iocm_model.specs.Effect.{Effect, effect_of, values_in, written, edited_by_all, cells_of_edits}
+use Rattle.iocm_model.specs.Inverse.{inverse_of}
 use Rattle.iocm_model.specs.Tree.{Plan, Plans, leaf, row, group, choose, none, part}
 use Rattle.iocm_model.specs.InverseTree.{parts_of, inverse_tree, reached}
 use Rattle.iocm_model.specs.Meaning.{meaning}
@@ -92,15 +95,30 @@ pub record ANumberIsUsedAgain : Type 0 where
       ≡ place_of 0x1000 0 ∷ place_of 0x1002 2 ∷ place_of 0x1003 3 ∷ place_of 0x2000 1 ∷ []
   pub taken_back : IsTakenBack one_for_another base_opened
 
--- an edit brings a number along: the device that comes in gets it where it is free, and E4 refuses one that is held
+-- device 2000 comes in, and these places come along with their numbers
+abbrev pub with_places : List (Place × ℕ) → Edit
+with_places places = record { action = add (device_on_1000 0x2000 0x04); places = places; kept = empty }
+
 abbrev pub with_number : ℕ → Edit
-with_number number = record { action = add (device_on_1000 0x2000 0x04); places = place_of 0x2000 number ∷ []; kept = empty }
+with_number number = with_places (place_of 0x2000 number ∷ [])
+
+abbrev pub with_number_twice : Edit
+with_number_twice = with_places (place_of 0x2000 7 ∷ place_of 0x2000 7 ∷ [])
+
+abbrev pub with_number_of_another : Edit
+with_number_of_another = with_places (place_of 0x1000 0 ∷ [])
+
+-- a device that comes in gets the number that comes along where it is free, and E4 refuses one that is held, or that comes twice;
+-- what comes along for a device that stays says nothing
 
 pub record ANumberComesAlong : Type 0 where
   pub accepted : Performs (leaf (with_number 7)) (with_number 7 ∷ []) base_opened
   pub numbers : entries (edited_by_all (with_number 7 ∷ []) base_opened).numbers
       ≡ place_of 0x1000 0 ∷ place_of 0x1001 1 ∷ place_of 0x1002 2 ∷ place_of 0x1003 3 ∷ place_of 0x2000 7 ∷ []
   pub held : IsRefused (leaf (with_number 3)) E4 0 (at.Key (device_key 0x2000)) base_opened
+  pub twice : IsRefused (leaf with_number_twice) E4 0 (at.Key (device_key 0x2000)) base_opened
+  pub of_another : Performs (leaf with_number_of_another) (with_number_of_another ∷ []) base_opened
+  pub its_own : get (edited_by_all (with_number_of_another ∷ []) base_opened).numbers (place_of 0x2000 0).0 ≡ Some 4
 
 -- device 1000 once more, with another unit address
 abbrev pub add_1000 : Edit
@@ -234,9 +252,52 @@ enabled_with lpm = record { enabled = true; lpm = lpm; parm = 0; phase = Idle }
 pub record APathComesOnline : Type 0 where
   pub accepted : Performs (leaf online_51) (online_51 ∷ []) base_enabled
   pub seen : seen_in (edited_by_all (online_51 ∷ []) base_enabled) (subchannel 2 0) ≡ a_view 0x1000 (0x50 ∷ 0x51 ∷ []) 0xC0 0xC0
+  pub altered : (cells_of_edits (online_51 ∷ []) base_enabled).subchannels
+      ≡ subchannel 2 0 ∷ subchannel 2 1 ∷ subchannel 2 2 ∷ subchannel 2 3 ∷ []
   pub live : get (edited_by_all (online_51 ∷ []) base_enabled).lives (subchannel 2 0) ≡ Some (enabled_with 0x40)
   pub before : answer_in base_enabled (subchannel 2 0) (order orders.Start) ≡ answers.Io (io.Code 3)
   pub afterwards : answer_in (edited_by_all (online_51 ∷ []) base_enabled) (subchannel 2 0) (order orders.Start) ≡ answers.Io (io.Code 0)
+
+-- live records come along for two subchannels of 1000: LPB's is altered and gets its own, and LPA's isn't and stays as it was
+abbrev pub online_51_with_lives : Edit
+online_51_with_lives = record {
+  action = add (online_record 0x51 lpb);
+  places = [];
+  kept = from_entries ((subchannel 1 0, enabled_with 0x40) ∷ (subchannel 2 0, enabled_with 0x40) ∷ []);
+}
+
+pub record LiveRecordsComeAlong : Type 0 where
+  pub accepted : Performs (leaf online_51_with_lives) (online_51_with_lives ∷ []) base_opened
+  pub altered : get (edited_by_all (online_51_with_lives ∷ []) base_opened).lives (subchannel 2 0) ≡ Some (enabled_with 0x40)
+  pub unaltered : get (edited_by_all (online_51_with_lives ∷ []) base_opened).lives (subchannel 1 0) ≡ Some (fresh 0xC0)
+
+-- the inverse of a delete adds the old record, and brings along the number that was freed and the two live records that went
+abbrev pub delete_1001 : Edit
+delete_1001 = deleted (device_key 0x1001)
+
+abbrev pub AnInverse : Type 0
+AnInverse = inverse_of delete_1001 base_opened ≡ record {
+  action = add (device_on_1000 0x1001 0x01);
+  places = place_of 0x1001 1 ∷ [];
+  kept = from_entries ((subchannel 1 1, fresh 0xC0) ∷ (subchannel 2 1, fresh 0xC0) ∷ []);
+}
+
+-- the cells that an effect writes, with their values in order
+pub record Writes (f : Effect) (records : List (Key × Option Rec)) (numbers : List (NumberCell × Option ℕ)) (lives : List (SubId × Option Live))
+    : Type 0 where
+  pub of_records : entries f.records ≡ records
+  pub of_numbers : entries f.numbers ≡ numbers
+  pub of_lives : entries f.lives ≡ lives
+
+-- a path that comes online writes its record and the live records of the four subchannels that see it; a device that is deleted takes
+-- its record, its number and two live records away; and what an effect writes is what its edits do
+pub record Effects : Type 0 where
+  pub online : Writes (effect_of (online_51 ∷ []) base_opened) ((key.Online 0 0x51 lpb, Some (online_record 0x51 lpb)) ∷ []) []
+      ((subchannel 2 0, Some (fresh 0xC0)) ∷ (subchannel 2 1, Some (fresh 0xC0)) ∷ (subchannel 2 2, Some (fresh 0xC0))
+      ∷ (subchannel 2 3, Some (fresh 0xC0)) ∷ [])
+  pub deleted : Writes (effect_of (delete_1001 ∷ []) base_opened) ((device_key 0x1001, None) ∷ [])
+      ((record { css = 0; set = 0; number = 1 }, None) ∷ []) ((subchannel 1 1, None) ∷ (subchannel 2 1, None) ∷ [])
+  pub replayed : written (effect_of one_for_another base_opened) base_opened ≡ edited_by_all one_for_another base_opened
 
 -- the unit's paths the other way round
 abbrev pub turned : Edit

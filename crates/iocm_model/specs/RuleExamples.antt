@@ -152,3 +152,21 @@ pub record TheOtherRules : Type 0 where
   pub v11 : BreaksFirst path_by_two_units V11 (Device 0 0x1000)
   pub v12 : BreaksFirst candidate_is_nobody V12 (Device 0 0x1000)
   pub v14 : BreaksFirst answered_by_two V14 (Unit 0x1001)
+
+-- at the bound: a unit on eight paths, a limit of four, and a range up to FF
+abbrev pub eight_paths : List Rec
+eight_paths =
+    unit_on 0x1000 (0x50 ∷ 0x51 ∷ 0x52 ∷ 0x53 ∷ 0x54 ∷ 0x55 ∷ 0x56 ∷ 0x57 ∷ []) None
+    ∷ shared_path 0x52 ∷ shared_path 0x53 ∷ shared_path 0x54 ∷ shared_path 0x55 ∷ shared_path 0x56 ∷ shared_path 0x57 ∷ base
+
+abbrev pub limit_of_four : List Rec
+limit_of_four = limit (record { css = 0; set = 0; limit = 4 }) ∷ base
+
+abbrev pub range_to_the_end : List Rec
+range_to_the_end = unit_with (record { start = 0; count = 16 } ∷ record { start = 0xF0; count = 16 } ∷ []) []
+
+-- there no rule is broken
+pub record AtTheBounds : Type 0 where
+  pub paths : first_breach_at_opening eight_paths ≡ None
+  pub limit : first_breach_at_opening limit_of_four ≡ None
+  pub range : first_breach_at_opening range_to_the_end ≡ None

@@ -7,7 +7,7 @@
 //!
 //! The functions here have empty bodies: their contracts are laws of the definitions (`laws.rt`), and worked
 //! examples that the prover computes from them, on the example deck and variants of it (`specs/BaseDeck.antt`,
-//! `specs/Examples.antt`).
+//! `specs/Examples.antt`; of rules and changes, `specs/RuleExamples.antt` and `specs/ChangeExamples.antt`).
 #![tactic(auto)]
 
 mod change_examples;
@@ -15,8 +15,8 @@ mod examples;
 mod laws;
 
 pub use change_examples::{
-    numbers_change_as_worked, paths_change_as_worked, refusals_are_as_worked, rules_are_as_worked,
-    trees_are_as_worked,
+    effects_are_as_worked, numbers_change_as_worked, paths_change_as_worked,
+    refusals_are_as_worked, rules_are_as_worked, trees_are_as_worked,
 };
 pub use examples::{numbers_are_as_worked, orders_are_as_worked, views_are_as_worked};
 pub use laws::{
