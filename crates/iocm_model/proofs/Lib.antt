@@ -20,6 +20,7 @@ pub mod NumbersChanged
 pub mod NumbersFreed
 pub mod NumbersOpened
 pub mod NumbersTwice
+pub mod OnLists
 pub mod Overwriting
 pub mod Parts
 pub mod RunsGoBack

@@ -21,6 +21,7 @@ pub cond_seen : {A B : Type 0} (see : A → B) (b : Bool) (x y : A) → see (con
 cond_seen see true x y = refl
 cond_seen see false x y = refl
 
+-- the two values of a test that is negated change places
 turned : {A : Type 0} (b : Bool) (x y : A) → cond b x y ≡ cond (not b) y x
 turned true x y = refl
 turned false x y = refl
@@ -64,13 +65,16 @@ module _ {K X : Type 0} {R : K → K → Ordering} (total : IsTotalOrder R) (exa
   pub same_by_entries : (m n : FinMap R X) → entries m ≡ entries n → m ≡ n
   same_by_entries m n is = same_map total exact m n (λ q. get-entries m q ∙ ap (find R q) is ∙ sym (get-entries n q))
 
+  -- the empty map has no entries
   pub entries-empty : entries (empty {X = X} {R = R}) ≡ []
   entries-empty = entries_found empty [] tt (get-empty R)
 
+  -- the entries of a map that is made of a list
   pub entries-from_entries : (es : List (K × X)) → entries (from_entries {R = R} es) ≡ put_all R es
   entries-from_entries [] = entries-empty
   entries-from_entries (e ∷ es) = entries-insert total (from_entries es) e.0 e.1 ∙ ap (put R e.0 e.1) (entries-from_entries es)
 
+  -- the entries of a map whose keys pass a test
   pub entries-retain_keys : (m : FinMap R X) (p : K → Bool) → entries (retain_keys m p) ≡ where_key R p (entries m)
   entries-retain_keys m p = entries_found (retain_keys m p) (where_key R p (entries m)) (is_sorted-where_key R p (entries m) (entries_sorted m))
       (λ q. get-retain_keys m p q (alike q) ∙ ap (λ o. cond (p q) o None) (get-entries m q) ∙ sym (find-where_key R p q (alike q) (entries m)))
@@ -78,9 +82,11 @@ module _ {K X : Type 0} {R : K → K → Ordering} (total : IsTotalOrder R) (exa
       alike : (q x : K) → R q x ≡ Equal → p x ≡ p q
       alike q x is = ap p (sym (exact q x is))
 
+  -- the entries of a map without a key
   pub entries-remove : (m : FinMap R X) (key : K) → entries (remove m key) ≡ without R key (entries m)
   entries-remove m key = entries_found (remove m key) (without R key (entries m)) (is_sorted-where_key R other (entries m) (entries_sorted m))
-      (λ q. get-remove total m key q ∙ ap (λ b. cond b None (get m q)) ((eq_by_cmp_equiv total).symm q key) ∙ turned (eq_by_cmp R key q) None (get m q)
+      (λ q. get-remove total m key q ∙ ap (λ b. cond b None (get m q)) ((eq_by_cmp_equiv total).symm q key)
+      ∙ turned (eq_by_cmp R key q) None (get m q)
       ∙ ap (λ o. cond (other q) o None) (get-entries m q) ∙ sym (find-where_key R other q (alike q) (entries m)))
     where
       other : K → Bool
@@ -89,19 +95,23 @@ module _ {K X : Type 0} {R : K → K → Ordering} (total : IsTotalOrder R) (exa
       alike : (q x : K) → R q x ≡ Equal → other x ≡ other q
       alike q x is = ap other (sym (exact q x is))
 
+  -- the entries of a map with this at a key
   pub entries-with_value : (m : FinMap R X) (key : K) (o : Option X) → entries (with_value m key o) ≡ put_or_without R key o (entries m)
   entries-with_value m key (Some x) = entries-insert total m key x
   entries-with_value m key None = entries-remove m key
 
+  -- the entries of a map with cells overwritten
   pub entries-overwritten : (ws : List (K × Option X)) (m : FinMap R X) → entries (overwritten ws m) ≡ put_cells R ws (entries m)
   entries-overwritten [] m = refl
   entries-overwritten (w ∷ ws) m = entries-with_value (overwritten ws m) w.0 w.1 ∙ ap (put_or_without R w.0 w.1) (entries-overwritten ws m)
 
+  -- two maps differ at the keys at which their entries do
   pub differing_seen : (same : X → X → Bool) (m n : FinMap R X) → differing same m n ≡ keys_differing R same (entries m) (entries n)
   differing_seen same m n = λ i. filter (λ key. not (option_eq same (get-entries m key i) (get-entries n key i)))
       (map (λ e. e.0) (entries-from_entries (entries m ++ entries n) i))
 
 module _ {K X : Type 0} {R : K → K → Ordering} (total : IsTotalOrder R) (exact : IsAntisymmetric R) where
+  -- the entries of the cells of a map at these keys
   pub entries-cells_at : (m : FinMap R X) (ks : List K) → entries (cells_at m ks) ≡ cells_found R (entries m) ks
   entries-cells_at m [] = entries-empty total exact
   entries-cells_at m (key ∷ ks) = entries-insert total (cells_at m ks) key (get m key)

@@ -28,7 +28,8 @@ v1_by rs (image i) = some_of rs (image i) (is_image_named i.name)
 v1_by rs _ = false
 
 abbrev v2_by : List ImageRecord → Rec → Bool
-v2_by images (path p) = list_any (λ name. not (list_any (λ (i : ImageRecord). i.css == p.css && same_name name i.name) images)) (p.access ++ p.candidates)
+v2_by images (path p) =
+    list_any (λ name. not (list_any (λ (i : ImageRecord). i.css == p.css && same_name name i.name) images)) (p.access ++ p.candidates)
 v2_by images _ = false
 
 abbrev v3_by : Rec → Bool
@@ -86,6 +87,7 @@ abbrev v14_by : List Rec → Rec → Bool
 v14_by rs (unit u) = some_of rs (unit u) (answers_for u)
 v14_by rs _ = false
 
+-- the rules in their order, each with the records that break it
 abbrev rules_by : Lookup → List Rec → List ImageRecord → (Place → Option ℕ) → List (Rule × (Rec → Bool))
 rules_by at rs images number_at = (V1, v1_by rs) ∷ (V2, v2_by images) ∷ (V3, v3_by) ∷ (V4, v4_by at rs) ∷ (V5, v5_by at) ∷ (V6, v6_by)
     ∷ (V7, v7_by) ∷ (V8, v8_by at) ∷ (V9, v9_by at) ∷ (V10, v10_by rs) ∷ (V11, v11_by at) ∷ (V12, v12_by images)
@@ -95,6 +97,7 @@ rules_by at rs images number_at = (V1, v1_by rs) ∷ (V2, v2_by images) ∷ (V3,
 rules_seen : (c : Configuration) (n : Numbering) → rules_of c n ≡ rules_by (lookup_of c) (records_of c) (filter_map image_of (records_of c)) (get n)
 rules_seen c n = refl
 
+-- the first breach by the look-up, the numbers and the records
 abbrev breach_by : Lookup → (Place → Option ℕ) → List Rec → Option Breach
 breach_by at number_at rs = first_breach_of (rules_by at rs (filter_map image_of rs) number_at) rs
 
@@ -102,6 +105,7 @@ breach_by at number_at rs = first_breach_of (rules_by at rs (filter_map image_of
 unfoldable pub first_breach_listed : Records → Numbers → Option Breach
 first_breach_listed es n = breach_by (record_in es) (λ p. find place_cmp p n) (map (λ e. e.1) es)
 
+-- the first breach of a configuration and a numbering is that of their entries
 pub first_breach_seen : (c : Configuration) (n : Numbering) → first_breach c n ≡ first_breach_listed (entries c) (entries n)
 unfolding first_breach_listed
 first_breach_seen c n = ap (λ rules. first_breach_of rules (records_of c)) (rules_seen c n)

@@ -52,11 +52,14 @@ reached_by at es css set = map (λ (d : DeviceRecord). d.number)
     (filter (λ (d : DeviceRecord). d.set == set && is_reached at css d) (filter_map device_of (map (λ e. e.1) es)))
 
 abbrev pub places_by : Lookup → Records → List Place
-places_by at es = flat_map (λ css. flat_map (λ set. map (λ d. record { css = css; set = set; device = d }) (reached_by at es css set)) sets) subsystems
+places_by at es =
+    flat_map (λ css. flat_map (λ set. map (λ d. record { css = css; set = set; device = d }) (reached_by at es css set)) sets) subsystems
 
+-- the places of all devices that are reached
 abbrev pub places_listed : Records → List Place
 places_listed es = places_by (record_in es) es
 
+-- the places of a configuration are those of its entries
 pub places_seen : (c : Configuration) → reached_places c ≡ places_listed (entries c)
 places_seen c = λ i. places_by (lookup_seen c i) (entries c)
 
@@ -68,9 +71,11 @@ is_place_in places p = list_any (eq_by_cmp place_cmp p) places
 abbrev pub first_numbers_by : Lookup → Records → Numbers
 first_numbers_by at es = put_all place_cmp (flat_map (λ css. flat_map (λ set. numbered css set 0 (reached_by at es css set)) sets) subsystems)
 
+-- the numbers at opening of these records
 unfoldable pub opening_listed : Records → Numbers
 opening_listed es = first_numbers_by (record_in es) es
 
+-- a configuration opens with the numbers of its entries
 pub opening_seen : (c : Configuration) → entries (opening c) ≡ opening_listed (entries c)
 unfolding opening_listed
 opening_seen c = entries-from_entries places_total places_exact _ ∙ (λ i. first_numbers_by (lookup_seen c i) (entries c))
@@ -79,12 +84,15 @@ opening_seen c = entries-from_entries places_total places_exact _ ∙ (λ i. fir
 abbrev pub cells_listed : Numbers → CellList
 cells_listed n = put_all cell_cmp (map (λ (e : Place × ℕ). (record { css = e.0.css; set = e.0.set; number = e.1 }, e.0.device)) n)
 
+-- the number cells of a numbering are those of its entries
 pub cells_seen : (n : Numbering) → entries (cells_of n) ≡ cells_listed (entries n)
 cells_seen n = entries-from_entries cells_total cells_exact _
 
+-- the numbers of places in which these cells are given away
 abbrev pub numbering_listed : CellList → Numbers
 numbering_listed cells = put_all place_cmp (map (λ (e : NumberCell × ℕ). (record { css = e.0.css; set = e.0.set; device = e.1 }, e.0.number)) cells)
 
+-- the numbering of number cells is that of their entries
 pub numbering_seen : (cells : FinMap cell_cmp ℕ) → entries (numbering_of cells) ≡ numbering_listed (entries cells)
 numbering_seen cells = entries-from_entries places_total places_exact _
 
@@ -93,25 +101,32 @@ abbrev pub rows_by : Lookup → Records → CellList → ViewList
 rows_by at es cells = flat_map (λ (i : ImageRecord). filter_map (row_at at i) (filter (λ (e : NumberCell × ℕ). e.0.css == i.css) cells))
     (filter_map image_of (map (λ e. e.1) es))
 
+-- the rows that these records and numbers give
 abbrev pub rows_listed : Records → Numbers → ViewList
 rows_listed es n = rows_by (record_in es) es (cells_listed n)
 
+-- the views of a configuration and a numbering are the rows of their entries
 pub rows_seen : (c : Configuration) (n : Numbering) → views c n ≡ rows_listed (entries c) (entries n)
 rows_seen c n = λ i. rows_by (lookup_seen c i) (entries c) (cells_seen n i)
 
+-- the rows in the order of subchannels
 abbrev pub views_listed : Records → Numbers → ViewList
 views_listed es n = put_all sub_id_cmp (rows_listed es n)
 
+-- what is seen, by subchannel, are these rows
 pub views_seen : (c : Configuration) (n : Numbering) → entries (views_of c n) ≡ views_listed (entries c) (entries n)
 views_seen c n = entries-from_entries sub_ids_total sub_ids_exact (views c n) ∙ ap (put_all sub_id_cmp) (rows_seen c n)
 
 -- the lowest number that is free
 abbrev pub lowest_in : CellList → ℕ → ℕ → ℕ
-lowest_in cells css set = gap_from 0 (map (λ (e : NumberCell × ℕ). e.0.number) (filter (λ (e : NumberCell × ℕ). e.0.css == css && e.0.set == set) cells))
+lowest_in cells css set =
+    gap_from 0 (map (λ (e : NumberCell × ℕ). e.0.number) (filter (λ (e : NumberCell × ℕ). e.0.css == css && e.0.set == set) cells))
 
+-- the lowest number that is free at a place
 abbrev pub lowest_listed : Numbers → Place → ℕ
 lowest_listed n p = lowest_in (cells_listed n) p.css p.set
 
+-- the lowest free number of a numbering is that of its entries
 lowest_seen : (n : Numbering) (p : Place) → lowest_free n p.css p.set ≡ lowest_listed (entries n) p
 lowest_seen n p = ap (λ cells. lowest_in cells p.css p.set) (cells_seen n)
 
@@ -119,14 +134,17 @@ lowest_seen n p = ap (λ cells. lowest_in cells p.css p.set) (cells_seen n)
 abbrev pub carried_listed : List Place → Numbers → Place × ℕ → Numbers
 carried_listed places n e = if is_place_in places e.0 && not (is_some (find place_cmp e.0 n)) then put place_cmp e.0 e.1 n else n
 
+-- the numbers once a device has the lowest free number, if it has none
 abbrev pub lowest_put : Numbers → Place → Numbers
 lowest_put n p = if is_some (find place_cmp p n) then n else put place_cmp p (lowest_listed n p) n
 
+-- a carried number does to a numbering what it does to its entries
 carried_seen : (c : Configuration) (n : Numbering) (e : Place × ℕ)
     → entries (with_carried c n e) ≡ carried_listed (reached_places c) (entries n) e
 carried_seen c n e = cond_seen entries _ (insert n e.0 e.1) n
     ∙ (λ i. if is_place_in (reached_places c) e.0 && not (is_some (get-entries n e.0 i)) then entries-insert places_total n e.0 e.1 i else entries n)
 
+-- the lowest free number does to a numbering what it does to its entries
 put_seen : (n : Numbering) (p : Place) → entries (with_lowest n p) ≡ lowest_put (entries n) p
 put_seen n p = cond_seen entries _ n (insert n p (lowest_free n p.css p.set))
     ∙ (λ i. if is_some (get-entries n p i) then entries n
@@ -136,9 +154,11 @@ put_seen n p = cond_seen entries _ n (insert n p (lowest_free n p.css p.set))
 abbrev pub renumbered_at : List Place → List (Place × ℕ) → Numbers → Numbers
 renumbered_at places carried n = fold lowest_put (fold (carried_listed places) (where_key place_cmp (is_place_in places) n) carried) places
 
+-- the numbers after the records have become these
 unfoldable pub renumbered_listed : Records → List (Place × ℕ) → Numbers → Numbers
 renumbered_listed es carried n = renumbered_at (places_listed es) carried n
 
+-- a numbering is renumbered as its entries are
 pub renumbered_seen : (c : Configuration) (carried : List (Place × ℕ)) (n : Numbering)
     → entries (renumbered c carried n) ≡ renumbered_listed (entries c) carried (entries n)
 unfolding renumbered_listed

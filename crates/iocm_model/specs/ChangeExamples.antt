@@ -1,6 +1,6 @@
 -- Worked examples of change, on the example deck as it is opened, as they are stated by hand.
-use Rattle.std.specs.Prelude.{◌≡◌, ℕ, true, List, [], ◌∷◌, None, Some, Ok, Err}
-use Rattle.std.specs.FinMap.{get, entries, empty}
+use Rattle.std.specs.Prelude.{◌≡◌, ℕ, zero, suc, true, List, [], ◌∷◌, Option, None, Some, Ok, Err}
+use Rattle.std.specs.FinMap.{get, entries, empty, from_entries}
 use Rattle.iocm_types.specs.declared.answer.Answer.TheVariants as answers
 use Rattle.iocm_types.specs.declared.key.Key.{Key}
 use Rattle.iocm_types.specs.declared.key.Key.TheVariants as key
@@ -8,17 +8,20 @@ use Rattle.iocm_types.specs.declared.live.Phase.TheVariants.{Idle}
 use Rattle.iocm_types.specs.declared.live.Live.{Live}
 use Rattle.iocm_types.specs.declared.order.Order.TheVariants as orders
 use Rattle.iocm_types.specs.declared.order.Io.TheVariants as io
+use Rattle.iocm_types.specs.declared.place.NumberCell.{NumberCell}
+use Rattle.iocm_types.specs.declared.place.Place.{Place}
 use Rattle.iocm_types.specs.declared.refused.At.{At}
 use Rattle.iocm_types.specs.declared.refused.At.TheVariants as at
 use Rattle.iocm_types.specs.declared.rule.Rule.{Rule}
-use Rattle.iocm_types.specs.declared.rule.Rule.TheVariants.{V5, B1, E1, E2, E3, E4}
+use Rattle.iocm_types.specs.declared.rule.Rule.TheVariants.{V5, B1, E1, E2, E3, E4, C1, C2}
 use Rattle.iocm_types.specs.declared.sub_id.SubId.{SubId}
 use Rattle.iocm_model.specs.Record.{Rec, device}
 use Rattle.iocm_model.specs.Configuration.{configuration_of}
 use Rattle.iocm_model.specs.State.{State, seen_in, opened}
 use Rattle.iocm_model.specs.Edit.{Action, add, delete, modify, Edit}
-use Rattle.iocm_model.specs.Effect.{values_in, written, edited_by_all, cells_of_edits}
-use Rattle.iocm_model.specs.Tree.{Plan, leaf, row, group, choose, none, part}
+use Rattle.iocm_model.specs.Effect.{Effect, effect_of, values_in, written, edited_by_all, cells_of_edits}
+use Rattle.iocm_model.specs.Inverse.{inverse_of}
+use Rattle.iocm_model.specs.Tree.{Plan, Plans, leaf, row, group, choose, none, part}
 use Rattle.iocm_model.specs.InverseTree.{parts_of, inverse_tree, reached}
 use Rattle.iocm_model.specs.Meaning.{meaning}
 use Rattle.iocm_model.specs.Step.{order, device_end, stepped, answer_in}
@@ -46,7 +49,8 @@ modified r = plain (modify r)
 
 -- a device of set 0 on unit 1000 with this unit address
 abbrev pub device_on_1000 : ℕ → ℕ → Rec
-device_on_1000 number address = device (record { set = 0; number = number; units = 0x1000 ∷ []; unit_address = address; candidates = None; carried = [] })
+device_on_1000 number address =
+    device (record { set = 0; number = number; units = 0x1000 ∷ []; unit_address = address; candidates = None; carried = [] })
 
 -- the key of a device of set 0
 abbrev pub device_key : ℕ → Key
@@ -91,19 +95,38 @@ pub record ANumberIsUsedAgain : Type 0 where
       ≡ place_of 0x1000 0 ∷ place_of 0x1002 2 ∷ place_of 0x1003 3 ∷ place_of 0x2000 1 ∷ []
   pub taken_back : IsTakenBack one_for_another base_opened
 
--- an edit brings a number along: the device that comes in gets it where it is free, and E4 refuses one that is held
+-- device 2000 comes in, and these places come along with their numbers
+abbrev pub with_places : List (Place × ℕ) → Edit
+with_places places = record { action = add (device_on_1000 0x2000 0x04); places = places; kept = empty }
+
 abbrev pub with_number : ℕ → Edit
-with_number number = record { action = add (device_on_1000 0x2000 0x04); places = place_of 0x2000 number ∷ []; kept = empty }
+with_number number = with_places (place_of 0x2000 number ∷ [])
+
+abbrev pub with_number_twice : Edit
+with_number_twice = with_places (place_of 0x2000 7 ∷ place_of 0x2000 7 ∷ [])
+
+abbrev pub with_number_of_another : Edit
+with_number_of_another = with_places (place_of 0x1000 0 ∷ [])
+
+-- a device that comes in gets the number that comes along where it is free, and E4 refuses one that is held, or that comes twice;
+-- what comes along for a device that stays says nothing
 
 pub record ANumberComesAlong : Type 0 where
   pub accepted : Performs (leaf (with_number 7)) (with_number 7 ∷ []) base_opened
   pub numbers : entries (edited_by_all (with_number 7 ∷ []) base_opened).numbers
       ≡ place_of 0x1000 0 ∷ place_of 0x1001 1 ∷ place_of 0x1002 2 ∷ place_of 0x1003 3 ∷ place_of 0x2000 7 ∷ []
   pub held : IsRefused (leaf (with_number 3)) E4 0 (at.Key (device_key 0x2000)) base_opened
+  pub twice : IsRefused (leaf with_number_twice) E4 0 (at.Key (device_key 0x2000)) base_opened
+  pub of_another : Performs (leaf with_number_of_another) (with_number_of_another ∷ []) base_opened
+  pub its_own : get (edited_by_all (with_number_of_another ∷ []) base_opened).numbers (place_of 0x2000 0).0 ≡ Some 4
+
+-- device 1000 once more, with another unit address
+abbrev pub add_1000 : Edit
+add_1000 = added (device_on_1000 0x1000 0x04)
 
 -- a key that is there, on add; one that isn't, on delete and on modify
 pub record Keys : Type 0 where
-  pub there : IsRefused (leaf (added (device_on_1000 0x1000 0x04))) E1 0 (at.Key (device_key 0x1000)) base_opened
+  pub there : IsRefused (leaf add_1000) E1 0 (at.Key (device_key 0x1000)) base_opened
   pub missing : IsRefused (leaf (deleted (key.Unit 0x2000))) E2 0 (at.Key (key.Unit 0x2000)) base_opened
   pub missing_device : IsRefused (leaf (modified (device_on_1000 0x2000 0x04))) E2 0 (at.Key (device_key 0x2000)) base_opened
 
@@ -172,12 +195,48 @@ pub record WhereRulesHold : Type 0 where
 
 -- nodes are counted in preorder: a Group of two is nodes 1 to 3 here, so that the part after it is node 4
 abbrev pub AfterAGroup : Type 0
-AfterAGroup = IsRefused (row (part (group (parts_of one_for_another)) (part (leaf (added (device_on_1000 0x1000 0x04))) none))) E1 4 (at.Key (device_key 0x1000)) base_opened
+AfterAGroup = IsRefused
+    (row (part (group (parts_of one_for_another)) (part (leaf add_1000) none))) E1 4 (at.Key (device_key 0x1000)) base_opened
 
 -- a Group without parts is accepted, and performs nothing; a Choose without parts is refused
 pub record EmptyNodes : Type 0 where
   pub group : Performs (group none) [] base_opened
   pub choose : IsRefused (choose none) E3 0 at.Nothing base_opened
+
+-- Rows in one another, and Rows of empty Rows beside one another
+abbrev pub nested : ℕ → Plan
+nested zero = row none
+nested (suc k) = row (part (nested k) none)
+
+abbrev pub times : ℕ → Plan → Plans
+times zero p = none
+times (suc k) p = part p (times k p)
+
+abbrev pub rows_of_rows : ℕ → ℕ → Plan
+rows_of_rows many each = row (times many (row (times each (row none))))
+
+-- depth 32 and 4096 leaves are accepted, and one more of either is refused, with no node
+pub record LimitsOfTrees : Type 0 where
+  pub deep : Performs (nested 31) [] base_opened
+  pub too_deep : meaning (nested 32) base_opened ≡ Err (record { rule = C1; node = None; at = at.Nothing })
+  pub wide : Performs (rows_of_rows 64 64) [] base_opened
+  pub too_wide : meaning (rows_of_rows 17 241) base_opened ≡ Err (record { rule = C2; node = None; at = at.Nothing })
+
+-- a device has come in, and then LPA starts its subchannel of 1000, or that of the new device
+unfoldable pub base_grown : State
+base_grown = edited_by_all (add_0fff ∷ []) base_opened
+
+unfoldable pub started_elsewhere : State
+started_elsewhere = started_at (subchannel 1 0) base_grown
+
+unfoldable pub started_there : State
+started_there = started_at (subchannel 1 4) base_grown
+
+-- an edit is taken back later, and the live records that it didn't alter are kept as they are then; where one that it altered is
+-- busy, that is refused, at the leaf of the inverse tree
+pub record TakenBackLater : Type 0 where
+  pub elsewhere : reached (meaning (inverse_tree (add_0fff ∷ []) base_opened) started_elsewhere) ≡ Some base_started
+  pub there : IsRefused (inverse_tree (add_0fff ∷ []) base_opened) B1 1 (at.Subchannel (subchannel 1 4)) started_there
 
 -- LPB's subchannel of 1000 is enabled, with path 51 alone in its logical-path mask
 unfoldable pub base_enabled : State
@@ -193,9 +252,52 @@ enabled_with lpm = record { enabled = true; lpm = lpm; parm = 0; phase = Idle }
 pub record APathComesOnline : Type 0 where
   pub accepted : Performs (leaf online_51) (online_51 ∷ []) base_enabled
   pub seen : seen_in (edited_by_all (online_51 ∷ []) base_enabled) (subchannel 2 0) ≡ a_view 0x1000 (0x50 ∷ 0x51 ∷ []) 0xC0 0xC0
+  pub altered : (cells_of_edits (online_51 ∷ []) base_enabled).subchannels
+      ≡ subchannel 2 0 ∷ subchannel 2 1 ∷ subchannel 2 2 ∷ subchannel 2 3 ∷ []
   pub live : get (edited_by_all (online_51 ∷ []) base_enabled).lives (subchannel 2 0) ≡ Some (enabled_with 0x40)
   pub before : answer_in base_enabled (subchannel 2 0) (order orders.Start) ≡ answers.Io (io.Code 3)
   pub afterwards : answer_in (edited_by_all (online_51 ∷ []) base_enabled) (subchannel 2 0) (order orders.Start) ≡ answers.Io (io.Code 0)
+
+-- live records come along for two subchannels of 1000: LPB's is altered and gets its own, and LPA's isn't and stays as it was
+abbrev pub online_51_with_lives : Edit
+online_51_with_lives = record {
+  action = add (online_record 0x51 lpb);
+  places = [];
+  kept = from_entries ((subchannel 1 0, enabled_with 0x40) ∷ (subchannel 2 0, enabled_with 0x40) ∷ []);
+}
+
+pub record LiveRecordsComeAlong : Type 0 where
+  pub accepted : Performs (leaf online_51_with_lives) (online_51_with_lives ∷ []) base_opened
+  pub altered : get (edited_by_all (online_51_with_lives ∷ []) base_opened).lives (subchannel 2 0) ≡ Some (enabled_with 0x40)
+  pub unaltered : get (edited_by_all (online_51_with_lives ∷ []) base_opened).lives (subchannel 1 0) ≡ Some (fresh 0xC0)
+
+-- the inverse of a delete adds the old record, and brings along the number that was freed and the two live records that went
+abbrev pub delete_1001 : Edit
+delete_1001 = deleted (device_key 0x1001)
+
+abbrev pub AnInverse : Type 0
+AnInverse = inverse_of delete_1001 base_opened ≡ record {
+  action = add (device_on_1000 0x1001 0x01);
+  places = place_of 0x1001 1 ∷ [];
+  kept = from_entries ((subchannel 1 1, fresh 0xC0) ∷ (subchannel 2 1, fresh 0xC0) ∷ []);
+}
+
+-- the cells that an effect writes, with their values in order
+pub record Writes (f : Effect) (records : List (Key × Option Rec)) (numbers : List (NumberCell × Option ℕ)) (lives : List (SubId × Option Live))
+    : Type 0 where
+  pub of_records : entries f.records ≡ records
+  pub of_numbers : entries f.numbers ≡ numbers
+  pub of_lives : entries f.lives ≡ lives
+
+-- a path that comes online writes its record and the live records of the four subchannels that see it; a device that is deleted takes
+-- its record, its number and two live records away; and what an effect writes is what its edits do
+pub record Effects : Type 0 where
+  pub online : Writes (effect_of (online_51 ∷ []) base_opened) ((key.Online 0 0x51 lpb, Some (online_record 0x51 lpb)) ∷ []) []
+      ((subchannel 2 0, Some (fresh 0xC0)) ∷ (subchannel 2 1, Some (fresh 0xC0)) ∷ (subchannel 2 2, Some (fresh 0xC0))
+      ∷ (subchannel 2 3, Some (fresh 0xC0)) ∷ [])
+  pub deleted : Writes (effect_of (delete_1001 ∷ []) base_opened) ((device_key 0x1001, None) ∷ [])
+      ((record { css = 0; set = 0; number = 1 }, None) ∷ []) ((subchannel 1 1, None) ∷ (subchannel 2 1, None) ∷ [])
+  pub replayed : written (effect_of one_for_another base_opened) base_opened ≡ edited_by_all one_for_another base_opened
 
 -- the unit's paths the other way round
 abbrev pub turned : Edit

@@ -1,15 +1,18 @@
 -- Worked examples of the rules, on the example deck with records put before it: of one key the first counts.
-use Rattle.std.specs.Prelude.{◌≡◌, ℕ, ◌+◌, List, [], ◌∷◌, map, None, Option, Some}
+use Rattle.std.specs.Prelude.{◌≡◌, ℕ, ◌+◌, List, [], ◌∷◌, map, None, Option, Some, codes}
 use Rattle.iocm_types.specs.declared.key.Key.{Key}
-use Rattle.iocm_types.specs.declared.key.Key.TheVariants.{Path, Unit, Device}
-use Rattle.iocm_types.specs.declared.path_kind.PathKind.TheVariants.{Dedicated}
+use Rattle.iocm_types.specs.declared.key.Key.TheVariants.{Image, Path, Unit, Device, Online}
+use Rattle.iocm_types.specs.declared.path_kind.PathKind.TheVariants.{Dedicated, Reconfigurable}
+use Rattle.iocm_types.specs.declared.link.CssLink.{CssLink}
+use Rattle.iocm_types.specs.declared.link.Link.TheVariants as link
+use Rattle.iocm_types.specs.declared.unit_range.UnitRange.{UnitRange}
 use Rattle.iocm_types.specs.declared.rule.Rule.{Rule}
-use Rattle.iocm_types.specs.declared.rule.Rule.TheVariants.{V3, V5, V8, V13}
-use Rattle.iocm_model.specs.Record.{Rec, limit, path, unit, device}
+use Rattle.iocm_types.specs.declared.rule.Rule.TheVariants.{V1, V2, V3, V4, V5, V6, V7, V8, V9, V10, V11, V12, V13, V14}
+use Rattle.iocm_model.specs.Record.{Rec, image, limit, path, unit, device}
 use Rattle.iocm_model.specs.Configuration.{configuration_of}
 use Rattle.iocm_model.specs.Numbering.{opening}
 use Rattle.iocm_model.specs.Rules.{Breach, first_breach}
-use Rattle.iocm_model.specs.BaseDeck.{lpa, lpb, base, path_record, css_path, device_record}
+use Rattle.iocm_model.specs.BaseDeck.{lpa, lpb, base, base_without_candidate, path_record, css_path, device_record, online_record}
 
 -- the first breach of a deck, with its numbers at opening
 abbrev pub first_breach_at_opening : List Rec → Option Breach
@@ -24,8 +27,14 @@ abbrev pub shared_path : ℕ → Rec
 shared_path number = path_record number (lpa ∷ lpb ∷ []) (lpa ∷ lpb ∷ [])
 
 abbrev pub unit_on : ℕ → List ℕ → Option ℕ → Rec
-unit_on number paths cuadd =
-    unit (record { number = number; paths = map css_path paths; ranges = record { start = 0; count = 16 } ∷ []; links = []; cuadd = cuadd; carried = [] })
+unit_on number paths cuadd = unit (record {
+  number = number;
+  paths = map css_path paths;
+  ranges = record { start = 0; count = 16 } ∷ [];
+  links = [];
+  cuadd = cuadd;
+  carried = [];
+})
 
 -- the unit 1000 and this, on path 50 alone and with this CUADD
 abbrev pub unit_apart : ℕ → Rec
@@ -67,3 +76,97 @@ limit_of_three = limit (record { css = 0; set = 0; limit = 3 }) ∷ base
 
 abbrev pub ALimitOfThree : Type 0
 ALimitOfThree = BreaksFirst limit_of_three V13 (Device 0 0x1003)
+
+-- a name that no image has
+abbrev pub nobody : List ℕ
+nobody = codes "LPX"
+
+-- an image of the name LPA in a second channel subsystem
+abbrev pub name_used_again : List Rec
+name_used_again = image (record { css = 1; mif = 1; name = lpa }) ∷ base
+
+-- a path that lists a name that no image has
+abbrev pub path_of_nobody : List Rec
+path_of_nobody = path_record 0x52 (lpa ∷ []) (nobody ∷ []) ∷ base
+
+-- a path that is online to an image that it doesn't list
+abbrev pub online_without_access : List Rec
+online_without_access = online_record 0x51 lpb ∷ base_without_candidate
+
+-- a path that one image uses at a time, online to two
+abbrev pub online_to_two : List Rec
+online_to_two = path (record { css = 0; number = 0x52; kind = Reconfigurable; access = lpa ∷ []; candidates = lpb ∷ []; carried = [] })
+    ∷ online_record 0x52 lpa ∷ online_record 0x52 lpb ∷ base
+
+-- the unit without a path, and with one path twice
+abbrev pub no_path : List Rec
+no_path = unit_on 0x1000 [] None ∷ base
+
+abbrev pub one_path_twice : List Rec
+one_path_twice = unit_on 0x1000 (0x50 ∷ 0x50 ∷ []) None ∷ base
+
+-- the unit with these ranges and links, on both paths
+abbrev pub unit_with : List UnitRange → List CssLink → List Rec
+unit_with ranges links =
+    unit (record { number = 0x1000; paths = map css_path (0x50 ∷ 0x51 ∷ []); ranges = ranges; links = links; cuadd = None; carried = [] }) ∷ base
+
+-- one link for two paths
+abbrev pub one_link : List Rec
+one_link = unit_with (record { start = 0; count = 16 } ∷ []) (record { css = 0; link = link.Short 1 } ∷ [])
+
+-- a range that passes FF
+abbrev pub range_past_the_end : List Rec
+range_past_the_end = unit_with (record { start = 0xF8; count = 16 } ∷ []) []
+
+-- device 1003 with a unit address that the unit hasn't, and with that of 1000
+abbrev pub address_out_of_range : List Rec
+address_out_of_range = device (record (device_record 3) { unit_address = 0x10 }) ∷ base
+
+abbrev pub address_used_again : List Rec
+address_used_again = device (record (device_record 3) { unit_address = 0 }) ∷ base
+
+-- device 1000 on two units that share path 51
+abbrev pub path_by_two_units : List Rec
+path_by_two_units = device (record (device_record 0) { units = 0x1000 ∷ 0x1001 ∷ [] }) ∷ unit_on 0x1001 (0x51 ∷ []) (Some 1) ∷ base
+
+-- device 1000 with a candidate that is no image
+abbrev pub candidate_is_nobody : List Rec
+candidate_is_nobody = device (record (device_record 0) { candidates = Some (nobody ∷ []) }) ∷ base
+
+-- a second unit that answers to the same unit addresses on path 50
+abbrev pub answered_by_two : List Rec
+answered_by_two = unit_on 0x1001 (0x50 ∷ []) None ∷ base
+
+-- the other rules, each where it is the first that is broken
+pub record TheOtherRules : Type 0 where
+  pub v1 : BreaksFirst name_used_again V1 (Image 1 1)
+  pub v2 : BreaksFirst path_of_nobody V2 (Path 0 0x52)
+  pub v4_access : BreaksFirst online_without_access V4 (Online 0 0x51 lpb)
+  pub v4_exclusive : BreaksFirst online_to_two V4 (Online 0 0x52 lpb)
+  pub v5_none : BreaksFirst no_path V5 (Unit 0x1000)
+  pub v5_twice : BreaksFirst one_path_twice V5 (Unit 0x1000)
+  pub v6 : BreaksFirst one_link V6 (Unit 0x1000)
+  pub v7 : BreaksFirst range_past_the_end V7 (Unit 0x1000)
+  pub v9 : BreaksFirst address_out_of_range V9 (Device 0 0x1003)
+  pub v10 : BreaksFirst address_used_again V10 (Device 0 0x1003)
+  pub v11 : BreaksFirst path_by_two_units V11 (Device 0 0x1000)
+  pub v12 : BreaksFirst candidate_is_nobody V12 (Device 0 0x1000)
+  pub v14 : BreaksFirst answered_by_two V14 (Unit 0x1001)
+
+-- at the bound: a unit on eight paths, a limit of four, and a range up to FF
+abbrev pub eight_paths : List Rec
+eight_paths =
+    unit_on 0x1000 (0x50 ∷ 0x51 ∷ 0x52 ∷ 0x53 ∷ 0x54 ∷ 0x55 ∷ 0x56 ∷ 0x57 ∷ []) None
+    ∷ shared_path 0x52 ∷ shared_path 0x53 ∷ shared_path 0x54 ∷ shared_path 0x55 ∷ shared_path 0x56 ∷ shared_path 0x57 ∷ base
+
+abbrev pub limit_of_four : List Rec
+limit_of_four = limit (record { css = 0; set = 0; limit = 4 }) ∷ base
+
+abbrev pub range_to_the_end : List Rec
+range_to_the_end = unit_with (record { start = 0; count = 16 } ∷ record { start = 0xF0; count = 16 } ∷ []) []
+
+-- there no rule is broken
+pub record AtTheBounds : Type 0 where
+  pub paths : first_breach_at_opening eight_paths ≡ None
+  pub limit : first_breach_at_opening limit_of_four ≡ None
+  pub range : first_breach_at_opening range_to_the_end ≡ None

@@ -1,6 +1,6 @@
-ghost use Rattle.iocm_model.specs.RuleExamples.{BaseKeepsTheRules, ADedicatedPathOfTwo, AUnitOnNinePaths, ADeviceOfNineUnits, ALimitOfThree};
+ghost use Rattle.iocm_model.specs.RuleExamples.{BaseKeepsTheRules, ADedicatedPathOfTwo, AUnitOnNinePaths, ADeviceOfNineUnits, ALimitOfThree, TheOtherRules, AtTheBounds};
 ghost use Rattle.iocm_model.specs.ChangeExamples.{ADeviceComesIn, ANumberIsUsedAgain, ANumberComesAlong, Keys, ABusySubchannel, PendingStatus};
-ghost use Rattle.iocm_model.specs.ChangeExamples.{AnExchange, NodesOfBreaches, WhereRulesHold, AfterAGroup, EmptyNodes, APathComesOnline, APathListIsTurned};
+ghost use Rattle.iocm_model.specs.ChangeExamples.{AnExchange, NodesOfBreaches, WhereRulesHold, AfterAGroup, EmptyNodes, LimitsOfTrees, TakenBackLater, APathComesOnline, APathListIsTurned, LiveRecordsComeAlong, AnInverse, Effects};
 
 /// Rules and the first breach, on the example deck and decks that break one rule before others: each is computed
 /// from the definitions.
@@ -10,6 +10,8 @@ pub fn rules_are_as_worked()
     ensures nine_paths { AUnitOnNinePaths }
     ensures nine_units { ADeviceOfNineUnits }
     ensures limit { ALimitOfThree }
+    ensures others { TheOtherRules }
+    ensures bounds { AtTheBounds }
 {}
 
 /// Numbers that devices get and free by edits of the example deck, and the subchannels that are altered, computed.
@@ -33,10 +35,19 @@ pub fn trees_are_as_worked()
     ensures rules { WhereRulesHold }
     ensures after_a_group { AfterAGroup }
     ensures empty { EmptyNodes }
+    ensures limits { LimitsOfTrees }
+    ensures taken_back { TakenBackLater }
 {}
 
 /// What an edit leaves of a subchannel that is enabled, where its available paths or its path list change, computed.
 pub fn paths_change_as_worked()
     ensures online { APathComesOnline }
     ensures turned { APathListIsTurned }
+    ensures comes_along { LiveRecordsComeAlong }
+{}
+
+/// The inverse of an edit, and effects: the cells that edits write, with their values, computed.
+pub fn effects_are_as_worked()
+    ensures inverse { AnInverse }
+    ensures effects { Effects }
 {}

@@ -18,8 +18,8 @@ mod numbering_laws;
 mod tree_laws;
 
 pub use change_examples::{
-    numbers_change_as_worked, paths_change_as_worked, refusals_are_as_worked, rules_are_as_worked,
-    trees_are_as_worked,
+    effects_are_as_worked, numbers_change_as_worked, paths_change_as_worked,
+    refusals_are_as_worked, rules_are_as_worked, trees_are_as_worked,
 };
 pub use edit_laws::{
     an_edit_alters_what_differs, edits_go_back, edits_write_their_effect, states_stay_sound,

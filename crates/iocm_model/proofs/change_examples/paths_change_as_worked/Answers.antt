@@ -1,5 +1,5 @@
 -- Each is computed on states as lists.
-use Rattle.iocm_model.proofs.WorkedChanges.{a_path_comes_online, a_path_list_is_turned}
+use Rattle.iocm_model.proofs.WorkedChanges.{a_path_comes_online, a_path_list_is_turned, live_records_come_along}
 use Rattle.iocm_model.proofs.change_examples.paths_change_as_worked.Goals as goal
 
 pub returns-clause-online : goal.returns-clause-online
@@ -7,3 +7,6 @@ returns-clause-online c = a_path_comes_online
 
 pub returns-clause-turned : goal.returns-clause-turned
 returns-clause-turned c = a_path_list_is_turned
+
+pub returns-clause-comes_along : goal.returns-clause-comes_along
+returns-clause-comes_along c = live_records_come_along

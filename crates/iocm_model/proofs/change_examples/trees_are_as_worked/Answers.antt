@@ -1,5 +1,5 @@
 -- Each is computed on states as lists.
-use Rattle.iocm_model.proofs.WorkedChanges.{an_exchange, nodes_of_breaches, where_rules_hold, after_a_group, empty_nodes}
+use Rattle.iocm_model.proofs.WorkedChanges.{an_exchange, nodes_of_breaches, where_rules_hold, after_a_group, empty_nodes, limits_of_trees, taken_back_later}
 use Rattle.iocm_model.proofs.change_examples.trees_are_as_worked.Goals as goal
 
 pub returns-clause-exchange : goal.returns-clause-exchange
@@ -16,3 +16,9 @@ returns-clause-after_a_group c = after_a_group
 
 pub returns-clause-empty : goal.returns-clause-empty
 returns-clause-empty c = empty_nodes
+
+pub returns-clause-limits : goal.returns-clause-limits
+returns-clause-limits c = limits_of_trees
+
+pub returns-clause-taken_back : goal.returns-clause-taken_back
+returns-clause-taken_back c = taken_back_later
