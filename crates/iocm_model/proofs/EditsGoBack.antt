@@ -12,22 +12,27 @@ use Rattle.iocm_types.specs.Place.{cell_cmp}
 use Rattle.iocm_types.specs.SubId.{sub_id_cmp}
 use Rattle.iocm_types.proofs.KeyOrder.{keys_total, keys_exact, cells_total, cells_exact, sub_ids_total, sub_ids_exact}
 use Rattle.iocm_model.specs.Record.{Rec, key_of}
-use Rattle.iocm_model.specs.Configuration.{Configuration}
+use Rattle.iocm_model.specs.Configuration.{Configuration, IsKeyed}
 use Rattle.iocm_model.specs.Numbering.{Numbering, cells_of, numbering_of}
 use Rattle.iocm_model.specs.Renumbering.{renumbered}
 use Rattle.iocm_model.specs.Maps.{with_value, overwritten, cells_at, differing}
-use Rattle.iocm_model.specs.State.{State, Lives, views_of, views_in, seen_in, HasLives, HasOwnKeys, IsSound, IsLike}
+use Rattle.iocm_model.specs.State.{State, Lives, views_of, views_in, seen_in, is_among, HasLives, IsSound, HasConfigAndNumbersOf}
 use Rattle.iocm_model.specs.Edit.{Action, Edit, key_edited, record_after, config_edited, same_view, lives_edited, edited, altered_between, altered_by, is_altered}
 use Rattle.iocm_model.specs.Inverse.{action_back, inverse_of}
 use Rattle.iocm_model.specs.Effect.{values_in, written, cells_of_edit}
-use Rattle.iocm_model.specs.EditLaws.{IsNotAmong, AltersWhatDiffers, KeepsTheOthers, HasSameKeys, GoesBack}
+use Rattle.iocm_model.specs.EditLaws.{AltersWhatDiffers, KeepsTheOthers, HasSameKeys, GoesBack}
 use Rattle.iocm_model.proofs.Found.{same_key}
 use Rattle.iocm_model.proofs.MapCells.{get_with_value, get_overwritten_as, in_differing, get_retained}
 use Rattle.iocm_model.proofs.SameViews.{sight_is, sight_holds}
 use Rattle.iocm_model.proofs.LivesEdited.{lives_edited_at, same_keeps, left_there, left_back}
+use Rattle.iocm_model.proofs.OwnKeys.{keyed_own}
 use Rattle.iocm_model.proofs.NumbersBack.{renumbering_goes_back}
 use Rattle.iocm_model.proofs.NumbersCells.{cells_give_numbers}
 use Rattle.iocm_model.proofs.Overwriting.{overwritten_is}
+
+-- a subchannel isn't one of these
+abbrev pub IsNotAmong : SubId → List SubId → Type 0
+IsNotAmong x xs = is_among x xs ≡ false
 
 not_false : (b : Bool) → not b ≡ false → b ≡ true
 not_false true h = refl
@@ -74,11 +79,11 @@ restored true c k q new e = ap (get c) (sym (same_key key_cmp keys_exact q k e))
 restored false c k q new e = refl
 
 -- the old record put back gives the old configuration
-pub config_back : (a : Action) (c : Configuration) → HasOwnKeys c
+pub config_back : (a : Action) (c : Configuration) → IsKeyed c
     → config_edited (action_back (key_edited a) (get c (key_edited a)) (record_after a)) (config_edited a c) ≡ c
 config_back a c own =
     let k = key_edited a in
-    (λ i. with_value (config_edited a c) (back_key k (get c k) (record_after a) (own k) i) (back_record k (get c k) (record_after a) i))
+    (λ i. with_value (config_edited a c) (back_key k (get c k) (record_after a) (keyed_own c own k) i) (back_record k (get c k) (record_after a) i))
     ∙ same_map keys_total keys_exact _ _ (λ q. get_with_value keys_total keys_exact (config_edited a c) k (get c k) q
     ∙ ap (cond (eq_by_cmp key_cmp q k) (get c k)) (get_with_value keys_total keys_exact c k (record_after a) q)
     ∙ restored (eq_by_cmp key_cmp q k) c k q (record_after a) refl)
@@ -120,11 +125,11 @@ lives_back e s u kept lived here same = same_map sub_ids_total sub_ids_exact _ _
     ∙ ap (λ b. cond b (get kept x) (get u.lives x)) (sym (among_altered s (edited e s) x))
     ∙ sym (get_overwritten_as sub_ids_total sub_ids_exact kept (altered_by e s) u.lives x))
 
-here_of : (u t : State) → IsLike u t → (x : SubId) → is_some (get u.lives x) ≡ is_some (seen_in t x)
+here_of : (u t : State) → HasConfigAndNumbersOf u t → (x : SubId) → is_some (get u.lives x) ≡ is_some (seen_in t x)
 here_of u t like x = like.lived x ∙ (λ i. is_some (get (views_of (like.config i) (like.numbers i)) x))
 
 -- what the inverse does
-pub inverse_gives : (e : Edit) (s u : State) (kept : Lives) → IsSound s → IsLike u (edited e s) → HasSameKeys kept (inverse_of e s).kept
+pub inverse_gives : (e : Edit) (s u : State) (kept : Lives) → IsSound s → HasConfigAndNumbersOf u (edited e s) → HasSameKeys kept (inverse_of e s).kept
     → edited (record (inverse_of e s) { kept = kept }) u ≡ given s kept (altered_by e s) u
 inverse_gives e s u kept sound like same =
     let a = (inverse_of e s).action in
@@ -136,7 +141,7 @@ inverse_gives e s u kept sound like same =
     λ i. record { config = config i; numbers = numbers i; lives = lives i }
 
 -- and what writing the cells does
-effect_gives : (e : Edit) (s u : State) (kept : Lives) → IsSound s → IsLike u (edited e s)
+effect_gives : (e : Edit) (s u : State) (kept : Lives) → IsSound s → HasConfigAndNumbersOf u (edited e s)
     → written (record (values_in s (cells_of_edit e s)) { lives = cells_at kept (altered_by e s) }) u ≡ given s kept (altered_by e s) u
 effect_gives e s u kept sound like =
     let t = edited e s in

@@ -3,6 +3,8 @@ pub mod Breaches
 pub mod EditsGoBack
 pub mod FirstNumbers
 pub mod Found
+pub mod InverseCells
+pub mod LeastNotQuiet
 pub mod Listed
 pub mod ListedEffects
 pub mod ListedMaps
@@ -22,6 +24,7 @@ pub mod NumbersOpened
 pub mod NumbersTwice
 pub mod OnLists
 pub mod Overwriting
+pub mod OwnKeys
 pub mod Parts
 pub mod RunsGoBack
 pub mod SameViews

@@ -16,16 +16,16 @@ use Rattle.iocm_types.specs.Place.{cell_cmp}
 use Rattle.iocm_types.specs.SubId.{sub_id_cmp}
 use Rattle.iocm_types.proofs.KeyOrder.{keys_total, keys_exact, cells_total, cells_exact, sub_ids_total, sub_ids_exact}
 use Rattle.iocm_model.specs.Record.{Rec, key_of}
-use Rattle.iocm_model.specs.Configuration.{Configuration}
+use Rattle.iocm_model.specs.Configuration.{Configuration, IsKeyed}
 use Rattle.iocm_model.specs.Numbering.{cells_of, numbering_of}
 use Rattle.iocm_model.specs.Maps.{overwritten, cells_at}
-use Rattle.iocm_model.specs.State.{State, Lives, views_of, seen_in, HasLives, HasOwnKeys, IsSound, IsLike}
+use Rattle.iocm_model.specs.State.{State, Lives, views_of, seen_in, HasLives, IsSound, HasConfigAndNumbersOf}
 use Rattle.iocm_model.specs.Edit.{Action, add, delete, modify, Edit, key_edited, record_after, config_edited, same_view, edited, altered_by, is_altered}
 use Rattle.iocm_model.specs.Refusal.{refused_by_key, is_number_taken, is_not_quiet, first_not_quiet, refused_by_subchannel, refusal_of}
 use Rattle.iocm_model.specs.Inverse.{action_back, inverse_of}
 use Rattle.iocm_model.specs.InverseTree.{inverses}
 use Rattle.iocm_model.specs.Effect.{values_in, written, cells_of_edit, edited_by_all, cells_of_edits}
-use Rattle.iocm_model.specs.EditLaws.{IsNotAmong, AreAccepted, StaysSound, WritesItsEffect, RunGoesBack}
+use Rattle.iocm_model.specs.EditLaws.{AreAccepted, CarryFreeNumbers, AcceptedCarryFreeNumbers, StaysSound, WritesItsEffect, PutsBack, RunGoesBack, InversesAreAccepted}
 use Rattle.iocm_model.proofs.Found.{same_key}
 use Rattle.iocm_model.proofs.MapCells.{get_with_value, get_overwritten_as, get_retained}
 use Rattle.iocm_model.proofs.NumbersCells.{cells_give_numbers}
@@ -33,7 +33,8 @@ use Rattle.iocm_model.proofs.NumbersFreed.{freed_are_not_taken}
 use Rattle.iocm_model.proofs.NumbersTwice.{renumbered_are_numbers}
 use Rattle.iocm_model.proofs.Overwriting.{not_in_first, not_in_second, any_append, find_none, none_found, overwritten_is}
 use Rattle.iocm_model.proofs.SameViews.{sight_turned}
-use Rattle.iocm_model.proofs.EditsGoBack.{among_altered, unaltered_sees, keeps_the_others, edited_lived, back_key, config_back, off_key, off_numbers, given, inverse_gives}
+use Rattle.iocm_model.proofs.OwnKeys.{keyed_own, own_keyed}
+use Rattle.iocm_model.proofs.EditsGoBack.{IsNotAmong, among_altered, unaltered_sees, keeps_the_others, edited_lived, back_key, config_back, off_key, off_numbers, given, inverse_gives}
 
 -- ---- why an accepted edit was not refused
 
@@ -114,31 +115,44 @@ after_own (modify r) x h = ap key_of (inner x r (sym h))
     inner : (x r : Rec) → Some x ≡ Some r → x ≡ r
     inner x r e = cc
 
-pub edited_keyed : (a : Action) (c : Configuration) → HasOwnKeys c → HasOwnKeys (config_edited a c)
-edited_keyed a c own key r h =
-    own_by (eq_by_cmp key_cmp key (key_edited a)) key (key_edited a) (record_after a) (get c key) refl (after_own a) (own key) r
-    (sym (get_with_value keys_total keys_exact c (key_edited a) (record_after a) key) ∙ h)
+pub edited_keyed : (a : Action) (c : Configuration) → IsKeyed c → IsKeyed (config_edited a c)
+edited_keyed a c own = own_keyed (config_edited a c) (λ key r h.
+    own_by (eq_by_cmp key_cmp key (key_edited a)) key (key_edited a) (record_after a) (get c key) refl (after_own a) (keyed_own c own key) r
+    (sym (get_with_value keys_total keys_exact c (key_edited a) (record_after a) key) ∙ h))
 
-pub edited_sound : (e : Edit) (s : State) → IsSound s → refusal_of e s ≡ None → IsSound (edited e s)
-edited_sound e s sound accepted = record {
+pub edited_sound : (e : Edit) (s : State) → IsSound s → is_number_taken (config_edited e.action s.config) s.numbers e.places ≡ false → IsSound (edited e s)
+edited_sound e s sound free = record {
   keyed = edited_keyed e.action s.config sound.keyed;
-  numbered = renumbered_are_numbers s.config (config_edited e.action s.config) e.places s.numbers sound.numbered (no_number_taken e s accepted);
+  numbered = renumbered_are_numbers s.config (config_edited e.action s.config) e.places s.numbers sound.numbered free;
   lived = edited_lived e s sound.lived;
 }
 
 pub stays_sound : StaysSound
-stays_sound [] s sound accepted = sound
-stays_sound (e ∷ es) s sound accepted = stays_sound es (edited e s) (edited_sound e s sound accepted.0) accepted.1
+stays_sound [] s sound free = sound
+stays_sound (e ∷ es) s sound free = stays_sound es (edited e s) (edited_sound e s sound free.0) free.1
+
+pub accepted_carry : AcceptedCarryFreeNumbers
+accepted_carry [] s accepted = tt
+accepted_carry (e ∷ es) s accepted = (no_number_taken e s accepted.0, accepted_carry es (edited e s) accepted.1)
 
 -- ---- what edits do is to write their effect
 
 pub writes_its_effect : WritesItsEffect
-writes_its_effect es s sound accepted =
+writes_its_effect es s sound free =
     let t = edited_by_all es s in let w = cells_of_edits es s in
     let config = overwritten_is keys_total keys_exact s.config t.config w.keys (λ q off. sym (off_keys es s q off)) in
     let numbers = ap numbering_of (overwritten_is cells_total cells_exact (cells_of s.numbers) (cells_of t.numbers) w.numbers (λ q off. sym (off_cells es s q off)))
-    ∙ cells_give_numbers t.config t.numbers (stays_sound es s sound accepted).numbered in
+    ∙ cells_give_numbers t.config t.numbers (stays_sound es s sound free).numbered in
     let lives = overwritten_is sub_ids_total sub_ids_exact s.lives t.lives w.subchannels (λ x off. sym (off_lives es s x sound.lived off)) in
+    λ i. record { config = config i; numbers = numbers i; lives = lives i }
+
+pub puts_back : PutsBack
+puts_back es s sound =
+    let t = edited_by_all es s in let w = cells_of_edits es s in
+    let config = overwritten_is keys_total keys_exact t.config s.config w.keys (off_keys es s) in
+    let numbers = ap numbering_of (overwritten_is cells_total cells_exact (cells_of t.numbers) (cells_of s.numbers) w.numbers (off_cells es s))
+    ∙ cells_give_numbers s.config s.numbers sound.numbered in
+    let lives = overwritten_is sub_ids_total sub_ids_exact t.lives s.lives w.subchannels (λ x off. off_lives es s x sound.lived off) in
     λ i. record { config = config i; numbers = numbers i; lives = lives i }
 
 -- ---- there and back
@@ -170,7 +184,7 @@ overlaid_at : (from : Lives) (xs : List SubId) (lives : Lives) (x : SubId)
 overlaid_at from xs lives x = get_overwritten_as sub_ids_total sub_ids_exact from xs lives x
 
 -- the inverse of an edit, with the records that it keeps
-one_back : (e : Edit) (s u : State) → IsSound s → IsLike u (edited e s) → edited (inverse_of e s) u ≡ given s s.lives (altered_by e s) u
+pub one_back : (e : Edit) (s u : State) → IsSound s → HasConfigAndNumbersOf u (edited e s) → edited (inverse_of e s) u ≡ given s s.lives (altered_by e s) u
 one_back e s u sound like =
     let kept = (inverse_of e s).kept in
     let lives : overlaid kept (altered_by e s) u.lives ≡ overlaid s.lives (altered_by e s) u.lives = same_map sub_ids_total sub_ids_exact _ _ (λ x.
@@ -181,8 +195,8 @@ one_back e s u sound like =
     inverse_gives e s u kept sound like (λ x. refl) ∙ (λ i. record { config = s.config; numbers = s.numbers; lives = lives i })
 
 -- a state that is given its records at some subchannels has them where something is seen
-given_like : (t u : State) (xs : List SubId) → HasLives t → ((x : SubId) → IsNotAmong x xs → is_some (get u.lives x) ≡ is_some (seen_in t x))
-    → IsLike (given t t.lives xs u) t
+pub given_like : (t u : State) (xs : List SubId) → HasLives t → ((x : SubId) → IsNotAmong x xs → is_some (get u.lives x) ≡ is_some (seen_in t x))
+    → HasConfigAndNumbersOf (given t t.lives xs u) t
 given_like t u xs lived other = record {
   config = refl;
   numbers = refl;
@@ -199,7 +213,7 @@ accepted_append [] fs u first second = second
 accepted_append (e ∷ es) fs u first second = (first.0, accepted_append es fs (edited e u) first.1 second)
 
 -- what is seen at the end of a run, where nothing of it was altered
-seen_like : (es : List Edit) (s u : State) → IsLike u (edited_by_all es s) → (x : SubId) → IsNotAmong x (cells_of_edits es s).subchannels
+pub seen_like : (es : List Edit) (s u : State) → HasConfigAndNumbersOf u (edited_by_all es s) → (x : SubId) → IsNotAmong x (cells_of_edits es s).subchannels
     → is_some (get u.lives x) ≡ is_some (seen_in s x)
 seen_like es s u like x off = like.lived x ∙ (λ i. is_some (get (views_of (like.config i) (like.numbers i)) x)) ∙ ap is_some (off_sight es s x off)
 
@@ -242,12 +256,12 @@ none_of_three : (a : Option Refused) (b : Bool) (r : Refused) (c : Option SubId)
 none_of_three a b r c p q w = rw (p, q, w) refl
 
 -- the inverses of a run give back its cells
-pub run_back : (es : List Edit) (s u : State) → IsSound s → AreAccepted es s → IsLike u (edited_by_all es s)
+pub run_back : (es : List Edit) (s u : State) → IsSound s → CarryFreeNumbers es s → HasConfigAndNumbersOf u (edited_by_all es s)
     → edited_by_all (inverses es s) u ≡ given s s.lives (cells_of_edits es s).subchannels u
-run_back [] s u sound accepted like =
+run_back [] s u sound free like =
     let lives : u.lives ≡ overlaid s.lives [] u.lives = same_map sub_ids_total sub_ids_exact _ _ (λ x. sym (overlaid_at s.lives [] u.lives x)) in
     λ i. record { config = like.config i; numbers = like.numbers i; lives = lives i }
-run_back (e ∷ es) s u sound accepted like =
+run_back (e ∷ es) s u sound free like =
     let t = edited e s in let later = (cells_of_edits es t).subchannels in
     let v = given t t.lives later u in
     let lives : overlaid s.lives (altered_by e s) v.lives ≡ overlaid s.lives (altered_by e s ++ later) u.lives = same_map sub_ids_total sub_ids_exact _ _ (λ x.
@@ -258,18 +272,18 @@ run_back (e ∷ es) s u sound accepted like =
     ∙ ap (λ b. cond b (get s.lives x) (get u.lives x)) (sym (any_append sub_id_cmp x (altered_by e s) later))
     ∙ sym (overlaid_at s.lives (altered_by e s ++ later) u.lives x)) in
     all_append (inverses es t) (inverse_of e s ∷ []) u
-    ∙ ap (edited (inverse_of e s)) (run_back es t u (edited_sound e s sound accepted.0) accepted.1 like)
+    ∙ ap (edited (inverse_of e s)) (run_back es t u (edited_sound e s sound free.0) free.1 like)
     ∙ one_back e s v sound (given_like t u later (edited_lived e s sound.lived) (seen_like es t u like))
     ∙ (λ i. record { config = s.config; numbers = s.numbers; lives = lives i })
 
 -- the inverse of an accepted edit is accepted where what it alters is quiet
-inverse_accepted : (e : Edit) (s v : State) → IsSound s → refusal_of e s ≡ None → IsLike v (edited e s)
+inverse_accepted : (e : Edit) (s v : State) → IsSound s → refusal_of e s ≡ None → HasConfigAndNumbersOf v (edited e s)
     → ((x : SubId) → list_any (eq_by_cmp sub_id_cmp x) (altered_by e s) ≡ true → is_not_quiet (get v.lives x) ≡ false)
     → refusal_of (inverse_of e s) v ≡ None
 inverse_accepted e s v sound accepted like quiet =
     let t = edited e s in let a = (inverse_of e s).action in let k = key_edited e.action in
     let by_key : refused_by_key a (contains_key v.config (key_edited a)) ≡ None =
-    (λ i. refused_by_key a (contains_key (like.config i) (back_key k (get s.config k) (record_after e.action) (sound.keyed k) i))) ∙ ap (λ o. refused_by_key a (is_some o)) (key_there e.action s.config)
+    (λ i. refused_by_key a (contains_key (like.config i) (back_key k (get s.config k) (record_after e.action) (keyed_own s.config sound.keyed k) i))) ∙ ap (λ o. refused_by_key a (is_some o)) (key_there e.action s.config)
     ∙ back_passes k (get s.config k) e.action (no_key_refusal e s accepted) in
     let config : config_edited a v.config ≡ s.config = ap (config_edited a) like.config ∙ config_back e.action s.config sound.keyed in
     let by_number : is_number_taken (config_edited a v.config) v.numbers (inverse_of e s).places ≡ false =
@@ -284,22 +298,20 @@ inverse_accepted e s v sound accepted like quiet =
     none_of_three _ _ _ _ by_key by_number by_busy
 
 -- and so are those of a run
-pub inverses_accepted : (es : List Edit) (s u : State) → IsSound s → AreAccepted es s → IsLike u (edited_by_all es s)
-    → ((x : SubId) → list_any (eq_by_cmp sub_id_cmp x) (cells_of_edits es s).subchannels ≡ true → is_not_quiet (get u.lives x) ≡ false)
-    → AreAccepted (inverses es s) u
+pub inverses_accepted : InversesAreAccepted
 inverses_accepted [] s u sound accepted like quiet = tt
 inverses_accepted (e ∷ es) s u sound accepted like quiet =
     let t = edited e s in let later = (cells_of_edits es t).subchannels in
     let among : (x : SubId) → list_any (eq_by_cmp sub_id_cmp x) (altered_by e s ++ later) ≡ (list_any (eq_by_cmp sub_id_cmp x) (altered_by e s) || list_any (eq_by_cmp sub_id_cmp x) later) =
     λ x. any_append sub_id_cmp x (altered_by e s) later in
-    let sound_t = edited_sound e s sound accepted.0 in
+    let sound_t = edited_sound e s sound (no_number_taken e s accepted.0) in
     let v = given t t.lives later u in
-    let like_v : IsLike v t = given_like t u later sound_t.lived (seen_like es t u like) in
+    let like_v : HasConfigAndNumbersOf v t = given_like t u later sound_t.lived (seen_like es t u like) in
     let quiet_v : (x : SubId) → list_any (eq_by_cmp sub_id_cmp x) (altered_by e s) ≡ true → is_not_quiet (get v.lives x) ≡ false =
     λ x h. ap is_not_quiet (overlaid_at t.lives later u.lives x)
     ∙ quiet_by (list_any (eq_by_cmp sub_id_cmp x) later) (get t.lives x) (get u.lives x)
     (λ l. altered_were_quiet es t x sound_t.lived accepted.1 l) (λ l. quiet x (among x ∙ ap (λ b. b || list_any (eq_by_cmp sub_id_cmp x) later) h)) in
-    let there = run_back es t u sound_t accepted.1 like in
+    let there = run_back es t u sound_t (accepted_carry es t accepted.1) like in
     accepted_append (inverses es t) (inverse_of e s ∷ []) u
     (inverses_accepted es t u sound_t accepted.1 like (λ x h. quiet x (among x ∙ later_true (list_any (eq_by_cmp sub_id_cmp x) (altered_by e s)) _ h)))
     (ap (refusal_of (inverse_of e s)) there ∙ inverse_accepted e s v sound accepted.0 like_v quiet_v, tt)
@@ -309,14 +321,12 @@ inverses_accepted (e ∷ es) s u sound accepted like quiet =
     later_true false c h = h
 
 pub run_goes_back : RunGoesBack
-run_goes_back es s u sound accepted like quiet =
+run_goes_back es s u sound free like =
     let w = cells_of_edits es s in let t = edited_by_all es s in
     let config = ap (overwritten (entries (cells_at s.config w.keys))) like.config ∙ overwritten_is keys_total keys_exact t.config s.config w.keys (off_keys es s) in
     let numbers = (λ i. numbering_of (overwritten (entries (cells_at (cells_of s.numbers) w.numbers)) (cells_of (like.numbers i))))
     ∙ ap numbering_of (overwritten_is cells_total cells_exact (cells_of t.numbers) (cells_of s.numbers) w.numbers (off_cells es s))
     ∙ cells_give_numbers s.config s.numbers sound.numbered in
     let effect : written (values_in s w) u ≡ given s s.lives w.subchannels u =
-    λ i. record { config = config i; numbers = numbers i; lives = overlaid s.lives w.subchannels u.lives } in (
-      run_back es s u sound accepted like ∙ sym effect,
-      inverses_accepted es s u sound accepted like (λ x h. quiet_at u.lives w.subchannels quiet x h),
-    )
+    λ i. record { config = config i; numbers = numbers i; lives = overlaid s.lives w.subchannels u.lives } in
+    run_back es s u sound free like ∙ sym effect

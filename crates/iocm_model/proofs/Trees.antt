@@ -14,7 +14,7 @@ use Rattle.iocm_model.specs.EditLaws.{AreAccepted}
 use Rattle.iocm_model.specs.TreeLaws.{AcceptedTreesAreRuns, InverseTreesTakeBack}
 use Rattle.iocm_model.specs.Inverse.{inverse_of}
 use Rattle.iocm_model.specs.InverseTree.{inverses, parts_of, inverse_tree, reached}
-use Rattle.iocm_model.proofs.RunsGoBack.{accepted_append, all_append, run_back, run_goes_back}
+use Rattle.iocm_model.proofs.RunsGoBack.{accepted_append, all_append, accepted_carry, inverses_accepted, run_back, run_goes_back}
 
 inner : (x y : Run) → ◌≡◌ {A = Outcome} (Ok x) (Ok y) → x ≡ y
 inner x y h = cc
@@ -163,12 +163,14 @@ pub inverse_trees_take_back : InverseTreesTakeBack
 inverse_trees_take_back p s w sound kept h u like quiet =
     let within = meaning_within p s w h in
     let es = w.edits in let t = inverse_tree es s in
-    let both = run_goes_back es s u sound within.run.accepted like quiet in
+    let free = accepted_carry es s within.run.accepted in
+    let back = run_goes_back es s u sound free like in
+    let accepted = inverses_accepted es s u sound within.run.accepted like quiet in
     let deep : nat_lt most_depth (depth_of t) ≡ false = let d = parts_depth (inverses es s) in grind arith in
     let many : nat_lt most_leaves (leaves_of t) ≡ false = few_leaves (leaves_in (parts_of (inverses es s))) (leaves_of p) within.leaves
     (let f = within.run.few in let k = parts_leaves (inverses es s) in let l = inverses_length es s in omega (arith, f, k, l)) in
-    let there : mean_all (parts_of (inverses es s)) 1 u ≡ Ok (record { state = edited_by_all (inverses es s) u; edits = inverses es s }) = parts_mean (inverses es s) 1 u both.1 in
+    let there : mean_all (parts_of (inverses es s)) 1 u ≡ Ok (record { state = edited_by_all (inverses es s) u; edits = inverses es s }) = parts_mean (inverses es s) 1 u accepted in
     let rules : first_breach (edited_by_all (inverses es s) u).config (edited_by_all (inverses es s) u).numbers ≡ None =
-    ap (λ (z : State). first_breach z.config z.numbers) (run_back es s u sound within.run.accepted like) ∙ kept in
+    ap (λ (z : State). first_breach z.config z.numbers) (run_back es s u sound free like) ∙ kept in
     ap reached (unless_nothing _ _ _ _ _ deep many ∙ ap (checked 0) there ∙ ap (λ b. unless_broken b 0 (record { state = edited_by_all (inverses es s) u; edits = inverses es s })) rules)
-    ∙ ap Some both.0
+    ∙ ap Some back

@@ -53,7 +53,7 @@ abbrev pub carried_over : View → View → Live → Live
 carried_over old new l = if pointwise nat_eq old.paths new.paths then l else record l { lpm = new.pim }
 
 -- the live record of an altered subchannel that has a view afterwards: the one that comes along; else a fresh one where
--- it is new; else its own
+-- it is new; else its own (a state with live records has one then)
 abbrev pub live_of_altered : Option View → View → Option Live → Option Live → Live
 live_of_altered old new (Some k) l = k
 live_of_altered None new None l = fresh new.pim

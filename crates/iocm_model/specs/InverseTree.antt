@@ -1,8 +1,8 @@
 -- The tree that takes a change back. Own.
 use Rattle.std.specs.Prelude.{◌≡◌, List, [], ◌∷◌, ◌++◌, Option, Some, None, Ok, Err}
-use Rattle.iocm_model.specs.State.{State, IsLike}
+use Rattle.iocm_model.specs.State.{State, HasConfigAndNumbersOf}
 use Rattle.iocm_model.specs.Edit.{Edit, edited}
-use Rattle.iocm_model.specs.Refusal.{first_not_quiet}
+use Rattle.iocm_model.specs.Refusal.{AreQuiet}
 use Rattle.iocm_model.specs.Inverse.{inverse_of}
 use Rattle.iocm_model.specs.Effect.{values_in, written, edited_by_all, cells_of_edits}
 use Rattle.iocm_model.specs.Tree.{Plan, Plans, leaf, row, none, part}
@@ -30,6 +30,5 @@ reached (Err why) = None
 -- a tree takes edits back that were performed from a state on: at every state with the configuration and the numbers after
 -- them in which the altered subchannels are quiet, it is accepted, and means that state with the cells that they wrote as these were before
 abbrev pub TakesBack : Plan → List Edit → State → Type 0
-TakesBack p es s = (u : State) → IsLike u (edited_by_all es s)
-    → first_not_quiet u.lives (cells_of_edits es s).subchannels ≡ None
+TakesBack p es s = (u : State) → HasConfigAndNumbersOf u (edited_by_all es s) → AreQuiet u.lives (cells_of_edits es s).subchannels
     → reached (meaning p u) ≡ Some (written (values_in s (cells_of_edits es s)) u)

@@ -25,7 +25,7 @@ nothing_done s = record { state = s; edits = [] }
 abbrev pub at_node : ℕ → Refused → Refused
 at_node n why = record why { node = Some n }
 
--- an edit by itself
+-- a leaf: its refusal names the node; else the edit is performed
 abbrev pub unless_refused : Option Refused → ℕ → Edit → State → Outcome
 unless_refused (Some why) n e s = Err (at_node n why)
 unless_refused None n e s = Ok (record { state = edited e s; edits = e ∷ [] })

@@ -1,6 +1,6 @@
 -- When an edit is refused.
 -- Principles of Operation, for subchannels that are busy or status pending; all else own.
-use Rattle.std.specs.Prelude.{ℕ, ◌==◌, Bool, true, false, ◌&&◌, ◌||◌, not, if◌then◌else◌, Option, None, Some, List, [], ◌∷◌, filter}
+use Rattle.std.specs.Prelude.{◌≡◌, ℕ, ◌==◌, Bool, true, false, ◌&&◌, ◌||◌, not, if◌then◌else◌, Option, None, Some, List, [], ◌∷◌, filter}
 use Rattle.std.specs.List.{list_any, find}
 use Rattle.std.specs.Option.{option_map, option_or}
 use Rattle.std.specs.FinMap.{get, entries, contains_key}
@@ -17,7 +17,7 @@ use Rattle.iocm_model.specs.Configuration.{Configuration}
 use Rattle.iocm_model.specs.Numbering.{Numbering}
 use Rattle.iocm_model.specs.Renumbering.{comes_in, without_leavers}
 use Rattle.iocm_model.specs.Orders.{is_quiet}
-use Rattle.iocm_model.specs.State.{State, Lives}
+use Rattle.iocm_model.specs.State.{State, Lives, is_among}
 use Rattle.iocm_model.specs.Edit.{Action, add, delete, modify, Edit, key_edited, config_edited, altered_by}
 
 -- a refusal that names no node of a tree
@@ -49,6 +49,10 @@ is_number_taken c n carried = let arriving = filter (comes_in c n) carried in
 abbrev pub is_not_quiet : Option Live → Bool
 is_not_quiet (Some l) = not (is_quiet l.phase)
 is_not_quiet None = false
+
+-- all of these subchannels are quiet
+abbrev pub AreQuiet : Lives → List SubId → Type 0
+AreQuiet lives xs = (x : SubId) → is_among x xs ≡ true → is_not_quiet (get lives x) ≡ false
 
 -- the first of these subchannels whose live record isn't quiet; of subchannels in order, the least
 abbrev pub first_not_quiet : Lives → List SubId → Option SubId

@@ -1,5 +1,5 @@
 -- Subchannel numbers after a change of the configuration. Own.
-use Rattle.std.specs.Prelude.{ℕ, ◌+◌, ◌==◌, ◌&&◌, nat_eq, not, if◌then◌else◌, List, [], ◌∷◌, map, filter, fold}
+use Rattle.std.specs.Prelude.{ℕ, ◌+◌, ◌==◌, ◌&&◌, nat_eq, Bool, not, if◌then◌else◌, List, [], ◌∷◌, map, filter, fold}
 use Rattle.std.specs.FinMap.{insert, entries, contains_key, retain_keys}
 use Rattle.iocm_types.specs.declared.place.Place.{Place}
 use Rattle.iocm_types.specs.declared.place.NumberCell.{NumberCell}

@@ -35,7 +35,7 @@ abbrev pub RenumberingGoesBack : Type 0
 RenumberingGoesBack = (before after : Configuration) (carried : List (Place × ℕ)) (n : Numbering) → AreNumbersOf before n
     → let there = renumbered after carried n in renumbered before (freed n there) there ≡ n
 
--- and none of them is taken then
+-- none of the places that were freed is taken when the change is taken back
 abbrev pub FreedAreNotTaken : Type 0
 FreedAreNotTaken = (before after : Configuration) (carried : List (Place × ℕ)) (n : Numbering) → AreNumbersOf before n
     → let there = renumbered after carried n in is_number_taken before there (freed n there) ≡ false

@@ -1,14 +1,14 @@
 -- The state of a channel subsystem: the configuration, the numbers of its devices, and a live record for each subchannel.
-use Rattle.std.specs.Prelude.{◌≡◌, ℕ, map, Option, Some}
+use Rattle.std.specs.Prelude.{◌≡◌, ℕ, Bool, List, map, Option, Some}
+use Rattle.std.specs.List.{list_any}
+use Rattle.std.specs.Ordering.{eq_by_cmp}
 use Rattle.std.specs.FinMap.{FinMap, get, contains_key, from_entries}
-use Rattle.iocm_types.specs.declared.key.Key.{Key}
 use Rattle.iocm_types.specs.declared.live.Live.{Live}
 use Rattle.iocm_types.specs.declared.place.Place.{Place}
 use Rattle.iocm_types.specs.declared.sub_id.SubId.{SubId}
 use Rattle.iocm_types.specs.declared.view.View.{View}
 use Rattle.iocm_types.specs.SubId.{sub_id_cmp}
-use Rattle.iocm_model.specs.Record.{Rec, key_of}
-use Rattle.iocm_model.specs.Configuration.{Configuration}
+use Rattle.iocm_model.specs.Configuration.{Configuration, IsKeyed}
 use Rattle.iocm_model.specs.Numbering.{Numbering, opening, is_reached_at}
 use Rattle.iocm_model.specs.View.{views}
 use Rattle.iocm_model.specs.Orders.{fresh}
@@ -33,6 +33,10 @@ views_of c n = from_entries (views c n)
 abbrev pub views_in : State → Views
 views_in s = views_of s.config s.numbers
 
+-- whether a subchannel is one of these
+abbrev pub is_among : SubId → List SubId → Bool
+is_among x xs = list_any (eq_by_cmp sub_id_cmp x) xs
+
 -- what is seen at a subchannel in a state, if it has a view
 abbrev pub seen_in : State → SubId → Option View
 seen_in s x = get (views_in s) x
@@ -45,7 +49,8 @@ fresh_row row = (row.0, fresh row.1.pim)
 abbrev pub opened : Configuration → State
 opened c = let n = opening c in record { config = c; numbers = n; lives = from_entries (map fresh_row (views c n)) }
 
--- the numbers of a configuration: exactly the devices that a channel subsystem reaches have one there, no number twice
+-- the numbers of a configuration: exactly the devices that a channel subsystem reaches have one there, and
+-- no number comes twice in one channel subsystem and set
 pub record AreNumbersOf (c : Configuration) (n : Numbering) : Type 0 where
   pub exact : (p : Place) → contains_key n p ≡ is_reached_at c p
   pub apart : (p q : Place) (number : ℕ) → p.css ≡ q.css → p.set ≡ q.set → get n p ≡ Some number → get n q ≡ Some number → p ≡ q
@@ -54,19 +59,15 @@ pub record AreNumbersOf (c : Configuration) (n : Numbering) : Type 0 where
 abbrev pub HasLives : State → Type 0
 HasLives s = (x : SubId) → contains_key s.lives x ≡ contains_key (views_in s) x
 
--- each record stands under its own key
-abbrev pub HasOwnKeys : Configuration → Type 0
-HasOwnKeys c = (key : Key) (r : Rec) → get c key ≡ Some r → key_of r ≡ key
-
 -- what every state of a machine is: its records stand under their own keys, its numbers are those of its configuration, and its
 -- live records those of its subchannels
 pub record IsSound (s : State) : Type 0 where
-  pub keyed : HasOwnKeys s.config
+  pub keyed : IsKeyed s.config
   pub numbered : AreNumbersOf s.config s.numbers
   pub lived : HasLives s
 
 -- a state has the configuration and the numbers of another, and live records of its own
-pub record IsLike (u s : State) : Type 0 where
+pub record HasConfigAndNumbersOf (u s : State) : Type 0 where
   pub config : u.config ≡ s.config
   pub numbers : u.numbers ≡ s.numbers
   pub lived : HasLives u

@@ -3,7 +3,8 @@ use Rattle.std.specs.Prelude.{ℕ, ◌+◌, ◌≤◌, ◌*◌, max, ◌==◌, i
 use Rattle.iocm_model.specs.Edit.{Edit}
 
 mutual
-  -- a tree: one edit; parts in order, all or none; the same, after which the rules hold; the first part that is accepted
+  -- a tree: one edit; parts in order, all or none; the same, after which the rules hold; the
+  -- first part that is accepted and after which they hold
   pub data Plan : Type 0 where
     leaf : Edit → Plan
     row : Plans → Plan

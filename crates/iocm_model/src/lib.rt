@@ -23,7 +23,7 @@ pub use change_examples::{
 };
 pub use edit_laws::{
     an_edit_alters_what_differs, edits_go_back, edits_write_their_effect, states_stay_sound,
-    steps_elsewhere_pass,
+    steps_elsewhere_pass, the_least_subchannel_is_named,
 };
 pub use examples::{numbers_are_as_worked, orders_are_as_worked, views_are_as_worked};
 pub use laws::{

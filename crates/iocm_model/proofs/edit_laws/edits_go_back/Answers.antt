@@ -1,6 +1,7 @@
 -- The laws are proved of the definitions.
 use Rattle.iocm_model.proofs.EditsGoBack.{goes_back}
-use Rattle.iocm_model.proofs.RunsGoBack.{run_goes_back}
+use Rattle.iocm_model.proofs.InverseCells.{inverses_write_the_same}
+use Rattle.iocm_model.proofs.RunsGoBack.{inverses_accepted, run_goes_back}
 use Rattle.iocm_model.proofs.edit_laws.edits_go_back.Goals as goal
 
 pub returns-clause-edit : goal.returns-clause-edit
@@ -8,3 +9,9 @@ returns-clause-edit c = goes_back
 
 pub returns-clause-run : goal.returns-clause-run
 returns-clause-run c = run_goes_back
+
+pub returns-clause-accepted : goal.returns-clause-accepted
+returns-clause-accepted c = inverses_accepted
+
+pub returns-clause-cells : goal.returns-clause-cells
+returns-clause-cells c = inverses_write_the_same
