@@ -26,7 +26,7 @@ use Rattle.iocm_model.proofs.ListedEffects.{edited_all_listed, edits_cells_liste
 use Rattle.iocm_model.proofs.ListedTrees.{ListedPlan, one, in_row, in_group, in_choose, no_parts, and_part, mean_listed, meaning_listed, meaning_is, meaning_refused, parts_listed, taken_back}
 
 -- the example deck, opened, as lists
-unfoldable base_listing : ListedState
+unfoldable pub base_listing : ListedState
 base_listing = record {
   records = keyed base;
   numbers = place_of 0x1000 0 ∷ place_of 0x1001 1 ∷ place_of 0x1002 2 ∷ place_of 0x1003 3 ∷ [];
@@ -38,21 +38,21 @@ base_computed : opened_listed (put_all key_cmp (keyed base)) ≡ base_listing
 unfolding base_listing opened_listed opening_listed
 base_computed = refl
 
-base_is : listing base_opened ≡ base_listing
+pub base_is : listing base_opened ≡ base_listing
 unfolding base_opened
 base_is = opened_seen (configuration_of base) ∙ ap opened_listed (entries-configuration_of base) ∙ base_computed
 
 -- an edit that brings nothing along
-abbrev plainly : Action → ListedEdit
+abbrev pub plainly : Action → ListedEdit
 plainly a = record { action = a; places = []; kept = [] }
 
-abbrev plain_add : Rec → ListedEdit
+abbrev pub plain_add : Rec → ListedEdit
 plain_add r = plainly (add r)
 
-abbrev plain_delete : Key → ListedEdit
+abbrev pub plain_delete : Key → ListedEdit
 plain_delete key = plainly (delete key)
 
-abbrev plain_modify : Rec → ListedEdit
+abbrev pub plain_modify : Rec → ListedEdit
 plain_modify r = plainly (modify r)
 
 -- the edits of the examples
