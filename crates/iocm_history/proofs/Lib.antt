@@ -5,3 +5,4 @@ pub mod OwnMarks
 pub mod RedoAfterUndo
 pub mod Remarked
 pub mod StandingMarks
+pub mod WorkedRuns

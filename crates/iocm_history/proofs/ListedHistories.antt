@@ -1,25 +1,23 @@
 -- Histories with their effects as lists: what each call makes of the lines, of the book and of the answers so far.
-use Rattle.std.proofs.Common.{◌≡◌, ℕ, ◌+◌, ◌==◌, Bool, true, false, Option, None, Some, Ok, Err, List, [], ◌∷◌, map, length, if◌then◌else◌, refl, sym, ap, subst, ◌∙◌}
+use Rattle.std.proofs.Common.{◌≡◌, ℕ, zero, suc, ◌+◌, ◌==◌, Bool, true, false, Ok, Err, List, [], ◌∷◌, map, length, take, if◌then◌else◌, refl, sym, ap, subst, ◌∙◌}
 use Rattle.std.specs.List.{fold}
-use Rattle.std.specs.FinMap.{FinMap, entries, keys, len, len-entries}
+use Rattle.std.specs.FinMap.{keys, len-entries}
 use Rattle.iocm_types.specs.declared.answer.Answer.{Answer}
 use Rattle.iocm_types.specs.declared.answer.Answer.TheVariants.{Changed, Undone, Redone, Shown, Refused, Io, Ended}
-use Rattle.iocm_types.specs.declared.live.Live.{Live}
 use Rattle.iocm_types.specs.declared.sub_id.SubId.{SubId}
-use Rattle.iocm_types.proofs.KeyOrder.{keys_total, keys_exact, cells_total, cells_exact, sub_ids_total, sub_ids_exact}
+use Rattle.iocm_types.proofs.KeyOrder.{sub_ids_total, sub_ids_exact}
 use Rattle.iocm_model.specs.State.{State, views_in}
-use Rattle.iocm_model.specs.Edit.{Edit}
 use Rattle.iocm_model.specs.Refusal.{first_busy}
-use Rattle.iocm_model.specs.Effect.{Effect, written, effect_of}
+use Rattle.iocm_model.specs.Effect.{Effect, effect_of}
 use Rattle.iocm_model.specs.Meaning.{Outcome, meaning}
-use Rattle.iocm_model.specs.Step.{Step, answer_in, stepped}
+use Rattle.iocm_model.specs.Step.{Step}
 use Rattle.iocm_model.proofs.ListedMaps.{cond_seen, entries-empty}
 use Rattle.iocm_model.proofs.ListedViews.{views_seen}
 use Rattle.iocm_model.proofs.ListedStates.{ListedState, listing, views_at, ListedEdit, busy_listed, busy_seen, answer_listed, answer_seen, stepped_listed, stepped_seen}
 use Rattle.iocm_model.proofs.ListedEffects.{ListedEffect, effect_listing, written_listed, written_seen, edits_from, effect_listed, effect_seen}
-use Rattle.iocm_model.proofs.ListedTrees.{ListedPlan, plan_from, ListedRun, ListedOutcome, outcome_listing, meaning_listed, meaning_seen}
+use Rattle.iocm_model.proofs.ListedTrees.{ListedPlan, plan_from, ListedOutcome, outcome_listing, meaning_listed, meaning_seen}
 use Rattle.iocm_history.specs.Entry.{Call, at, activate, undo, redo, show, Entry, History, no_effect, plain_entry}
-use Rattle.iocm_history.specs.Line.{Act, step, change, undoing, nothing, Mark, kept, undone_with, lost, Line, act_of, is_change, is_undo, is_among, is_step_on, effect_or, change_effect, altered_by_change, struck_mark, struck, struck_if, strike, unstruck_mark, unstruck, taken_back, restore, without_change, with_change, remarked, line_of, lines}
+use Rattle.iocm_history.specs.Line.{Act, step, change, undoing, nothing, Mark, kept, undone_with, lost, Line, act_of, is_change, is_undo, is_among, is_step_on, effect_or, change_effect, altered_by_change, struck_mark, struck_if, strike, unstruck_mark, taken_back, restore, remarked, lines}
 use Rattle.iocm_history.specs.Replay.{acted, acted_if_kept, replay, state_at}
 use Rattle.iocm_history.specs.Book.{Book, booked, book}
 use Rattle.iocm_history.specs.Legal.{undo_answer, redo_answer, shown, activated, entry_in, entry_of}
@@ -280,11 +278,11 @@ busy_is s n ls y is = busy_seen s.lives (altered_by_change n ls)
 
 shown_is : (s : State) (b : Book) (y : ListedState) → listing s ≡ y → shown s b ≡ shown_listed y b
 shown_is s b y is = (λ i. Shown (record {
-    records = len-entries s.config i;
-    subchannels = (len-entries (views_in s) ∙ ap length (views_seen s.config s.numbers)) i;
-    standing = length b.standing;
-    undone = length b.undone;
-  })) ∙ ap (λ z. shown_listed z b) is
+  records = len-entries s.config i;
+  subchannels = (len-entries (views_in s) ∙ ap length (views_seen s.config s.numbers)) i;
+  standing = length b.standing;
+  undone = length b.undone;
+})) ∙ ap (λ z. shown_listed z b) is
 
 activated_is : (p : ListedPlan) (es : List ListedEdit) (n : ℕ) (s : State) (h : History) (o : Outcome) → HasEdits es (outcome_listing o)
     → history_listing (activated (plan_from p) n s o ∷ h) ≡ activated_lines es n (listing s) (outcome_listing o) (history_listing h)
@@ -362,3 +360,10 @@ pub last_state_is : (opening : State) (y : ListedState) → listing opening ≡ 
     → listing (state_at opening (run opening (calls_from cs))) ≡ replay_lines y (calls_listed y cs uncalled).lines
 last_state_is opening y is cs right = state_seen opening (run opening (calls_from cs))
     ∙ (λ i. replay_lines (is i) (run_is opening y is cs right i).lines)
+
+-- the first calls come right where all do
+pub first_come_right : (y : ListedState) (n : ℕ) (cs : List ListedCall) (m : ListedHistory) → ComeRight y cs m → ComeRight y (take n cs) m
+unfolding ComeRight
+first_come_right y zero cs m right = tt
+first_come_right y (suc n) [] m right = tt
+first_come_right y (suc n) (c ∷ cs) m right = (right.0, first_come_right y n cs (call_listed y c m) right.1)
