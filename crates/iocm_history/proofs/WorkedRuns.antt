@@ -22,7 +22,7 @@ use Rattle.iocm_model.proofs.WorkedChanges.{base_listing, base_is, plain_add, pl
 use Rattle.iocm_history.specs.Line.{Line, lines}
 use Rattle.iocm_history.specs.Replay.{state_at}
 use Rattle.iocm_history.specs.Run.{run, answers_of}
-use Rattle.iocm_history.specs.HistoryExamples.{Answers, number_of, LatestFirst, AChooseUndone, StepsElsewhere, PendingStatus, empty_changes, a_path_comes_online, APathUndone, ABusyUndo}
+use Rattle.iocm_history.specs.HistoryExamples.{Answers, number_of, LatestFirst, AChooseUndone, StepsElsewhere, PendingStatus, three_changes, empty_changes, a_path_comes_online, APathUndone, ABusyUndo}
 use Rattle.iocm_history.proofs.ListedHistories.{ListedLine, lines_listing, ListedCall, stepping, activating, undoes, redoes, shows, calls_from, ListedHistory, strike_lines, restore_lines, replay_lines, call_listed, calls_listed, ComeRight, uncalled, run_is, last_state_is, first_come_right}
 
 -- calls on lists: a change of one edit; an order; a device end; MODIFY that enables
@@ -39,7 +39,10 @@ abbrev enabled : SubId → ℕ → ℕ → ListedCall
 enabled x lpm parm = ordered x (Modify (record { enabled = true; lpm = lpm; parm = parm }))
 
 -- the history of some calls on the example deck, and its last state
-abbrev made_by : List ListedCall → ListedHistory
+unfoldable made_by : List ListedCall → ListedHistory
+unfolding base_listing meaning_listed mean_listed edited_all_listed edited_listed refusal_listed first_breach_listed renumbered_listed gap_from
+    first_record first_breach_of edits_cells_listed edit_cells_listed values_listed written_listed stepped_listed answer_listed
+    strike_lines restore_lines replay_lines call_listed calls_listed ComeRight
 made_by cs = calls_listed base_listing cs uncalled
 
 abbrev left_by : List ListedCall → ListedState
@@ -50,9 +53,11 @@ AreRight cs = ComeRight base_listing cs uncalled
 
 -- the answers, and after the first calls the marks, the number of a place, a record and a live record
 answers_are : (cs : List ListedCall) → AreRight cs → reverse (answers_of (run base_opened (calls_from cs))) ≡ reverse (made_by cs).answers
+unfolding made_by
 answers_are cs right = ap (λ (m : ListedHistory). reverse m.answers) (run_is base_opened base_listing base_is cs right)
 
 state_is : (n : ℕ) (cs : List ListedCall) → AreRight cs → listing (state_at base_opened (run base_opened (calls_from (take n cs)))) ≡ left_by (take n cs)
+unfolding made_by
 state_is n cs right = last_state_is base_opened base_listing base_is (take n cs) (first_come_right base_listing n cs uncalled right)
 
 marks_seen : (ls : List Line) → map (λ (l : Line). l.mark) ls ≡ map (λ (l : ListedLine). l.mark) (lines_listing ls)
@@ -61,6 +66,7 @@ marks_seen (l ∷ ls) = ap (λ ms. l.mark ∷ ms) (marks_seen ls)
 
 marks_are : (n : ℕ) (cs : List ListedCall) → AreRight cs → reverse (map (λ (l : Line). l.mark) (lines (run base_opened (calls_from (take n cs)))))
     ≡ reverse (map (λ (l : ListedLine). l.mark) (made_by (take n cs)).lines)
+unfolding made_by
 marks_are n cs right = ap reverse (marks_seen (lines (run base_opened (calls_from (take n cs))))
     ∙ ap (λ (m : ListedHistory). map (λ (l : ListedLine). l.mark) m.lines)
     (run_is base_opened base_listing base_is (take n cs) (first_come_right base_listing n cs uncalled right)))
@@ -92,7 +98,7 @@ latest_first_calls =
     ∷ []
 
 pub latest_first_is : LatestFirst
-unfolding base_listing meaning_listed mean_listed edited_all_listed edited_listed refusal_listed first_breach_listed renumbered_listed gap_from first_record first_breach_of edits_cells_listed edit_cells_listed values_listed written_listed stepped_listed answer_listed strike_lines restore_lines replay_lines call_listed calls_listed ComeRight
+unfolding made_by
 latest_first_is =
     let right : AreRight latest_first_calls = (refl, (refl, (tt, (tt, (tt, (tt, (tt, (tt, tt)))))))) in record {
       answers = answers_are latest_first_calls right;
@@ -115,7 +121,7 @@ a_choose_undone_calls =
     ∷ []
 
 pub a_choose_undone_is : AChooseUndone
-unfolding base_listing meaning_listed mean_listed edited_all_listed edited_listed refusal_listed first_breach_listed renumbered_listed gap_from first_record first_breach_of edits_cells_listed edit_cells_listed values_listed written_listed stepped_listed answer_listed strike_lines restore_lines replay_lines call_listed calls_listed ComeRight
+unfolding made_by
 a_choose_undone_is =
     let right : AreRight a_choose_undone_calls = (tt, (tt, (refl, (tt, (tt, (tt, tt)))))) in record {
       answers = answers_are a_choose_undone_calls right;
@@ -140,7 +146,7 @@ steps_elsewhere_calls =
     ∷ []
 
 pub steps_elsewhere_is : StepsElsewhere
-unfolding base_listing meaning_listed mean_listed edited_all_listed edited_listed refusal_listed first_breach_listed renumbered_listed gap_from first_record first_breach_of edits_cells_listed edit_cells_listed values_listed written_listed stepped_listed answer_listed strike_lines restore_lines replay_lines call_listed calls_listed ComeRight
+unfolding made_by
 steps_elsewhere_is =
     let right : AreRight steps_elsewhere_calls = (tt, (tt, (refl, (tt, (tt, (tt, (tt, (tt, tt)))))))) in record {
       answers = answers_are steps_elsewhere_calls right;
@@ -159,13 +165,36 @@ pending_status_calls =
     ∷ []
 
 pub pending_status_is : PendingStatus
-unfolding base_listing meaning_listed mean_listed edited_all_listed edited_listed refusal_listed first_breach_listed renumbered_listed gap_from first_record first_breach_of edits_cells_listed edit_cells_listed values_listed written_listed stepped_listed answer_listed strike_lines restore_lines replay_lines call_listed calls_listed ComeRight
+unfolding made_by
 pending_status_is =
     let right : AreRight pending_status_calls = (tt, (tt, (tt, (tt, (tt, (refl, tt)))))) in record {
       answers = answers_are pending_status_calls right;
       refused = number_is 4 pending_status_calls right 0x1001;
       deleted = number_is 6 pending_status_calls right 0x1001;
     }
+
+abbrev three_changes_calls : List ListedCall
+three_changes_calls =
+    activating (in_group no_parts) []
+    ∷ activating (in_group no_parts) []
+    ∷ activating (in_group no_parts) []
+    ∷ undoes 1
+    ∷ undoes 2
+    ∷ redoes 3
+    ∷ undoes 3
+    ∷ undoes 3
+    ∷ undoes 2
+    ∷ redoes 3
+    ∷ redoes 2
+    ∷ undoes 1
+    ∷ redoes 3
+    ∷ shows
+    ∷ []
+
+pub three_changes_answers : Answers three_changes
+unfolding made_by
+three_changes_answers =
+    answers_are three_changes_calls (refl, (refl, (refl, (tt, (tt, (tt, (tt, (tt, (tt, (tt, (tt, (tt, (tt, (tt, tt))))))))))))))
 
 abbrev empty_changes_calls : List ListedCall
 empty_changes_calls =
@@ -180,7 +209,7 @@ empty_changes_calls =
     ∷ []
 
 pub empty_changes_answers : Answers empty_changes
-unfolding base_listing meaning_listed mean_listed edited_all_listed edited_listed refusal_listed first_breach_listed renumbered_listed gap_from first_record first_breach_of edits_cells_listed edit_cells_listed values_listed written_listed stepped_listed answer_listed strike_lines restore_lines replay_lines call_listed calls_listed ComeRight
+unfolding made_by
 empty_changes_answers = answers_are empty_changes_calls (refl, (tt, (tt, (tt, (refl, (tt, (tt, (tt, tt))))))))
 
 abbrev a_path_comes_online_calls : List ListedCall
@@ -192,7 +221,7 @@ a_path_comes_online_calls =
     ∷ []
 
 pub a_path_comes_online_answers : Answers a_path_comes_online
-unfolding base_listing meaning_listed mean_listed edited_all_listed edited_listed refusal_listed first_breach_listed renumbered_listed gap_from first_record first_breach_of edits_cells_listed edit_cells_listed values_listed written_listed stepped_listed answer_listed strike_lines restore_lines replay_lines call_listed calls_listed ComeRight
+unfolding made_by
 a_path_comes_online_answers = answers_are a_path_comes_online_calls (tt, (tt, (refl, (tt, tt))))
 
 abbrev a_path_undone_calls : List ListedCall
@@ -207,7 +236,7 @@ a_path_undone_calls =
     ∷ []
 
 pub a_path_undone_is : APathUndone
-unfolding base_listing meaning_listed mean_listed edited_all_listed edited_listed refusal_listed first_breach_listed renumbered_listed gap_from first_record first_breach_of edits_cells_listed edit_cells_listed values_listed written_listed stepped_listed answer_listed strike_lines restore_lines replay_lines call_listed calls_listed ComeRight
+unfolding made_by
 a_path_undone_is =
     let right : AreRight a_path_undone_calls = (tt, (refl, (tt, (tt, (tt, (tt, (tt, tt))))))) in record {
       answers = answers_are a_path_undone_calls right;
@@ -233,7 +262,7 @@ a_busy_undo_calls =
     ∷ []
 
 pub a_busy_undo_is : ABusyUndo
-unfolding base_listing meaning_listed mean_listed edited_all_listed edited_listed refusal_listed first_breach_listed renumbered_listed gap_from first_record first_breach_of edits_cells_listed edit_cells_listed values_listed written_listed stepped_listed answer_listed strike_lines restore_lines replay_lines call_listed calls_listed ComeRight
+unfolding made_by
 a_busy_undo_is =
     let right : AreRight a_busy_undo_calls = (refl, (tt, (tt, (tt, (tt, (tt, (tt, (tt, (tt, (tt, (tt, tt))))))))))) in record {
       answers = answers_are a_busy_undo_calls right;

@@ -167,6 +167,26 @@ pub record PendingStatus : Type 0 where
   pub refused : number_of 0x1001 (after 4 pending_status) ≡ Some 1
   pub deleted : number_of 0x1001 (after 6 pending_status) ≡ None
 
+-- three changes of nothing, undone and redone: refusals name the greatest change that stands on another, and tell a change that
+-- can't be undone or redone now from one that was never there
+abbrev pub three_changes : Script
+three_changes =
+    (activate (group none), Changed 1)
+    ∷ (activate (group none), Changed 2)
+    ∷ (activate (group none), Changed 3)
+    ∷ (undo 1, refused J2 (Change 3))
+    ∷ (undo 2, refused J2 (Change 3))
+    ∷ (redo 3, refused J1 Nothing)
+    ∷ (undo 3, Undone 3)
+    ∷ (undo 3, refused J1 Nothing)
+    ∷ (undo 2, Undone 2)
+    ∷ (redo 3, refused J3 Nothing)
+    ∷ (redo 2, Redone 2)
+    ∷ (undo 1, refused J2 (Change 2))
+    ∷ (redo 3, Redone 3)
+    ∷ (show, Shown (record { records = 12; subchannels = 8; standing = 3; undone = 0 }))
+    ∷ []
+
 -- changes of nothing, and undo and redo of changes that aren't there; a change makes those that are undone past
 abbrev pub empty_changes : Script
 empty_changes =

@@ -1,4 +1,4 @@
-ghost use Rattle.iocm_history.specs.HistoryExamples.{Answers, LatestFirst, empty_changes};
+ghost use Rattle.iocm_history.specs.HistoryExamples.{Answers, LatestFirst, three_changes, empty_changes};
 ghost use Rattle.iocm_history.specs.HistoryExamples.{AChooseUndone, StepsElsewhere, PendingStatus};
 ghost use Rattle.iocm_history.specs.HistoryExamples.{a_path_comes_online, APathUndone, ABusyUndo};
 
@@ -6,6 +6,7 @@ ghost use Rattle.iocm_history.specs.HistoryExamples.{a_path_comes_online, APathU
 /// runs on the example deck, computed from the definitions.
 pub fn undo_and_redo_are_as_worked()
     ensures latest_first { LatestFirst }
+    ensures three { Answers three_changes }
     ensures empty { Answers empty_changes }
 {}
 
