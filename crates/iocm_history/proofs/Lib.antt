@@ -1,4 +1,5 @@
 pub mod EntriesAfter
+pub mod LegalRuns
 pub mod ListedHistories
 pub mod Marks
 pub mod OwnMarks

@@ -22,7 +22,7 @@ use Rattle.iocm_model.proofs.WorkedChanges.{base_listing, base_is, plain_add, pl
 use Rattle.iocm_history.specs.Line.{Line, lines}
 use Rattle.iocm_history.specs.Replay.{state_at}
 use Rattle.iocm_history.specs.Run.{run, answers_of}
-use Rattle.iocm_history.specs.HistoryExamples.{Answers, number_of, LatestFirst, AChooseUndone, StepsElsewhere, PendingStatus, three_changes, empty_changes, a_path_comes_online, APathUndone, ABusyUndo}
+use Rattle.iocm_history.specs.HistoryExamples.{Answers, number_of, LatestFirst, AChooseUndone, StepsElsewhere, PendingStatus, three_changes, empty_changes, a_path_comes_online, APathUndone, ABusyUndo, ABusyRedo, UndoneInTurn}
 use Rattle.iocm_history.proofs.ListedHistories.{ListedLine, lines_listing, ListedCall, stepping, activating, undoes, redoes, shows, calls_from, ListedHistory, strike_lines, restore_lines, replay_lines, call_listed, calls_listed, ComeRight, uncalled, run_is, last_state_is, first_come_right}
 
 -- calls on lists: a change of one edit; an order; a device end; MODIFY that enables
@@ -272,4 +272,60 @@ a_busy_undo_is =
       gone = live_is 8 a_busy_undo_calls right (subchannel 1 4);
       back = marks_are 10 a_busy_undo_calls right;
       redone = live_is 10 a_busy_undo_calls right (subchannel 1 4);
+    }
+
+abbrev a_busy_redo_calls : List ListedCall
+a_busy_redo_calls =
+    changes (plain_delete (device_key 0x1001))
+    ∷ undoes 1
+    ∷ enabled (subchannel 2 1) 0x80 0
+    ∷ ordered (subchannel 2 1) Start
+    ∷ enabled (subchannel 1 1) 0x80 0
+    ∷ ordered (subchannel 1 1) Start
+    ∷ redoes 1
+    ∷ ended (subchannel 1 1)
+    ∷ ordered (subchannel 1 1) Test
+    ∷ redoes 1
+    ∷ ended (subchannel 2 1)
+    ∷ ordered (subchannel 2 1) Test
+    ∷ redoes 1
+    ∷ ordered (subchannel 1 1) Store
+    ∷ undoes 1
+    ∷ ordered (subchannel 1 1) Store
+    ∷ []
+
+pub a_busy_redo_is : ABusyRedo
+unfolding made_by
+a_busy_redo_is =
+    let right : AreRight a_busy_redo_calls = (refl, (tt, (tt, (tt, (tt, (tt, (tt, (tt, (tt, (tt, (tt, (tt, (tt, (tt, (tt, (tt, tt)))))))))))))))) in record {
+      answers = answers_are a_busy_redo_calls right;
+      marks = marks_are 15 a_busy_redo_calls right;
+      live = live_is 15 a_busy_redo_calls right (subchannel 2 1);
+    }
+
+abbrev undone_in_turn_calls : List ListedCall
+undone_in_turn_calls =
+    changes (plain_add (device_on_1000 0x1004 0x04))
+    ∷ enabled (subchannel 1 4) 0x80 5
+    ∷ changes (plain_delete (device_key 0x1004))
+    ∷ ordered (subchannel 1 4) Store
+    ∷ undoes 2
+    ∷ ordered (subchannel 1 4) Store
+    ∷ undoes 1
+    ∷ redoes 1
+    ∷ ordered (subchannel 1 4) Store
+    ∷ redoes 2
+    ∷ ordered (subchannel 1 4) Store
+    ∷ undoes 2
+    ∷ ordered (subchannel 1 4) Store
+    ∷ []
+
+pub undone_in_turn_is : UndoneInTurn
+unfolding made_by
+undone_in_turn_is =
+    let right : AreRight undone_in_turn_calls = (refl, (tt, (refl, (tt, (tt, (tt, (tt, (tt, (tt, (tt, (tt, (tt, (tt, tt))))))))))))) in record {
+      answers = answers_are undone_in_turn_calls right;
+      both_undone = marks_are 7 undone_in_turn_calls right;
+      first_redone = marks_are 8 undone_in_turn_calls right;
+      both_redone = marks_are 10 undone_in_turn_calls right;
     }

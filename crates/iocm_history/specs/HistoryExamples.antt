@@ -24,6 +24,7 @@ use Rattle.iocm_model.specs.ChangeExamples.{base_opened, added, deleted, device_
 use Rattle.iocm_history.specs.Entry.{Call, at, activate, undo, redo, show, History}
 use Rattle.iocm_history.specs.Line.{Mark, kept, undone_with, lost, Line, lines}
 use Rattle.iocm_history.specs.Replay.{state_at}
+use Rattle.iocm_history.specs.Legal.{IsLegal}
 use Rattle.iocm_history.specs.Run.{run, answers_of}
 
 -- calls with their answers, in order
@@ -255,3 +256,61 @@ pub record ABusyUndo : Type 0 where
   pub gone : get (after 8 a_busy_undo).lives (subchannel 1 4) ≡ None
   pub back : marks_after 10 a_busy_undo ≡ kept ∷ kept ∷ kept ∷ kept ∷ kept ∷ kept ∷ kept ∷ kept ∷ lost ∷ kept ∷ []
   pub redone : get (after 10 a_busy_undo).lives (subchannel 1 4) ≡ Some (enabled_with 0x80)
+
+-- a device is deleted and comes back by the undo; both images start their subchannels of it, and the redo waits until both are quiet
+abbrev pub a_busy_redo : Script
+a_busy_redo =
+    (change_by (deleted (device_key 0x1001)), Changed 1)
+    ∷ (undo 1, Undone 1)
+    ∷ (enables (subchannel 2 1) 0x80 0, code 0)
+    ∷ (orders (subchannel 2 1) Start, code 0)
+    ∷ (enables (subchannel 1 1) 0x80 0, code 0)
+    ∷ (orders (subchannel 1 1) Start, code 0)
+    ∷ (redo 1, refused B1 (Subchannel (subchannel 1 1)))
+    ∷ (ends (subchannel 1 1), Ended true)
+    ∷ (orders (subchannel 1 1) Test, status 9)
+    ∷ (redo 1, refused B1 (Subchannel (subchannel 2 1)))
+    ∷ (ends (subchannel 2 1), Ended true)
+    ∷ (orders (subchannel 2 1) Test, status 9)
+    ∷ (redo 1, Redone 1)
+    ∷ (orders (subchannel 1 1) Store, code 3)
+    ∷ (undo 1, Undone 1)
+    ∷ (orders (subchannel 1 1) Store, stored 0x1001 0xC0 0xC0 false 0)
+    ∷ []
+
+-- what was done while a change was undone is lost for good, also when it is undone once more
+pub record ABusyRedo : Type 0 where
+  pub answers : Answers a_busy_redo
+  pub marks : marks_after 15 a_busy_redo ≡ undone_with 1 ∷ kept ∷ lost ∷ lost ∷ lost ∷ lost ∷ kept ∷ lost ∷ lost ∷ kept ∷ lost ∷ lost
+      ∷ kept ∷ undone_with 1 ∷ kept ∷ []
+  pub live : get (after 15 a_busy_redo).lives (subchannel 2 1) ≡ Some (fresh 0xC0)
+
+-- a device comes in, is used, and is deleted; both changes are undone and redone
+abbrev pub undone_in_turn : Script
+undone_in_turn =
+    (change_by (added (device_on_1000 0x1004 0x04)), Changed 1)
+    ∷ (enables (subchannel 1 4) 0x80 5, code 0)
+    ∷ (change_by (deleted (device_key 0x1004)), Changed 2)
+    ∷ (orders (subchannel 1 4) Store, code 3)
+    ∷ (undo 2, Undone 2)
+    ∷ (orders (subchannel 1 4) Store, stored 0x1004 0xC0 0x80 true 5)
+    ∷ (undo 1, Undone 1)
+    ∷ (redo 1, Redone 1)
+    ∷ (orders (subchannel 1 4) Store, stored 0x1004 0xC0 0x80 true 5)
+    ∷ (redo 2, Redone 2)
+    ∷ (orders (subchannel 1 4) Store, code 3)
+    ∷ (undo 2, Undone 2)
+    ∷ (orders (subchannel 1 4) Store, stored 0x1004 0xC0 0x80 true 5)
+    ∷ []
+
+-- each undo strikes what was not struck before it, and each redo takes back what its own undo struck
+pub record UndoneInTurn : Type 0 where
+  pub answers : Answers undone_in_turn
+  pub both_undone : marks_after 7 undone_in_turn
+      ≡ undone_with 1 ∷ undone_with 1 ∷ undone_with 2 ∷ undone_with 2 ∷ kept ∷ undone_with 1 ∷ kept ∷ []
+  pub first_redone : marks_after 8 undone_in_turn ≡ kept ∷ kept ∷ undone_with 2 ∷ undone_with 2 ∷ kept ∷ kept ∷ kept ∷ kept ∷ []
+  pub both_redone : marks_after 10 undone_in_turn ≡ kept ∷ kept ∷ kept ∷ kept ∷ kept ∷ lost ∷ kept ∷ kept ∷ lost ∷ kept ∷ []
+
+-- a run of calls is a legal history
+abbrev pub RunsAreLegal : Type 0
+RunsAreLegal = (opening : State) (calls : List Call) → IsLegal opening (run opening calls)

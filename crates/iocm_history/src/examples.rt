@@ -1,6 +1,6 @@
 ghost use Rattle.iocm_history.specs.HistoryExamples.{Answers, LatestFirst, three_changes, empty_changes};
 ghost use Rattle.iocm_history.specs.HistoryExamples.{AChooseUndone, StepsElsewhere, PendingStatus};
-ghost use Rattle.iocm_history.specs.HistoryExamples.{a_path_comes_online, APathUndone, ABusyUndo};
+ghost use Rattle.iocm_history.specs.HistoryExamples.{a_path_comes_online, APathUndone, ABusyUndo, ABusyRedo, UndoneInTurn, RunsAreLegal};
 
 /// Undo and redo of changes that stand on each other, that aren't there or that are past, and what the refusals name:
 /// runs on the example deck, computed from the definitions.
@@ -24,4 +24,11 @@ pub fn steps_on_altered_subchannels_are_as_worked()
     ensures online { Answers a_path_comes_online }
     ensures undone { APathUndone }
     ensures busy { ABusyUndo }
+    ensures busy_redo { ABusyRedo }
+    ensures in_turn { UndoneInTurn }
+{}
+
+/// The worked runs, as all runs of calls, are legal histories.
+pub fn runs_are_legal()
+    ensures { RunsAreLegal }
 {}

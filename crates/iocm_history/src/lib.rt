@@ -10,7 +10,7 @@ mod examples;
 mod laws;
 
 pub use examples::{
-    steps_elsewhere_are_as_worked, steps_on_altered_subchannels_are_as_worked,
+    runs_are_legal, steps_elsewhere_are_as_worked, steps_on_altered_subchannels_are_as_worked,
     undo_and_redo_are_as_worked,
 };
 pub use laws::{
