@@ -25,62 +25,76 @@ use Rattle.iocm_history.specs.Run.{run, answers_of}
 use Rattle.iocm_history.specs.HistoryExamples.{Answers, number_of, LatestFirst, AChooseUndone, StepsElsewhere, PendingStatus, three_changes, empty_changes, a_path_comes_online, APathUndone, ABusyUndo, ABusyRedo, UndoneInTurn}
 use Rattle.iocm_history.proofs.ListedHistories.{ListedLine, lines_listing, ListedCall, stepping, activating, undoes, redoes, shows, calls_from, ListedHistory, strike_lines, restore_lines, replay_lines, call_listed, calls_listed, ComeRight, uncalled, run_is, last_state_is, first_come_right}
 
--- calls on lists: a change of one edit; an order; a device end; MODIFY that enables
+-- a change of one edit
 abbrev changes : ListedEdit → ListedCall
 changes e = activating (one e) (e ∷ [])
 
+-- an order
 abbrev ordered : SubId → Order → ListedCall
 ordered x o = stepping x (order o)
 
+-- a device end
 abbrev ended : SubId → ListedCall
 ended x = stepping x device_end
 
+-- MODIFY with this mask and parameter, that enables
 abbrev enabled : SubId → ℕ → ℕ → ListedCall
 enabled x lpm parm = ordered x (Modify (record { enabled = true; lpm = lpm; parm = parm }))
 
--- the history of some calls on the example deck, and its last state
+-- the history that calls make on the example deck, with all that computes it unfolded
 unfoldable made_by : List ListedCall → ListedHistory
 unfolding base_listing meaning_listed mean_listed edited_all_listed edited_listed refusal_listed first_breach_listed renumbered_listed gap_from
     first_record first_breach_of edits_cells_listed edit_cells_listed values_listed written_listed stepped_listed answer_listed
     strike_lines restore_lines replay_lines call_listed calls_listed ComeRight
 made_by cs = calls_listed base_listing cs uncalled
 
+-- its last state
 abbrev left_by : List ListedCall → ListedState
 left_by cs = replay_lines base_listing (made_by cs).lines
 
+-- each call comes with the edits that it performs
 abbrev AreRight : List ListedCall → Type 0
 AreRight cs = ComeRight base_listing cs uncalled
 
--- the answers, and after the first calls the marks, the number of a place, a record and a live record
+-- the answers of a run are those of its listing
 answers_are : (cs : List ListedCall) → AreRight cs → reverse (answers_of (run base_opened (calls_from cs))) ≡ reverse (made_by cs).answers
 unfolding made_by
 answers_are cs right = ap (λ (m : ListedHistory). reverse m.answers) (run_is base_opened base_listing base_is cs right)
 
-state_is : (n : ℕ) (cs : List ListedCall) → AreRight cs → listing (state_at base_opened (run base_opened (calls_from (take n cs)))) ≡ left_by (take n cs)
+-- the state after the first calls of a run is that of its listing
+state_is : (n : ℕ) (cs : List ListedCall) → AreRight cs
+    → listing (state_at base_opened (run base_opened (calls_from (take n cs)))) ≡ left_by (take n cs)
 unfolding made_by
 state_is n cs right = last_state_is base_opened base_listing base_is (take n cs) (first_come_right base_listing n cs uncalled right)
 
+-- a listing has the marks of its lines
 marks_seen : (ls : List Line) → map (λ (l : Line). l.mark) ls ≡ map (λ (l : ListedLine). l.mark) (lines_listing ls)
 marks_seen [] = refl
 marks_seen (l ∷ ls) = ap (λ ms. l.mark ∷ ms) (marks_seen ls)
 
-marks_are : (n : ℕ) (cs : List ListedCall) → AreRight cs → reverse (map (λ (l : Line). l.mark) (lines (run base_opened (calls_from (take n cs)))))
+-- so are the marks after the first calls
+marks_are : (n : ℕ) (cs : List ListedCall) → AreRight cs
+    → reverse (map (λ (l : Line). l.mark) (lines (run base_opened (calls_from (take n cs)))))
     ≡ reverse (map (λ (l : ListedLine). l.mark) (made_by (take n cs)).lines)
 unfolding made_by
 marks_are n cs right = ap reverse (marks_seen (lines (run base_opened (calls_from (take n cs))))
     ∙ ap (λ (m : ListedHistory). map (λ (l : ListedLine). l.mark) m.lines)
     (run_is base_opened base_listing base_is (take n cs) (first_come_right base_listing n cs uncalled right)))
 
-number_is : (n : ℕ) (cs : List ListedCall) → AreRight cs → (d : ℕ) → number_of d (state_at base_opened (run base_opened (calls_from (take n cs))))
+-- the number of a device
+number_is : (n : ℕ) (cs : List ListedCall) → AreRight cs → (d : ℕ)
+    → number_of d (state_at base_opened (run base_opened (calls_from (take n cs))))
     ≡ find place_cmp (record { css = 0; set = 0; device = d }) (left_by (take n cs)).numbers
 number_is n cs right d = let s = state_at base_opened (run base_opened (calls_from (take n cs))) in
     get-entries s.numbers (record { css = 0; set = 0; device = d })
     ∙ ap (λ (y : ListedState). find place_cmp (record { css = 0; set = 0; device = d }) y.numbers) (state_is n cs right)
 
+-- the record of a key
 record_is : (n : ℕ) (cs : List ListedCall) → AreRight cs → (key : Key)
     → get (state_at base_opened (run base_opened (calls_from (take n cs)))).config key ≡ find key_cmp key (left_by (take n cs)).records
 record_is n cs right key = record_at_is _ _ key (state_is n cs right)
 
+-- the live record of a subchannel
 live_is : (n : ℕ) (cs : List ListedCall) → AreRight cs → (x : SubId)
     → get (state_at base_opened (run base_opened (calls_from (take n cs)))).lives x ≡ find sub_id_cmp x (left_by (take n cs)).lives
 live_is n cs right x = live_at_is _ _ x (state_is n cs right)
@@ -100,7 +114,7 @@ latest_first_calls =
 pub latest_first_is : LatestFirst
 unfolding made_by
 latest_first_is =
-    let right : AreRight latest_first_calls = (refl, (refl, (tt, (tt, (tt, (tt, (tt, (tt, tt)))))))) in record {
+    let right : AreRight latest_first_calls = (refl, (refl, tt)) in record {
       answers = answers_are latest_first_calls right;
       freed = number_is 2 latest_first_calls right 0x1001;
       used_again = number_is 2 latest_first_calls right 0x2000;
@@ -114,7 +128,8 @@ abbrev a_choose_undone_calls : List ListedCall
 a_choose_undone_calls =
     enabled (subchannel 1 0) 0x80 0
     ∷ ordered (subchannel 1 0) Start
-    ∷ activating (in_choose (parts_listed (plain_delete (device_key 0x1000) ∷ plain_delete (device_key 0x1003) ∷ []))) (plain_delete (device_key 0x1003) ∷ [])
+    ∷ activating (in_choose (parts_listed (plain_delete (device_key 0x1000) ∷ plain_delete (device_key 0x1003) ∷ [])))
+    (plain_delete (device_key 0x1003) ∷ [])
     ∷ ordered (subchannel 1 3) Store
     ∷ undoes 1
     ∷ ordered (subchannel 1 3) Store
@@ -123,7 +138,7 @@ a_choose_undone_calls =
 pub a_choose_undone_is : AChooseUndone
 unfolding made_by
 a_choose_undone_is =
-    let right : AreRight a_choose_undone_calls = (tt, (tt, (refl, (tt, (tt, (tt, tt)))))) in record {
+    let right : AreRight a_choose_undone_calls = (refl, tt) in record {
       answers = answers_are a_choose_undone_calls right;
       stays = record_is 3 a_choose_undone_calls right (device_key 0x1000);
       deleted = record_is 3 a_choose_undone_calls right (device_key 0x1003);
@@ -148,7 +163,7 @@ steps_elsewhere_calls =
 pub steps_elsewhere_is : StepsElsewhere
 unfolding made_by
 steps_elsewhere_is =
-    let right : AreRight steps_elsewhere_calls = (tt, (tt, (refl, (tt, (tt, (tt, (tt, (tt, tt)))))))) in record {
+    let right : AreRight steps_elsewhere_calls = (refl, tt) in record {
       answers = answers_are steps_elsewhere_calls right;
       marks = marks_are 6 steps_elsewhere_calls right;
       live = live_is 6 steps_elsewhere_calls right (subchannel 1 2);
@@ -167,7 +182,7 @@ pending_status_calls =
 pub pending_status_is : PendingStatus
 unfolding made_by
 pending_status_is =
-    let right : AreRight pending_status_calls = (tt, (tt, (tt, (tt, (tt, (refl, tt)))))) in record {
+    let right : AreRight pending_status_calls = (tt, (refl, tt)) in record {
       answers = answers_are pending_status_calls right;
       refused = number_is 4 pending_status_calls right 0x1001;
       deleted = number_is 6 pending_status_calls right 0x1001;
@@ -194,7 +209,7 @@ three_changes_calls =
 pub three_changes_answers : Answers three_changes
 unfolding made_by
 three_changes_answers =
-    answers_are three_changes_calls (refl, (refl, (refl, (tt, (tt, (tt, (tt, (tt, (tt, (tt, (tt, (tt, (tt, (tt, tt))))))))))))))
+    answers_are three_changes_calls (refl, (refl, (refl, tt)))
 
 abbrev empty_changes_calls : List ListedCall
 empty_changes_calls =
@@ -210,7 +225,7 @@ empty_changes_calls =
 
 pub empty_changes_answers : Answers empty_changes
 unfolding made_by
-empty_changes_answers = answers_are empty_changes_calls (refl, (tt, (tt, (tt, (refl, (tt, (tt, (tt, tt))))))))
+empty_changes_answers = answers_are empty_changes_calls (refl, (tt, (refl, tt)))
 
 abbrev a_path_comes_online_calls : List ListedCall
 a_path_comes_online_calls =
@@ -222,7 +237,7 @@ a_path_comes_online_calls =
 
 pub a_path_comes_online_answers : Answers a_path_comes_online
 unfolding made_by
-a_path_comes_online_answers = answers_are a_path_comes_online_calls (tt, (tt, (refl, (tt, tt))))
+a_path_comes_online_answers = answers_are a_path_comes_online_calls (refl, tt)
 
 abbrev a_path_undone_calls : List ListedCall
 a_path_undone_calls =
@@ -238,7 +253,7 @@ a_path_undone_calls =
 pub a_path_undone_is : APathUndone
 unfolding made_by
 a_path_undone_is =
-    let right : AreRight a_path_undone_calls = (tt, (refl, (tt, (tt, (tt, (tt, (tt, tt))))))) in record {
+    let right : AreRight a_path_undone_calls = (refl, tt) in record {
       answers = answers_are a_path_undone_calls right;
       struck = marks_are 4 a_path_undone_calls right;
       back = marks_are 6 a_path_undone_calls right;
@@ -264,7 +279,7 @@ a_busy_undo_calls =
 pub a_busy_undo_is : ABusyUndo
 unfolding made_by
 a_busy_undo_is =
-    let right : AreRight a_busy_undo_calls = (refl, (tt, (tt, (tt, (tt, (tt, (tt, (tt, (tt, (tt, (tt, tt))))))))))) in record {
+    let right : AreRight a_busy_undo_calls = (refl, tt) in record {
       answers = answers_are a_busy_undo_calls right;
       number = number_is 1 a_busy_undo_calls right 0x1004;
       refused = number_is 4 a_busy_undo_calls right 0x1004;
@@ -297,7 +312,7 @@ a_busy_redo_calls =
 pub a_busy_redo_is : ABusyRedo
 unfolding made_by
 a_busy_redo_is =
-    let right : AreRight a_busy_redo_calls = (refl, (tt, (tt, (tt, (tt, (tt, (tt, (tt, (tt, (tt, (tt, (tt, (tt, (tt, (tt, (tt, tt)))))))))))))))) in record {
+    let right : AreRight a_busy_redo_calls = (refl, tt) in record {
       answers = answers_are a_busy_redo_calls right;
       marks = marks_are 15 a_busy_redo_calls right;
       live = live_is 15 a_busy_redo_calls right (subchannel 2 1);
@@ -323,7 +338,7 @@ undone_in_turn_calls =
 pub undone_in_turn_is : UndoneInTurn
 unfolding made_by
 undone_in_turn_is =
-    let right : AreRight undone_in_turn_calls = (refl, (tt, (refl, (tt, (tt, (tt, (tt, (tt, (tt, (tt, (tt, (tt, (tt, tt))))))))))))) in record {
+    let right : AreRight undone_in_turn_calls = (refl, (refl, tt)) in record {
       answers = answers_are undone_in_turn_calls right;
       both_undone = marks_are 7 undone_in_turn_calls right;
       first_redone = marks_are 8 undone_in_turn_calls right;
