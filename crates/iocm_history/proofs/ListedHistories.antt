@@ -403,7 +403,8 @@ called_is shows s h y is right = made_seen _ h ∙ ap (λ a. made a no_act (hist
 
 -- what a call makes after a history that is listed
 call_is : (opening : State) (y : ListedState) → listing opening ≡ y → (c : ListedCall) (h : History) (m : ListedHistory)
-    → history_listing h ≡ m → ComesRight c (replay_lines y m.lines) → history_listing (entry_of opening h (call_from c) ∷ h) ≡ call_listed y c m
+    → history_listing h ≡ m → ComesRight c (replay_lines y m.lines)
+    → history_listing (entry_of opening h (call_from c) ∷ h) ≡ call_listed y c m
 unfolding call_listed
 call_is opening y is c h m so right =
     let state : listing (state_at opening h) ≡ replay_lines y m.lines = state_seen opening h ∙ (λ i. replay_lines (is i) (so i).lines) in

@@ -72,7 +72,7 @@ marks_seen : (ls : List Line) → map (λ (l : Line). l.mark) ls ≡ map (λ (l 
 marks_seen [] = refl
 marks_seen (l ∷ ls) = ap (λ ms. l.mark ∷ ms) (marks_seen ls)
 
--- so are the marks after the first calls
+-- the marks after the first calls of a run are those of its listing
 marks_are : (n : ℕ) (cs : List ListedCall) → AreRight cs
     → reverse (map (λ (l : Line). l.mark) (lines (run base_opened (calls_from (take n cs)))))
     ≡ reverse (map (λ (l : ListedLine). l.mark) (made_by (take n cs)).lines)
@@ -81,7 +81,7 @@ marks_are n cs right = ap reverse (marks_seen (lines (run base_opened (calls_fro
     ∙ ap (λ (m : ListedHistory). map (λ (l : ListedLine). l.mark) m.lines)
     (run_is base_opened base_listing base_is (take n cs) (first_come_right base_listing n cs uncalled right)))
 
--- the number of a device
+-- the number of a device there
 number_is : (n : ℕ) (cs : List ListedCall) → AreRight cs → (d : ℕ)
     → number_of d (state_at base_opened (run base_opened (calls_from (take n cs))))
     ≡ find place_cmp (record { css = 0; set = 0; device = d }) (left_by (take n cs)).numbers
@@ -89,12 +89,12 @@ number_is n cs right d = let s = state_at base_opened (run base_opened (calls_fr
     get-entries s.numbers (record { css = 0; set = 0; device = d })
     ∙ ap (λ (y : ListedState). find place_cmp (record { css = 0; set = 0; device = d }) y.numbers) (state_is n cs right)
 
--- the record of a key
+-- the record of a key there
 record_is : (n : ℕ) (cs : List ListedCall) → AreRight cs → (key : Key)
     → get (state_at base_opened (run base_opened (calls_from (take n cs)))).config key ≡ find key_cmp key (left_by (take n cs)).records
 record_is n cs right key = record_at_is _ _ key (state_is n cs right)
 
--- the live record of a subchannel
+-- the live record of a subchannel there
 live_is : (n : ℕ) (cs : List ListedCall) → AreRight cs → (x : SubId)
     → get (state_at base_opened (run base_opened (calls_from (take n cs)))).lives x ≡ find sub_id_cmp x (left_by (take n cs)).lives
 live_is n cs right x = live_at_is _ _ x (state_is n cs right)

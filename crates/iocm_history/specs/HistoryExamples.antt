@@ -282,7 +282,8 @@ a_busy_redo =
 pub record ABusyRedo : Type 0 where
   pub answers : Answers a_busy_redo
   pub marks : marks_after 15 a_busy_redo
-      ≡ undone_with 1 ∷ kept ∷ lost ∷ lost ∷ lost ∷ lost ∷ kept ∷ lost ∷ lost ∷ kept ∷ lost ∷ lost ∷ kept ∷ undone_with 1 ∷ kept ∷ []
+      ≡ undone_with 1 ∷ kept ∷ lost ∷ lost ∷ lost ∷ lost ∷ kept ∷ lost ∷ lost ∷ kept
+      ∷ lost ∷ lost ∷ kept ∷ undone_with 1 ∷ kept ∷ []
   pub live : get (after 15 a_busy_redo).lives (subchannel 2 1) ≡ Some (fresh 0xC0)
 
 -- a device comes in, is used, and is deleted; both changes are undone and redone

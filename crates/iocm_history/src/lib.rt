@@ -2,8 +2,9 @@
 //! state that what is left gives, which changes stand, and which histories are legal.
 //!
 //! Each subject has one file in `specs/`; `docs/DEFINITIONS.md` goes through them. The functions here have empty bodies:
-//! their contracts are laws of the definitions, and worked runs of calls. Stages (a change that is tried first and committed later) and undo of a
-//! change under later independent ones are to be added: the first in `act_of` and `entry_in`, the second in `stands_on`.
+//! their contracts are laws of the definitions, and runs of calls that were worked by hand. Stages (a change that is
+//! tried first and committed later) and undo of a change under later independent ones are to be added: the first in
+//! `act_of` and `entry_in`, the second in `stands_on`.
 #![tactic(auto)]
 
 mod examples;
