@@ -1,5 +1,6 @@
 pub mod Book
 pub mod Entry
+pub mod HistoryExamples
 pub mod HistoryLaws
 pub mod Legal
 pub mod Line

@@ -2,12 +2,18 @@
 //! state that what is left gives, which changes stand, and which histories are legal.
 //!
 //! Each subject has one file in `specs/`; `docs/DEFINITIONS.md` goes through them. The functions here have empty bodies:
-//! their contracts are laws of the definitions. Stages (a change that is tried first and committed later) and undo of a
-//! change under later independent ones are to be added: the first in `act_of` and `entry_in`, the second in `stands_on`.
+//! their contracts are laws of the definitions, and runs of calls that were worked by hand. Stages (a change that is
+//! tried first and committed later) and undo of a change under later independent ones are to be added: the first in
+//! `act_of` and `entry_in`, the second in `stands_on`.
 #![tactic(auto)]
 
+mod examples;
 mod laws;
 
+pub use examples::{
+    runs_are_legal, steps_elsewhere_are_as_worked, steps_on_altered_subchannels_are_as_worked,
+    undo_and_redo_are_as_worked,
+};
 pub use laws::{
     marks_say_which_undo, redo_takes_undo_back, restoring_undoes_striking,
     standing_changes_mark_nothing,

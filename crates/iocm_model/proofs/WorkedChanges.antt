@@ -25,7 +25,7 @@ use Rattle.iocm_model.proofs.ListedEffects.{ListedEffect, written_listed, effect
 use Rattle.iocm_model.proofs.ListedTrees.{ListedPlan, ListedPlans, one, in_row, in_group, in_choose, no_parts, and_part, meaning_is, meaning_refused, parts_listed, taken_back, taken_back_at, inverse_refused}
 
 -- the example deck, opened, as lists
-unfoldable base_listing : ListedState
+unfoldable pub base_listing : ListedState
 base_listing = record {
   records = keyed base;
   numbers = place_of 0x1000 0 ∷ place_of 0x1001 1 ∷ place_of 0x1002 2 ∷ place_of 0x1003 3 ∷ [];
@@ -39,22 +39,22 @@ unfolding states_on_lists base_listing
 base_computed = refl
 
 -- and those of its state at opening
-base_is : listing base_opened ≡ base_listing
+pub base_is : listing base_opened ≡ base_listing
 unfolding base_opened
 base_is = opened_seen (configuration_of base) ∙ ap opened_listed (entries-configuration_of base) ∙ base_computed
 
 -- an edit that brings nothing along
-abbrev plainly : Action → ListedEdit
+abbrev pub plainly : Action → ListedEdit
 plainly a = record { action = a; places = []; kept = [] }
 
 -- an add, a delete and a modify that bring nothing along
-abbrev plain_add : Rec → ListedEdit
+abbrev pub plain_add : Rec → ListedEdit
 plain_add r = plainly (add r)
 
-abbrev plain_delete : Key → ListedEdit
+abbrev pub plain_delete : Key → ListedEdit
 plain_delete key = plainly (delete key)
 
-abbrev plain_modify : Rec → ListedEdit
+abbrev pub plain_modify : Rec → ListedEdit
 plain_modify r = plainly (modify r)
 
 -- the edits of the examples
