@@ -160,9 +160,9 @@ mutual
   mean_all_seen : (ps : ListedPlans) (n : ℕ) (s : State) → outcome_listing (mean_all (plans_from ps) n s) ≡ mean_all_listed ps n (listing s)
   mean_all_seen no_parts n s = refl
   mean_all_seen (and_part p ps) n s =
-      let further = n + nodes_of (plan_from p) in
-      then_seen (mean (plan_from p) n s) (mean_all (plans_from ps) further) (mean_all_listed ps further) (mean_all_seen ps further)
-      ∙ ap (λ o. and_then_listed o (mean_all_listed ps further)) (mean_seen p n s)
+      let following = n + nodes_of (plan_from p) in
+      then_seen (mean (plan_from p) n s) (mean_all (plans_from ps) following) (mean_all_listed ps following) (mean_all_seen ps following)
+      ∙ ap (λ o. and_then_listed o (mean_all_listed ps following)) (mean_seen p n s)
 
   -- the first part that is accepted in a state is that in its lists
   mean_first_seen : (ps : ListedPlans) (n : ℕ) (last : Refused) (s : State)

@@ -6,7 +6,7 @@ use Rattle.iocm_types.specs.Key.{key_cmp}
 use Rattle.iocm_model.specs.Configuration.{keyed, configuration_of}
 use Rattle.iocm_model.specs.State.{State}
 use Rattle.iocm_model.specs.Edit.{Action, add, delete, modify}
-use Rattle.iocm_model.specs.Effect.{Effect, effect_of, Cells}
+use Rattle.iocm_model.specs.Effect.{edited_by_all, Effect, effect_of, Cells}
 use Rattle.iocm_model.specs.Orders.{fresh}
 use Rattle.iocm_model.specs.BaseDeck.{base, lpb, online_record}
 use Rattle.iocm_model.specs.RuleExamples.{unit_on}
@@ -16,11 +16,11 @@ use Rattle.iocm_types.specs.declared.key.Key.{Key}
 use Rattle.iocm_types.specs.declared.key.Key.TheVariants as key
 use Rattle.iocm_types.specs.declared.order.Order.TheVariants as orders
 use Rattle.iocm_model.specs.Examples.{place_of}
-use Rattle.iocm_model.specs.ChangeExamples.{Writes, online_51, delete_1001, enabled_with, LiveRecordsComeAlong, AnInverse, Effects, LimitsOfTrees, TakenBackLater, base_grown, started_elsewhere, started_there, started_at, enabled_at, base_started, base_ended, base_tested, base_enabled, ANumberComesAlong, Keys, ABusySubchannel, PendingStatus, AnExchange, NodesOfBreaches, WhereRulesHold, AfterAGroup, EmptyNodes, APathComesOnline, APathListIsTurned, base_opened, subchannel, device_on_1000, device_key, ADeviceComesIn, ANumberIsUsedAgain}
+use Rattle.iocm_model.specs.ChangeExamples.{one_for_another, Writes, online_51, delete_1001, enabled_with, LiveRecordsComeAlong, AnInverse, Effects, LimitsOfTrees, TakenBackLater, base_grown, started_elsewhere, started_there, started_at, enabled_at, base_started, base_ended, base_tested, base_enabled, ANumberComesAlong, Keys, ABusySubchannel, PendingStatus, AnExchange, NodesOfBreaches, WhereRulesHold, AfterAGroup, EmptyNodes, APathComesOnline, APathListIsTurned, base_opened, subchannel, device_on_1000, device_key, ADeviceComesIn, ANumberIsUsedAgain}
 use Rattle.iocm_model.proofs.OnLists.{states_on_lists, on_lists}
 use Rattle.iocm_model.proofs.ListedMaps.{put_all}
 use Rattle.iocm_model.proofs.ListedViews.{entries-configuration_of}
-use Rattle.iocm_model.proofs.ListedStates.{ListedState, listing, opened_listed, opened_seen, live_at_is, seen_at_is, record_at_is, number_at_is, inverse_seen, inverse_listed, edit_from, answer_is, stepped_is, stepped_listed, ListedEdit}
+use Rattle.iocm_model.proofs.ListedStates.{ListedState, listing, opened_listed, opened_seen, live_at_is, seen_at_is, record_at_is, number_at_is, altered_listed, altered_seen, inverse_seen, inverse_listed, edit_from, answer_is, stepped_is, stepped_listed, ListedEdit}
 use Rattle.iocm_model.proofs.ListedEffects.{ListedEffect, written_listed, effect_listed, effect_listing, effect_is, replayed, edited_all_listed, edited_all_is, put_back, edits_cells_are}
 use Rattle.iocm_model.proofs.ListedTrees.{ListedPlan, ListedPlans, one, in_row, in_group, in_choose, no_parts, and_part, meaning_is, meaning_refused, parts_listed, taken_back, taken_back_at, inverse_refused}
 
@@ -85,6 +85,8 @@ unfolding on_lists base_listing
 a_number_is_used_again = record {
   accepted = meaning_is (in_row (parts_listed one_for_another_listed)) one_for_another_listed base_opened base_listing base_is refl;
   numbers = ap (λ (y : ListedState). y.numbers) (edited_all_is one_for_another_listed base_opened base_listing base_is);
+  altered = altered_seen base_opened (edited_by_all one_for_another base_opened)
+      ∙ (λ i. altered_listed (base_is i) (edited_all_is one_for_another_listed base_opened base_listing base_is i));
   taken_back = taken_back one_for_another_listed base_opened base_listing base_is refl;
 }
 

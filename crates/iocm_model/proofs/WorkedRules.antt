@@ -1,11 +1,12 @@
 -- The first breaches of decks, computed.
 use Rattle.std.proofs.Common.{◌≡◌, List, refl, ap, ◌∙◌}
+use Rattle.iocm_types.specs.declared.link.Link.TheVariants as link
 use Rattle.iocm_types.specs.Key.{key_cmp}
 use Rattle.iocm_model.specs.Record.{Rec}
 use Rattle.iocm_model.specs.Configuration.{keyed, configuration_of}
 use Rattle.iocm_model.specs.Numbering.{opening}
 use Rattle.iocm_model.specs.BaseDeck.{base}
-use Rattle.iocm_model.specs.RuleExamples.{first_breach_at_opening, two_on_a_dedicated_path, nine_paths, nine_units, limit_of_three, BaseKeepsTheRules, ADedicatedPathOfTwo, AUnitOnNinePaths, ADeviceOfNineUnits, ALimitOfThree, TheOtherRules, AtTheBounds, eight_paths, limit_of_four, range_to_the_end, name_used_again, path_of_nobody, online_without_access, online_to_two, no_path, one_path_twice, one_link, range_past_the_end, address_out_of_range, address_used_again, path_by_two_units, candidate_is_nobody, answered_by_two}
+use Rattle.iocm_model.specs.RuleExamples.{first_breach_at_opening, two_on_a_dedicated_path, nine_paths, nine_units, limit_of_three, BaseKeepsTheRules, ADedicatedPathOfTwo, AUnitOnNinePaths, ADeviceOfNineUnits, ALimitOfThree, TheOtherRules, AtTheBounds, address_on_another_unit, linked_to, two_with_access, eight_paths, limit_of_four, range_to_the_end, name_used_again, path_of_nobody, online_without_access, online_to_two, no_path, one_path_twice, one_link, range_past_the_end, address_out_of_range, address_used_again, path_by_two_units, candidate_is_nobody, answered_by_two}
 use Rattle.iocm_model.proofs.OnLists.{states_on_lists}
 use Rattle.iocm_model.proofs.ListedMaps.{put_all}
 use Rattle.iocm_model.proofs.ListedViews.{entries-configuration_of, opening_listed, opening_seen}
@@ -48,6 +49,7 @@ unfolding states_on_lists
 the_other_rules = record {
   v1 = first_breach_of_records name_used_again;
   v2 = first_breach_of_records path_of_nobody;
+  v3 = first_breach_of_records two_with_access;
   v4_access = first_breach_of_records online_without_access;
   v4_exclusive = first_breach_of_records online_to_two;
   v5_none = first_breach_of_records no_path;
@@ -59,6 +61,7 @@ the_other_rules = record {
   v11 = first_breach_of_records path_by_two_units;
   v12 = first_breach_of_records candidate_is_nobody;
   v14 = first_breach_of_records answered_by_two;
+  v14_link = first_breach_of_records (linked_to (link.Short 1));
 }
 
 -- at the bounds
@@ -68,4 +71,7 @@ at_the_bounds = record {
   paths = first_breach_of_records eight_paths;
   limit = first_breach_of_records limit_of_four;
   range = first_breach_of_records range_to_the_end;
+  other_link = first_breach_of_records (linked_to (link.Short 3));
+  long_link = first_breach_of_records (linked_to (link.Long 1));
+  other_unit = first_breach_of_records address_on_another_unit;
 }

@@ -18,7 +18,7 @@ use Rattle.iocm_types.specs.declared.sub_id.SubId.{SubId}
 use Rattle.iocm_model.specs.Record.{Rec, device}
 use Rattle.iocm_model.specs.Configuration.{configuration_of}
 use Rattle.iocm_model.specs.State.{State, seen_in, opened}
-use Rattle.iocm_model.specs.Edit.{Action, add, delete, modify, Edit}
+use Rattle.iocm_model.specs.Edit.{Action, add, delete, modify, Edit, altered_between}
 use Rattle.iocm_model.specs.Effect.{Effect, effect_of, values_in, written, edited_by_all, cells_of_edits}
 use Rattle.iocm_model.specs.Inverse.{inverse_of}
 use Rattle.iocm_model.specs.Tree.{Plan, Plans, leaf, row, group, choose, none, part}
@@ -93,6 +93,7 @@ pub record ANumberIsUsedAgain : Type 0 where
   pub accepted : Performs (row (parts_of one_for_another)) one_for_another base_opened
   pub numbers : entries (edited_by_all one_for_another base_opened).numbers
       ≡ place_of 0x1000 0 ∷ place_of 0x1002 2 ∷ place_of 0x1003 3 ∷ place_of 0x2000 1 ∷ []
+  pub altered : altered_between base_opened (edited_by_all one_for_another base_opened) ≡ subchannel 1 1 ∷ subchannel 2 1 ∷ []
   pub taken_back : IsTakenBack one_for_another base_opened
 
 -- device 2000 comes in, and these places come along with their numbers

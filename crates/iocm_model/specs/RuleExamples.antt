@@ -4,6 +4,7 @@ use Rattle.iocm_types.specs.declared.key.Key.{Key}
 use Rattle.iocm_types.specs.declared.key.Key.TheVariants.{Image, Path, Unit, Device, Online}
 use Rattle.iocm_types.specs.declared.path_kind.PathKind.TheVariants.{Dedicated, Reconfigurable}
 use Rattle.iocm_types.specs.declared.link.CssLink.{CssLink}
+use Rattle.iocm_types.specs.declared.link.Link.{Link}
 use Rattle.iocm_types.specs.declared.link.Link.TheVariants as link
 use Rattle.iocm_types.specs.declared.unit_range.UnitRange.{UnitRange}
 use Rattle.iocm_types.specs.declared.rule.Rule.{Rule}
@@ -59,6 +60,10 @@ nine_paths =
 
 abbrev pub AUnitOnNinePaths : Type 0
 AUnitOnNinePaths = BreaksFirst nine_paths V5 (Unit 0x1000)
+
+-- a path that one image uses at a time, with two in its access list
+abbrev pub two_with_access : List Rec
+two_with_access = path (record { css = 0; number = 0x52; kind = Reconfigurable; access = lpa ∷ lpb ∷ []; candidates = []; carried = [] }) ∷ base
 
 -- nine units on one path, each but the first with a CUADD of its own, and a device of all nine
 abbrev pub nine_units : List Rec
@@ -137,10 +142,22 @@ candidate_is_nobody = device (record (device_record 0) { candidates = Some (nobo
 abbrev pub answered_by_two : List Rec
 answered_by_two = unit_on 0x1001 (0x50 ∷ []) None ∷ base
 
+-- a second unit on path 50 with this link, where the first has the links 01 and 02 of two digits
+abbrev pub linked_to : Link → List Rec
+linked_to l = unit (record {
+  number = 0x1001;
+  paths = css_path 0x50 ∷ [];
+  ranges = record { start = 0; count = 16 } ∷ [];
+  links = record { css = 0; link = l } ∷ [];
+  cuadd = None;
+  carried = [];
+}) ∷ unit_with (record { start = 0; count = 16 } ∷ []) (record { css = 0; link = link.Short 1 } ∷ record { css = 0; link = link.Short 2 } ∷ [])
+
 -- the other rules, each where it is the first that is broken
 pub record TheOtherRules : Type 0 where
   pub v1 : BreaksFirst name_used_again V1 (Image 1 1)
   pub v2 : BreaksFirst path_of_nobody V2 (Path 0 0x52)
+  pub v3 : BreaksFirst two_with_access V3 (Path 0 0x52)
   pub v4_access : BreaksFirst online_without_access V4 (Online 0 0x51 lpb)
   pub v4_exclusive : BreaksFirst online_to_two V4 (Online 0 0x52 lpb)
   pub v5_none : BreaksFirst no_path V5 (Unit 0x1000)
@@ -152,8 +169,9 @@ pub record TheOtherRules : Type 0 where
   pub v11 : BreaksFirst path_by_two_units V11 (Device 0 0x1000)
   pub v12 : BreaksFirst candidate_is_nobody V12 (Device 0 0x1000)
   pub v14 : BreaksFirst answered_by_two V14 (Unit 0x1001)
+  pub v14_link : BreaksFirst (linked_to (link.Short 1)) V14 (Unit 0x1001)
 
--- at the bound: a unit on eight paths, a limit of four, and a range up to FF
+-- at the bound: a unit on eight paths, a limit of four, a range up to FF; and two units on one path with two links
 abbrev pub eight_paths : List Rec
 eight_paths =
     unit_on 0x1000 (0x50 ∷ 0x51 ∷ 0x52 ∷ 0x53 ∷ 0x54 ∷ 0x55 ∷ 0x56 ∷ 0x57 ∷ []) None
@@ -165,8 +183,15 @@ limit_of_four = limit (record { css = 0; set = 0; limit = 4 }) ∷ base
 abbrev pub range_to_the_end : List Rec
 range_to_the_end = unit_with (record { start = 0; count = 16 } ∷ record { start = 0xF0; count = 16 } ∷ []) []
 
+-- a device with the unit address of 1000, on another unit with a CUADD of its own
+abbrev pub address_on_another_unit : List Rec
+address_on_another_unit = device (record (device_record 0) { number = 0x2000; units = 0x1001 ∷ [] }) ∷ unit_on 0x1001 (0x51 ∷ []) (Some 1) ∷ base
+
 -- there no rule is broken
 pub record AtTheBounds : Type 0 where
   pub paths : first_breach_at_opening eight_paths ≡ None
   pub limit : first_breach_at_opening limit_of_four ≡ None
   pub range : first_breach_at_opening range_to_the_end ≡ None
+  pub other_link : first_breach_at_opening (linked_to (link.Short 3)) ≡ None
+  pub long_link : first_breach_at_opening (linked_to (link.Long 1)) ≡ None
+  pub other_unit : first_breach_at_opening address_on_another_unit ≡ None
