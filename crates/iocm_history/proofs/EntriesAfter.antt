@@ -10,10 +10,10 @@ use Rattle.iocm_model.specs.State.{State}
 use Rattle.iocm_model.specs.Effect.{Effect}
 use Rattle.iocm_model.specs.Meaning.{Outcome, meaning}
 use Rattle.iocm_model.specs.Step.{Step, order, device_end, step_answer}
-use Rattle.iocm_model.specs.Tree.{Plan}
+use Rattle.iocm_model.specs.Tree.{ChangeTree}
 use Rattle.iocm_history.specs.Entry.{Call, at, activate, undo, redo, show, Entry, History, plain_entry}
-use Rattle.iocm_history.specs.Line.{Act, step, nothing, Line, line_of, remarked}
-use Rattle.iocm_history.specs.Book.{Book, is_in, is_past, booked, book}
+use Rattle.iocm_history.specs.MarkedEntry.{Act, step, nothing, MarkedEntry, marked_entry, marks_after}
+use Rattle.iocm_history.specs.Journal.{Journal, is_in, is_past, journal_after, journal_of}
 use Rattle.iocm_history.specs.Legal.{IsRight, unless_not_quiet, stands_on, unless_stood_on, is_last_undone, activated, entry_in}
 
 -- an act that neither is a change nor an undo
@@ -24,13 +24,13 @@ is_plain _ = false
 
 -- an entry after which no mark and no standing change is another
 pub record IsIdle (e : Entry) : Type 0 where
-  pub act : is_plain (line_of e).act ≡ true
-  pub marks : (ls : List Line) → remarked e.answer ls ≡ ls
-  pub books : (b : Book) → booked e.answer b ≡ b
+  pub act : is_plain (marked_entry e).act ≡ true
+  pub marks : (ls : List MarkedEntry) → marks_after e.answer ls ≡ ls
+  pub books : (b : Journal) → journal_after e.answer b ≡ b
 
 -- what an entry is
-pub data IsAfter (b : Book) (e : Entry) : Type 0 where
-  changed : (p : Plan) (f : Effect) → e ≡ record { call = activate p; answer = Changed (b.count + 1); effect = f } → IsAfter b e
+pub data IsAfter (b : Journal) (e : Entry) : Type 0 where
+  changed : (p : ChangeTree) (f : Effect) → e ≡ record { call = activate p; answer = Changed (b.count + 1); effect = f } → IsAfter b e
   undone : (n : ℕ) → is_in n b.standing ≡ true → e ≡ plain_entry (undo n) (Undone n) → IsAfter b e
   redone : (n : ℕ) → is_in n b.undone ≡ true → e ≡ plain_entry (redo n) (Redone n) → IsAfter b e
   idle : IsIdle e → IsAfter b e
@@ -48,11 +48,11 @@ pub idle_step : (s : Step) (x : SubId) (seen : Option (View × Live)) → IsIdle
 idle_step (order o) x seen = record { act = refl; marks = λ ls. refl; books = λ b. refl }
 idle_step device_end x seen = record { act = refl; marks = λ ls. refl; books = λ b. refl }
 
-changed_after : (p : Plan) (b : Book) (s : State) (r : Outcome) → IsAfter b (activated p (b.count + 1) s r)
+changed_after : (p : ChangeTree) (b : Journal) (s : State) (r : Outcome) → IsAfter b (activated p (b.count + 1) s r)
 changed_after p b s (Ok r) = changed p _ refl
 changed_after p b s (Err why) = idle (idle_refused (activate p) why)
 
-undone_after : (n : ℕ) (b : Book) (here : Bool) (on : Option ℕ) (busy : Option SubId) (why : Refused) → is_in n b.standing ≡ here
+undone_after : (n : ℕ) (b : Journal) (here : Bool) (on : Option ℕ) (busy : Option SubId) (why : Refused) → is_in n b.standing ≡ here
     → IsAfter b (plain_entry (undo n) (cond here (unless_stood_on on (unless_not_quiet busy (Undone n))) (answers.Refused why)))
 undone_after n b true None None why here = undone n here refl
 undone_after n b true None (Some x) why here = idle (idle_refused (undo n) _)
@@ -63,7 +63,7 @@ first_in : (n : ℕ) (ns : List ℕ) → is_last_undone n ns ≡ true → is_in 
 first_in n [] is = is
 first_in n (m ∷ ms) is = rw is refl
 
-redone_after : (n : ℕ) (b : Book) (first here past : Bool) (busy : Option SubId) (why whether other : Refused) → is_last_undone n b.undone ≡ first
+redone_after : (n : ℕ) (b : Journal) (first here past : Bool) (busy : Option SubId) (why whether other : Refused) → is_last_undone n b.undone ≡ first
     → IsAfter b (plain_entry (redo n) (cond first (unless_not_quiet busy (Redone n))
     (cond here (answers.Refused why) (cond past (answers.Refused whether) (answers.Refused other)))))
 redone_after n b true here past None why whether other first = redone n (first_in n b.undone first) refl
@@ -72,7 +72,7 @@ redone_after n b false true past busy why whether other first = idle (idle_refus
 redone_after n b false false true busy why whether other first = idle (idle_refused (redo n) whether)
 redone_after n b false false false busy why whether other first = idle (idle_refused (redo n) other)
 
-entry_after : (s : State) (b : Book) (busy : ℕ → Option SubId) (c : Call) → IsAfter b (entry_in s b busy c)
+entry_after : (s : State) (b : Journal) (busy : ℕ → Option SubId) (c : Call) → IsAfter b (entry_in s b busy c)
 entry_after s b busy (at x made) = idle (idle_step made x _)
 entry_after s b busy (activate p) = changed_after p b s (meaning p s)
 entry_after s b busy (undo n) = undone_after n b (is_in n b.standing) (stands_on n b.standing) (busy n) _ refl
@@ -80,6 +80,6 @@ entry_after s b busy (redo n) = redone_after n b (is_last_undone n b.undone) (is
 entry_after s b busy show = idle (record { act = refl; marks = λ ls. refl; books = λ b. refl })
 
 -- an entry that is right after a history is one of them
-pub after : (opening : State) (h : History) (e : Entry) → IsRight opening h e → IsAfter (book h) e
-after opening h e (inl same) = subst (IsAfter (book h)) (sym same) (entry_after _ (book h) _ e.call)
+pub after : (opening : State) (h : History) (e : Entry) → IsRight opening h e → IsAfter (journal_of h) e
+after opening h e (inl same) = subst (IsAfter (journal_of h)) (sym same) (entry_after _ (journal_of h) _ e.call)
 after opening h e (inr lack) = idle (subst IsIdle (sym lack.1) (idle_refused e.call _))

@@ -4,18 +4,18 @@ use Rattle.std.specs.List.{fold}
 use Rattle.iocm_types.specs.declared.sub_id.SubId.{SubId}
 use Rattle.iocm_model.specs.State.{State}
 use Rattle.iocm_model.specs.Meaning.{Outcome, meaning}
-use Rattle.iocm_model.specs.Tree.{Plan}
+use Rattle.iocm_model.specs.Tree.{ChangeTree}
 use Rattle.iocm_history.specs.Entry.{Call, at, activate, undo, redo, show, History}
-use Rattle.iocm_history.specs.Book.{Book}
+use Rattle.iocm_history.specs.Journal.{Journal}
 use Rattle.iocm_history.specs.Legal.{activated, entry_in, entry_of, IsRight, IsLegal}
 use Rattle.iocm_history.specs.HistoryExamples.{RunsAreLegal}
 
 -- an entry is that of its call
-activated_call : (p : Plan) (n : ℕ) (s : State) (o : Outcome) → (activated p n s o).call ≡ activate p
+activated_call : (p : ChangeTree) (n : ℕ) (s : State) (o : Outcome) → (activated p n s o).call ≡ activate p
 activated_call p n s (Ok r) = refl
 activated_call p n s (Err why) = refl
 
-entry_call : (s : State) (b : Book) (busy : ℕ → Option SubId) (call : Call) → (entry_in s b busy call).call ≡ call
+entry_call : (s : State) (b : Journal) (busy : ℕ → Option SubId) (call : Call) → (entry_in s b busy call).call ≡ call
 entry_call s b busy (at x step) = refl
 entry_call s b busy (activate p) = activated_call p (b.count + 1) s (meaning p s)
 entry_call s b busy (undo n) = refl

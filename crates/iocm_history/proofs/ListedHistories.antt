@@ -17,9 +17,9 @@ use Rattle.iocm_model.proofs.ListedStates.{ListedState, listing, views_at, Liste
 use Rattle.iocm_model.proofs.ListedEffects.{ListedEffect, effect_listing, written_listed, written_seen, edits_from, effect_listed, effect_seen}
 use Rattle.iocm_model.proofs.ListedTrees.{ListedPlan, plan_from, ListedOutcome, outcome_listing, meaning_listed, meaning_seen}
 use Rattle.iocm_history.specs.Entry.{Call, at, activate, undo, redo, show, Entry, History, no_effect, plain_entry}
-use Rattle.iocm_history.specs.Line.{Act, step, change, undoing, nothing, Mark, kept, undone_with, lost, Line, act_of, is_change, is_undo, is_among, is_step_on, effect_or, change_effect, altered_by_change, struck_mark, struck_if, strike, unstruck_mark, taken_back, restore, remarked, lines}
+use Rattle.iocm_history.specs.MarkedEntry.{Act, step, change, undoing, nothing, Mark, kept, undone_with, lost, MarkedEntry, act_of, is_change, is_undo, is_among, is_step_on, effect_or, change_effect, altered_by_change, struck_mark, struck_if, strike, unstruck_mark, taken_back, restore, marks_after, marked_entries}
 use Rattle.iocm_history.specs.Replay.{acted, acted_if_kept, replay, state_at}
-use Rattle.iocm_history.specs.Book.{Book, booked, book}
+use Rattle.iocm_history.specs.Journal.{Journal, journal_after, journal_of}
 use Rattle.iocm_history.specs.Legal.{undo_answer, redo_answer, shown, activated, entry_in, entry_of}
 use Rattle.iocm_history.specs.Run.{run, answers_of}
 
@@ -41,11 +41,11 @@ pub record ListedLine : Type 0 where
   pub act : ListedAct
   pub mark : Mark
 
-abbrev pub line_listing : Line → ListedLine
+abbrev pub line_listing : MarkedEntry → ListedLine
 line_listing l = record { act = act_listing l.act; mark = l.mark }
 
 -- lines, each with its act as lists
-abbrev pub lines_listing : List Line → List ListedLine
+abbrev pub lines_listing : List MarkedEntry → List ListedLine
 lines_listing ls = map line_listing ls
 
 -- the change of a number
@@ -102,7 +102,7 @@ or_seen n (undoing m) f = refl
 or_seen n nothing f = refl
 
 -- the altered subchannels are those of the listed effect
-altered_seen : (n : ℕ) (ls : List Line) → altered_by_change n ls ≡ altered_in n (lines_listing ls)
+altered_seen : (n : ℕ) (ls : List MarkedEntry) → altered_by_change n ls ≡ altered_in n (lines_listing ls)
 altered_seen n [] = ap (map (λ e. e.0)) (entries-empty sub_ids_total sub_ids_exact)
 altered_seen n (l ∷ ls) = or_seen n l.act (change_effect n ls) ∙ ap (altered_or n (act_listing l.act)) (altered_seen n ls)
 
@@ -116,7 +116,7 @@ struck_line_if true by l = struck_line by l
 struck_line_if false by l = l
 
 -- a line is struck as its listing is
-struck_seen : (b : Bool) (by : Mark) (l : Line) → line_listing (struck_if b by l) ≡ struck_line_if b by (line_listing l)
+struck_seen : (b : Bool) (by : Mark) (l : MarkedEntry) → line_listing (struck_if b by l) ≡ struck_line_if b by (line_listing l)
 struck_seen true by l = refl
 struck_seen false by l = refl
 
@@ -127,7 +127,7 @@ strike_lines xs n (l ∷ ls) = if changes_at n l.act then struck_line (undone_wi
     else struck_line_if (steps_on xs l.act) (undone_with n) l ∷ strike_lines xs n ls
 
 -- an undo strikes the same listed lines
-strike_seen : (xs : List SubId) (n : ℕ) (ls : List Line) → lines_listing (strike xs n ls) ≡ strike_lines xs n (lines_listing ls)
+strike_seen : (xs : List SubId) (n : ℕ) (ls : List MarkedEntry) → lines_listing (strike xs n ls) ≡ strike_lines xs n (lines_listing ls)
 unfolding strike strike_lines
 strike_seen xs n [] = refl
 strike_seen xs n (l ∷ ls) = cond_seen lines_listing (is_change n l.act) _ _
@@ -140,7 +140,7 @@ abbrev back_lines : ℕ → List ListedLine → List ListedLine
 back_lines n ls = map (λ (l : ListedLine). record { act = l.act; mark = unstruck_mark n l.mark }) ls
 
 -- the same listed lines come back
-back_seen : (n : ℕ) (ls : List Line) → lines_listing (taken_back n ls) ≡ back_lines n (lines_listing ls)
+back_seen : (n : ℕ) (ls : List MarkedEntry) → lines_listing (taken_back n ls) ≡ back_lines n (lines_listing ls)
 back_seen n [] = refl
 back_seen n (l ∷ ls) = ap (λ rest. record { act = act_listing l.act; mark = unstruck_mark n l.mark } ∷ rest) (back_seen n ls)
 
@@ -151,7 +151,7 @@ restore_lines xs n (l ∷ ls) = if undoes_at n l.act then l ∷ back_lines n ls
     else struck_line_if (steps_on xs l.act) lost l ∷ restore_lines xs n ls
 
 -- a redo strikes and takes back the same listed lines
-restore_seen : (xs : List SubId) (n : ℕ) (ls : List Line) → lines_listing (restore xs n ls) ≡ restore_lines xs n (lines_listing ls)
+restore_seen : (xs : List SubId) (n : ℕ) (ls : List MarkedEntry) → lines_listing (restore xs n ls) ≡ restore_lines xs n (lines_listing ls)
 unfolding restore restore_lines
 restore_seen xs n [] = refl
 restore_seen xs n (l ∷ ls) = cond_seen lines_listing (is_undo n l.act) _ _
@@ -166,7 +166,7 @@ remarked_lines (Redone n) ls = restore_lines (altered_in n ls) n ls
 remarked_lines _ ls = ls
 
 -- an answer leaves the same listed lines
-remarked_seen : (a : Answer) (ls : List Line) → lines_listing (remarked a ls) ≡ remarked_lines a (lines_listing ls)
+remarked_seen : (a : Answer) (ls : List MarkedEntry) → lines_listing (marks_after a ls) ≡ remarked_lines a (lines_listing ls)
 remarked_seen (Undone n) ls = strike_seen (altered_by_change n ls) n ls ∙ ap (λ xs. strike_lines xs n (lines_listing ls)) (altered_seen n ls)
 remarked_seen (Redone n) ls = restore_seen (altered_by_change n ls) n ls ∙ ap (λ xs. restore_lines xs n (lines_listing ls)) (altered_seen n ls)
 remarked_seen (Io a) ls = refl
@@ -207,32 +207,32 @@ acted_if_seen (undone_with n) a s = refl
 acted_if_seen lost a s = refl
 
 -- lines give the state that their listing gives
-pub replay_seen : (s : State) (ls : List Line) → listing (replay s ls) ≡ replay_lines (listing s) (lines_listing ls)
+pub replay_seen : (s : State) (ls : List MarkedEntry) → listing (replay s ls) ≡ replay_lines (listing s) (lines_listing ls)
 unfolding replay_lines
 replay_seen s [] = refl
 replay_seen s (l ∷ ls) = acted_if_seen l.mark l.act (replay s ls) ∙ ap (acted_lines_if l.mark (act_listing l.act)) (replay_seen s ls)
 
 -- what was made so far: the lines, the book, and the answers, the latest first
 pub record ListedHistory : Type 0 where
-  pub lines : List ListedLine
-  pub book : Book
+  pub marked : List ListedLine
+  pub journal : Journal
   pub answers : List Answer
 
 -- a history with its effects as lists
 abbrev pub history_listing : History → ListedHistory
-history_listing h = record { lines = lines_listing (lines h); book = book h; answers = answers_of h }
+history_listing h = record { marked = lines_listing (marked_entries h); journal = journal_of h; answers = answers_of h }
 
 -- one more entry, that counts
 abbrev made : Answer → ListedAct → ListedHistory → ListedHistory
-made a act m = record { lines = record { act = act; mark = kept } ∷ remarked_lines a m.lines; book = booked a m.book; answers = a ∷ m.answers }
+made a act m = record { marked = record { act = act; mark = kept } ∷ remarked_lines a m.marked; journal = journal_after a m.journal; answers = a ∷ m.answers }
 
 -- an entry that is added, listed
 made_seen : (e : Entry) (h : History)
     → history_listing (e ∷ h) ≡ made e.answer (act_listing (act_of e.call e.answer e.effect)) (history_listing h)
-unfolding lines
+unfolding marked_entries
 made_seen e h = λ i. record {
-  lines = record { act = act_listing (act_of e.call e.answer e.effect); mark = kept } ∷ remarked_seen e.answer (lines h) i;
-  book = booked e.answer (book h);
+  marked = record { act = act_listing (act_of e.call e.answer e.effect); mark = kept } ∷ remarked_seen e.answer (marked_entries h) i;
+  journal = journal_after e.answer (journal_of h);
   answers = e.answer ∷ answers_of h;
 }
 
@@ -270,21 +270,21 @@ abbrev undone_lines : Answer → ListedHistory → ListedHistory
 undone_lines a m = made a (undo_act a) m
 
 -- what a machine counts, of a listed state
-abbrev shown_listed : ListedState → Book → Answer
+abbrev shown_listed : ListedState → Journal → Answer
 shown_listed y b =
     Shown (record { records = length y.records; subchannels = length (views_at y); standing = length b.standing; undone = length b.undone })
 
 -- what a call makes in a listed state
 abbrev called : ListedCall → ListedState → ListedHistory → ListedHistory
 called (stepping x s) y m = made (answer_listed y x s) (a_step x s) m
-called (activating p es) y m = activated_lines es (m.book.count + 1) y (meaning_listed p y) m
-called (undoes n) y m = undone_lines (undo_answer n m.book.standing (busy_listed y.lives (altered_in n m.lines))) m
-called (redoes n) y m = made (redo_answer n m.book (busy_listed y.lives (altered_in n m.lines))) no_act m
-called shows y m = made (shown_listed y m.book) no_act m
+called (activating p es) y m = activated_lines es (m.journal.count + 1) y (meaning_listed p y) m
+called (undoes n) y m = undone_lines (undo_answer n m.journal.standing (busy_listed y.lives (altered_in n m.marked))) m
+called (redoes n) y m = made (redo_answer n m.journal (busy_listed y.lives (altered_in n m.marked))) no_act m
+called shows y m = made (shown_listed y m.journal) no_act m
 
 -- what a call makes after a listed history
 unfoldable pub call_listed : ListedState → ListedCall → ListedHistory → ListedHistory
-call_listed y c m = called c (replay_lines y m.lines) m
+call_listed y c m = called c (replay_lines y m.marked) m
 
 -- the edits that come with a call are those that it performs
 abbrev HasEdits : List ListedEdit → ListedOutcome → Type 0
@@ -309,7 +309,7 @@ AndRight _ y rest = rest
 -- each call comes with its edits
 unfoldable pub ComeRight : ListedState → List ListedCall → ListedHistory → Type 0
 ComeRight y [] m = Unit {0}
-ComeRight y (c ∷ cs) m = AndRight c (replay_lines y m.lines) (ComeRight y cs (call_listed y c m))
+ComeRight y (c ∷ cs) m = AndRight c (replay_lines y m.marked) (ComeRight y cs (call_listed y c m))
 
 -- the call itself comes with its edits
 right_now : (c : ListedCall) (y : ListedState) (rest : Type 0) → AndRight c y rest → ComesRight c y
@@ -336,17 +336,17 @@ right_first (redoes n) y rest now later = later
 right_first shows y rest now later = later
 
 -- the state of a history
-state_seen : (opening : State) (h : History) → listing (state_at opening h) ≡ replay_lines (listing opening) (history_listing h).lines
-state_seen opening h = replay_seen opening (lines h)
+state_seen : (opening : State) (h : History) → listing (state_at opening h) ≡ replay_lines (listing opening) (history_listing h).marked
+state_seen opening h = replay_seen opening (marked_entries h)
 
 -- the first subchannel of a change that isn't quiet is that of the listing
-busy_is : (s : State) (n : ℕ) (ls : List Line) (y : ListedState) → listing s ≡ y
+busy_is : (s : State) (n : ℕ) (ls : List MarkedEntry) (y : ListedState) → listing s ≡ y
     → first_not_quiet s.lives (altered_by_change n ls) ≡ busy_listed y.lives (altered_in n (lines_listing ls))
 busy_is s n ls y is = busy_seen s.lives (altered_by_change n ls)
     ∙ (λ i. busy_listed ((is i).lives) (altered_seen n ls i))
 
 -- what a machine counts is what its listing counts
-shown_is : (s : State) (b : Book) (y : ListedState) → listing s ≡ y → shown s b ≡ shown_listed y b
+shown_is : (s : State) (b : Journal) (y : ListedState) → listing s ≡ y → shown s b ≡ shown_listed y b
 shown_is s b y is = (λ i. Shown (record {
   records = len-entries s.config i;
   subchannels = (len-entries (views_in s) ∙ ap length (views_seen s.config s.numbers)) i;
@@ -383,32 +383,32 @@ redo_act_is n (Refused a) = refl
 
 -- what a call makes in a state that is listed
 called_is : (c : ListedCall) (s : State) (h : History) (y : ListedState) → listing s ≡ y → ComesRight c y
-    → history_listing (entry_in s (book h) (λ n. first_not_quiet s.lives (altered_by_change n (lines h))) (call_from c) ∷ h)
+    → history_listing (entry_in s (journal_of h) (λ n. first_not_quiet s.lives (altered_by_change n (marked_entries h))) (call_from c) ∷ h)
     ≡ called c y (history_listing h)
 called_is (stepping x p) s h y is right = made_seen _ h
     ∙ ap (λ a. made a (a_step x p) (history_listing h)) (answer_seen s x p ∙ ap (λ z. answer_listed z x p) is)
 called_is (activating p es) s h y is right =
     let seen = meaning_seen p s in
-    activated_is p es ((book h).count + 1) s h (meaning (plan_from p) s) (subst (HasEdits es) (sym (seen ∙ ap (meaning_listed p) is)) right)
-    ∙ (λ i. activated_lines es ((book h).count + 1) (is i) ((seen ∙ ap (meaning_listed p) is) i) (history_listing h))
+    activated_is p es ((journal_of h).count + 1) s h (meaning (plan_from p) s) (subst (HasEdits es) (sym (seen ∙ ap (meaning_listed p) is)) right)
+    ∙ (λ i. activated_lines es ((journal_of h).count + 1) (is i) ((seen ∙ ap (meaning_listed p) is) i) (history_listing h))
 called_is (undoes n) s h y is right =
-    let a = undo_answer n (book h).standing (first_not_quiet s.lives (altered_by_change n (lines h))) in
+    let a = undo_answer n (journal_of h).standing (first_not_quiet s.lives (altered_by_change n (marked_entries h))) in
     made_seen (plain_entry (undo n) a) h ∙ ap (λ act. made a act (history_listing h)) (undo_act_is n a)
-    ∙ ap (λ busy. undone_lines (undo_answer n (book h).standing busy) (history_listing h)) (busy_is s n (lines h) y is)
+    ∙ ap (λ busy. undone_lines (undo_answer n (journal_of h).standing busy) (history_listing h)) (busy_is s n (marked_entries h) y is)
 called_is (redoes n) s h y is right =
-    let a = redo_answer n (book h) (first_not_quiet s.lives (altered_by_change n (lines h))) in
+    let a = redo_answer n (journal_of h) (first_not_quiet s.lives (altered_by_change n (marked_entries h))) in
     made_seen (plain_entry (redo n) a) h ∙ ap (λ act. made a act (history_listing h)) (redo_act_is n a)
-    ∙ ap (λ busy. made (redo_answer n (book h) busy) no_act (history_listing h)) (busy_is s n (lines h) y is)
-called_is shows s h y is right = made_seen _ h ∙ ap (λ a. made a no_act (history_listing h)) (shown_is s (book h) y is)
+    ∙ ap (λ busy. made (redo_answer n (journal_of h) busy) no_act (history_listing h)) (busy_is s n (marked_entries h) y is)
+called_is shows s h y is right = made_seen _ h ∙ ap (λ a. made a no_act (history_listing h)) (shown_is s (journal_of h) y is)
 
 -- what a call makes after a history that is listed
 call_is : (opening : State) (y : ListedState) → listing opening ≡ y → (c : ListedCall) (h : History) (m : ListedHistory)
-    → history_listing h ≡ m → ComesRight c (replay_lines y m.lines)
+    → history_listing h ≡ m → ComesRight c (replay_lines y m.marked)
     → history_listing (entry_of opening h (call_from c) ∷ h) ≡ call_listed y c m
 unfolding call_listed
 call_is opening y is c h m so right =
-    let state : listing (state_at opening h) ≡ replay_lines y m.lines = state_seen opening h ∙ (λ i. replay_lines (is i) (so i).lines) in
-    called_is c (state_at opening h) h (replay_lines y m.lines) state right ∙ ap (called c (replay_lines y m.lines)) so
+    let state : listing (state_at opening h) ≡ replay_lines y m.marked = state_seen opening h ∙ (λ i. replay_lines (is i) (so i).marked) in
+    called_is c (state_at opening h) h (replay_lines y m.marked) state right ∙ ap (called c (replay_lines y m.marked)) so
 
 -- what calls make, one after the other
 calls_are : (opening : State) (y : ListedState) → listing opening ≡ y → (cs : List ListedCall) (h : History) (m : ListedHistory)
@@ -418,16 +418,16 @@ unfolding calls_listed ComeRight
 calls_are opening y is [] h m so right = so
 calls_are opening y is (c ∷ cs) h m so right =
     let rest = ComeRight y cs (call_listed y c m) in
-    let now = right_now c (replay_lines y m.lines) rest right in
-    calls_are opening y is cs _ (call_listed y c m) (call_is opening y is c h m so now) (right_later c (replay_lines y m.lines) rest right)
+    let now = right_now c (replay_lines y m.marked) rest right in
+    calls_are opening y is cs _ (call_listed y c m) (call_is opening y is c h m so now) (right_later c (replay_lines y m.marked) rest right)
 
 -- nothing was called
 abbrev pub uncalled : ListedHistory
-uncalled = record { lines = []; book = record { count = 0; standing = []; undone = [] }; answers = [] }
+uncalled = record { marked = []; journal = record { count = 0; standing = []; undone = [] }; answers = [] }
 
 -- the empty history is listed so
 nothing_called : history_listing [] ≡ uncalled
-unfolding lines
+unfolding marked_entries
 nothing_called = refl
 
 -- the history of a run, listed
@@ -437,9 +437,9 @@ run_is opening y is cs right = calls_are opening y is cs [] uncalled nothing_cal
 
 -- its last state, listed
 pub last_state_is : (opening : State) (y : ListedState) → listing opening ≡ y → (cs : List ListedCall) → ComeRight y cs uncalled
-    → listing (state_at opening (run opening (calls_from cs))) ≡ replay_lines y (calls_listed y cs uncalled).lines
+    → listing (state_at opening (run opening (calls_from cs))) ≡ replay_lines y (calls_listed y cs uncalled).marked
 last_state_is opening y is cs right = state_seen opening (run opening (calls_from cs))
-    ∙ (λ i. replay_lines (is i) (run_is opening y is cs right i).lines)
+    ∙ (λ i. replay_lines (is i) (run_is opening y is cs right i).marked)
 
 -- the first calls come right where all do
 pub first_come_right : (y : ListedState) (n : ℕ) (cs : List ListedCall) (m : ListedHistory) → ComeRight y cs m → ComeRight y (take n cs) m
@@ -447,7 +447,7 @@ unfolding ComeRight
 first_come_right y zero cs m right = tt
 first_come_right y (suc n) [] m right = tt
 first_come_right y (suc n) (c ∷ cs) m right =
-    let now = replay_lines y m.lines in
+    let now = replay_lines y m.marked in
     let next = call_listed y c m in
     let rest = ComeRight y cs next in
     right_first c now (ComeRight y (take n cs) next) (right_now c now rest right) (first_come_right y n cs next (right_later c now rest right))

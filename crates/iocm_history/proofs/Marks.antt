@@ -3,7 +3,7 @@ use Rattle.std.proofs.Common.{◌≡◌, ℕ, Bool, true, false, cond, eqb, List
 use Rattle.std.proofs.lemmas.Bool.{eq-eqb, ne_eqb}
 use Rattle.std.specs.Prelude.{◌≢◌}
 use Rattle.iocm_types.specs.declared.sub_id.SubId.{SubId}
-use Rattle.iocm_history.specs.Line.{Mark, kept, undone_with, lost, Line, is_change, is_step_on, struck_mark, struck, struck_if, strike, unstruck_mark, unstruck, taken_back}
+use Rattle.iocm_history.specs.MarkedEntry.{Mark, kept, undone_with, lost, MarkedEntry, is_change, is_step_on, struck_mark, struck, struck_if, strike, unstruck_mark, unstruck, taken_back}
 use Rattle.iocm_history.specs.HistoryLaws.{IsUnmarked, RestoringUndoesStriking}
 
 -- ---- taking back
@@ -21,19 +21,19 @@ unstruck_struck n (undone_with m) other = unstruck_other n (undone_with m) other
 unstruck_struck n lost other = refl
 
 -- a line with this mark
-abbrev marked : Line → Mark → Line
+abbrev marked : MarkedEntry → Mark → MarkedEntry
 marked l m = record { act = l.act; mark = m }
 
 -- where no line is struck by the undo of a change, nothing is taken back
-pub taken_back_unmarked : (n : ℕ) (ls : List Line) → IsUnmarked n ls → taken_back n ls ≡ ls
+pub taken_back_unmarked : (n : ℕ) (ls : List MarkedEntry) → IsUnmarked n ls → taken_back n ls ≡ ls
 taken_back_unmarked n [] none = refl
 taken_back_unmarked n (l ∷ ls) none = λ i. marked l (unstruck_other n l.mark none.0 i) ∷ taken_back_unmarked n ls none.1 i
 
-struck_back_if : (b : Bool) (n : ℕ) (l : Line) → l.mark ≢ undone_with n → unstruck n (struck_if b (undone_with n) l) ≡ l
+struck_back_if : (b : Bool) (n : ℕ) (l : MarkedEntry) → l.mark ≢ undone_with n → unstruck n (struck_if b (undone_with n) l) ≡ l
 struck_back_if true n l other = λ i. marked l (unstruck_struck n l.mark other i)
 struck_back_if false n l other = λ i. marked l (unstruck_other n l.mark other i)
 
-struck_back_at : (b : Bool) (xs : List SubId) (n : ℕ) (l : Line) (ls : List Line) → l.mark ≢ undone_with n → taken_back n ls ≡ ls
+struck_back_at : (b : Bool) (xs : List SubId) (n : ℕ) (l : MarkedEntry) (ls : List MarkedEntry) → l.mark ≢ undone_with n → taken_back n ls ≡ ls
     → taken_back n (strike xs n ls) ≡ ls
     → taken_back n (cond b (struck (undone_with n) l ∷ ls) (struck_if (is_step_on xs l.act) (undone_with n) l ∷ strike xs n ls)) ≡ l ∷ ls
 struck_back_at true xs n l ls other same back = λ i. marked l (unstruck_struck n l.mark other i) ∷ same i

@@ -8,9 +8,9 @@ use Rattle.iocm_types.specs.declared.sub_id.SubId.{SubId}
 use Rattle.iocm_model.specs.State.{State}
 use Rattle.iocm_model.specs.Effect.{Effect}
 use Rattle.iocm_history.specs.Entry.{activate, undo, redo, Entry, History, plain_entry}
-use Rattle.iocm_history.specs.Line.{Act, step, change, undoing, nothing, lost, Line, is_undo, is_step_on, change_effect, altered_by_change, struck_if, strike, taken_back, restore, with_change, line_of, lines}
+use Rattle.iocm_history.specs.MarkedEntry.{Act, step, change, undoing, nothing, lost, MarkedEntry, is_undo, is_step_on, change_effect, altered_by_change, struck_if, strike, taken_back, restore, with_change, marked_entry, marked_entries}
 use Rattle.iocm_history.specs.Replay.{acted_if_kept, replay, state_at}
-use Rattle.iocm_history.specs.Book.{Book, is_in, book}
+use Rattle.iocm_history.specs.Journal.{Journal, is_in, journal_of}
 use Rattle.iocm_history.specs.Legal.{IsLegal}
 use Rattle.iocm_history.specs.HistoryLaws.{IsUnmarked, is_step, steps_elsewhere, RedoTakesUndoBack}
 use Rattle.iocm_history.proofs.EntriesAfter.{is_plain, IsIdle, IsAfter, changed, undone, redone, idle, after}
@@ -22,7 +22,7 @@ use Rattle.iocm_history.proofs.StandingMarks.{history_marked}
 -- ---- replay
 
 -- the replay of lines on lines is a replay after a replay
-pub replay_append : (s : State) (new ls : List Line) → replay s (new ++ ls) ≡ replay (replay s ls) new
+pub replay_append : (s : State) (new ls : List MarkedEntry) → replay s (new ++ ls) ≡ replay (replay s ls) new
 replay_append s [] ls = refl
 replay_append s (l ∷ new) ls = ap (acted_if_kept l.mark l.act) (replay_append s new ls)
 
@@ -34,7 +34,7 @@ AreIdle [] = Unit {0}
 AreIdle (e ∷ h) = IsIdle e × AreIdle h
 
 -- a step marks nothing
-step_idle : (b : Book) (e : Entry) → IsAfter b e → is_step e ≡ true → IsIdle e
+step_idle : (b : Journal) (e : Entry) → IsAfter b e → is_step e ≡ true → IsIdle e
 step_idle b e (changed p f is) steps = let other : is_step e ≡ false = ap is_step is in cc
 step_idle b e (undone n here is) steps = let other : is_step e ≡ false = ap is_step is in cc
 step_idle b e (redone n here is) steps = let other : is_step e ≡ false = ap is_step is in cc
@@ -54,13 +54,13 @@ legal_before opening [] h legal = legal
 legal_before opening (e ∷ new) h legal = legal_before opening new h legal.1
 
 -- their lines stand in front of those before them
-idle_lines : (new h : History) → AreIdle new → lines (new ++ h) ≡ map line_of new ++ lines h
-unfolding AreIdle lines
+idle_lines : (new h : History) → AreIdle new → marked_entries (new ++ h) ≡ map marked_entry new ++ marked_entries h
+unfolding AreIdle marked_entries
 idle_lines [] h quiet = refl
-idle_lines (e ∷ new) h quiet = ap (λ (ls : List Line). line_of e ∷ ls) (quiet.0.marks (lines (new ++ h)) ∙ idle_lines new h quiet.1)
+idle_lines (e ∷ new) h quiet = ap (λ (ls : List MarkedEntry). marked_entry e ∷ ls) (quiet.0.marks (marked_entries (new ++ h)) ∙ idle_lines new h quiet.1)
 
 -- none of them is a change
-idle_effect : (n : ℕ) (new : History) (ls : List Line) → AreIdle new → change_effect n (map line_of new ++ ls) ≡ change_effect n ls
+idle_effect : (n : ℕ) (new : History) (ls : List MarkedEntry) → AreIdle new → change_effect n (map marked_entry new ++ ls) ≡ change_effect n ls
 unfolding AreIdle
 idle_effect n [] ls quiet = refl
 idle_effect n (e ∷ new) ls quiet = plain_effect n _ _ quiet.0.act ∙ idle_effect n new ls quiet.1
@@ -79,18 +79,18 @@ abbrev redo_entry : ℕ → Entry
 redo_entry n = plain_entry (redo n) (Redone n)
 
 -- a redo after entries that mark nothing takes back what the undo before them struck
-idle_restore : (xs : List SubId) (n : ℕ) (new : History) (ls : List Line) → AreIdle new
-    → restore xs n (map line_of new ++ line_of (undo_entry n) ∷ ls) ≡ steps_elsewhere xs new ++ line_of (undo_entry n) ∷ taken_back n ls
+idle_restore : (xs : List SubId) (n : ℕ) (new : History) (ls : List MarkedEntry) → AreIdle new
+    → restore xs n (map marked_entry new ++ marked_entry (undo_entry n) ∷ ls) ≡ steps_elsewhere xs new ++ marked_entry (undo_entry n) ∷ taken_back n ls
 unfolding AreIdle restore
 idle_restore xs n [] ls quiet = let same : eqb n n ≡ true = eq-eqb n n refl in rw same refl
 idle_restore xs n (e ∷ new) ls quiet =
-    let other : is_undo n (line_of e).act ≡ false = plain_undo n _ quiet.0.act in
-    rw other (ap (λ (ms : List Line). struck_if (is_step_on xs (line_of e).act) lost (line_of e) ∷ ms) (idle_restore xs n new ls quiet.1))
+    let other : is_undo n (marked_entry e).act ≡ false = plain_undo n _ quiet.0.act in
+    rw other (ap (λ (ms : List MarkedEntry). struck_if (is_step_on xs (marked_entry e).act) lost (marked_entry e) ∷ ms) (idle_restore xs n new ls quiet.1))
 
 -- ---- the undo
 
 -- a change that may be undone stands
-undo_stands : (n : ℕ) (b : Book) → IsAfter b (undo_entry n) → is_in n b.standing ≡ true
+undo_stands : (n : ℕ) (b : Journal) → IsAfter b (undo_entry n) → is_in n b.standing ≡ true
 undo_stands n b (changed p f is) = let calls : undo n ≡ activate p = ap (λ (e : Entry). e.call) is in cc
 undo_stands n b (undone m here is) =
     let calls : undo n ≡ undo m = ap (λ (e : Entry). e.call) is in
@@ -103,34 +103,34 @@ undo_stands n b (idle i) = let plain = i.act in cc
 
 module _ (opening : State) (h between : History) (n : ℕ) (legal : IsLegal opening (undo_entry n ∷ h)) (steps : AreIdle between) where
   abbrev altered : List SubId
-  altered = altered_by_change n (lines h)
+  altered = altered_by_change n (marked_entries h)
 
-  abbrev lines_before : List Line
-  lines_before = map line_of between ++ line_of (undo_entry n) ∷ strike altered n (lines h)
+  abbrev lines_before : List MarkedEntry
+  lines_before = map marked_entry between ++ marked_entry (undo_entry n) ∷ strike altered n (marked_entries h)
 
-  unmarked_before : IsUnmarked n (lines h)
-  unmarked_before = (history_marked opening h legal.1).unmarked n (inr (undo_stands n (book h) (after opening h (undo_entry n) legal.0)))
+  unmarked_before : IsUnmarked n (marked_entries h)
+  unmarked_before = (history_marked opening h legal.1).unmarked n (inr (undo_stands n (journal_of h) (after opening h (undo_entry n) legal.0)))
 
   altered_before : altered_by_change n lines_before ≡ altered
   altered_before =
       ap (λ (f : Effect). keys f.lives)
-      (idle_effect n between (line_of (undo_entry n) ∷ strike altered n (lines h)) steps ∙ effect_strike altered n n (lines h))
+      (idle_effect n between (marked_entry (undo_entry n) ∷ strike altered n (marked_entries h)) steps ∙ effect_strike altered n n (marked_entries h))
 
-  lines_between : lines (between ++ undo_entry n ∷ h) ≡ lines_before
-  unfolding lines
+  lines_between : marked_entries (between ++ undo_entry n ∷ h) ≡ lines_before
+  unfolding marked_entries
   lines_between = idle_lines between (undo_entry n ∷ h) steps
 
   -- what the redo makes of the lines before it
-  redone_lines : with_change n (lines (between ++ undo_entry n ∷ h)) ≡ steps_elsewhere altered between ++ line_of (undo_entry n) ∷ lines h
+  redone_lines : with_change n (marked_entries (between ++ undo_entry n ∷ h)) ≡ steps_elsewhere altered between ++ marked_entry (undo_entry n) ∷ marked_entries h
   redone_lines =
       ap (with_change n) lines_between
       ∙ ap (λ (xs : List SubId). restore xs n lines_before) altered_before
-      ∙ idle_restore altered n between (strike altered n (lines h)) steps
-      ∙ ap (λ (ls : List Line). steps_elsewhere altered between ++ line_of (undo_entry n) ∷ ls) (taken_back_strike altered n (lines h) unmarked_before)
+      ∙ idle_restore altered n between (strike altered n (marked_entries h)) steps
+      ∙ ap (λ (ls : List MarkedEntry). steps_elsewhere altered between ++ marked_entry (undo_entry n) ∷ ls) (taken_back_strike altered n (marked_entries h) unmarked_before)
 
   -- the state after the redo
   redone_state : state_at opening (redo_entry n ∷ between ++ undo_entry n ∷ h) ≡ replay (state_at opening h) (steps_elsewhere altered between)
-  unfolding lines
+  unfolding marked_entries
   redone_state = ap (replay opening) redone_lines ∙ replay_append opening (steps_elsewhere altered between) _
 
 -- undo and then redo of a change, with legal steps between them

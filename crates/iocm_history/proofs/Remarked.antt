@@ -2,29 +2,29 @@
 use Rattle.std.proofs.Common.{◌≡◌, ◌≢◌, ◌⊎◌, ℕ, Bool, true, false, cond, eqb, List, [], ◌∷◌, refl, sym, ap, subst, ◌∙◌}
 use Rattle.std.proofs.lemmas.Bool.{eq-eqb}
 use Rattle.iocm_types.specs.declared.sub_id.SubId.{SubId}
-use Rattle.iocm_history.specs.Line.{Act, Mark, kept, undone_with, lost, Line, is_change, is_step_on, is_undo, effect_or, change_effect, struck_mark, struck, struck_if, strike, unstruck_mark, taken_back, restore}
+use Rattle.iocm_history.specs.MarkedEntry.{Act, Mark, kept, undone_with, lost, MarkedEntry, is_change, is_step_on, is_undo, effect_or, change_effect, struck_mark, struck, struck_if, strike, unstruck_mark, taken_back, restore}
 use Rattle.iocm_history.specs.HistoryLaws.{IsUnmarked, AreItsOwn}
 
 -- the same acts, with marks that are related
-unfoldable pub AreRemarked : (Mark → Mark → Type 0) → List Line → List Line → Type 0
+unfoldable pub AreRemarked : (Mark → Mark → Type 0) → List MarkedEntry → List MarkedEntry → Type 0
 AreRemarked R [] [] = Unit {0}
 AreRemarked R (l ∷ ls) (m ∷ ms) = (m.act ≡ l.act) × R l.mark m.mark × AreRemarked R ls ms
 AreRemarked R _ _ = ⊥
 
 module _ (R : Mark → Mark → Type 0) (itself : (m : Mark) → R m m) where
   -- the same lines
-  pub remarked_same : (ls : List Line) → AreRemarked R ls ls
+  pub remarked_same : (ls : List MarkedEntry) → AreRemarked R ls ls
   unfolding AreRemarked
   remarked_same [] = tt
   remarked_same (l ∷ ls) = (refl, itself l.mark, remarked_same ls)
 
-  remarked_if : (b : Bool) (by : Mark) (l : Line) (ls ms : List Line) → R l.mark (struck_mark by l.mark) → AreRemarked R ls ms
+  remarked_if : (b : Bool) (by : Mark) (l : MarkedEntry) (ls ms : List MarkedEntry) → R l.mark (struck_mark by l.mark) → AreRemarked R ls ms
       → AreRemarked R (l ∷ ls) (struck_if b by l ∷ ms)
   unfolding AreRemarked
   remarked_if true by l ls ms new rest = (refl, new, rest)
   remarked_if false by l ls ms new rest = (refl, itself l.mark, rest)
 
-  struck_at : (b : Bool) (xs : List SubId) (n : ℕ) (l : Line) (ls : List Line) → R l.mark (struck_mark (undone_with n) l.mark)
+  struck_at : (b : Bool) (xs : List SubId) (n : ℕ) (l : MarkedEntry) (ls : List MarkedEntry) → R l.mark (struck_mark (undone_with n) l.mark)
       → AreRemarked R ls (strike xs n ls)
       → AreRemarked R (l ∷ ls) (cond b (struck (undone_with n) l ∷ ls) (struck_if (is_step_on xs l.act) (undone_with n) l ∷ strike xs n ls))
   unfolding AreRemarked
@@ -33,18 +33,18 @@ module _ (R : Mark → Mark → Type 0) (itself : (m : Mark) → R m m) where
 
   -- an undo strikes some
   pub remarked_strike : (xs : List SubId) (n : ℕ) → ((m : Mark) → R m (struck_mark (undone_with n) m))
-      → (ls : List Line) → AreRemarked R ls (strike xs n ls)
+      → (ls : List MarkedEntry) → AreRemarked R ls (strike xs n ls)
   unfolding AreRemarked strike
   remarked_strike xs n new [] = tt
   remarked_strike xs n new (l ∷ ls) = struck_at (is_change n l.act) xs n l ls (new l.mark) (remarked_strike xs n new ls)
 
   -- taking back
-  pub remarked_back : (n : ℕ) → ((m : Mark) → R m (unstruck_mark n m)) → (ls : List Line) → AreRemarked R ls (taken_back n ls)
+  pub remarked_back : (n : ℕ) → ((m : Mark) → R m (unstruck_mark n m)) → (ls : List MarkedEntry) → AreRemarked R ls (taken_back n ls)
   unfolding AreRemarked
   remarked_back n back [] = tt
   remarked_back n back (l ∷ ls) = (refl, back l.mark, remarked_back n back ls)
 
-  restored_at : (b : Bool) (xs : List SubId) (n : ℕ) (l : Line) (ls : List Line) → R l.mark (struck_mark lost l.mark)
+  restored_at : (b : Bool) (xs : List SubId) (n : ℕ) (l : MarkedEntry) (ls : List MarkedEntry) → R l.mark (struck_mark lost l.mark)
       → AreRemarked R ls (taken_back n ls) → AreRemarked R ls (restore xs n ls)
       → AreRemarked R (l ∷ ls) (cond b (l ∷ taken_back n ls) (struck_if (is_step_on xs l.act) lost l ∷ restore xs n ls))
   unfolding AreRemarked
@@ -53,7 +53,7 @@ module _ (R : Mark → Mark → Type 0) (itself : (m : Mark) → R m m) where
 
   -- a redo strikes some for good, and takes back
   pub remarked_restore : (xs : List SubId) (n : ℕ) → ((m : Mark) → R m (struck_mark lost m)) → ((m : Mark) → R m (unstruck_mark n m))
-      → (ls : List Line) → AreRemarked R ls (restore xs n ls)
+      → (ls : List MarkedEntry) → AreRemarked R ls (restore xs n ls)
   unfolding AreRemarked restore
   remarked_restore xs n new back [] = tt
   remarked_restore xs n new back (l ∷ ls) =
@@ -64,7 +64,7 @@ module _ (R : Mark → Mark → Type 0) (itself : (m : Mark) → R m m) where
 abbrev AnyMarks : Mark → Mark → Type 0
 AnyMarks l m = Unit {0}
 
-same_effect : (R : Mark → Mark → Type 0) (n : ℕ) (ls ms : List Line) → AreRemarked R ls ms → change_effect n ms ≡ change_effect n ls
+same_effect : (R : Mark → Mark → Type 0) (n : ℕ) (ls ms : List MarkedEntry) → AreRemarked R ls ms → change_effect n ms ≡ change_effect n ls
 unfolding AreRemarked
 same_effect R n [] [] r = refl
 same_effect R n [] (m ∷ ms) r = absurd r
@@ -72,11 +72,11 @@ same_effect R n (l ∷ ls) [] r = absurd r
 same_effect R n (l ∷ ls) (m ∷ ms) r = λ i. effect_or n (r.0 i) (same_effect R n ls ms r.2 i)
 
 -- after an undo
-pub effect_strike : (xs : List SubId) (k n : ℕ) (ls : List Line) → change_effect n (strike xs k ls) ≡ change_effect n ls
+pub effect_strike : (xs : List SubId) (k n : ℕ) (ls : List MarkedEntry) → change_effect n (strike xs k ls) ≡ change_effect n ls
 effect_strike xs k n ls = same_effect AnyMarks n ls _ (remarked_strike AnyMarks (λ m. tt) xs k (λ m. tt) ls)
 
 -- after a redo
-pub effect_restore : (xs : List SubId) (k n : ℕ) (ls : List Line) → change_effect n (restore xs k ls) ≡ change_effect n ls
+pub effect_restore : (xs : List SubId) (k n : ℕ) (ls : List MarkedEntry) → change_effect n (restore xs k ls) ≡ change_effect n ls
 effect_restore xs k n ls = same_effect AnyMarks n ls _ (remarked_restore AnyMarks (λ m. tt) xs k (λ m. tt) (λ m. tt) ls)
 
 -- ---- nothing is newly struck by the undo of a change
@@ -106,17 +106,17 @@ lost_mark : (n : ℕ) → lost ≢ undone_with n
 lost_mark n is = cc
 
 -- the undo of another change strikes nothing newly with this one
-pub not_new_strike : (xs : List SubId) (n k : ℕ) → k ≢ n → (ls : List Line) → AreRemarked (NotNew n) ls (strike xs k ls)
+pub not_new_strike : (xs : List SubId) (n k : ℕ) → k ≢ n → (ls : List MarkedEntry) → AreRemarked (NotNew n) ls (strike xs k ls)
 not_new_strike xs n k other ls =
     remarked_strike (NotNew n) (λ m is. is) xs k (λ m. not_new_struck n (undone_with k) m (other_mark n k other)) ls
 
 -- nor does a redo
-pub not_new_restore : (xs : List SubId) (n k : ℕ) (ls : List Line) → AreRemarked (NotNew n) ls (restore xs k ls)
+pub not_new_restore : (xs : List SubId) (n k : ℕ) (ls : List MarkedEntry) → AreRemarked (NotNew n) ls (restore xs k ls)
 not_new_restore xs n k ls =
     remarked_restore (NotNew n) (λ m is. is) xs k (λ m. not_new_struck n lost m (lost_mark n)) (not_new_back n k) ls
 
 -- then what had no mark of the change has none
-pub unmarked_then : (n : ℕ) (ls ms : List Line) → AreRemarked (NotNew n) ls ms → IsUnmarked n ls → IsUnmarked n ms
+pub unmarked_then : (n : ℕ) (ls ms : List MarkedEntry) → AreRemarked (NotNew n) ls ms → IsUnmarked n ls → IsUnmarked n ms
 unfolding AreRemarked
 unmarked_then n [] [] r none = tt
 unmarked_then n [] (m ∷ ms) r none = absurd r
@@ -124,7 +124,7 @@ unmarked_then n (l ∷ ls) [] r none = absurd r
 unmarked_then n (l ∷ ls) (m ∷ ms) r none = (λ is. none.0 (r.1 is), unmarked_then n ls ms r.2 none.1)
 
 -- and what has its marks rightly has them rightly
-pub own_then : (n : ℕ) (xs : List SubId) (ls ms : List Line) → AreRemarked (NotNew n) ls ms → AreItsOwn n xs ls → AreItsOwn n xs ms
+pub own_then : (n : ℕ) (xs : List SubId) (ls ms : List MarkedEntry) → AreRemarked (NotNew n) ls ms → AreItsOwn n xs ls → AreItsOwn n xs ms
 unfolding AreRemarked
 own_then n xs [] [] r own = tt
 own_then n xs [] (m ∷ ms) r own = absurd r
@@ -135,12 +135,12 @@ own_then n xs (l ∷ ls) (m ∷ ms) r own =
 -- ---- marks since the last undo of a change
 
 -- no line since the last undo of this change is struck by it
-unfoldable pub IsFresh : ℕ → List Line → Type 0
+unfoldable pub IsFresh : ℕ → List MarkedEntry → Type 0
 IsFresh n [] = Unit {0}
 IsFresh n (l ∷ ls) = (l.mark ≢ undone_with n) × (is_undo n l.act ≡ false → IsFresh n ls)
 
 -- where nothing is newly struck by it, none is then either
-pub fresh_then : (n : ℕ) (ls ms : List Line) → AreRemarked (NotNew n) ls ms → IsFresh n ls → IsFresh n ms
+pub fresh_then : (n : ℕ) (ls ms : List MarkedEntry) → AreRemarked (NotNew n) ls ms → IsFresh n ls → IsFresh n ms
 unfolding AreRemarked IsFresh
 fresh_then n [] [] r new = tt
 fresh_then n [] (m ∷ ms) r new = absurd r
@@ -158,22 +158,22 @@ back_unmarked n (undone_with j) e = back_mark (eqb n j) n j refl e
 back_unmarked n lost e = cc
 
 -- what is taken back is struck by its undo no more
-pub taken_back_clears : (n : ℕ) (ls : List Line) → IsUnmarked n (taken_back n ls)
+pub taken_back_clears : (n : ℕ) (ls : List MarkedEntry) → IsUnmarked n (taken_back n ls)
 taken_back_clears n [] = tt
 taken_back_clears n (l ∷ ls) = (back_unmarked n l.mark, taken_back_clears n ls)
 
-lost_if : (b : Bool) (n : ℕ) (l : Line) → l.mark ≢ undone_with n → (struck_if b lost l).mark ≢ undone_with n
+lost_if : (b : Bool) (n : ℕ) (l : MarkedEntry) → l.mark ≢ undone_with n → (struck_if b lost l).mark ≢ undone_with n
 lost_if true n l other is = other (not_new_struck n lost l.mark (lost_mark n) is)
 lost_if false n l other is = other is
 
-clears_at : (b : Bool) (xs : List SubId) (n : ℕ) (l : Line) (ls : List Line) → is_undo n l.act ≡ b → l.mark ≢ undone_with n
+clears_at : (b : Bool) (xs : List SubId) (n : ℕ) (l : MarkedEntry) (ls : List MarkedEntry) → is_undo n l.act ≡ b → l.mark ≢ undone_with n
     → (is_undo n l.act ≡ false → IsUnmarked n (restore xs n ls))
     → IsUnmarked n (cond b (l ∷ taken_back n ls) (struck_if (is_step_on xs l.act) lost l ∷ restore xs n ls))
 clears_at true xs n l ls is other rest = (other, taken_back_clears n ls)
 clears_at false xs n l ls is other rest = (lost_if (is_step_on xs l.act) n l other, rest is)
 
 -- after the redo of a change no line is struck by its undo
-pub restore_clears : (xs : List SubId) (n : ℕ) (ls : List Line) → IsFresh n ls → IsUnmarked n (restore xs n ls)
+pub restore_clears : (xs : List SubId) (n : ℕ) (ls : List MarkedEntry) → IsFresh n ls → IsUnmarked n (restore xs n ls)
 unfolding IsFresh restore
 restore_clears xs n [] new = tt
 restore_clears xs n (l ∷ ls) new = clears_at (is_undo n l.act) xs n l ls refl new.0 (λ later. restore_clears xs n ls (new.1 later))

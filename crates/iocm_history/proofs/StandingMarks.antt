@@ -6,8 +6,8 @@ use Rattle.iocm_types.specs.declared.answer.Answer.TheVariants.{Changed, Undone,
 use Rattle.iocm_types.specs.declared.sub_id.SubId.{SubId}
 use Rattle.iocm_model.specs.State.{State}
 use Rattle.iocm_history.specs.Entry.{activate, undo, redo, Entry, History, plain_entry}
-use Rattle.iocm_history.specs.Line.{kept, undone_with, Line, altered_by_change, strike, restore, line_of, lines, remarked}
-use Rattle.iocm_history.specs.Book.{Book, is_in, without, booked, book}
+use Rattle.iocm_history.specs.MarkedEntry.{kept, undone_with, MarkedEntry, altered_by_change, strike, restore, marked_entry, marked_entries, marks_after}
+use Rattle.iocm_history.specs.Journal.{Journal, is_in, without, journal_after, journal_of}
 use Rattle.iocm_history.specs.Legal.{IsLegal}
 use Rattle.iocm_history.specs.HistoryLaws.{IsUnmarked, StandingChangesMarkNothing}
 use Rattle.iocm_history.proofs.EntriesAfter.{IsIdle, IsAfter, changed, undone, redone, idle, after}
@@ -50,12 +50,12 @@ in_first_or_rest k n ns is = go (eqb k n) refl is
 -- ---- what holds of the lines of a legal history
 
 -- a change that stands, or isn't there yet
-abbrev StandsOrIsAhead : Book → ℕ → Type 0
+abbrev StandsOrIsAhead : Journal → ℕ → Type 0
 StandsOrIsAhead b n = (b.count < n) ⊎ (is_in n b.standing ≡ true)
 
 -- the changes that stand or are undone were counted; those that stand or aren't there yet mark nothing; and none marks anything
 -- since its last undo
-pub record AreMarked (b : Book) (ls : List Line) : Type 0 where
+pub record AreMarked (b : Journal) (ls : List MarkedEntry) : Type 0 where
   pub standing : (n : ℕ) → is_in n b.standing ≡ true → n ≤ b.count
   pub undone : (n : ℕ) → is_in n b.undone ≡ true → n ≤ b.count
   pub unmarked : (n : ℕ) → StandsOrIsAhead b n → IsUnmarked n ls
@@ -66,24 +66,24 @@ pub kept_mark : (n : ℕ) → kept ≢ undone_with n
 kept_mark n e = cc
 
 -- an entry is not struck when it is made
-made_unmarked : (n : ℕ) (e : Entry) (ls : List Line) → IsUnmarked n ls → IsUnmarked n (line_of e ∷ ls)
+made_unmarked : (n : ℕ) (e : Entry) (ls : List MarkedEntry) → IsUnmarked n ls → IsUnmarked n (marked_entry e ∷ ls)
 made_unmarked n e ls none = (kept_mark n, none)
 
-made_fresh : (n : ℕ) (e : Entry) (ls : List Line) → IsFresh n ls → IsFresh n (line_of e ∷ ls)
+made_fresh : (n : ℕ) (e : Entry) (ls : List MarkedEntry) → IsFresh n ls → IsFresh n (marked_entry e ∷ ls)
 unfolding IsFresh
 made_fresh n e ls new = (kept_mark n, λ later. new)
 
 -- the undo of a change begins anew for it
-undone_fresh : (n k : ℕ) (xs : List SubId) (ls : List Line) → IsFresh k ls → IsFresh k (line_of (plain_entry (undo n) (Undone n)) ∷ strike xs n ls)
+undone_fresh : (n k : ℕ) (xs : List SubId) (ls : List MarkedEntry) → IsFresh k ls → IsFresh k (marked_entry (plain_entry (undo n) (Undone n)) ∷ strike xs n ls)
 unfolding IsFresh
 undone_fresh n k xs ls new =
     (kept_mark k, λ later. fresh_then k ls (strike xs n ls) (not_new_strike xs k n (λ same. eqb-false k n later (sym same)) ls) new)
 
 -- ---- each entry keeps it
 
-module _ (b : Book) (ls : List Line) (m : AreMarked b ls) where
+module _ (b : Journal) (ls : List MarkedEntry) (m : AreMarked b ls) where
   -- an accepted change
-  change_marked : (e : Entry) → AreMarked (booked (Changed (b.count + 1)) b) (line_of e ∷ ls)
+  change_marked : (e : Entry) → AreMarked (journal_after (Changed (b.count + 1)) b) (marked_entry e ∷ ls)
   change_marked e = record {
     standing = λ n among. counted n (in_first_or_rest n (b.count + 1) b.standing among);
     undone = λ n among. cc;
@@ -99,13 +99,13 @@ module _ (b : Book) (ls : List Line) (m : AreMarked b ls) where
       first_stood n (inl same) = inl (omega arith)
       first_stood n (inr among) = inr among
 
-      stood : (n : ℕ) → StandsOrIsAhead (booked (Changed (b.count + 1)) b) n → StandsOrIsAhead b n
+      stood : (n : ℕ) → StandsOrIsAhead (journal_after (Changed (b.count + 1)) b) n → StandsOrIsAhead b n
       stood n (inl ahead) = inl (omega arith)
       stood n (inr among) = first_stood n (in_first_or_rest n (b.count + 1) b.standing among)
 
   -- an accepted undo
   undo_marked : (n : ℕ) (xs : List SubId) → is_in n b.standing ≡ true
-      → AreMarked (booked (Undone n) b) (line_of (plain_entry (undo n) (Undone n)) ∷ strike xs n ls)
+      → AreMarked (journal_after (Undone n) b) (marked_entry (plain_entry (undo n) (Undone n)) ∷ strike xs n ls)
   undo_marked n xs here = record {
     standing = λ k among. m.standing k (in_without n k b.standing among);
     undone = λ k among. counted k (in_first_or_rest k n b.undone among);
@@ -118,17 +118,17 @@ module _ (b : Book) (ls : List Line) (m : AreMarked b ls) where
       counted k (inl same) = let low = m.standing n here in omega arith
       counted k (inr among) = m.undone k among
 
-      another : (k : ℕ) → StandsOrIsAhead (booked (Undone n) b) k → n ≢ k
+      another : (k : ℕ) → StandsOrIsAhead (journal_after (Undone n) b) k → n ≢ k
       another k (inl ahead) same = let low = m.standing n here in omega arith
       another k (inr among) same = without_other n k b.standing among same
 
-      stood : (k : ℕ) → StandsOrIsAhead (booked (Undone n) b) k → StandsOrIsAhead b k
+      stood : (k : ℕ) → StandsOrIsAhead (journal_after (Undone n) b) k → StandsOrIsAhead b k
       stood k (inl ahead) = inl ahead
       stood k (inr among) = inr (in_without n k b.standing among)
 
   -- an accepted redo
   redo_marked : (n : ℕ) (xs : List SubId) → is_in n b.undone ≡ true
-      → AreMarked (booked (Redone n) b) (line_of (plain_entry (redo n) (Redone n)) ∷ restore xs n ls)
+      → AreMarked (journal_after (Redone n) b) (marked_entry (plain_entry (redo n) (Redone n)) ∷ restore xs n ls)
   redo_marked n xs here = record {
     standing = λ k among. counted k (in_first_or_rest k n b.standing among);
     undone = λ k among. m.undone k (in_without n k b.undone among);
@@ -148,14 +148,14 @@ module _ (b : Book) (ls : List Line) (m : AreMarked b ls) where
       first_clear k (inl same) = subst (λ (j : ℕ). IsUnmarked j (restore xs n ls)) (sym same) (restore_clears xs n ls (m.fresh n))
       first_clear k (inr among) = stood k (inr among)
 
-      clear : (k : ℕ) → StandsOrIsAhead (booked (Redone n) b) k → IsUnmarked k (restore xs n ls)
+      clear : (k : ℕ) → StandsOrIsAhead (journal_after (Redone n) b) k → IsUnmarked k (restore xs n ls)
       clear k (inl ahead) = stood k (inl ahead)
       clear k (inr among) = first_clear k (in_first_or_rest k n b.standing among)
 
   -- an entry that marks nothing
-  idle_marked : (e : Entry) → IsIdle e → AreMarked (booked e.answer b) (line_of e ∷ remarked e.answer ls)
-  idle_marked e i = subst (λ (c : Book). AreMarked c (line_of e ∷ remarked e.answer ls)) (sym (i.books b))
-      (subst (λ (ms : List Line). AreMarked b (line_of e ∷ ms)) (sym (i.marks ls)) record {
+  idle_marked : (e : Entry) → IsIdle e → AreMarked (journal_after e.answer b) (marked_entry e ∷ marks_after e.answer ls)
+  idle_marked e i = subst (λ (c : Journal). AreMarked c (marked_entry e ∷ marks_after e.answer ls)) (sym (i.books b))
+      (subst (λ (ms : List MarkedEntry). AreMarked b (marked_entry e ∷ ms)) (sym (i.marks ls)) record {
         standing = m.standing;
         undone = m.undone;
         unmarked = λ n stands. made_unmarked n e ls (m.unmarked n stands);
@@ -163,23 +163,23 @@ module _ (b : Book) (ls : List Line) (m : AreMarked b ls) where
       })
 
   -- an entry that may come
-  entry_marked : (e : Entry) → IsAfter b e → AreMarked (booked e.answer b) (line_of e ∷ remarked e.answer ls)
+  entry_marked : (e : Entry) → IsAfter b e → AreMarked (journal_after e.answer b) (marked_entry e ∷ marks_after e.answer ls)
   entry_marked e (changed p f is) =
-      subst (λ (o : Entry). AreMarked (booked o.answer b) (line_of o ∷ remarked o.answer ls)) (sym is)
+      subst (λ (o : Entry). AreMarked (journal_after o.answer b) (marked_entry o ∷ marks_after o.answer ls)) (sym is)
       (change_marked (record { call = activate p; answer = Changed (b.count + 1); effect = f }))
   entry_marked e (undone n here is) =
-      subst (λ (o : Entry). AreMarked (booked o.answer b) (line_of o ∷ remarked o.answer ls)) (sym is) (undo_marked n (altered_by_change n ls) here)
+      subst (λ (o : Entry). AreMarked (journal_after o.answer b) (marked_entry o ∷ marks_after o.answer ls)) (sym is) (undo_marked n (altered_by_change n ls) here)
   entry_marked e (redone n here is) =
-      subst (λ (o : Entry). AreMarked (booked o.answer b) (line_of o ∷ remarked o.answer ls)) (sym is) (redo_marked n (altered_by_change n ls) here)
+      subst (λ (o : Entry). AreMarked (journal_after o.answer b) (marked_entry o ∷ marks_after o.answer ls)) (sym is) (redo_marked n (altered_by_change n ls) here)
   entry_marked e (idle i) = idle_marked e i
 
 -- ---- the law
 
 -- it holds of each legal history
-pub history_marked : (opening : State) (h : History) → IsLegal opening h → AreMarked (book h) (lines h)
-unfolding lines IsFresh
+pub history_marked : (opening : State) (h : History) → IsLegal opening h → AreMarked (journal_of h) (marked_entries h)
+unfolding marked_entries IsFresh
 history_marked opening [] legal = record { standing = λ n among. cc; undone = λ n among. cc; unmarked = λ n stands. tt; fresh = λ n. tt }
-history_marked opening (e ∷ h) legal = entry_marked (book h) (lines h) (history_marked opening h legal.1) e (after opening h e legal.0)
+history_marked opening (e ∷ h) legal = entry_marked (journal_of h) (marked_entries h) (history_marked opening h legal.1) e (after opening h e legal.0)
 
 -- no line is struck by the undo of a change that stands, or that isn't there yet
 pub standing_unmarked : StandingChangesMarkNothing

@@ -19,7 +19,7 @@ use Rattle.iocm_model.proofs.ListedRules.{first_breach_listed}
 use Rattle.iocm_model.proofs.ListedEffects.{edited_all_listed, edits_cells_listed, edit_cells_listed, values_listed, written_listed}
 use Rattle.iocm_model.proofs.ListedTrees.{one, in_group, in_choose, no_parts, parts_listed, mean_listed, meaning_listed}
 use Rattle.iocm_model.proofs.WorkedChanges.{base_listing, base_is, plain_add, plain_delete}
-use Rattle.iocm_history.specs.Line.{Line, lines}
+use Rattle.iocm_history.specs.MarkedEntry.{MarkedEntry, marked_entries}
 use Rattle.iocm_history.specs.Replay.{state_at}
 use Rattle.iocm_history.specs.Run.{run, answers_of}
 use Rattle.iocm_history.specs.HistoryExamples.{Answers, number_of, LatestFirst, AChooseUndone, StepsElsewhere, PendingStatus, three_changes, empty_changes, a_path_comes_online, APathUndone, ABusyUndo, ABusyRedo, UndoneInTurn}
@@ -50,7 +50,7 @@ made_by cs = calls_listed base_listing cs uncalled
 
 -- its last state
 abbrev left_by : List ListedCall → ListedState
-left_by cs = replay_lines base_listing (made_by cs).lines
+left_by cs = replay_lines base_listing (made_by cs).marked
 
 -- each call comes with the edits that it performs
 abbrev AreRight : List ListedCall → Type 0
@@ -68,17 +68,17 @@ unfolding made_by
 state_is n cs right = last_state_is base_opened base_listing base_is (take n cs) (first_come_right base_listing n cs uncalled right)
 
 -- a listing has the marks of its lines
-marks_seen : (ls : List Line) → map (λ (l : Line). l.mark) ls ≡ map (λ (l : ListedLine). l.mark) (lines_listing ls)
+marks_seen : (ls : List MarkedEntry) → map (λ (l : MarkedEntry). l.mark) ls ≡ map (λ (l : ListedLine). l.mark) (lines_listing ls)
 marks_seen [] = refl
 marks_seen (l ∷ ls) = ap (λ ms. l.mark ∷ ms) (marks_seen ls)
 
 -- the marks after the first calls of a run are those of its listing
 marks_are : (n : ℕ) (cs : List ListedCall) → AreRight cs
-    → reverse (map (λ (l : Line). l.mark) (lines (run base_opened (calls_from (take n cs)))))
-    ≡ reverse (map (λ (l : ListedLine). l.mark) (made_by (take n cs)).lines)
+    → reverse (map (λ (l : MarkedEntry). l.mark) (marked_entries (run base_opened (calls_from (take n cs)))))
+    ≡ reverse (map (λ (l : ListedLine). l.mark) (made_by (take n cs)).marked)
 unfolding made_by
-marks_are n cs right = ap reverse (marks_seen (lines (run base_opened (calls_from (take n cs))))
-    ∙ ap (λ (m : ListedHistory). map (λ (l : ListedLine). l.mark) m.lines)
+marks_are n cs right = ap reverse (marks_seen (marked_entries (run base_opened (calls_from (take n cs))))
+    ∙ ap (λ (m : ListedHistory). map (λ (l : ListedLine). l.mark) m.marked)
     (run_is base_opened base_listing base_is (take n cs) (first_come_right base_listing n cs uncalled right)))
 
 -- the number of a device there

@@ -5,13 +5,13 @@ use Rattle.iocm_types.specs.declared.answer.Answer.{Answer}
 use Rattle.iocm_types.specs.declared.sub_id.SubId.{SubId}
 use Rattle.iocm_model.specs.Effect.{Effect}
 use Rattle.iocm_model.specs.Step.{Step}
-use Rattle.iocm_model.specs.Tree.{Plan}
+use Rattle.iocm_model.specs.Tree.{ChangeTree}
 
 -- what is asked of a machine: a step at a subchannel, an order of its image or a device end; to activate a change tree; to undo or
 -- redo the change of a number; to show what it counts
 pub data Call : Type 0 where
   at : SubId → Step → Call
-  activate : Plan → Call
+  activate : ChangeTree → Call
   undo : ℕ → Call
   redo : ℕ → Call
   show : Call

@@ -22,7 +22,7 @@ use Rattle.iocm_model.specs.Tree.{leaf, group, choose, none}
 use Rattle.iocm_model.specs.Step.{order, device_end}
 use Rattle.iocm_model.specs.ChangeExamples.{base_opened, added, deleted, device_on_1000, device_key, subchannel, online_51, enabled_with}
 use Rattle.iocm_history.specs.Entry.{Call, at, activate, undo, redo, show, History}
-use Rattle.iocm_history.specs.Line.{Mark, kept, undone_with, lost, Line, lines}
+use Rattle.iocm_history.specs.MarkedEntry.{Mark, kept, undone_with, lost, MarkedEntry, marked_entries}
 use Rattle.iocm_history.specs.Replay.{state_at}
 use Rattle.iocm_history.specs.Legal.{IsLegal}
 use Rattle.iocm_history.specs.Run.{run, answers_of}
@@ -48,7 +48,7 @@ after n script = state_at base_opened (history_of (take n script))
 
 -- the marks of the entries after the first calls of a script, in order
 abbrev pub marks_after : ℕ → Script → List Mark
-marks_after n script = reverse (map (λ (l : Line). l.mark) (lines (history_of (take n script))))
+marks_after n script = reverse (map (λ (l : MarkedEntry). l.mark) (marked_entries (history_of (take n script))))
 
 -- the number of a device of set 0 in channel subsystem 0
 abbrev pub number_of : ℕ → State → Option ℕ

@@ -9,13 +9,13 @@ use Rattle.iocm_types.specs.declared.sub_id.SubId.{SubId}
 use Rattle.iocm_model.specs.State.{State, views_in}
 use Rattle.iocm_model.specs.Refusal.{refused_at, first_not_quiet}
 use Rattle.iocm_model.specs.Effect.{effect_of}
-use Rattle.iocm_model.specs.Tree.{Plan}
+use Rattle.iocm_model.specs.Tree.{ChangeTree}
 use Rattle.iocm_model.specs.Meaning.{Outcome, meaning}
 use Rattle.iocm_model.specs.Step.{answer_in}
 use Rattle.iocm_history.specs.Entry.{Call, at, activate, undo, redo, show, Entry, History, plain_entry}
-use Rattle.iocm_history.specs.Line.{altered_by_change, lines}
+use Rattle.iocm_history.specs.MarkedEntry.{altered_by_change, marked_entries}
 use Rattle.iocm_history.specs.Replay.{state_at}
-use Rattle.iocm_history.specs.Book.{Book, is_in, is_past, book}
+use Rattle.iocm_history.specs.Journal.{Journal, is_in, is_past, journal_of}
 
 -- B1 of an undo or a redo: the least subchannel of the change that isn't quiet, with no node
 abbrev pub unless_not_quiet : Option SubId → Answer → Answer
@@ -44,7 +44,7 @@ is_last_undone n [] = false
 is_last_undone n (m ∷ ms) = n == m
 
 -- redo: J1 no such change that was undone; J3 not the last one undone, or past; B1
-abbrev pub redo_answer : ℕ → Book → Option SubId → Answer
+abbrev pub redo_answer : ℕ → Journal → Option SubId → Answer
 redo_answer n b busy =
     if is_last_undone n b.undone then unless_not_quiet busy (Redone n)
     else if is_in n b.undone then Refused (refused_at J3 Nothing)
@@ -52,16 +52,16 @@ redo_answer n b busy =
     else Refused (refused_at J1 Nothing)
 
 -- what a machine counts
-abbrev pub shown : State → Book → Answer
+abbrev pub shown : State → Journal → Answer
 shown s b = Shown (record { records = len s.config; subchannels = len (views_in s); standing = length b.standing; undone = length b.undone })
 
 -- an activation that gets this number: its change with what it wrote, or the refusal
-abbrev pub activated : Plan → ℕ → State → Outcome → Entry
+abbrev pub activated : ChangeTree → ℕ → State → Outcome → Entry
 activated p n s (Ok r) = record { call = activate p; answer = Changed n; effect = effect_of r.edits s }
 activated p n s (Err why) = plain_entry (activate p) (Refused why)
 
 -- the entry that a call makes in a state: with which changes stand, and for each change the least of its subchannels that isn't quiet
-abbrev pub entry_in : State → Book → (ℕ → Option SubId) → Call → Entry
+abbrev pub entry_in : State → Journal → (ℕ → Option SubId) → Call → Entry
 entry_in s b busy (at x step) = plain_entry (at x step) (answer_in s x step)
 entry_in s b busy (activate p) = activated p (b.count + 1) s (meaning p s)
 entry_in s b busy (undo n) = plain_entry (undo n) (undo_answer n b.standing (busy n))
@@ -71,7 +71,7 @@ entry_in s b busy show = plain_entry show (shown s b)
 -- the entry that a call makes after a history, where memory is there
 abbrev pub entry_of : State → History → Call → Entry
 entry_of opening h call = let s = state_at opening h in
-    entry_in s (book h) (λ n. first_not_quiet s.lives (altered_by_change n (lines h))) call
+    entry_in s (journal_of h) (λ n. first_not_quiet s.lives (altered_by_change n (marked_entries h))) call
 
 -- the calls that may want memory
 abbrev pub may_lack_memory : Call → Bool

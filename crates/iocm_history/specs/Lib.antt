@@ -1,8 +1,8 @@
-pub mod Book
+pub mod Journal
 pub mod Entry
 pub mod HistoryExamples
 pub mod HistoryLaws
 pub mod Legal
-pub mod Line
+pub mod MarkedEntry
 pub mod Replay
 pub mod Run

@@ -4,7 +4,7 @@ use Rattle.iocm_model.specs.State.{State}
 use Rattle.iocm_model.specs.Effect.{written}
 use Rattle.iocm_model.specs.Step.{stepped}
 use Rattle.iocm_history.specs.Entry.{History}
-use Rattle.iocm_history.specs.Line.{Act, step, change, undoing, nothing, Mark, kept, undone_with, lost, Line, lines}
+use Rattle.iocm_history.specs.MarkedEntry.{Act, step, change, undoing, nothing, Mark, kept, undone_with, lost, MarkedEntry, marked_entries}
 
 -- what an act does to a state: a step steps, a change writes its cells, and nothing else has an effect
 abbrev pub acted : Act → State → State
@@ -20,10 +20,10 @@ acted_if_kept (undone_with n) act state = state
 acted_if_kept lost act state = state
 
 -- lines, the latest first, played from a state
-abbrev pub replay : State → List Line → State
+abbrev pub replay : State → List MarkedEntry → State
 replay s [] = s
 replay s (l ∷ ls) = acted_if_kept l.mark l.act (replay s ls)
 
 -- the state of a history that was opened in a state
 abbrev pub state_at : State → History → State
-state_at opening h = replay opening (lines h)
+state_at opening h = replay opening (marked_entries h)

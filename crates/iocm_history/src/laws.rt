@@ -1,7 +1,7 @@
 ghost use Rattle.iocm_history.specs.HistoryLaws.{
   RestoringUndoesStriking,
   StandingChangesMarkNothing,
-  MarksSayWhichUndo,
+  UndosStrikeTheirOwn,
   RedoTakesUndoBack,
 };
 
@@ -16,8 +16,8 @@ pub fn standing_changes_mark_nothing()
 {}
 
 /// An entry that is marked as struck by the undo of a change is that change, or a step on a subchannel that it altered.
-pub fn marks_say_which_undo()
-    ensures { MarksSayWhichUndo }
+pub fn undos_strike_their_own()
+    ensures { UndosStrikeTheirOwn }
 {}
 
 /// Undo and then redo of a change, with legal steps between them, gives the state before the undo, with the steps made

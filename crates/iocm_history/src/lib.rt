@@ -15,6 +15,6 @@ pub use examples::{
     undo_and_redo_are_as_worked,
 };
 pub use laws::{
-    marks_say_which_undo, redo_takes_undo_back, restoring_undoes_striking,
-    standing_changes_mark_nothing,
+    redo_takes_undo_back, restoring_undoes_striking, standing_changes_mark_nothing,
+    undos_strike_their_own,
 };

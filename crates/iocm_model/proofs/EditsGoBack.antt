@@ -19,7 +19,7 @@ use Rattle.iocm_model.specs.Maps.{with_value, overwritten, cells_at, differing}
 use Rattle.iocm_model.specs.State.{State, Lives, views_of, views_in, seen_in, is_among, HasLives, IsSound, HasConfigAndNumbersOf}
 use Rattle.iocm_model.specs.Edit.{Action, Edit, key_edited, record_after, config_edited, same_view, lives_edited, edited, altered_between, altered_by, is_altered}
 use Rattle.iocm_model.specs.Inverse.{action_back, inverse_of}
-use Rattle.iocm_model.specs.Effect.{values_in, written, cells_of_edit}
+use Rattle.iocm_model.specs.Effect.{values_in, written, cells_written}
 use Rattle.iocm_model.specs.EditLaws.{AltersWhatDiffers, KeepsTheOthers, HasSameKeys, GoesBack}
 use Rattle.iocm_model.proofs.Found.{same_key}
 use Rattle.iocm_model.proofs.MapCells.{get_with_value, get_overwritten_as, in_differing, get_retained}
@@ -142,7 +142,7 @@ inverse_gives e s u kept sound like same =
 
 -- and what writing the cells does
 effect_gives : (e : Edit) (s u : State) (kept : Lives) → IsSound s → HasConfigAndNumbersOf u (edited e s)
-    → written (record (values_in s (cells_of_edit e s)) { lives = cells_at kept (altered_by e s) }) u ≡ given s kept (altered_by e s) u
+    → written (record (values_in s (cells_written e s)) { lives = cells_at kept (altered_by e s) }) u ≡ given s kept (altered_by e s) u
 effect_gives e s u kept sound like =
     let t = edited e s in
     let config = ap (overwritten (entries (cells_at s.config (key_edited e.action ∷ [])))) like.config

@@ -17,7 +17,7 @@ use Rattle.iocm_model.specs.State.{State, seen_in, views_of, IsSound, HasConfigA
 use Rattle.iocm_model.specs.Edit.{Edit, key_edited, record_after, same_view, edited, altered_between}
 use Rattle.iocm_model.specs.Inverse.{inverse_of}
 use Rattle.iocm_model.specs.InverseTree.{inverses}
-use Rattle.iocm_model.specs.Effect.{Cells, no_cells, both_cells, cells_of_edit, edited_by_all, cells_of_edits}
+use Rattle.iocm_model.specs.Effect.{Cells, no_cells, both_cells, cells_written, edited_by_all, cells_written_by_all}
 use Rattle.iocm_model.specs.EditLaws.{HasSameCells, InversesWriteTheSame}
 use Rattle.iocm_model.proofs.MapCells.{in_differing}
 use Rattle.iocm_model.proofs.OwnKeys.{keyed_own}
@@ -68,17 +68,17 @@ regrouped : (w a m b c f : Bool) → w ≡ (a || m) → m ≡ (b || c) → f ≡
 regrouped w a m b c f all more front = all ∙ ap (λ z. a || z) more ∙ or_assoc a b c ∙ ap (λ z. z || c) (sym front)
 
 -- the cells of a run and then an edit
-last_cells : (es : List Edit) (f : Edit) (u : State) → IsOfBoth (cells_of_edits (es ++ (f ∷ [])) u) (cells_of_edits es u) (cells_of_edit f (edited_by_all es u))
+last_cells : (es : List Edit) (f : Edit) (u : State) → IsOfBoth (cells_written_by_all (es ++ (f ∷ [])) u) (cells_written_by_all es u) (cells_written f (edited_by_all es u))
 last_cells [] f u =
-    let all = joined_cells (cells_of_edit f u) no_cells in
+    let all = joined_cells (cells_written f u) no_cells in
     record {
-      keys = λ k. all.keys k ∙ or_none (in_keys k (cells_of_edit f u));
-      numbers = λ c. all.numbers c ∙ or_none (in_numbers c (cells_of_edit f u));
-      subchannels = λ x. all.subchannels x ∙ or_none (in_subchannels x (cells_of_edit f u));
+      keys = λ k. all.keys k ∙ or_none (in_keys k (cells_written f u));
+      numbers = λ c. all.numbers c ∙ or_none (in_numbers c (cells_written f u));
+      subchannels = λ x. all.subchannels x ∙ or_none (in_subchannels x (cells_written f u));
     }
 last_cells (e ∷ es) f u =
-    let first = cells_of_edit e u in let most = cells_of_edits (es ++ (f ∷ [])) (edited e u) in
-    let middle = cells_of_edits es (edited e u) in let last = cells_of_edit f (edited_by_all es (edited e u)) in
+    let first = cells_written e u in let most = cells_written_by_all (es ++ (f ∷ [])) (edited e u) in
+    let middle = cells_written_by_all es (edited e u) in let last = cells_written f (edited_by_all es (edited e u)) in
     let all = joined_cells first most in let more = last_cells es f (edited e u) in let front = joined_cells first middle in
     record {
       keys = λ k. regrouped (in_keys k (both_cells first most)) (in_keys k first) (in_keys k most) (in_keys k middle) (in_keys k last)
@@ -115,7 +115,7 @@ altered_turned : (s t : State) (x : SubId)
 altered_turned s t x = among_altered s t x ∙ ap not (sight_turned (seen_in s x) (seen_in t x)) ∙ sym (among_altered t s x)
 
 -- the inverse of an edit writes what the edit wrote
-inverse_cells : (e : Edit) (s v : State) → IsSound s → HasConfigAndNumbersOf v (edited e s) → HasSameCells (cells_of_edit (inverse_of e s) v) (cells_of_edit e s)
+inverse_cells : (e : Edit) (s v : State) → IsSound s → HasConfigAndNumbersOf v (edited e s) → HasSameCells (cells_written (inverse_of e s) v) (cells_written e s)
 inverse_cells e s v sound like =
     let t = edited e s in let k = key_edited e.action in
     let there : edited (inverse_of e s) v ≡ given s s.lives (altered_between s t) v = one_back e s v sound like in
@@ -137,24 +137,24 @@ pub inverses_write_the_same : InversesWriteTheSame
 inverses_write_the_same [] s u sound free like = record { keys = λ k. refl; numbers = λ c. refl; subchannels = λ x. refl }
 inverses_write_the_same (e ∷ es) s u sound free like =
     let t = edited e s in let sound_t = edited_sound e s sound free.0 in
-    let later = (cells_of_edits es t).subchannels in
+    let later = (cells_written_by_all es t).subchannels in
     let v = given t t.lives later u in
     let there : edited_by_all (inverses es t) u ≡ v = run_back es t u sound_t free.1 like in
     let like_v : HasConfigAndNumbersOf v t = given_like t u later sound_t.lived (seen_like es t u like) in
     let all = last_cells (inverses es t) (inverse_of e s) u in
     let front = inverses_write_the_same es t u sound_t free.1 like in
     let last = inverse_cells e s v sound like_v in
-    let forth = joined_cells (cells_of_edit e s) (cells_of_edits es t) in
-    let back = cells_of_edit (inverse_of e s) (edited_by_all (inverses es t) u) in
+    let forth = joined_cells (cells_written e s) (cells_written_by_all es t) in
+    let back = cells_written (inverse_of e s) (edited_by_all (inverses es t) u) in
     record {
-      keys = λ k. turned_over (in_keys k (cells_of_edits (inverses (e ∷ es) s) u)) (in_keys k (cells_of_edits (inverses es t) u)) (in_keys k back)
-          (in_keys k (cells_of_edits es t)) (in_keys k (cells_of_edit e s)) (in_keys k (both_cells (cells_of_edit e s) (cells_of_edits es t)))
-          (all.keys k) (front.keys k) ((λ i. in_keys k (cells_of_edit (inverse_of e s) (there i))) ∙ last.keys k) (forth.keys k);
-      numbers = λ c. turned_over (in_numbers c (cells_of_edits (inverses (e ∷ es) s) u)) (in_numbers c (cells_of_edits (inverses es t) u)) (in_numbers c back)
-          (in_numbers c (cells_of_edits es t)) (in_numbers c (cells_of_edit e s)) (in_numbers c (both_cells (cells_of_edit e s) (cells_of_edits es t)))
-          (all.numbers c) (front.numbers c) ((λ i. in_numbers c (cells_of_edit (inverse_of e s) (there i))) ∙ last.numbers c) (forth.numbers c);
-      subchannels = λ x. turned_over (in_subchannels x (cells_of_edits (inverses (e ∷ es) s) u)) (in_subchannels x (cells_of_edits (inverses es t) u))
-          (in_subchannels x back) (in_subchannels x (cells_of_edits es t)) (in_subchannels x (cells_of_edit e s))
-          (in_subchannels x (both_cells (cells_of_edit e s) (cells_of_edits es t)))
-          (all.subchannels x) (front.subchannels x) ((λ i. in_subchannels x (cells_of_edit (inverse_of e s) (there i))) ∙ last.subchannels x) (forth.subchannels x);
+      keys = λ k. turned_over (in_keys k (cells_written_by_all (inverses (e ∷ es) s) u)) (in_keys k (cells_written_by_all (inverses es t) u)) (in_keys k back)
+          (in_keys k (cells_written_by_all es t)) (in_keys k (cells_written e s)) (in_keys k (both_cells (cells_written e s) (cells_written_by_all es t)))
+          (all.keys k) (front.keys k) ((λ i. in_keys k (cells_written (inverse_of e s) (there i))) ∙ last.keys k) (forth.keys k);
+      numbers = λ c. turned_over (in_numbers c (cells_written_by_all (inverses (e ∷ es) s) u)) (in_numbers c (cells_written_by_all (inverses es t) u)) (in_numbers c back)
+          (in_numbers c (cells_written_by_all es t)) (in_numbers c (cells_written e s)) (in_numbers c (both_cells (cells_written e s) (cells_written_by_all es t)))
+          (all.numbers c) (front.numbers c) ((λ i. in_numbers c (cells_written (inverse_of e s) (there i))) ∙ last.numbers c) (forth.numbers c);
+      subchannels = λ x. turned_over (in_subchannels x (cells_written_by_all (inverses (e ∷ es) s) u)) (in_subchannels x (cells_written_by_all (inverses es t) u))
+          (in_subchannels x back) (in_subchannels x (cells_written_by_all es t)) (in_subchannels x (cells_written e s))
+          (in_subchannels x (both_cells (cells_written e s) (cells_written_by_all es t)))
+          (all.subchannels x) (front.subchannels x) ((λ i. in_subchannels x (cells_written (inverse_of e s) (there i))) ∙ last.subchannels x) (forth.subchannels x);
     }

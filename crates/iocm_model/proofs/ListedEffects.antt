@@ -14,7 +14,7 @@ use Rattle.iocm_model.specs.Maps.{overwritten}
 use Rattle.iocm_model.specs.Numbering.{cells_of}
 use Rattle.iocm_model.specs.State.{State}
 use Rattle.iocm_model.specs.Edit.{Edit, key_edited, edited}
-use Rattle.iocm_model.specs.Effect.{Cells, Effect, values_in, written, no_cells, both_cells, cells_of_edit, cells_of_edits, edited_by_all, effect_of}
+use Rattle.iocm_model.specs.Effect.{Cells, Effect, values_in, written, no_cells, both_cells, cells_written, cells_written_by_all, edited_by_all, effect_of}
 use Rattle.iocm_model.specs.InverseTree.{inverses}
 use Rattle.iocm_model.proofs.ListedMaps.{put_cells, cells_found, keys_differing, entries-overwritten, entries-cells_at, differing_seen}
 use Rattle.iocm_model.proofs.ListedViews.{cells_listed, cells_seen, numbering_listed, numbering_seen}
@@ -80,7 +80,7 @@ unfoldable pub edit_cells_listed : ListedEdit → ListedState → Cells
 edit_cells_listed e x = cells_to e x (edited_listed e x)
 
 -- an edit writes in a state the cells that it writes in its lists
-pub edit_cells_seen : (e : ListedEdit) (s : State) → cells_of_edit (edit_from e) s ≡ edit_cells_listed e (listing s)
+pub edit_cells_seen : (e : ListedEdit) (s : State) → cells_written (edit_from e) s ≡ edit_cells_listed e (listing s)
 unfolding edit_cells_listed
 edit_cells_seen e s =
     let t = edited (edit_from e) s in
@@ -112,7 +112,7 @@ edits_cells_listed [] x = no_cells
 edits_cells_listed (e ∷ es) x = both_cells (edit_cells_listed e x) (edits_cells_listed es (edited_listed e x))
 
 -- edits write in a state the cells that they write in its lists
-pub edits_cells_seen : (es : List ListedEdit) (s : State) → cells_of_edits (edits_from es) s ≡ edits_cells_listed es (listing s)
+pub edits_cells_seen : (es : List ListedEdit) (s : State) → cells_written_by_all (edits_from es) s ≡ edits_cells_listed es (listing s)
 unfolding edits_cells_listed
 edits_cells_seen [] s = refl
 edits_cells_seen (e ∷ es) s =
@@ -124,7 +124,7 @@ effect_listed es x = values_listed (edited_all_listed es x) (edits_cells_listed 
 
 -- the effect of edits in a state is that in its lists
 pub effect_seen : (es : List ListedEdit) (s : State) → effect_listing (effect_of (edits_from es) s) ≡ effect_listed es (listing s)
-effect_seen es s = values_seen (edited_by_all (edits_from es) s) (cells_of_edits (edits_from es) s)
+effect_seen es s = values_seen (edited_by_all (edits_from es) s) (cells_written_by_all (edits_from es) s)
     ∙ (λ i. values_listed (edited_all_seen es s i) (edits_cells_seen es s i))
 
 -- the state after edits, and the cells that they write, of a state that is listed
@@ -134,15 +134,15 @@ edited_all_is es s x is = edited_all_seen es s ∙ ap (edited_all_listed es) is
 
 -- the cells that edits write, in a state that is listed
 pub edits_cells_are : (es : List ListedEdit) (s : State) (x : ListedState) → listing s ≡ x
-    → cells_of_edits (edits_from es) s ≡ edits_cells_listed es x
+    → cells_written_by_all (edits_from es) s ≡ edits_cells_listed es x
 edits_cells_are es s x is = edits_cells_seen es s ∙ ap (edits_cells_listed es) is
 
 -- what edits wrote is put back by the values before
 pub put_back : (es : List ListedEdit) (s : State) (x : ListedState) → listing s ≡ x
     → written_listed (values_listed x (edits_cells_listed es x)) (edited_all_listed es x) ≡ x
-    → written (values_in s (cells_of_edits (edits_from es) s)) (edited_by_all (edits_from es) s) ≡ s
+    → written (values_in s (cells_written_by_all (edits_from es) s)) (edited_by_all (edits_from es) s) ≡ s
 put_back es s x is computed =
-    let w = cells_of_edits (edits_from es) s in
+    let w = cells_written_by_all (edits_from es) s in
     let t = edited_by_all (edits_from es) s in
     same_by_listing (written (values_in s w) t) s (written_seen (values_in s w) t
     ∙ (λ i. written_listed ((values_seen s w ∙ (λ j. values_listed (is j) (edits_cells_are es s x is j))) i)

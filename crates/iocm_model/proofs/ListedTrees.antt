@@ -7,13 +7,13 @@ use Rattle.iocm_model.specs.Rules.{Breach, first_breach}
 use Rattle.iocm_model.specs.State.{State}
 use Rattle.iocm_model.specs.Edit.{Edit}
 use Rattle.iocm_model.specs.Refusal.{refused_at, refusal_of}
-use Rattle.iocm_model.specs.Tree.{Plan, Plans, leaf, row, group, choose, none, part, leaves_of, depth_of, nodes_of, most_depth, most_leaves}
-use Rattle.iocm_model.specs.Meaning.{Run, Outcome, at_node, unless_refused, after_run, and_then, or_else, unless_broken, checked, without_parts, mean, mean_all, mean_first, meaning}
+use Rattle.iocm_model.specs.Tree.{ChangeTree, Parts, leaf, row, group, choose, none, part, leaves_of, depth_of, nodes_of, most_depth, most_leaves}
+use Rattle.iocm_model.specs.Meaning.{Performed, Outcome, at_node, unless_refused, after_run, and_then, or_else, unless_broken, checked, without_parts, node_meaning, parts_meaning, choice_meaning, meaning}
 use Rattle.iocm_model.proofs.ListedMaps.{cond_seen}
 use Rattle.iocm_model.proofs.ListedRules.{first_breach_listed, first_breach_seen}
 use Rattle.iocm_model.specs.Effect.{edited_by_all}
 use Rattle.iocm_model.proofs.ListedEffects.{edits_from, edited_all_listed, edited_all_seen, edited_all_is, inverses_listed, inverses_seen}
-use Rattle.iocm_model.specs.InverseTree.{parts_of, inverse_tree, reached}
+use Rattle.iocm_model.specs.InverseTree.{parts_of, inverse_tree, state_reached}
 use Rattle.iocm_model.proofs.ListedStates.{ListedState, listing, same_by_listing, ListedEdit, edit_from, edited_listed, edited_seen, refusal_listed, refusal_seen}
 
 mutual
@@ -30,13 +30,13 @@ mutual
 
 abbrev mutual
   -- the tree of these edits
-  pub plan_from : ListedPlan → Plan
+  pub plan_from : ListedPlan → ChangeTree
   plan_from (one e) = leaf (edit_from e)
   plan_from (in_row ps) = row (plans_from ps)
   plan_from (in_group ps) = group (plans_from ps)
   plan_from (in_choose ps) = choose (plans_from ps)
 
-  pub plans_from : ListedPlans → Plans
+  pub plans_from : ListedPlans → Parts
   plans_from no_parts = none
   plans_from (and_part p ps) = part (plan_from p) (plans_from ps)
 
@@ -114,7 +114,7 @@ refused_seen (Some why) n e s = refl
 refused_seen None n e s = λ i. Ok (record { state = edited_seen e s i; edits = edit_from e ∷ [] })
 
 -- what was done before is listed with what was done next
-after_seen : (r : Run) (o : Outcome)
+after_seen : (r : Performed) (o : Outcome)
     → outcome_listing (after_run r o) ≡ after_run_listed (record { state = listing r.state; edits = r.edits }) (outcome_listing o)
 after_seen r (Ok next) = refl
 after_seen r (Err why) = refl
@@ -135,7 +135,7 @@ else_seen (Ok r) further next same = refl
 else_seen (Err why) further next same = same why
 
 -- a breach is listed as it is
-broken_seen : (b : Option Breach) (n : ℕ) (r : Run)
+broken_seen : (b : Option Breach) (n : ℕ) (r : Performed)
     → outcome_listing (unless_broken b n r) ≡ unless_broken_listed b n (record { state = listing r.state; edits = r.edits })
 broken_seen (Some b) n r = refl
 broken_seen None n r = refl
@@ -149,32 +149,32 @@ checked_seen n (Err why) = refl
 mutual
   unfolding mean_listed
 
-  pub mean_seen : (p : ListedPlan) (n : ℕ) (s : State) → outcome_listing (mean (plan_from p) n s) ≡ mean_listed p n (listing s)
+  pub mean_seen : (p : ListedPlan) (n : ℕ) (s : State) → outcome_listing (node_meaning (plan_from p) n s) ≡ mean_listed p n (listing s)
   mean_seen (one e) n s = refused_seen (refusal_of (edit_from e) s) n e s
       ∙ ap (λ o. unless_refused_listed o n e (edited_listed e (listing s))) (refusal_seen e s)
   mean_seen (in_row ps) n s = mean_all_seen ps (n + 1) s
-  mean_seen (in_group ps) n s = checked_seen n (mean_all (plans_from ps) (n + 1) s) ∙ ap (checked_listed n) (mean_all_seen ps (n + 1) s)
+  mean_seen (in_group ps) n s = checked_seen n (parts_meaning (plans_from ps) (n + 1) s) ∙ ap (checked_listed n) (mean_all_seen ps (n + 1) s)
   mean_seen (in_choose ps) n s = mean_first_seen ps (n + 1) (without_parts n) s
 
   -- parts mean in a state what they mean in its lists
-  mean_all_seen : (ps : ListedPlans) (n : ℕ) (s : State) → outcome_listing (mean_all (plans_from ps) n s) ≡ mean_all_listed ps n (listing s)
+  mean_all_seen : (ps : ListedPlans) (n : ℕ) (s : State) → outcome_listing (parts_meaning (plans_from ps) n s) ≡ mean_all_listed ps n (listing s)
   mean_all_seen no_parts n s = refl
   mean_all_seen (and_part p ps) n s =
       let following = n + nodes_of (plan_from p) in
-      then_seen (mean (plan_from p) n s) (mean_all (plans_from ps) following) (mean_all_listed ps following) (mean_all_seen ps following)
+      then_seen (node_meaning (plan_from p) n s) (parts_meaning (plans_from ps) following) (mean_all_listed ps following) (mean_all_seen ps following)
       ∙ ap (λ o. and_then_listed o (mean_all_listed ps following)) (mean_seen p n s)
 
   -- the first part that is accepted in a state is that in its lists
   mean_first_seen : (ps : ListedPlans) (n : ℕ) (last : Refused) (s : State)
-      → outcome_listing (mean_first (plans_from ps) n last s) ≡ mean_first_listed ps n last (listing s)
+      → outcome_listing (choice_meaning (plans_from ps) n last s) ≡ mean_first_listed ps n last (listing s)
   mean_first_seen no_parts n last s = refl
   mean_first_seen (and_part p ps) n last s =
       let further = n + nodes_of (plan_from p) in
-      else_seen (checked n (mean (plan_from p) n s)) (λ why. mean_first (plans_from ps) further why s)
+      else_seen (checked n (node_meaning (plan_from p) n s)) (λ why. choice_meaning (plans_from ps) further why s)
       (λ why. mean_first_listed ps further why (listing s))
       (λ why. mean_first_seen ps further why s)
       ∙ ap (λ o. or_else_listed o (λ why. mean_first_listed ps further why (listing s)))
-      (checked_seen n (mean (plan_from p) n s) ∙ ap (checked_listed n) (mean_seen p n s))
+      (checked_seen n (node_meaning (plan_from p) n s) ∙ ap (checked_listed n) (mean_seen p n s))
 
 -- a whole tree means in a state what it means in its lists
 pub meaning_seen : (p : ListedPlan) (s : State) → outcome_listing (meaning (plan_from p) s) ≡ meaning_listed p (listing s)
@@ -185,7 +185,7 @@ meaning_seen p s =
     cond_seen outcome_listing deep _ _
     ∙ ap (λ o. if deep then Err (refused_at C1 Nothing) else o)
     (cond_seen outcome_listing many _ _
-    ∙ ap (λ o. if many then Err (refused_at C2 Nothing) else o) (checked_seen 0 (mean (plan_from p) 0 s) ∙ ap (checked_listed 0) (mean_seen p 0 s)))
+    ∙ ap (λ o. if many then Err (refused_at C2 Nothing) else o) (checked_seen 0 (node_meaning (plan_from p) 0 s) ∙ ap (checked_listed 0) (mean_seen p 0 s)))
 
 -- an outcome that is listed as accepted, with a state and edits
 pub accepted_as : (o : Outcome) (t : State) (es : List Edit) → outcome_listing o ≡ Ok (record { state = listing t; edits = es })
@@ -240,18 +240,18 @@ inverse_tree_is es s x is = inverse_tree_seen es s ∙ ap (λ y. plan_from (inve
 -- edits of one state that are taken back in another, which leads to a third
 pub taken_back_at : (es : List ListedEdit) (s u t : State) (x y z : ListedState) → listing s ≡ x → listing u ≡ y → listing t ≡ z
     → meaning_listed (inverse_tree_listed es x) y ≡ Ok (record { state = z; edits = edits_from (inverses_listed es x) })
-    → reached (meaning (inverse_tree (edits_from es) s) u) ≡ Some t
+    → state_reached (meaning (inverse_tree (edits_from es) s) u) ≡ Some t
 taken_back_at es s u t x y z is_x is_y is_z computed =
     let p = inverse_tree_listed es x in
     let inverse = edits_from (inverses_listed es x) in
-    ap (λ tree. reached (meaning tree u)) (inverse_tree_is es s x is_x)
-    ∙ ap reached (accepted_as (meaning (plan_from p) u) t inverse
+    ap (λ tree. state_reached (meaning tree u)) (inverse_tree_is es s x is_x)
+    ∙ ap state_reached (accepted_as (meaning (plan_from p) u) t inverse
     (meaning_seen p u ∙ ap (meaning_listed p) is_y ∙ computed ∙ sym (λ i. Ok (record { state = is_z i; edits = inverse }))))
 
 -- edits that are taken back directly
 pub taken_back : (es : List ListedEdit) (s : State) (x : ListedState) → listing s ≡ x
     → meaning_listed (inverse_tree_listed es x) (edited_all_listed es x) ≡ Ok (record { state = x; edits = edits_from (inverses_listed es x) })
-    → reached (meaning (inverse_tree (edits_from es) s) (edited_by_all (edits_from es) s)) ≡ Some s
+    → state_reached (meaning (inverse_tree (edits_from es) s) (edited_by_all (edits_from es) s)) ≡ Some s
 taken_back es s x is computed =
     taken_back_at es s (edited_by_all (edits_from es) s) s x (edited_all_listed es x) x is (edited_all_is es s x is) is computed
 

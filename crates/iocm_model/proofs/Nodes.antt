@@ -2,7 +2,7 @@
 use Rattle.std.proofs.Common.{◌≡◌, ℕ, ◌+◌, ◌*◌, ◌≤◌, max, Bool, true, false, nat_eq, cond, arith, refl}
 use Rattle.std.proofs.Math.Nat.{mul-le-mul_right}
 use Rattle.std.proofs.lemmas.Bool.{eqb-true, eqb-false}
-use Rattle.iocm_model.specs.Tree.{Plan, Plans, leaf, row, group, choose, none, part, leaves_of, leaves_in, depth_of, depth_in, nodes_of, nodes_in, or_one, NodesAreBounded}
+use Rattle.iocm_model.specs.Tree.{ChangeTree, Parts, leaf, row, group, choose, none, part, leaves_of, leaves_in, depth_of, depth_in, nodes_of, nodes_in, or_one, NodesAreBounded}
 
 over_at : (b : Bool) (nodes depth leaves : ℕ) → nat_eq leaves 0 ≡ b → nodes ≤ depth * leaves → nodes + 1 ≤ (depth + 1) * cond b 1 leaves
 over_at true nodes depth leaves is h =
@@ -25,13 +25,13 @@ before_parts n d l m e k h g =
     omega (arith, mul-le-mul_right l first, mul-le-mul_right k second, h, g)
 
 mutual
-  bounded : (p : Plan) → nodes_of p ≤ depth_of p * leaves_of p
+  bounded : (p : ChangeTree) → nodes_of p ≤ depth_of p * leaves_of p
   bounded (leaf e) = omega arith
   bounded (row ps) = over_parts (nodes_in ps) (depth_in ps) (leaves_in ps) (bounded_in ps)
   bounded (group ps) = over_parts (nodes_in ps) (depth_in ps) (leaves_in ps) (bounded_in ps)
   bounded (choose ps) = over_parts (nodes_in ps) (depth_in ps) (leaves_in ps) (bounded_in ps)
 
-  bounded_in : (ps : Plans) → nodes_in ps ≤ depth_in ps * leaves_in ps
+  bounded_in : (ps : Parts) → nodes_in ps ≤ depth_in ps * leaves_in ps
   bounded_in none = omega arith
   bounded_in (part p ps) = before_parts (nodes_of p) (depth_of p) (leaves_of p) (nodes_in ps) (depth_in ps) (leaves_in ps) (bounded p) (bounded_in ps)
 

@@ -73,7 +73,7 @@ module _ (c : Configuration) where
   -- a place that is reached is another than one that isn't
   reached_is_other : (p q : Place) → is_reached_at c p ≡ false → is_reached_at c q ≡ true → eq_by_cmp place_cmp p q ≡ false
   reached_is_other p q out in_reach =
-      untied place_cmp places_exact p q (λ same. let reached = ap (is_reached_at c) same in cc)
+      untied place_cmp places_exact p q (λ same. let state_reached = ap (is_reached_at c) same in cc)
 
   -- one carried place gives none to a place that isn't reached, by whether it comes in
   carried_not_by : (n : Numbering) (x : Place × ℕ) (p : Place) (b : Bool) → (is_reached_at c x.0 && not (contains_key n x.0)) ≡ b → is_reached_at c p ≡ false

@@ -168,8 +168,8 @@ module _ (c : Configuration) (n : Numbering) where
             still_free_by m x (arriving xs) q k (eq_by_cmp place_cmp q x.0) refl (or_parts _ _ once).0
             (λ is. (or_parts _ _ (sym (ap (list_any (same_cell (q, k))) first) ∙ h.free q k is)).1) (sym (get-insert places_total m x.0 x.1 q) ∙ has);
         once = (or_parts _ _ once).1;
-        old = λ p reached none.
-            h.old p reached (still_old_by m x p (eq_by_cmp place_cmp p x.0) refl (sym (ap is_some (get-insert places_total m x.0 x.1 p)) ∙ none));
+        old = λ p state_reached none.
+            h.old p state_reached (still_old_by m x p (eq_by_cmp place_cmp p x.0) refl (sym (ap is_some (get-insert places_total m x.0 x.1 p)) ∙ none));
       }
   step_by m x xs false e h = record {
     apart = h.apart;
@@ -208,7 +208,7 @@ module _ (c : Configuration) (n : Numbering) where
     apart = λ p q k css set is was. apart p q k css set (had p k is).1 (had q k was).1;
     free = λ q k has. free_of q k (arriving xs) has (or_parts _ _ none).0;
     once = (or_parts _ _ none).1;
-    old = λ p reached out. ap is_some (sym (stays c n p reached)) ∙ out;
+    old = λ p state_reached out. ap is_some (sym (stays c n p state_reached)) ∙ out;
   }
 
 -- no number comes twice after a change, where none did before and no carried number is taken

@@ -24,7 +24,7 @@ use Rattle.iocm_model.specs.Edit.{Action, add, delete, modify, Edit, key_edited,
 use Rattle.iocm_model.specs.Refusal.{refused_by_key, is_number_taken, is_not_quiet, first_not_quiet, refused_by_subchannel, refusal_of}
 use Rattle.iocm_model.specs.Inverse.{action_back, inverse_of}
 use Rattle.iocm_model.specs.InverseTree.{inverses}
-use Rattle.iocm_model.specs.Effect.{values_in, written, cells_of_edit, edited_by_all, cells_of_edits}
+use Rattle.iocm_model.specs.Effect.{values_in, written, cells_written, edited_by_all, cells_written_by_all}
 use Rattle.iocm_model.specs.EditLaws.{AreAccepted, CarryFreeNumbers, AcceptedCarryFreeNumbers, StaysSound, WritesItsEffect, PutsBack, RunGoesBack, InversesAreAccepted}
 use Rattle.iocm_model.proofs.Found.{same_key}
 use Rattle.iocm_model.proofs.MapCells.{get_with_value, get_overwritten_as, get_retained}
@@ -70,32 +70,32 @@ quiet_at lives xs none x h = none_found sub_id_cmp sub_ids_total sub_ids_exact (
 
 -- ---- off the cells of edits nothing changes
 
-pub off_keys : (es : List Edit) (s : State) (q : Key) → list_any (eq_by_cmp key_cmp q) (cells_of_edits es s).keys ≡ false
+pub off_keys : (es : List Edit) (s : State) (q : Key) → list_any (eq_by_cmp key_cmp q) (cells_written_by_all es s).keys ≡ false
     → get (edited_by_all es s).config q ≡ get s.config q
 off_keys [] s q off = refl
 off_keys (e ∷ es) s q off =
-    off_keys es (edited e s) q (not_in_second key_cmp q (key_edited e.action ∷ []) (cells_of_edits es (edited e s)).keys off)
-    ∙ off_key e.action s.config q (not_in_first key_cmp q (key_edited e.action ∷ []) (cells_of_edits es (edited e s)).keys off)
+    off_keys es (edited e s) q (not_in_second key_cmp q (key_edited e.action ∷ []) (cells_written_by_all es (edited e s)).keys off)
+    ∙ off_key e.action s.config q (not_in_first key_cmp q (key_edited e.action ∷ []) (cells_written_by_all es (edited e s)).keys off)
 
-pub off_cells : (es : List Edit) (s : State) (q : NumberCell) → list_any (eq_by_cmp cell_cmp q) (cells_of_edits es s).numbers ≡ false
+pub off_cells : (es : List Edit) (s : State) (q : NumberCell) → list_any (eq_by_cmp cell_cmp q) (cells_written_by_all es s).numbers ≡ false
     → get (cells_of (edited_by_all es s).numbers) q ≡ get (cells_of s.numbers) q
 off_cells [] s q off = refl
 off_cells (e ∷ es) s q off =
-    off_cells es (edited e s) q (not_in_second cell_cmp q (cells_of_edit e s).numbers (cells_of_edits es (edited e s)).numbers off)
-    ∙ sym (off_numbers s.numbers (edited e s).numbers q (not_in_first cell_cmp q (cells_of_edit e s).numbers (cells_of_edits es (edited e s)).numbers off))
+    off_cells es (edited e s) q (not_in_second cell_cmp q (cells_written e s).numbers (cells_written_by_all es (edited e s)).numbers off)
+    ∙ sym (off_numbers s.numbers (edited e s).numbers q (not_in_first cell_cmp q (cells_written e s).numbers (cells_written_by_all es (edited e s)).numbers off))
 
-pub off_sight : (es : List Edit) (s : State) (x : SubId) → IsNotAmong x (cells_of_edits es s).subchannels → seen_in (edited_by_all es s) x ≡ seen_in s x
+pub off_sight : (es : List Edit) (s : State) (x : SubId) → IsNotAmong x (cells_written_by_all es s).subchannels → seen_in (edited_by_all es s) x ≡ seen_in s x
 off_sight [] s x off = refl
 off_sight (e ∷ es) s x off =
-    off_sight es (edited e s) x (not_in_second sub_id_cmp x (altered_by e s) (cells_of_edits es (edited e s)).subchannels off)
-    ∙ sym (unaltered_sees s (edited e s) x (not_in_first sub_id_cmp x (altered_by e s) (cells_of_edits es (edited e s)).subchannels off))
+    off_sight es (edited e s) x (not_in_second sub_id_cmp x (altered_by e s) (cells_written_by_all es (edited e s)).subchannels off)
+    ∙ sym (unaltered_sees s (edited e s) x (not_in_first sub_id_cmp x (altered_by e s) (cells_written_by_all es (edited e s)).subchannels off))
 
-pub off_lives : (es : List Edit) (s : State) (x : SubId) → HasLives s → IsNotAmong x (cells_of_edits es s).subchannels
+pub off_lives : (es : List Edit) (s : State) (x : SubId) → HasLives s → IsNotAmong x (cells_written_by_all es s).subchannels
     → get (edited_by_all es s).lives x ≡ get s.lives x
 off_lives [] s x lived off = refl
 off_lives (e ∷ es) s x lived off =
-    off_lives es (edited e s) x (edited_lived e s lived) (not_in_second sub_id_cmp x (altered_by e s) (cells_of_edits es (edited e s)).subchannels off)
-    ∙ keeps_the_others e s x lived (not_in_first sub_id_cmp x (altered_by e s) (cells_of_edits es (edited e s)).subchannels off)
+    off_lives es (edited e s) x (edited_lived e s lived) (not_in_second sub_id_cmp x (altered_by e s) (cells_written_by_all es (edited e s)).subchannels off)
+    ∙ keeps_the_others e s x lived (not_in_first sub_id_cmp x (altered_by e s) (cells_written_by_all es (edited e s)).subchannels off)
 
 -- ---- states stay sound
 
@@ -139,7 +139,7 @@ accepted_carry (e ∷ es) s accepted = (no_number_taken e s accepted.0, accepted
 
 pub writes_its_effect : WritesItsEffect
 writes_its_effect es s sound free =
-    let t = edited_by_all es s in let w = cells_of_edits es s in
+    let t = edited_by_all es s in let w = cells_written_by_all es s in
     let config = overwritten_is keys_total keys_exact s.config t.config w.keys (λ q off. sym (off_keys es s q off)) in
     let numbers = ap numbering_of (overwritten_is cells_total cells_exact (cells_of s.numbers) (cells_of t.numbers) w.numbers (λ q off. sym (off_cells es s q off)))
     ∙ cells_give_numbers t.config t.numbers (stays_sound es s sound free).numbered in
@@ -148,7 +148,7 @@ writes_its_effect es s sound free =
 
 pub puts_back : PutsBack
 puts_back es s sound =
-    let t = edited_by_all es s in let w = cells_of_edits es s in
+    let t = edited_by_all es s in let w = cells_written_by_all es s in
     let config = overwritten_is keys_total keys_exact t.config s.config w.keys (off_keys es s) in
     let numbers = ap numbering_of (overwritten_is cells_total cells_exact (cells_of t.numbers) (cells_of s.numbers) w.numbers (off_cells es s))
     ∙ cells_give_numbers s.config s.numbers sound.numbered in
@@ -213,7 +213,7 @@ accepted_append [] fs u first second = second
 accepted_append (e ∷ es) fs u first second = (first.0, accepted_append es fs (edited e u) first.1 second)
 
 -- what is seen at the end of a run, where nothing of it was altered
-pub seen_like : (es : List Edit) (s u : State) → HasConfigAndNumbersOf u (edited_by_all es s) → (x : SubId) → IsNotAmong x (cells_of_edits es s).subchannels
+pub seen_like : (es : List Edit) (s u : State) → HasConfigAndNumbersOf u (edited_by_all es s) → (x : SubId) → IsNotAmong x (cells_written_by_all es s).subchannels
     → is_some (get u.lives x) ≡ is_some (seen_in s x)
 seen_like es s u like x off = like.lived x ∙ (λ i. is_some (get (views_of (like.config i) (like.numbers i)) x)) ∙ ap is_some (off_sight es s x off)
 
@@ -227,7 +227,7 @@ by_first false f g = g refl
 
 -- what a run alters was quiet before it
 pub altered_were_quiet : (es : List Edit) (s : State) (x : SubId) → HasLives s → AreAccepted es s
-    → list_any (eq_by_cmp sub_id_cmp x) (cells_of_edits es s).subchannels ≡ true → is_not_quiet (get s.lives x) ≡ false
+    → list_any (eq_by_cmp sub_id_cmp x) (cells_written_by_all es s).subchannels ≡ true → is_not_quiet (get s.lives x) ≡ false
 altered_were_quiet [] s x lived accepted h = cc
 altered_were_quiet (e ∷ es) s x lived accepted h =
     let t = edited e s in
@@ -235,7 +235,7 @@ altered_were_quiet (e ∷ es) s x lived accepted h =
     (λ here. quiet_at s.lives (altered_by e s) (no_subchannel_busy e s accepted.0) x here)
     (λ off. ap is_not_quiet (sym (keeps_the_others e s x lived off))
     ∙ altered_were_quiet es t x (edited_lived e s lived) accepted.1
-    (later_by _ _ (sym (any_append sub_id_cmp x (altered_by e s) (cells_of_edits es t).subchannels) ∙ h) off))
+    (later_by _ _ (sym (any_append sub_id_cmp x (altered_by e s) (cells_written_by_all es t).subchannels) ∙ h) off))
 
 -- an action that was accepted can be taken back
 back_passes : (key : Key) (old : Option Rec) (a : Action) → refused_by_key a (is_some old) ≡ None
@@ -257,12 +257,12 @@ none_of_three a b r c p q w = rw (p, q, w) refl
 
 -- the inverses of a run give back its cells
 pub run_back : (es : List Edit) (s u : State) → IsSound s → CarryFreeNumbers es s → HasConfigAndNumbersOf u (edited_by_all es s)
-    → edited_by_all (inverses es s) u ≡ given s s.lives (cells_of_edits es s).subchannels u
+    → edited_by_all (inverses es s) u ≡ given s s.lives (cells_written_by_all es s).subchannels u
 run_back [] s u sound free like =
     let lives : u.lives ≡ overlaid s.lives [] u.lives = same_map sub_ids_total sub_ids_exact _ _ (λ x. sym (overlaid_at s.lives [] u.lives x)) in
     λ i. record { config = like.config i; numbers = like.numbers i; lives = lives i }
 run_back (e ∷ es) s u sound free like =
-    let t = edited e s in let later = (cells_of_edits es t).subchannels in
+    let t = edited e s in let later = (cells_written_by_all es t).subchannels in
     let v = given t t.lives later u in
     let lives : overlaid s.lives (altered_by e s) v.lives ≡ overlaid s.lives (altered_by e s ++ later) u.lives = same_map sub_ids_total sub_ids_exact _ _ (λ x.
     overlaid_at s.lives (altered_by e s) v.lives x
@@ -301,7 +301,7 @@ inverse_accepted e s v sound accepted like quiet =
 pub inverses_accepted : InversesAreAccepted
 inverses_accepted [] s u sound accepted like quiet = tt
 inverses_accepted (e ∷ es) s u sound accepted like quiet =
-    let t = edited e s in let later = (cells_of_edits es t).subchannels in
+    let t = edited e s in let later = (cells_written_by_all es t).subchannels in
     let among : (x : SubId) → list_any (eq_by_cmp sub_id_cmp x) (altered_by e s ++ later) ≡ (list_any (eq_by_cmp sub_id_cmp x) (altered_by e s) || list_any (eq_by_cmp sub_id_cmp x) later) =
     λ x. any_append sub_id_cmp x (altered_by e s) later in
     let sound_t = edited_sound e s sound (no_number_taken e s accepted.0) in
@@ -322,7 +322,7 @@ inverses_accepted (e ∷ es) s u sound accepted like quiet =
 
 pub run_goes_back : RunGoesBack
 run_goes_back es s u sound free like =
-    let w = cells_of_edits es s in let t = edited_by_all es s in
+    let w = cells_written_by_all es s in let t = edited_by_all es s in
     let config = ap (overwritten (entries (cells_at s.config w.keys))) like.config ∙ overwritten_is keys_total keys_exact t.config s.config w.keys (off_keys es s) in
     let numbers = (λ i. numbering_of (overwritten (entries (cells_at (cells_of s.numbers) w.numbers)) (cells_of (like.numbers i))))
     ∙ ap numbering_of (overwritten_is cells_total cells_exact (cells_of t.numbers) (cells_of s.numbers) w.numbers (off_cells es s))

@@ -13,7 +13,7 @@ use Rattle.iocm_model.specs.Numbering.{cells_of, numbering_of, opening}
 use Rattle.iocm_model.specs.Maps.{overwritten, cells_at}
 use Rattle.iocm_model.specs.State.{State, Lives, views_of, views_in, HasLives, seen_in, is_among, fresh_row}
 use Rattle.iocm_model.specs.View.{views}
-use Rattle.iocm_model.specs.Effect.{Cells, values_in, written, edited_by_all, cells_of_edits, effect_of}
+use Rattle.iocm_model.specs.Effect.{Cells, values_in, written, edited_by_all, cells_written_by_all, effect_of}
 use Rattle.iocm_model.specs.EditLaws.{OpeningIsSound, StepsStaySound, Passes, StepsElsewherePass, StepsElsewherePassBack, OverwrittenStepsVanish}
 use Rattle.iocm_model.specs.Step.{Step, subchannel_in, live_stepped, lives_stepped, step_answer}
 use Rattle.iocm_model.proofs.Found.{same_key}
@@ -83,7 +83,7 @@ passes x step from u w off seen =
 
 pub steps_elsewhere_pass : StepsElsewherePass
 steps_elsewhere_pass es s u x step sound free config numbers off =
-    let t = edited_by_all es s in let w = cells_of_edits es s in let v = written (effect_of es s) u in
+    let t = edited_by_all es s in let w = cells_written_by_all es s in let v = written (effect_of es s) u in
     let config_is : v.config ≡ t.config = ap (overwritten (entries (cells_at t.config w.keys))) config
     ∙ overwritten_is keys_total keys_exact s.config t.config w.keys (λ q o. sym (off_keys es s q o)) in
     let numbers_is : v.numbers ≡ t.numbers = (λ i. numbering_of (overwritten (entries (cells_at (cells_of t.numbers) w.numbers)) (cells_of (numbers i))))
@@ -93,7 +93,7 @@ steps_elsewhere_pass es s u x step sound free config numbers off =
 
 pub steps_elsewhere_pass_back : StepsElsewherePassBack
 steps_elsewhere_pass_back es s u x step sound config numbers off =
-    let t = edited_by_all es s in let w = cells_of_edits es s in let v = written (values_in s w) u in
+    let t = edited_by_all es s in let w = cells_written_by_all es s in let v = written (values_in s w) u in
     let config_is : v.config ≡ s.config = ap (overwritten (entries (cells_at s.config w.keys))) config
     ∙ overwritten_is keys_total keys_exact t.config s.config w.keys (off_keys es s) in
     let numbers_is : v.numbers ≡ s.numbers = (λ i. numbering_of (overwritten (entries (cells_at (cells_of s.numbers) w.numbers)) (cells_of (numbers i))))

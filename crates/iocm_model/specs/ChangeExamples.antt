@@ -19,10 +19,10 @@ use Rattle.iocm_model.specs.Record.{Rec, device}
 use Rattle.iocm_model.specs.Configuration.{configuration_of}
 use Rattle.iocm_model.specs.State.{State, seen_in, opened}
 use Rattle.iocm_model.specs.Edit.{Action, add, delete, modify, Edit, altered_between}
-use Rattle.iocm_model.specs.Effect.{Effect, effect_of, values_in, written, edited_by_all, cells_of_edits}
+use Rattle.iocm_model.specs.Effect.{Effect, effect_of, values_in, written, edited_by_all, cells_written_by_all}
 use Rattle.iocm_model.specs.Inverse.{inverse_of}
-use Rattle.iocm_model.specs.Tree.{Plan, Plans, leaf, row, group, choose, none, part}
-use Rattle.iocm_model.specs.InverseTree.{parts_of, inverse_tree, reached}
+use Rattle.iocm_model.specs.Tree.{ChangeTree, Parts, leaf, row, group, choose, none, part}
+use Rattle.iocm_model.specs.InverseTree.{parts_of, inverse_tree, state_reached}
 use Rattle.iocm_model.specs.Meaning.{meaning}
 use Rattle.iocm_model.specs.Step.{order, device_end, stepped, answer_in}
 use Rattle.iocm_model.specs.BaseDeck.{lpb, base, online_record}
@@ -61,16 +61,16 @@ abbrev pub subchannel : ℕ → ℕ → SubId
 subchannel mif number = record { image = record { css = 0; mif = mif }; set = 0; number = number }
 
 -- a tree is accepted in a state: it performs these edits, and gives the state after them
-abbrev pub Performs : Plan → List Edit → State → Type 0
+abbrev pub Performs : ChangeTree → List Edit → State → Type 0
 Performs p es s = meaning p s ≡ Ok (record { state = edited_by_all es s; edits = es })
 
 -- a tree is refused in a state, by this rule at this node
-abbrev pub IsRefused : Plan → Rule → ℕ → At → State → Type 0
+abbrev pub IsRefused : ChangeTree → Rule → ℕ → At → State → Type 0
 IsRefused p rule node place s = meaning p s ≡ Err (record { rule = rule; node = Some node; at = place })
 
 -- edits that were performed from a state on are taken back by their inverse tree: it leads back to that state
 abbrev pub IsTakenBack : List Edit → State → Type 0
-IsTakenBack es s = reached (meaning (inverse_tree es s) (edited_by_all es s)) ≡ Some s
+IsTakenBack es s = state_reached (meaning (inverse_tree es s) (edited_by_all es s)) ≡ Some s
 
 -- a device that comes in gets the lowest free number, and the others keep theirs though its device number is the smallest: in each
 -- image one subchannel is new, with a fresh live record
@@ -81,7 +81,7 @@ pub record ADeviceComesIn : Type 0 where
   pub accepted : Performs (leaf add_0fff) (add_0fff ∷ []) base_opened
   pub numbers : entries (edited_by_all (add_0fff ∷ []) base_opened).numbers
       ≡ place_of 0x0FFF 4 ∷ place_of 0x1000 0 ∷ place_of 0x1001 1 ∷ place_of 0x1002 2 ∷ place_of 0x1003 3 ∷ []
-  pub altered : (cells_of_edits (add_0fff ∷ []) base_opened).subchannels ≡ subchannel 1 4 ∷ subchannel 2 4 ∷ []
+  pub altered : (cells_written_by_all (add_0fff ∷ []) base_opened).subchannels ≡ subchannel 1 4 ∷ subchannel 2 4 ∷ []
   pub live : get (edited_by_all (add_0fff ∷ []) base_opened).lives (subchannel 2 4) ≡ Some (fresh 0xC0)
   pub taken_back : IsTakenBack (add_0fff ∷ []) base_opened
 
@@ -169,8 +169,8 @@ pub record AnExchange : Type 0 where
   pub accepted : Performs (group (parts_of exchange)) exchange base_opened
   pub first : get (edited_by_all exchange base_opened).config (device_key 0x1002) ≡ Some (device_on_1000 0x1002 0x03)
   pub second : get (edited_by_all exchange base_opened).config (device_key 0x1003) ≡ Some (device_on_1000 0x1003 0x02)
-  pub altered : (cells_of_edits exchange base_opened).subchannels ≡ []
-  pub put_back : written (values_in base_opened (cells_of_edits exchange base_opened)) (edited_by_all exchange base_opened) ≡ base_opened
+  pub altered : (cells_written_by_all exchange base_opened).subchannels ≡ []
+  pub put_back : written (values_in base_opened (cells_written_by_all exchange base_opened)) (edited_by_all exchange base_opened) ≡ base_opened
   pub taken_back : IsTakenBack exchange base_opened
 
 -- a unit on a path that isn't there
@@ -178,7 +178,7 @@ abbrev pub unit_2000 : Edit
 unit_2000 = added (unit_on 0x2000 (0x60 ∷ []) None)
 
 -- V5 names the node where the rules are checked: the Group, the part of a Choose, or else the root
-abbrev pub BreaksAt : Plan → ℕ → Type 0
+abbrev pub BreaksAt : ChangeTree → ℕ → Type 0
 BreaksAt p node = IsRefused p V5 node (at.Key (key.Unit 0x2000)) base_opened
 
 pub record NodesOfBreaches : Type 0 where
@@ -205,15 +205,15 @@ pub record EmptyNodes : Type 0 where
   pub choose : IsRefused (choose none) E3 0 at.Nothing base_opened
 
 -- Rows in one another, and Rows of empty Rows beside one another
-abbrev pub nested : ℕ → Plan
+abbrev pub nested : ℕ → ChangeTree
 nested zero = row none
 nested (suc k) = row (part (nested k) none)
 
-abbrev pub times : ℕ → Plan → Plans
+abbrev pub times : ℕ → ChangeTree → Parts
 times zero p = none
 times (suc k) p = part p (times k p)
 
-abbrev pub rows_of_rows : ℕ → ℕ → Plan
+abbrev pub rows_of_rows : ℕ → ℕ → ChangeTree
 rows_of_rows many each = row (times many (row (times each (row none))))
 
 -- depth 32 and 4096 leaves are accepted, and one more of either is refused, with no node
@@ -236,7 +236,7 @@ started_there = started_at (subchannel 1 4) base_grown
 -- an edit is taken back later, and the live records that it didn't alter are kept as they are then; where one that it altered is
 -- busy, that is refused, at the leaf of the inverse tree
 pub record TakenBackLater : Type 0 where
-  pub elsewhere : reached (meaning (inverse_tree (add_0fff ∷ []) base_opened) started_elsewhere) ≡ Some base_started
+  pub elsewhere : state_reached (meaning (inverse_tree (add_0fff ∷ []) base_opened) started_elsewhere) ≡ Some base_started
   pub there : IsRefused (inverse_tree (add_0fff ∷ []) base_opened) B1 1 (at.Subchannel (subchannel 1 4)) started_there
 
 -- LPB's subchannel of 1000 is enabled, with path 51 alone in its logical-path mask
@@ -253,7 +253,7 @@ enabled_with lpm = record { enabled = true; lpm = lpm; parm = 0; phase = Idle }
 pub record APathComesOnline : Type 0 where
   pub accepted : Performs (leaf online_51) (online_51 ∷ []) base_enabled
   pub seen : seen_in (edited_by_all (online_51 ∷ []) base_enabled) (subchannel 2 0) ≡ a_view 0x1000 (0x50 ∷ 0x51 ∷ []) 0xC0 0xC0
-  pub altered : (cells_of_edits (online_51 ∷ []) base_enabled).subchannels
+  pub altered : (cells_written_by_all (online_51 ∷ []) base_enabled).subchannels
       ≡ subchannel 2 0 ∷ subchannel 2 1 ∷ subchannel 2 2 ∷ subchannel 2 3 ∷ []
   pub live : get (edited_by_all (online_51 ∷ []) base_enabled).lives (subchannel 2 0) ≡ Some (enabled_with 0x40)
   pub before : answer_in base_enabled (subchannel 2 0) (order orders.Start) ≡ answers.Io (io.Code 3)

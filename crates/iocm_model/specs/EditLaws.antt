@@ -17,7 +17,7 @@ use Rattle.iocm_model.specs.Edit.{Edit, config_edited, edited, altered_by}
 use Rattle.iocm_model.specs.Refusal.{is_number_taken, is_not_quiet, AreQuiet, first_not_quiet, refusal_of}
 use Rattle.iocm_model.specs.Inverse.{inverse_of}
 use Rattle.iocm_model.specs.InverseTree.{inverses}
-use Rattle.iocm_model.specs.Effect.{Cells, Effect, values_in, written, cells_of_edit, edited_by_all, cells_of_edits, effect_of}
+use Rattle.iocm_model.specs.Effect.{Cells, Effect, values_in, written, cells_written, edited_by_all, cells_written_by_all, effect_of}
 use Rattle.iocm_model.specs.Step.{Step, answer_in, stepped}
 
 -- an edit alters exactly the subchannels at which what is seen differs
@@ -70,7 +70,7 @@ WritesItsEffect = (es : List Edit) (s : State) → IsSound s → CarryFreeNumber
 
 -- and to overwrite these cells as they were gives back the state
 abbrev pub PutsBack : Type 0
-PutsBack = (es : List Edit) (s : State) → IsSound s → written (values_in s (cells_of_edits es s)) (edited_by_all es s) ≡ s
+PutsBack = (es : List Edit) (s : State) → IsSound s → written (values_in s (cells_written_by_all es s)) (edited_by_all es s) ≡ s
 
 -- live records of the same subchannels
 abbrev pub HasSameKeys : Lives → Lives → Type 0
@@ -82,17 +82,17 @@ HasSameKeys a b = (x : SubId) → contains_key a x ≡ contains_key b x
 abbrev pub GoesBack : Type 0
 GoesBack = (e : Edit) (s u : State) (kept : Lives) → IsSound s → HasConfigAndNumbersOf u (edited e s) → HasSameKeys kept (inverse_of e s).kept
     → edited (record (inverse_of e s) { kept = kept }) u
-    ≡ written (record (values_in s (cells_of_edit e s)) { lives = cells_at kept (altered_by e s) }) u
+    ≡ written (record (values_in s (cells_written e s)) { lives = cells_at kept (altered_by e s) }) u
 
 -- the same for a run of edits and their inverses, the last first
 abbrev pub RunGoesBack : Type 0
 RunGoesBack = (es : List Edit) (s u : State) → IsSound s → CarryFreeNumbers es s → HasConfigAndNumbersOf u (edited_by_all es s)
-    → edited_by_all (inverses es s) u ≡ written (values_in s (cells_of_edits es s)) u
+    → edited_by_all (inverses es s) u ≡ written (values_in s (cells_written_by_all es s)) u
 
 -- each of them is accepted where the altered subchannels are quiet
 abbrev pub InversesAreAccepted : Type 0
 InversesAreAccepted = (es : List Edit) (s u : State) → IsSound s → AreAccepted es s → HasConfigAndNumbersOf u (edited_by_all es s)
-    → AreQuiet u.lives (cells_of_edits es s).subchannels → AreAccepted (inverses es s) u
+    → AreQuiet u.lives (cells_written_by_all es s).subchannels → AreAccepted (inverses es s) u
 
 -- the same cells, in any order and number
 pub record HasSameCells (v w : Cells) : Type 0 where
@@ -103,7 +103,7 @@ pub record HasSameCells (v w : Cells) : Type 0 where
 -- and they write the same cells
 abbrev pub InversesWriteTheSame : Type 0
 InversesWriteTheSame = (es : List Edit) (s u : State) → IsSound s → CarryFreeNumbers es s → HasConfigAndNumbersOf u (edited_by_all es s)
-    → HasSameCells (cells_of_edits (inverses es s) u) (cells_of_edits es s)
+    → HasSameCells (cells_written_by_all (inverses es s) u) (cells_written_by_all es s)
 
 -- a step and the writing of an effect in either order: the same state and the same answer
 pub record Passes (x : SubId) (step : Step) (f : Effect) (u : State) : Type 0 where
@@ -113,12 +113,12 @@ pub record Passes (x : SubId) (step : Step) (f : Effect) (u : State) : Type 0 wh
 -- a step on a subchannel that a change doesn't alter passes its effect, and passes the taking back
 abbrev pub StepsElsewherePass : Type 0
 StepsElsewherePass = (es : List Edit) (s u : State) (x : SubId) (step : Step) → IsSound s → CarryFreeNumbers es s
-    → u.config ≡ s.config → u.numbers ≡ s.numbers → is_among x (cells_of_edits es s).subchannels ≡ false → Passes x step (effect_of es s) u
+    → u.config ≡ s.config → u.numbers ≡ s.numbers → is_among x (cells_written_by_all es s).subchannels ≡ false → Passes x step (effect_of es s) u
 
 abbrev pub StepsElsewherePassBack : Type 0
 StepsElsewherePassBack = (es : List Edit) (s u : State) (x : SubId) (step : Step) → IsSound s
-    → u.config ≡ (edited_by_all es s).config → u.numbers ≡ (edited_by_all es s).numbers → is_among x (cells_of_edits es s).subchannels ≡ false
-    → Passes x step (values_in s (cells_of_edits es s)) u
+    → u.config ≡ (edited_by_all es s).config → u.numbers ≡ (edited_by_all es s).numbers → is_among x (cells_written_by_all es s).subchannels ≡ false
+    → Passes x step (values_in s (cells_written_by_all es s)) u
 
 -- a step on a subchannel whose cell is overwritten leaves no trace
 abbrev pub OverwrittenStepsVanish : Type 0

@@ -46,8 +46,8 @@ abbrev pub both_cells : Cells → Cells → Cells
 both_cells v w = record { keys = v.keys ++ w.keys; numbers = v.numbers ++ w.numbers; subchannels = v.subchannels ++ w.subchannels }
 
 -- the cells that an edit writes: its key, the number cells that it changes, and the subchannels that it alters
-abbrev pub cells_of_edit : Edit → State → Cells
-cells_of_edit e s = let t = edited e s in record {
+abbrev pub cells_written : Edit → State → Cells
+cells_written e s = let t = edited e s in record {
   keys = key_edited e.action ∷ [];
   numbers = differing ◌==◌ (cells_of s.numbers) (cells_of t.numbers);
   subchannels = altered_between s t;
@@ -59,10 +59,10 @@ edited_by_all [] s = s
 edited_by_all (e ∷ es) s = edited_by_all es (edited e s)
 
 -- the cells that they write, also where one puts back what another wrote
-abbrev pub cells_of_edits : List Edit → State → Cells
-cells_of_edits [] s = no_cells
-cells_of_edits (e ∷ es) s = both_cells (cells_of_edit e s) (cells_of_edits es (edited e s))
+abbrev pub cells_written_by_all : List Edit → State → Cells
+cells_written_by_all [] s = no_cells
+cells_written_by_all (e ∷ es) s = both_cells (cells_written e s) (cells_written_by_all es (edited e s))
 
 -- the effect of edits: these cells with their values afterwards
 abbrev pub effect_of : List Edit → State → Effect
-effect_of es s = values_in (edited_by_all es s) (cells_of_edits es s)
+effect_of es s = values_in (edited_by_all es s) (cells_written_by_all es s)

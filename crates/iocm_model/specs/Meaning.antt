@@ -7,18 +7,18 @@ use Rattle.iocm_model.specs.Rules.{Breach, first_breach}
 use Rattle.iocm_model.specs.State.{State}
 use Rattle.iocm_model.specs.Edit.{Edit, edited}
 use Rattle.iocm_model.specs.Refusal.{refused_at, refusal_of}
-use Rattle.iocm_model.specs.Tree.{Plan, Plans, leaf, row, group, choose, none, part, leaves_of, depth_of, nodes_of, most_depth, most_leaves}
+use Rattle.iocm_model.specs.Tree.{ChangeTree, Parts, leaf, row, group, choose, none, part, leaves_of, depth_of, nodes_of, most_depth, most_leaves}
 
 -- what was done: the state that was reached, and the edits that were performed, in order
-pub record Run : Type 0 where
+pub record Performed : Type 0 where
   pub state : State
   pub edits : List Edit
 
 abbrev pub Outcome : Type 0
-Outcome = Result Run Refused
+Outcome = Result Performed Refused
 
 -- nothing was done
-abbrev pub nothing_done : State → Run
+abbrev pub nothing_done : State → Performed
 nothing_done s = record { state = s; edits = [] }
 
 -- the refusal names this node
@@ -31,7 +31,7 @@ unless_refused (Some why) n e s = Err (at_node n why)
 unless_refused None n e s = Ok (record { state = edited e s; edits = e ∷ [] })
 
 -- what was done before, too
-abbrev pub after_run : Run → Outcome → Outcome
+abbrev pub after_run : Performed → Outcome → Outcome
 after_run r (Ok next) = Ok (record { state = next.state; edits = r.edits ++ next.edits })
 after_run r (Err why) = Err why
 
@@ -46,7 +46,7 @@ or_else (Ok r) further = Ok r
 or_else (Err why) further = further why
 
 -- a breach of the rules names the node whose end was checked
-abbrev pub unless_broken : Option Breach → ℕ → Run → Outcome
+abbrev pub unless_broken : Option Breach → ℕ → Performed → Outcome
 unless_broken (Some b) n r = Err (record { rule = b.rule; node = Some n; at = Key b.key })
 unless_broken None n r = Ok r
 
@@ -62,25 +62,25 @@ without_parts n = at_node n (refused_at E3 Nothing)
 abbrev mutual
   -- a tree whose first node has this number. A Row performs its parts in order, all or none; after a Group the rules hold; a
   -- Choose performs the first part that is accepted and after which the rules hold
-  pub mean : Plan → ℕ → State → Outcome
-  mean (leaf e) n s = unless_refused (refusal_of e s) n e s
-  mean (row ps) n s = mean_all ps (n + 1) s
-  mean (group ps) n s = checked n (mean_all ps (n + 1) s)
-  mean (choose ps) n s = mean_first ps (n + 1) (without_parts n) s
+  pub node_meaning : ChangeTree → ℕ → State → Outcome
+  node_meaning (leaf e) n s = unless_refused (refusal_of e s) n e s
+  node_meaning (row ps) n s = parts_meaning ps (n + 1) s
+  node_meaning (group ps) n s = checked n (parts_meaning ps (n + 1) s)
+  node_meaning (choose ps) n s = choice_meaning ps (n + 1) (without_parts n) s
 
   -- parts in order: the first refusal is the answer
-  pub mean_all : Plans → ℕ → State → Outcome
-  mean_all none n s = Ok (nothing_done s)
-  mean_all (part p ps) n s = and_then (mean p n s) (mean_all ps (n + nodes_of p))
+  pub parts_meaning : Parts → ℕ → State → Outcome
+  parts_meaning none n s = Ok (nothing_done s)
+  parts_meaning (part p ps) n s = and_then (node_meaning p n s) (parts_meaning ps (n + nodes_of p))
 
   -- the first part that is accepted; where there is none, the last refusal
-  pub mean_first : Plans → ℕ → Refused → State → Outcome
-  mean_first none n last s = Err last
-  mean_first (part p ps) n last s = or_else (checked n (mean p n s)) (λ why. mean_first ps (n + nodes_of p) why s)
+  pub choice_meaning : Parts → ℕ → Refused → State → Outcome
+  choice_meaning none n last s = Err last
+  choice_meaning (part p ps) n last s = or_else (checked n (node_meaning p n s)) (λ why. choice_meaning ps (n + nodes_of p) why s)
 
 -- a whole tree: the limits on depth (C1) and leaves (C2), then the root, then the rules
-abbrev pub meaning : Plan → State → Outcome
+abbrev pub meaning : ChangeTree → State → Outcome
 meaning p s =
     if nat_lt most_depth (depth_of p) then Err (refused_at C1 Nothing)
     else if nat_lt most_leaves (leaves_of p) then Err (refused_at C2 Nothing)
-    else checked 0 (mean p 0 s)
+    else checked 0 (node_meaning p 0 s)

@@ -5,16 +5,16 @@ use Rattle.iocm_model.specs.Edit.{Edit}
 mutual
   -- a tree: one edit; parts in order, all or none; the same, after which the rules hold; the
   -- first part that is accepted and after which they hold
-  pub data Plan : Type 0 where
-    leaf : Edit → Plan
-    row : Plans → Plan
-    group : Plans → Plan
-    choose : Plans → Plan
+  pub data ChangeTree : Type 0 where
+    leaf : Edit → ChangeTree
+    row : Parts → ChangeTree
+    group : Parts → ChangeTree
+    choose : Parts → ChangeTree
 
   -- the parts of a node, in order
-  pub data Plans : Type 0 where
-    none : Plans
-    part : Plan → Plans → Plans
+  pub data Parts : Type 0 where
+    none : Parts
+    part : ChangeTree → Parts → Parts
 
 -- a count, or 1 for a node without parts
 abbrev pub or_one : ℕ → ℕ
@@ -22,37 +22,37 @@ or_one n = if n == 0 then 1 else n
 
 abbrev mutual
   -- the leaves of a tree; a node without parts counts as one
-  pub leaves_of : Plan → ℕ
+  pub leaves_of : ChangeTree → ℕ
   leaves_of (leaf e) = 1
   leaves_of (row ps) = or_one (leaves_in ps)
   leaves_of (group ps) = or_one (leaves_in ps)
   leaves_of (choose ps) = or_one (leaves_in ps)
 
-  pub leaves_in : Plans → ℕ
+  pub leaves_in : Parts → ℕ
   leaves_in none = 0
   leaves_in (part p ps) = leaves_of p + leaves_in ps
 
 abbrev mutual
   -- the depth of a tree; a leaf and a node without parts have 1
-  pub depth_of : Plan → ℕ
+  pub depth_of : ChangeTree → ℕ
   depth_of (leaf e) = 1
   depth_of (row ps) = depth_in ps + 1
   depth_of (group ps) = depth_in ps + 1
   depth_of (choose ps) = depth_in ps + 1
 
-  pub depth_in : Plans → ℕ
+  pub depth_in : Parts → ℕ
   depth_in none = 0
   depth_in (part p ps) = max (depth_of p) (depth_in ps)
 
 abbrev mutual
   -- the nodes of a tree, numbered in preorder from 0
-  pub nodes_of : Plan → ℕ
+  pub nodes_of : ChangeTree → ℕ
   nodes_of (leaf e) = 1
   nodes_of (row ps) = nodes_in ps + 1
   nodes_of (group ps) = nodes_in ps + 1
   nodes_of (choose ps) = nodes_in ps + 1
 
-  pub nodes_in : Plans → ℕ
+  pub nodes_in : Parts → ℕ
   nodes_in none = 0
   nodes_in (part p ps) = nodes_of p + nodes_in ps
 
@@ -65,4 +65,4 @@ most_leaves = 4096
 
 -- a tree has at most as many nodes as its depth times its leaves: node numbers are bounded by the two limits
 abbrev pub NodesAreBounded : Type 0
-NodesAreBounded = (p : Plan) → nodes_of p ≤ depth_of p * leaves_of p
+NodesAreBounded = (p : ChangeTree) → nodes_of p ≤ depth_of p * leaves_of p

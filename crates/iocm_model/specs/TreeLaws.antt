@@ -3,8 +3,8 @@ use Rattle.std.specs.Prelude.{◌≡◌, None, Ok}
 use Rattle.iocm_model.specs.Rules.{first_breach}
 use Rattle.iocm_model.specs.State.{State, IsSound}
 use Rattle.iocm_model.specs.Effect.{edited_by_all}
-use Rattle.iocm_model.specs.Tree.{Plan}
-use Rattle.iocm_model.specs.Meaning.{Run, meaning}
+use Rattle.iocm_model.specs.Tree.{ChangeTree}
+use Rattle.iocm_model.specs.Meaning.{Performed, meaning}
 use Rattle.iocm_model.specs.InverseTree.{inverse_tree, TakesBack}
 use Rattle.iocm_model.specs.EditLaws.{AreAccepted}
 
@@ -13,15 +13,15 @@ abbrev pub KeepsTheRules : State → Type 0
 KeepsTheRules s = first_breach s.config s.numbers ≡ None
 
 -- an accepted tree performs edits that are accepted one after the other, and leaves a state in which the rules hold
-pub record IsRunFrom (s : State) (r : Run) : Type 0 where
+pub record IsRunFrom (s : State) (r : Performed) : Type 0 where
   pub state : r.state ≡ edited_by_all r.edits s
   pub accepted : AreAccepted r.edits s
   pub kept : KeepsTheRules r.state
 
 abbrev pub AcceptedTreesAreRuns : Type 0
-AcceptedTreesAreRuns = (p : Plan) (s : State) (r : Run) → meaning p s ≡ Ok r → IsRunFrom s r
+AcceptedTreesAreRuns = (p : ChangeTree) (s : State) (r : Performed) → meaning p s ≡ Ok r → IsRunFrom s r
 
 -- the inverse tree of an accepted tree takes it back
 abbrev pub InverseTreesTakeBack : Type 0
-InverseTreesTakeBack = (p : Plan) (s : State) (r : Run) → IsSound s → KeepsTheRules s → meaning p s ≡ Ok r
+InverseTreesTakeBack = (p : ChangeTree) (s : State) (r : Performed) → IsSound s → KeepsTheRules s → meaning p s ≡ Ok r
     → TakesBack (inverse_tree r.edits s) r.edits s

@@ -6,7 +6,7 @@ use Rattle.iocm_types.specs.declared.answer.Answer.TheVariants as answers
 use Rattle.iocm_history.specs.Entry.{History}
 
 -- how many changes were accepted; those that stand, the latest first; those that are undone, the last one undone first
-pub record Book : Type 0 where
+pub record Journal : Type 0 where
   pub count : ℕ
   pub standing : List ℕ
   pub undone : List ℕ
@@ -18,17 +18,17 @@ abbrev pub without : ℕ → List ℕ → List ℕ
 without n ns = filter (λ m. not (n == m)) ns
 
 -- a change that is past: it was accepted, and neither stands nor is undone any more
-abbrev pub is_past : ℕ → Book → Bool
+abbrev pub is_past : ℕ → Journal → Bool
 is_past n b = nat_le 1 n && nat_le n b.count && not (is_in n b.standing) && not (is_in n b.undone)
 
 -- a change stands once it is accepted, and all that are undone then become past; it is undone after its undo, and stands again
 -- after its redo
-abbrev pub booked : Answer → Book → Book
-booked (answers.Changed n) b = record { count = n; standing = n ∷ b.standing; undone = [] }
-booked (answers.Undone n) b = record { count = b.count; standing = without n b.standing; undone = n ∷ b.undone }
-booked (answers.Redone n) b = record { count = b.count; standing = n ∷ b.standing; undone = without n b.undone }
-booked _ b = b
+abbrev pub journal_after : Answer → Journal → Journal
+journal_after (answers.Changed n) b = record { count = n; standing = n ∷ b.standing; undone = [] }
+journal_after (answers.Undone n) b = record { count = b.count; standing = without n b.standing; undone = n ∷ b.undone }
+journal_after (answers.Redone n) b = record { count = b.count; standing = n ∷ b.standing; undone = without n b.undone }
+journal_after _ b = b
 
-abbrev pub book : History → Book
-book [] = record { count = 0; standing = []; undone = [] }
-book (e ∷ h) = booked e.answer (book h)
+abbrev pub journal_of : History → Journal
+journal_of [] = record { count = 0; standing = []; undone = [] }
+journal_of (e ∷ h) = journal_after e.answer (journal_of h)

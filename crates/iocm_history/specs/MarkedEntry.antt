@@ -25,7 +25,7 @@ pub data Mark : Type 0 where
   lost : Mark
 
 -- an entry with its mark
-pub record Line : Type 0 where
+pub record MarkedEntry : Type 0 where
   pub act : Act
   pub mark : Mark
 
@@ -57,12 +57,12 @@ abbrev pub effect_or : ℕ → Act → Effect → Effect
 effect_or n (change m f) further = if n == m then f else further
 effect_or n _ further = further
 
-abbrev pub change_effect : ℕ → List Line → Effect
+abbrev pub change_effect : ℕ → List MarkedEntry → Effect
 change_effect n [] = no_effect
 change_effect n (l ∷ ls) = effect_or n l.act (change_effect n ls)
 
 -- the subchannels that it altered
-abbrev pub altered_by_change : ℕ → List Line → List SubId
+abbrev pub altered_by_change : ℕ → List MarkedEntry → List SubId
 altered_by_change n ls = keys (change_effect n ls).lives
 
 -- what already is struck stays as it is
@@ -70,15 +70,15 @@ abbrev pub struck_mark : Mark → Mark → Mark
 struck_mark by kept = by
 struck_mark by m = m
 
-abbrev pub struck : Mark → Line → Line
+abbrev pub struck : Mark → MarkedEntry → MarkedEntry
 struck by l = record { act = l.act; mark = struck_mark by l.mark }
 
-abbrev pub struck_if : Bool → Mark → Line → Line
+abbrev pub struck_if : Bool → Mark → MarkedEntry → MarkedEntry
 struck_if true by l = struck by l
 struck_if false by l = l
 
 -- an undo strikes the change, and each step since on these subchannels
-unfoldable pub strike : List SubId → ℕ → List Line → List Line
+unfoldable pub strike : List SubId → ℕ → List MarkedEntry → List MarkedEntry
 strike xs n [] = []
 strike xs n (l ∷ ls) = if is_change n l.act then struck (undone_with n) l ∷ ls
     else struck_if (is_step_on xs l.act) (undone_with n) l ∷ strike xs n ls
@@ -89,36 +89,36 @@ unstruck_mark n kept = kept
 unstruck_mark n (undone_with m) = if n == m then kept else undone_with m
 unstruck_mark n lost = lost
 
-abbrev pub unstruck : ℕ → Line → Line
+abbrev pub unstruck : ℕ → MarkedEntry → MarkedEntry
 unstruck n l = record { act = l.act; mark = unstruck_mark n l.mark }
 
-abbrev pub taken_back : ℕ → List Line → List Line
+abbrev pub taken_back : ℕ → List MarkedEntry → List MarkedEntry
 taken_back n ls = map (unstruck n) ls
 
 -- a redo takes back what the last undo of the change newly struck, and strikes each step since that undo on these subchannels
-unfoldable pub restore : List SubId → ℕ → List Line → List Line
+unfoldable pub restore : List SubId → ℕ → List MarkedEntry → List MarkedEntry
 restore xs n [] = []
 restore xs n (l ∷ ls) = if is_undo n l.act then l ∷ taken_back n ls
     else struck_if (is_step_on xs l.act) lost l ∷ restore xs n ls
 
 -- without a change, and with it again: its subchannels are those that it altered
-abbrev pub without_change : ℕ → List Line → List Line
+abbrev pub without_change : ℕ → List MarkedEntry → List MarkedEntry
 without_change n ls = strike (altered_by_change n ls) n ls
 
-abbrev pub with_change : ℕ → List Line → List Line
+abbrev pub with_change : ℕ → List MarkedEntry → List MarkedEntry
 with_change n ls = restore (altered_by_change n ls) n ls
 
 -- the earlier entries after an answer
-abbrev pub remarked : Answer → List Line → List Line
-remarked (answers.Undone n) ls = without_change n ls
-remarked (answers.Redone n) ls = with_change n ls
-remarked _ ls = ls
+abbrev pub marks_after : Answer → List MarkedEntry → List MarkedEntry
+marks_after (answers.Undone n) ls = without_change n ls
+marks_after (answers.Redone n) ls = with_change n ls
+marks_after _ ls = ls
 
 -- an entry as it is made: it counts
-abbrev pub line_of : Entry → Line
-line_of e = record { act = act_of e.call e.answer e.effect; mark = kept }
+abbrev pub marked_entry : Entry → MarkedEntry
+marked_entry e = record { act = act_of e.call e.answer e.effect; mark = kept }
 
 -- each entry of a history with its mark
-unfoldable pub lines : History → List Line
-lines [] = []
-lines (e ∷ h) = line_of e ∷ remarked e.answer (lines h)
+unfoldable pub marked_entries : History → List MarkedEntry
+marked_entries [] = []
+marked_entries (e ∷ h) = marked_entry e ∷ marks_after e.answer (marked_entries h)
