@@ -16,7 +16,7 @@ use Rattle.iocm_types.specs.declared.key.Key.{Key}
 use Rattle.iocm_types.specs.declared.key.Key.TheVariants as key
 use Rattle.iocm_types.specs.declared.order.Order.TheVariants as orders
 use Rattle.iocm_model.specs.Examples.{place_of}
-use Rattle.iocm_model.specs.ChangeExamples.{one_for_another, Writes, online_51, delete_1001, enabled_with, LiveRecordsComeAlong, AnInverse, Effects, LimitsOfTrees, TakenBackLater, base_grown, started_elsewhere, started_there, started_at, enabled_at, base_started, base_ended, base_tested, base_enabled, ANumberComesAlong, Keys, ABusySubchannel, PendingStatus, AnExchange, NodesOfBreaches, WhereRulesHold, AfterAGroup, EmptyNodes, APathComesOnline, APathListIsTurned, base_opened, subchannel, device_on_1000, device_key, ADeviceComesIn, ANumberIsUsedAgain}
+use Rattle.iocm_model.specs.ChangeExamples.{second_subsystem, second_opened, unit_on_both, ASecondSubsystem, one_for_another, Writes, online_51, delete_1001, enabled_with, LiveRecordsComeAlong, AnInverse, Effects, LimitsOfTrees, TakenBackLater, base_grown, started_elsewhere, started_there, started_at, enabled_at, base_started, base_ended, base_tested, base_enabled, ANumberComesAlong, Keys, ABusySubchannel, PendingStatus, AnExchange, NodesOfBreaches, WhereRulesHold, AfterAGroup, EmptyNodes, APathComesOnline, APathListIsTurned, base_opened, subchannel, device_on_1000, device_key, ADeviceComesIn, ANumberIsUsedAgain}
 use Rattle.iocm_model.proofs.OnLists.{states_on_lists, on_lists}
 use Rattle.iocm_model.proofs.ListedMaps.{put_all}
 use Rattle.iocm_model.proofs.ListedViews.{entries-configuration_of}
@@ -109,6 +109,39 @@ a_number_comes_along = record {
       base_opened base_listing base_is refl;
   its_own = number_at_is _ _ (place_of 0x2000 0).0
       (edited_all_is (with_places_listed (place_of 0x1000 0 ∷ []) ∷ []) base_opened base_listing base_is);
+}
+
+-- the example deck with a second channel subsystem, opened, as lists
+unfoldable second_listing : ListedState
+second_listing = record {
+  records = put_all key_cmp (keyed second_subsystem);
+  numbers = place_of 0x1000 0 ∷ place_of 0x1001 1 ∷ place_of 0x1002 2 ∷ place_of 0x1003 3 ∷ [];
+  lives = (subchannel 1 0, fresh 0xC0) ∷ (subchannel 1 1, fresh 0xC0) ∷ (subchannel 1 2, fresh 0xC0) ∷ (subchannel 1 3, fresh 0xC0)
+      ∷ (subchannel 2 0, fresh 0xC0) ∷ (subchannel 2 1, fresh 0xC0) ∷ (subchannel 2 2, fresh 0xC0) ∷ (subchannel 2 3, fresh 0xC0) ∷ [];
+}
+
+-- these are the lists of its state at opening
+second_computed : opened_listed (put_all key_cmp (keyed second_subsystem)) ≡ second_listing
+unfolding second_listing states_on_lists
+second_computed = refl
+
+-- and they are those of the state
+second_is : listing second_opened ≡ second_listing
+unfolding second_opened
+second_is = opened_seen (configuration_of second_subsystem) ∙ ap opened_listed (entries-configuration_of second_subsystem) ∙ second_computed
+
+-- the unit is on paths of both
+abbrev the_unit_on_both : ListedEdit
+the_unit_on_both = plainly unit_on_both.action
+
+-- the numbers of both
+pub a_second_subsystem : ASecondSubsystem
+unfolding on_lists second_listing
+a_second_subsystem = record {
+  accepted = meaning_is (one the_unit_on_both) (the_unit_on_both ∷ []) second_opened second_listing second_is refl;
+  numbers = ap (λ (y : ListedState). y.numbers) (edited_all_is (the_unit_on_both ∷ []) second_opened second_listing second_is);
+  altered = ap (λ (w : Cells). w.subchannels) (edits_cells_are (the_unit_on_both ∷ []) second_opened second_listing second_is);
+  taken_back = taken_back (the_unit_on_both ∷ []) second_opened second_listing second_is refl;
 }
 
 -- keys that are there, and that are missing
@@ -219,6 +252,8 @@ nodes_of_breaches = record {
   in_group = meaning_refused group_of_unit _ base_opened base_listing base_is refl;
   in_row = meaning_refused (in_row (parts_listed (the_0fff ∷ the_unit ∷ []))) _ base_opened base_listing base_is refl;
   in_group_in_row = meaning_refused (in_row (and_part (one the_0fff) (and_part group_of_unit no_parts))) _ base_opened base_listing base_is refl;
+  in_group_after = meaning_refused (in_row (and_part (one the_unit) (and_part (in_group (parts_listed (the_0fff ∷ []))) no_parts)))
+      _ base_opened base_listing base_is refl;
   in_last_of_choose = meaning_refused (in_choose (parts_listed (delete_unit ∷ the_unit ∷ []))) _ base_opened base_listing base_is refl;
 }
 

@@ -1,5 +1,5 @@
 -- Worked examples of change, on the example deck as it is opened, as they are stated by hand.
-use Rattle.std.specs.Prelude.{◌≡◌, ℕ, zero, suc, true, List, [], ◌∷◌, Option, None, Some, Ok, Err}
+use Rattle.std.specs.Prelude.{◌≡◌, ℕ, zero, suc, true, List, [], ◌∷◌, Option, None, Some, Ok, Err, codes}
 use Rattle.std.specs.FinMap.{get, entries, empty, from_entries}
 use Rattle.iocm_types.specs.declared.answer.Answer.TheVariants as answers
 use Rattle.iocm_types.specs.declared.key.Key.{Key}
@@ -8,6 +8,7 @@ use Rattle.iocm_types.specs.declared.live.Phase.TheVariants.{Idle}
 use Rattle.iocm_types.specs.declared.live.Live.{Live}
 use Rattle.iocm_types.specs.declared.order.Order.TheVariants as orders
 use Rattle.iocm_types.specs.declared.order.Io.TheVariants as io
+use Rattle.iocm_types.specs.declared.path_kind.PathKind.TheVariants.{Shared}
 use Rattle.iocm_types.specs.declared.place.NumberCell.{NumberCell}
 use Rattle.iocm_types.specs.declared.place.Place.{Place}
 use Rattle.iocm_types.specs.declared.refused.At.{At}
@@ -15,7 +16,7 @@ use Rattle.iocm_types.specs.declared.refused.At.TheVariants as at
 use Rattle.iocm_types.specs.declared.rule.Rule.{Rule}
 use Rattle.iocm_types.specs.declared.rule.Rule.TheVariants.{V5, B1, E1, E2, E3, E4, C1, C2}
 use Rattle.iocm_types.specs.declared.sub_id.SubId.{SubId}
-use Rattle.iocm_model.specs.Record.{Rec, device}
+use Rattle.iocm_model.specs.Record.{Rec, device, image, path, unit}
 use Rattle.iocm_model.specs.Configuration.{configuration_of}
 use Rattle.iocm_model.specs.State.{State, seen_in, opened}
 use Rattle.iocm_model.specs.Edit.{Action, add, delete, modify, Edit, altered_between}
@@ -25,7 +26,7 @@ use Rattle.iocm_model.specs.Tree.{ChangeTree, Parts, leaf, row, group, choose, n
 use Rattle.iocm_model.specs.InverseTree.{parts_of, inverse_tree, state_reached}
 use Rattle.iocm_model.specs.Meaning.{meaning}
 use Rattle.iocm_model.specs.Step.{order, device_end, stepped, answer_in}
-use Rattle.iocm_model.specs.BaseDeck.{lpb, base, online_record}
+use Rattle.iocm_model.specs.BaseDeck.{lpb, base, online_record, css_path}
 use Rattle.iocm_model.specs.Examples.{place_of, a_view}
 use Rattle.iocm_model.specs.RuleExamples.{unit_on}
 use Rattle.iocm_model.specs.Orders.{fresh}
@@ -111,7 +112,6 @@ with_number_of_another = with_places (place_of 0x1000 0 ∷ [])
 
 -- a device that comes in gets the number that comes along where it is free, and E4 refuses one that is held, or that comes twice;
 -- what comes along for a device that stays says nothing
-
 pub record ANumberComesAlong : Type 0 where
   pub accepted : Performs (leaf (with_number 7)) (with_number 7 ∷ []) base_opened
   pub numbers : entries (edited_by_all (with_number 7 ∷ []) base_opened).numbers
@@ -120,6 +120,41 @@ pub record ANumberComesAlong : Type 0 where
   pub twice : IsRefused (leaf with_number_twice) E4 0 (at.Key (device_key 0x2000)) base_opened
   pub of_another : Performs (leaf with_number_of_another) (with_number_of_another ∷ []) base_opened
   pub its_own : get (edited_by_all (with_number_of_another ∷ []) base_opened).numbers (place_of 0x2000 0).0 ≡ Some 4
+
+-- the example deck with an image LPC and a path in channel subsystem 1, opened; and unit 1000 on that path, too
+abbrev pub second_subsystem : List Rec
+second_subsystem = image (record { css = 1; mif = 1; name = codes "LPC" })
+    ∷ path (record { css = 1; number = 0x50; kind = Shared; access = codes "LPC" ∷ []; candidates = []; carried = [] }) ∷ base
+
+unfoldable pub second_opened : State
+second_opened = opened (configuration_of second_subsystem)
+
+abbrev pub unit_on_both : Edit
+unit_on_both = modified (unit (record {
+  number = 0x1000;
+  paths = css_path 0x50 ∷ css_path 0x51 ∷ record { css = 1; path = 0x50 } ∷ [];
+  ranges = record { start = 0; count = 16 } ∷ [];
+  links = [];
+  cuadd = None;
+  carried = [];
+}))
+
+-- a place and a subchannel of channel subsystem 1
+abbrev pub second_place : ℕ → ℕ → Place × ℕ
+second_place n number = (record { css = 1; set = 0; device = n }, number)
+
+abbrev pub second_subchannel : ℕ → SubId
+second_subchannel number = record { image = record { css = 1; mif = 1 }; set = 0; number = number }
+
+-- each channel subsystem has numbers of its own, and a path of one alters nothing in another
+pub record ASecondSubsystem : Type 0 where
+  pub accepted : Performs (leaf unit_on_both) (unit_on_both ∷ []) second_opened
+  pub numbers : entries (edited_by_all (unit_on_both ∷ []) second_opened).numbers
+      ≡ place_of 0x1000 0 ∷ place_of 0x1001 1 ∷ place_of 0x1002 2 ∷ place_of 0x1003 3
+      ∷ second_place 0x1000 0 ∷ second_place 0x1001 1 ∷ second_place 0x1002 2 ∷ second_place 0x1003 3 ∷ []
+  pub altered : (cells_of_edits (unit_on_both ∷ []) second_opened).subchannels
+      ≡ second_subchannel 0 ∷ second_subchannel 1 ∷ second_subchannel 2 ∷ second_subchannel 3 ∷ []
+  pub taken_back : IsTakenBack (unit_on_both ∷ []) second_opened
 
 -- device 1000 once more, with another unit address
 abbrev pub add_1000 : Edit
@@ -186,6 +221,7 @@ pub record NodesOfBreaches : Type 0 where
   pub in_group : BreaksAt (group (parts_of (unit_2000 ∷ []))) 0
   pub in_row : BreaksAt (row (parts_of (add_0fff ∷ unit_2000 ∷ []))) 0
   pub in_group_in_row : BreaksAt (row (part (leaf add_0fff) (part (group (parts_of (unit_2000 ∷ []))) none))) 2
+  pub in_group_after : BreaksAt (row (part (leaf unit_2000) (part (group (parts_of (add_0fff ∷ []))) none))) 2
   pub in_last_of_choose : BreaksAt (choose (parts_of (deleted (key.Unit 0x2000) ∷ unit_2000 ∷ []))) 2
 
 -- a Row may break a rule on its way, a Group in it may not; a Choose goes on after a part that breaks one

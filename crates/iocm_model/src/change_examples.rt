@@ -1,5 +1,5 @@
 ghost use Rattle.iocm_model.specs.RuleExamples.{BaseKeepsTheRules, ADedicatedPathOfTwo, AUnitOnNinePaths, ADeviceOfNineUnits, ALimitOfThree, TheOtherRules, AtTheBounds};
-ghost use Rattle.iocm_model.specs.ChangeExamples.{ADeviceComesIn, ANumberIsUsedAgain, ANumberComesAlong, Keys, ABusySubchannel, PendingStatus};
+ghost use Rattle.iocm_model.specs.ChangeExamples.{ADeviceComesIn, ANumberIsUsedAgain, ANumberComesAlong, ASecondSubsystem, Keys, ABusySubchannel, PendingStatus};
 ghost use Rattle.iocm_model.specs.ChangeExamples.{AnExchange, NodesOfBreaches, WhereRulesHold, AfterAGroup, EmptyNodes, LimitsOfTrees, TakenBackLater, APathComesOnline, APathListIsTurned, LiveRecordsComeAlong, AnInverse, Effects};
 
 /// Rules and the first breach, on the example deck and decks that break one rule before others: each is computed
@@ -19,6 +19,7 @@ pub fn numbers_change_as_worked()
     ensures comes_in { ADeviceComesIn }
     ensures used_again { ANumberIsUsedAgain }
     ensures comes_along { ANumberComesAlong }
+    ensures second { ASecondSubsystem }
 {}
 
 /// Edits that are refused, by their keys and by subchannels that are busy or have status pending, computed.

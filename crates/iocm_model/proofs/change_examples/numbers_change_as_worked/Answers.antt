@@ -1,5 +1,5 @@
 -- Each is computed on states as lists.
-use Rattle.iocm_model.proofs.WorkedChanges.{a_device_comes_in, a_number_is_used_again, a_number_comes_along}
+use Rattle.iocm_model.proofs.WorkedChanges.{a_device_comes_in, a_number_is_used_again, a_number_comes_along, a_second_subsystem}
 use Rattle.iocm_model.proofs.change_examples.numbers_change_as_worked.Goals as goal
 
 pub returns-clause-comes_in : goal.returns-clause-comes_in
@@ -10,3 +10,6 @@ returns-clause-used_again c = a_number_is_used_again
 
 pub returns-clause-comes_along : goal.returns-clause-comes_along
 returns-clause-comes_along c = a_number_comes_along
+
+pub returns-clause-second : goal.returns-clause-second
+returns-clause-second c = a_second_subsystem
