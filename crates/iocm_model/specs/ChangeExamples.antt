@@ -152,7 +152,7 @@ pub record ASecondSubsystem : Type 0 where
   pub numbers : entries (edited_by_all (unit_on_both ∷ []) second_opened).numbers
       ≡ place_of 0x1000 0 ∷ place_of 0x1001 1 ∷ place_of 0x1002 2 ∷ place_of 0x1003 3
       ∷ second_place 0x1000 0 ∷ second_place 0x1001 1 ∷ second_place 0x1002 2 ∷ second_place 0x1003 3 ∷ []
-  pub altered : (cells_of_edits (unit_on_both ∷ []) second_opened).subchannels
+  pub altered : (cells_written_by_all (unit_on_both ∷ []) second_opened).subchannels
       ≡ second_subchannel 0 ∷ second_subchannel 1 ∷ second_subchannel 2 ∷ second_subchannel 3 ∷ []
   pub taken_back : IsTakenBack (unit_on_both ∷ []) second_opened
 
