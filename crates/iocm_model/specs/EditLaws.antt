@@ -113,11 +113,13 @@ pub record Passes (x : SubId) (step : Step) (f : Effect) (u : State) : Type 0 wh
 -- a step on a subchannel that a change doesn't alter passes its effect, and passes the taking back
 abbrev pub StepsElsewherePass : Type 0
 StepsElsewherePass = (es : List Edit) (s u : State) (x : SubId) (step : Step) → IsSound s → CarryFreeNumbers es s
-    → u.config ≡ s.config → u.numbers ≡ s.numbers → is_among x (cells_written_by_all es s).subchannels ≡ false → Passes x step (effect_of es s) u
+    → u.config ≡ s.config → u.numbers ≡ s.numbers
+    → is_among x (cells_written_by_all es s).subchannels ≡ false → Passes x step (effect_of es s) u
 
 abbrev pub StepsElsewherePassBack : Type 0
 StepsElsewherePassBack = (es : List Edit) (s u : State) (x : SubId) (step : Step) → IsSound s
-    → u.config ≡ (edited_by_all es s).config → u.numbers ≡ (edited_by_all es s).numbers → is_among x (cells_written_by_all es s).subchannels ≡ false
+    → u.config ≡ (edited_by_all es s).config → u.numbers ≡ (edited_by_all es s).numbers
+    → is_among x (cells_written_by_all es s).subchannels ≡ false
     → Passes x step (values_in s (cells_written_by_all es s)) u
 
 -- a step on a subchannel whose cell is overwritten leaves no trace

@@ -47,7 +47,8 @@ BaseKeepsTheRules = first_breach_at_opening base ≡ None
 
 -- a path that only one image may use, and that lists two
 abbrev pub two_on_a_dedicated_path : List Rec
-two_on_a_dedicated_path = path (record { css = 0; number = 0x52; kind = Dedicated; access = lpa ∷ lpb ∷ []; candidates = lpa ∷ lpb ∷ []; carried = [] }) ∷ base
+two_on_a_dedicated_path =
+    path (record { css = 0; number = 0x52; kind = Dedicated; access = lpa ∷ lpb ∷ []; candidates = lpa ∷ lpb ∷ []; carried = [] }) ∷ base
 
 abbrev pub ADedicatedPathOfTwo : Type 0
 ADedicatedPathOfTwo = BreaksFirst two_on_a_dedicated_path V3 (Path 0 0x52)
