@@ -285,7 +285,7 @@ inverse_accepted e s v sound accepted like quiet =
     let t = edited e s in let a = (inverse_of e s).action in let k = key_edited e.action in
     let by_key : refused_by_key a (contains_key v.config (key_edited a)) ≡ None =
     (λ i. refused_by_key a (contains_key (like.config i) (back_key k (get s.config k) (record_after e.action) (keyed_own s.config sound.keyed k) i)))
-            ∙ ap (λ o. refused_by_key a (is_some o)) (key_there e.action s.config)
+    ∙ ap (λ o. refused_by_key a (is_some o)) (key_there e.action s.config)
     ∙ back_passes k (get s.config k) e.action (no_key_refusal e s accepted) in
     let config : config_edited a v.config ≡ s.config = ap (config_edited a) like.config ∙ config_back e.action s.config sound.keyed in
     let by_number : is_number_taken (config_edited a v.config) v.numbers (inverse_of e s).places ≡ false =
@@ -305,7 +305,7 @@ inverses_accepted [] s u sound accepted like quiet = tt
 inverses_accepted (e ∷ es) s u sound accepted like quiet =
     let t = edited e s in let later = (cells_written_by_all es t).subchannels in
     let among : (x : SubId) → list_any (eq_by_cmp sub_id_cmp x) (altered_by e s ++ later)
-            ≡ (list_any (eq_by_cmp sub_id_cmp x) (altered_by e s) || list_any (eq_by_cmp sub_id_cmp x) later) =
+    ≡ (list_any (eq_by_cmp sub_id_cmp x) (altered_by e s) || list_any (eq_by_cmp sub_id_cmp x) later) =
     λ x. any_append sub_id_cmp x (altered_by e s) later in
     let sound_t = edited_sound e s sound (no_number_taken e s accepted.0) in
     let v = given t t.lives later u in

@@ -173,5 +173,5 @@ inverse_trees_take_back p s w sound kept h u like quiet =
     let rules : first_breach (edited_by_all (inverses es s) u).config (edited_by_all (inverses es s) u).numbers ≡ None =
     ap (λ (z : State). first_breach z.config z.numbers) (run_back es s u sound free like) ∙ kept in
     ap state_reached (unless_nothing _ _ _ _ _ deep many ∙ ap (checked 0) there
-        ∙ ap (λ b. unless_broken b 0 (record { state = edited_by_all (inverses es s) u; edits = inverses es s })) rules)
+    ∙ ap (λ b. unless_broken b 0 (record { state = edited_by_all (inverses es s) u; edits = inverses es s })) rules)
     ∙ ap Some back
