@@ -1,5 +1,5 @@
 -- What an entry may be after a legal history: an accepted change, undo or redo, or one that marks nothing.
-use Rattle.std.proofs.Common.{◌≡◌, inl, inr, ℕ, ◌+◌, Bool, true, false, cond, List, [], ◌∷◌, Option, Some, None, Ok, Err, refl, sym, subst}
+use Rattle.std.proofs.Common.{◌≡◌, inl, inr, ℕ, ◌+◌, Bool, true, false, cond, List, [], ◌∷◌, ◌++◌, Option, Some, None, Ok, Err, refl, sym, ap, subst}
 use Rattle.iocm_types.specs.declared.answer.Answer.TheVariants.{Changed, Undone, Redone, Shown}
 use Rattle.iocm_types.specs.declared.answer.Answer.TheVariants as answers
 use Rattle.iocm_types.specs.declared.refused.Refused.{Refused}
@@ -12,9 +12,9 @@ use Rattle.iocm_model.specs.Meaning.{Outcome, meaning}
 use Rattle.iocm_model.specs.Step.{Step, order, device_end, step_answer}
 use Rattle.iocm_model.specs.Tree.{ChangeTree}
 use Rattle.iocm_history.specs.Entry.{Call, at, activate, undo, redo, show, Entry, History, plain_entry}
-use Rattle.iocm_history.specs.MarkedEntry.{Act, step, nothing, MarkedEntry, marked_entry, marks_after}
+use Rattle.iocm_history.specs.MarkedEntry.{Act, step, change, undoing, nothing, MarkedEntry, is_undo, marked_entry, marks_after}
 use Rattle.iocm_history.specs.Journal.{Journal, is_in, is_past, journal_after, journal_of}
-use Rattle.iocm_history.specs.Legal.{IsRight, unless_not_quiet, stands_on, unless_stood_on, is_last_undone, activated, entry_in}
+use Rattle.iocm_history.specs.Legal.{IsRight, IsLegal, unless_not_quiet, stands_on, unless_stood_on, is_last_undone, activated, entry_in}
 
 -- an act that neither is a change nor an undo
 abbrev pub is_plain : Act → Bool
@@ -83,3 +83,25 @@ entry_after s b busy show = idle (record { act = refl; marks = λ ls. refl; book
 pub after : (opening : State) (h : History) (e : Entry) → IsRight opening h e → IsAfter (journal_of h) e
 after opening h e (inl same) = subst (IsAfter (journal_of h)) (sym same) (entry_after _ (journal_of h) _ e.call)
 after opening h e (inr lack) = idle (subst IsIdle (sym lack.1) (idle_refused e.call _))
+
+-- what a legal history goes on from is legal
+pub legal_before : (opening : State) (new h : History) → IsLegal opening (new ++ h) → IsLegal opening h
+legal_before opening [] h legal = legal
+legal_before opening (e ∷ new) h legal = legal_before opening new h legal.1
+
+-- a plain act is not an undo
+pub plain_undo : (n : ℕ) (a : Act) → is_plain a ≡ true → is_undo n a ≡ false
+plain_undo n (step x s) plain = refl
+plain_undo n (change m f) plain = refl
+plain_undo n (undoing m) plain = cc
+plain_undo n nothing plain = refl
+
+-- a change that may be undone stands
+pub undo_stands : (n : ℕ) (b : Journal) → IsAfter b (plain_entry (undo n) (Undone n)) → is_in n b.standing ≡ true
+undo_stands n b (changed p f is) = let calls : undo n ≡ activate p = ap (λ (e : Entry). e.call) is in cc
+undo_stands n b (undone m here is) =
+    let calls : undo n ≡ undo m = ap (λ (e : Entry). e.call) is in
+    let same : n ≡ m = cc in
+    rw same here
+undo_stands n b (redone m here is) = let calls : undo n ≡ redo m = ap (λ (e : Entry). e.call) is in cc
+undo_stands n b (idle i) = let plain = i.act in cc

@@ -1,9 +1,13 @@
+pub mod BookOrder
 pub mod EntriesAfter
 pub mod LegalRuns
 pub mod ListedHistories
 pub mod Marks
 pub mod OwnMarks
+pub mod Parts
 pub mod RedoAfterUndo
 pub mod Remarked
 pub mod StandingMarks
+pub mod UndoneRun
+pub mod Untouched
 pub mod WorkedRuns

@@ -9,7 +9,7 @@ use Rattle.iocm_history.specs.HistoryLaws.{IsUnmarked, RestoringUndoesStriking}
 -- ---- taking back
 
 -- a mark that is not of this change's undo stays
-unstruck_other : (n : ℕ) (m : Mark) → m ≢ undone_with n → unstruck_mark n m ≡ m
+pub unstruck_other : (n : ℕ) (m : Mark) → m ≢ undone_with n → unstruck_mark n m ≡ m
 unstruck_other n kept other = refl
 unstruck_other n (undone_with m) other = let apart : eqb n m ≡ false = ne_eqb n m (λ e. other (λ i. undone_with (sym e i))) in rw apart refl
 unstruck_other n lost other = refl
@@ -21,7 +21,7 @@ unstruck_struck n (undone_with m) other = unstruck_other n (undone_with m) other
 unstruck_struck n lost other = refl
 
 -- a line with this mark
-abbrev marked : MarkedEntry → Mark → MarkedEntry
+abbrev pub marked : MarkedEntry → Mark → MarkedEntry
 marked l m = record { act = l.act; mark = m }
 
 -- where no line is struck by the undo of a change, nothing is taken back

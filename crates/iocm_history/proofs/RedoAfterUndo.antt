@@ -1,140 +1,232 @@
--- Undo and then redo of a change give back the state before the undo, with the steps between them on other subchannels.
-use Rattle.std.proofs.Common.{◌≡◌, inr, ℕ, true, false, eqb, List, [], ◌∷◌, ◌++◌, map, refl, ap, ◌∙◌}
-use Rattle.std.proofs.lemmas.Bool.{and_parts, eq-eqb}
-use Rattle.std.specs.List.{list_all}
-use Rattle.std.specs.FinMap.{keys}
-use Rattle.iocm_types.specs.declared.answer.Answer.TheVariants.{Undone, Redone}
+-- The redo of a change gives back the state before its undo, with what came between them on other subchannels.
+use Rattle.std.proofs.Common.{◌≡◌, ⊎_elim, inl, inr, ℕ, suc, ◌+◌, ◌<◌, ◌≤◌, Bool, true, false, eqb, List, [], ◌∷◌, ◌++◌, map, length, take, drop, refl, sym, ap, subst, ◌∙◌, arith, take-append-drop, drop-drop}
+use Rattle.std.proofs.lemmas.Bool.{eq-eqb, ne_eqb, eqb-false, or_parts, or_from}
+use Rattle.std.specs.List.{list_any}
 use Rattle.iocm_types.specs.declared.sub_id.SubId.{SubId}
 use Rattle.iocm_model.specs.State.{State}
-use Rattle.iocm_model.specs.Effect.{Effect}
-use Rattle.iocm_history.specs.Entry.{activate, undo, redo, Entry, History, plain_entry}
-use Rattle.iocm_history.specs.MarkedEntry.{Act, step, change, undoing, nothing, lost, MarkedEntry, is_undo, is_step_on, change_effect, altered_by_change, struck_if, strike, taken_back, restore, with_change, marked_entry, marked_entries}
+use Rattle.iocm_history.specs.Entry.{Entry, History}
+use Rattle.iocm_history.specs.MarkedEntry.{Act, undoing, Mark, kept, undone_with, lost, MarkedEntry, is_undo, altered_by_change, strike, taken_back, restore, marked_entry, marked_entries}
 use Rattle.iocm_history.specs.Replay.{acted_if_kept, replay, state_at}
-use Rattle.iocm_history.specs.Journal.{Journal, is_in, journal_of}
-use Rattle.iocm_history.specs.Legal.{IsLegal}
-use Rattle.iocm_history.specs.HistoryLaws.{IsUnmarked, is_step, steps_elsewhere, RedoTakesUndoBack}
-use Rattle.iocm_history.proofs.EntriesAfter.{is_plain, IsIdle, IsAfter, changed, undone, redone, idle, after}
+use Rattle.iocm_history.specs.Journal.{Journal, is_in, without, journal_after, journal_of}
+use Rattle.iocm_history.specs.Legal.{IsRight, IsLegal, is_last_undone}
+use Rattle.iocm_history.specs.HistoryLaws.{IsUnmarked, struck_steps, undoes_or_redoes, RedoTakesUndoBack}
+use Rattle.iocm_history.proofs.BookOrder.{onto, DoDescend, is_first, undone_above, undo_entry, redo_entry, redo_first, first_of_list, next, IsNext, counts, undoes, redoes, nothing, IsOrdered, history_ordered}
+use Rattle.iocm_history.proofs.EntriesAfter.{IsAfter, changed, undone, redone, idle, after, legal_before, undo_stands, plain_undo}
 use Rattle.iocm_history.proofs.Marks.{taken_back_strike}
-use Rattle.iocm_history.proofs.Remarked.{effect_strike}
-use Rattle.iocm_history.proofs.OwnMarks.{plain_effect}
-use Rattle.iocm_history.proofs.StandingMarks.{history_marked}
+use Rattle.iocm_history.proofs.Parts.{has, drop_restore_past, take_restore, history_acts, rest_acts, has_first, replay_append}
+use Rattle.iocm_history.proofs.Remarked.{AnyMarks, AreRemarked, remarked_same, not_new_strike, unmarked_then}
+use Rattle.iocm_history.proofs.StandingMarks.{in_first_or_rest, not_in_without, in_without, without_other, AreMarked, history_marked}
+use Rattle.iocm_history.proofs.Untouched.{Near, as_it_was, near_exact, IsUntouchedAt, IsMoveOf, next_untouched, IsThere}
 
--- ---- replay
+-- this entry neither undoes nor redoes the change
+abbrev does_move : ℕ → Entry → Bool
+does_move n e = undoes_or_redoes n e.answer
 
--- the replay of lines on lines is a replay after a replay
-pub replay_append : (s : State) (new ls : List MarkedEntry) → replay s (new ++ ls) ≡ replay (replay s ls) new
-replay_append s [] ls = refl
-replay_append s (l ∷ new) ls = ap (acted_if_kept l.mark l.act) (replay_append s new ls)
+-- ---- the undo of the change among the lines
 
--- ---- entries that mark nothing
+-- an entry that doesn't undo the change isn't its undo
+no_undo : (n : ℕ) (b : Journal) (e : Entry) → IsAfter b e → does_move n e ≡ false → is_undo n (marked_entry e).act ≡ false
+no_undo n b e (changed p f is) other = ap (λ (o : Entry). is_undo n (marked_entry o).act) is
+no_undo n b e (undone k here is) other = ap (λ (o : Entry). is_undo n (marked_entry o).act) is ∙ sym (ap (does_move n) is) ∙ other
+no_undo n b e (redone k here is) other = ap (λ (o : Entry). is_undo n (marked_entry o).act) is
+no_undo n b e (idle i) other = plain_undo n _ i.act
 
--- each of these entries marks nothing
-AreIdle : History → Type 0
-AreIdle [] = Unit {0}
-AreIdle (e ∷ h) = IsIdle e × AreIdle h
+no_undos : (opening : State) (n : ℕ) (new h : History) → IsLegal opening (new ++ h) → list_any (does_move n) new ≡ false
+    → has (is_undo n) (map marked_entry new) ≡ false
+no_undos opening n [] h legal others = refl
+no_undos opening n (e ∷ new) h legal others =
+    let both = or_parts (does_move n e) (list_any (does_move n) new) others in
+    or_from (is_undo n (marked_entry e).act) _ (no_undo n (journal_of (new ++ h)) e (after opening (new ++ h) e legal.0) both.0)
+    (no_undos opening n new h legal.1 both.1)
 
--- a step marks nothing
-step_idle : (b : Journal) (e : Entry) → IsAfter b e → is_step e ≡ true → IsIdle e
-step_idle b e (changed p f is) steps = let other : is_step e ≡ false = ap is_step is in cc
-step_idle b e (undone n here is) steps = let other : is_step e ≡ false = ap is_step is in cc
-step_idle b e (redone n here is) steps = let other : is_step e ≡ false = ap is_step is in cc
-step_idle b e (idle i) steps = i
+-- an undo does nothing to a state by itself
+undoing_passes : (m : Mark) (n : ℕ) (s : State) → acted_if_kept m (undoing n) s ≡ s
+undoing_passes kept n s = refl
+undoing_passes (undone_with k) n s = refl
+undoing_passes lost n s = refl
 
--- steps that are legal after a history mark nothing
-steps_idle : (opening : State) (between h : History) → IsLegal opening (between ++ h) → list_all is_step between ≡ true → AreIdle between
-unfolding AreIdle
-steps_idle opening [] h legal steps = tt
-steps_idle opening (e ∷ between) h legal steps =
-    let both = and_parts (is_step e) (list_all is_step between) steps in
-    (step_idle _ e (after opening (between ++ h) e legal.0) both.0, steps_idle opening between h legal.1 both.1)
+-- lines from the undo of a change on, restored by its redo, replay as those before it, taken back
+replay_from_undo : (xs : List SubId) (n : ℕ) (s : State) (ys ls : List MarkedEntry) → AreRemarked AnyMarks (marked_entry (undo_entry n) ∷ ys) ls
+    → replay s (restore xs n ls) ≡ replay s (taken_back n (drop 1 ls))
+unfolding AreRemarked restore
+replay_from_undo xs n s ys [] r = absurd r
+replay_from_undo xs n s ys (l ∷ ls) r =
+    let same : is_undo n l.act ≡ true = ap (is_undo n) r.0 ∙ eq-eqb n n refl in
+    rw same (ap (λ (a : Act). acted_if_kept l.mark a (replay s (taken_back n ls))) r.0 ∙ undoing_passes l.mark n (replay s (taken_back n ls)))
 
--- what a legal history goes on from is legal
-legal_before : (opening : State) (new h : History) → IsLegal opening (new ++ h) → IsLegal opening h
-legal_before opening [] h legal = legal
-legal_before opening (e ∷ new) h legal = legal_before opening new h legal.1
+-- ---- what the undo struck stays as it was until the redo
 
--- their lines stand in front of those before them
-idle_lines : (new h : History) → AreIdle new → marked_entries (new ++ h) ≡ map marked_entry new ++ marked_entries h
-unfolding AreIdle marked_entries
-idle_lines [] h quiet = refl
-idle_lines (e ∷ new) h quiet = ap (λ (ls : List MarkedEntry). marked_entry e ∷ ls) (quiet.0.marks (marked_entries (new ++ h)) ∙ idle_lines new h quiet.1)
+-- the changes before this one
+abbrev IsBefore : ℕ → ℕ → Type 0
+IsBefore n k = k < n
 
--- none of them is a change
-idle_effect : (n : ℕ) (new : History) (ls : List MarkedEntry) → AreIdle new → change_effect n (map marked_entry new ++ ls) ≡ change_effect n ls
-unfolding AreIdle
-idle_effect n [] ls quiet = refl
-idle_effect n (e ∷ new) ls quiet = plain_effect n _ _ quiet.0.act ∙ idle_effect n new ls quiet.1
+-- at a book the change doesn't stand, and what its undo left is untouched
+record IsWaiting (n : ℕ) (earlier : List MarkedEntry) (b : Journal) (i : ℕ) (ls : List MarkedEntry) : Type 0 where
+  away : is_in n b.standing ≡ false
+  untouched : IsUntouchedAt n (IsBefore n) earlier b i ls
 
-plain_undo : (n : ℕ) (a : Act) → is_plain a ≡ true → is_undo n a ≡ false
-plain_undo n (step x s) plain = refl
-plain_undo n (change m f) plain = refl
-plain_undo n (undoing m) plain = cc
-plain_undo n nothing plain = refl
+-- the change still doesn't stand after an entry that doesn't redo it
+still_away : (n : ℕ) (b : Journal) (e : Entry) → n ≤ b.count → does_move n e ≡ false → is_in n b.standing ≡ false → IsNext b e
+    → is_in n (journal_after e.answer b).standing ≡ false
+still_away n b e counted other away (counts p f is) =
+    ap (λ (o : Entry). is_in n (journal_after o.answer b).standing) is ∙ or_from (eqb n (b.count + 1)) _ (ne_eqb n (b.count + 1) (λ same. omega arith)) away
+still_away n b e counted other away (undoes k ns first rest is) =
+    ap (λ (o : Entry). is_in n (journal_after o.answer b).standing) is ∙ ap (is_in n) rest
+    ∙ (or_parts (eqb n k) (is_in n ns) (sym (ap (is_in n) first) ∙ away)).1
+still_away n b e counted other away (redoes k us first rest is) =
+    ap (λ (o : Entry). is_in n (journal_after o.answer b).standing) is ∙ or_from (eqb n k) _ (sym (ap (does_move n) is) ∙ other) away
+still_away n b e counted other away (nothing i) = ap (λ (c : Journal). is_in n c.standing) (i.books b) ∙ away
 
--- the entry of an accepted undo, and of an accepted redo
-abbrev undo_entry : ℕ → Entry
-undo_entry n = plain_entry (undo n) (Undone n)
+-- the change stands or is undone after an entry
+abbrev IsThereAfter : ℕ → Journal → Entry → Type 0
+IsThereAfter n b e = IsThere n (journal_after e.answer b).standing (journal_after e.answer b).undone
 
-abbrev redo_entry : ℕ → Entry
-redo_entry n = plain_entry (redo n) (Redone n)
+-- as long as it is undone, only changes before it are undone and redone
+module _ (n : ℕ) (b : Journal) (ordered : IsOrdered b) (away : is_in n b.standing ≡ false) where
+  undoes_before : (k : ℕ) → IsAfter b (undo_entry k) → eqb n k ≡ false → IsThereAfter n b (undo_entry k) → k < n
+  undoes_before k a apart (inl stands) = let here = in_without k n b.standing stands in cc
+  undoes_before k a apart (inr among) =
+      ⊎_elim (λ same. absurd (eqb-false n k apart same))
+      (λ later. undone_above b.undone b.standing n k ordered later (undo_stands k b a)) (in_first_or_rest n k b.undone among)
 
--- a redo after entries that mark nothing takes back what the undo before them struck
-idle_restore : (xs : List SubId) (n : ℕ) (new : History) (ls : List MarkedEntry) → AreIdle new
-    → restore xs n (map marked_entry new ++ marked_entry (undo_entry n) ∷ ls) ≡ steps_elsewhere xs new ++ marked_entry (undo_entry n) ∷ taken_back n ls
-unfolding AreIdle restore
-idle_restore xs n [] ls quiet = let same : eqb n n ≡ true = eq-eqb n n refl in rw same refl
-idle_restore xs n (e ∷ new) ls quiet =
-    let other : is_undo n (marked_entry e).act ≡ false = plain_undo n _ quiet.0.act in
-    rw other (ap (λ (ms : List MarkedEntry). struck_if (is_step_on xs (marked_entry e).act) lost (marked_entry e) ∷ ms) (idle_restore xs n new ls quiet.1))
+  redoes_before : (k : ℕ) → is_last_undone k b.undone ≡ true → eqb n k ≡ false → IsThereAfter n b (redo_entry k) → k < n
+  redoes_before k first apart (inl among) =
+      ⊎_elim (λ same. absurd (eqb-false n k apart same)) (λ stands. cc) (in_first_or_rest n k b.standing among)
+  redoes_before k first apart (inr among) =
+      let rest = first_of_list k b.undone first in
+      let high : DoDescend (onto rest.0 (k ∷ b.standing)) = subst (λ (us : List ℕ). DoDescend (onto us b.standing)) rest.1 ordered in
+      let there : is_in n (k ∷ rest.0) ≡ true = subst (λ (us : List ℕ). is_in n us ≡ true) rest.1 (in_without k n b.undone among) in
+      ⊎_elim (λ same. absurd (eqb-false n k apart same))
+      (λ later. undone_above rest.0 (k ∷ b.standing) n k high later (is_first k b.standing)) (in_first_or_rest n k rest.0 there)
 
--- ---- the undo
+-- so an entry that is right undoes and redoes only changes before it
+moves_before : (opening : State) (n : ℕ) (h : History) (e : Entry) → IsOrdered (journal_of h) → is_in n (journal_of h).standing ≡ false → does_move n e ≡ false
+    → IsRight opening h e → (k : ℕ) → IsMoveOf k e → IsThereAfter n (journal_of h) e → k < n
+moves_before opening n h e ordered away other right k (inl is) there =
+    undoes_before n (journal_of h) ordered away k (subst (IsAfter (journal_of h)) is (after opening h e right)) (sym (ap (does_move n) is) ∙ other)
+    (subst (IsThereAfter n (journal_of h)) is there)
+moves_before opening n h e ordered away other right k (inr is) there =
+    redoes_before n (journal_of h) ordered away k (redo_first opening h k (subst (IsRight opening h) is right)) (sym (ap (does_move n) is) ∙ other)
+    (subst (IsThereAfter n (journal_of h)) is there)
 
--- a change that may be undone stands
-undo_stands : (n : ℕ) (b : Journal) → IsAfter b (undo_entry n) → is_in n b.standing ≡ true
-undo_stands n b (changed p f is) = let calls : undo n ≡ activate p = ap (λ (e : Entry). e.call) is in cc
-undo_stands n b (undone m here is) =
-    let calls : undo n ≡ undo m = ap (λ (e : Entry). e.call) is in
-    let same : n ≡ m = cc in
-    rw same here
-undo_stands n b (redone m here is) = let calls : undo n ≡ redo m = ap (λ (e : Entry). e.call) is in cc
-undo_stands n b (idle i) = let plain = i.act in cc
+module _ (opening : State) (h : History) (n : ℕ) (legal : IsLegal opening (undo_entry n ∷ h)) where
+  abbrev struck_lines : List MarkedEntry
+  struck_lines = strike (altered_by_change n (marked_entries h)) n (marked_entries h)
 
--- ---- the law
+  stands : is_in n (journal_of h).standing ≡ true
+  stands = undo_stands n (journal_of h) (after opening h (undo_entry n) legal.0)
 
-module _ (opening : State) (h between : History) (n : ℕ) (legal : IsLegal opening (undo_entry n ∷ h)) (steps : AreIdle between) where
-  abbrev altered : List SubId
-  altered = altered_by_change n (marked_entries h)
+  marks : AreMarked (journal_of h) (marked_entries h)
+  marks = history_marked opening h legal.1
 
-  abbrev lines_before : List MarkedEntry
-  lines_before = map marked_entry between ++ marked_entry (undo_entry n) ∷ strike altered n (marked_entries h)
-
-  unmarked_before : IsUnmarked n (marked_entries h)
-  unmarked_before = (history_marked opening h legal.1).unmarked n (inr (undo_stands n (journal_of h) (after opening h (undo_entry n) legal.0)))
-
-  altered_before : altered_by_change n lines_before ≡ altered
-  altered_before =
-      ap (λ (f : Effect). keys f.lives)
-      (idle_effect n between (marked_entry (undo_entry n) ∷ strike altered n (marked_entries h)) steps ∙ effect_strike altered n n (marked_entries h))
-
-  lines_between : marked_entries (between ++ undo_entry n ∷ h) ≡ lines_before
+  -- right after the undo
+  undo_waits : IsWaiting n struck_lines (journal_of (undo_entry n ∷ h)) 1 (marked_entries (undo_entry n ∷ h))
   unfolding marked_entries
-  lines_between = idle_lines between (undo_entry n ∷ h) steps
+  undo_waits = record {
+    away = not_in_without n (journal_of h).standing;
+    untouched = record {
+      counted = marks.standing n stands;
+      near = λ there. remarked_same (Near n (n ∷ (journal_of h).undone)) (λ m. as_it_was refl) struck_lines;
+      changes = λ k there low late. absurd (omega arith);
+      undos = λ k undone low. absurd (none k undone low);
+      unmarked = λ k there low. clear k there low;
+    };
+  }
+    where
+      none : (k : ℕ) → is_in k (n ∷ (journal_of h).undone) ≡ true → k < n → ⊥
+      none k among low =
+          ⊎_elim (λ same. omega arith)
+          (λ later. let high = undone_above (journal_of h).undone (journal_of h).standing k n (history_ordered opening h legal.1) later stands in
+          omega arith)
+          (in_first_or_rest k n (journal_of h).undone among)
 
-  -- what the redo makes of the lines before it
-  redone_lines : with_change n (marked_entries (between ++ undo_entry n ∷ h)) ≡ steps_elsewhere altered between ++ marked_entry (undo_entry n) ∷ marked_entries h
-  redone_lines =
-      ap (with_change n) lines_between
-      ∙ ap (λ (xs : List SubId). restore xs n lines_before) altered_before
-      ∙ idle_restore altered n between (strike altered n (marked_entries h)) steps
-      ∙ ap (λ (ls : List MarkedEntry). steps_elsewhere altered between ++ marked_entry (undo_entry n) ∷ ls) (taken_back_strike altered n (marked_entries h) unmarked_before)
+      clear : (k : ℕ) → IsThere k (without n (journal_of h).standing) (n ∷ (journal_of h).undone) → k < n → IsUnmarked k struck_lines
+      clear k (inl among) low =
+          unmarked_then k (marked_entries h) struck_lines
+          (not_new_strike (altered_by_change n (marked_entries h)) k n (without_other n k (journal_of h).standing among) (marked_entries h))
+          (marks.unmarked k (inr (in_without n k (journal_of h).standing among)))
+      clear k (inr among) low = absurd (none k among low)
 
-  -- the state after the redo
-  redone_state : state_at opening (redo_entry n ∷ between ++ undo_entry n ∷ h) ≡ replay (state_at opening h) (steps_elsewhere altered between)
+  -- and after each entry since, if none undoes or redoes it
+  still_waits : (between : History) → IsLegal opening (between ++ undo_entry n ∷ h) → list_any (does_move n) between ≡ false
+      → IsWaiting n struck_lines (journal_of (between ++ undo_entry n ∷ h)) (suc (length between)) (marked_entries (between ++ undo_entry n ∷ h))
   unfolding marked_entries
-  redone_state = ap (replay opening) redone_lines ∙ replay_append opening (steps_elsewhere altered between) _
+  still_waits [] all others = undo_waits
+  still_waits (e ∷ between) all others =
+      let both = or_parts (does_move n e) (list_any (does_move n) between) others in
+      let b : Journal = journal_of (between ++ undo_entry n ∷ h) in
+      let w : IsWaiting n struck_lines b (suc (length between)) (marked_entries (between ++ undo_entry n ∷ h)) = still_waits between all.1 both.1 in
+      let ordered : IsOrdered b = history_ordered opening (between ++ undo_entry n ∷ h) all.1 in
+      let comes : IsNext b e = next opening (between ++ undo_entry n ∷ h) e ordered all.0 in
+      record {
+        away = still_away n b e w.untouched.counted both.0 w.away comes;
+        untouched = next_untouched n (IsBefore n) struck_lines b (suc (length between)) (marked_entries (between ++ undo_entry n ∷ h)) e ordered
+            (λ k later low. absurd (omega arith)) (moves_before opening n (between ++ undo_entry n ∷ h) e ordered w.away both.0 all.0) comes w.untouched;
+      }
 
--- undo and then redo of a change, with legal steps between them
+-- ---- the redo
+
+module _ (opening : State) (h between : History) (n : ℕ) (others : list_any (does_move n) between ≡ false)
+    (legal : IsLegal opening (redo_entry n ∷ between ++ undo_entry n ∷ h)) where
+  abbrev lines_then : List MarkedEntry
+  lines_then = marked_entries (between ++ undo_entry n ∷ h)
+
+  abbrev since : ℕ
+  since = length between
+
+  abbrev book_then : Journal
+  book_then = journal_of (between ++ undo_entry n ∷ h)
+
+  legal_undo : IsLegal opening (undo_entry n ∷ h)
+  legal_undo = legal_before opening between (undo_entry n ∷ h) legal.1
+
+  waits : IsWaiting n (struck_lines opening h n legal_undo) book_then (suc since) lines_then
+  waits = still_waits opening h n legal_undo between legal.1 others
+
+  -- it is the last one undone: no change before it is undone
+  first : (us : List ℕ) × (book_then.undone ≡ n ∷ us)
+  first = first_of_list n book_then.undone (redo_first opening (between ++ undo_entry n ∷ h) n legal.0)
+
+  none_before : (k : ℕ) → is_in k book_then.undone ≡ true → n ≤ k
+  none_before k among =
+      let high : DoDescend (onto first.0 (n ∷ book_then.standing)) =
+      subst (λ (us : List ℕ). DoDescend (onto us book_then.standing)) first.1 (history_ordered opening (between ++ undo_entry n ∷ h) legal.1) in
+      ⊎_elim (λ same. omega arith)
+      (λ later. let less = undone_above first.0 (n ∷ book_then.standing) k n high later (is_first n book_then.standing) in omega arith)
+      (in_first_or_rest k n first.0 (subst (λ (us : List ℕ). is_in k us ≡ true) first.1 among))
+
+  -- so what its undo left is as it was
+  struck_still : drop (suc since) lines_then ≡ struck_lines opening h n legal_undo
+  struck_still =
+      near_exact n book_then.undone (struck_lines opening h n legal_undo) (drop (suc since) lines_then) none_before
+      (waits.untouched.near (inr (subst (λ (us : List ℕ). is_in n us ≡ true) (sym first.1) (is_first n first.0))))
+
+  taken_back_then : taken_back n (drop (suc since) lines_then) ≡ marked_entries h
+  taken_back_then =
+      ap (taken_back n) struck_still
+      ∙ taken_back_strike (altered_by_change n (marked_entries h)) n (marked_entries h) ((marks opening h n legal_undo).unmarked n (inr (stands opening h n legal_undo)))
+
+  no_undo_since : has (is_undo n) (take since lines_then) ≡ false
+  no_undo_since =
+      has_first (is_undo n) between (undo_entry n ∷ h) lines_then (history_acts (between ++ undo_entry n ∷ h))
+      ∙ no_undos opening n between (undo_entry n ∷ h) legal.1 others
+
+  -- the state with the change again
+  redone_state : (xs : List SubId) → replay opening (restore xs n lines_then) ≡ replay (state_at opening h) (struck_steps xs lost (take since lines_then))
+  redone_state xs =
+      ap (replay opening) (sym (take-append-drop since (restore xs n lines_then)))
+      ∙ replay_append opening (take since (restore xs n lines_then)) (drop since (restore xs n lines_then))
+      ∙ ap (replay (replay opening (drop since (restore xs n lines_then)))) (take_restore xs n since lines_then no_undo_since)
+      ∙ ap (λ (s : State). replay s (struck_steps xs lost (take since lines_then)))
+      (ap (replay opening) (drop_restore_past xs n since lines_then no_undo_since)
+      ∙ replay_from_undo xs n opening (map marked_entry h) (drop since lines_then)
+      (rest_acts between (undo_entry n ∷ h) lines_then (history_acts (between ++ undo_entry n ∷ h)))
+      ∙ ap (λ (ls : List MarkedEntry). replay opening (taken_back n ls))
+      (drop-drop 1 since lines_then ∙ ap (λ (i : ℕ). drop i lines_then) (let more : since + 1 ≡ suc since = omega arith in more))
+      ∙ ap (replay opening) taken_back_then)
+
+-- the redo of a change takes back what its undo struck
 pub redo_takes_back : RedoTakesUndoBack
-redo_takes_back opening h between n legal steps =
-    redone_state opening h between n (legal_before opening between (undo_entry n ∷ h) legal)
-    (steps_idle opening between (undo_entry n ∷ h) legal steps)
+unfolding marked_entries
+redo_takes_back opening h between n legal others =
+    redone_state opening h between n others legal (altered_by_change n (marked_entries (between ++ undo_entry n ∷ h)))

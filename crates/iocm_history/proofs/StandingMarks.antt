@@ -16,7 +16,7 @@ use Rattle.iocm_history.proofs.Remarked.{IsFresh, not_new_strike, not_new_restor
 -- ---- numbers among others
 
 -- a number that was taken out isn't among the rest
-not_in_without : (n : ℕ) (ns : List ℕ) → is_in n (without n ns) ≡ false
+pub not_in_without : (n : ℕ) (ns : List ℕ) → is_in n (without n ns) ≡ false
 not_in_without n ns = any-filter_same (eqb n) (λ m. not (eqb n m)) false (λ m e. ap not e) ns
 
 or_more : (a b c : Bool) → (b ≡ true → c ≡ true) → (a || b) ≡ true → (a || c) ≡ true
@@ -29,18 +29,18 @@ in_more true k m ms ns more is = or_more (eqb k m) _ _ more is
 in_more false k m ms ns more is = or_right (eqb k m) _ (more is)
 
 -- what is among the rest is among all
-in_without : (n k : ℕ) (ns : List ℕ) → is_in k (without n ns) ≡ true → is_in k ns ≡ true
+pub in_without : (n k : ℕ) (ns : List ℕ) → is_in k (without n ns) ≡ true → is_in k ns ≡ true
 in_without n k [] is = is
 in_without n k (m ∷ ms) is = in_more (not (eqb n m)) k m (without n ms) ms (in_without n k ms) is
 
 -- and is another number
-without_other : (n k : ℕ) (ns : List ℕ) → is_in k (without n ns) ≡ true → n ≢ k
+pub without_other : (n k : ℕ) (ns : List ℕ) → is_in k (without n ns) ≡ true → n ≢ k
 without_other n k ns is same =
     let gone : is_in k (without n ns) ≡ false = subst (λ (j : ℕ). is_in j (without n ns) ≡ false) same (not_in_without n ns) in
     cc
 
 -- a number of a list is the first, or among those after it
-in_first_or_rest : (k n : ℕ) (ns : List ℕ) → is_in k (n ∷ ns) ≡ true → (k ≡ n) ⊎ (is_in k ns ≡ true)
+pub in_first_or_rest : (k n : ℕ) (ns : List ℕ) → is_in k (n ∷ ns) ≡ true → (k ≡ n) ⊎ (is_in k ns ≡ true)
 in_first_or_rest k n ns is = go (eqb k n) refl is
   where
     go : (b : Bool) → eqb k n ≡ b → (b || is_in k ns) ≡ true → (k ≡ n) ⊎ (is_in k ns ≡ true)

@@ -1,11 +1,13 @@
 -- What striking and restoring promise.
-use Rattle.std.specs.Prelude.{◌≡◌, ◌≢◌, ◌⊎◌, ℕ, ◌<◌, Bool, true, false, List, [], ◌∷◌, ◌++◌, map}
-use Rattle.std.specs.List.{list_all}
-use Rattle.iocm_types.specs.declared.answer.Answer.TheVariants.{Undone, Redone}
+use Rattle.std.specs.Prelude.{◌≡◌, ◌≢◌, ◌⊎◌, ℕ, ◌==◌, ◌+◌, ◌<◌, Bool, true, false, List, [], ◌∷◌, ◌++◌, map, length, take, drop}
+use Rattle.std.specs.List.{list_any}
+use Rattle.iocm_types.specs.declared.answer.Answer.{Answer}
+use Rattle.iocm_types.specs.declared.answer.Answer.TheVariants.{Changed, Undone, Redone}
+use Rattle.iocm_types.specs.declared.answer.Answer.TheVariants as answers
 use Rattle.iocm_types.specs.declared.sub_id.SubId.{SubId}
 use Rattle.iocm_model.specs.State.{State}
-use Rattle.iocm_history.specs.Entry.{Call, at, undo, redo, Entry, History, plain_entry}
-use Rattle.iocm_history.specs.MarkedEntry.{undone_with, lost, MarkedEntry, is_change, is_step_on, struck_if, strike, taken_back, altered_by_change, marked_entry, marked_entries}
+use Rattle.iocm_history.specs.Entry.{undo, redo, Entry, History, plain_entry}
+use Rattle.iocm_history.specs.MarkedEntry.{Mark, undone_with, lost, MarkedEntry, is_change, is_step_on, struck_if, strike, taken_back, altered_by_change, marked_entries}
 use Rattle.iocm_history.specs.Replay.{replay, state_at}
 use Rattle.iocm_history.specs.Journal.{is_in, journal_of}
 use Rattle.iocm_history.specs.Legal.{IsLegal}
@@ -33,21 +35,39 @@ AreItsOwn n xs (l ∷ ls) = (l.mark ≡ undone_with n → (is_change n l.act ≡
 abbrev pub UndosStrikeTheirOwn : Type 0
 UndosStrikeTheirOwn = (opening : State) (h : History) (n : ℕ) → IsLegal opening h → AreItsOwn n (altered_by_change n (marked_entries h)) (marked_entries h)
 
--- a call that is a step
-abbrev pub is_step_call : Call → Bool
-is_step_call (at x step) = true
-is_step_call _ = false
+-- lines, of which each step on these subchannels is struck
+abbrev pub struck_steps : List SubId → Mark → List MarkedEntry → List MarkedEntry
+struck_steps xs by ls = map (λ (l : MarkedEntry). struck_if (is_step_on xs l.act) by l) ls
 
-abbrev pub is_step : Entry → Bool
-is_step e = is_step_call e.call
+-- the undo of a change leaves the run without it: what was before the change, and what came since, without the steps on the
+-- subchannels that it altered
+abbrev pub UndoLeavesTheRunWithout : Type 0
+UndoLeavesTheRunWithout = (opening : State) (before after : History) (e : Entry) (n : ℕ) → e.answer ≡ Changed n
+    → IsLegal opening (plain_entry (undo n) (Undone n) ∷ after ++ e ∷ before)
+    → let ls = marked_entries (after ++ e ∷ before) in
+    state_at opening (plain_entry (undo n) (Undone n) ∷ after ++ e ∷ before)
+    ≡ replay (replay opening (drop (length after + 1) ls)) (struck_steps (altered_by_change n ls) (undone_with n) (take (length after) ls))
 
--- entries, of which the steps on these subchannels don't count
-abbrev pub steps_elsewhere : List SubId → History → List MarkedEntry
-steps_elsewhere xs h = map (λ (e : Entry). struck_if (is_step_on xs (marked_entry e).act) lost (marked_entry e)) h
+-- and what was before the change counts as it did when the change was made: the undo goes back to the state before it
+abbrev pub UndoGoesBackToTheStateBefore : Type 0
+UndoGoesBackToTheStateBefore = (opening : State) (before after : History) (e : Entry) (n : ℕ) → e.answer ≡ Changed n
+    → IsLegal opening (plain_entry (undo n) (Undone n) ∷ after ++ e ∷ before)
+    → let ls = marked_entries (after ++ e ∷ before) in
+    state_at opening (plain_entry (undo n) (Undone n) ∷ after ++ e ∷ before)
+    ≡ replay (state_at opening before) (struck_steps (altered_by_change n ls) (undone_with n) (take (length after) ls))
 
--- undo and redo of a change, with legal steps between them: the state before the undo, with the steps on other subchannels
+-- an answer of an undo or a redo of this change
+abbrev pub undoes_or_redoes : ℕ → Answer → Bool
+undoes_or_redoes n (answers.Undone m) = n == m
+undoes_or_redoes n (answers.Redone m) = n == m
+undoes_or_redoes n _ = false
+
+-- the redo of a change, with no undo or redo of it since its undo: the state before the undo, and what came between them, without the
+-- steps on the subchannels that the change altered
 abbrev pub RedoTakesUndoBack : Type 0
-RedoTakesUndoBack = (opening : State) (h between : History) (n : ℕ) → IsLegal opening (between ++ plain_entry (undo n) (Undone n) ∷ h)
-    → list_all is_step between ≡ true
-    → state_at opening (plain_entry (redo n) (Redone n) ∷ between ++ plain_entry (undo n) (Undone n) ∷ h)
-    ≡ replay (state_at opening h) (steps_elsewhere (altered_by_change n (marked_entries h)) between)
+RedoTakesUndoBack = (opening : State) (h between : History) (n : ℕ)
+    → IsLegal opening (plain_entry (redo n) (Redone n) ∷ between ++ plain_entry (undo n) (Undone n) ∷ h)
+    → list_any (λ (e : Entry). undoes_or_redoes n e.answer) between ≡ false
+    → let ls = marked_entries (between ++ plain_entry (undo n) (Undone n) ∷ h) in
+    state_at opening (plain_entry (redo n) (Redone n) ∷ between ++ plain_entry (undo n) (Undone n) ∷ h)
+    ≡ replay (state_at opening h) (struck_steps (altered_by_change n ls) lost (take (length between) ls))

@@ -2,6 +2,8 @@ ghost use Rattle.iocm_history.specs.HistoryLaws.{
   RestoringUndoesStriking,
   StandingChangesMarkNothing,
   UndosStrikeTheirOwn,
+  UndoLeavesTheRunWithout,
+  UndoGoesBackToTheStateBefore,
   RedoTakesUndoBack,
 };
 
@@ -20,8 +22,20 @@ pub fn undos_strike_their_own()
     ensures { UndosStrikeTheirOwn }
 {}
 
-/// Undo and then redo of a change, with legal steps between them, gives the state before the undo, with the steps made
-/// between them on other subchannels.
+/// The undo of a change leaves the run without it: what was before the change, and what came since, without the steps on
+/// the subchannels that it altered.
+pub fn undo_leaves_the_run_without()
+    ensures { UndoLeavesTheRunWithout }
+{}
+
+/// What was before an undone change counts as it did when the change was made, whatever was undone and redone since: the
+/// undo goes back to the state before the change, and plays what came since without the steps on its subchannels.
+pub fn undo_goes_back_to_the_state_before()
+    ensures { UndoGoesBackToTheStateBefore }
+{}
+
+/// The redo of a change, with no undo or redo of it since its undo, goes back to the state before the undo, and plays what
+/// came between them without the steps on the subchannels that the change altered.
 pub fn redo_takes_undo_back()
     ensures { RedoTakesUndoBack }
 {}

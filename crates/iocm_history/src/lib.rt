@@ -16,5 +16,5 @@ pub use examples::{
 };
 pub use laws::{
     redo_takes_undo_back, restoring_undoes_striking, standing_changes_mark_nothing,
-    undos_strike_their_own,
+    undo_goes_back_to_the_state_before, undo_leaves_the_run_without, undos_strike_their_own,
 };
