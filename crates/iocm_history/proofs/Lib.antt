@@ -1,5 +1,5 @@
-pub mod BookOrder
 pub mod EntriesAfter
+pub mod JournalOrder
 pub mod LegalRuns
 pub mod ListedHistories
 pub mod Marks

@@ -10,7 +10,7 @@ use Rattle.iocm_history.specs.Replay.{acted_if_kept, replay, state_at}
 use Rattle.iocm_history.specs.Journal.{Journal, is_in, without, journal_after, journal_of}
 use Rattle.iocm_history.specs.Legal.{IsRight, IsLegal, is_last_undone}
 use Rattle.iocm_history.specs.HistoryLaws.{IsUnmarked, struck_steps, undoes_or_redoes, RedoTakesUndoBack}
-use Rattle.iocm_history.proofs.BookOrder.{onto, DoDescend, is_first, undone_above, undo_entry, redo_entry, redo_first, first_of_list, next, IsNext, counts, undoes, redoes, nothing, IsOrdered, history_ordered}
+use Rattle.iocm_history.proofs.JournalOrder.{onto, DoDescend, is_first, undone_above, undo_entry, redo_entry, redo_first, first_of_list, next, IsNext, counts, undoes, redoes, nothing, IsOrdered, history_ordered}
 use Rattle.iocm_history.proofs.EntriesAfter.{IsAfter, changed, undone, redone, idle, after, legal_before, undo_stands, plain_undo}
 use Rattle.iocm_history.proofs.Marks.{taken_back_strike}
 use Rattle.iocm_history.proofs.Parts.{has, drop_restore_past, take_restore, history_acts, rest_acts, has_first, replay_append}

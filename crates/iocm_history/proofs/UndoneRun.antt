@@ -11,7 +11,7 @@ use Rattle.iocm_history.specs.Replay.{acted_if_kept, replay}
 use Rattle.iocm_history.specs.Journal.{Journal, is_in, journal_after, journal_of}
 use Rattle.iocm_history.specs.Legal.{IsLegal}
 use Rattle.iocm_history.specs.HistoryLaws.{IsUnmarked, struck_steps, UndoLeavesTheRunWithout, UndoGoesBackToTheStateBefore}
-use Rattle.iocm_history.proofs.BookOrder.{undone_above, undo_entry, next, IsOrdered, history_ordered}
+use Rattle.iocm_history.proofs.JournalOrder.{undone_above, undo_entry, next, IsOrdered, history_ordered}
 use Rattle.iocm_history.proofs.EntriesAfter.{is_plain, IsAfter, changed, undone, redone, idle, legal_before, undo_stands}
 use Rattle.iocm_history.proofs.EntriesAfter.{after as what_comes}
 use Rattle.iocm_history.proofs.Parts.{has, drop_strike_past, take_strike, history_acts, rest_acts, has_first, replay_append}

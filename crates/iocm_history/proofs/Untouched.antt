@@ -6,7 +6,7 @@ use Rattle.iocm_history.specs.Entry.{Entry}
 use Rattle.iocm_history.specs.MarkedEntry.{Act, Mark, kept, undone_with, lost, MarkedEntry, is_change, is_undo, struck_mark, strike, unstruck_mark, taken_back, restore, altered_by_change, marked_entry, marks_after}
 use Rattle.iocm_history.specs.Journal.{Journal, is_in, journal_after}
 use Rattle.iocm_history.specs.HistoryLaws.{IsUnmarked}
-use Rattle.iocm_history.proofs.BookOrder.{DoDescend, onto, is_first, is_later, undone_above, undo_entry, redo_entry, IsNext, counts, undoes, redoes, nothing, IsOrdered}
+use Rattle.iocm_history.proofs.JournalOrder.{DoDescend, onto, is_first, is_later, undone_above, undo_entry, redo_entry, IsNext, counts, undoes, redoes, nothing, IsOrdered}
 use Rattle.iocm_history.proofs.Marks.{unstruck_other}
 use Rattle.iocm_history.proofs.Parts.{has, has_then, drop_strike, drop_strike_past, drop_restore}
 use Rattle.iocm_history.proofs.Remarked.{AnyMarks, AreRemarked, remarked_same, remarked_strike, remarked_restore, remarked_then}

@@ -1,5 +1,5 @@
 -- Which entry a call makes after a history, and legal histories. Own.
-use Rattle.std.specs.Prelude.{◌≡◌, ◌⊎◌, ℕ, ◌+◌, ◌==◌, length, Bool, true, false, if◌then◌else◌, Option, None, Some, List, [], ◌∷◌, Ok, Err}
+use Rattle.std.specs.Prelude.{◌≡◌, ◌⊎◌, ℕ, ◌+◌, ◌==◌, length, max, nat_lt, fold, filter, Bool, true, false, if◌then◌else◌, Option, None, Some, List, [], ◌∷◌, Ok, Err}
 use Rattle.std.specs.FinMap.{len}
 use Rattle.iocm_types.specs.declared.answer.Answer.{Answer}
 use Rattle.iocm_types.specs.declared.answer.Answer.TheVariants.{Changed, Undone, Redone, Shown, Refused}
@@ -22,10 +22,14 @@ abbrev pub unless_not_quiet : Option SubId → Answer → Answer
 unless_not_quiet (Some x) answer = Refused (refused_at B1 (Subchannel x))
 unless_not_quiet None answer = answer
 
--- the greatest change that stands on a standing one: every later standing change does
+-- the greatest of some changes
+abbrev pub greatest : List ℕ → Option ℕ
+greatest [] = None
+greatest (m ∷ ms) = Some (fold max m ms)
+
+-- the greatest change that stands on one: every later standing change does
 abbrev pub stands_on : ℕ → List ℕ → Option ℕ
-stands_on n [] = None
-stands_on n (m ∷ ms) = if n == m then None else Some m
+stands_on n standing = greatest (filter (nat_lt n) standing)
 
 -- J2 names it
 abbrev pub unless_stood_on : Option ℕ → Answer → Answer

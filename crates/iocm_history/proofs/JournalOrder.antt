@@ -1,9 +1,8 @@
--- The changes of a book are in order: an undo takes the latest that stands, and a redo the last one undone.
-use Rattle.std.proofs.Common.{◌≡◌, ◌≢◌, ⊎_elim, inl, inr, ℕ, ◌+◌, ◌<◌, ◌≤◌, Bool, true, false, cond, eqb, List, [], ◌∷◌, Option, Some, None, refl, sym, ap, subst, ◌∙◌, arith}
+-- The changes of a journal are in order: an undo takes the latest that stands, and a redo the last one undone.
+use Rattle.std.proofs.Common.{◌≡◌, ◌≢◌, ⊎_elim, inl, inr, ℕ, ◌+◌, ◌<◌, ◌≤◌, Bool, true, false, cond, ◌||◌, eqb, nat_lt, filter, List, [], ◌∷◌, Option, refl, sym, ap, subst, ◌∙◌, arith}
 use Rattle.std.proofs.lemmas.Bool.{eq-eqb, ne_eqb, eqb-true, or_left, or_right}
 use Rattle.iocm_types.specs.declared.answer.Answer.TheVariants.{Changed, Undone, Redone}
 use Rattle.iocm_types.specs.declared.answer.Answer.TheVariants as answers
-use Rattle.iocm_types.specs.declared.refused.Refused.{Refused}
 use Rattle.iocm_types.specs.declared.refused.At.TheVariants.{Nothing}
 use Rattle.iocm_types.specs.declared.rule.Rule.TheVariants.{J1, J3}
 use Rattle.iocm_types.specs.declared.sub_id.SubId.{SubId}
@@ -13,7 +12,7 @@ use Rattle.iocm_model.specs.Effect.{Effect}
 use Rattle.iocm_model.specs.Tree.{ChangeTree}
 use Rattle.iocm_history.specs.Entry.{activate, undo, redo, Entry, History, plain_entry}
 use Rattle.iocm_history.specs.Journal.{Journal, is_in, without, is_past, journal_after, journal_of}
-use Rattle.iocm_history.specs.Legal.{IsRight, IsLegal, unless_not_quiet, unless_stood_on, undo_answer, is_last_undone, redo_answer}
+use Rattle.iocm_history.specs.Legal.{IsRight, IsLegal, greatest, unless_not_quiet, unless_stood_on, undo_answer, is_last_undone, redo_answer}
 use Rattle.iocm_history.proofs.EntriesAfter.{IsIdle, IsAfter, changed, undone, redone, idle, after}
 use Rattle.iocm_history.proofs.StandingMarks.{history_marked, in_first_or_rest}
 
@@ -62,16 +61,25 @@ without_first n ns apart = let same : eqb n n ≡ true = eq-eqb n n refl in rw s
 
 -- ---- which change an undo or a redo takes
 
--- an undo is accepted of the latest that stands
-undo_top : (n : ℕ) (ns : List ℕ) (busy : Option SubId) → undo_answer n ns busy ≡ Undone n → is_last_undone n ns ≡ true
-undo_top n [] busy is = cc
-undo_top n (m ∷ ms) busy is = go (is_in n (m ∷ ms)) (eqb n m) _ is
+-- an undo is accepted of the latest that stands, since no later one does
+undo_top : (n : ℕ) (ns : List ℕ) (busy : Option SubId) → DoDescend ns → undo_answer n ns busy ≡ Undone n → is_last_undone n ns ≡ true
+undo_top n [] busy d is = cc
+undo_top n (m ∷ ms) busy d is = go (is_in n (m ∷ ms)) (eqb n m) refl refl is
   where
-    go : (here first : Bool) (why : Refused) → cond here (unless_stood_on (cond first None (Some m)) (unless_not_quiet busy (Undone n))) (answers.Refused why) ≡ Undone n
+    refused : (b : Bool) → b ≡ true → (later : List ℕ) → unless_stood_on (greatest (cond b (m ∷ later) later)) (unless_not_quiet busy (Undone n)) ≡ Undone n → ⊥
+    refused true h later e = cc
+    refused false h later e = cc
+
+    go : (here first : Bool) → is_in n (m ∷ ms) ≡ here → eqb n m ≡ first
+        → cond here (unless_stood_on (greatest (filter (nat_lt n) (m ∷ ms))) (unless_not_quiet busy (Undone n))) (answers.Refused (refused_at J1 Nothing)) ≡ Undone n
         → first ≡ true
-    go true true why e = refl
-    go true false why e = cc
-    go false first why e = cc
+    go here true p q e = refl
+    go false false p q e = cc
+    go true false p q e =
+        let later : is_in n ms ≡ true = sym (ap (λ c. c || is_in n ms) q) ∙ p in
+        let less : n < m = d.0 n later in
+        let below : nat_lt n m ≡ true = grind arith in
+        absurd (refused (nat_lt n m) below (filter (nat_lt n) ms) e)
 
 -- a redo of the last one undone
 redo_top : (n : ℕ) (b : Journal) (busy : Option SubId) → redo_answer n b busy ≡ Redone n → is_last_undone n b.undone ≡ true
@@ -95,9 +103,9 @@ abbrev pub redo_entry : ℕ → Entry
 redo_entry n = plain_entry (redo n) (Redone n)
 
 -- an accepted undo is of the latest that stands
-pub undo_first : (opening : State) (h : History) (n : ℕ) → IsRight opening h (undo_entry n) → is_last_undone n (journal_of h).standing ≡ true
-undo_first opening h n (inl same) = undo_top n (journal_of h).standing _ (sym (ap (λ (e : Entry). e.answer) same))
-undo_first opening h n (inr lack) = let other = ap (λ (e : Entry). e.answer) lack.1 in cc
+pub undo_first : (opening : State) (h : History) (n : ℕ) → DoDescend (journal_of h).standing → IsRight opening h (undo_entry n) → is_last_undone n (journal_of h).standing ≡ true
+undo_first opening h n descend (inl same) = undo_top n (journal_of h).standing _ descend (sym (ap (λ (e : Entry). e.answer) same))
+undo_first opening h n descend (inr lack) = let other = ap (λ (e : Entry). e.answer) lack.1 in cc
 
 -- an accepted redo is of the last one undone
 pub redo_first : (opening : State) (h : History) (n : ℕ) → IsRight opening h (redo_entry n) → is_last_undone n (journal_of h).undone ≡ true
@@ -109,14 +117,14 @@ pub first_of_list : (n : ℕ) (ns : List ℕ) → is_last_undone n ns ≡ true �
 first_of_list n [] is = cc
 first_of_list n (m ∷ ms) is = (ms, ap (λ (k : ℕ). k ∷ ms) (sym (eqb-true n m is)))
 
--- what an entry does to a book: it counts a change, moves one between the standing and the undone ones, or nothing
+-- what an entry does to a journal: it counts a change, moves one between the standing and the undone ones, or nothing
 pub data IsNext (b : Journal) (e : Entry) : Type 0 where
   counts : (p : ChangeTree) (f : Effect) → e ≡ record { call = activate p; answer = Changed (b.count + 1); effect = f } → IsNext b e
   undoes : (n : ℕ) (ns : List ℕ) → b.standing ≡ n ∷ ns → without n b.standing ≡ ns → e ≡ undo_entry n → IsNext b e
   redoes : (n : ℕ) (ns : List ℕ) → b.undone ≡ n ∷ ns → without n b.undone ≡ ns → e ≡ redo_entry n → IsNext b e
   nothing : IsIdle e → IsNext b e
 
--- the changes of a book are in order
+-- the changes of a journal are in order
 abbrev pub IsOrdered : Journal → Type 0
 IsOrdered b = DoDescend (onto b.undone b.standing)
 
@@ -140,7 +148,7 @@ next opening h e ordered right = go (after opening h e right)
   where
     go : IsAfter (journal_of h) e → IsNext (journal_of h) e
     go (changed p f is) = counts p f is
-    go (undone n here is) = undoes_next (journal_of h) n e ordered (undo_first opening h n (subst (IsRight opening h) is right)) is
+    go (undone n here is) = undoes_next (journal_of h) n e ordered (undo_first opening h n (standing_descend (journal_of h).undone (journal_of h).standing ordered) (subst (IsRight opening h) is right)) is
     go (redone n here is) = redoes_next (journal_of h) n e ordered (redo_first opening h n (subst (IsRight opening h) is right)) is
     go (idle i) = nothing i
 
