@@ -3,6 +3,7 @@ pub mod JournalOrder
 pub mod LegalRuns
 pub mod ListedHistories
 pub mod Marks
+pub mod NoChange
 pub mod OwnMarks
 pub mod Parts
 pub mod RedoAfterUndo

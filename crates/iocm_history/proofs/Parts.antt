@@ -1,5 +1,5 @@
 -- What striking, restoring and replay do to the first lines and to the rest.
-use Rattle.std.proofs.Common.{◌≡◌, ℕ, zero, suc, Bool, true, false, cond, ◌||◌, List, [], ◌∷◌, ◌++◌, map, length, take, drop, refl, ap}
+use Rattle.std.proofs.Common.{◌≡◌, ℕ, zero, suc, Bool, true, false, cond, ◌||◌, List, [], ◌∷◌, ◌++◌, map, length, take, drop, sym, take-append-drop, refl, ap, ◌∙◌}
 use Rattle.std.proofs.lemmas.Bool.{or_parts}
 use Rattle.std.proofs.lemmas.List.{drop-map}
 use Rattle.std.specs.List.{list_any}
@@ -20,6 +20,7 @@ has test ls = list_any (λ (l : MarkedEntry). test l.act) ls
 -- ---- the undo of a change
 
 module _ (xs : List SubId) (n : ℕ) where
+  -- drop_strike's step
   later_kept : (b : Bool) (i : ℕ) (l : MarkedEntry) (ls : List MarkedEntry) → (b || has (is_change n) (take i ls)) ≡ true
       → (has (is_change n) (take i ls) ≡ true → drop i (strike xs n ls) ≡ drop i ls)
       → drop (suc i) (cond b (struck (undone_with n) l ∷ ls) (struck_if (is_step_on xs l.act) (undone_with n) l ∷ strike xs n ls)) ≡ drop i ls
@@ -33,6 +34,7 @@ module _ (xs : List SubId) (n : ℕ) where
   drop_strike (suc i) [] is = cc
   drop_strike (suc i) (l ∷ ls) is = later_kept (is_change n l.act) i l ls is (drop_strike i ls)
 
+  -- drop_strike_past's step
   later_struck : (b : Bool) (i : ℕ) (l : MarkedEntry) (ls : List MarkedEntry) → b ≡ false → drop i (strike xs n ls) ≡ strike xs n (drop i ls)
       → drop (suc i) (cond b (struck (undone_with n) l ∷ ls) (struck_if (is_step_on xs l.act) (undone_with n) l ∷ strike xs n ls))
       ≡ strike xs n (drop i ls)
@@ -48,6 +50,7 @@ module _ (xs : List SubId) (n : ℕ) where
       let both = or_parts (is_change n l.act) (has (is_change n) (take i ls)) lacks in
       later_struck (is_change n l.act) i l ls both.0 (drop_strike_past i ls both.1)
 
+  -- take_strike's step
   first_struck : (b : Bool) (i : ℕ) (l : MarkedEntry) (ls : List MarkedEntry) → b ≡ false → take i (strike xs n ls) ≡ struck_steps xs (undone_with n) (take i ls)
       → take (suc i) (cond b (struck (undone_with n) l ∷ ls) (struck_if (is_step_on xs l.act) (undone_with n) l ∷ strike xs n ls))
       ≡ struck_steps xs (undone_with n) (l ∷ take i ls)
@@ -66,7 +69,9 @@ module _ (xs : List SubId) (n : ℕ) where
 
   -- ---- the redo of a change
 
-  later_back : (b : Bool) (i : ℕ) (l : MarkedEntry) (ls : List MarkedEntry) → (b || has (is_undo n) (take i ls)) ≡ true → drop i (taken_back n ls) ≡ taken_back n (drop i ls)
+  -- drop_restore's step
+  later_back : (b : Bool) (i : ℕ) (l : MarkedEntry) (ls : List MarkedEntry) → (b || has (is_undo n) (take i ls)) ≡ true
+      → drop i (taken_back n ls) ≡ taken_back n (drop i ls)
       → (has (is_undo n) (take i ls) ≡ true → drop i (restore xs n ls) ≡ taken_back n (drop i ls))
       → drop (suc i) (cond b (l ∷ taken_back n ls) (struck_if (is_step_on xs l.act) lost l ∷ restore xs n ls)) ≡ taken_back n (drop i ls)
   later_back true i l ls is back rest = back
@@ -79,6 +84,7 @@ module _ (xs : List SubId) (n : ℕ) where
   drop_restore (suc i) [] is = cc
   drop_restore (suc i) (l ∷ ls) is = later_back (is_undo n l.act) i l ls is (drop-map (unstruck n) i ls) (drop_restore i ls)
 
+  -- drop_restore_past's step
   later_restored : (b : Bool) (i : ℕ) (l : MarkedEntry) (ls : List MarkedEntry) → b ≡ false → drop i (restore xs n ls) ≡ restore xs n (drop i ls)
       → drop (suc i) (cond b (l ∷ taken_back n ls) (struck_if (is_step_on xs l.act) lost l ∷ restore xs n ls)) ≡ restore xs n (drop i ls)
   later_restored true i l ls lacks rest = cc
@@ -93,6 +99,7 @@ module _ (xs : List SubId) (n : ℕ) where
       let both = or_parts (is_undo n l.act) (has (is_undo n) (take i ls)) lacks in
       later_restored (is_undo n l.act) i l ls both.0 (drop_restore_past i ls both.1)
 
+  -- take_restore's step
   first_lost : (b : Bool) (i : ℕ) (l : MarkedEntry) (ls : List MarkedEntry) → b ≡ false → take i (restore xs n ls) ≡ struck_steps xs lost (take i ls)
       → take (suc i) (cond b (l ∷ taken_back n ls) (struck_if (is_step_on xs l.act) lost l ∷ restore xs n ls))
       ≡ struck_steps xs lost (l ∷ take i ls)
@@ -130,7 +137,9 @@ acts_remarked _ ls = remarked_same AnyMarks (λ m. tt) ls
 pub history_acts : (h : History) → AreRemarked AnyMarks (map marked_entry h) (marked_entries h)
 unfolding marked_entries AreRemarked
 history_acts [] = tt
-history_acts (e ∷ h) = (refl, tt, remarked_then AnyMarks AnyMarks AnyMarks (λ l m o r q. tt) (map marked_entry h) (marked_entries h) _ (history_acts h) (acts_remarked e.answer (marked_entries h)))
+history_acts (e ∷ h) =
+    let marked = remarked_then AnyMarks AnyMarks AnyMarks (λ l m o r q. tt) (map marked_entry h) (marked_entries h) (marks_after e.answer (marked_entries h)) in
+    (refl, tt, marked (history_acts h) (acts_remarked e.answer (marked_entries h)))
 
 -- the later lines have the acts of the later entries
 pub rest_acts : (new h : History) (ls : List MarkedEntry) → AreRemarked AnyMarks (map marked_entry (new ++ h)) ls
@@ -154,3 +163,7 @@ has_first test (e ∷ new) h (l ∷ ls) r = λ j. test (r.0 j) || has_first test
 pub replay_append : (s : State) (new ls : List MarkedEntry) → replay s (new ++ ls) ≡ replay (replay s ls) new
 replay_append s [] ls = refl
 replay_append s (l ∷ new) ls = ap (acted_if_kept l.mark l.act) (replay_append s new ls)
+
+-- the replay of the first lines after the rest
+pub replay_parts : (s : State) (i : ℕ) (ls : List MarkedEntry) → replay s ls ≡ replay (replay s (drop i ls)) (take i ls)
+replay_parts s i ls = ap (replay s) (sym (take-append-drop i ls)) ∙ replay_append s (take i ls) (drop i ls)

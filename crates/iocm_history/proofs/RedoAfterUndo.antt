@@ -1,5 +1,5 @@
 -- The redo of a change gives back the state before its undo, with what came between them on other subchannels.
-use Rattle.std.proofs.Common.{◌≡◌, ⊎_elim, inl, inr, ℕ, suc, ◌+◌, ◌<◌, ◌≤◌, Bool, true, false, eqb, List, [], ◌∷◌, ◌++◌, map, length, take, drop, refl, sym, ap, subst, ◌∙◌, arith, take-append-drop, drop-drop}
+use Rattle.std.proofs.Common.{◌≡◌, ⊎_elim, inl, inr, ℕ, suc, ◌+◌, ◌<◌, ◌≤◌, Bool, true, false, eqb, List, [], ◌∷◌, ◌++◌, map, length, take, drop, refl, sym, ap, subst, ◌∙◌, arith, drop-drop}
 use Rattle.std.proofs.lemmas.Bool.{eq-eqb, ne_eqb, eqb-false, or_parts, or_from}
 use Rattle.std.specs.List.{list_any}
 use Rattle.iocm_types.specs.declared.sub_id.SubId.{SubId}
@@ -13,7 +13,7 @@ use Rattle.iocm_history.specs.HistoryLaws.{IsUnmarked, struck_steps, undoes_or_r
 use Rattle.iocm_history.proofs.JournalOrder.{onto, DoDescend, is_first, undone_above, undo_entry, redo_entry, redo_first, first_of_list, next, IsNext, counts, undoes, redoes, nothing, IsOrdered, history_ordered}
 use Rattle.iocm_history.proofs.EntriesAfter.{IsAfter, changed, undone, redone, idle, after, legal_before, undo_stands, plain_undo}
 use Rattle.iocm_history.proofs.Marks.{taken_back_strike}
-use Rattle.iocm_history.proofs.Parts.{has, drop_restore_past, take_restore, history_acts, rest_acts, has_first, replay_append}
+use Rattle.iocm_history.proofs.Parts.{has, drop_restore_past, take_restore, history_acts, rest_acts, has_first, replay_parts}
 use Rattle.iocm_history.proofs.Remarked.{AnyMarks, AreRemarked, remarked_same, not_new_strike, unmarked_then}
 use Rattle.iocm_history.proofs.StandingMarks.{in_first_or_rest, not_in_without, in_without, without_other, AreMarked, history_marked}
 use Rattle.iocm_history.proofs.Untouched.{Near, as_it_was, near_exact, IsUntouchedAt, IsMoveOf, next_untouched, IsThere}
@@ -31,6 +31,7 @@ no_undo n b e (undone k here is) other = ap (λ (o : Entry). is_undo n (marked_e
 no_undo n b e (redone k here is) other = ap (λ (o : Entry). is_undo n (marked_entry o).act) is
 no_undo n b e (idle i) other = plain_undo n _ i.act
 
+-- nor do such entries
 no_undos : (opening : State) (n : ℕ) (new h : History) → IsLegal opening (new ++ h) → list_any (does_move n) new ≡ false
     → has (is_undo n) (map marked_entry new) ≡ false
 no_undos opening n [] h legal others = refl
@@ -83,12 +84,14 @@ IsThereAfter n b e = IsThere n (journal_after e.answer b).standing (journal_afte
 
 -- as long as it is undone, only changes before it are undone and redone
 module _ (n : ℕ) (b : Journal) (ordered : IsOrdered b) (away : is_in n b.standing ≡ false) where
+  -- an undo
   undoes_before : (k : ℕ) → IsAfter b (undo_entry k) → eqb n k ≡ false → IsThereAfter n b (undo_entry k) → k < n
   undoes_before k a apart (inl stands) = let here = in_without k n b.standing stands in cc
   undoes_before k a apart (inr among) =
       ⊎_elim (λ same. absurd (eqb-false n k apart same))
       (λ later. undone_above b.undone b.standing n k ordered later (undo_stands k b a)) (in_first_or_rest n k b.undone among)
 
+  -- a redo
   redoes_before : (k : ℕ) → is_last_undone k b.undone ≡ true → eqb n k ≡ false → IsThereAfter n b (redo_entry k) → k < n
   redoes_before k first apart (inl among) =
       ⊎_elim (λ same. absurd (eqb-false n k apart same)) (λ stands. cc) (in_first_or_rest n k b.standing among)
@@ -110,12 +113,15 @@ moves_before opening n h e ordered away other right k (inr is) there =
     (subst (IsThereAfter n (journal_of h)) is there)
 
 module _ (opening : State) (h : History) (n : ℕ) (legal : IsLegal opening (undo_entry n ∷ h)) where
+  -- what the undo left
   abbrev struck_lines : List MarkedEntry
   struck_lines = strike (altered_by_change n (marked_entries h)) n (marked_entries h)
 
+  -- the change stood
   stands : is_in n (journal_of h).standing ≡ true
   stands = undo_stands n (journal_of h) (after opening h (undo_entry n) legal.0)
 
+  -- the marks before the undo
   marks : AreMarked (journal_of h) (marked_entries h)
   marks = history_marked opening h legal.1
 
@@ -161,32 +167,39 @@ module _ (opening : State) (h : History) (n : ℕ) (legal : IsLegal opening (und
       record {
         away = still_away n b e w.untouched.counted both.0 w.away comes;
         untouched = next_untouched n (IsBefore n) struck_lines b (suc (length between)) (marked_entries (between ++ undo_entry n ∷ h)) e ordered
-            (λ k later low. absurd (omega arith)) (moves_before opening n (between ++ undo_entry n ∷ h) e ordered w.away both.0 all.0) comes w.untouched;
+            (λ k later low. absurd (omega arith)) (moves_before opening n (between ++ undo_entry n ∷ h) e ordered w.away both.0 all.0) comes
+            w.untouched;
       }
 
 -- ---- the redo
 
 module _ (opening : State) (h between : History) (n : ℕ) (others : list_any (does_move n) between ≡ false)
     (legal : IsLegal opening (redo_entry n ∷ between ++ undo_entry n ∷ h)) where
+  -- the lines before the redo
   abbrev lines_then : List MarkedEntry
   lines_then = marked_entries (between ++ undo_entry n ∷ h)
 
+  -- how many entries came since the undo
   abbrev since : ℕ
   since = length between
 
+  -- the book before the redo
   abbrev book_then : Journal
   book_then = journal_of (between ++ undo_entry n ∷ h)
 
+  -- the undo was legal
   legal_undo : IsLegal opening (undo_entry n ∷ h)
   legal_undo = legal_before opening between (undo_entry n ∷ h) legal.1
 
+  -- what its undo left is untouched
   waits : IsWaiting n (struck_lines opening h n legal_undo) book_then (suc since) lines_then
   waits = still_waits opening h n legal_undo between legal.1 others
 
-  -- it is the last one undone: no change before it is undone
+  -- it is the last one undone
   first : (us : List ℕ) × (book_then.undone ≡ n ∷ us)
   first = first_of_list n book_then.undone (redo_first opening (between ++ undo_entry n ∷ h) n legal.0)
 
+  -- so no change before it is undone
   none_before : (k : ℕ) → is_in k book_then.undone ≡ true → n ≤ k
   none_before k among =
       let high : DoDescend (onto first.0 (n ∷ book_then.standing)) =
@@ -195,27 +208,30 @@ module _ (opening : State) (h between : History) (n : ℕ) (others : list_any (d
       (λ later. let less = undone_above first.0 (n ∷ book_then.standing) k n high later (is_first n book_then.standing) in omega arith)
       (in_first_or_rest k n first.0 (subst (λ (us : List ℕ). is_in k us ≡ true) first.1 among))
 
-  -- so what its undo left is as it was
+  -- and what its undo left is as it was
   struck_still : drop (suc since) lines_then ≡ struck_lines opening h n legal_undo
   struck_still =
       near_exact n book_then.undone (struck_lines opening h n legal_undo) (drop (suc since) lines_then) none_before
       (waits.untouched.near (inr (subst (λ (us : List ℕ). is_in n us ≡ true) (sym first.1) (is_first n first.0))))
 
+  -- taken back it is what was before the undo
   taken_back_then : taken_back n (drop (suc since) lines_then) ≡ marked_entries h
   taken_back_then =
       ap (taken_back n) struck_still
-      ∙ taken_back_strike (altered_by_change n (marked_entries h)) n (marked_entries h) ((marks opening h n legal_undo).unmarked n (inr (stands opening h n legal_undo)))
+      ∙ taken_back_strike (altered_by_change n (marked_entries h)) n (marked_entries h)
+      ((marks opening h n legal_undo).unmarked n (inr (stands opening h n legal_undo)))
 
+  -- the undo isn't among the lines since
   no_undo_since : has (is_undo n) (take since lines_then) ≡ false
   no_undo_since =
       has_first (is_undo n) between (undo_entry n ∷ h) lines_then (history_acts (between ++ undo_entry n ∷ h))
       ∙ no_undos opening n between (undo_entry n ∷ h) legal.1 others
 
   -- the state with the change again
-  redone_state : (xs : List SubId) → replay opening (restore xs n lines_then) ≡ replay (state_at opening h) (struck_steps xs lost (take since lines_then))
+  redone_state : (xs : List SubId) → replay opening (restore xs n lines_then)
+      ≡ replay (state_at opening h) (struck_steps xs lost (take since lines_then))
   redone_state xs =
-      ap (replay opening) (sym (take-append-drop since (restore xs n lines_then)))
-      ∙ replay_append opening (take since (restore xs n lines_then)) (drop since (restore xs n lines_then))
+      replay_parts opening since (restore xs n lines_then)
       ∙ ap (replay (replay opening (drop since (restore xs n lines_then)))) (take_restore xs n since lines_then no_undo_since)
       ∙ ap (λ (s : State). replay s (struck_steps xs lost (take since lines_then)))
       (ap (replay opening) (drop_restore_past xs n since lines_then no_undo_since)

@@ -1,5 +1,5 @@
 -- The undo of a change leaves the run without it, and without the steps since on the subchannels that it altered.
-use Rattle.std.proofs.Common.{◌≡◌, ◌⊎◌, inl, inr, ℕ, suc, ◌+◌, ◌≤◌, true, false, ◌||◌, List, [], ◌∷◌, ◌++◌, map, length, take, drop, refl, sym, ap, subst, ◌∙◌, arith, take-append-drop, drop-drop}
+use Rattle.std.proofs.Common.{◌≡◌, ◌⊎◌, inl, inr, ℕ, suc, ◌+◌, ◌≤◌, true, false, ◌||◌, List, [], ◌∷◌, ◌++◌, map, length, take, drop, refl, sym, ap, subst, ◌∙◌, arith, drop-drop}
 use Rattle.std.proofs.lemmas.Bool.{eq-eqb, ne_eqb, or_from, or_left}
 use Rattle.iocm_types.specs.declared.answer.Answer.{Answer}
 use Rattle.iocm_types.specs.declared.answer.Answer.TheVariants.{Changed, Undone, Redone}
@@ -14,7 +14,7 @@ use Rattle.iocm_history.specs.HistoryLaws.{IsUnmarked, struck_steps, UndoLeavesT
 use Rattle.iocm_history.proofs.JournalOrder.{undone_above, undo_entry, next, IsOrdered, history_ordered}
 use Rattle.iocm_history.proofs.EntriesAfter.{is_plain, IsAfter, changed, undone, redone, idle, legal_before, undo_stands}
 use Rattle.iocm_history.proofs.EntriesAfter.{after as what_comes}
-use Rattle.iocm_history.proofs.Parts.{has, drop_strike_past, take_strike, history_acts, rest_acts, has_first, replay_append}
+use Rattle.iocm_history.proofs.Parts.{has, drop_strike_past, take_strike, history_acts, rest_acts, has_first, replay_parts}
 use Rattle.iocm_history.proofs.Remarked.{AnyMarks, AreRemarked, remarked_same}
 use Rattle.iocm_history.proofs.StandingMarks.{in_first_or_rest, AreMarked, history_marked}
 use Rattle.iocm_history.proofs.Untouched.{Near, as_it_was, near_exact, IsUntouchedAt, next_untouched, IsThere}
@@ -95,27 +95,35 @@ replay_struck n l s = go l.mark
     go lost = refl
 
 -- lines from a change on, struck by its undo, replay as those before it
-replay_from_change : (xs : List SubId) (n : ℕ) (s : State) (x : MarkedEntry) (ys ls : List MarkedEntry) → is_change n x.act ≡ true → AreRemarked AnyMarks (x ∷ ys) ls
-    → replay s (strike xs n ls) ≡ replay s (drop 1 ls)
+replay_from_change : (xs : List SubId) (n : ℕ) (s : State) (x : MarkedEntry) (ys ls : List MarkedEntry) → is_change n x.act ≡ true
+    → AreRemarked AnyMarks (x ∷ ys) ls → replay s (strike xs n ls) ≡ replay s (drop 1 ls)
 unfolding AreRemarked strike
 replay_from_change xs n s x ys [] here r = absurd r
 replay_from_change xs n s x ys (l ∷ ls) here r =
     let same : is_change n l.act ≡ true = ap (is_change n) r.0 ∙ here in
     rw same (replay_struck n l (replay s ls))
 
-module _ (opening : State) (before after : History) (e : Entry) (n : ℕ) (answer : e.answer ≡ Changed n) (legal : IsLegal opening (after ++ e ∷ before)) where
+module _ (opening : State) (before after : History) (e : Entry) (n : ℕ) (answer : e.answer ≡ Changed n)
+    (legal : IsLegal opening (after ++ e ∷ before)) where
+  -- the lines before the undo
   abbrev marked_lines : List MarkedEntry
   marked_lines = marked_entries (after ++ e ∷ before)
 
+  -- how many entries came since the change
   abbrev since : ℕ
   since = length after
 
+  -- the change is what may come
   here : IsAfter (journal_of before) e
   here = let since_before = legal_before opening after (e ∷ before) legal in what_comes opening before e since_before.0
 
+  -- and those since are no such change
   since_made : AreSince n after (e ∷ before)
-  since_made = since_change opening n after (e ∷ before) legal (subst (λ (a : Answer). n ≤ (journal_after a (journal_of before)).count) (sym answer) (let same : n ≤ n = omega arith in same))
+  since_made =
+      let counted : n ≤ (journal_of (e ∷ before)).count = subst (λ (a : Answer). n ≤ (journal_after a (journal_of before)).count) (sym answer) (omega arith) in
+      since_change opening n after (e ∷ before) legal counted
 
+  -- nor are their lines
   not_since : has (is_change n) (take since marked_lines) ≡ false
   not_since = has_first (is_change n) after (e ∷ before) marked_lines (history_acts (after ++ e ∷ before)) ∙ since_made.others
 
@@ -123,8 +131,7 @@ module _ (opening : State) (before after : History) (e : Entry) (n : ℕ) (answe
   undone_state : (xs : List SubId) → replay opening (strike xs n marked_lines)
       ≡ replay (replay opening (drop (since + 1) marked_lines)) (struck_steps xs (undone_with n) (take since marked_lines))
   undone_state xs =
-      ap (replay opening) (sym (take-append-drop since (strike xs n marked_lines)))
-      ∙ replay_append opening (take since (strike xs n marked_lines)) (drop since (strike xs n marked_lines))
+      replay_parts opening since (strike xs n marked_lines)
       ∙ ap (replay (replay opening (drop since (strike xs n marked_lines)))) (take_strike xs n since marked_lines not_since)
       ∙ ap (λ (s : State). replay s (struck_steps xs (undone_with n) (take since marked_lines)))
       (ap (replay opening) (drop_strike_past xs n since marked_lines not_since)
@@ -212,7 +219,7 @@ module _ (opening : State) (before : History) (e : Entry) (n : ℕ) (answer : e.
 pub undo_goes_back : UndoGoesBackToTheStateBefore
 undo_goes_back opening before after e n answer legal =
     let ls : List MarkedEntry = marked_entries (after ++ e ∷ before) in
-    let stands : is_in n (journal_of (after ++ e ∷ before)).standing ≡ true = undo_stands n (journal_of (after ++ e ∷ before)) (what_comes opening (after ++ e ∷ before) (undo_entry n) legal.0) in
+    let stands = undo_stands n (journal_of (after ++ e ∷ before)) (what_comes opening (after ++ e ∷ before) (undo_entry n) legal.0) in
     undo_leaves opening before after e n answer legal
     ∙ ap (λ (earlier : List MarkedEntry). replay (replay opening earlier) (struck_steps (altered_by_change n ls) (undone_with n) (take (length after) ls)))
     (ap (λ (i : ℕ). drop i ls) (let next : length after + 1 ≡ suc (length after) = omega arith in next)

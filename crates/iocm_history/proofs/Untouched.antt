@@ -36,15 +36,18 @@ near_exact n us (l ∷ ls) (m ∷ ms) high r = λ i. record { act = r.0 i; mark 
     same (struck_since k among low was is) = let more = high k among in absurd (omega arith)
 
 module _ (n k : ℕ) (us : List ℕ) where
+  -- a line that the undo strikes
   newly_struck : (l o : Mark) → k < n → o ≡ struck_mark (undone_with k) l → Near n (k ∷ us) l o
   newly_struck kept o low is = struck_since k (is_first k us) low refl is
   newly_struck (undone_with j) o low is = as_it_was is
   newly_struck lost o low is = as_it_was is
 
+  -- a mark is near where one more change is undone
   near_more : (l m : Mark) → Near n us l m → Near n (k ∷ us) l m
   near_more l m (as_it_was is) = as_it_was is
   near_more l m (struck_since j among low was is) = struck_since j (is_later j k us among) low was is
 
+  -- and after its undo
   near_struck : k < n → (l m o : Mark) → Near n us l m → IsStruckBy k m o → Near n (k ∷ us) l o
   near_struck low l m o (as_it_was e) (inl s) = as_it_was (s ∙ e)
   near_struck low l m o (as_it_was e) (inr s) = newly_struck l o low (s ∙ ap (struck_mark (undone_with k)) e)
@@ -52,12 +55,14 @@ module _ (n k : ℕ) (us : List ℕ) where
   near_struck low l m o (struck_since j among less was is) (inr s) =
       struck_since j (is_later j k us among) less was (s ∙ ap (struck_mark (undone_with k)) is)
 
+  -- near_back's step
   near_back_at : (b : Bool) (j : ℕ) (l : Mark) → eqb k j ≡ b → is_in j (k ∷ us) ≡ true → j < n → l ≡ kept
       → Near n us l (cond b kept (undone_with j))
   near_back_at true j l e among low was = as_it_was (sym was)
   near_back_at false j l e among low was =
       ⊎_elim (λ same. absurd (eqb-false k j e (sym same))) (λ later. struck_since j later low was refl) (in_first_or_rest j k us among)
 
+  -- and after its redo
   near_back : (l m : Mark) → l ≢ undone_with k → Near n (k ∷ us) l m → Near n us l (unstruck_mark k m)
   near_back l m other (as_it_was is) = as_it_was (ap (unstruck_mark k) is ∙ unstruck_other k l other)
   near_back l m other (struck_since j among low was is) =
@@ -98,12 +103,13 @@ pub record IsUntouched (n : ℕ) (IsOld : ℕ → Type 0) (earlier : List Marked
   pub undos : (k : ℕ) → is_in k us ≡ true → IsOld k → has (is_undo k) (take i ls) ≡ true
   pub unmarked : (k : ℕ) → IsThere k ns us → IsOld k → IsUnmarked k earlier
 
--- a change that moves between the standing and the undone ones is there
+-- a change that is there after the undo of one was there before it
 undone_there : (j k : ℕ) (ns us : List ℕ) → IsThere j ns (k ∷ us) → IsThere j (k ∷ ns) us
 undone_there j k ns us (inl stands) = inl (is_later j k ns stands)
 undone_there j k ns us (inr among) =
     ⊎_elim (λ same. inl (or_left (eqb j k) _ (eq-eqb j k same))) (λ later. inr later) (in_first_or_rest j k us among)
 
+-- a change that is there after the redo of one was there before it
 redone_there : (j k : ℕ) (ns us : List ℕ) → IsThere j (k ∷ ns) us → IsThere j ns (k ∷ us)
 redone_there j k ns us (inr undone) = inr (is_later j k us undone)
 redone_there j k ns us (inl among) =
@@ -145,8 +151,8 @@ module _ (n : ℕ) (IsOld : ℕ → Type 0) (earlier : List MarkedEntry) where
       again (inl same) = let low = u.counted in absurd (omega arith)
       again (inr stands) =
           subst (λ (ms : List MarkedEntry). AreRemarked (Near n []) earlier ms)
-          (sym (near_exact n us earlier (drop i ls) (λ k undone. let less = undone_above us ns k n ordered undone stands in let low : n ≤ k = omega arith in low)
-          (u.near (inl stands))))
+          (sym (near_exact n us earlier (drop i ls)
+          (λ k undone. let less = undone_above us ns k n ordered undone stands in let low : n ≤ k = omega arith in low) (u.near (inl stands))))
           (remarked_same (Near n []) (λ m. as_it_was refl) earlier)
 
       changed : (k : ℕ) → IsOld k → n ≤ k → (k ≡ c + 1) ⊎ (is_in k ns ≡ true) → (is_change k l.act || has (is_change k) (take i ls)) ≡ true
@@ -206,6 +212,7 @@ module _ (n : ℕ) (IsOld : ℕ → Type 0) (earlier : List MarkedEntry) where
   abbrev pub IsUntouchedAt : Journal → ℕ → List MarkedEntry → Type 0
   IsUntouchedAt b i ls = IsUntouched n IsOld earlier b.count b.standing b.undone i ls
 
+  -- and after an entry
   abbrev IsUntouchedAfter : Journal → ℕ → List MarkedEntry → Entry → Type 0
   IsUntouchedAfter b i ls e = IsUntouchedAt (journal_after e.answer b) (suc i) (marked_entry e ∷ marks_after e.answer ls)
 
@@ -218,8 +225,8 @@ module _ (n : ℕ) (IsOld : ℕ → Type 0) (earlier : List MarkedEntry) where
       (count_untouched b.count b.standing b.undone i _ ls ordered ahead (eq-eqb (b.count + 1) (b.count + 1) refl) u)
   next_untouched b i ls e ordered ahead old (undoes k ns first rest is) u =
       subst (IsUntouchedAfter b i ls) (sym is)
-      (subst (λ (ms : List ℕ). IsUntouched n IsOld earlier b.count ms (k ∷ b.undone) (suc i) (marked_entry (undo_entry k) ∷ strike (altered_by_change k ls) k ls))
-      (sym rest)
+      (subst (λ (ms : List ℕ). IsUntouched n IsOld earlier b.count ms (k ∷ b.undone) (suc i)
+      (marked_entry (undo_entry k) ∷ strike (altered_by_change k ls) k ls)) (sym rest)
       (undo_untouched k b.count ns b.undone i (marked_entry (undo_entry k)) ls (altered_by_change k ls) (eq-eqb k k refl)
       (λ there. old k (inl is)
       (subst (λ (o : Entry). IsThere n (journal_after o.answer b).standing (journal_after o.answer b).undone) (sym is)
@@ -227,8 +234,8 @@ module _ (n : ℕ) (IsOld : ℕ → Type 0) (earlier : List MarkedEntry) where
       (subst (λ (ms : List ℕ). IsUntouched n IsOld earlier b.count ms b.undone i ls) first u)))
   next_untouched b i ls e ordered ahead old (redoes k us first rest is) u =
       subst (IsUntouchedAfter b i ls) (sym is)
-      (subst (λ (ms : List ℕ). IsUntouched n IsOld earlier b.count (k ∷ b.standing) ms (suc i) (marked_entry (redo_entry k) ∷ restore (altered_by_change k ls) k ls))
-      (sym rest)
+      (subst (λ (ms : List ℕ). IsUntouched n IsOld earlier b.count (k ∷ b.standing) ms (suc i)
+      (marked_entry (redo_entry k) ∷ restore (altered_by_change k ls) k ls)) (sym rest)
       (redo_untouched k b.count b.standing us i (marked_entry (redo_entry k)) ls (altered_by_change k ls)
       (λ there. old k (inr is)
       (subst (λ (o : Entry). IsThere n (journal_after o.answer b).standing (journal_after o.answer b).undone) (sym is)
