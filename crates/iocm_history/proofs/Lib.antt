@@ -9,6 +9,7 @@ pub mod Parts
 pub mod RedoAfterUndo
 pub mod Remarked
 pub mod StandingMarks
+pub mod StepsAlone
 pub mod UndoneRun
 pub mod Untouched
 pub mod WorkedRuns
