@@ -11,5 +11,6 @@ pub mod Remarked
 pub mod StandingMarks
 pub mod StepsAlone
 pub mod UndoneRun
+pub mod UndoneStates
 pub mod Untouched
 pub mod WorkedRuns

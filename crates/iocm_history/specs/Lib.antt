@@ -6,3 +6,4 @@ pub mod Legal
 pub mod MarkedEntry
 pub mod Replay
 pub mod Run
+pub mod UndoLaws
