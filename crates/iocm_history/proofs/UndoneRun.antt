@@ -124,7 +124,7 @@ module _ (opening : State) (before after : History) (e : Entry) (n : ℕ) (answe
       since_change opening n after (e ∷ before) legal counted
 
   -- nor are their lines
-  not_since : has (is_change n) (take since marked_lines) ≡ false
+  pub not_since : has (is_change n) (take since marked_lines) ≡ false
   not_since = has_first (is_change n) after (e ∷ before) marked_lines (history_acts (after ++ e ∷ before)) ∙ since_made.others
 
   -- the state without the change
