@@ -1,3 +1,4 @@
+pub mod Counting
 pub mod EntriesAfter
 pub mod JournalOrder
 pub mod LegalRuns

@@ -1,7 +1,7 @@
 -- Marked entries of which no change counts: their replay makes steps alone.
 use Rattle.std.proofs.Common.{◌≡◌, Bool, true, false, ◌&&◌, List}
 use Rattle.std.specs.List.{list_any}
-use Rattle.iocm_history.specs.MarkedEntry.{Act, step, change, undoing, nothing, Mark, kept, undone_with, lost, MarkedEntry}
+use Rattle.iocm_history.specs.MarkedEntry.{Act, change, Mark, kept, MarkedEntry}
 
 -- a mark that counts
 abbrev pub is_kept : Mark → Bool
