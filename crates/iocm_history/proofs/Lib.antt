@@ -1,3 +1,4 @@
+pub mod CountedChanges
 pub mod Counting
 pub mod EntriesAfter
 pub mod JournalOrder
