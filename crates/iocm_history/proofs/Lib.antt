@@ -6,6 +6,7 @@ pub mod LegalRuns
 pub mod ListedHistories
 pub mod Marks
 pub mod NoChange
+pub mod NoLaterChange
 pub mod OwnMarks
 pub mod Parts
 pub mod RedoAfterUndo
