@@ -63,7 +63,8 @@ module _ (opening : State) (before : History) (e : Entry) (n : ℕ) (answer : e.
   by_entry same (idle i) = absurd (idle_unchanged n e i answer)
 
 -- an accepted change is an activation of a tree that has a meaning, with the effect of what it performed
-pub activated_as : (opening : State) (before : History) (e : Entry) (n : ℕ) → IsRight opening before e → e.answer ≡ Changed n → IsActivated opening before e
+pub activated_as : (opening : State) (before : History) (e : Entry) (n : ℕ) → IsRight opening before e → e.answer ≡ Changed n
+    → IsActivated opening before e
 activated_as opening before e n (inl same) answer = by_entry opening before e n answer same (what_comes opening before e (inl same))
 activated_as opening before e n (inr lack) answer =
     let other : Changed n ≡ answers.Refused (refused_at M1 Nothing) = sym answer ∙ ap (λ (o : Entry). o.answer) lack.1 in cc
@@ -120,7 +121,8 @@ module _ (opening : State) (h : History) (n : ℕ) (e : Entry)
   made_next (idle i) there = earlier (subst (λ (c : Journal). IsThere n c.standing c.undone) (i.books (journal_of h)) there)
 
 -- a change that stands or is undone was made
-made_there : (opening : State) (h : History) (n : ℕ) → IsLegal opening h → IsThere n (journal_of h).standing (journal_of h).undone → WasMade opening h n
+made_there : (opening : State) (h : History) (n : ℕ) → IsLegal opening h → IsThere n (journal_of h).standing (journal_of h).undone
+    → WasMade opening h n
 made_there opening [] n legal (inl none) = cc
 made_there opening [] n legal (inr none) = cc
 made_there opening (e ∷ h) n legal there =
@@ -140,7 +142,8 @@ pub record WasUndone (opening : State) (h : History) (n : ℕ) : Type 0 where
   pub others : list_any (λ (e : Entry). undoes_or_redoes n e.answer) between ≡ false
 
 -- it did also after one more entry that neither undoes nor redoes the change
-undone_before : (opening : State) (h : History) (n : ℕ) (e : Entry) → undoes_or_redoes n e.answer ≡ false → WasUndone opening h n → WasUndone opening (e ∷ h) n
+undone_before : (opening : State) (h : History) (n : ℕ) (e : Entry) → undoes_or_redoes n e.answer ≡ false → WasUndone opening h n
+    → WasUndone opening (e ∷ h) n
 undone_before opening h n e other w = record {
   before = w.before;
   between = e ∷ w.between;
@@ -158,7 +161,8 @@ idle_unmoved n _ books = refl
 
 module _ (opening : State) (h : History) (n : ℕ) (e : Entry) (earlier : is_in n (journal_of h).undone ≡ true → WasUndone opening h n) where
   -- an undo, of this change or of another
-  undone_now : (k : ℕ) (same : Bool) → eqb n k ≡ same → e ≡ undo_entry k → (same || is_in n (journal_of h).undone) ≡ true → WasUndone opening (e ∷ h) n
+  undone_now : (k : ℕ) (same : Bool) → eqb n k ≡ same → e ≡ undo_entry k → (same || is_in n (journal_of h).undone) ≡ true
+      → WasUndone opening (e ∷ h) n
   undone_now k true it is among = record {
     before = h;
     between = [];
@@ -175,9 +179,11 @@ module _ (opening : State) (h : History) (n : ℕ) (e : Entry) (earlier : is_in 
   undone_next (redone k here is) among =
       let still = subst (λ (o : Entry). is_in n (journal_of (o ∷ h)).undone ≡ true) is among in
       let another : eqb n k ≡ false = ne_eqb n k (λ same. without_other k n (journal_of h).undone still (sym same)) in
-      undone_before opening h n e (ap (λ (o : Entry). undoes_or_redoes n o.answer) is ∙ another) (earlier (in_without k n (journal_of h).undone still))
+      undone_before opening h n e (ap (λ (o : Entry). undoes_or_redoes n o.answer) is ∙ another)
+      (earlier (in_without k n (journal_of h).undone still))
   undone_next (idle i) among =
-      undone_before opening h n e (idle_unmoved n e.answer i.books) (earlier (subst (λ (c : Journal). is_in n c.undone ≡ true) (i.books (journal_of h)) among))
+      undone_before opening h n e (idle_unmoved n e.answer i.books)
+      (earlier (subst (λ (c : Journal). is_in n c.undone ≡ true) (i.books (journal_of h)) among))
 
 -- a change that is undone was undone by an entry, and neither undone nor redone since
 pub undone_by : (opening : State) (h : History) (n : ℕ) → IsLegal opening h → is_in n (journal_of h).undone ≡ true → WasUndone opening h n

@@ -1,3 +1,4 @@
+pub mod CountedChanges
 pub mod Counting
 pub mod EntriesAfter
 pub mod JournalOrder
@@ -5,6 +6,7 @@ pub mod LegalRuns
 pub mod ListedHistories
 pub mod Marks
 pub mod NoChange
+pub mod NoLaterChange
 pub mod OwnMarks
 pub mod Parts
 pub mod RedoAfterUndo

@@ -22,7 +22,7 @@ use Rattle.iocm_history.proofs.Untouched.{Near, as_it_was, near_exact, IsUntouch
 -- ---- a change comes once
 
 -- a plain act is not a change
-plain_no_change : (n : ℕ) (a : Act) → is_plain a ≡ true → is_change n a ≡ false
+pub plain_no_change : (n : ℕ) (a : Act) → is_plain a ≡ true → is_change n a ≡ false
 plain_no_change n (step x s) plain = refl
 plain_no_change n (change m f) plain = cc
 plain_no_change n (undoing m) plain = refl
@@ -37,7 +37,7 @@ another_change n b e (redone k here is) counted = ap (λ (o : Entry). is_change 
 another_change n b e (idle i) counted = plain_no_change n _ i.act
 
 -- what was counted stays so
-still_counted : (n : ℕ) (b : Journal) (e : Entry) → IsAfter b e → n ≤ b.count → n ≤ (journal_after e.answer b).count
+pub still_counted : (n : ℕ) (b : Journal) (e : Entry) → IsAfter b e → n ≤ b.count → n ≤ (journal_after e.answer b).count
 still_counted n b e (changed p f is) counted =
     subst (λ (o : Entry). n ≤ (journal_after o.answer b).count) (sym is) (let more : n ≤ b.count + 1 = omega arith in more)
 still_counted n b e (undone k here is) counted = subst (λ (o : Entry). n ≤ (journal_after o.answer b).count) (sym is) counted
@@ -56,7 +56,7 @@ change_number n b e (idle i) answer =
     absurd (omega arith)
 
 -- an entry with the answer of an accepted change is that change
-change_made : (n : ℕ) (b : Journal) (e : Entry) → IsAfter b e → e.answer ≡ Changed n → is_change n (marked_entry e).act ≡ true
+pub change_made : (n : ℕ) (b : Journal) (e : Entry) → IsAfter b e → e.answer ≡ Changed n → is_change n (marked_entry e).act ≡ true
 change_made n b e (changed p f is) answer =
     let number : Changed n ≡ Changed (b.count + 1) = sym answer ∙ ap (λ (o : Entry). o.answer) is in
     ap (λ (o : Entry). is_change n (marked_entry o).act) is ∙ eq-eqb n (b.count + 1) (cc)
@@ -68,12 +68,12 @@ change_made n b e (idle i) answer =
     absurd (omega arith)
 
 -- entries since a change
-record AreSince (n : ℕ) (new h : History) : Type 0 where
-  counted : n ≤ (journal_of (new ++ h)).count
-  others : has (is_change n) (map marked_entry new) ≡ false
+pub record AreSince (n : ℕ) (new h : History) : Type 0 where
+  pub counted : n ≤ (journal_of (new ++ h)).count
+  pub others : has (is_change n) (map marked_entry new) ≡ false
 
 -- entries since a change was counted are no such change
-since_change : (opening : State) (n : ℕ) (new h : History) → IsLegal opening (new ++ h) → n ≤ (journal_of h).count → AreSince n new h
+pub since_change : (opening : State) (n : ℕ) (new h : History) → IsLegal opening (new ++ h) → n ≤ (journal_of h).count → AreSince n new h
 since_change opening n [] h legal counted = record { counted = counted; others = refl }
 since_change opening n (e ∷ new) h legal counted =
     let rest : AreSince n new h = since_change opening n new h legal.1 counted in

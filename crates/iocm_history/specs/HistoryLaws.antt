@@ -1,5 +1,5 @@
 -- What striking and restoring promise.
-use Rattle.std.specs.Prelude.{◌≡◌, ◌≢◌, ◌⊎◌, ℕ, ◌==◌, ◌+◌, ◌<◌, Bool, true, false, List, [], ◌∷◌, ◌++◌, map, length, take, drop}
+use Rattle.std.specs.Prelude.{◌≡◌, ◌≢◌, ◌⊎◌, ℕ, ◌==◌, ◌+◌, ◌<◌, Bool, true, false, if◌then◌else◌, List, [], ◌∷◌, ◌++◌, map, length, take, drop}
 use Rattle.std.specs.List.{list_any}
 use Rattle.iocm_types.specs.declared.answer.Answer.{Answer}
 use Rattle.iocm_types.specs.declared.answer.Answer.TheVariants.{Changed, Undone, Redone}
@@ -7,7 +7,7 @@ use Rattle.iocm_types.specs.declared.answer.Answer.TheVariants as answers
 use Rattle.iocm_types.specs.declared.sub_id.SubId.{SubId}
 use Rattle.iocm_model.specs.State.{State}
 use Rattle.iocm_history.specs.Entry.{undo, redo, Entry, History, plain_entry}
-use Rattle.iocm_history.specs.MarkedEntry.{Mark, undone_with, lost, MarkedEntry, is_change, is_step_on, struck_if, strike, taken_back, altered_by_change, marked_entries}
+use Rattle.iocm_history.specs.MarkedEntry.{Mark, kept, undone_with, lost, MarkedEntry, is_change, is_step_on, struck_if, strike, taken_back, altered_by_change, marked_entries}
 use Rattle.iocm_history.specs.Replay.{replay, state_at}
 use Rattle.iocm_history.specs.Journal.{is_in, journal_of}
 use Rattle.iocm_history.specs.Legal.{IsLegal}
@@ -33,6 +33,16 @@ AreItsOwn n xs (l ∷ ls) = (l.mark ≡ undone_with n → (is_change n l.act ≡
 
 abbrev pub UndosStrikeTheirOwn : Type 0
 UndosStrikeTheirOwn = (opening : State) (h : History) (n : ℕ) → IsLegal opening h → AreItsOwn n (altered_by_change n (marked_entries h)) (marked_entries h)
+
+-- each line of the change of this number has this mark
+abbrev pub AreMarkedBy : ℕ → Mark → List MarkedEntry → Type 0
+AreMarkedBy n m [] = Unit {0}
+AreMarkedBy n m (l ∷ ls) = (is_change n l.act ≡ true → l.mark ≡ m) × AreMarkedBy n m ls
+
+-- a change counts while it stands, and else its undo struck it
+abbrev pub ChangesCountWhileTheyStand : Type 0
+ChangesCountWhileTheyStand = (opening : State) (h : History) (n : ℕ) → IsLegal opening h
+    → AreMarkedBy n (if is_in n (journal_of h).standing then kept else undone_with n) (marked_entries h)
 
 -- lines, of which each step on these subchannels is struck
 abbrev pub struck_steps : List SubId → Mark → List MarkedEntry → List MarkedEntry

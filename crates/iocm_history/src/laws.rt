@@ -2,6 +2,7 @@ ghost use Rattle.iocm_history.specs.HistoryLaws.{
   RestoringUndoesStriking,
   StandingChangesMarkNothing,
   UndosStrikeTheirOwn,
+  ChangesCountWhileTheyStand,
   UndoLeavesTheRunWithout,
   UndoGoesBackToTheStateBefore,
   RedoTakesUndoBack,
@@ -20,6 +21,11 @@ pub fn standing_changes_mark_nothing()
 /// An entry that is marked as struck by the undo of a change is that change, or a step on a subchannel that it altered.
 pub fn undos_strike_their_own()
     ensures { UndosStrikeTheirOwn }
+{}
+
+/// A change counts while it stands. Else its undo struck it: while it is undone, and also once it is past.
+pub fn changes_count_while_they_stand()
+    ensures { ChangesCountWhileTheyStand }
 {}
 
 /// The undo of a change leaves the run without it: what was before the change, and what came since, without the steps on

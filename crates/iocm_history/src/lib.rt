@@ -15,6 +15,7 @@ pub use examples::{
     undo_and_redo_are_as_worked,
 };
 pub use laws::{
-    redo_takes_undo_back, restoring_undoes_striking, standing_changes_mark_nothing,
-    undo_goes_back_to_the_state_before, undo_leaves_the_run_without, undos_strike_their_own,
+    changes_count_while_they_stand, redo_takes_undo_back, restoring_undoes_striking,
+    standing_changes_mark_nothing, undo_goes_back_to_the_state_before, undo_leaves_the_run_without,
+    undos_strike_their_own,
 };
