@@ -12,6 +12,7 @@ pub mod Parts
 pub mod RedoAfterUndo
 pub mod Remarked
 pub mod StandingMarks
+pub mod StatesInUse
 pub mod StepsAlone
 pub mod UndoneRun
 pub mod UndoneStates

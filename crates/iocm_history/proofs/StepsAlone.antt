@@ -1,7 +1,6 @@
 -- Marked entries of which no change counts: what their replay keeps, and that it passes the taking back of a change before them.
-use Rattle.std.proofs.Common.{◌≡◌, Bool, true, false, ◌&&◌, ◌||◌, List, [], ◌∷◌, map, refl, sym, ap, ◌∙◌}
+use Rattle.std.proofs.Common.{◌≡◌, Bool, true, false, ◌&&◌, List, [], ◌∷◌, refl, sym, ap, ◌∙◌}
 use Rattle.std.proofs.lemmas.Bool.{or_parts, or_from}
-use Rattle.std.specs.List.{list_any}
 use Rattle.iocm_types.specs.declared.sub_id.SubId.{SubId}
 use Rattle.iocm_model.specs.State.{State, IsSound, is_among}
 use Rattle.iocm_model.specs.Edit.{Edit}

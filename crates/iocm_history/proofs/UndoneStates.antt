@@ -1,11 +1,8 @@
 -- What an undo leaves, said of states: the state with the cells of the change as they were, which is what its inverse tree leaves.
-use Rattle.std.proofs.Common.{◌≡◌, ℕ, nat_eq, Bool, true, false, cond, ◌||◌, List, [], ◌∷◌, ◌++◌, length, take, drop, Option, Some, None, Ok, Err, inl, inr, refl, sym, ap, subst, ◌∙◌, take-append-drop}
+use Rattle.std.proofs.Common.{◌≡◌, ℕ, nat_eq, Bool, true, false, cond, List, [], ◌∷◌, ◌++◌, length, take, drop, Option, Some, None, Ok, inl, inr, refl, sym, ap, subst, ◌∙◌, take-append-drop}
 use Rattle.std.proofs.lemmas.Bool.{or_parts, eq-eqb}
-use Rattle.std.specs.List.{list_any}
 use Rattle.std.specs.Option.{is_some}
-use Rattle.std.specs.Ordering.{eq_by_cmp}
-use Rattle.std.specs.FinMap.{get, keys, contains_key, contains_key-keys}
-use Rattle.iocm_types.specs.declared.answer.Answer.{Answer}
+use Rattle.std.specs.FinMap.{get, keys, contains_key-keys}
 use Rattle.iocm_types.specs.declared.answer.Answer.TheVariants.{Changed, Undone}
 use Rattle.iocm_types.specs.declared.answer.Answer.TheVariants as answers
 use Rattle.iocm_types.specs.declared.refused.Refused.{Refused}
@@ -13,7 +10,7 @@ use Rattle.iocm_types.specs.declared.sub_id.SubId.{SubId}
 use Rattle.iocm_types.specs.SubId.{sub_id_cmp}
 use Rattle.iocm_types.proofs.KeyOrder.{sub_ids_total, sub_ids_exact}
 use Rattle.iocm_model.specs.Maps.{cells_at}
-use Rattle.iocm_model.specs.State.{State, Lives, IsSound, HasConfigAndNumbersOf, is_among}
+use Rattle.iocm_model.specs.State.{State, IsSound, HasConfigAndNumbersOf, is_among}
 use Rattle.iocm_model.specs.Edit.{Edit}
 use Rattle.iocm_model.specs.Refusal.{is_not_quiet, first_not_quiet, AreQuiet}
 use Rattle.iocm_model.specs.Effect.{Effect, values_in, written, edited_by_all, cells_written_by_all, effect_of}
@@ -26,11 +23,10 @@ use Rattle.iocm_model.proofs.Overwriting.{none_found}
 use Rattle.iocm_model.proofs.RunsGoBack.{accepted_carry, stays_sound, writes_its_effect}
 use Rattle.iocm_model.proofs.Trees.{accepted_trees_are_runs, inverse_trees_take_back}
 use Rattle.iocm_history.specs.Entry.{activate, undo, Entry, History, plain_entry}
-use Rattle.iocm_history.specs.MarkedEntry.{Act, step, change, undoing, nothing, Mark, kept, undone_with, lost, MarkedEntry, is_change, act_of, effect_or, change_effect, altered_by_change, marked_entry, marked_entries}
-use Rattle.iocm_history.specs.Replay.{acted_if_kept, replay, state_at}
+use Rattle.iocm_history.specs.MarkedEntry.{Act, step, change, undoing, nothing, Mark, kept, undone_with, MarkedEntry, is_change, act_of, effect_or, change_effect, altered_by_change, marked_entry, marked_entries}
+use Rattle.iocm_history.specs.Replay.{replay, state_at}
 use Rattle.iocm_history.specs.Journal.{is_in, journal_of}
 use Rattle.iocm_history.specs.Legal.{IsRight, IsLegal, stands_on, unless_stood_on, unless_not_quiet, undo_answer}
-use Rattle.iocm_history.specs.HistoryLaws.{struck_steps}
 use Rattle.iocm_history.proofs.NoChange.{KeepsNoChange}
 use Rattle.iocm_history.proofs.Parts.{has, replay_append}
 use Rattle.iocm_history.proofs.StepsAlone.{replay_config, replay_numbers, replay_sound, IsStruckBy, replay_taken_back}
@@ -139,6 +135,6 @@ module _ (opening : State) (before after : History) (e : Entry) (n : ℕ) (tree 
             lived = sound_u.lived;
           } in
           let quiet : AreQuiet u.lives (cells_written_by_all done.edits s).subchannels = λ x among.
-              none_found sub_id_cmp sub_ids_total sub_ids_exact (λ y. is_not_quiet (get u.lives y)) (altered_by_change n (marked_entries (after ++ e ∷ before)))
-              (undo_was_quiet opening (after ++ e ∷ before) n legal.0) x (named x ∙ among) in
+          none_found sub_id_cmp sub_ids_total sub_ids_exact (λ y. is_not_quiet (get u.lives y)) (altered_by_change n (marked_entries (after ++ e ∷ before)))
+          (undo_was_quiet opening (after ++ e ∷ before) n legal.0) x (named x ∙ among) in
           inverse_trees_take_back tree s done sound rules accepted u like quiet ∙ ap Some (sym undone_is_taken_back)

@@ -9,6 +9,7 @@
 
 mod examples;
 mod laws;
+mod undo_laws;
 
 pub use examples::{
     runs_are_legal, steps_elsewhere_are_as_worked, steps_on_altered_subchannels_are_as_worked,
@@ -19,3 +20,4 @@ pub use laws::{
     standing_changes_mark_nothing, undo_goes_back_to_the_state_before, undo_leaves_the_run_without,
     undos_strike_their_own,
 };
+pub use undo_laws::{states_stay_in_use, undo_does_what_the_inverse_tree_does};
