@@ -17,7 +17,8 @@ use Rattle.iocm_model.proofs.ListedStates.{ListedState, listing, views_at, Liste
 use Rattle.iocm_model.proofs.ListedEffects.{ListedEffect, effect_listing, written_listed, written_seen, edits_from, effect_listed, effect_seen}
 use Rattle.iocm_model.proofs.ListedTrees.{ListedPlan, plan_from, ListedOutcome, outcome_listing, meaning_listed, meaning_seen}
 use Rattle.iocm_history.specs.Entry.{Call, at, activate, undo, redo, show, Entry, History, no_effect, plain_entry}
-use Rattle.iocm_history.specs.MarkedEntry.{Act, step, change, undoing, nothing, Mark, kept, undone_with, lost, MarkedEntry, act_of, is_change, is_undo, is_among, is_step_on, effect_or, change_effect, altered_by_change, struck_mark, struck_if, strike, unstruck_mark, taken_back, restore, marks_after, marked_entries}
+use Rattle.iocm_model.specs.State.{is_among}
+use Rattle.iocm_history.specs.MarkedEntry.{Act, step, change, undoing, nothing, Mark, kept, undone_with, lost, MarkedEntry, act_of, is_change, is_undo, is_step_on, effect_or, change_effect, altered_by_change, struck_mark, struck_if, strike, unstruck_mark, taken_back, restore, marks_after, marked_entries}
 use Rattle.iocm_history.specs.Replay.{acted, acted_if_kept, replay, state_at}
 use Rattle.iocm_history.specs.Journal.{Journal, journal_after, journal_of}
 use Rattle.iocm_history.specs.Legal.{undo_answer, redo_answer, shown, activated, entry_in, entry_of}

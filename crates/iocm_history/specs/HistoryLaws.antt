@@ -12,7 +12,7 @@ use Rattle.iocm_history.specs.Replay.{replay, state_at}
 use Rattle.iocm_history.specs.Journal.{is_in, journal_of}
 use Rattle.iocm_history.specs.Legal.{IsLegal}
 
--- no line is struck by an undo of this change
+-- no entry is struck by an undo of this change
 abbrev pub IsUnmarked : ℕ → List MarkedEntry → Type 0
 IsUnmarked n [] = Unit {0}
 IsUnmarked n (l ∷ ls) = (l.mark ≢ undone_with n) × IsUnmarked n ls
@@ -21,12 +21,12 @@ IsUnmarked n (l ∷ ls) = (l.mark ≢ undone_with n) × IsUnmarked n ls
 abbrev pub RestoringUndoesStriking : Type 0
 RestoringUndoesStriking = (xs : List SubId) (n : ℕ) (ls : List MarkedEntry) → IsUnmarked n ls → taken_back n (strike xs n ls) ≡ ls
 
--- in a legal history no line is struck by the undo of a change that stands, or that isn't there yet
+-- in a legal history no entry is struck by the undo of a change that stands, or that isn't there yet
 abbrev pub StandingChangesMarkNothing : Type 0
 StandingChangesMarkNothing = (opening : State) (h : History) (n : ℕ) → IsLegal opening h
     → ((journal_of h).count < n) ⊎ (is_in n (journal_of h).standing ≡ true) → IsUnmarked n (marked_entries h)
 
--- a line that the undo of a change struck is the change, or a step on a subchannel that it altered
+-- an entry that the undo of a change struck is the change, or a step on a subchannel that it altered
 abbrev pub AreItsOwn : ℕ → List SubId → List MarkedEntry → Type 0
 AreItsOwn n xs [] = Unit {0}
 AreItsOwn n xs (l ∷ ls) = (l.mark ≡ undone_with n → (is_change n l.act ≡ true) ⊎ (is_step_on xs l.act ≡ true)) × AreItsOwn n xs ls
@@ -34,7 +34,7 @@ AreItsOwn n xs (l ∷ ls) = (l.mark ≡ undone_with n → (is_change n l.act ≡
 abbrev pub UndosStrikeTheirOwn : Type 0
 UndosStrikeTheirOwn = (opening : State) (h : History) (n : ℕ) → IsLegal opening h → AreItsOwn n (altered_by_change n (marked_entries h)) (marked_entries h)
 
--- each line of the change of this number has this mark
+-- each entry of the change of this number has this mark
 abbrev pub AreMarkedBy : ℕ → Mark → List MarkedEntry → Type 0
 AreMarkedBy n m [] = Unit {0}
 AreMarkedBy n m (l ∷ ls) = (is_change n l.act ≡ true → l.mark ≡ m) × AreMarkedBy n m ls
@@ -44,7 +44,7 @@ abbrev pub ChangesCountWhileTheyStand : Type 0
 ChangesCountWhileTheyStand = (opening : State) (h : History) (n : ℕ) → IsLegal opening h
     → AreMarkedBy n (if is_in n (journal_of h).standing then kept else undone_with n) (marked_entries h)
 
--- lines, of which each step on these subchannels is struck
+-- entries, of which each step on these subchannels is struck
 abbrev pub struck_steps : List SubId → Mark → List MarkedEntry → List MarkedEntry
 struck_steps xs by ls = map (λ (l : MarkedEntry). struck_if (is_step_on xs l.act) by l) ls
 

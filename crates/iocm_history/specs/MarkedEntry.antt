@@ -1,12 +1,10 @@
 -- Which entries of a history are struck, and by which undo. Own.
 use Rattle.std.specs.Prelude.{ℕ, ◌==◌, Bool, true, false, if◌then◌else◌, List, [], ◌∷◌, map}
-use Rattle.std.specs.List.{list_any}
-use Rattle.std.specs.Ordering.{eq_by_cmp}
 use Rattle.std.specs.FinMap.{keys}
 use Rattle.iocm_types.specs.declared.answer.Answer.{Answer}
 use Rattle.iocm_types.specs.declared.answer.Answer.TheVariants as answers
 use Rattle.iocm_types.specs.declared.sub_id.SubId.{SubId}
-use Rattle.iocm_types.specs.SubId.{sub_id_cmp}
+use Rattle.iocm_model.specs.State.{is_among}
 use Rattle.iocm_model.specs.Effect.{Effect}
 use Rattle.iocm_model.specs.Step.{Step}
 use Rattle.iocm_history.specs.Entry.{Call, at, activate, undo, Entry, History, no_effect}
@@ -45,9 +43,6 @@ is_undo n (undoing m) = n == m
 is_undo n _ = false
 
 -- a step on one of these subchannels
-abbrev pub is_among : SubId → List SubId → Bool
-is_among x xs = list_any (eq_by_cmp sub_id_cmp x) xs
-
 abbrev pub is_step_on : List SubId → Act → Bool
 is_step_on xs (step x s) = is_among x xs
 is_step_on xs _ = false

@@ -19,7 +19,7 @@ acted_if_kept kept act state = acted act state
 acted_if_kept (undone_with n) act state = state
 acted_if_kept lost act state = state
 
--- lines, the latest first, played from a state
+-- marked entries, the latest first, played from a state
 abbrev pub replay : State → List MarkedEntry → State
 replay s [] = s
 replay s (l ∷ ls) = acted_if_kept l.mark l.act (replay s ls)
