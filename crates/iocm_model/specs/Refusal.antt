@@ -60,7 +60,7 @@ first_not_quiet lives xs = find (λ x. is_not_quiet (get lives x)) xs
 
 -- B1 names the subchannel
 abbrev pub refused_by_subchannel : Option SubId → Option Refused
-refused_by_subchannel busy = option_map (λ x. refused_at B1 (Subchannel x)) busy
+refused_by_subchannel found = option_map (λ x. refused_at B1 (Subchannel x)) found
 
 -- why an edit is refused in a state, if it is: E1 or E2, then E4, then B1 with the least altered subchannel that isn't quiet
 abbrev pub refusal_of : Edit → State → Option Refused
