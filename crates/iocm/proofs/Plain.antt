@@ -1,4 +1,4 @@
--- The command line of a deck whose name does not begin with a hyphen.
+-- Command lines that state a deck, and those that name it plainly.
 use Rattle.std.proofs.Common.{◌≡◌, ◌==◌, ◌∙◌, ℕ, List, [], ◌∷◌, Option, None, Some, option_map, is_some, codes, refl, sym, ap, subst, inl, inr, true, false}
 use Rattle.std.specs.Prelude.{Box}
 use Rattle.std.specs.Box.{box_value}
@@ -11,7 +11,7 @@ use Rattle.clap.specs.declared.parser.matches.SubCommand.{SubCommand}
 use Rattle.clap.specs.declared.parser.matches.Found.{Found}
 use Rattle.clap.proofs.OnLiterals.{clap_on_literals}
 use Rattle.clap.proofs.WalkLemmas.{first_value-rows}
-use Rattle.iocm.specs.CommandLine.{iocm_app, stated, mistakes, ShowsDeck}
+use Rattle.iocm.specs.CommandLine.{iocm_app, stated, mistakes, NamesDeck, StatesDeck}
 
 -- show and a deck are read as they stand
 show_is_read : (program : Text) (b : ℕ) (bs : List ℕ) → (b == 45) ≡ false
@@ -24,9 +24,13 @@ show_is_right : (program : Text) (b : ℕ) (bs : List ℕ) → (b == 45) ≡ fal
 unfolding clap_on_literals
 show_is_right program b bs h = simp h
 
--- so an error is want of memory
-pub only_memory : (words : List Text) (e : Error) → ShowsDeck words → HasKind (mistakes words) e → kind_of e ≡ OutOfMemory
-only_memory words e s h = go (subst (λ kinds. HasKind kinds e) (ap mistakes s.3 ∙ show_is_right s.0 s.1 s.2 s.4) h)
+-- so these words state a deck
+pub states_deck : (words : List Text) → NamesDeck words → StatesDeck words
+states_deck words s = (s.1 ∷ s.2, ap mistakes s.3 ∙ show_is_right s.0 s.1 s.2 s.4, ap stated s.3 ∙ show_is_read s.0 s.1 s.2 s.4)
+
+-- an error where there is no mistake is want of memory
+pub only_memory : (words : List Text) (e : Error) → StatesDeck words → HasKind (mistakes words) e → kind_of e ≡ OutOfMemory
+only_memory words e s h = go (subst (λ kinds. HasKind kinds e) s.1 h)
   where
     go : HasKind [] e → kind_of e ≡ OutOfMemory
     go (inl memory) = memory
@@ -54,19 +58,14 @@ valued (Some p) rows name value h r =
     let both : Some (first_of (codes "DECK") p.1) ≡ Some (Some value) = ap (option_map (λ (q : Text × Option Text). q.1)) h in cc in
     ap (first_of (codes "DECK")) (sym same) ∙ given
 
-read_of : (words : List Text) (s : ShowsDeck words) → stated words ≡ Some (codes "show", Some (s.1 ∷ s.2))
-read_of words s = ap stated s.3 ∙ show_is_read s.0 s.1 s.2 s.4
-
-pub is_named : (words : List Text) (m : ArgMatches) → ShowsDeck words → subcommand_rows_of m ≡ subcommand_of iocm_app words
+pub is_named : (words : List Text) (m : ArgMatches) → StatesDeck words → subcommand_rows_of m ≡ subcommand_of iocm_app words
     → subcommand_name_of m ≡ Some (codes "show")
-is_named words m s same = named_first (out-ArgMatches m).subcommand (codes "show") (Some (s.1 ∷ s.2))
-    (ap (option_map argument) same ∙ read_of words s)
+is_named words m s same = named_first (out-ArgMatches m).subcommand (codes "show") (Some s.0) (ap (option_map argument) same ∙ s.2)
 
-pub is_valued : (words : List Text) (m : ArgMatches) (f : Found) (s : ShowsDeck words) → subcommand_rows_of m ≡ subcommand_of iocm_app words
-    → option_map (λ (p : Text × List Row). p.1) (subcommand_rows_of m) ≡ Some (rows_of f) → first_value f (codes "DECK") ≡ Some (s.1 ∷ s.2)
+pub is_valued : (words : List Text) (m : ArgMatches) (f : Found) (s : StatesDeck words) → subcommand_rows_of m ≡ subcommand_of iocm_app words
+    → option_map (λ (p : Text × List Row). p.1) (subcommand_rows_of m) ≡ Some (rows_of f) → first_value f (codes "DECK") ≡ Some s.0
 is_valued words m f s same rows = first_value-rows f (codes "DECK")
-    ∙ valued (subcommand_rows_of m) (rows_of f) (codes "show") (s.1 ∷ s.2)
-    (ap (option_map argument) same ∙ read_of words s) rows
+    ∙ valued (subcommand_rows_of m) (rows_of f) (codes "show") s.0 (ap (option_map argument) same ∙ s.2) rows
 
 -- what is not some is not
 pub not_some : {X : Type 0} (o : Option X) → ((x : X) → o ≡ Some x → ⊥) → is_some o ≡ true → ⊥

@@ -14,9 +14,9 @@ deck_rule = record (new_rule (codes "DECK")) { required = true }
 abbrev pub show_app : App
 show_app = with_rule (new_app (codes "show")) deck_rule
 
--- the program without its commands: one of them is required
+-- the program without its commands: it tells its version, and one of the commands is required
 abbrev pub bare_app : App
-bare_app = record (new_app (codes "iocm")) { top = record (new_app (codes "iocm")).top { subcommand_required = true } }
+bare_app = record (new_app (codes "iocm")) { top = record (new_app (codes "iocm")).top { subcommand_required = true; has_version = true } }
 
 -- the program, with its commands
 abbrev pub iocm_app : App
@@ -38,7 +38,11 @@ mistakes words = fault_of iocm_app words
 abbrev pub mistakes_or_missing : List Text → Kinds
 mistakes_or_missing words = or_else (mistakes words) (MissingRequiredArgument ∷ [])
 
--- a command line that shows a deck whose name does not begin with a hyphen
-abbrev pub ShowsDeck : List Text → Type 0
-ShowsDeck words = (program : Text) × (first : ℕ) × (rest : List ℕ)
+-- the words have no mistake, and state that a deck is shown
+abbrev pub StatesDeck : List Text → Type 0
+StatesDeck words = (deck : Text) × (mistakes words ≡ []) × (stated words ≡ Some (codes "show", Some deck))
+
+-- the program's name, `show`, and the name of a deck that doesn't begin with a hyphen
+abbrev pub NamesDeck : List Text → Type 0
+NamesDeck words = (program : Text) × (first : ℕ) × (rest : List ℕ)
     × (words ≡ program ∷ codes "show" ∷ (first ∷ rest) ∷ []) × ((first == 45) ≡ false)

@@ -1,6 +1,6 @@
 ghost use Rattle.std.specs.Prelude.{◌≡◌, [], Some, IfOk, IfErr, map};
 ghost use Rattle.clap.specs.Words.{HasKind, app_of, kind_of};
-ghost use Rattle.iocm.specs.CommandLine.{iocm_app, stated, words_of, mistakes, mistakes_or_missing, ShowsDeck};
+ghost use Rattle.iocm.specs.CommandLine.{iocm_app, stated, words_of, mistakes, mistakes_or_missing, NamesDeck, StatesDeck};
 
 use clap::error::ErrorKind;
 use clap::{Arg, Error};
@@ -14,6 +14,9 @@ pub enum Command<'a> {
     Show { deck: &'a str },
 }
 
+/// The version of the program, which `--version` prints.
+const VERSION: &str = "0.2.0";
+
 /// The command lines that `iocm` understands.
 fn iocm<'a>(alloc: Global) -> Result<clap::Command<'a>, AllocError>
     ensures { IfOk result (λ c. app_of c ≡ iocm_app) }
@@ -25,7 +28,8 @@ fn iocm<'a>(alloc: Global) -> Result<clap::Command<'a>, AllocError>
         .about("Reads a configuration deck and prints the table of its subchannels")
         .arg(deck)?;
     clap::Command::new(alloc, "iocm")
-        .about("Changes the I/O configuration of a channel subsystem while it runs")
+        .version(VERSION)
+        .about("Reads I/O configuration decks of a mainframe channel subsystem")
         .after_help(
             "Exit status: 0 done; 1 refused, for the reason on standard output; 2 command line not understood; 3 a file cannot be read or the output cannot be written.",
         )
@@ -35,12 +39,14 @@ fn iocm<'a>(alloc: Global) -> Result<clap::Command<'a>, AllocError>
 
 /// The command of the words of a command line, of which the first is the program's name.
 ///
-/// Help and every mistake in the words are `clap`'s errors; want of memory is one of the kind `OutOfMemory`, and
-/// nothing else keeps `show` and a deck, whose name does not begin with a hyphen, from being understood.
+/// Help, the version and every mistake in the words are `clap`'s errors. Want of memory is one of the kind `OutOfMemory`, and
+/// nothing else keeps words that have no mistake and state a deck from being understood: `show` and a name that doesn't
+/// begin with a hyphen are such words, and `show -- -x.deck` too.
 pub fn command_of<'a, S: AsStr>(alloc: Global, words: &'a [S]) -> Result<Command<'a>, Error>
     ensures command { IfOk result (λ c. stated (map S.text words.entry.now) ≡ Some (words_of c)) }
     ensures accepted { IfOk result (λ _. mistakes (map S.text words.entry.now) ≡ []) }
-    ensures understood { IfErr result (λ e. ShowsDeck (map S.text words.entry.now) → kind_of e ≡ ErrorKind.OutOfMemory) }
+    ensures understood { IfErr result (λ e. StatesDeck (map S.text words.entry.now) → kind_of e ≡ ErrorKind.OutOfMemory) }
+    ensures named { IfErr result (λ e. NamesDeck (map S.text words.entry.now) → kind_of e ≡ ErrorKind.OutOfMemory) }
     ensures mistaken { IfErr result (HasKind (mistakes_or_missing (map S.text words.entry.now))) }
 {
     let mut iocm = iocm(alloc)?;

@@ -1,10 +1,10 @@
 use Rattle.std.proofs.Common.{◌≡◌, ◌∙◌, ◌∷◌, [], List, ap, sym, subst, refl, map}
 use Rattle.clap.specs.Words.{App, Text, app_of, fault_of, is_simple, is_simple_and_free, subcommand_of, subcommand_rows_of, found_of, HasKind, kind_of}
 use Rattle.clap.specs.declared.error.kind.ErrorKind.TheVariants.{MissingRequiredArgument, OutOfMemory}
-use Rattle.iocm.specs.CommandLine.{iocm_app, mistakes, mistakes_or_missing, ShowsDeck}
+use Rattle.iocm.specs.CommandLine.{iocm_app, mistakes, mistakes_or_missing, NamesDeck, StatesDeck}
 use Rattle.std.specs.Borrow.{Bor}
 use Rattle.iocm.proofs.command.command_of.Goals.{in-Some+in_default-get_str, in_default}
-use Rattle.iocm.proofs.Plain.{only_memory, is_named, is_valued, not_some, not_mapped}
+use Rattle.iocm.proofs.Plain.{only_memory, states_deck, is_named, is_valued, not_some, not_mapped}
 use Rattle.iocm.proofs.Reading.{has_kind_or, passed_on, is_stated, is_plain, stated_by}
 use Rattle.iocm.proofs.command.command_of.Goals as goal
 
@@ -37,7 +37,7 @@ returns-in_err-matches-clause-understood g c =
     let words : List Text = map g.S.AsStr.text c.args.words.now in
     let app_is : app_of c.in_ok-iocm.iocm ≡ iocm_app = c.in_ok-iocm.ensures in
     let kinds = c.in_err-matches.ensures.kinds (ap is_simple_and_free app_is ∙ is_stated) in
-    passed_on c.from_residual-in_err-matches.result c.in_err-matches.field-0.0 (λ e. ShowsDeck words → kind_of e ≡ OutOfMemory)
+    passed_on c.from_residual-in_err-matches.result c.in_err-matches.field-0.0 (λ e. StatesDeck words → kind_of e ≡ OutOfMemory)
     (λ s. only_memory words c.in_err-matches.field-0.0 s
     (subst (λ (a : App). HasKind (fault_of a words) c.in_err-matches.field-0.0) app_is kinds))
     c.from_residual-in_err-matches.ensures
@@ -49,8 +49,21 @@ returns-clause-understood g c = λ s.
     let same : subcommand_rows_of c.in_ok-matches.matches ≡ subcommand_of iocm_app words =
     (c.in_ok-matches.ensures.ok.2 (ap is_simple app_is ∙ is_plain)).1 ∙ ap (λ (a : App). subcommand_of a words) app_is in
     elim c.match-subcommand_matches.branch [
-      | in-Some+in_default-get_str w ↦ absurd (not_mapped (λ (d : Bor Text). d.now) w.get_str.result (s.1 ∷ s.2) w.in_default-get_str.not-Some
+      | in-Some+in_default-get_str w ↦ absurd (not_mapped (λ (d : Bor Text). d.now) w.get_str.result s.0 w.in_default-get_str.not-Some
           (w.get_str.ensures ∙ is_valued words c.in_ok-matches.matches (found_of w.in-Some.show.now) s same w.in-Some.ensures.rows))
       | in_default w ↦ absurd (not_some c.subcommand_matches.result w.in_default.not-Some
           (c.subcommand_matches.ensures.found.1 (is_named words c.in_ok-matches.matches s same)))
     ]
+
+pub returns-in_err-matches-clause-named : goal.returns-in_err-matches-clause-named
+returns-in_err-matches-clause-named g c =
+    let words : List Text = map g.S.AsStr.text c.args.words.now in
+    let app_is : app_of c.in_ok-iocm.iocm ≡ iocm_app = c.in_ok-iocm.ensures in
+    let kinds = c.in_err-matches.ensures.kinds (ap is_simple_and_free app_is ∙ is_stated) in
+    passed_on c.from_residual-in_err-matches.result c.in_err-matches.field-0.0 (λ e. NamesDeck words → kind_of e ≡ OutOfMemory)
+    (λ s. only_memory words c.in_err-matches.field-0.0 (states_deck words s)
+    (subst (λ (a : App). HasKind (fault_of a words) c.in_err-matches.field-0.0) app_is kinds))
+    c.from_residual-in_err-matches.ensures
+
+pub returns-clause-named : goal.returns-clause-named
+returns-clause-named g c = λ s. returns-clause-understood g c (states_deck _ s)

@@ -15,7 +15,8 @@ returns c =
     ∙ ap₂ with_rule (ap app_of_fields c.about.ensures ∙ c.new-2.ensures.app) deck_is in
     let bare_is : app_of c.subcommand_required.result ≡ bare_app = ap app_of_fields c.subcommand_required.ensures
     ∙ ap (λ (a : App). record a { top = record a.top { subcommand_required = true } })
-    (ap app_of_fields c.after_help.ensures ∙ (ap app_of_fields c.about-2.ensures ∙ c.new-3.ensures.app)) in
+    (ap app_of_fields c.after_help.ensures ∙ (ap app_of_fields c.about-2.ensures ∙ (ap app_of_fields c.version.ensures
+    ∙ ap (λ (a : App). record a { top = record a.top { has_version = true } }) c.new-3.ensures.app))) in
     let local : (out-Command c.about.result).has_globals ≡ false = ap (λ (f : Command-F Command). f.has_globals) c.about.ensures ∙ c.new-2.ensures.local in
     let own : c.help-deck.result.global ≡ false = search rules in
     let none : (out-Command c.in_ok-show.show).has_globals ≡ false = c.in_ok-show.ensures.globals
