@@ -8,7 +8,7 @@ use Rattle.iocm_model.specs.Tree.{ChangeTree}
 use Rattle.iocm_history.specs.Entry.{Call, at, activate, undo, redo, show, History}
 use Rattle.iocm_history.specs.Journal.{Journal}
 use Rattle.iocm_history.specs.Legal.{activated, entry_in, entry_of, IsRight, IsLegal}
-use Rattle.iocm_history.specs.HistoryExamples.{RunsAreLegal}
+use Rattle.iocm_history.specs.HistoryLaws.{RunsAreLegal}
 
 -- an entry is that of its call
 activated_call : (p : ChangeTree) (n : ℕ) (s : State) (o : Outcome) → (activated p n s o).call ≡ activate p

@@ -3,7 +3,6 @@ pub mod Counting
 pub mod EntriesAfter
 pub mod JournalOrder
 pub mod LegalRuns
-pub mod ListedHistories
 pub mod Marks
 pub mod NoChange
 pub mod NoLaterChange
@@ -17,4 +16,3 @@ pub mod StepsAlone
 pub mod UndoneRun
 pub mod UndoneStates
 pub mod Untouched
-pub mod WorkedRuns

@@ -6,11 +6,12 @@ use Rattle.iocm_types.specs.declared.answer.Answer.TheVariants.{Changed, Undone,
 use Rattle.iocm_types.specs.declared.answer.Answer.TheVariants as answers
 use Rattle.iocm_types.specs.declared.sub_id.SubId.{SubId}
 use Rattle.iocm_model.specs.State.{State}
-use Rattle.iocm_history.specs.Entry.{undo, redo, Entry, History, plain_entry}
+use Rattle.iocm_history.specs.Entry.{Call, undo, redo, Entry, History, plain_entry}
 use Rattle.iocm_history.specs.MarkedEntry.{Mark, kept, undone_with, lost, MarkedEntry, is_change, is_step_on, struck_if, strike, taken_back, altered_by_change, marked_entries}
 use Rattle.iocm_history.specs.Replay.{replay, state_at}
 use Rattle.iocm_history.specs.Journal.{is_in, journal_of}
 use Rattle.iocm_history.specs.Legal.{IsLegal}
+use Rattle.iocm_history.specs.Run.{run}
 
 -- no entry is struck by an undo of this change
 abbrev pub IsUnmarked : ℕ → List MarkedEntry → Type 0
@@ -80,3 +81,7 @@ RedoTakesUndoBack = (opening : State) (h between : History) (n : ℕ)
     → let ls = marked_entries (between ++ plain_entry (undo n) (Undone n) ∷ h) in
     state_at opening (plain_entry (redo n) (Redone n) ∷ between ++ plain_entry (undo n) (Undone n) ∷ h)
     ≡ replay (state_at opening h) (struck_steps (altered_by_change n ls) lost (take (length between) ls))
+
+-- a run of calls is a legal history
+abbrev pub RunsAreLegal : Type 0
+RunsAreLegal = (opening : State) (calls : List Call) → IsLegal opening (run opening calls)

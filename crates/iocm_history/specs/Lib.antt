@@ -1,6 +1,5 @@
 pub mod Journal
 pub mod Entry
-pub mod HistoryExamples
 pub mod HistoryLaws
 pub mod Legal
 pub mod MarkedEntry

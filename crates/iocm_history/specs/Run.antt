@@ -1,4 +1,4 @@
--- Runs of calls, for worked examples: the history that calls make one after the other where memory is there.
+-- Runs of calls: the history that calls make one after the other where memory is there.
 use Rattle.std.specs.Prelude.{List, [], ◌∷◌, fold, map}
 use Rattle.iocm_types.specs.declared.answer.Answer.{Answer}
 use Rattle.iocm_model.specs.State.{State}

@@ -6,6 +6,7 @@ ghost use Rattle.iocm_history.specs.HistoryLaws.{
   UndoLeavesTheRunWithout,
   UndoGoesBackToTheStateBefore,
   RedoTakesUndoBack,
+  RunsAreLegal,
 };
 
 /// What an undo newly struck, taken back, is as it was before the undo.
@@ -44,4 +45,9 @@ pub fn undo_goes_back_to_the_state_before()
 /// came between them without the steps on the subchannels that the change altered.
 pub fn redo_takes_undo_back()
     ensures { RedoTakesUndoBack }
+{}
+
+/// Runs of calls are legal histories.
+pub fn runs_are_legal()
+    ensures { RunsAreLegal }
 {}

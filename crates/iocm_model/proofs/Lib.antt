@@ -5,13 +5,6 @@ pub mod FirstNumbers
 pub mod Found
 pub mod InverseCells
 pub mod LeastNotQuiet
-pub mod Listed
-pub mod ListedEffects
-pub mod ListedMaps
-pub mod ListedRules
-pub mod ListedStates
-pub mod ListedTrees
-pub mod ListedViews
 pub mod LivesEdited
 pub mod Lowest
 pub mod MapCells
@@ -22,7 +15,6 @@ pub mod NumbersChanged
 pub mod NumbersFreed
 pub mod NumbersOpened
 pub mod NumbersTwice
-pub mod OnLists
 pub mod Overwriting
 pub mod OwnKeys
 pub mod Parts
@@ -30,6 +22,3 @@ pub mod RunsGoBack
 pub mod SameViews
 pub mod Steps
 pub mod Trees
-pub mod Worked
-pub mod WorkedChanges
-pub mod WorkedRules

@@ -1,10 +1,7 @@
-pub mod BaseDeck
-pub mod ChangeExamples
 pub mod Configuration
 pub mod Edit
 pub mod EditLaws
 pub mod Effect
-pub mod Examples
 pub mod FirstBreach
 pub mod Inverse
 pub mod InverseTree
@@ -14,14 +11,12 @@ pub mod Mask
 pub mod Meaning
 pub mod Naming
 pub mod Numbering
-pub mod OrderExamples
 pub mod Orders
 pub mod PathList
 pub mod Record
 pub mod Refusal
 pub mod Renumbering
 pub mod RenumberingLaws
-pub mod RuleExamples
 pub mod Rules
 pub mod Sight
 pub mod State

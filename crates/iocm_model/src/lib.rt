@@ -6,26 +6,18 @@
 //! in them. A reviewer reads these files, in the order of `docs/DEFINITIONS.md`, to know what is claimed.
 //!
 //! The functions here have empty bodies. Their contracts are laws of the definitions (`laws`, `numbering_laws`,
-//! `edit_laws`, `tree_laws`), and worked examples that the prover computes from them, on the example deck and variants
-//! of it (`examples`, `change_examples`).
+//! `edit_laws`, `tree_laws`). Worked examples stand in `iocm_examples`.
 #![tactic(auto)]
 
-mod change_examples;
 mod edit_laws;
-mod examples;
 mod laws;
 mod numbering_laws;
 mod tree_laws;
 
-pub use change_examples::{
-    effects_are_as_worked, numbers_change_as_worked, paths_change_as_worked,
-    refusals_are_as_worked, rules_are_as_worked, trees_are_as_worked,
-};
 pub use edit_laws::{
     an_edit_alters_what_differs, edits_go_back, edits_write_their_effect, states_stay_sound,
     steps_elsewhere_pass, the_least_subchannel_is_named,
 };
-pub use examples::{numbers_are_as_worked, orders_are_as_worked, views_are_as_worked};
 pub use laws::{
     opening_is_a_numbering, the_first_breach_is_first, the_lowest_free_number_is_free,
     the_nodes_of_a_tree_are_bounded, views_are_listed,

@@ -1,0 +1,346 @@
+-- Runs of calls on the example deck, computed on histories as lists.
+use Rattle.std.proofs.Common.{◌≡◌, ℕ, true, List, [], ◌∷◌, map, reverse, take, refl, ap, ◌∙◌}
+use Rattle.std.specs.FinMap.{get, find, get-entries}
+use Rattle.iocm_types.specs.declared.key.Key.{Key}
+use Rattle.iocm_types.specs.declared.order.Order.{Order}
+use Rattle.iocm_types.specs.declared.order.Order.TheVariants.{Start, Clear, Test, Store, Modify}
+use Rattle.iocm_types.specs.declared.sub_id.SubId.{SubId}
+use Rattle.iocm_types.specs.Key.{key_cmp}
+use Rattle.iocm_types.specs.Place.{place_cmp}
+use Rattle.iocm_types.specs.SubId.{sub_id_cmp}
+use Rattle.iocm_examples.specs.BaseDeck.{lpb, online_record, device_on_1000, device_key, subchannel}
+use Rattle.iocm_model.specs.Step.{order, device_end}
+use Rattle.iocm_model.specs.Renumbering.{gap_from}
+use Rattle.iocm_model.specs.Rules.{first_record, first_breach_of}
+use Rattle.iocm_examples.specs.Edits.{base_opened}
+use Rattle.iocm_examples.proofs.Listed.Views.{renumbered_listed}
+use Rattle.iocm_examples.proofs.Listed.States.{ListedState, listing, record_at_is, live_at_is, ListedEdit, edited_listed, refusal_listed, stepped_listed, answer_listed}
+use Rattle.iocm_examples.proofs.Listed.Rules.{first_breach_listed}
+use Rattle.iocm_examples.proofs.Listed.Effects.{edited_all_listed, edits_cells_listed, edit_cells_listed, values_listed, written_listed}
+use Rattle.iocm_examples.proofs.Listed.Trees.{one, in_group, in_choose, no_parts, parts_listed, mean_listed, meaning_listed}
+use Rattle.iocm_examples.proofs.Computed.Edits.{base_listing, base_is, plain_add, plain_delete}
+use Rattle.iocm_history.specs.MarkedEntry.{MarkedEntry, marked_entries}
+use Rattle.iocm_history.specs.Replay.{state_at}
+use Rattle.iocm_history.specs.Run.{run, answers_of}
+use Rattle.iocm_examples.specs.Histories.{Answers, number_of, LatestFirst, AChooseUndone, StepsElsewhere, PendingStatus, three_changes, empty_changes, a_path_comes_online, APathUndone, ABusyUndo, ABusyRedo, UndoneInTurn}
+use Rattle.iocm_examples.proofs.Listed.Histories.{ListedLine, lines_listing, ListedCall, stepping, activating, undoes, redoes, shows, calls_from, ListedHistory, strike_lines, restore_lines, replay_lines, call_listed, calls_listed, ComeRight, uncalled, run_is, last_state_is, first_come_right}
+
+-- a change of one edit
+abbrev changes : ListedEdit → ListedCall
+changes e = activating (one e) (e ∷ [])
+
+-- an order
+abbrev ordered : SubId → Order → ListedCall
+ordered x o = stepping x (order o)
+
+-- a device end
+abbrev ended : SubId → ListedCall
+ended x = stepping x device_end
+
+-- MODIFY with this mask and parameter, that enables
+abbrev enabled : SubId → ℕ → ℕ → ListedCall
+enabled x lpm parm = ordered x (Modify (record { enabled = true; lpm = lpm; parm = parm }))
+
+-- the history that calls make on the example deck, with all that computes it unfolded
+unfoldable made_by : List ListedCall → ListedHistory
+unfolding base_listing meaning_listed mean_listed edited_all_listed edited_listed refusal_listed first_breach_listed renumbered_listed gap_from
+    first_record first_breach_of edits_cells_listed edit_cells_listed values_listed written_listed stepped_listed answer_listed
+    strike_lines restore_lines replay_lines call_listed calls_listed ComeRight
+made_by cs = calls_listed base_listing cs uncalled
+
+-- its last state
+abbrev left_by : List ListedCall → ListedState
+left_by cs = replay_lines base_listing (made_by cs).marked
+
+-- each call comes with the edits that it performs
+abbrev AreRight : List ListedCall → Type 0
+AreRight cs = ComeRight base_listing cs uncalled
+
+-- the answers of a run are those of its listing
+answers_are : (cs : List ListedCall) → AreRight cs → reverse (answers_of (run base_opened (calls_from cs))) ≡ reverse (made_by cs).answers
+unfolding made_by
+answers_are cs right = ap (λ (m : ListedHistory). reverse m.answers) (run_is base_opened base_listing base_is cs right)
+
+-- the state after the first calls of a run is that of its listing
+state_is : (n : ℕ) (cs : List ListedCall) → AreRight cs
+    → listing (state_at base_opened (run base_opened (calls_from (take n cs)))) ≡ left_by (take n cs)
+unfolding made_by
+state_is n cs right = last_state_is base_opened base_listing base_is (take n cs) (first_come_right base_listing n cs uncalled right)
+
+-- a listing has the marks of its lines
+marks_seen : (ls : List MarkedEntry) → map (λ (l : MarkedEntry). l.mark) ls ≡ map (λ (l : ListedLine). l.mark) (lines_listing ls)
+marks_seen [] = refl
+marks_seen (l ∷ ls) = ap (λ ms. l.mark ∷ ms) (marks_seen ls)
+
+-- the marks after the first calls of a run are those of its listing
+marks_are : (n : ℕ) (cs : List ListedCall) → AreRight cs
+    → reverse (map (λ (l : MarkedEntry). l.mark) (marked_entries (run base_opened (calls_from (take n cs)))))
+    ≡ reverse (map (λ (l : ListedLine). l.mark) (made_by (take n cs)).marked)
+unfolding made_by
+marks_are n cs right = ap reverse (marks_seen (marked_entries (run base_opened (calls_from (take n cs))))
+    ∙ ap (λ (m : ListedHistory). map (λ (l : ListedLine). l.mark) m.marked)
+    (run_is base_opened base_listing base_is (take n cs) (first_come_right base_listing n cs uncalled right)))
+
+-- the number of a device there
+number_is : (n : ℕ) (cs : List ListedCall) → AreRight cs → (d : ℕ)
+    → number_of d (state_at base_opened (run base_opened (calls_from (take n cs))))
+    ≡ find place_cmp (record { css = 0; set = 0; device = d }) (left_by (take n cs)).numbers
+number_is n cs right d = let s = state_at base_opened (run base_opened (calls_from (take n cs))) in
+    get-entries s.numbers (record { css = 0; set = 0; device = d })
+    ∙ ap (λ (y : ListedState). find place_cmp (record { css = 0; set = 0; device = d }) y.numbers) (state_is n cs right)
+
+-- the record of a key there
+record_is : (n : ℕ) (cs : List ListedCall) → AreRight cs → (key : Key)
+    → get (state_at base_opened (run base_opened (calls_from (take n cs)))).config key ≡ find key_cmp key (left_by (take n cs)).records
+record_is n cs right key = record_at_is _ _ key (state_is n cs right)
+
+-- the live record of a subchannel there
+live_is : (n : ℕ) (cs : List ListedCall) → AreRight cs → (x : SubId)
+    → get (state_at base_opened (run base_opened (calls_from (take n cs)))).lives x ≡ find sub_id_cmp x (left_by (take n cs)).lives
+live_is n cs right x = live_at_is _ _ x (state_is n cs right)
+
+abbrev latest_first_calls : List ListedCall
+latest_first_calls =
+    changes (plain_delete (device_key 0x1001))
+    ∷ changes (plain_add (device_on_1000 0x2000 0x04))
+    ∷ undoes 1
+    ∷ undoes 2
+    ∷ undoes 1
+    ∷ redoes 2
+    ∷ redoes 1
+    ∷ redoes 2
+    ∷ []
+
+pub latest_first_is : LatestFirst
+unfolding made_by
+latest_first_is =
+    let right : AreRight latest_first_calls = (refl, (refl, tt)) in record {
+      answers = answers_are latest_first_calls right;
+      freed = number_is 2 latest_first_calls right 0x1001;
+      used_again = number_is 2 latest_first_calls right 0x2000;
+      back = number_is 5 latest_first_calls right 0x1001;
+      gone = number_is 5 latest_first_calls right 0x2000;
+      redone = number_is 8 latest_first_calls right 0x2000;
+      deleted_again = record_is 8 latest_first_calls right (device_key 0x1001);
+    }
+
+abbrev a_choose_undone_calls : List ListedCall
+a_choose_undone_calls =
+    enabled (subchannel 1 0) 0x80 0
+    ∷ ordered (subchannel 1 0) Start
+    ∷ activating (in_choose (parts_listed (plain_delete (device_key 0x1000) ∷ plain_delete (device_key 0x1003) ∷ [])))
+    (plain_delete (device_key 0x1003) ∷ [])
+    ∷ ordered (subchannel 1 3) Store
+    ∷ undoes 1
+    ∷ ordered (subchannel 1 3) Store
+    ∷ []
+
+pub a_choose_undone_is : AChooseUndone
+unfolding made_by
+a_choose_undone_is =
+    let right : AreRight a_choose_undone_calls = (refl, tt) in record {
+      answers = answers_are a_choose_undone_calls right;
+      stays = record_is 3 a_choose_undone_calls right (device_key 0x1000);
+      deleted = record_is 3 a_choose_undone_calls right (device_key 0x1003);
+      no_live = live_is 3 a_choose_undone_calls right (subchannel 1 3);
+      back = record_is 5 a_choose_undone_calls right (device_key 0x1003);
+      number = number_is 5 a_choose_undone_calls right 0x1003;
+      live = live_is 5 a_choose_undone_calls right (subchannel 2 3);
+    }
+
+abbrev steps_elsewhere_calls : List ListedCall
+steps_elsewhere_calls =
+    enabled (subchannel 1 2) 0x80 7
+    ∷ ordered (subchannel 1 2) Start
+    ∷ changes (plain_delete (device_key 0x1003))
+    ∷ ended (subchannel 1 2)
+    ∷ ordered (subchannel 1 2) Test
+    ∷ undoes 1
+    ∷ ordered (subchannel 1 2) Store
+    ∷ shows
+    ∷ []
+
+pub steps_elsewhere_is : StepsElsewhere
+unfolding made_by
+steps_elsewhere_is =
+    let right : AreRight steps_elsewhere_calls = (refl, tt) in record {
+      answers = answers_are steps_elsewhere_calls right;
+      marks = marks_are 6 steps_elsewhere_calls right;
+      live = live_is 6 steps_elsewhere_calls right (subchannel 1 2);
+    }
+
+abbrev pending_status_calls : List ListedCall
+pending_status_calls =
+    enabled (subchannel 1 1) 0x80 0
+    ∷ ordered (subchannel 1 1) Start
+    ∷ ended (subchannel 1 1)
+    ∷ changes (plain_delete (device_key 0x1001))
+    ∷ ordered (subchannel 1 1) Test
+    ∷ changes (plain_delete (device_key 0x1001))
+    ∷ []
+
+pub pending_status_is : PendingStatus
+unfolding made_by
+pending_status_is =
+    let right : AreRight pending_status_calls = (tt, (refl, tt)) in record {
+      answers = answers_are pending_status_calls right;
+      refused = number_is 4 pending_status_calls right 0x1001;
+      deleted = number_is 6 pending_status_calls right 0x1001;
+    }
+
+abbrev three_changes_calls : List ListedCall
+three_changes_calls =
+    activating (in_group no_parts) []
+    ∷ activating (in_group no_parts) []
+    ∷ activating (in_group no_parts) []
+    ∷ undoes 1
+    ∷ undoes 2
+    ∷ redoes 3
+    ∷ undoes 3
+    ∷ undoes 3
+    ∷ undoes 2
+    ∷ redoes 3
+    ∷ redoes 2
+    ∷ undoes 1
+    ∷ redoes 3
+    ∷ shows
+    ∷ []
+
+pub three_changes_answers : Answers three_changes
+unfolding made_by
+three_changes_answers =
+    answers_are three_changes_calls (refl, (refl, (refl, tt)))
+
+abbrev empty_changes_calls : List ListedCall
+empty_changes_calls =
+    activating (in_group no_parts) []
+    ∷ undoes 1
+    ∷ activating (in_choose no_parts) []
+    ∷ undoes 99
+    ∷ activating (in_group no_parts) []
+    ∷ redoes 1
+    ∷ redoes 99
+    ∷ shows
+    ∷ []
+
+pub empty_changes_answers : Answers empty_changes
+unfolding made_by
+empty_changes_answers = answers_are empty_changes_calls (refl, (tt, (refl, tt)))
+
+abbrev a_path_comes_online_calls : List ListedCall
+a_path_comes_online_calls =
+    enabled (subchannel 2 0) 0x40 0
+    ∷ ordered (subchannel 2 0) Start
+    ∷ changes (plain_add (online_record 0x51 lpb))
+    ∷ ordered (subchannel 2 0) Start
+    ∷ []
+
+pub a_path_comes_online_answers : Answers a_path_comes_online
+unfolding made_by
+a_path_comes_online_answers = answers_are a_path_comes_online_calls (refl, tt)
+
+abbrev a_path_undone_calls : List ListedCall
+a_path_undone_calls =
+    enabled (subchannel 2 0) 0x40 0
+    ∷ changes (plain_add (online_record 0x51 lpb))
+    ∷ enabled (subchannel 2 0) 0xC0 9
+    ∷ undoes 1
+    ∷ ordered (subchannel 2 0) Store
+    ∷ redoes 1
+    ∷ ordered (subchannel 2 0) Store
+    ∷ []
+
+pub a_path_undone_is : APathUndone
+unfolding made_by
+a_path_undone_is =
+    let right : AreRight a_path_undone_calls = (refl, tt) in record {
+      answers = answers_are a_path_undone_calls right;
+      struck = marks_are 4 a_path_undone_calls right;
+      back = marks_are 6 a_path_undone_calls right;
+      undone = live_is 4 a_path_undone_calls right (subchannel 2 0);
+      redone = live_is 6 a_path_undone_calls right (subchannel 2 0);
+    }
+
+abbrev a_busy_undo_calls : List ListedCall
+a_busy_undo_calls =
+    changes (plain_add (device_on_1000 0x1004 0x04))
+    ∷ enabled (subchannel 1 4) 0x80 0
+    ∷ ordered (subchannel 1 4) Start
+    ∷ undoes 1
+    ∷ ordered (subchannel 1 4) Clear
+    ∷ ended (subchannel 1 4)
+    ∷ ordered (subchannel 1 4) Test
+    ∷ undoes 1
+    ∷ ordered (subchannel 1 4) Store
+    ∷ redoes 1
+    ∷ ordered (subchannel 1 4) Store
+    ∷ []
+
+pub a_busy_undo_is : ABusyUndo
+unfolding made_by
+a_busy_undo_is =
+    let right : AreRight a_busy_undo_calls = (refl, tt) in record {
+      answers = answers_are a_busy_undo_calls right;
+      number = number_is 1 a_busy_undo_calls right 0x1004;
+      refused = number_is 4 a_busy_undo_calls right 0x1004;
+      struck = marks_are 8 a_busy_undo_calls right;
+      gone = live_is 8 a_busy_undo_calls right (subchannel 1 4);
+      back = marks_are 10 a_busy_undo_calls right;
+      redone = live_is 10 a_busy_undo_calls right (subchannel 1 4);
+    }
+
+abbrev a_busy_redo_calls : List ListedCall
+a_busy_redo_calls =
+    changes (plain_delete (device_key 0x1001))
+    ∷ undoes 1
+    ∷ enabled (subchannel 2 1) 0x80 0
+    ∷ ordered (subchannel 2 1) Start
+    ∷ enabled (subchannel 1 1) 0x80 0
+    ∷ ordered (subchannel 1 1) Start
+    ∷ redoes 1
+    ∷ ended (subchannel 1 1)
+    ∷ ordered (subchannel 1 1) Test
+    ∷ redoes 1
+    ∷ ended (subchannel 2 1)
+    ∷ ordered (subchannel 2 1) Test
+    ∷ redoes 1
+    ∷ ordered (subchannel 1 1) Store
+    ∷ undoes 1
+    ∷ ordered (subchannel 1 1) Store
+    ∷ []
+
+pub a_busy_redo_is : ABusyRedo
+unfolding made_by
+a_busy_redo_is =
+    let right : AreRight a_busy_redo_calls = (refl, tt) in record {
+      answers = answers_are a_busy_redo_calls right;
+      marks = marks_are 15 a_busy_redo_calls right;
+      live = live_is 15 a_busy_redo_calls right (subchannel 2 1);
+    }
+
+abbrev undone_in_turn_calls : List ListedCall
+undone_in_turn_calls =
+    changes (plain_add (device_on_1000 0x1004 0x04))
+    ∷ enabled (subchannel 1 4) 0x80 5
+    ∷ changes (plain_delete (device_key 0x1004))
+    ∷ ordered (subchannel 1 4) Store
+    ∷ undoes 2
+    ∷ ordered (subchannel 1 4) Store
+    ∷ undoes 1
+    ∷ redoes 1
+    ∷ ordered (subchannel 1 4) Store
+    ∷ redoes 2
+    ∷ ordered (subchannel 1 4) Store
+    ∷ undoes 2
+    ∷ ordered (subchannel 1 4) Store
+    ∷ []
+
+pub undone_in_turn_is : UndoneInTurn
+unfolding made_by
+undone_in_turn_is =
+    let right : AreRight undone_in_turn_calls = (refl, (refl, tt)) in record {
+      answers = answers_are undone_in_turn_calls right;
+      both_undone = marks_are 7 undone_in_turn_calls right;
+      first_redone = marks_are 8 undone_in_turn_calls right;
+      both_redone = marks_are 10 undone_in_turn_calls right;
+    }

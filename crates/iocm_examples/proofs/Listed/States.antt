@@ -1,0 +1,314 @@
+-- States as lists: what edits and steps do to them, and when an edit is refused.
+use Rattle.std.proofs.Common.{◌≡◌, ℕ, ◌&&◌, ◌||◌, Bool, not, is_some, Option, None, Some, List, map, filter, if◌then◌else◌, refl, sym, ap, ◌∙◌}
+use Rattle.std.specs.List.{filter_map, list_any}
+use Rattle.std.specs.Option.{option_map, option_or, option_eq, option_zip}
+use Rattle.std.specs.FinMap.{get, find, put, entries, entries_sorted, from_entries, retain_keys, get-entries, entries-insert}
+use Rattle.std.specs.FinMap.Entries.{where_key, is_sorted-where_key}
+use Rattle.iocm_types.specs.declared.key.Key.{Key}
+use Rattle.iocm_types.specs.declared.live.Live.{Live}
+use Rattle.iocm_types.specs.declared.place.Place.{Place}
+use Rattle.iocm_types.specs.declared.sub_id.SubId.{SubId}
+use Rattle.iocm_types.specs.declared.view.View.{View}
+use Rattle.iocm_types.specs.declared.answer.Answer.{Answer}
+use Rattle.iocm_types.specs.declared.refused.Refused.{Refused}
+use Rattle.iocm_types.specs.declared.rule.Rule.TheVariants.{E4}
+use Rattle.iocm_types.specs.Key.{key_cmp}
+use Rattle.iocm_types.specs.Place.{place_cmp}
+use Rattle.iocm_types.specs.SubId.{sub_id_cmp}
+use Rattle.iocm_types.proofs.KeyOrder.{keys_total, keys_exact, places_total, places_exact, sub_ids_total, sub_ids_exact}
+use Rattle.iocm_model.specs.Configuration.{Configuration}
+use Rattle.iocm_model.specs.Numbering.{Numbering, opening, is_reached_at, reached_places}
+use Rattle.iocm_model.specs.Renumbering.{renumbered}
+use Rattle.iocm_model.specs.View.{views}
+use Rattle.iocm_model.specs.State.{State, seen_in, Lives, Views, views_of, views_in, fresh_row, opened}
+use Rattle.iocm_model.specs.Edit.{Action, Edit, key_edited, record_after, config_edited, same_view, live_edited, lives_edited, edited, altered_between, is_altered}
+use Rattle.iocm_model.specs.Refusal.{refused_at, refused_by_key, same_cell, has_cell_twice, is_number_taken, is_not_quiet, first_not_quiet, refused_by_subchannel, refusal_of}
+use Rattle.iocm_model.specs.Inverse.{action_back, inverse_of}
+use Rattle.iocm_model.specs.Step.{Step, subchannel_in, step_answer, answer_in, live_stepped, lives_stepped, stepped}
+use Rattle.iocm_examples.proofs.Listed.Maps.{entries_in_order, put_all, put_or_without, keys_differing, same_by_entries, entries-from_entries, entries-retain_keys, entries-with_value, differing_seen}
+use Rattle.iocm_examples.proofs.Listed.Views.{Records, Numbers, ViewList, is_place_in, places_listed, places_seen, opening_listed, opening_seen, rows_listed, rows_seen, views_listed, views_seen, renumbered_listed, renumbered_seen}
+use Rattle.std.specs.List as lists
+use Rattle.iocm_types.specs.declared.refused.At.TheVariants as at
+
+-- live records as a list
+abbrev pub LiveList : Type 0
+LiveList = List (SubId × Live)
+
+-- a state as lists in order
+pub record ListedState : Type 0 where
+  pub records : Records
+  pub numbers : Numbers
+  pub lives : LiveList
+
+-- a state as it is listed
+abbrev pub listing : State → ListedState
+listing s = record { records = entries s.config; numbers = entries s.numbers; lives = entries s.lives }
+
+-- two states that are listed alike are one
+pub same_by_listing : (s t : State) → listing s ≡ listing t → s ≡ t
+same_by_listing s t is = λ i. record {
+  config = same_by_entries keys_total keys_exact s.config t.config (ap (λ (x : ListedState). x.records) is) i;
+  numbers = same_by_entries places_total places_exact s.numbers t.numbers (ap (λ (x : ListedState). x.numbers) is) i;
+  lives = same_by_entries sub_ids_total sub_ids_exact s.lives t.lives (ap (λ (x : ListedState). x.lives) is) i;
+}
+
+-- what is seen in a state
+abbrev pub views_at : ListedState → ViewList
+views_at x = views_listed x.records x.numbers
+
+-- a state at opening
+abbrev opened_with : Records → Numbers → ListedState
+opened_with es n = record { records = es; numbers = n; lives = put_all sub_id_cmp (map fresh_row (rows_listed es n)) }
+
+-- the state at opening of these records
+unfoldable pub opened_listed : Records → ListedState
+opened_listed es = opened_with es (opening_listed es)
+
+-- a configuration opens as its entries do
+pub opened_seen : (c : Configuration) → listing (opened c) ≡ opened_listed (entries c)
+unfolding opened_listed
+opened_seen c = λ i. record {
+  records = entries c;
+  numbers = opening_seen c i;
+  lives = (entries-from_entries sub_ids_total sub_ids_exact (map fresh_row (views c (opening c)))
+      ∙ ap (λ rows. put_all sub_id_cmp (map fresh_row rows)) (rows_seen c (opening c) ∙ ap (rows_listed (entries c)) (opening_seen c))) i;
+}
+
+-- an edit with its live records in a list
+pub record ListedEdit : Type 0 where
+  pub action : Action
+  pub places : List (Place × ℕ)
+  pub kept : LiveList
+
+-- the edit whose live records are those of the list
+abbrev pub edit_from : ListedEdit → Edit
+edit_from e = record { action = e.action; places = e.places; kept = from_entries e.kept }
+
+-- the live records after the views have changed
+abbrev lives_by : (SubId → Option View) → ViewList → (SubId → Option Live) → (SubId → Option Live) → LiveList
+lives_by old new kept lives = put_all sub_id_cmp (filter_map
+    (λ (e : SubId × View). option_map (λ (l : Live). (e.0, l)) (live_edited (old e.0) e.1 (kept e.0) (lives e.0))) new)
+
+-- the live records after the views have changed, on lists
+abbrev pub lives_listed : ViewList → ViewList → LiveList → LiveList → LiveList
+lives_listed old new kept lives = lives_by (λ x. find sub_id_cmp x old) new (λ x. find sub_id_cmp x kept) (λ x. find sub_id_cmp x lives)
+
+-- live records change as their entries do
+lives_seen : (old new : Views) (kept lives : Lives)
+    → entries (lives_edited old new kept lives) ≡ lives_listed (entries old) (entries new) (entries kept) (entries lives)
+lives_seen old new kept lives = entries-from_entries sub_ids_total sub_ids_exact _
+    ∙ (λ i. lives_by (λ x. get-entries old x i) (entries new) (λ x. get-entries kept x i) (λ x. get-entries lives x i))
+
+-- the records after an action, and the state after an edit
+abbrev records_edited : Action → Records → Records
+records_edited a es = put_or_without key_cmp (key_edited a) (record_after a) es
+
+-- a state after an edit, with these records and numbers
+abbrev edited_with : ListedEdit → ListedState → Records → Numbers → ListedState
+edited_with e x es n = record { records = es; numbers = n; lives = lives_listed (views_at x) (views_listed es n) (put_all sub_id_cmp e.kept) x.lives }
+
+-- a state after an edit, with these records
+abbrev edited_to : ListedEdit → ListedState → Records → ListedState
+edited_to e x es = edited_with e x es (renumbered_listed es e.places x.numbers)
+
+-- a state after an edit
+unfoldable pub edited_listed : ListedEdit → ListedState → ListedState
+edited_listed e x = edited_to e x (records_edited e.action x.records)
+
+-- an action does to a configuration what it does to its entries
+records_seen : (a : Action) (c : Configuration) → entries (config_edited a c) ≡ records_edited a (entries c)
+records_seen a c = entries-with_value keys_total keys_exact c (key_edited a) (record_after a)
+
+-- an edit does to the numbers of a state what it does to their entries
+numbers_seen : (e : ListedEdit) (s : State) → entries (renumbered (config_edited e.action s.config) e.places s.numbers)
+    ≡ renumbered_listed (records_edited e.action (entries s.config)) e.places (entries s.numbers)
+numbers_seen e s = renumbered_seen (config_edited e.action s.config) e.places s.numbers
+    ∙ ap (λ es. renumbered_listed es e.places (entries s.numbers)) (records_seen e.action s.config)
+
+-- an edit does to a state what it does to its lists
+pub edited_seen : (e : ListedEdit) (s : State) → listing (edited (edit_from e) s) ≡ edited_listed e (listing s)
+unfolding edited_listed
+edited_seen e s =
+    let c = config_edited e.action s.config in
+    let n = renumbered c e.places s.numbers in
+    λ i. record {
+      records = records_seen e.action s.config i;
+      numbers = numbers_seen e s i;
+      lives = (lives_seen (views_in s) (views_of c n) (from_entries e.kept) s.lives
+          ∙ (λ j. lives_listed (views_seen s.config s.numbers j)
+          ((views_seen c n ∙ (λ k. views_listed (records_seen e.action s.config k) (numbers_seen e s k))) j)
+          (entries-from_entries sub_ids_total sub_ids_exact e.kept j) (entries s.lives))) i;
+    }
+
+-- the subchannels whose views differ
+abbrev pub altered_listed : ListedState → ListedState → List SubId
+altered_listed x y = keys_differing sub_id_cmp same_view (views_at x) (views_at y)
+
+-- the subchannels that are altered between two states are those of their lists
+pub altered_seen : (s t : State) → altered_between s t ≡ altered_listed (listing s) (listing t)
+altered_seen s t = differing_seen sub_ids_total sub_ids_exact same_view (views_in s) (views_in t)
+    ∙ (λ i. keys_differing sub_id_cmp same_view (views_seen s.config s.numbers i) (views_seen t.config t.numbers i))
+
+-- a carried number is taken
+abbrev taken_of : List (Place × ℕ) → Numbers → Bool
+taken_of arriving staying = list_any (λ p. list_any (same_cell p) staying) arriving || has_cell_twice arriving
+
+-- by the places that are reached, the numbers and those of devices that stay
+abbrev taken_by : List Place → (Place → Option ℕ) → Numbers → List (Place × ℕ) → Bool
+taken_by places number_at staying carried =
+    taken_of (filter (λ (e : Place × ℕ). is_place_in places e.0 && not (is_some (number_at e.0))) carried) staying
+
+-- among these numbers
+abbrev taken_in : Numbers → List (Place × ℕ) → List Place → Bool
+taken_in n carried places = taken_by places (λ p. find place_cmp p n) (where_key place_cmp (is_place_in places) n) carried
+
+-- among these numbers, once the records are these
+abbrev pub taken_listed : Records → Numbers → List (Place × ℕ) → Bool
+taken_listed es n carried = taken_in n carried (places_listed es)
+
+-- a carried number is taken in a numbering as it is in its entries
+pub taken_seen : (c : Configuration) (n : Numbering) (carried : List (Place × ℕ))
+    → is_number_taken c n carried ≡ taken_listed (entries c) (entries n) carried
+taken_seen c n carried =
+    (λ i. taken_by (reached_places c) (λ p. get-entries n p i) (entries-retain_keys places_total places_exact n (is_reached_at c) i) carried)
+    ∙ ap (taken_in (entries n) carried) (places_seen c)
+
+-- the first subchannel that isn't quiet
+abbrev busy_by : (SubId → Option Live) → List SubId → Option SubId
+busy_by live_at xs = lists.find (λ x. is_not_quiet (live_at x)) xs
+
+-- among these live records
+abbrev pub busy_listed : LiveList → List SubId → Option SubId
+busy_listed lives xs = busy_by (λ x. find sub_id_cmp x lives) xs
+
+-- the first subchannel that isn't quiet is that of the list
+pub busy_seen : (lives : Lives) (xs : List SubId) → first_not_quiet lives xs ≡ busy_listed (entries lives) xs
+busy_seen lives xs = λ i. busy_by (λ x. get-entries lives x i) xs
+
+-- why an edit is refused
+abbrev refused_by : Action → Bool → Bool → Option SubId → Option Refused
+refused_by a there taken busy = option_or (refused_by_key a there)
+    (option_or (if taken then Some (refused_at E4 (at.Key (key_edited a))) else None) (refused_by_subchannel busy))
+
+-- why an edit is refused in a state, on lists
+unfoldable pub refusal_listed : ListedEdit → ListedState → Option Refused
+refusal_listed e x = refused_by e.action (is_some (find key_cmp (key_edited e.action) x.records))
+    (taken_listed (records_edited e.action x.records) x.numbers e.places) (busy_listed x.lives (altered_listed x (edited_listed e x)))
+
+-- an edit is refused in a state as it is in its lists
+pub refusal_seen : (e : ListedEdit) (s : State) → refusal_of (edit_from e) s ≡ refusal_listed e (listing s)
+unfolding refusal_listed
+refusal_seen e s =
+    let t = edited (edit_from e) s in
+    let taken = taken_seen (config_edited e.action s.config) s.numbers e.places
+    ∙ ap (λ es. taken_listed es (entries s.numbers) e.places) (records_seen e.action s.config) in
+    let busy = busy_seen s.lives (altered_between s t)
+    ∙ ap (busy_listed (entries s.lives)) (altered_seen s t ∙ ap (altered_listed (listing s)) (edited_seen e s)) in
+    λ i. refused_by e.action (is_some (get-entries s.config (key_edited e.action) i)) (taken i) (busy i)
+
+-- the inverse of an edit, between two states
+abbrev kept_by : (SubId → Option View) → (SubId → Option View) → LiveList → LiveList
+kept_by old new lives = where_key sub_id_cmp (λ x. not (option_eq same_view (old x) (new x))) lives
+
+-- the live records of the subchannels whose views differ
+abbrev kept_listed : ViewList → ViewList → LiveList → LiveList
+kept_listed v w lives = kept_by (λ x. find sub_id_cmp x v) (λ x. find sub_id_cmp x w) lives
+
+-- the inverse of an edit, between two states
+abbrev inverse_to : ListedEdit → ListedState → ListedState → ListedEdit
+inverse_to e x y = record {
+  action = action_back (key_edited e.action) (find key_cmp (key_edited e.action) x.records) (record_after e.action);
+  places = filter (λ (p : Place × ℕ). not (is_some (find place_cmp p.0 y.numbers))) x.numbers;
+  kept = kept_listed (views_at x) (views_at y) x.lives;
+}
+
+-- the inverse of an edit in a state
+unfoldable pub inverse_listed : ListedEdit → ListedState → ListedEdit
+inverse_listed e x = inverse_to e x (edited_listed e x)
+
+-- the live records of the subchannels that are altered
+kept_seen : (s t : State)
+    → retain_keys s.lives (is_altered s t) ≡ from_entries (kept_listed (views_at (listing s)) (views_at (listing t)) (entries s.lives))
+kept_seen s t = same_by_entries sub_ids_total sub_ids_exact _ _ (entries-retain_keys sub_ids_total sub_ids_exact s.lives (is_altered s t)
+    ∙ sym (entries_in_order sub_id_cmp sub_ids_total sub_ids_exact _
+    (is_sorted-where_key sub_id_cmp (is_altered s t) (entries s.lives) (entries_sorted s.lives))))
+    ∙ (λ i. from_entries (kept_by (λ x. get-entries (views_in s) x i) (λ x. get-entries (views_in t) x i) (entries s.lives)))
+    ∙ (λ i. from_entries (kept_listed (views_seen s.config s.numbers i) (views_seen t.config t.numbers i) (entries s.lives)))
+
+-- the inverse of an edit in a state is that in its lists
+pub inverse_seen : (e : ListedEdit) (s : State) → inverse_of (edit_from e) s ≡ edit_from (inverse_listed e (listing s))
+unfolding inverse_listed
+inverse_seen e s =
+    let t = edited (edit_from e) s in
+    (λ i. record {
+      action = action_back (key_edited e.action) (get-entries s.config (key_edited e.action) i) (record_after e.action);
+      places = filter (λ (p : Place × ℕ). not (is_some (get-entries t.numbers p.0 i))) (entries s.numbers);
+      kept = kept_seen s t i;
+    }) ∙ ap (λ y. edit_from (inverse_to e (listing s) y)) (edited_seen e s)
+
+-- a subchannel as it is
+abbrev subchannel_listed : ListedState → SubId → Option (View × Live)
+subchannel_listed x at = option_zip (find sub_id_cmp at (views_at x)) (find sub_id_cmp at x.lives)
+
+-- a subchannel is in a state as it is in its lists
+pub subchannel_seen : (s : State) (x : SubId) → subchannel_in s x ≡ subchannel_listed (listing s) x
+subchannel_seen s x =
+    λ i. option_zip ((get-entries (views_in s) x ∙ ap (find sub_id_cmp x) (views_seen s.config s.numbers)) i) (get-entries s.lives x i)
+
+-- what is seen at a subchannel, and its live record, in a state that is listed
+pub seen_at_is : (s : State) (y : ListedState) (x : SubId) → listing s ≡ y → seen_in s x ≡ find sub_id_cmp x (views_at y)
+seen_at_is s y x is =
+    get-entries (views_in s) x ∙ ap (find sub_id_cmp x) (views_seen s.config s.numbers) ∙ ap (λ z. find sub_id_cmp x (views_at z)) is
+
+-- the live record at a subchannel, in a state that is listed
+pub live_at_is : (s : State) (y : ListedState) (x : SubId) → listing s ≡ y → get s.lives x ≡ find sub_id_cmp x y.lives
+live_at_is s y x is = get-entries s.lives x ∙ ap (λ (z : ListedState). find sub_id_cmp x z.lives) is
+
+-- the record of a key, in a state that is listed
+pub record_at_is : (s : State) (y : ListedState) (key : Key) → listing s ≡ y → get s.config key ≡ find key_cmp key y.records
+record_at_is s y key is = get-entries s.config key ∙ ap (λ (z : ListedState). find key_cmp key z.records) is
+
+-- the number of a place, in a state that is listed
+pub number_at_is : (s : State) (y : ListedState) (p : Place) → listing s ≡ y → get s.numbers p ≡ find place_cmp p y.numbers
+number_at_is s y p is = get-entries s.numbers p ∙ ap (λ (z : ListedState). find place_cmp p z.numbers) is
+
+-- the answer to a step
+unfoldable pub answer_listed : ListedState → SubId → Step → Answer
+answer_listed x at step = step_answer step (subchannel_listed x at)
+
+-- a step is answered in a state as it is in its lists
+pub answer_seen : (s : State) (x : SubId) (step : Step) → answer_in s x step ≡ answer_listed (listing s) x step
+unfolding answer_listed
+answer_seen s x step = ap (step_answer step) (subchannel_seen s x)
+
+-- the state after a step
+abbrev lives_after_step : SubId → Step → Option (View × Live) → LiveList → LiveList
+lives_after_step at step (Some p) lives = put sub_id_cmp at (live_stepped step p.0 p.1) lives
+lives_after_step at step None lives = lives
+
+-- the lists of a state after a step
+unfoldable pub stepped_listed : SubId → Step → ListedState → ListedState
+stepped_listed at step x = record { records = x.records; numbers = x.numbers; lives = lives_after_step at step (subchannel_listed x at) x.lives }
+
+-- a step does to live records what it does to their entries
+after_step_seen : (x : SubId) (step : Step) (o : Option (View × Live)) (lives : Lives)
+    → entries (lives_stepped x step o lives) ≡ lives_after_step x step o (entries lives)
+after_step_seen x step (Some p) lives = entries-insert sub_ids_total lives x (live_stepped step p.0 p.1)
+after_step_seen x step None lives = refl
+
+-- a step does to a state what it does to its lists
+pub stepped_seen : (x : SubId) (step : Step) (s : State) → listing (stepped x step s) ≡ stepped_listed x step (listing s)
+unfolding stepped_listed
+stepped_seen x step s = λ i. record {
+  records = entries s.config;
+  numbers = entries s.numbers;
+  lives = (after_step_seen x step (subchannel_in s x) s.lives ∙ ap (λ o. lives_after_step x step o (entries s.lives)) (subchannel_seen s x)) i;
+}
+
+-- an answer and a step, in a state that is listed
+pub answer_is : (s : State) (y : ListedState) (x : SubId) (step : Step) → listing s ≡ y → answer_in s x step ≡ answer_listed y x step
+answer_is s y x step is = answer_seen s x step ∙ ap (λ z. answer_listed z x step) is
+
+-- a step, in a state that is listed
+pub stepped_is : (x : SubId) (step : Step) (s : State) (y : ListedState) → listing s ≡ y → listing (stepped x step s) ≡ stepped_listed x step y
+stepped_is x step s y is = stepped_seen x step s ∙ ap (stepped_listed x step) is

@@ -1,0 +1,11 @@
+pub mod BaseDeck
+pub mod Edits
+pub mod Effects
+pub mod Histories
+pub mod Numbers
+pub mod Orders
+pub mod Paths
+pub mod Refusals
+pub mod Rules
+pub mod Trees
+pub mod Views

@@ -1,0 +1,31 @@
+//! Worked examples, and no code that runs: what the definitions of `iocm_model` and `iocm_history` give on an example deck
+//! and its variants, as it was stated by hand from the books, and as the prover computes it from them.
+//!
+//! Each file in `specs/` states the examples of one subject; begin with `BaseDeck`, which has the deck. The functions here have
+//! empty bodies, and their contracts are the examples. The kit's finite maps don't compute by themselves, so `proofs/Listed` has
+//! each definition on sorted lists, with the lemma that the two agree, and `proofs/Computed` closes each example on them. Nothing
+//! stands on this crate.
+#![tactic(auto)]
+
+mod effects;
+mod histories;
+mod numbers;
+mod orders;
+mod paths;
+mod refusals;
+mod rules;
+mod trees;
+mod views;
+
+pub use effects::effects_are_as_worked;
+pub use histories::{
+    steps_elsewhere_are_as_worked, steps_on_altered_subchannels_are_as_worked,
+    undo_and_redo_are_as_worked,
+};
+pub use numbers::numbers_are_as_worked;
+pub use orders::orders_are_as_worked;
+pub use paths::paths_change_as_worked;
+pub use refusals::refusals_are_as_worked;
+pub use rules::rules_are_as_worked;
+pub use trees::trees_are_as_worked;
+pub use views::views_are_as_worked;

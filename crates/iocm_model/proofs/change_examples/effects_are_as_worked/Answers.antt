@@ -1,9 +1,0 @@
--- Each is computed on states as lists.
-use Rattle.iocm_model.proofs.WorkedChanges.{an_inverse, effects}
-use Rattle.iocm_model.proofs.change_examples.effects_are_as_worked.Goals as goal
-
-pub returns-clause-inverse : goal.returns-clause-inverse
-returns-clause-inverse c = an_inverse
-
-pub returns-clause-effects : goal.returns-clause-effects
-returns-clause-effects c = effects
