@@ -9,8 +9,8 @@ use Rattle.iocm_types.specs.Key.{key_cmp}
 use Rattle.iocm_types.proofs.KeyOrder.{keys_total, keys_exact}
 use Rattle.iocm_types.proofs.Sorted as sorted
 use Rattle.iocm_types.proofs.Sorted.{IsPlace, IsGap}
-use Rattle.iocm_model.specs.Record.{Rec, key_of}
-use Rattle.iocm_model.specs.Configuration.{Configuration, keyed, HasNoKeyTwice, IsKeyed}
+use Rattle.iocm_model.specs.Machine.Record.{Rec, key_of}
+use Rattle.iocm_model.specs.Machine.Configuration.{Configuration, keyed, HasNoKeyTwice, IsKeyed}
 use Rattle.iocm_types.proofs.Permuted.{NoKeyTwice}
 
 -- the records stand in the order of their keys

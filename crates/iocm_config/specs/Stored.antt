@@ -1,6 +1,6 @@
 -- A configuration in memory.
 use Rattle.std.specs.Prelude.{ℕ}
-use Rattle.iocm_model.specs.Configuration.{Configuration}
+use Rattle.iocm_model.specs.Machine.Configuration.{Configuration}
 
 -- its records, and how many more can be put in without memory
 pub record Stored : Type 0 where

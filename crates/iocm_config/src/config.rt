@@ -1,8 +1,8 @@
 ghost use Rattle.std.specs.Prelude.{◌≡◌, ◌+◌, ◌<◌, ◌≤◌, ◌⊎◌, IfOk, OnOk, IsOk, IsSome, IsNone};
 ghost use Rattle.std.specs.Option.{option_copied};
 ghost use Rattle.std.specs.FinMap as map;
-ghost use Rattle.iocm_model.specs.Record.{key_of};
-ghost use Rattle.iocm_model.specs.Configuration.{keyed, configuration_of, HasNoKeyTwice, IsKeyed};
+ghost use Rattle.iocm_model.specs.Machine.Record.{key_of};
+ghost use Rattle.iocm_model.specs.Machine.Configuration.{keyed, configuration_of, HasNoKeyTwice, IsKeyed};
 
 use crate::search::{search, search_near};
 use iocm_records::Record;
@@ -23,7 +23,7 @@ impl<A: Allocator> Model for Config<A> {
     ghost use Rattle.std.specs.FinMap as map;
     ghost use Rattle.std.specs.Coded.{code_by, coded×, coded_ℕ};
     ghost use Rattle.iocm_types.specs.Key.{key_cmp};
-    ghost use Rattle.iocm_model.specs.Configuration.{Configuration, keyed};
+    ghost use Rattle.iocm_model.specs.Machine.Configuration.{Configuration, keyed};
     ghost use Rattle.iocm_config.specs.Stored.{Stored};
     ghost use Rattle.std.specs.Coded.{codes};
 

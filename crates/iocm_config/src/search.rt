@@ -4,7 +4,7 @@ ghost use Rattle.std.specs.List.{HoldsAt};
 ghost use Rattle.std.specs.declared.cmp.Ordering.TheVariants.{Equal};
 ghost use Rattle.std.specs.List.Sorted.{IsSearchInRange, IsBinarySearchResult};
 ghost use Rattle.iocm_types.specs.Key.{key_cmp};
-ghost use Rattle.iocm_model.specs.Record.{key_of};
+ghost use Rattle.iocm_model.specs.Machine.Record.{key_of};
 
 use iocm_records::Record;
 use iocm_types::Key;

@@ -11,14 +11,14 @@ use Rattle.iocm_numbers.specs.Numbered.{celled}
 use Rattle.iocm_records.specs.declared.record.RecordBody.{RecordBody}
 use Rattle.iocm_records.specs.declared.record.RecordBody.TheVariants as body
 use Rattle.iocm_records.specs.Meaning.{record_of}
-use Rattle.iocm_model.specs.Record.{Rec, ImageRecord, image}
+use Rattle.iocm_model.specs.Machine.Record.{Rec, ImageRecord, image}
 use Rattle.std.specs.FinMap.{entries}
 use Rattle.iocm_types.specs.declared.key.Key.{Key}
 use Rattle.iocm_types.specs.declared.sub_id.SubId.{SubId}
-use Rattle.iocm_model.specs.Configuration.{Configuration, Lookup, lookup_of, keyed, image_of, records_of}
-use Rattle.iocm_model.specs.Numbering.{Numbering, cells_of}
-use Rattle.iocm_model.specs.Table.{line_of, heading, table_of}
-use Rattle.iocm_model.specs.View.{row_at, image_view}
+use Rattle.iocm_model.specs.Machine.Configuration.{Configuration, Lookup, lookup_of, keyed, image_of, records_of}
+use Rattle.iocm_model.specs.Machine.Numbering.{Numbering, cells_of}
+use Rattle.iocm_model.specs.Machine.Table.{line_of, heading, table_of}
+use Rattle.iocm_model.specs.Machine.View.{row_at, image_view}
 use Rattle.iocm_types.specs.declared.view.View.{View}
 use Rattle.iocm_console.specs.Lines.{Cells, lines_of, image_lines, record_lines}
 

@@ -7,7 +7,7 @@ use Rattle.iocm_columns.specs.declared.card.Card.{Card}
 use Rattle.iocm_columns.specs.Cards.{cards_of}
 use Rattle.iocm_columns.specs.Device.{unreadable, GivesIfReadable, IsUnread, IsWhole}
 use Rattle.iocm_columns.specs.declared.device.Device.{Device}
-use Rattle.iocm_model.specs.Configuration.{Configuration}
+use Rattle.iocm_model.specs.Machine.Configuration.{Configuration}
 use Rattle.iocm_console.specs.declared.output.Output.{Output}
 use Rattle.iocm_console.specs.declared.status.Status.{Status}
 use Rattle.iocm_console.specs.declared.error.ConsoleError.{ConsoleError}

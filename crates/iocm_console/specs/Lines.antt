@@ -4,10 +4,10 @@ use Rattle.std.specs.List.{flat_map, filter_map}
 use Rattle.iocm_types.specs.declared.place.NumberCell.{NumberCell}
 use Rattle.iocm_types.specs.declared.sub_id.SubId.{SubId}
 use Rattle.iocm_types.specs.declared.view.View.{View}
-use Rattle.iocm_model.specs.Record.{Rec, ImageRecord}
-use Rattle.iocm_model.specs.Configuration.{Lookup, image_of}
-use Rattle.iocm_model.specs.Table.{line_of}
-use Rattle.iocm_model.specs.View.{row_at}
+use Rattle.iocm_model.specs.Machine.Record.{Rec, ImageRecord}
+use Rattle.iocm_model.specs.Machine.Configuration.{Lookup, image_of}
+use Rattle.iocm_model.specs.Machine.Table.{line_of}
+use Rattle.iocm_model.specs.Machine.View.{row_at}
 use Rattle.iocm_console.specs.declared.table.NamedImage.{NamedImage}
 
 -- number cells with their devices

@@ -7,9 +7,9 @@ use Rattle.iocm_columns.specs.Cards.{cards_of}
 use Rattle.iocm_columns.specs.Statements.{statements_of}
 use Rattle.iocm_statements.specs.Statement.{parsed}
 use Rattle.iocm_records.specs.Deck.{deck_records}
-use Rattle.iocm_model.specs.Configuration.{Configuration, configuration_of}
-use Rattle.iocm_model.specs.Numbering.{opening}
-use Rattle.iocm_model.specs.Table.{table_of}
+use Rattle.iocm_model.specs.Machine.Configuration.{Configuration, configuration_of}
+use Rattle.iocm_model.specs.Machine.Numbering.{opening}
+use Rattle.iocm_model.specs.Machine.Table.{table_of}
 use Rattle.iocm_console.specs.declared.status.Status.{Status}
 use Rattle.iocm_console.specs.declared.status.Status.TheVariants.{Done, Refused}
 use Rattle.iocm_console.specs.declared.output.Output.{Output}

@@ -6,7 +6,7 @@ pub struct Left3(pub u8);
 
 impl fmt::Display for Left3 {
     ghost use Rattle.std.specs.Prelude.{Some};
-    ghost use Rattle.iocm_model.specs.Table.{left3};
+    ghost use Rattle.iocm_model.specs.Machine.Table.{left3};
 
     ghost output = { λ c. Some (left3 c.0) };
 
@@ -22,7 +22,7 @@ pub struct Left2(pub u8);
 
 impl fmt::Display for Left2 {
     ghost use Rattle.std.specs.Prelude.{Some};
-    ghost use Rattle.iocm_model.specs.Table.{left2};
+    ghost use Rattle.iocm_model.specs.Machine.Table.{left2};
 
     ghost output = { λ c. Some (left2 c.0) };
 

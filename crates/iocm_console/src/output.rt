@@ -1,6 +1,6 @@
 ghost use Rattle.std.specs.Prelude.{◌≡◌, false, ◌++◌, ◌∷◌, [], IsOk, IsErr, OnOk, OnErr, IfErr};
 ghost use Rattle.std.specs.Io.KnownBytes.{Keeps};
-ghost use Rattle.iocm_model.specs.Table.{line_of, heading};
+ghost use Rattle.iocm_model.specs.Machine.Table.{line_of, heading};
 ghost use Rattle.iocm_console.specs.Output.{writer_of, has_failed, Prints, FailedToWrite};
 ghost use Rattle.iocm_console.specs.Refusal.{refusal_line};
 

@@ -1,6 +1,6 @@
 ghost use Rattle.std.specs.Prelude.{◌≡◌, ◌++◌, ◌∷◌, [], OnOk};
 ghost use Rattle.std.specs.Io.KnownBytes.{Appends};
-ghost use Rattle.iocm_model.specs.Table.{line_of, heading};
+ghost use Rattle.iocm_model.specs.Machine.Table.{line_of, heading};
 
 use crate::cell::{Hex4, Left2, Left3};
 use iocm_types::{Chpid, SubId, View};
@@ -13,7 +13,7 @@ struct PathNumbers<'a>(&'a [Chpid]);
 
 impl fmt::Display for PathNumbers<'_> {
     ghost use Rattle.std.specs.Prelude.{Some};
-    ghost use Rattle.iocm_model.specs.Table.{chpids};
+    ghost use Rattle.iocm_model.specs.Machine.Table.{chpids};
 
     ghost output = { λ p. Some (chpids p.0.now) };
 
@@ -34,7 +34,7 @@ pub struct Row<'a> {
 
 impl fmt::Display for Row<'_> {
     ghost use Rattle.std.specs.Prelude.{Some};
-    ghost use Rattle.iocm_model.specs.Table.{line_of};
+    ghost use Rattle.iocm_model.specs.Machine.Table.{line_of};
 
     ghost output = { λ r. Some (line_of (r.id, r.view.now)) };
 

@@ -1,6 +1,6 @@
 ghost use Rattle.std.specs.Prelude.{◌≡◌, ◌≢◌, ◌+◌, ◌^◌, ◌<◌, ◌≤◌, ◌⊎◌, ℕ, List, Ok, Err, false, true, IfOk, IfErr, OnOk, IfSome};
 ghost use Rattle.iocm_types.specs.Fault.{Gives, memory};
-ghost use Rattle.iocm_model.specs.Numbering as model;
+ghost use Rattle.iocm_model.specs.Machine.Numbering as model;
 ghost use Rattle.iocm_columns.specs.Device.{reader_of, reads_of, unreadable, IsOpen, IsWhole, StopsShort};
 ghost use Rattle.iocm_console.specs.Output.{has_failed, FailedToWrite};
 ghost use Rattle.iocm_console.specs.Show.{configuration_in, shown, table_shown, refused, Says, SaysIfMemory};

@@ -1,6 +1,6 @@
 ghost use Rattle.std.specs.Prelude.{◌≡◌, [], ◌∷◌, ◌++◌, OnOk, IfErr};
-ghost use Rattle.iocm_model.specs.Configuration.{lookup_of};
-ghost use Rattle.iocm_model.specs.Table.{table_of};
+ghost use Rattle.iocm_model.specs.Machine.Configuration.{lookup_of};
+ghost use Rattle.iocm_model.specs.Machine.Table.{table_of};
 ghost use Rattle.iocm_numbers.specs.Numbered.{celled};
 ghost use Rattle.iocm_console.specs.Lines.{image_lines, record_lines, image_record};
 ghost use Rattle.iocm_console.specs.Output.{has_failed, Prints, FailedToWrite};

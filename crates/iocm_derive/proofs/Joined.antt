@@ -4,9 +4,9 @@ use Rattle.std.proofs.Math.ListN.{drop_of_length-le}
 use Rattle.std.specs.List.{filter}
 use Rattle.iocm_types.specs.declared.css_path.CssPath.{CssPath}
 use Rattle.iocm_types.specs.declared.key.Key.TheVariants as key
-use Rattle.iocm_model.specs.Record.{Rec, id, resource, image, limit, path, unit, device, online}
-use Rattle.iocm_model.specs.Configuration.{Lookup}
-use Rattle.iocm_model.specs.PathList.{paths_in, unit_record_paths, path_list}
+use Rattle.iocm_model.specs.Machine.Record.{Rec, id, resource, image, limit, path, unit, device, online}
+use Rattle.iocm_model.specs.Machine.Configuration.{Lookup}
+use Rattle.iocm_model.specs.Machine.PathList.{paths_in, unit_record_paths, path_list}
 use Rattle.iocm_derive.specs.Derived.{all_paths}
 
 -- the list from place i on begins with the item there

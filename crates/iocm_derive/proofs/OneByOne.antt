@@ -15,9 +15,9 @@ use Rattle.iocm_types.specs.declared.place.NumberCell.{NumberCell}
 use Rattle.iocm_types.specs.Key.{key_cmp}
 use Rattle.iocm_types.specs.Place.{place_cmp, cell_cmp}
 use Rattle.iocm_types.proofs.KeyOrder.{places_total, places_exact, cells_total, cells_exact}
-use Rattle.iocm_model.specs.Record.{Rec, DeviceRecord, key_of, id, resource, image, limit, path, unit, device, online}
-use Rattle.iocm_model.specs.Configuration.{Lookup, Configuration, keyed, records_of}
-use Rattle.iocm_model.specs.Numbering.{Numbering, is_reached, device_at, numbered}
+use Rattle.iocm_model.specs.Machine.Record.{Rec, DeviceRecord, key_of, id, resource, image, limit, path, unit, device, online}
+use Rattle.iocm_model.specs.Machine.Configuration.{Lookup, Configuration, keyed, records_of}
+use Rattle.iocm_model.specs.Machine.Numbering.{Numbering, is_reached, device_at, numbered}
 use Rattle.iocm_numbers.proofs.Tables.{cells_insert}
 use Rattle.iocm_derive.specs.FirstNumbers.{place_at, cell_of, reached_of, reached_among, numbered_on, IsMore, IsUnnumbered, IsNewAt, AreNew, AreFree}
 use Rattle.iocm_derive.proofs.Joined.{opened}

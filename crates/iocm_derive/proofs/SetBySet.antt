@@ -6,7 +6,7 @@ use Rattle.std.specs.FinMap.{FinMap, empty, get, get-empty}
 use Rattle.iocm_types.specs.declared.place.Place.{Place}
 use Rattle.iocm_types.specs.Place.{place_cmp, cell_cmp}
 use Rattle.iocm_types.proofs.Sorted.{map-empty}
-use Rattle.iocm_model.specs.Numbering.{Numbering, cells_of, device_at}
+use Rattle.iocm_model.specs.Machine.Numbering.{Numbering, cells_of, device_at}
 use Rattle.iocm_numbers.specs.declared.entry.PlaceNumber.{PlaceNumber}
 use Rattle.iocm_numbers.proofs.Tables.{no_cells}
 use Rattle.iocm_derive.specs.FirstNumbers.{place_at, cell_of, IsMore, IsUnnumbered, sets, subsystems}

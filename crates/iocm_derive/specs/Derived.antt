@@ -4,11 +4,11 @@ use Rattle.std.specs.Option.{option_and_then}
 use Rattle.iocm_types.specs.declared.css_path.CssPath.{CssPath}
 use Rattle.iocm_types.specs.declared.image.Image.{Image}
 use Rattle.iocm_types.specs.declared.key.Key.TheVariants as key
-use Rattle.iocm_model.specs.Record.{Rec, DeviceRecord, image, unit}
-use Rattle.iocm_model.specs.Configuration.{Lookup}
-use Rattle.iocm_model.specs.PathList.{view_paths}
-use Rattle.iocm_model.specs.Sight as sight
-use Rattle.iocm_model.specs.View.{device_record}
+use Rattle.iocm_model.specs.Machine.Record.{Rec, DeviceRecord, image, unit}
+use Rattle.iocm_model.specs.Machine.Configuration.{Lookup}
+use Rattle.iocm_model.specs.Machine.PathList.{view_paths}
+use Rattle.iocm_model.specs.Machine.Sight as sight
+use Rattle.iocm_model.specs.Machine.View.{device_record}
 
 -- the paths of a unit's record in all channel subsystems, in the order of PATH
 abbrev pub all_paths : Option Rec → List CssPath

@@ -4,9 +4,9 @@ use Rattle.std.specs.List.{filter_map}
 use Rattle.std.specs.FinMap.{get, insert, from_entries}
 use Rattle.iocm_types.specs.declared.place.Place.{Place}
 use Rattle.iocm_types.specs.declared.place.NumberCell.{NumberCell}
-use Rattle.iocm_model.specs.Record.{Rec, DeviceRecord, device}
-use Rattle.iocm_model.specs.Configuration.{Lookup, device_of}
-use Rattle.iocm_model.specs.Numbering.{Numbering, is_reached, device_at}
+use Rattle.iocm_model.specs.Machine.Record.{Rec, DeviceRecord, device}
+use Rattle.iocm_model.specs.Machine.Configuration.{Lookup, device_of}
+use Rattle.iocm_model.specs.Machine.Numbering.{Numbering, is_reached, device_at}
 
 -- the place of a device, and a number cell
 abbrev pub place_at : ℕ → ℕ → ℕ → Place

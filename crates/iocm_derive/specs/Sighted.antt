@@ -1,9 +1,9 @@
 -- An image of a configuration, with tables of the paths that it reaches and of those that are online to it.
 use Rattle.std.specs.Prelude.{◌≡◌, ℕ, ◌<◌, Bool, false, List, slice_index_or}
-use Rattle.iocm_model.specs.Record.{ImageRecord}
-use Rattle.iocm_model.specs.Configuration.{Configuration, lookup_of}
-use Rattle.iocm_model.specs.Sight.{reaches}
-use Rattle.iocm_model.specs.Mask.{is_online}
+use Rattle.iocm_model.specs.Machine.Record.{ImageRecord}
+use Rattle.iocm_model.specs.Machine.Configuration.{Configuration, lookup_of}
+use Rattle.iocm_model.specs.Machine.Sight.{reaches}
+use Rattle.iocm_model.specs.Machine.Mask.{is_online}
 
 -- the configuration, and the image in it
 pub record Sighted : Type 0 where

@@ -1,7 +1,7 @@
 ghost use Rattle.std.specs.Prelude.{◌≡◌, ℕ, ◌+◌, not, IfOk, OnOk, length};
-ghost use Rattle.iocm_model.specs.Configuration.{lookup_of};
-ghost use Rattle.iocm_model.specs.Numbering as model;
-ghost use Rattle.iocm_model.specs.PathList as paths;
+ghost use Rattle.iocm_model.specs.Machine.Configuration.{lookup_of};
+ghost use Rattle.iocm_model.specs.Machine.Numbering as model;
+ghost use Rattle.iocm_model.specs.Machine.PathList as paths;
 ghost use Rattle.std.specs.List.{flat_map};
 ghost use Rattle.iocm_derive.specs.FirstNumbers.{reached_of, numbered_on, IsMore, IsUnnumbered, IsNewAt, AreFree, sets};
 

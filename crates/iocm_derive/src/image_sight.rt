@@ -1,10 +1,10 @@
 ghost use Rattle.std.specs.Prelude.{◌≡◌, if◌then◌else◌};
 ghost use Rattle.std.specs.List.{list_any};
-ghost use Rattle.iocm_model.specs.Configuration.{lookup_of};
-ghost use Rattle.iocm_model.specs.Mask as mask;
-ghost use Rattle.iocm_model.specs.PathList as path_lists;
-ghost use Rattle.iocm_model.specs.Sight as sight;
-ghost use Rattle.iocm_model.specs.View as model;
+ghost use Rattle.iocm_model.specs.Machine.Configuration.{lookup_of};
+ghost use Rattle.iocm_model.specs.Machine.Mask as mask;
+ghost use Rattle.iocm_model.specs.Machine.PathList as path_lists;
+ghost use Rattle.iocm_model.specs.Machine.Sight as sight;
+ghost use Rattle.iocm_model.specs.Machine.View as model;
 ghost use Rattle.iocm_records.specs.Meaning.{device_of};
 ghost use Rattle.iocm_derive.specs.Sighted.{IsTableOf};
 
@@ -33,8 +33,8 @@ impl<'a, A: Allocator> Model for ImageSight<'a, A> {
     ghost use Rattle.std.specs.Prelude.{refl};
     ghost use Rattle.std.specs.FinMap as map;
     ghost use Rattle.std.specs.Coded.{code_by, coded×, codes};
-    ghost use Rattle.iocm_model.specs.Record.{ImageRecord};
-    ghost use Rattle.iocm_model.specs.Configuration.{Configuration};
+    ghost use Rattle.iocm_model.specs.Machine.Record.{ImageRecord};
+    ghost use Rattle.iocm_model.specs.Machine.Configuration.{Configuration};
     ghost use Rattle.iocm_derive.specs.Sighted.{Sighted, IsSighted};
 
     ghost Value = { Sighted };

@@ -1,10 +1,10 @@
 ghost use Rattle.std.specs.Prelude.{◌≡◌};
 ghost use Rattle.std.specs.Option.{option_copied, option_map};
 ghost use Rattle.iocm_types.specs.declared.key.Key.TheVariants as key;
-ghost use Rattle.iocm_model.specs.Configuration.{lookup_of};
-ghost use Rattle.iocm_model.specs.Mask.{is_online};
-ghost use Rattle.iocm_model.specs.Sight.{reaches};
-ghost use Rattle.iocm_model.specs.View.{device_record};
+ghost use Rattle.iocm_model.specs.Machine.Configuration.{lookup_of};
+ghost use Rattle.iocm_model.specs.Machine.Mask.{is_online};
+ghost use Rattle.iocm_model.specs.Machine.Sight.{reaches};
+ghost use Rattle.iocm_model.specs.Machine.View.{device_record};
 ghost use Rattle.iocm_records.specs.Meaning as meaning;
 ghost use Rattle.iocm_derive.specs.Derived.{all_paths, image_name};
 

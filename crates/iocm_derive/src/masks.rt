@@ -1,6 +1,6 @@
 ghost use Rattle.std.specs.Prelude.{◌≡◌, if◌then◌else◌};
-ghost use Rattle.iocm_model.specs.Configuration.{lookup_of};
-ghost use Rattle.iocm_model.specs.Mask.{installed, available};
+ghost use Rattle.iocm_model.specs.Machine.Configuration.{lookup_of};
+ghost use Rattle.iocm_model.specs.Machine.Mask.{installed, available};
 
 use crate::lookup::{is_path_online, reaches_path};
 use iocm_config::Config;

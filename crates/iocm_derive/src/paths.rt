@@ -1,6 +1,6 @@
 ghost use Rattle.std.specs.Prelude.{◌≡◌, ◌≤◌, ◌++◌, [], ◌∷◌, length, take};
-ghost use Rattle.iocm_model.specs.Configuration.{lookup_of};
-ghost use Rattle.iocm_model.specs.PathList.{paths_in, unit_paths, view_paths};
+ghost use Rattle.iocm_model.specs.Machine.Configuration.{lookup_of};
+ghost use Rattle.iocm_model.specs.Machine.PathList.{paths_in, unit_paths, view_paths};
 ghost use Rattle.iocm_derive.specs.Derived.{paths_at};
 
 use crate::lookup::{Near, find_device, find_paths_near};

@@ -1,9 +1,9 @@
 ghost use Rattle.std.specs.Prelude.{◌≡◌};
 ghost use Rattle.std.specs.List.{list_any};
 ghost use Rattle.std.specs.Option.{option_copied};
-ghost use Rattle.iocm_model.specs.Configuration.{lookup_of};
-ghost use Rattle.iocm_model.specs.PathList.{path_list, unit_paths, paths_in};
-ghost use Rattle.iocm_model.specs.Sight as model;
+ghost use Rattle.iocm_model.specs.Machine.Configuration.{lookup_of};
+ghost use Rattle.iocm_model.specs.Machine.PathList.{path_list, unit_paths, paths_in};
+ghost use Rattle.iocm_model.specs.Machine.Sight as model;
 ghost use Rattle.iocm_records.specs.Meaning.{device_of};
 ghost use Rattle.iocm_derive.specs.Derived.{sees};
 

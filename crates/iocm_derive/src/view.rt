@@ -1,6 +1,6 @@
 ghost use Rattle.std.specs.Prelude.{◌≡◌};
-ghost use Rattle.iocm_model.specs.Configuration.{lookup_of};
-ghost use Rattle.iocm_model.specs.View as model;
+ghost use Rattle.iocm_model.specs.Machine.Configuration.{lookup_of};
+ghost use Rattle.iocm_model.specs.Machine.View as model;
 ghost use Rattle.iocm_records.specs.Meaning.{device_of};
 
 use crate::lookup::{find_device, find_image};

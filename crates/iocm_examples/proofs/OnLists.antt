@@ -1,6 +1,6 @@
 -- What a proof opens to compute on states as lists: `unfolding on_lists` opens all of it.
-use Rattle.iocm_model.specs.Renumbering.{gap_from}
-use Rattle.iocm_model.specs.Rules.{first_record, first_breach_of}
+use Rattle.iocm_model.specs.Change.Renumbering.{gap_from}
+use Rattle.iocm_model.specs.Rules.FirstBreach.{first_record, first_breach_of}
 use Rattle.iocm_examples.proofs.Listed.Views.{opening_listed, renumbered_listed}
 use Rattle.iocm_examples.proofs.Listed.Rules.{first_breach_listed}
 use Rattle.iocm_examples.proofs.Listed.States.{opened_listed, edited_listed, refusal_listed, inverse_listed, answer_listed, stepped_listed}

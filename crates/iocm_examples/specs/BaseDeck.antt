@@ -3,7 +3,7 @@
 use Rattle.std.specs.Prelude.{ℕ, ◌+◌, List, [], ◌∷◌, map, None, codes, Option}
 use Rattle.iocm_types.specs.declared.css_path.CssPath.{CssPath}
 use Rattle.iocm_types.specs.declared.path_kind.PathKind.TheVariants.{Shared}
-use Rattle.iocm_model.specs.Record.{Rec, DeviceRecord, image, path, unit, device, online}
+use Rattle.iocm_model.specs.Machine.Record.{Rec, DeviceRecord, image, path, unit, device, online}
 use Rattle.iocm_types.specs.declared.key.Key.{Key}
 use Rattle.iocm_types.specs.declared.key.Key.TheVariants.{Device}
 use Rattle.iocm_types.specs.declared.place.Place.{Place}

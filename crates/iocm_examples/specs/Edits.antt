@@ -7,15 +7,15 @@ use Rattle.iocm_types.specs.declared.live.Live.{Live}
 use Rattle.iocm_types.specs.declared.refused.At.{At}
 use Rattle.iocm_types.specs.declared.rule.Rule.{Rule}
 use Rattle.iocm_types.specs.declared.sub_id.SubId.{SubId}
-use Rattle.iocm_model.specs.Record.{Rec}
-use Rattle.iocm_model.specs.Configuration.{configuration_of}
-use Rattle.iocm_model.specs.State.{State, opened}
-use Rattle.iocm_model.specs.Edit.{Action, add, delete, modify, Edit}
-use Rattle.iocm_model.specs.Effect.{edited_by_all}
-use Rattle.iocm_model.specs.Tree.{ChangeTree}
-use Rattle.iocm_model.specs.InverseTree.{inverse_tree, state_reached}
-use Rattle.iocm_model.specs.Meaning.{meaning}
-use Rattle.iocm_model.specs.Step.{order, stepped}
+use Rattle.iocm_model.specs.Machine.Record.{Rec}
+use Rattle.iocm_model.specs.Machine.Configuration.{configuration_of}
+use Rattle.iocm_model.specs.Operation.State.{State, opened}
+use Rattle.iocm_model.specs.Change.Edit.{Action, add, delete, modify, Edit}
+use Rattle.iocm_model.specs.Change.Runs.{edited_by_all}
+use Rattle.iocm_model.specs.Change.Tree.{ChangeTree}
+use Rattle.iocm_model.specs.Change.InverseTree.{inverse_tree}
+use Rattle.iocm_model.specs.Change.Meaning.{state_reached, meaning}
+use Rattle.iocm_model.specs.Operation.Step.{order, stepped}
 use Rattle.iocm_examples.specs.BaseDeck.{lpb, base, online_record, device_on_1000, device_key, subchannel}
 use Rattle.iocm_types.specs.declared.order.Order.TheVariants as orders
 

@@ -5,12 +5,13 @@ use Rattle.iocm_types.specs.declared.key.Key.{Key}
 use Rattle.iocm_types.specs.declared.live.Live.{Live}
 use Rattle.iocm_types.specs.declared.place.NumberCell.{NumberCell}
 use Rattle.iocm_types.specs.declared.sub_id.SubId.{SubId}
-use Rattle.iocm_model.specs.Record.{Rec}
-use Rattle.iocm_model.specs.Edit.{add}
-use Rattle.iocm_model.specs.Effect.{Effect, effect_of, written, edited_by_all}
-use Rattle.iocm_model.specs.Inverse.{inverse_of}
+use Rattle.iocm_model.specs.Machine.Record.{Rec}
+use Rattle.iocm_model.specs.Change.Edit.{add}
+use Rattle.iocm_model.specs.Change.Effect.{Effect, written}
+use Rattle.iocm_model.specs.Change.Runs.{effect_of, edited_by_all}
+use Rattle.iocm_model.specs.Change.Inverse.{inverse_of}
 use Rattle.iocm_examples.specs.BaseDeck.{lpb, online_record, place_of, device_on_1000, device_key, subchannel}
-use Rattle.iocm_model.specs.Orders.{fresh}
+use Rattle.iocm_model.specs.Operation.Orders.{fresh}
 use Rattle.iocm_examples.specs.Edits.{base_opened, one_for_another, online_51, delete_1001}
 use Rattle.iocm_types.specs.declared.key.Key.TheVariants as key
 

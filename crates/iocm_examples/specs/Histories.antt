@@ -12,14 +12,14 @@ use Rattle.iocm_types.specs.declared.refused.At.TheVariants.{Subchannel, Change,
 use Rattle.iocm_types.specs.declared.rule.Rule.{Rule}
 use Rattle.iocm_types.specs.declared.rule.Rule.TheVariants.{J1, J2, J3, B1, E3}
 use Rattle.iocm_types.specs.declared.sub_id.SubId.{SubId}
-use Rattle.iocm_model.specs.State.{State}
-use Rattle.iocm_model.specs.Edit.{Edit}
-use Rattle.iocm_model.specs.Refusal.{refused_at}
-use Rattle.iocm_model.specs.Orders.{fresh}
-use Rattle.iocm_model.specs.InverseTree.{parts_of}
-use Rattle.iocm_model.specs.Meaning.{at_node}
-use Rattle.iocm_model.specs.Tree.{leaf, group, choose, none}
-use Rattle.iocm_model.specs.Step.{order, device_end}
+use Rattle.iocm_model.specs.Operation.State.{State}
+use Rattle.iocm_model.specs.Change.Edit.{Edit}
+use Rattle.iocm_model.specs.Change.Refusal.{refused_at}
+use Rattle.iocm_model.specs.Operation.Orders.{fresh}
+use Rattle.iocm_model.specs.Change.InverseTree.{parts_of}
+use Rattle.iocm_model.specs.Change.Meaning.{at_node}
+use Rattle.iocm_model.specs.Change.Tree.{leaf, group, choose, none}
+use Rattle.iocm_model.specs.Operation.Step.{order, device_end}
 use Rattle.iocm_examples.specs.Edits.{base_opened, added, deleted, online_51, enabled_with}
 use Rattle.iocm_examples.specs.BaseDeck.{device_on_1000, device_key, subchannel}
 use Rattle.iocm_history.specs.Entry.{Call, at, activate, undo, redo, show, History}

@@ -8,7 +8,7 @@ use Rattle.iocm_types.specs.declared.order.Order.TheVariants.{Start, Halt, Clear
 use Rattle.iocm_types.specs.declared.order.Io.{Io}
 use Rattle.iocm_types.specs.declared.order.Io.TheVariants.{Code, Status, Stored}
 use Rattle.iocm_types.specs.declared.view.View.{View}
-use Rattle.iocm_model.specs.Orders.{fresh, answer_of, live_after, ended}
+use Rattle.iocm_model.specs.Operation.Orders.{fresh, answer_of, live_after, ended}
 use Rattle.iocm_types.specs.declared.live.Function.TheVariants as function
 
 -- LPA's view of 1002, and LPB's, to which path 51 isn't available

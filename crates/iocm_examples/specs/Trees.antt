@@ -2,12 +2,13 @@
 use Rattle.std.specs.Prelude.{◌≡◌, ℕ, zero, suc, List, [], ◌∷◌, None, Some, Err}
 use Rattle.std.specs.FinMap.{get}
 use Rattle.iocm_types.specs.declared.rule.Rule.TheVariants.{V5, B1, E1, E3, C1, C2}
-use Rattle.iocm_model.specs.State.{State}
-use Rattle.iocm_model.specs.Edit.{Edit}
-use Rattle.iocm_model.specs.Effect.{values_in, written, edited_by_all, cells_written_by_all}
-use Rattle.iocm_model.specs.Tree.{ChangeTree, Parts, leaf, row, group, choose, none, part}
-use Rattle.iocm_model.specs.InverseTree.{parts_of, inverse_tree, state_reached}
-use Rattle.iocm_model.specs.Meaning.{meaning}
+use Rattle.iocm_model.specs.Operation.State.{State}
+use Rattle.iocm_model.specs.Change.Edit.{Edit}
+use Rattle.iocm_model.specs.Change.Effect.{values_in, written}
+use Rattle.iocm_model.specs.Change.Runs.{edited_by_all, cells_written_by_all}
+use Rattle.iocm_model.specs.Change.Tree.{ChangeTree, Parts, leaf, row, group, choose, none, part}
+use Rattle.iocm_model.specs.Change.InverseTree.{parts_of, inverse_tree}
+use Rattle.iocm_model.specs.Change.Meaning.{state_reached, meaning}
 use Rattle.iocm_examples.specs.BaseDeck.{unit_on, device_on_1000, device_key, subchannel}
 use Rattle.iocm_examples.specs.Edits.{base_opened, added, deleted, modified, Performs, IsRefused, IsTakenBack, add_0fff, one_for_another, add_1000, started_at, base_started}
 use Rattle.iocm_types.specs.declared.key.Key.TheVariants as key

@@ -4,11 +4,11 @@ use Rattle.std.specs.FinMap.{find}
 use Rattle.iocm_types.specs.Key.{key_cmp}
 use Rattle.iocm_types.specs.declared.sub_id.SubId.{SubId}
 use Rattle.iocm_types.specs.declared.view.View.{View}
-use Rattle.iocm_model.specs.Record.{Rec}
-use Rattle.iocm_model.specs.Configuration.{Lookup, keyed, configuration_of}
-use Rattle.iocm_model.specs.PathList.{path_list}
-use Rattle.iocm_model.specs.Numbering.{opening}
-use Rattle.iocm_model.specs.View.{view_if_seen, views}
+use Rattle.iocm_model.specs.Machine.Record.{Rec}
+use Rattle.iocm_model.specs.Machine.Configuration.{Lookup, keyed, configuration_of}
+use Rattle.iocm_model.specs.Machine.PathList.{path_list}
+use Rattle.iocm_model.specs.Machine.Numbering.{opening}
+use Rattle.iocm_model.specs.Machine.View.{view_if_seen, views}
 use Rattle.iocm_examples.specs.BaseDeck.{lpa, lpb, base, base_without_candidate, base_turned, device_record}
 
 -- the record of a key in a list of records

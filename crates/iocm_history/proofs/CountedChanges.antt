@@ -3,7 +3,7 @@ use Rattle.std.proofs.Common.{◌≡◌, ◌≢◌, ⊎_elim, ℕ, ◌+◌, ◌<
 use Rattle.std.proofs.lemmas.Bool.{eq-eqb, ne_eqb, eqb-true, eqb-false, or_parts, or_from}
 use Rattle.std.specs.List.{list_any}
 use Rattle.iocm_types.specs.declared.sub_id.SubId.{SubId}
-use Rattle.iocm_model.specs.State.{State}
+use Rattle.iocm_model.specs.Operation.State.{State}
 use Rattle.iocm_history.specs.Entry.{Entry, History}
 use Rattle.iocm_history.specs.MarkedEntry.{Act, step, change, undoing, nothing, Mark, kept, undone_with, lost, MarkedEntry, is_change, is_step_on, is_undo, struck_mark, struck, struck_if, strike, unstruck_mark, taken_back, restore, altered_by_change, marked_entry, marked_entries, marks_after}
 use Rattle.iocm_history.specs.Journal.{Journal, is_in, without, journal_after, journal_of}

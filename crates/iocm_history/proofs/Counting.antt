@@ -7,11 +7,11 @@ use Rattle.iocm_types.specs.declared.answer.Answer.TheVariants.{Changed, Undone,
 use Rattle.iocm_types.specs.declared.answer.Answer.TheVariants as answers
 use Rattle.iocm_types.specs.declared.refused.At.TheVariants.{Nothing}
 use Rattle.iocm_types.specs.declared.rule.Rule.TheVariants.{M1}
-use Rattle.iocm_model.specs.State.{State}
-use Rattle.iocm_model.specs.Effect.{effect_of}
-use Rattle.iocm_model.specs.Meaning.{Performed, Outcome, meaning}
-use Rattle.iocm_model.specs.Refusal.{refused_at}
-use Rattle.iocm_model.specs.Tree.{ChangeTree}
+use Rattle.iocm_model.specs.Operation.State.{State}
+use Rattle.iocm_model.specs.Change.Runs.{effect_of}
+use Rattle.iocm_model.specs.Change.Meaning.{Performed, Outcome, meaning}
+use Rattle.iocm_model.specs.Change.Refusal.{refused_at}
+use Rattle.iocm_model.specs.Change.Tree.{ChangeTree}
 use Rattle.iocm_history.specs.Entry.{activate, Entry, History}
 use Rattle.iocm_history.specs.Replay.{state_at}
 use Rattle.iocm_history.specs.Journal.{Journal, is_in, journal_after, journal_of}

@@ -6,11 +6,11 @@ use Rattle.iocm_types.specs.declared.refused.Refused.{Refused}
 use Rattle.iocm_types.specs.declared.sub_id.SubId.{SubId}
 use Rattle.iocm_types.specs.declared.view.View.{View}
 use Rattle.iocm_types.specs.declared.live.Live.{Live}
-use Rattle.iocm_model.specs.State.{State}
-use Rattle.iocm_model.specs.Effect.{Effect}
-use Rattle.iocm_model.specs.Meaning.{Outcome, meaning}
-use Rattle.iocm_model.specs.Step.{Step, order, device_end, step_answer}
-use Rattle.iocm_model.specs.Tree.{ChangeTree}
+use Rattle.iocm_model.specs.Operation.State.{State}
+use Rattle.iocm_model.specs.Change.Effect.{Effect}
+use Rattle.iocm_model.specs.Change.Meaning.{Outcome, meaning}
+use Rattle.iocm_model.specs.Operation.Step.{Step, order, device_end, step_answer}
+use Rattle.iocm_model.specs.Change.Tree.{ChangeTree}
 use Rattle.iocm_history.specs.Entry.{Call, at, activate, undo, redo, show, Entry, History, plain_entry}
 use Rattle.iocm_history.specs.MarkedEntry.{Act, step, change, undoing, nothing, MarkedEntry, is_undo, marked_entry, marks_after}
 use Rattle.iocm_history.specs.Journal.{Journal, is_in, is_past, journal_after, journal_of}

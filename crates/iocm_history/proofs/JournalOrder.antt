@@ -6,10 +6,10 @@ use Rattle.iocm_types.specs.declared.answer.Answer.TheVariants as answers
 use Rattle.iocm_types.specs.declared.refused.At.TheVariants.{Nothing}
 use Rattle.iocm_types.specs.declared.rule.Rule.TheVariants.{J1, J3}
 use Rattle.iocm_types.specs.declared.sub_id.SubId.{SubId}
-use Rattle.iocm_model.specs.State.{State}
-use Rattle.iocm_model.specs.Refusal.{refused_at}
-use Rattle.iocm_model.specs.Effect.{Effect}
-use Rattle.iocm_model.specs.Tree.{ChangeTree}
+use Rattle.iocm_model.specs.Operation.State.{State}
+use Rattle.iocm_model.specs.Change.Refusal.{refused_at}
+use Rattle.iocm_model.specs.Change.Effect.{Effect}
+use Rattle.iocm_model.specs.Change.Tree.{ChangeTree}
 use Rattle.iocm_history.specs.Entry.{activate, undo, redo, Entry, History, plain_entry}
 use Rattle.iocm_history.specs.Journal.{Journal, is_in, without, is_past, journal_after, journal_of}
 use Rattle.iocm_history.specs.Legal.{IsRight, IsLegal, greatest, unless_not_quiet, unless_stood_on, undo_answer, is_last_undone, redo_answer}

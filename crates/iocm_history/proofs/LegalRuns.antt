@@ -2,9 +2,9 @@
 use Rattle.std.proofs.Common.{◌≡◌, inl, ℕ, ◌+◌, Option, Ok, Err, List, [], ◌∷◌, refl, sym, ap}
 use Rattle.std.specs.List.{fold}
 use Rattle.iocm_types.specs.declared.sub_id.SubId.{SubId}
-use Rattle.iocm_model.specs.State.{State}
-use Rattle.iocm_model.specs.Meaning.{Outcome, meaning}
-use Rattle.iocm_model.specs.Tree.{ChangeTree}
+use Rattle.iocm_model.specs.Operation.State.{State}
+use Rattle.iocm_model.specs.Change.Meaning.{Outcome, meaning}
+use Rattle.iocm_model.specs.Change.Tree.{ChangeTree}
 use Rattle.iocm_history.specs.Entry.{Call, at, activate, undo, redo, show, History}
 use Rattle.iocm_history.specs.Journal.{Journal}
 use Rattle.iocm_history.specs.Legal.{activated, entry_in, entry_of, IsRight, IsLegal}

@@ -4,7 +4,7 @@ use Rattle.std.proofs.lemmas.Bool.{eqb-true, eqb-false}
 use Rattle.std.specs.FinMap.{keys}
 use Rattle.iocm_types.specs.declared.answer.Answer.TheVariants.{Changed, Undone, Redone}
 use Rattle.iocm_types.specs.declared.sub_id.SubId.{SubId}
-use Rattle.iocm_model.specs.Effect.{Effect}
+use Rattle.iocm_model.specs.Change.Effect.{Effect}
 use Rattle.iocm_history.specs.Entry.{activate, undo, redo, Entry, plain_entry}
 use Rattle.iocm_history.specs.MarkedEntry.{Act, step, change, undoing, nothing, undone_with, MarkedEntry, is_change, is_step_on, effect_or, change_effect, altered_by_change, struck, struck_if, strike, restore, marked_entry, marked_entries, marks_after}
 use Rattle.iocm_history.specs.Journal.{Journal, journal_of}

@@ -6,7 +6,7 @@ use Rattle.std.specs.List.{list_any}
 use Rattle.iocm_types.specs.declared.answer.Answer.{Answer}
 use Rattle.iocm_types.specs.declared.answer.Answer.TheVariants as answers
 use Rattle.iocm_types.specs.declared.sub_id.SubId.{SubId}
-use Rattle.iocm_model.specs.State.{State}
+use Rattle.iocm_model.specs.Operation.State.{State}
 use Rattle.iocm_history.specs.Entry.{History}
 use Rattle.iocm_history.specs.MarkedEntry.{Act, Mark, undone_with, lost, MarkedEntry, is_change, is_step_on, is_undo, altered_by_change, struck, struck_if, strike, unstruck, taken_back, restore, marked_entry, marked_entries, marks_after}
 use Rattle.iocm_history.specs.Replay.{acted_if_kept, replay}

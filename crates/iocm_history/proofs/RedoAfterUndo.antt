@@ -3,7 +3,7 @@ use Rattle.std.proofs.Common.{◌≡◌, ⊎_elim, inl, inr, ℕ, suc, ◌+◌, 
 use Rattle.std.proofs.lemmas.Bool.{eq-eqb, ne_eqb, eqb-false, or_parts, or_from}
 use Rattle.std.specs.List.{list_any}
 use Rattle.iocm_types.specs.declared.sub_id.SubId.{SubId}
-use Rattle.iocm_model.specs.State.{State}
+use Rattle.iocm_model.specs.Operation.State.{State}
 use Rattle.iocm_history.specs.Entry.{Entry, History}
 use Rattle.iocm_history.specs.MarkedEntry.{Act, undoing, Mark, kept, undone_with, lost, MarkedEntry, is_undo, altered_by_change, strike, taken_back, restore, marked_entry, marked_entries}
 use Rattle.iocm_history.specs.Replay.{acted_if_kept, replay, state_at}

@@ -4,7 +4,7 @@ use Rattle.std.proofs.lemmas.Bool.{eqb-true, eqb-false, or_right}
 use Rattle.std.proofs.lemmas.Map.Views.{any-filter_same}
 use Rattle.iocm_types.specs.declared.answer.Answer.TheVariants.{Changed, Undone, Redone}
 use Rattle.iocm_types.specs.declared.sub_id.SubId.{SubId}
-use Rattle.iocm_model.specs.State.{State}
+use Rattle.iocm_model.specs.Operation.State.{State}
 use Rattle.iocm_history.specs.Entry.{activate, undo, redo, Entry, History, plain_entry}
 use Rattle.iocm_history.specs.MarkedEntry.{kept, undone_with, MarkedEntry, altered_by_change, strike, restore, marked_entry, marked_entries, marks_after}
 use Rattle.iocm_history.specs.Journal.{Journal, is_in, without, journal_after, journal_of}

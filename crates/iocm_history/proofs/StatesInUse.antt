@@ -3,15 +3,16 @@ use Rattle.std.proofs.Common.{◌≡◌, ℕ, suc, zero, ◌+◌, ◌≤◌, tru
 use Rattle.std.proofs.lemmas.List.{length-append}
 use Rattle.std.specs.List.{list_any}
 use Rattle.iocm_types.specs.declared.answer.Answer.TheVariants.{Changed}
-use Rattle.iocm_model.specs.State.{State}
-use Rattle.iocm_model.specs.Effect.{written, edited_by_all, effect_of}
-use Rattle.iocm_model.specs.Rules.{first_breach}
-use Rattle.iocm_model.specs.TreeLaws.{IsRunFrom}
-use Rattle.iocm_model.specs.Tree.{ChangeTree}
-use Rattle.iocm_model.specs.Meaning.{Performed, Outcome, meaning}
-use Rattle.iocm_model.proofs.RunsGoBack.{accepted_carry, stays_sound, writes_its_effect}
-use Rattle.iocm_model.proofs.Steps.{steps_stay_sound}
-use Rattle.iocm_model.proofs.Trees.{accepted_trees_are_runs}
+use Rattle.iocm_model.specs.Operation.State.{State}
+use Rattle.iocm_model.specs.Change.Effect.{written}
+use Rattle.iocm_model.specs.Change.Runs.{edited_by_all, effect_of}
+use Rattle.iocm_model.specs.Rules.FirstBreach.{first_breach}
+use Rattle.iocm_model.specs.Laws.Trees.{IsRunFrom}
+use Rattle.iocm_model.specs.Change.Tree.{ChangeTree}
+use Rattle.iocm_model.specs.Change.Meaning.{Performed, Outcome, meaning}
+use Rattle.iocm_model.proofs.Change.RunsGoBack.{accepted_carry, stays_sound, writes_its_effect}
+use Rattle.iocm_model.proofs.Change.Steps.{steps_stay_sound}
+use Rattle.iocm_model.proofs.Change.Trees.{accepted_trees_are_runs}
 use Rattle.iocm_history.specs.Entry.{activate, Entry, History}
 use Rattle.iocm_history.specs.MarkedEntry.{Act, step, change, undoing, nothing, kept, undone_with, lost, MarkedEntry, act_of, altered_by_change, marked_entry, marked_entries, marks_after}
 use Rattle.iocm_history.specs.Replay.{acted_if_kept, replay, state_at}

@@ -2,12 +2,13 @@
 use Rattle.std.proofs.Common.{◌≡◌, Bool, true, false, ◌&&◌, List, [], ◌∷◌, refl, sym, ap, ◌∙◌}
 use Rattle.std.proofs.lemmas.Bool.{or_parts, or_from}
 use Rattle.iocm_types.specs.declared.sub_id.SubId.{SubId}
-use Rattle.iocm_model.specs.State.{State, IsSound, is_among}
-use Rattle.iocm_model.specs.Edit.{Edit}
-use Rattle.iocm_model.specs.Effect.{values_in, written, edited_by_all, cells_written_by_all}
-use Rattle.iocm_model.specs.Step.{stepped}
-use Rattle.iocm_model.proofs.RunsGoBack.{puts_back}
-use Rattle.iocm_model.proofs.Steps.{steps_stay_sound, steps_elsewhere_pass_back, overwritten_steps_vanish}
+use Rattle.iocm_model.specs.Operation.State.{State, IsSound, is_among}
+use Rattle.iocm_model.specs.Change.Edit.{Edit}
+use Rattle.iocm_model.specs.Change.Effect.{values_in, written}
+use Rattle.iocm_model.specs.Change.Runs.{edited_by_all, cells_written_by_all}
+use Rattle.iocm_model.specs.Operation.Step.{stepped}
+use Rattle.iocm_model.proofs.Change.RunsGoBack.{puts_back}
+use Rattle.iocm_model.proofs.Change.Steps.{steps_stay_sound, steps_elsewhere_pass_back, overwritten_steps_vanish}
 use Rattle.iocm_history.specs.MarkedEntry.{Act, step, change, undoing, nothing, Mark, kept, undone_with, lost, MarkedEntry, is_step_on, struck_if}
 use Rattle.iocm_history.specs.Replay.{acted_if_kept, replay}
 use Rattle.iocm_history.specs.HistoryLaws.{struck_steps}

@@ -4,7 +4,7 @@ use Rattle.std.proofs.lemmas.Bool.{eq-eqb, ne_eqb, or_from, or_left}
 use Rattle.iocm_types.specs.declared.answer.Answer.{Answer}
 use Rattle.iocm_types.specs.declared.answer.Answer.TheVariants.{Changed, Undone, Redone}
 use Rattle.iocm_types.specs.declared.sub_id.SubId.{SubId}
-use Rattle.iocm_model.specs.State.{State}
+use Rattle.iocm_model.specs.Operation.State.{State}
 use Rattle.iocm_history.specs.Entry.{Entry, History}
 use Rattle.iocm_history.specs.MarkedEntry.{Act, step, change, undoing, nothing, Mark, kept, undone_with, lost, MarkedEntry, is_change, struck_mark, strike, altered_by_change, marked_entry, marked_entries, marks_after}
 use Rattle.iocm_history.specs.Replay.{acted_if_kept, replay}

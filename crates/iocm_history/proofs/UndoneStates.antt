@@ -9,19 +9,20 @@ use Rattle.iocm_types.specs.declared.refused.Refused.{Refused}
 use Rattle.iocm_types.specs.declared.sub_id.SubId.{SubId}
 use Rattle.iocm_types.specs.SubId.{sub_id_cmp}
 use Rattle.iocm_types.proofs.KeyOrder.{sub_ids_total, sub_ids_exact}
-use Rattle.iocm_model.specs.Maps.{cells_at}
-use Rattle.iocm_model.specs.State.{State, IsSound, HasConfigAndNumbersOf, is_among}
-use Rattle.iocm_model.specs.Edit.{Edit}
-use Rattle.iocm_model.specs.Refusal.{is_not_quiet, first_not_quiet, AreQuiet}
-use Rattle.iocm_model.specs.Effect.{Effect, values_in, written, edited_by_all, cells_written_by_all, effect_of}
-use Rattle.iocm_model.specs.Tree.{ChangeTree}
-use Rattle.iocm_model.specs.Meaning.{Performed, meaning}
-use Rattle.iocm_model.specs.InverseTree.{inverse_tree, state_reached}
-use Rattle.iocm_model.specs.TreeLaws.{KeepsTheRules, IsRunFrom}
-use Rattle.iocm_model.proofs.MapCells.{get_cells_at}
-use Rattle.iocm_model.proofs.Overwriting.{none_found}
-use Rattle.iocm_model.proofs.RunsGoBack.{accepted_carry, stays_sound, writes_its_effect}
-use Rattle.iocm_model.proofs.Trees.{accepted_trees_are_runs, inverse_trees_take_back}
+use Rattle.iocm_model.specs.Change.Maps.{cells_at}
+use Rattle.iocm_model.specs.Operation.State.{State, IsSound, HasConfigAndNumbersOf, is_among}
+use Rattle.iocm_model.specs.Change.Edit.{Edit}
+use Rattle.iocm_model.specs.Change.Refusal.{is_not_quiet, first_not_quiet, AreQuiet}
+use Rattle.iocm_model.specs.Change.Effect.{Effect, values_in, written}
+use Rattle.iocm_model.specs.Change.Runs.{edited_by_all, cells_written_by_all, effect_of}
+use Rattle.iocm_model.specs.Change.Tree.{ChangeTree}
+use Rattle.iocm_model.specs.Change.Meaning.{Performed, meaning, state_reached}
+use Rattle.iocm_model.specs.Change.InverseTree.{inverse_tree}
+use Rattle.iocm_model.specs.Laws.Trees.{KeepsTheRules, IsRunFrom}
+use Rattle.iocm_model.proofs.Maps.Cells.{get_cells_at}
+use Rattle.iocm_model.proofs.Maps.Overwriting.{none_found}
+use Rattle.iocm_model.proofs.Change.RunsGoBack.{accepted_carry, stays_sound, writes_its_effect}
+use Rattle.iocm_model.proofs.Change.Trees.{accepted_trees_are_runs, inverse_trees_take_back}
 use Rattle.iocm_history.specs.Entry.{activate, undo, Entry, History, plain_entry}
 use Rattle.iocm_history.specs.MarkedEntry.{Act, step, change, undoing, nothing, Mark, kept, undone_with, MarkedEntry, is_change, act_of, effect_or, change_effect, altered_by_change, marked_entry, marked_entries}
 use Rattle.iocm_history.specs.Replay.{replay, state_at}

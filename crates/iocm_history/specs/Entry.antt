@@ -3,9 +3,9 @@ use Rattle.std.specs.Prelude.{ℕ, List}
 use Rattle.std.specs.FinMap.{empty}
 use Rattle.iocm_types.specs.declared.answer.Answer.{Answer}
 use Rattle.iocm_types.specs.declared.sub_id.SubId.{SubId}
-use Rattle.iocm_model.specs.Effect.{Effect}
-use Rattle.iocm_model.specs.Step.{Step}
-use Rattle.iocm_model.specs.Tree.{ChangeTree}
+use Rattle.iocm_model.specs.Change.Effect.{Effect}
+use Rattle.iocm_model.specs.Operation.Step.{Step}
+use Rattle.iocm_model.specs.Change.Tree.{ChangeTree}
 
 -- what is asked of a machine: a step at a subchannel, an order of its image or a device end; to activate a change tree; to undo or
 -- redo the change of a number; to show what it counts

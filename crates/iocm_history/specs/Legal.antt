@@ -6,12 +6,12 @@ use Rattle.iocm_types.specs.declared.answer.Answer.TheVariants.{Changed, Undone,
 use Rattle.iocm_types.specs.declared.refused.At.TheVariants.{Subchannel, Change, Nothing}
 use Rattle.iocm_types.specs.declared.rule.Rule.TheVariants.{J1, J2, J3, B1, M1}
 use Rattle.iocm_types.specs.declared.sub_id.SubId.{SubId}
-use Rattle.iocm_model.specs.State.{State, views_in}
-use Rattle.iocm_model.specs.Refusal.{refused_at, first_not_quiet}
-use Rattle.iocm_model.specs.Effect.{effect_of}
-use Rattle.iocm_model.specs.Tree.{ChangeTree}
-use Rattle.iocm_model.specs.Meaning.{Outcome, meaning}
-use Rattle.iocm_model.specs.Step.{answer_in}
+use Rattle.iocm_model.specs.Operation.State.{State, views_in}
+use Rattle.iocm_model.specs.Change.Refusal.{refused_at, first_not_quiet}
+use Rattle.iocm_model.specs.Change.Runs.{effect_of}
+use Rattle.iocm_model.specs.Change.Tree.{ChangeTree}
+use Rattle.iocm_model.specs.Change.Meaning.{Outcome, meaning}
+use Rattle.iocm_model.specs.Operation.Step.{answer_in}
 use Rattle.iocm_history.specs.Entry.{Call, at, activate, undo, redo, show, Entry, History, plain_entry}
 use Rattle.iocm_history.specs.MarkedEntry.{altered_by_change, marked_entries}
 use Rattle.iocm_history.specs.Replay.{state_at}

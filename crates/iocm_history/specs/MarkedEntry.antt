@@ -4,9 +4,9 @@ use Rattle.std.specs.FinMap.{keys}
 use Rattle.iocm_types.specs.declared.answer.Answer.{Answer}
 use Rattle.iocm_types.specs.declared.answer.Answer.TheVariants as answers
 use Rattle.iocm_types.specs.declared.sub_id.SubId.{SubId}
-use Rattle.iocm_model.specs.State.{is_among}
-use Rattle.iocm_model.specs.Effect.{Effect}
-use Rattle.iocm_model.specs.Step.{Step}
+use Rattle.iocm_model.specs.Operation.State.{is_among}
+use Rattle.iocm_model.specs.Change.Effect.{Effect}
+use Rattle.iocm_model.specs.Operation.Step.{Step}
 use Rattle.iocm_history.specs.Entry.{Call, at, activate, undo, Entry, History, no_effect}
 
 -- what an entry did: a step, an accepted change with its number and effect, an accepted undo, or nothing that counts here

@@ -1,8 +1,8 @@
 -- The state of a history: what isn't struck, played from the opening state. Own.
 use Rattle.std.specs.Prelude.{List, [], ◌∷◌}
-use Rattle.iocm_model.specs.State.{State}
-use Rattle.iocm_model.specs.Effect.{written}
-use Rattle.iocm_model.specs.Step.{stepped}
+use Rattle.iocm_model.specs.Operation.State.{State}
+use Rattle.iocm_model.specs.Change.Effect.{written}
+use Rattle.iocm_model.specs.Operation.Step.{stepped}
 use Rattle.iocm_history.specs.Entry.{History}
 use Rattle.iocm_history.specs.MarkedEntry.{Act, step, change, undoing, nothing, Mark, kept, undone_with, lost, MarkedEntry, marked_entries}
 

@@ -1,7 +1,7 @@
 -- Runs of calls: the history that calls make one after the other where memory is there.
 use Rattle.std.specs.Prelude.{List, [], ◌∷◌, fold, map}
 use Rattle.iocm_types.specs.declared.answer.Answer.{Answer}
-use Rattle.iocm_model.specs.State.{State}
+use Rattle.iocm_model.specs.Operation.State.{State}
 use Rattle.iocm_history.specs.Entry.{Call, Entry, History}
 use Rattle.iocm_history.specs.Legal.{entry_of}
 

@@ -1,11 +1,11 @@
 -- What undo does in a legal history, said of states: it does what the inverse tree of the change does.
 use Rattle.std.specs.Prelude.{◌≡◌, ℕ, Some, Ok, ◌∷◌, ◌++◌}
 use Rattle.iocm_types.specs.declared.answer.Answer.TheVariants.{Changed, Undone}
-use Rattle.iocm_model.specs.State.{State, IsSound}
-use Rattle.iocm_model.specs.Tree.{ChangeTree}
-use Rattle.iocm_model.specs.Meaning.{Performed, meaning}
-use Rattle.iocm_model.specs.InverseTree.{inverse_tree, state_reached}
-use Rattle.iocm_model.specs.TreeLaws.{KeepsTheRules}
+use Rattle.iocm_model.specs.Operation.State.{State, IsSound}
+use Rattle.iocm_model.specs.Change.Tree.{ChangeTree}
+use Rattle.iocm_model.specs.Change.Meaning.{Performed, meaning, state_reached}
+use Rattle.iocm_model.specs.Change.InverseTree.{inverse_tree}
+use Rattle.iocm_model.specs.Laws.Trees.{KeepsTheRules}
 use Rattle.iocm_history.specs.Entry.{activate, undo, Entry, History, plain_entry}
 use Rattle.iocm_history.specs.Replay.{state_at}
 use Rattle.iocm_history.specs.Legal.{IsLegal}

@@ -1,4 +1,4 @@
-ghost use Rattle.iocm_model.specs.TreeLaws.{AcceptedTreesAreRuns, InverseTreesTakeBack};
+ghost use Rattle.iocm_model.specs.Laws.Trees.{AcceptedTreesAreRuns, InverseTreesTakeBack, NodesAreBounded};
 
 /// An accepted tree performs edits that are accepted one after the other, and leaves a state in which the rules hold.
 pub fn accepted_trees_are_runs()
@@ -10,4 +10,10 @@ pub fn accepted_trees_are_runs()
 /// tree wrote as these were before.
 pub fn inverse_trees_take_back()
     ensures { InverseTreesTakeBack }
+{}
+
+/// A change tree has at most as many nodes as its depth times its leaves, so the limits on depth and leaves
+/// bound the numbers of its nodes.
+pub fn the_nodes_of_a_tree_are_bounded()
+    ensures bounded { NodesAreBounded }
 {}

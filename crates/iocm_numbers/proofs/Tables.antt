@@ -11,7 +11,7 @@ use Rattle.iocm_types.specs.declared.place.NumberCell.{NumberCell}
 use Rattle.iocm_types.specs.Place.{place_cmp, cell_cmp}
 use Rattle.iocm_types.proofs.KeyOrder.{places_total, cells_total, cells_exact}
 use Rattle.iocm_types.proofs.Mapped.{mapped-insert}
-use Rattle.iocm_model.specs.Numbering.{Numbering, cells_of, device_at}
+use Rattle.iocm_model.specs.Machine.Numbering.{Numbering, cells_of, device_at}
 use Rattle.iocm_numbers.specs.Numbered.{cell_at}
 use Rattle.iocm_types.proofs.Sorted as sorted
 use Rattle.iocm_types.proofs.Sorted.{IsPlace, IsGap, keyed_by}

@@ -2,7 +2,7 @@
 use Rattle.std.specs.Prelude.{ℕ, List, map}
 use Rattle.iocm_types.specs.declared.place.Place.{Place}
 use Rattle.iocm_types.specs.declared.place.NumberCell.{NumberCell}
-use Rattle.iocm_model.specs.Numbering.{Numbering}
+use Rattle.iocm_model.specs.Machine.Numbering.{Numbering}
 use Rattle.iocm_numbers.specs.declared.entry.PlaceNumber.{PlaceNumber}
 use Rattle.iocm_numbers.specs.declared.entry.CellDevice.{CellDevice}
 

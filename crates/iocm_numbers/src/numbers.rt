@@ -1,6 +1,6 @@
 ghost use Rattle.std.specs.Prelude.{◌≡◌, ◌+◌, ◌<◌, ◌≤◌, None, OnOk, IsOk};
 ghost use Rattle.std.specs.FinMap as map;
-ghost use Rattle.iocm_model.specs.Numbering.{cells_of, device_at};
+ghost use Rattle.iocm_model.specs.Machine.Numbering.{cells_of, device_at};
 ghost use Rattle.iocm_numbers.specs.Numbered.{celled, cell_at};
 
 use crate::search::{put_cell, put_place, search_cells, search_places};
@@ -22,7 +22,7 @@ impl<A: Allocator> Model for Numbers<A> {
     ghost use Rattle.std.specs.FinMap as map;
     ghost use Rattle.std.specs.Coded.{code_by, coded×, coded_ℕ, codes};
     ghost use Rattle.iocm_types.specs.Place.{place_cmp, cell_cmp};
-    ghost use Rattle.iocm_model.specs.Numbering.{Numbering, cells_of};
+    ghost use Rattle.iocm_model.specs.Machine.Numbering.{Numbering, cells_of};
     ghost use Rattle.iocm_numbers.specs.Numbered.{Numbered, placed, celled};
 
     ghost Value = { Numbered };

@@ -11,8 +11,8 @@ use Rattle.iocm_types.specs.declared.fault.Fault.{Fault}
 use Rattle.iocm_types.specs.declared.key.Key.{Key}
 use Rattle.iocm_types.specs.Key.{key_cmp}
 use Rattle.iocm_types.proofs.KeyOrder.{keys_total}
-use Rattle.iocm_model.specs.Record.{Rec, key_of}
-use Rattle.iocm_model.specs.Configuration.{keyed, HasNoKeyTwice}
+use Rattle.iocm_model.specs.Machine.Record.{Rec, key_of}
+use Rattle.iocm_model.specs.Machine.Configuration.{keyed, HasNoKeyTwice}
 use Rattle.iocm_records.specs.Deck.{with_records}
 use Rattle.iocm_records.specs.Progress.{has_claimed, has_key, IsKept}
 use Rattle.iocm_records.proofs.Opening.{opened}

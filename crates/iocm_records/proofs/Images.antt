@@ -1,7 +1,7 @@
 -- The names of the images of a channel subsystem, gathered image by image.
 use Rattle.std.proofs.Common.{◌≡◌, ℕ, ◌+◌, ◌<◌, ◌≤◌, ◌==◌, Bool, true, false, List, [], ◌∷◌, length, get_or, drop, map, filter, fold, refl}
 use Rattle.std.proofs.Math.ListN.{drop_of_length-le}
-use Rattle.iocm_model.specs.Record.{ImageRecord}
+use Rattle.iocm_model.specs.Machine.Record.{ImageRecord}
 use Rattle.iocm_records.specs.NameSet.{with_name}
 use Rattle.iocm_records.proofs.Opening.{opened}
 

@@ -3,7 +3,7 @@ use Rattle.std.proofs.Common.{◌≡◌, ℕ, ◌+◌, ◌<◌, ◌≤◌, true,
 use Rattle.std.proofs.Math.ListN.{drop_of_length-le}
 use Rattle.iocm_types.specs.declared.fault.Fault.{Fault}
 use Rattle.iocm_statements.specs.declared.statement.Statement.{Statement}
-use Rattle.iocm_model.specs.Record.{ImageRecord}
+use Rattle.iocm_model.specs.Machine.Record.{ImageRecord}
 use Rattle.iocm_records.specs.Progress.{Progress}
 use Rattle.iocm_records.specs.Deck.{machine_images, images_or_none, is_resource, read_from, progress_after}
 use Rattle.iocm_records.proofs.Opening.{opened}

@@ -14,7 +14,7 @@ use Rattle.iocm_statements.specs.declared.operation.Operation.{Operation}
 use Rattle.iocm_statements.specs.declared.operation.Operation.TheVariants.{Id, Resource, Chpid, Cntlunit, Iodevice}
 use Rattle.iocm_statements.specs.declared.statement.Statement.{Statement}
 use Rattle.iocm_statements.specs.Operands.{Operand, text_under, has_bare}
-use Rattle.iocm_model.specs.Record.{Rec, ImageRecord, UnitRecord, path, unit, device, image, online, key_of}
+use Rattle.iocm_model.specs.Machine.Record.{Rec, ImageRecord, UnitRecord, path, unit, device, image, online, key_of}
 use Rattle.iocm_records.specs.Progress.{Progress, has_key}
 use Rattle.iocm_records.specs.declared.chpid.Lists.{Lists}
 use Rattle.iocm_records.specs.declared.iodevice.Devices.{Devices}

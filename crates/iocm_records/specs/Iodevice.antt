@@ -6,7 +6,7 @@ use Rattle.iocm_types.specs.Fault.{◌>>=◌, or_fault}
 use Rattle.iocm_types.specs.Each.{each}
 use Rattle.iocm_statements.specs.Items.{items_or_one}
 use Rattle.iocm_statements.specs.Numbers.{hex_of}
-use Rattle.iocm_model.specs.Record.{DeviceRecord}
+use Rattle.iocm_model.specs.Machine.Record.{DeviceRecord}
 use Rattle.iocm_records.specs.declared.iodevice.Devices.{Devices}
 use Rattle.iocm_records.specs.Cntlunit.{unit_number, count_of}
 

@@ -1,5 +1,5 @@
 -- What the fields of a record mean: a record of the model, with no allocator in it.
-use Rattle.iocm_model.specs.Record.{Rec, PathRecord, UnitRecord, DeviceRecord, id, resource, image, limit, path, unit, device, online}
+use Rattle.iocm_model.specs.Machine.Record.{Rec, PathRecord, UnitRecord, DeviceRecord, id, resource, image, limit, path, unit, device, online}
 use Rattle.iocm_records.specs.declared.record.PathFields.{PathFields}
 use Rattle.iocm_records.specs.declared.record.UnitFields.{UnitFields}
 use Rattle.iocm_records.specs.declared.record.DeviceFields.{DeviceFields}

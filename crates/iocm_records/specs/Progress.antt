@@ -4,8 +4,8 @@ use Rattle.std.specs.BTreeSet.{BTreeSet, contains}
 use Rattle.std.specs.FinMap.{find}
 use Rattle.iocm_types.specs.declared.key.Key.{Key}
 use Rattle.iocm_types.specs.Key.{key_cmp}
-use Rattle.iocm_model.specs.Record.{Rec}
-use Rattle.iocm_model.specs.Configuration.{keyed, HasNoKeyTwice}
+use Rattle.iocm_model.specs.Machine.Record.{Rec}
+use Rattle.iocm_model.specs.Machine.Configuration.{keyed, HasNoKeyTwice}
 
 -- whether there was a RESOURCE statement, and the records
 pub record Progress : Type 0 where

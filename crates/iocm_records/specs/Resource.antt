@@ -10,7 +10,7 @@ use Rattle.iocm_types.specs.Each.{each}
 use Rattle.iocm_types.specs.Name.{name_of}
 use Rattle.iocm_statements.specs.Items.{items_of}
 use Rattle.iocm_statements.specs.Numbers.{hex_of}
-use Rattle.iocm_model.specs.Record.{ImageRecord}
+use Rattle.iocm_model.specs.Machine.Record.{ImageRecord}
 use Rattle.iocm_records.specs.ByCss.{by_css, in_css_order}
 use Rattle.iocm_records.specs.NameSet.{name_set}
 

@@ -1,6 +1,6 @@
 ghost use Rattle.std.specs.Prelude.{◌≡◌, IfOk, length, take};
 ghost use Rattle.std.specs.Option.{option_copied};
-ghost use Rattle.iocm_model.specs.Record.{CarriedOperand};
+ghost use Rattle.iocm_model.specs.Machine.Record.{CarriedOperand};
 
 use iocm_types::Text;
 use std::alloc::{AllocError, Allocator, Global};
@@ -15,7 +15,7 @@ pub struct Carried<A: Allocator = Global> {
 }
 
 impl<A: Allocator> Model for Carried<A> {
-    ghost use Rattle.iocm_model.specs.Record.{CarriedOperand};
+    ghost use Rattle.iocm_model.specs.Machine.Record.{CarriedOperand};
 
     ghost Value = { CarriedOperand };
 

@@ -1,6 +1,6 @@
 ghost use Rattle.std.specs.Prelude.{◌≡◌, IfOk};
 ghost use Rattle.iocm_types.specs.Fault.{Gives};
-ghost use Rattle.iocm_model.specs.Configuration.{HasNoKeyTwice};
+ghost use Rattle.iocm_model.specs.Machine.Configuration.{HasNoKeyTwice};
 ghost use Rattle.iocm_records.specs.Deck as deck;
 
 use crate::Record;

@@ -1,5 +1,5 @@
 ghost use Rattle.std.specs.Prelude.{◌≡◌, [], ◌++◌, map, slice_get, unwrap_or};
-ghost use Rattle.iocm_model.specs.Naming as names;
+ghost use Rattle.iocm_model.specs.Machine.Naming as names;
 
 use iocm_types::{CssPath, Key, List, Name, Named, UnitNo};
 use std::alloc::Allocator;

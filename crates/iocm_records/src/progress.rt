@@ -3,8 +3,8 @@ ghost use Rattle.std.specs.Ordering.{is_eq};
 ghost use Rattle.iocm_types.specs.Fault.{memory, Gives};
 ghost use Rattle.iocm_types.specs.Key.{key_cmp};
 ghost use Rattle.iocm_types.specs.declared.key.Key.{Key};
-ghost use Rattle.iocm_model.specs.Record.{Rec};
-ghost use Rattle.iocm_model.specs.Configuration.{HasNoKeyTwice};
+ghost use Rattle.iocm_model.specs.Machine.Record.{Rec};
+ghost use Rattle.iocm_model.specs.Machine.Configuration.{HasNoKeyTwice};
 ghost use Rattle.iocm_records.specs.Deck.{with_records, with_statement};
 ghost use Rattle.iocm_records.specs.Progress.{has_claimed, IsKept};
 

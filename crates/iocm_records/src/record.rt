@@ -94,7 +94,7 @@ pub struct Record<A: Allocator = Global> {
 }
 
 impl<A: Allocator> Model for Record<A> {
-    ghost use Rattle.iocm_model.specs.Record.{Rec};
+    ghost use Rattle.iocm_model.specs.Machine.Record.{Rec};
 
     ghost Value = { Rec };
 
@@ -104,8 +104,8 @@ impl<A: Allocator> Model for Record<A> {
 }
 
 impl<A: Allocator> Record<A> {
-    ghost use Rattle.iocm_model.specs.Record.{key_of};
-    ghost use Rattle.iocm_model.specs.Naming.{named_by};
+    ghost use Rattle.iocm_model.specs.Machine.Record.{key_of};
+    ghost use Rattle.iocm_model.specs.Machine.Naming.{named_by};
     ghost use Rattle.iocm_records.specs.Meaning.{record_of};
 
     /// The record with these fields.

@@ -3,7 +3,7 @@ ghost use Rattle.std.specs.List.{filter_map};
 ghost use Rattle.std.specs.Option.{option_copied};
 ghost use Rattle.iocm_types.specs.Each.{each};
 ghost use Rattle.iocm_types.specs.Fault.{Gives};
-ghost use Rattle.iocm_model.specs.Record.{ImageRecord};
+ghost use Rattle.iocm_model.specs.Machine.Record.{ImageRecord};
 ghost use Rattle.iocm_records.specs.ByCss.{in_css_order};
 ghost use Rattle.iocm_records.specs.NameSet.{with_name};
 ghost use Rattle.iocm_records.specs.Resource as meaning;
@@ -27,7 +27,7 @@ pub struct ImageEntry {
 }
 
 impl Model for ImageEntry {
-    ghost use Rattle.iocm_model.specs.Record.{ImageRecord};
+    ghost use Rattle.iocm_model.specs.Machine.Record.{ImageRecord};
 
     ghost Value = { ImageRecord };
 

@@ -1,7 +1,7 @@
 ghost use Rattle.std.specs.Prelude.{◌≡◌, ◌≤◌, ◌<◌, ◌+◌, [], ◌∷◌, ◌++◌, map, IfOk, OnOk, IfSome};
 ghost use Rattle.std.specs.List.{range_with_len};
 ghost use Rattle.iocm_types.specs.Fault.{Gives};
-ghost use Rattle.iocm_model.specs.Record.{image};
+ghost use Rattle.iocm_model.specs.Machine.Record.{image};
 ghost use Rattle.iocm_records.specs.Meaning.{unit_of};
 ghost use Rattle.iocm_records.specs.Iodevice.{address_at};
 ghost use Rattle.iocm_records.specs.Deck as deck;

@@ -1,7 +1,8 @@
 -- An inverse and effects, computed on states as lists.
 use Rattle.std.proofs.Common.{◌≡◌, Some, None, [], ◌∷◌, refl, ap, ◌∙◌}
-use Rattle.iocm_model.specs.Effect.{Effect, effect_of}
-use Rattle.iocm_model.specs.Orders.{fresh}
+use Rattle.iocm_model.specs.Change.Effect.{Effect}
+use Rattle.iocm_model.specs.Change.Runs.{effect_of}
+use Rattle.iocm_model.specs.Operation.Orders.{fresh}
 use Rattle.iocm_examples.specs.BaseDeck.{lpb, online_record, subchannel, device_on_1000, device_key}
 use Rattle.iocm_examples.specs.Effects.{Writes, AnInverse, Effects}
 use Rattle.iocm_examples.specs.Edits.{online_51, delete_1001, base_opened}

@@ -9,9 +9,9 @@ use Rattle.iocm_types.specs.Key.{key_cmp}
 use Rattle.iocm_types.specs.Place.{place_cmp}
 use Rattle.iocm_types.specs.SubId.{sub_id_cmp}
 use Rattle.iocm_examples.specs.BaseDeck.{lpb, online_record, device_on_1000, device_key, subchannel}
-use Rattle.iocm_model.specs.Step.{order, device_end}
-use Rattle.iocm_model.specs.Renumbering.{gap_from}
-use Rattle.iocm_model.specs.Rules.{first_record, first_breach_of}
+use Rattle.iocm_model.specs.Operation.Step.{order, device_end}
+use Rattle.iocm_model.specs.Change.Renumbering.{gap_from}
+use Rattle.iocm_model.specs.Rules.FirstBreach.{first_record, first_breach_of}
 use Rattle.iocm_examples.specs.Edits.{base_opened}
 use Rattle.iocm_examples.proofs.Listed.Views.{renumbered_listed}
 use Rattle.iocm_examples.proofs.Listed.States.{ListedState, listing, record_at_is, live_at_is, ListedEdit, edited_listed, refusal_listed, stepped_listed, answer_listed}

@@ -1,9 +1,9 @@
 -- Edits of paths, computed on states as lists.
 use Rattle.std.proofs.Common.{◌≡◌, None, [], ◌∷◌, refl, ap}
-use Rattle.iocm_model.specs.Edit.{add}
-use Rattle.iocm_model.specs.Effect.{Cells}
+use Rattle.iocm_model.specs.Change.Edit.{add}
+use Rattle.iocm_model.specs.Change.Effect.{Cells}
 use Rattle.iocm_examples.specs.BaseDeck.{lpb, online_record, unit_on, subchannel}
-use Rattle.iocm_model.specs.Step.{order}
+use Rattle.iocm_model.specs.Operation.Step.{order}
 use Rattle.iocm_examples.specs.Edits.{enabled_with, base_opened}
 use Rattle.iocm_examples.specs.Paths.{LiveRecordsComeAlong, base_enabled, APathComesOnline, APathListIsTurned}
 use Rattle.iocm_examples.proofs.OnLists.{on_lists}

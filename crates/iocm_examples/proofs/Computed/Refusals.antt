@@ -1,6 +1,6 @@
 -- Edits that are refused, computed on states as lists.
 use Rattle.std.proofs.Common.{◌≡◌, [], ◌∷◌, refl}
-use Rattle.iocm_model.specs.Step.{order, device_end}
+use Rattle.iocm_model.specs.Operation.Step.{order, device_end}
 use Rattle.iocm_examples.specs.Edits.{started_at, base_started, base_opened}
 use Rattle.iocm_examples.specs.Refusals.{base_ended, base_tested, Keys, ABusySubchannel, PendingStatus}
 use Rattle.iocm_examples.specs.BaseDeck.{subchannel, device_on_1000, device_key}

@@ -1,9 +1,9 @@
 -- The first breaches of decks, computed.
 use Rattle.std.proofs.Common.{◌≡◌, List, refl, ap, ◌∙◌}
 use Rattle.iocm_types.specs.Key.{key_cmp}
-use Rattle.iocm_model.specs.Record.{Rec}
-use Rattle.iocm_model.specs.Configuration.{keyed, configuration_of}
-use Rattle.iocm_model.specs.Numbering.{opening}
+use Rattle.iocm_model.specs.Machine.Record.{Rec}
+use Rattle.iocm_model.specs.Machine.Configuration.{keyed, configuration_of}
+use Rattle.iocm_model.specs.Machine.Numbering.{opening}
 use Rattle.iocm_examples.specs.BaseDeck.{base}
 use Rattle.iocm_examples.specs.Rules.{first_breach_at_opening, two_on_a_dedicated_path, nine_paths, nine_units, limit_of_three, BaseKeepsTheRules, ADedicatedPathOfTwo, AUnitOnNinePaths, ADeviceOfNineUnits, ALimitOfThree, TheOtherRules, AtTheBounds, address_on_another_unit, linked_to, two_with_access, eight_paths, limit_of_four, range_to_the_end, name_used_again, path_of_nobody, online_without_access, online_to_two, no_path, one_path_twice, one_link, range_past_the_end, address_out_of_range, address_used_again, path_by_two_units, candidate_is_nobody, answered_by_two}
 use Rattle.iocm_examples.proofs.OnLists.{states_on_lists}

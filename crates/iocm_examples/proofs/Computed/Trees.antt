@@ -1,7 +1,7 @@
 -- Change trees, computed on states as lists.
 use Rattle.std.proofs.Common.{◌≡◌, ℕ, zero, suc, None, List, [], ◌∷◌, refl, ap}
 use Rattle.iocm_types.specs.declared.sub_id.SubId.{SubId}
-use Rattle.iocm_model.specs.Effect.{Cells}
+use Rattle.iocm_model.specs.Change.Effect.{Cells}
 use Rattle.iocm_examples.specs.BaseDeck.{unit_on, subchannel, device_on_1000, device_key}
 use Rattle.iocm_examples.specs.Trees.{LimitsOfTrees, TakenBackLater, base_grown, started_elsewhere, started_there, AnExchange, NodesOfBreaches, WhereRulesHold, AfterAGroup, EmptyNodes}
 use Rattle.iocm_examples.specs.Edits.{started_at, base_started, base_opened}

@@ -6,12 +6,12 @@ use Rattle.iocm_types.specs.declared.key.Key.{Key}
 use Rattle.iocm_types.specs.declared.place.NumberCell.{NumberCell}
 use Rattle.iocm_types.specs.Place.{cell_cmp}
 use Rattle.iocm_types.proofs.KeyOrder.{cells_total, cells_exact}
-use Rattle.iocm_model.specs.Configuration.{Lookup, keyed, configuration_of, image_of}
-use Rattle.iocm_model.specs.Record.{Rec, ImageRecord}
-use Rattle.iocm_model.specs.View.{row_at, views}
+use Rattle.iocm_model.specs.Machine.Configuration.{Lookup, keyed, configuration_of, image_of}
+use Rattle.iocm_model.specs.Machine.Record.{Rec, ImageRecord}
+use Rattle.iocm_model.specs.Machine.View.{row_at, views}
 use Rattle.iocm_types.specs.declared.sub_id.SubId.{SubId}
 use Rattle.iocm_types.specs.declared.view.View.{View}
-use Rattle.iocm_model.specs.Numbering.{opening, cells_of}
+use Rattle.iocm_model.specs.Machine.Numbering.{opening, cells_of}
 use Rattle.iocm_examples.specs.BaseDeck.{base}
 use Rattle.iocm_examples.specs.Views.{found_in, BaseRows}
 use Rattle.iocm_examples.proofs.Listed.Maps.{entries_in_order}

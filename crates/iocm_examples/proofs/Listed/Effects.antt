@@ -9,13 +9,13 @@ use Rattle.iocm_types.specs.Key.{key_cmp}
 use Rattle.iocm_types.specs.Place.{cell_cmp}
 use Rattle.iocm_types.specs.SubId.{sub_id_cmp}
 use Rattle.iocm_types.proofs.KeyOrder.{keys_total, keys_exact, cells_total, cells_exact, sub_ids_total, sub_ids_exact}
-use Rattle.iocm_model.specs.Record.{Rec}
-use Rattle.iocm_model.specs.Maps.{overwritten}
-use Rattle.iocm_model.specs.Numbering.{cells_of}
-use Rattle.iocm_model.specs.State.{State}
-use Rattle.iocm_model.specs.Edit.{Edit, key_edited, edited}
-use Rattle.iocm_model.specs.Effect.{Cells, Effect, values_in, written, no_cells, both_cells, cells_written, cells_written_by_all, edited_by_all, effect_of}
-use Rattle.iocm_model.specs.InverseTree.{inverses}
+use Rattle.iocm_model.specs.Machine.Record.{Rec}
+use Rattle.iocm_model.specs.Change.Maps.{overwritten}
+use Rattle.iocm_model.specs.Machine.Numbering.{cells_of}
+use Rattle.iocm_model.specs.Operation.State.{State}
+use Rattle.iocm_model.specs.Change.Edit.{Edit, key_edited, edited}
+use Rattle.iocm_model.specs.Change.Effect.{Cells, Effect, values_in, written, no_cells, both_cells, cells_written}
+use Rattle.iocm_model.specs.Change.Runs.{cells_written_by_all, edited_by_all, effect_of, inverses}
 use Rattle.iocm_examples.proofs.Listed.Maps.{put_cells, cells_found, keys_differing, entries-overwritten, entries-cells_at, differing_seen}
 use Rattle.iocm_examples.proofs.Listed.Views.{cells_listed, cells_seen, numbering_listed, numbering_seen}
 use Rattle.iocm_examples.proofs.Listed.States.{ListedState, listing, same_by_listing, ListedEdit, edit_from, edited_listed, edited_seen, altered_listed, altered_seen, inverse_listed, inverse_seen}

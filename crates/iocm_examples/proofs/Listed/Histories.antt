@@ -6,11 +6,12 @@ use Rattle.iocm_types.specs.declared.answer.Answer.{Answer}
 use Rattle.iocm_types.specs.declared.answer.Answer.TheVariants.{Changed, Undone, Redone, Shown, Refused, Io, Ended}
 use Rattle.iocm_types.specs.declared.sub_id.SubId.{SubId}
 use Rattle.iocm_types.proofs.KeyOrder.{sub_ids_total, sub_ids_exact}
-use Rattle.iocm_model.specs.State.{State, views_in, is_among}
-use Rattle.iocm_model.specs.Refusal.{first_not_quiet}
-use Rattle.iocm_model.specs.Effect.{Effect, effect_of}
-use Rattle.iocm_model.specs.Meaning.{Outcome, meaning}
-use Rattle.iocm_model.specs.Step.{Step}
+use Rattle.iocm_model.specs.Operation.State.{State, views_in, is_among}
+use Rattle.iocm_model.specs.Change.Refusal.{first_not_quiet}
+use Rattle.iocm_model.specs.Change.Effect.{Effect}
+use Rattle.iocm_model.specs.Change.Runs.{effect_of}
+use Rattle.iocm_model.specs.Change.Meaning.{Outcome, meaning}
+use Rattle.iocm_model.specs.Operation.Step.{Step}
 use Rattle.iocm_examples.proofs.Listed.Maps.{cond_seen, entries-empty}
 use Rattle.iocm_examples.proofs.Listed.Views.{views_seen}
 use Rattle.iocm_examples.proofs.Listed.States.{ListedState, listing, views_at, ListedEdit, busy_listed, busy_seen, answer_listed, answer_seen, stepped_listed, stepped_seen}

@@ -8,7 +8,7 @@ use Rattle.std.specs.Option.{option_eq}
 use Rattle.std.specs.Ordering.{eq_by_cmp}
 use Rattle.std.specs.declared.cmp.Ordering.TheVariants.{Equal}
 use Rattle.std.specs.FinMap.Entries.{where_key, is_sorted-where_key, find-where_key, same_entries}
-use Rattle.iocm_model.specs.Maps.{with_value, overwritten, cells_at, differing}
+use Rattle.iocm_model.specs.Change.Maps.{with_value, overwritten, cells_at, differing}
 
 -- the entries of a map that is made of a list in order are that list
 pub entries_in_order : {K X : Type 0} (R : K → K → Ordering) → IsTotalOrder R → IsAntisymmetric R → (es : List (K × X)) → T (is_sorted R es)

@@ -10,12 +10,13 @@ use Rattle.iocm_types.specs.declared.rule.Rule.{Rule}
 use Rattle.iocm_types.specs.declared.rule.Rule.TheVariants.{V1, V2, V3, V4, V5, V6, V7, V8, V9, V10, V11, V12, V13, V14}
 use Rattle.iocm_types.specs.declared.unit_range.UnitRange.{UnitRange}
 use Rattle.iocm_types.specs.Place.{place_cmp}
-use Rattle.iocm_model.specs.Record.{Rec, ImageRecord, image, path, unit, device, online}
-use Rattle.iocm_model.specs.Configuration.{Configuration, Lookup, lookup_of, records_of, image_of}
-use Rattle.iocm_model.specs.PathList.{paths_in, path_list}
-use Rattle.iocm_model.specs.Sight.{record_lists}
-use Rattle.iocm_model.specs.Numbering.{Numbering, subsystems}
-use Rattle.iocm_model.specs.Rules.{same_name, stands_before, has_twice, is_image_named, breaks_v3_by_kind, is_exclusive, is_online_at, links_in, has_overlap, lacks_address, answers_on, limit_or_default, answers_for, Breach, rules_of, first_breach_of, first_breach}
+use Rattle.iocm_model.specs.Machine.Record.{Rec, ImageRecord, image, path, unit, device, online}
+use Rattle.iocm_model.specs.Machine.Configuration.{Configuration, Lookup, lookup_of, records_of, image_of}
+use Rattle.iocm_model.specs.Machine.PathList.{paths_in, path_list}
+use Rattle.iocm_model.specs.Machine.Sight.{record_lists}
+use Rattle.iocm_model.specs.Machine.Numbering.{Numbering, subsystems}
+use Rattle.iocm_model.specs.Rules.EachRule.{same_name, stands_before, has_twice, is_image_named, breaks_v3_by_kind, is_exclusive, is_online_at, links_in, has_overlap, lacks_address, answers_on, limit_or_default, answers_for}
+use Rattle.iocm_model.specs.Rules.FirstBreach.{Breach, rules_of, first_breach_of, first_breach}
 use Rattle.iocm_examples.proofs.Listed.Views.{Records, Numbers, record_in, lookup_seen}
 
 -- some of these records with a smaller key is so

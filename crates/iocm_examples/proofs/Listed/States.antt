@@ -16,15 +16,15 @@ use Rattle.iocm_types.specs.Key.{key_cmp}
 use Rattle.iocm_types.specs.Place.{place_cmp}
 use Rattle.iocm_types.specs.SubId.{sub_id_cmp}
 use Rattle.iocm_types.proofs.KeyOrder.{keys_total, keys_exact, places_total, places_exact, sub_ids_total, sub_ids_exact}
-use Rattle.iocm_model.specs.Configuration.{Configuration}
-use Rattle.iocm_model.specs.Numbering.{Numbering, opening, is_reached_at, reached_places}
-use Rattle.iocm_model.specs.Renumbering.{renumbered}
-use Rattle.iocm_model.specs.View.{views}
-use Rattle.iocm_model.specs.State.{State, seen_in, Lives, Views, views_of, views_in, fresh_row, opened}
-use Rattle.iocm_model.specs.Edit.{Action, Edit, key_edited, record_after, config_edited, same_view, live_edited, lives_edited, edited, altered_between, is_altered}
-use Rattle.iocm_model.specs.Refusal.{refused_at, refused_by_key, same_cell, has_cell_twice, is_number_taken, is_not_quiet, first_not_quiet, refused_by_subchannel, refusal_of}
-use Rattle.iocm_model.specs.Inverse.{action_back, inverse_of}
-use Rattle.iocm_model.specs.Step.{Step, subchannel_in, step_answer, answer_in, live_stepped, lives_stepped, stepped}
+use Rattle.iocm_model.specs.Machine.Configuration.{Configuration}
+use Rattle.iocm_model.specs.Machine.Numbering.{Numbering, opening, is_reached_at, reached_places}
+use Rattle.iocm_model.specs.Change.Renumbering.{renumbered}
+use Rattle.iocm_model.specs.Machine.View.{views}
+use Rattle.iocm_model.specs.Operation.State.{State, seen_in, Lives, Views, views_of, views_in, fresh_row, opened}
+use Rattle.iocm_model.specs.Change.Edit.{Action, Edit, key_edited, record_after, config_edited, same_view, live_edited, lives_edited, edited, altered_between, is_altered}
+use Rattle.iocm_model.specs.Change.Refusal.{refused_at, refused_by_key, same_cell, has_cell_twice, is_number_taken, is_not_quiet, first_not_quiet, refused_by_subchannel, refusal_of}
+use Rattle.iocm_model.specs.Change.Inverse.{action_back, inverse_of}
+use Rattle.iocm_model.specs.Operation.Step.{Step, subchannel_in, step_answer, answer_in, live_stepped, lives_stepped, stepped}
 use Rattle.iocm_examples.proofs.Listed.Maps.{entries_in_order, put_all, put_or_without, keys_differing, same_by_entries, entries-from_entries, entries-retain_keys, entries-with_value, differing_seen}
 use Rattle.iocm_examples.proofs.Listed.Views.{Records, Numbers, ViewList, is_place_in, places_listed, places_seen, opening_listed, opening_seen, rows_listed, rows_seen, views_listed, views_seen, renumbered_listed, renumbered_seen}
 use Rattle.std.specs.List as lists

@@ -3,17 +3,17 @@ use Rattle.std.proofs.Common.{◌≡◌, ℕ, ◌+◌, nat_lt, Option, Some, Non
 use Rattle.iocm_types.specs.declared.refused.At.TheVariants.{Key, Nothing}
 use Rattle.iocm_types.specs.declared.refused.Refused.{Refused}
 use Rattle.iocm_types.specs.declared.rule.Rule.TheVariants.{C1, C2}
-use Rattle.iocm_model.specs.Rules.{Breach, first_breach}
-use Rattle.iocm_model.specs.State.{State}
-use Rattle.iocm_model.specs.Edit.{Edit}
-use Rattle.iocm_model.specs.Refusal.{refused_at, refusal_of}
-use Rattle.iocm_model.specs.Tree.{ChangeTree, Parts, leaf, row, group, choose, none, part, leaves_of, depth_of, nodes_of, most_depth, most_leaves}
-use Rattle.iocm_model.specs.Meaning.{Performed, Outcome, at_node, unless_refused, after_run, and_then, or_else, unless_broken, checked, without_parts, node_meaning, parts_meaning, choice_meaning, meaning}
+use Rattle.iocm_model.specs.Rules.FirstBreach.{Breach, first_breach}
+use Rattle.iocm_model.specs.Operation.State.{State}
+use Rattle.iocm_model.specs.Change.Edit.{Edit}
+use Rattle.iocm_model.specs.Change.Refusal.{refused_at, refusal_of}
+use Rattle.iocm_model.specs.Change.Tree.{ChangeTree, Parts, leaf, row, group, choose, none, part, leaves_of, depth_of, nodes_of, most_depth, most_leaves}
+use Rattle.iocm_model.specs.Change.Meaning.{Performed, Outcome, at_node, unless_refused, after_run, and_then, or_else, unless_broken, checked, without_parts, node_meaning, parts_meaning, choice_meaning, meaning, state_reached}
 use Rattle.iocm_examples.proofs.Listed.Maps.{cond_seen}
 use Rattle.iocm_examples.proofs.Listed.Rules.{first_breach_listed, first_breach_seen}
-use Rattle.iocm_model.specs.Effect.{edited_by_all}
+use Rattle.iocm_model.specs.Change.Runs.{edited_by_all}
 use Rattle.iocm_examples.proofs.Listed.Effects.{edits_from, edited_all_listed, edited_all_seen, edited_all_is, inverses_listed, inverses_seen}
-use Rattle.iocm_model.specs.InverseTree.{parts_of, inverse_tree, state_reached}
+use Rattle.iocm_model.specs.Change.InverseTree.{parts_of, inverse_tree}
 use Rattle.iocm_examples.proofs.Listed.States.{ListedState, listing, same_by_listing, ListedEdit, edit_from, edited_listed, edited_seen, refusal_listed, refusal_seen}
 
 mutual

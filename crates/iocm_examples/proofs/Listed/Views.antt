@@ -13,12 +13,12 @@ use Rattle.iocm_types.specs.Key.{key_cmp}
 use Rattle.iocm_types.specs.Place.{place_cmp, cell_cmp}
 use Rattle.iocm_types.specs.SubId.{sub_id_cmp}
 use Rattle.iocm_types.proofs.KeyOrder.{keys_total, keys_exact, places_total, places_exact, cells_total, cells_exact, sub_ids_total, sub_ids_exact}
-use Rattle.iocm_model.specs.Configuration.{Configuration, Lookup, lookup_of, image_of, device_of, keyed, configuration_of}
-use Rattle.iocm_model.specs.Record.{Rec, ImageRecord, DeviceRecord}
-use Rattle.iocm_model.specs.Numbering.{Numbering, subsystems, sets, is_reached, reached_places, is_reached_at, numbered, opening, cells_of, numbering_of}
-use Rattle.iocm_model.specs.Renumbering.{gap_from, lowest_free, without_leavers, with_carried, with_lowest, renumbered}
-use Rattle.iocm_model.specs.View.{row_at, views}
-use Rattle.iocm_model.specs.State.{views_of}
+use Rattle.iocm_model.specs.Machine.Configuration.{Configuration, Lookup, lookup_of, image_of, device_of, keyed, configuration_of}
+use Rattle.iocm_model.specs.Machine.Record.{Rec, ImageRecord, DeviceRecord}
+use Rattle.iocm_model.specs.Machine.Numbering.{Numbering, subsystems, sets, is_reached, reached_places, is_reached_at, numbered, opening, cells_of, numbering_of}
+use Rattle.iocm_model.specs.Change.Renumbering.{gap_from, lowest_free, without_leavers, with_carried, with_lowest, renumbered}
+use Rattle.iocm_model.specs.Machine.View.{row_at, views}
+use Rattle.iocm_model.specs.Operation.State.{views_of}
 use Rattle.iocm_examples.proofs.Listed.Maps.{fold_seen, cond_seen, put_all, entries-from_entries, entries-retain_keys}
 
 -- the records of a configuration, the numbers of places, the devices of number cells, and what is seen, as lists

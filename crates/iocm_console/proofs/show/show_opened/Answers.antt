@@ -1,5 +1,5 @@
 use Rattle.std.proofs.Common.{refl, subst}
-use Rattle.iocm_model.specs.Table.{table_of}
+use Rattle.iocm_model.specs.Machine.Table.{table_of}
 use Rattle.iocm_console.specs.Output.{Prints}
 use Rattle.iocm_console.proofs.Showing.{appends_kept}
 use Rattle.iocm_console.proofs.show.show_opened.Goals as goal

@@ -1,5 +1,5 @@
 use Rattle.std.proofs.Common.{take, ◌≡◌}
-use Rattle.iocm_model.specs.Configuration.{lookup_of}
+use Rattle.iocm_model.specs.Machine.Configuration.{lookup_of}
 use Rattle.iocm_numbers.specs.Numbered.{celled}
 use Rattle.iocm_console.specs.Lines.{image_lines}
 use Rattle.iocm_console.specs.Output.{has_failed, Prints}

@@ -1,6 +1,6 @@
 use Rattle.std.proofs.Common.{[], ◌∷◌, ◌++◌, ap, sym, ◌∙◌}
 use Rattle.std.proofs.lemmas.Result.{on_ok_weaker}
-use Rattle.iocm_model.specs.Table.{line_of}
+use Rattle.iocm_model.specs.Machine.Table.{line_of}
 use Rattle.iocm_console.proofs.Printing.{appends_as, appends_nothing}
 use Rattle.iocm_console.proofs.Rows.{no_view, one_view}
 use Rattle.iocm_console.proofs.table.write_seen.Goals as goal

@@ -1,8 +1,8 @@
 -- One record more.
 use Rattle.std.proofs.Common.{List, subst}
-use Rattle.iocm_model.specs.Record.{Rec}
-use Rattle.iocm_model.specs.Configuration.{lookup_of}
-use Rattle.iocm_model.specs.Numbering.{numbered}
+use Rattle.iocm_model.specs.Machine.Record.{Rec}
+use Rattle.iocm_model.specs.Machine.Configuration.{lookup_of}
+use Rattle.iocm_model.specs.Machine.Numbering.{numbered}
 use Rattle.iocm_derive.specs.FirstNumbers.{IsMore, reached_among}
 use Rattle.iocm_derive.proofs.OneByOne.{start_new, next_new, below_later, kept_over, more_opened, more_past, walked}
 use Rattle.iocm_derive.proofs.first_numbers.number_set.Goals as goal

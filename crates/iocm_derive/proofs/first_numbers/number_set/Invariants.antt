@@ -1,7 +1,7 @@
 -- The records that are left are new, the next number and those above are free, and what the rest makes of the numbering is the whole.
 use Rattle.std.proofs.Common.{◌≡◌, ℕ, drop}
-use Rattle.iocm_model.specs.Configuration.{lookup_of}
-use Rattle.iocm_model.specs.Numbering.{Numbering, numbered}
+use Rattle.iocm_model.specs.Machine.Configuration.{lookup_of}
+use Rattle.iocm_model.specs.Machine.Numbering.{Numbering, numbered}
 use Rattle.iocm_derive.specs.FirstNumbers.{reached_among, IsMore, IsUnnumbered, AreNew, AreFree}
 use Rattle.iocm_derive.proofs.first_numbers.number_set.Given as goal
 

@@ -1,7 +1,7 @@
 -- The sets that are left have no numbers, and what they make of the numbering is the whole.
 use Rattle.std.proofs.Common.{◌≡◌, ℕ, ◌≤◌, drop}
 use Rattle.std.specs.List.{flat_map}
-use Rattle.iocm_model.specs.Numbering.{Numbering, numbered, reached_in}
+use Rattle.iocm_model.specs.Machine.Numbering.{Numbering, numbered, reached_in}
 use Rattle.iocm_derive.specs.FirstNumbers.{IsMore, IsUnnumbered, sets}
 use Rattle.iocm_derive.proofs.first_numbers.number_subsystem.Given as goal
 

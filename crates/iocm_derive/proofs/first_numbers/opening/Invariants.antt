@@ -2,7 +2,7 @@
 use Rattle.std.proofs.Common.{ℕ, ◌≤◌, drop}
 use Rattle.std.specs.List.{flat_map}
 use Rattle.std.specs.FinMap.{empty}
-use Rattle.iocm_model.specs.Numbering.{Numbering, numbered, reached_in}
+use Rattle.iocm_model.specs.Machine.Numbering.{Numbering, numbered, reached_in}
 use Rattle.iocm_derive.specs.FirstNumbers.{IsMore, IsUnnumbered, sets, subsystems}
 use Rattle.iocm_derive.proofs.first_numbers.opening.Given as goal
 

@@ -1,7 +1,7 @@
 -- The table is right up to the number.
 use Rattle.std.proofs.Common.{◌≡◌, ℕ, ◌<◌, false, length, get_or}
-use Rattle.iocm_model.specs.Configuration.{lookup_of}
-use Rattle.iocm_model.specs.Mask.{is_online}
+use Rattle.iocm_model.specs.Machine.Configuration.{lookup_of}
+use Rattle.iocm_model.specs.Machine.Mask.{is_online}
 use Rattle.iocm_derive.proofs.image_sight.online_table.Given as goal
 
 abbrev pub invariant-loop-number : goal.invariant-loop-number

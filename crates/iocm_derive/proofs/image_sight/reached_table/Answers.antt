@@ -1,8 +1,8 @@
 -- One number more.
 use Rattle.std.proofs.Common.{arith, ap, ◌∙◌}
 use Rattle.std.proofs.Math.ListN.{length-set}
-use Rattle.iocm_model.specs.Configuration.{lookup_of}
-use Rattle.iocm_model.specs.Sight.{reaches}
+use Rattle.iocm_model.specs.Machine.Configuration.{lookup_of}
+use Rattle.iocm_model.specs.Machine.Sight.{reaches}
 use Rattle.iocm_derive.proofs.TableMore.{table_more}
 use Rattle.iocm_derive.proofs.image_sight.reached_table.Goals as goal
 

@@ -1,8 +1,8 @@
 -- The bits so far, with those of the paths that are left, are the mask.
 use Rattle.std.proofs.Common.{◌≡◌, ◌+◌, ◌*◌, ◌≤◌, drop}
-use Rattle.iocm_model.specs.Configuration.{lookup_of}
-use Rattle.iocm_model.specs.Mask.{mask_from}
-use Rattle.iocm_model.specs.Sight.{reaches}
+use Rattle.iocm_model.specs.Machine.Configuration.{lookup_of}
+use Rattle.iocm_model.specs.Machine.Mask.{mask_from}
+use Rattle.iocm_model.specs.Machine.Sight.{reaches}
 use Rattle.iocm_derive.proofs.masks.pim.Given as goal
 
 abbrev pub invariant-loop-path : goal.invariant-loop-path

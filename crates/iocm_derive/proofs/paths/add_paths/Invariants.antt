@@ -1,6 +1,6 @@
 -- The paths so far, with those that are left, are those at the end.
 use Rattle.std.proofs.Common.{◌≡◌, ◌≤◌, ◌++◌, length, take, drop}
-use Rattle.iocm_model.specs.PathList.{paths_in}
+use Rattle.iocm_model.specs.Machine.PathList.{paths_in}
 use Rattle.iocm_derive.proofs.paths.add_paths.Given as goal
 
 abbrev pub invariant-loop-path : goal.invariant-loop-path

@@ -1,6 +1,6 @@
 -- One control unit more.
 use Rattle.std.proofs.Common.{sym, ap, ◌∙◌, ◌++◌, take}
-use Rattle.iocm_model.specs.Configuration.{lookup_of}
+use Rattle.iocm_model.specs.Machine.Configuration.{lookup_of}
 use Rattle.iocm_derive.proofs.Eight.{take_more}
 use Rattle.iocm_derive.proofs.Joined.{units_opened}
 use Rattle.iocm_derive.proofs.paths.paths_of_units_near.Goals as goal

@@ -1,7 +1,7 @@
 -- The paths so far, with those of the units that are left, are those at the end.
 use Rattle.std.proofs.Common.{◌≡◌, ◌≤◌, ◌++◌, length, take, drop}
-use Rattle.iocm_model.specs.Configuration.{lookup_of}
-use Rattle.iocm_model.specs.PathList.{path_list}
+use Rattle.iocm_model.specs.Machine.Configuration.{lookup_of}
+use Rattle.iocm_model.specs.Machine.PathList.{path_list}
 use Rattle.iocm_derive.proofs.paths.paths_of_units_near.Given as goal
 
 abbrev pub invariant-loop-unit : goal.invariant-loop-unit

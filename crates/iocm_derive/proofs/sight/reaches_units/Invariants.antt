@@ -1,9 +1,9 @@
 -- None of the units so far has a path that is reached.
 use Rattle.std.proofs.Common.{◌≡◌, drop}
 use Rattle.std.specs.List.{list_any}
-use Rattle.iocm_model.specs.Configuration.{lookup_of}
-use Rattle.iocm_model.specs.PathList.{path_list}
-use Rattle.iocm_model.specs.Sight.{reaches}
+use Rattle.iocm_model.specs.Machine.Configuration.{lookup_of}
+use Rattle.iocm_model.specs.Machine.PathList.{path_list}
+use Rattle.iocm_model.specs.Machine.Sight.{reaches}
 use Rattle.iocm_derive.proofs.sight.reaches_units.Given as goal
 
 abbrev pub invariant-loop-unit : goal.invariant-loop-unit

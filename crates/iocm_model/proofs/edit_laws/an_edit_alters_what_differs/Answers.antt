@@ -1,5 +1,5 @@
 -- The laws are proved of the definitions.
-use Rattle.iocm_model.proofs.EditsGoBack.{alters_what_differs, keeps_the_others}
+use Rattle.iocm_model.proofs.Change.EditsGoBack.{alters_what_differs, keeps_the_others}
 use Rattle.iocm_model.proofs.edit_laws.an_edit_alters_what_differs.Goals as goal
 
 pub returns-clause-altered : goal.returns-clause-altered

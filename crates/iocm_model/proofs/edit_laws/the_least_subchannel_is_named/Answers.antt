@@ -1,5 +1,5 @@
 -- The laws are proved of the definitions.
-use Rattle.iocm_model.proofs.LeastNotQuiet.{names_the_least, names_none_where_quiet}
+use Rattle.iocm_model.proofs.Change.LeastNotQuiet.{names_the_least, names_none_where_quiet}
 use Rattle.iocm_model.proofs.edit_laws.the_least_subchannel_is_named.Goals as goal
 
 pub returns-clause-least : goal.returns-clause-least

@@ -1,7 +1,7 @@
 -- A key that is new goes in, and one that is there refuses its record.
 use Rattle.std.proofs.Common.{◌++◌, inr, refl, sym, ◌∙◌, ap, subst, Ok}
 use Rattle.std.proofs.lemmas.List.{take_all}
-use Rattle.iocm_model.specs.Record.{key_of}
+use Rattle.iocm_model.specs.Machine.Record.{key_of}
 use Rattle.iocm_records.specs.Progress.{IsKept}
 use Rattle.iocm_records.proofs.Claiming.{goes_in, refused, all_in, taken_more, kept_push, was_there, was_new}
 use Rattle.iocm_records.proofs.progress.claim_keys.Goals as goal

@@ -1,5 +1,5 @@
 use Rattle.std.proofs.Common.{◌≡◌, ◌++◌, List, take, drop}
-use Rattle.iocm_model.specs.Record.{Rec}
+use Rattle.iocm_model.specs.Machine.Record.{Rec}
 use Rattle.iocm_records.specs.Deck.{with_records}
 use Rattle.iocm_records.specs.Progress.{IsKept}
 use Rattle.iocm_records.proofs.progress.claim_keys.Given as goal

@@ -1,5 +1,5 @@
 use Rattle.std.proofs.Common.{◌≡◌, map, take}
-use Rattle.iocm_model.specs.Record.{image}
+use Rattle.iocm_model.specs.Machine.Record.{image}
 use Rattle.iocm_records.proofs.statements.image_records.Given as goal
 
 abbrev pub invariant-loop-image : goal.invariant-loop-image

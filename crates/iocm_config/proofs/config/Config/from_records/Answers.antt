@@ -7,7 +7,7 @@ use Rattle.iocm_types.specs.declared.key.Key.{Key}
 use Rattle.iocm_types.specs.Key.{key_cmp}
 use Rattle.iocm_types.proofs.KeyOrder.{derived_cmp, keys_total, keys_exact}
 use Rattle.iocm_types.proofs.Permuted.{sorted-permuted, map-permuted}
-use Rattle.iocm_model.specs.Record.{Rec, key_of}
+use Rattle.iocm_model.specs.Machine.Record.{Rec, key_of}
 use Rattle.iocm_config.proofs.Places.{no_key_twice}
 use Rattle.iocm_config.proofs.config.Config.from_records.Goals as goal
 

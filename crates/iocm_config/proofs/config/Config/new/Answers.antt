@@ -3,8 +3,8 @@ use Rattle.std.proofs.Common.{ap, ◌∙◌, List}
 use Rattle.std.specs.FinMap as map
 use Rattle.iocm_types.specs.Key.{key_cmp}
 use Rattle.iocm_types.proofs.Sorted.{map-empty}
-use Rattle.iocm_model.specs.Record.{Rec, key_of}
-use Rattle.iocm_model.specs.Configuration.{keyed}
+use Rattle.iocm_model.specs.Machine.Record.{Rec, key_of}
+use Rattle.iocm_model.specs.Machine.Configuration.{keyed}
 use Rattle.iocm_config.proofs.config.Config.new.Goals as goal
 
 pub returns : goal.returns

@@ -2,7 +2,7 @@
 use Rattle.std.proofs.Common.{◌≡◌, ◌<◌, None, ap, refl, sym, ◌∙◌, arith}
 use Rattle.std.specs.FinMap as map
 use Rattle.iocm_types.specs.declared.key.Key.{Key}
-use Rattle.iocm_model.specs.Record.{key_of}
+use Rattle.iocm_model.specs.Machine.Record.{key_of}
 use Rattle.iocm_config.specs.Stored.{Stored}
 use Rattle.iocm_config.proofs.Places as places
 use Rattle.iocm_config.proofs.config.Config.put.Goals as goal

@@ -2,7 +2,7 @@
 use Rattle.std.proofs.Common.{ap, sym, ◌∙◌}
 use Rattle.std.specs.FinMap as map
 use Rattle.iocm_types.specs.Key.{key_cmp}
-use Rattle.iocm_model.specs.Configuration.{keyed}
+use Rattle.iocm_model.specs.Machine.Configuration.{keyed}
 use Rattle.iocm_config.specs.Stored.{Stored}
 use Rattle.iocm_config.proofs.config.Config.walk.Goals as goal
 

@@ -1,6 +1,6 @@
 use Rattle.std.proofs.Common.{take}
 use Rattle.std.specs.Fmt.{HasWritten, IsPlainFormatter}
-use Rattle.iocm_model.specs.Table.{chpids}
+use Rattle.iocm_model.specs.Machine.Table.{chpids}
 use Rattle.iocm_console.proofs.row.PathNumbersDisplay.fmt.Given as goal
 
 abbrev pub invariant-loop-path : goal.invariant-loop-path

@@ -1,9 +1,9 @@
 -- None of the paths so far is reached.
 use Rattle.std.proofs.Common.{◌≡◌, drop}
 use Rattle.std.specs.List.{list_any}
-use Rattle.iocm_model.specs.Configuration.{lookup_of}
-use Rattle.iocm_model.specs.PathList.{paths_in}
-use Rattle.iocm_model.specs.Sight.{reaches}
+use Rattle.iocm_model.specs.Machine.Configuration.{lookup_of}
+use Rattle.iocm_model.specs.Machine.PathList.{paths_in}
+use Rattle.iocm_model.specs.Machine.Sight.{reaches}
 use Rattle.iocm_derive.proofs.image_sight.ImageSight.reaches_any.Given as goal
 
 abbrev pub invariant-loop-path : goal.invariant-loop-path

@@ -2,7 +2,7 @@
 use Rattle.std.proofs.Common.{ap, sym, ◌∙◌}
 use Rattle.std.specs.FinMap as map
 use Rattle.iocm_types.specs.Place.{cell_cmp}
-use Rattle.iocm_model.specs.Numbering.{cells_of}
+use Rattle.iocm_model.specs.Machine.Numbering.{cells_of}
 use Rattle.iocm_numbers.specs.Numbered.{Numbered, celled}
 use Rattle.iocm_numbers.proofs.numbers.Numbers.cells.Goals as goal
 

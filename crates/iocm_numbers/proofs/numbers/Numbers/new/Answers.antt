@@ -3,7 +3,7 @@ use Rattle.std.proofs.Common.{◌≡◌, ap, sym, ◌∙◌, subst, List, [], T}
 use Rattle.std.specs.FinMap as map
 use Rattle.iocm_types.specs.Place.{place_cmp, cell_cmp}
 use Rattle.iocm_types.proofs.Sorted.{map-empty}
-use Rattle.iocm_model.specs.Numbering.{cells_of}
+use Rattle.iocm_model.specs.Machine.Numbering.{cells_of}
 use Rattle.iocm_numbers.specs.Numbered.{placed, celled}
 use Rattle.iocm_numbers.specs.declared.entry.PlaceNumber.{PlaceNumber}
 use Rattle.iocm_numbers.specs.declared.entry.CellDevice.{CellDevice}

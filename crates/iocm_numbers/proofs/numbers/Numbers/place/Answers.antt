@@ -3,7 +3,7 @@ use Rattle.std.proofs.Common.{ℕ, ap, sym, ◌∙◌}
 use Rattle.std.specs.FinMap as map
 use Rattle.std.specs.FinMap.{FinMap}
 use Rattle.iocm_types.specs.Place.{cell_cmp}
-use Rattle.iocm_model.specs.Numbering.{cells_of, device_at}
+use Rattle.iocm_model.specs.Machine.Numbering.{cells_of, device_at}
 use Rattle.iocm_numbers.specs.Numbered.{Numbered, placed, cell_at}
 use Rattle.iocm_numbers.proofs.Tables.{cells_insert}
 use Rattle.iocm_numbers.proofs.numbers.Numbers.place.Goals as goal

@@ -1,0 +1,3 @@
+-- Configurations and views.
+pub mod OwnKeys
+pub mod Views

@@ -1,0 +1,71 @@
+-- To overwrite cells as another map has them gives that map, where the two agree elsewhere.
+use Rattle.std.proofs.Common.{◌≡◌, Bool, true, false, cond, ◌||◌, List, [], ◌∷◌, ◌++◌, Option, Some, None, refl, sym, ap, ◌∙◌}
+use Rattle.std.specs.List.{list_any, find}
+use Rattle.std.specs.Ordering.{is_eq, eq_by_cmp}
+use Rattle.std.specs.declared.cmp.Ordering.{Ordering}
+use Rattle.std.specs.Cmp.{IsTotalOrder, tied_itself}
+use Rattle.std.specs.FinMap.{FinMap, IsAntisymmetric, get, entries, same_map}
+use Rattle.iocm_model.specs.Change.Maps.{overwritten, cells_at}
+use Rattle.iocm_model.proofs.Maps.Found.{same_key}
+use Rattle.iocm_model.proofs.Maps.Cells.{get_overwritten_as}
+
+or_right : (a b : Bool) → (a || b) ≡ false → b ≡ false
+or_right true b h = cc
+or_right false b h = h
+
+or_left : (a b : Bool) → (a || b) ≡ false → a ≡ false
+or_left true b h = h
+or_left false b h = refl
+
+module _ {K : Type 0} (R : K → K → Ordering) where
+  or_assoc : (a b c : Bool) → (a || (b || c)) ≡ ((a || b) || c)
+  or_assoc true b c = refl
+  or_assoc false b c = refl
+
+  pub any_append : (q : K) (xs ys : List K) → list_any (eq_by_cmp R q) (xs ++ ys) ≡ (list_any (eq_by_cmp R q) xs || list_any (eq_by_cmp R q) ys)
+  any_append q [] ys = refl
+  any_append q (x ∷ xs) ys = ap (λ b. eq_by_cmp R q x || b) (any_append q xs ys) ∙ or_assoc (eq_by_cmp R q x) _ _
+
+  -- a key that stands in neither of two lists
+  pub not_in_first : (q : K) (xs ys : List K) → list_any (eq_by_cmp R q) (xs ++ ys) ≡ false → list_any (eq_by_cmp R q) xs ≡ false
+  not_in_first q xs ys h = or_left _ _ (sym (any_append q xs ys) ∙ h)
+
+  pub not_in_second : (q : K) (xs ys : List K) → list_any (eq_by_cmp R q) (xs ++ ys) ≡ false → list_any (eq_by_cmp R q) ys ≡ false
+  not_in_second q xs ys h = or_right _ _ (sym (any_append q xs ys) ∙ h)
+
+module _ {K : Type 0} (R : K → K → Ordering) (total : IsTotalOrder R) (exact : IsAntisymmetric R) where
+  stands_first : (x : K) (xs : List K) → list_any (eq_by_cmp R x) (x ∷ xs) ≡ true
+  stands_first x xs = ap (λ r. is_eq r || list_any (eq_by_cmp R x) xs) (tied_itself total x)
+
+  stands_later : (a b : Bool) → b ≡ true → (a || b) ≡ true
+  stands_later true b h = refl
+  stands_later false b h = h
+
+  -- where no key of a list passes a test, none is found
+  pub find_none : (test : K → Bool) (xs : List K) → ((q : K) → list_any (eq_by_cmp R q) xs ≡ true → test q ≡ false) → find test xs ≡ None
+  find_none test [] none = refl
+  find_none test (x ∷ xs) none =
+      let here : test x ≡ false = none x (stands_first x xs) in
+      rw here (find_none test xs (λ q h. none q (stands_later (eq_by_cmp R q x) _ h)))
+
+  found_by : (test : K → Bool) (x q : K) (xs : List K) (a b : Bool) → test x ≡ a → eq_by_cmp R q x ≡ b → cond a (Some x) (find test xs) ≡ None
+      → (find test xs ≡ None → list_any (eq_by_cmp R q) xs ≡ true → test q ≡ false) → (b || list_any (eq_by_cmp R q) xs) ≡ true → test q ≡ false
+  found_by test x q xs true b e f n more h = cc
+  found_by test x q xs false true e f n more h = ap test (same_key R exact q x f) ∙ e
+  found_by test x q xs false false e f n more h = more n h
+
+  -- and where none is found, none passes
+  pub none_found : (test : K → Bool) (xs : List K) → find test xs ≡ None → (q : K) → list_any (eq_by_cmp R q) xs ≡ true → test q ≡ false
+  none_found test [] none q h = cc
+  none_found test (x ∷ xs) none q h = found_by test x q xs (test x) (eq_by_cmp R q x) refl refl none (λ n m. none_found test xs n q m) h
+
+module _ {K X : Type 0} {R : K → K → Ordering} (total : IsTotalOrder R) (exact : IsAntisymmetric R) where
+  at_each : (b : Bool) (x y : Option X) → (b ≡ false → y ≡ x) → cond b x y ≡ x
+  at_each true x y same = refl
+  at_each false x y same = same refl
+
+  -- overwritten as another map has it, a map is that one, where the two agree at all other keys
+  pub overwritten_is : (m n : FinMap R X) (ks : List K) → ((q : K) → list_any (eq_by_cmp R q) ks ≡ false → get m q ≡ get n q)
+      → overwritten (entries (cells_at n ks)) m ≡ n
+  overwritten_is m n ks same = same_map total exact _ _
+      (λ q. get_overwritten_as total exact n ks m q ∙ at_each (list_any (eq_by_cmp R q) ks) (get n q) (get m q) (same q))

@@ -1,0 +1,2 @@
+-- The first breach of the rules.
+pub mod FirstBreach

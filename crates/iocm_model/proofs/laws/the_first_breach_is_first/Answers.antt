@@ -1,8 +1,0 @@
-use Rattle.iocm_model.proofs.Breaches.{answers_the_first, answers_none}
-use Rattle.iocm_model.proofs.laws.the_first_breach_is_first.Goals as goal
-
-pub returns-clause-found : goal.returns-clause-found
-returns-clause-found c = answers_the_first
-
-pub returns-clause-none : goal.returns-clause-none
-returns-clause-none c = answers_none

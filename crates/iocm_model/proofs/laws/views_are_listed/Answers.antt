@@ -1,6 +1,0 @@
--- The law is proved of the definitions.
-use Rattle.iocm_model.proofs.AllViews.{views_listed}
-use Rattle.iocm_model.proofs.laws.views_are_listed.Goals as goal
-
-pub returns : goal.returns
-returns c = views_listed

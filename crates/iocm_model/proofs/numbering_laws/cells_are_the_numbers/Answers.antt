@@ -1,6 +1,0 @@
--- The law is proved of the definitions.
-use Rattle.iocm_model.proofs.NumbersCells.{cells_give_numbers}
-use Rattle.iocm_model.proofs.numbering_laws.cells_are_the_numbers.Goals as goal
-
-pub returns : goal.returns
-returns c = cells_give_numbers

@@ -1,0 +1,7 @@
+-- What the definitions promise.
+pub mod Breaches
+pub mod Edits
+pub mod Numbers
+pub mod Runs
+pub mod Steps
+pub mod Trees

@@ -1,0 +1,51 @@
+ghost use Rattle.iocm_model.specs.Laws.Numbers.{
+  LowestFreeIsFree,
+  LowestFreeIsFound,
+  ReachedPlacesAreOfDevices,
+  RenumberedAreExact,
+  StayersKeepTheirs,
+  CarriedComeBack,
+  RenumberedAreNumbers,
+  RenumberingGoesBack,
+  FreedAreNotTaken,
+  OpeningAreNumbers,
+  CellsAreTheNumbers,
+};
+
+/// A place is reached exactly where its device is there and its path list isn't empty.
+pub fn reached_places_are_of_devices()
+    ensures { ReachedPlacesAreOfDevices }
+{}
+
+/// In each channel subsystem and set each device that is reached there has a number, and no two have the same: at opening, and
+/// after a change whose carried numbers are free.
+pub fn no_number_comes_twice()
+    ensures opening { OpeningAreNumbers }
+    ensures change { RenumberedAreNumbers }
+{}
+
+/// After a change exactly the devices that the new configuration reaches have a number; those that stay keep theirs, and
+/// those that come back with their place get it.
+pub fn numbers_after_a_change()
+    ensures exact { RenumberedAreExact }
+    ensures stay { StayersKeepTheirs }
+    ensures come_back { CarriedComeBack }
+{}
+
+/// The lowest free number of a channel subsystem and set isn't used, and each smaller one is; where fewer
+/// numbers than some count are used, it is below that count, so an arriving device always finds one.
+pub fn the_lowest_free_number_is_free()
+    ensures free { LowestFreeIsFree }
+    ensures found { LowestFreeIsFound }
+{}
+
+/// With the places that a change freed the old numbers come back, and none of them is taken then.
+pub fn numbers_go_back()
+    ensures back { RenumberingGoesBack }
+    ensures free { FreedAreNotTaken }
+{}
+
+/// Number cells and numbers say the same.
+pub fn cells_are_the_numbers()
+    ensures { CellsAreTheNumbers }
+{}
