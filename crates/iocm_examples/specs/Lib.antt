@@ -1,11 +1,16 @@
 pub mod BaseDeck
+pub mod DefaultLimits
 pub mod Edits
 pub mod Effects
+pub mod FirstRefusals
+pub mod FunctionsInProgress
 pub mod Histories
+pub mod LongPathLists
 pub mod Numbers
 pub mod Orders
 pub mod Paths
 pub mod Refusals
+pub mod RuleClauses
 pub mod Rules
 pub mod Trees
 pub mod Views

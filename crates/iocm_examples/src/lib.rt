@@ -23,9 +23,11 @@ pub use histories::{
     undo_and_redo_are_as_worked,
 };
 pub use numbers::numbers_are_as_worked;
-pub use orders::orders_are_as_worked;
+pub use orders::{functions_in_progress_are_as_worked, orders_are_as_worked};
 pub use paths::paths_change_as_worked;
-pub use refusals::refusals_are_as_worked;
-pub use rules::rules_are_as_worked;
+pub use refusals::{first_refusals_are_as_worked, refusals_are_as_worked};
+pub use rules::{
+    clauses_of_rules_are_as_worked, limits_of_sets_are_as_worked, rules_are_as_worked,
+};
 pub use trees::trees_are_as_worked;
-pub use views::views_are_as_worked;
+pub use views::{long_path_lists_are_as_worked, views_are_as_worked};

@@ -75,7 +75,7 @@ a_number_comes_along = record {
 }
 
 -- the example deck with a second channel subsystem, opened, as lists
-unfoldable second_listing : ListedState
+unfoldable pub second_listing : ListedState
 second_listing = record {
   records = put_all key_cmp (keyed second_subsystem);
   numbers = place_of 0x1000 0 ∷ place_of 0x1001 1 ∷ place_of 0x1002 2 ∷ place_of 0x1003 3 ∷ [];
@@ -89,7 +89,7 @@ unfolding second_listing states_on_lists
 second_computed = refl
 
 -- and they are those of the state
-second_is : listing second_opened ≡ second_listing
+pub second_is : listing second_opened ≡ second_listing
 unfolding second_opened
 second_is = opened_seen (configuration_of second_subsystem) ∙ ap opened_listed (entries-configuration_of second_subsystem) ∙ second_computed
 

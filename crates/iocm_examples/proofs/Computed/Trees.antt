@@ -78,11 +78,11 @@ empty_nodes = record {
 }
 
 -- Rows in one another, and Rows of empty Rows
-abbrev nested_listed : ℕ → ListedPlan
+abbrev pub nested_listed : ℕ → ListedPlan
 nested_listed zero = in_row no_parts
 nested_listed (suc k) = in_row (and_part (nested_listed k) no_parts)
 
-abbrev times_listed : ℕ → ListedPlan → ListedPlans
+abbrev pub times_listed : ℕ → ListedPlan → ListedPlans
 times_listed zero p = no_parts
 times_listed (suc k) p = and_part p (times_listed k p)
 

@@ -20,7 +20,7 @@ use Rattle.iocm_model.specs.Rules.FirstBreach.{Breach, rules_of, first_breach_of
 use Rattle.iocm_examples.proofs.Listed.Views.{Records, Numbers, record_in, lookup_seen}
 
 -- some of these records with a smaller key is so
-abbrev some_of : List Rec → Rec → (Rec → Bool) → Bool
+abbrev pub some_of : List Rec → Rec → (Rec → Bool) → Bool
 some_of rs r is_so = list_any (λ other. stands_before other r && is_so other) rs
 
 -- each rule by the look-up, the records, the images and the numbers
@@ -37,7 +37,7 @@ abbrev v3_by : Rec → Bool
 v3_by (path p) = breaks_v3_by_kind p.kind p.access p.candidates
 v3_by _ = false
 
-abbrev v4_by : Lookup → List Rec → Rec → Bool
+abbrev pub v4_by : Lookup → List Rec → Rec → Bool
 v4_by at rs (online o) = let p = at (Path o.css o.path) in
     not (record_lists o.name p) || (is_exclusive p && some_of rs (online o) (is_online_at o.css o.path))
 v4_by at rs _ = false
