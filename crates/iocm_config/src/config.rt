@@ -2,7 +2,7 @@ ghost use Rattle.std.specs.Prelude.{◌≡◌, ◌+◌, ◌<◌, ◌≤◌, ◌�
 ghost use Rattle.std.specs.Option.{option_copied};
 ghost use Rattle.std.specs.FinMap as map;
 ghost use Rattle.iocm_model.specs.Machine.Record.{key_of};
-ghost use Rattle.iocm_model.specs.Machine.Configuration.{keyed, configuration_of, HasNoKeyTwice, IsKeyed};
+ghost use Rattle.iocm_model.specs.Machine.Configuration.{with_keys, configuration_of, HasNoKeyTwice, IsKeyed};
 
 use crate::search::{search, search_near};
 use iocm_records::Record;
@@ -23,7 +23,7 @@ impl<A: Allocator> Model for Config<A> {
     ghost use Rattle.std.specs.FinMap as map;
     ghost use Rattle.std.specs.Coded.{code_by, coded×, coded_ℕ};
     ghost use Rattle.iocm_types.specs.Key.{key_cmp};
-    ghost use Rattle.iocm_model.specs.Machine.Configuration.{Configuration, keyed};
+    ghost use Rattle.iocm_model.specs.Machine.Configuration.{Configuration, with_keys};
     ghost use Rattle.iocm_config.specs.Stored.{Stored};
     ghost use Rattle.std.specs.Coded.{codes};
 
@@ -32,9 +32,9 @@ impl<A: Allocator> Model for Config<A> {
     ghost coded = { code_by (Configuration × ℕ) (coded× (map.code (Prim.hlevel codes) (Prim.hlevel codes)) coded_ℕ)
         (λ s. (s.records, s.room)) (λ p. record { records = p.0; room = p.1 }) (λ _. refl) };
 
-    ghost view = { λ c. record { records = map.from_sorted (keyed c.records.items); room = vec_capacity c.records - vec_len c.records } };
+    ghost view = { λ c. record { records = map.from_sorted (with_keys c.records.items); room = vec_capacity c.records - vec_len c.records } };
 
-    ghost invariant = { λ c. T (map.is_sorted key_cmp (keyed c.records.items)) };
+    ghost invariant = { λ c. T (map.is_sorted key_cmp (with_keys c.records.items)) };
 }
 
 impl<A: Allocator> Config<A> {
@@ -91,7 +91,7 @@ impl<A: Allocator> Config<A> {
 
     /// All records, in the order of keys.
     pub fn walk(&self) -> &[Record<A>]
-        ensures { keyed result.now ≡ map.entries self.now.records }
+        ensures { with_keys result.now ≡ map.entries self.now.records }
     {
         self.records.as_slice()
     }

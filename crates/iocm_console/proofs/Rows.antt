@@ -15,7 +15,7 @@ use Rattle.iocm_model.specs.Machine.Record.{Rec, ImageRecord, image}
 use Rattle.std.specs.FinMap.{entries}
 use Rattle.iocm_types.specs.declared.key.Key.{Key}
 use Rattle.iocm_types.specs.declared.sub_id.SubId.{SubId}
-use Rattle.iocm_model.specs.Machine.Configuration.{Configuration, Lookup, lookup_of, keyed, image_of, records_of}
+use Rattle.iocm_model.specs.Machine.Configuration.{Configuration, Lookup, lookup_of, with_keys, as_image, records_of}
 use Rattle.iocm_model.specs.Machine.Numbering.{Numbering, cells_of}
 use Rattle.iocm_model.specs.Machine.Table.{line_of, heading, table_of}
 use Rattle.iocm_model.specs.Machine.View.{row_at, image_view}
@@ -71,7 +71,7 @@ unfolding record_lines
 record_lines-image c cells r i same = rw same (sym (append-nil _))
 
 -- any other record has none
-pub record_lines-other : (c : Lookup) (cells : Cells) (r : Rec) → image_of r ≡ None → record_lines c cells (r ∷ []) ≡ []
+pub record_lines-other : (c : Lookup) (cells : Cells) (r : Rec) → as_image r ≡ None → record_lines c cells (r ∷ []) ≡ []
 unfolding record_lines
 record_lines-other c cells r none = rw none refl
 
@@ -86,7 +86,7 @@ unfolding record_lines
 record_lines-nil c cells = refl
 
 -- a record that is no image's
-pub no_image : {A : Type 0} (b : RecordBody A) → ((css mif : ℕ) (name : List ℕ) → b ≡ body.Image css mif name → ⊥) → image_of (record_of b) ≡ None
+pub no_image : {A : Type 0} (b : RecordBody A) → ((css mif : ℕ) (name : List ℕ) → b ≡ body.Image css mif name → ⊥) → as_image (record_of b) ≡ None
 no_image (body.Id x) h = refl
 no_image (body.Resource x) h = refl
 no_image (body.Image css mif name) h = absurd (h css mif name refl)
@@ -97,7 +97,7 @@ no_image (body.Device x) h = refl
 no_image (body.Online css path name) h = refl
 
 -- the records under their keys are the records
-records_back : (records : List Rec) → map (λ (e : Key × Rec). e.1) (keyed records) ≡ records
+records_back : (records : List Rec) → map (λ (e : Key × Rec). e.1) (with_keys records) ≡ records
 records_back [] = refl
 records_back (r ∷ rs) = ap (λ xs. r ∷ xs) (records_back rs)
 
@@ -108,11 +108,11 @@ lines_of-flat_map f [] = refl
 lines_of-flat_map f (i ∷ is) = flat_map-append _ (f i) (flat_map f is) ∙ ap (λ xs. lines_of (f i) ++ xs) (lines_of-flat_map f is)
 
 -- the heading and then the lines of all records are the table
-pub table_lines : (c : Configuration) (n : Numbering) (cells : Cells) (records : List Rec) → keyed records ≡ entries c → cells ≡ entries (cells_of n)
+pub table_lines : (c : Configuration) (n : Numbering) (cells : Cells) (records : List Rec) → with_keys records ≡ entries c → cells ≡ entries (cells_of n)
     → (heading ++ 10 ∷ []) ++ record_lines (lookup_of c) cells records ≡ table_of c n
 unfolding record_lines image_lines lines_of
 table_lines c n cells records all places =
     let same : records ≡ records_of c = sym (records_back records) ∙ ap (map (λ (e : Key × Rec). e.1)) all in
     append_assoc heading (10 ∷ []) _
     ∙ ap (λ (xs : List ℕ). heading ++ 10 ∷ xs) (rw (← same, ← places) (sym (lines_of-flat_map
-    (λ i. filter_map (row_at (lookup_of c) i) (filter (λ (e : NumberCell × ℕ). e.0.css == i.css) cells)) (filter_map image_of records))))
+    (λ i. filter_map (row_at (lookup_of c) i) (filter (λ (e : NumberCell × ℕ). e.0.css == i.css) cells)) (filter_map as_image records))))

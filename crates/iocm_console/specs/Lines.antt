@@ -5,7 +5,7 @@ use Rattle.iocm_types.specs.declared.place.NumberCell.{NumberCell}
 use Rattle.iocm_types.specs.declared.sub_id.SubId.{SubId}
 use Rattle.iocm_types.specs.declared.view.View.{View}
 use Rattle.iocm_model.specs.Machine.Record.{Rec, ImageRecord}
-use Rattle.iocm_model.specs.Machine.Configuration.{Lookup, image_of}
+use Rattle.iocm_model.specs.Machine.Configuration.{Lookup, as_image}
 use Rattle.iocm_model.specs.Machine.Table.{line_of}
 use Rattle.iocm_model.specs.Machine.View.{row_at}
 use Rattle.iocm_console.specs.declared.table.NamedImage.{NamedImage}
@@ -24,7 +24,7 @@ image_lines c i cells = lines_of (filter_map (row_at c i) (filter (λ (e : Numbe
 
 -- the lines of the images among some records
 unfoldable pub record_lines : Lookup → Cells → List Rec → List ℕ
-record_lines c cells records = flat_map (λ i. image_lines c i cells) (filter_map image_of records)
+record_lines c cells records = flat_map (λ i. image_lines c i cells) (filter_map as_image records)
 
 -- the record of an image
 abbrev pub image_record : NamedImage → ImageRecord

@@ -16,8 +16,8 @@ use Rattle.iocm_types.specs.Key.{key_cmp}
 use Rattle.iocm_types.specs.Place.{place_cmp, cell_cmp}
 use Rattle.iocm_types.proofs.KeyOrder.{places_total, places_exact, cells_total, cells_exact}
 use Rattle.iocm_model.specs.Machine.Record.{Rec, DeviceRecord, key_of, id, resource, image, limit, path, unit, device, online}
-use Rattle.iocm_model.specs.Machine.Configuration.{Lookup, Configuration, keyed, records_of}
-use Rattle.iocm_model.specs.Machine.Numbering.{Numbering, is_reached, device_at, numbered}
+use Rattle.iocm_model.specs.Machine.Configuration.{Lookup, Configuration, with_keys, records_of}
+use Rattle.iocm_model.specs.Machine.Numbering.{Numbering, is_reached, device_at, numbers_from}
 use Rattle.iocm_numbers.proofs.Tables.{cells_insert}
 use Rattle.iocm_derive.specs.FirstNumbers.{place_at, cell_of, reached_of, reached_among, numbered_on, IsMore, IsUnnumbered, IsNewAt, AreNew, AreFree}
 use Rattle.iocm_derive.proofs.Joined.{opened}
@@ -53,11 +53,11 @@ more_one m p n new done is =
     let none : find place_cmp p done ≡ None = sym (get-from_entries places_total done p) ∙ sym (ap (λ (x : Numbering). get x p) is) ∙ new in
     ap (λ (x : Numbering). insert x p n) is ∙ sym (from_entries_push places_total places_exact done p n none)
 
-pub numbered_append : (css set n : ℕ) (xs ys : List ℕ) → numbered css set n (xs ++ ys) ≡ numbered css set n xs ++ numbered css set (n + length xs) ys
-numbered_append css set n [] ys = ap (λ k. numbered css set k ys) (sym (add-zero n))
+pub numbered_append : (css set n : ℕ) (xs ys : List ℕ) → numbers_from css set n (xs ++ ys) ≡ numbers_from css set n xs ++ numbers_from css set (n + length xs) ys
+numbered_append css set n [] ys = ap (λ k. numbers_from css set k ys) (sym (add-zero n))
 numbered_append css set n (x ∷ xs) ys =
     let same : (n + 1) + length xs ≡ n + suc (length xs) = omega arith in
-    ap (λ es. (place_at css set x, n) ∷ es) (numbered_append css set (n + 1) xs ys ∙ ap (λ k. numbered css set (n + 1) xs ++ numbered css set k ys) same)
+    ap (λ es. (place_at css set x, n) ∷ es) (numbered_append css set (n + 1) xs ys ∙ ap (λ k. numbers_from css set (n + 1) xs ++ numbers_from css set k ys) same)
 
 -- ---- one record
 
@@ -122,32 +122,32 @@ module _ (m : Numbering) (css set n : ℕ) where
   new_after_at d (unit x) below same low was = tt
   new_after_at d (online x) below same low was = tt
 
-  new_after : (d : DeviceRecord) (rs : List Rec) → T (below_all key_cmp (Device d.set d.number) (keyed rs)) → d.set ≡ set → n ≤ d.number
+  new_after : (d : DeviceRecord) (rs : List Rec) → T (below_all key_cmp (Device d.set d.number) (with_keys rs)) → d.set ≡ set → n ≤ d.number
       → AreNew m css set n rs → AreNew (insert m (place_at css set d.number) n) css set (n + 1) rs
   new_after d [] below same low were = tt
   new_after d (r ∷ rs) below same low were =
       (new_after_at d r (left _ _ below) same low were.0, new_after d rs (right _ _ below) same low were.1)
 
   device_more : (d : DeviceRecord) (b : Bool) → (b ≡ true → d.set ≡ set) → IsNewAt m css set n (device d)
-      → IsMore m (numbered css set n (cond b (d.number ∷ []) [])) (numbered_on m (numbered css set n (cond b (d.number ∷ []) [])))
+      → IsMore m (numbers_from css set n (cond b (d.number ∷ []) [])) (numbered_on m (numbers_from css set n (cond b (d.number ∷ []) [])))
   device_more d true in_set new = more_one m (place_at css set d.number) n (new (in_set refl)).1
   device_more d false in_set new = more_none m
 
   device_new : (d : DeviceRecord) (b : Bool) → (b ≡ true → d.set ≡ set) → IsNewAt m css set n (device d) → (rs : List Rec)
-      → T (below_all key_cmp (Device d.set d.number) (keyed rs)) → AreNew m css set n rs
-      → AreNew (numbered_on m (numbered css set n (cond b (d.number ∷ []) []))) css set (n + length (cond b (d.number ∷ []) [])) rs
+      → T (below_all key_cmp (Device d.set d.number) (with_keys rs)) → AreNew m css set n rs
+      → AreNew (numbered_on m (numbers_from css set n (cond b (d.number ∷ []) []))) css set (n + length (cond b (d.number ∷ []) [])) rs
   device_new d true in_set new rs below were = new_after d rs below (in_set refl) (new (in_set refl)).0 were
   device_new d false in_set new rs below were = subst (λ k. AreNew m css set k rs) (sym (add-zero n)) were
 
   device_free : (d : DeviceRecord) (b : Bool) → (b ≡ true → d.set ≡ set) → IsNewAt m css set n (device d) → AreFree m css set n
-      → AreFree (numbered_on m (numbered css set n (cond b (d.number ∷ []) []))) css set (n + length (cond b (d.number ∷ []) []))
+      → AreFree (numbered_on m (numbers_from css set n (cond b (d.number ∷ []) []))) css set (n + length (cond b (d.number ∷ []) []))
   device_free d true in_set new free k above =
       device_other m (place_at css set d.number) n (cell_of css set k) (new (in_set refl)).1 (free n (omega arith))
       (λ is. let no : k ≡ n = ap (λ (c : NumberCell). c.number) is in omega arith) (free k (omega arith))
   device_free d false in_set new free k above = free k (omega arith)
 
   device_others : (d : DeviceRecord) (b : Bool) → (b ≡ true → d.set ≡ set) → IsNewAt m css set n (device d) → AreFree m css set n
-      → (x y : ℕ) → ((x ≡ css) × (y ≡ set) → ⊥) → IsUnnumbered m x y → IsUnnumbered (numbered_on m (numbered css set n (cond b (d.number ∷ []) []))) x y
+      → (x y : ℕ) → ((x ≡ css) × (y ≡ set) → ⊥) → IsUnnumbered m x y → IsUnnumbered (numbered_on m (numbers_from css set n (cond b (d.number ∷ []) []))) x y
   device_others d true in_set new free x y other was = record {
     places = λ k. get_other places_total places_exact m (place_at css set d.number) (place_at x y k) n
         (λ is. other (ap (λ (p : Place). p.css) is, ap (λ (p : Place). p.set) is)) (was.places k);
@@ -157,7 +157,7 @@ module _ (m : Numbering) (css set n : ℕ) where
   device_others d false in_set new free x y other was = was
 
   module _ (c : Lookup) where
-    pub step_more : (r : Rec) → IsNewAt m css set n r → IsMore m (numbered css set n (reached_of c css set r)) (numbered_on m (numbered css set n (reached_of c css set r)))
+    pub step_more : (r : Rec) → IsNewAt m css set n r → IsMore m (numbers_from css set n (reached_of c css set r)) (numbered_on m (numbers_from css set n (reached_of c css set r)))
     step_more (device d) new = device_more d _ (of_set c css set d) new
     step_more (id x) new = more_none m
     step_more (resource x) new = more_none m
@@ -170,8 +170,8 @@ module _ (m : Numbering) (css set n : ℕ) where
     same_new : (rs : List Rec) → AreNew m css set n rs → AreNew m css set (n + 0) rs
     same_new rs were = subst (λ k. AreNew m css set k rs) (sym (add-zero n)) were
 
-    pub step_new : (r : Rec) (rs : List Rec) → T (below_all key_cmp (key_of r) (keyed rs)) → AreNew m css set n (r ∷ rs)
-        → AreNew (numbered_on m (numbered css set n (reached_of c css set r))) css set (n + length (reached_of c css set r)) rs
+    pub step_new : (r : Rec) (rs : List Rec) → T (below_all key_cmp (key_of r) (with_keys rs)) → AreNew m css set n (r ∷ rs)
+        → AreNew (numbered_on m (numbers_from css set n (reached_of c css set r))) css set (n + length (reached_of c css set r)) rs
     step_new (device d) rs below were = device_new d _ (of_set c css set d) were.0 rs below were.1
     step_new (id x) rs below were = same_new rs were.1
     step_new (resource x) rs below were = same_new rs were.1
@@ -185,7 +185,7 @@ module _ (m : Numbering) (css set n : ℕ) where
     same_free free k above = free k (omega arith)
 
     pub step_free : (r : Rec) → IsNewAt m css set n r → AreFree m css set n
-        → AreFree (numbered_on m (numbered css set n (reached_of c css set r))) css set (n + length (reached_of c css set r))
+        → AreFree (numbered_on m (numbers_from css set n (reached_of c css set r))) css set (n + length (reached_of c css set r))
     step_free (device d) new free = device_free d _ (of_set c css set d) new free
     step_free (id x) new free = same_free free
     step_free (resource x) new free = same_free free
@@ -196,7 +196,7 @@ module _ (m : Numbering) (css set n : ℕ) where
     step_free (online x) new free = same_free free
 
     pub step_others : (r : Rec) → IsNewAt m css set n r → AreFree m css set n → (x y : ℕ) → ((x ≡ css) × (y ≡ set) → ⊥)
-        → IsUnnumbered m x y → IsUnnumbered (numbered_on m (numbered css set n (reached_of c css set r))) x y
+        → IsUnnumbered m x y → IsUnnumbered (numbered_on m (numbers_from css set n (reached_of c css set r))) x y
     step_others (device d) new free x y other was = device_others d _ (of_set c css set d) new free x y other was
     step_others (id z) new free x y other was = was
     step_others (resource z) new free x y other was = was
@@ -224,40 +224,40 @@ pub next_new : (m : Numbering) (css set n : ℕ) (xs : List Rec) (i : ℕ) (x : 
     → AreNew m css set n (x ∷ drop (i + 1) xs)
 next_new m css set n xs i x within item are = subst (λ (rs : List Rec). AreNew m css set n rs) (opened xs i x within item) are
 
-rising_drop : (xs : List Rec) (i : ℕ) → T (is_sorted key_cmp (keyed xs)) → T (is_sorted key_cmp (keyed (drop i xs)))
+rising_drop : (xs : List Rec) (i : ℕ) → T (is_sorted key_cmp (with_keys xs)) → T (is_sorted key_cmp (with_keys (drop i xs)))
 rising_drop xs zero up = up
 rising_drop [] (suc i) up = tt
 rising_drop (x ∷ xs) (suc i) up = rising_drop xs i (right _ _ up)
 
 -- a record stands below those after it
-pub below_later : (xs : List Rec) (m : Configuration) (i : ℕ) (x : Rec) → keyed xs ≡ entries m → i < length xs → x ≡ get_or xs i x
-    → T (below_all key_cmp (key_of x) (keyed (drop (i + 1) xs)))
+pub below_later : (xs : List Rec) (m : Configuration) (i : ℕ) (x : Rec) → with_keys xs ≡ entries m → i < length xs → x ≡ get_or xs i x
+    → T (below_all key_cmp (key_of x) (with_keys (drop (i + 1) xs)))
 below_later xs m i x is within item =
     let up = subst (λ (es : List (Key × Rec)). T (is_sorted key_cmp es)) (sym is) (entries_sorted m) in
-    left _ _ (subst (λ (rs : List Rec). T (is_sorted key_cmp (keyed rs))) (opened xs i x within item) (rising_drop xs i up))
+    left _ _ (subst (λ (rs : List Rec). T (is_sorted key_cmp (with_keys rs))) (opened xs i x within item) (rising_drop xs i up))
 
-values_keyed : (xs : List Rec) → map (λ (e : Key × Rec). e.1) (keyed xs) ≡ xs
+values_keyed : (xs : List Rec) → map (λ (e : Key × Rec). e.1) (with_keys xs) ≡ xs
 values_keyed [] = refl
 values_keyed (x ∷ xs) = ap {B = List Rec} (λ rs. x ∷ rs) (values_keyed xs)
 
 -- the records that are walked are those of the configuration
-pub walked : (xs : List Rec) (m : Configuration) → keyed xs ≡ entries m → xs ≡ records_of m
+pub walked : (xs : List Rec) (m : Configuration) → with_keys xs ≡ entries m → xs ≡ records_of m
 walked xs m is = sym (values_keyed xs) ∙ ap (λ (es : List (Key × Rec)). map (λ (e : Key × Rec). e.1) es) is
 
 -- what the rest makes of the numbering after a record, it and the rest make of the numbering before
 pub more_opened : (c : Lookup) (css set n : ℕ) (m now goal : Numbering) (k : ℕ) (xs : List Rec) (i : ℕ) (x : Rec) → i < length xs → x ≡ get_or xs i x
-    → now ≡ numbered_on m (numbered css set n (reached_of c css set x)) → k ≡ n + length (reached_of c css set x) → IsNewAt m css set n x
-    → IsMore now (numbered css set k (reached_among c css set (drop (i + 1) xs))) goal
-    → IsMore m (numbered css set n (reached_among c css set (drop i xs))) goal
+    → now ≡ numbered_on m (numbers_from css set n (reached_of c css set x)) → k ≡ n + length (reached_of c css set x) → IsNewAt m css set n x
+    → IsMore now (numbers_from css set k (reached_among c css set (drop (i + 1) xs))) goal
+    → IsMore m (numbers_from css set n (reached_among c css set (drop i xs))) goal
 more_opened c css set n m now goal k xs i x within item is next new rest =
     let one = step_more m css set n c x new in
-    let all = more_then m now goal (numbered css set n (reached_of c css set x)) (numbered css set k (reached_among c css set (drop (i + 1) xs)))
-    (subst (λ (y : Numbering). IsMore m (numbered css set n (reached_of c css set x)) y) (sym is) one) rest in
+    let all = more_then m now goal (numbers_from css set n (reached_of c css set x)) (numbers_from css set k (reached_among c css set (drop (i + 1) xs)))
+    (subst (λ (y : Numbering). IsMore m (numbers_from css set n (reached_of c css set x)) y) (sym is) one) rest in
     subst (λ (es : List (Place × ℕ)). IsMore m es goal)
-    (ap (λ j. numbered css set n (reached_of c css set x) ++ numbered css set j (reached_among c css set (drop (i + 1) xs))) next
+    (ap (λ j. numbers_from css set n (reached_of c css set x) ++ numbers_from css set j (reached_among c css set (drop (i + 1) xs))) next
     ∙ sym (numbered_append css set n (reached_of c css set x) (reached_among c css set (drop (i + 1) xs)))
-    ∙ ap (numbered css set n) (sym (reached_cons c css set x (drop (i + 1) xs)))
-    ∙ ap (λ (rs : List Rec). numbered css set n (reached_among c css set rs)) (sym (opened xs i x within item)))
+    ∙ ap (numbers_from css set n) (sym (reached_cons c css set x (drop (i + 1) xs)))
+    ∙ ap (λ (rs : List Rec). numbers_from css set n (reached_among c css set rs)) (sym (opened xs i x within item)))
     all
 
 -- what is kept over a record
@@ -267,10 +267,10 @@ pub record IsKept (m now : Numbering) (css set k : ℕ) (rs : List Rec) : Type 0
   pub others : (a b : ℕ) → ((a ≡ css) × (b ≡ set) → ⊥) → IsUnnumbered m a b → IsUnnumbered now a b
 
 pub kept_over : (c : Lookup) (css set n : ℕ) (m now : Numbering) (k : ℕ) (x : Rec) (rs : List Rec)
-    → now ≡ numbered_on m (numbered css set n (reached_of c css set x)) → k ≡ n + length (reached_of c css set x)
-    → T (below_all key_cmp (key_of x) (keyed rs)) → AreNew m css set n (x ∷ rs) → AreFree m css set n → IsKept m now css set k rs
+    → now ≡ numbered_on m (numbers_from css set n (reached_of c css set x)) → k ≡ n + length (reached_of c css set x)
+    → T (below_all key_cmp (key_of x) (with_keys rs)) → AreNew m css set n (x ∷ rs) → AreFree m css set n → IsKept m now css set k rs
 kept_over c css set n m now k x rs is next below new free =
-    subst (λ (y : Numbering). IsKept m y css set k rs) (sym is) (subst (λ j. IsKept m (numbered_on m (numbered css set n (reached_of c css set x))) css set j rs) (sym next) (record {
+    subst (λ (y : Numbering). IsKept m y css set k rs) (sym is) (subst (λ j. IsKept m (numbered_on m (numbers_from css set n (reached_of c css set x))) css set j rs) (sym next) (record {
       new = step_new m css set n c x rs below new;
       free = step_free m css set n c x new.0 free;
       others = step_others m css set n c x new.0 free;
@@ -278,6 +278,6 @@ kept_over c css set n m now k x rs is next below new free =
 
 -- nothing is left
 pub more_past : (c : Lookup) (css set n : ℕ) (m : Numbering) (xs : List Rec) (i : ℕ) → length xs ≤ i
-    → IsMore m (numbered css set n (reached_among c css set (drop i xs))) m
+    → IsMore m (numbers_from css set n (reached_among c css set (drop i xs))) m
 more_past c css set n m xs i past =
-    subst (λ (rs : List Rec). IsMore m (numbered css set n (reached_among c css set rs)) m) (sym (drop_of_length-le xs past)) (more_none m)
+    subst (λ (rs : List Rec). IsMore m (numbers_from css set n (reached_among c css set rs)) m) (sym (drop_of_length-le xs past)) (more_none m)

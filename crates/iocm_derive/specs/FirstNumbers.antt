@@ -5,7 +5,7 @@ use Rattle.std.specs.FinMap.{get, insert, from_entries}
 use Rattle.iocm_types.specs.declared.place.Place.{Place}
 use Rattle.iocm_types.specs.declared.place.NumberCell.{NumberCell}
 use Rattle.iocm_model.specs.Machine.Record.{Rec, DeviceRecord, device}
-use Rattle.iocm_model.specs.Machine.Configuration.{Lookup, device_of}
+use Rattle.iocm_model.specs.Machine.Configuration.{Lookup, as_device}
 use Rattle.iocm_model.specs.Machine.Numbering.{Numbering, is_reached, device_at}
 
 -- the place of a device, and a number cell
@@ -23,7 +23,7 @@ reached_of c css set _ = []
 -- the devices of a set that are reached, of these records
 abbrev pub reached_among : Lookup → ℕ → ℕ → List Rec → List ℕ
 reached_among c css set rs =
-    map (λ (d : DeviceRecord). d.number) (filter (λ (d : DeviceRecord). d.set == set && is_reached c css d) (filter_map device_of rs))
+    map (λ (d : DeviceRecord). d.number) (filter (λ (d : DeviceRecord). d.set == set && is_reached c css d) (filter_map as_device rs))
 
 -- a numbering with these entries put in, one after the other
 abbrev pub numbered_on : Numbering → List (Place × ℕ) → Numbering

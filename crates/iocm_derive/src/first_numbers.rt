@@ -37,7 +37,7 @@ fn number_subsystem<A: Allocator, B: Allocator>(
     css: Css,
 ) -> Result<(), AllocError>
     requires { (set : ℕ) → IsUnnumbered numbers.old.numbers css set }
-    ensures more { OnOk result (IsMore numbers.old.numbers (flat_map (λ set. model.numbered css set 0 (model.reached_in config.now.records css set)) sets) numbers.new.numbers) }
+    ensures more { OnOk result (IsMore numbers.old.numbers (flat_map (λ set. model.numbers_from css set 0 (model.reached_devices config.now.records css set)) sets) numbers.new.numbers) }
     ensures others { OnOk result ((other set : ℕ) → (other ≡ css → ⊥) → IsUnnumbered numbers.old.numbers other set → IsUnnumbered numbers.new.numbers other set) }
 {
     for number in 0..4u8 {
@@ -57,7 +57,7 @@ fn number_set<A: Allocator, B: Allocator>(
     set: SetNo,
 ) -> Result<(), AllocError>
     requires { IsUnnumbered numbers.old.numbers css set }
-    ensures more { OnOk result (IsMore numbers.old.numbers (model.numbered css set 0 (model.reached_in config.now.records css set)) numbers.new.numbers) }
+    ensures more { OnOk result (IsMore numbers.old.numbers (model.numbers_from css set 0 (model.reached_devices config.now.records css set)) numbers.new.numbers) }
     ensures others { OnOk result ((a b : ℕ) → ((a ≡ css) × (b ≡ set) → ⊥) → IsUnnumbered numbers.old.numbers a b → IsUnnumbered numbers.new.numbers a b) }
 {
     let mut next = 0u32;
@@ -80,7 +80,7 @@ fn number_record<A: Allocator, B: Allocator>(
     requires new { IsNewAt numbers.old.numbers css set next entry.now }
     requires free { AreFree numbers.old.numbers css set next }
     ensures next { IfOk result (λ after. after ≡ next + length (reached_of (lookup_of config.now.records) css set entry.now)) }
-    ensures numbers { OnOk result (numbers.new.numbers ≡ numbered_on numbers.old.numbers (model.numbered css set next (reached_of (lookup_of config.now.records) css set entry.now))) }
+    ensures numbers { OnOk result (numbers.new.numbers ≡ numbered_on numbers.old.numbers (model.numbers_from css set next (reached_of (lookup_of config.now.records) css set entry.now))) }
 {
     let RecordBody::Device(device) = entry.body() else {
         return Ok(next);

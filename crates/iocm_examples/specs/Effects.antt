@@ -7,8 +7,8 @@ use Rattle.iocm_types.specs.declared.place.NumberCell.{NumberCell}
 use Rattle.iocm_types.specs.declared.sub_id.SubId.{SubId}
 use Rattle.iocm_model.specs.Machine.Record.{Rec}
 use Rattle.iocm_model.specs.Change.Edit.{add}
-use Rattle.iocm_model.specs.Change.Effect.{Effect, written}
-use Rattle.iocm_model.specs.Change.Runs.{effect_of, edited_by_all}
+use Rattle.iocm_model.specs.Change.Effect.{Effect, with_effect}
+use Rattle.iocm_model.specs.Change.Runs.{effect_of, state_after_all}
 use Rattle.iocm_model.specs.Change.Inverse.{inverse_of}
 use Rattle.iocm_examples.specs.BaseDeck.{lpb, online_record, place_of, device_on_1000, device_key, subchannel}
 use Rattle.iocm_model.specs.Operation.Orders.{fresh}
@@ -20,7 +20,7 @@ abbrev pub AnInverse : Type 0
 AnInverse = inverse_of delete_1001 base_opened ≡ record {
   action = add (device_on_1000 0x1001 0x01);
   places = place_of 0x1001 1 ∷ [];
-  kept = from_entries ((subchannel 1 1, fresh 0xC0) ∷ (subchannel 2 1, fresh 0xC0) ∷ []);
+  lives = from_entries ((subchannel 1 1, fresh 0xC0) ∷ (subchannel 2 1, fresh 0xC0) ∷ []);
 }
 
 -- the cells that an effect writes, with their values in order
@@ -38,4 +38,4 @@ pub record Effects : Type 0 where
       ∷ (subchannel 2 3, Some (fresh 0xC0)) ∷ [])
   pub deleted : Writes (effect_of (delete_1001 ∷ []) base_opened) ((device_key 0x1001, None) ∷ [])
       ((record { css = 0; set = 0; number = 1 }, None) ∷ []) ((subchannel 1 1, None) ∷ (subchannel 2 1, None) ∷ [])
-  pub replayed : written (effect_of one_for_another base_opened) base_opened ≡ edited_by_all one_for_another base_opened
+  pub replayed : with_effect (effect_of one_for_another base_opened) base_opened ≡ state_after_all one_for_another base_opened

@@ -14,7 +14,7 @@ use Rattle.iocm_types.specs.declared.rule.Rule.TheVariants.{J1, J2, J3, B1, E3}
 use Rattle.iocm_types.specs.declared.sub_id.SubId.{SubId}
 use Rattle.iocm_model.specs.Operation.State.{State}
 use Rattle.iocm_model.specs.Change.Edit.{Edit}
-use Rattle.iocm_model.specs.Change.Refusal.{refused_at}
+use Rattle.iocm_model.specs.Change.Refusal.{refusal_at}
 use Rattle.iocm_model.specs.Operation.Orders.{fresh}
 use Rattle.iocm_model.specs.Change.InverseTree.{parts_of}
 use Rattle.iocm_model.specs.Change.Meaning.{at_node}
@@ -75,10 +75,10 @@ abbrev pub status : ℕ → Answer
 status bits = Io (Status (record { 0 = bits }))
 
 abbrev pub refused : Rule → At → Answer
-refused rule place = Refused (refused_at rule place)
+refused rule place = Refused (refusal_at rule place)
 
 abbrev pub refused_at_root : Rule → At → Answer
-refused_at_root rule place = Refused (at_node 0 (refused_at rule place))
+refused_at_root rule place = Refused (at_node 0 (refusal_at rule place))
 
 -- what STORE gives for an idle subchannel that has path-installed mask C0: its device, PAM, LPM, the enabled bit and the parameter
 abbrev pub stored : ℕ → ℕ → ℕ → Bool → ℕ → Answer

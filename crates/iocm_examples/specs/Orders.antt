@@ -8,7 +8,7 @@ use Rattle.iocm_types.specs.declared.order.Order.TheVariants.{Start, Halt, Clear
 use Rattle.iocm_types.specs.declared.order.Io.{Io}
 use Rattle.iocm_types.specs.declared.order.Io.TheVariants.{Code, Status, Stored}
 use Rattle.iocm_types.specs.declared.view.View.{View}
-use Rattle.iocm_model.specs.Operation.Orders.{fresh, answer_of, live_after, ended}
+use Rattle.iocm_model.specs.Operation.Orders.{fresh, answer_of, live_after, live_after_device_end}
 use Rattle.iocm_types.specs.declared.live.Function.TheVariants as function
 
 -- LPA's view of 1002, and LPB's, to which path 51 isn't available
@@ -35,7 +35,7 @@ pub record Does (v : View) (l : Live) (o : Order) (answer : Io) (left : Live) : 
 pub record AnOperation : Type 0 where
   pub enabled : Does seen_by_lpa (fresh 0xC0) enable (Code 0) (enabled_in Idle)
   pub started : Does seen_by_lpa (enabled_in Idle) Start (Code 0) (enabled_in (Busy function.Start))
-  pub ended : ended (enabled_in (Busy function.Start)) ≡ enabled_in (Pending function.Start)
+  pub ended : live_after_device_end (enabled_in (Busy function.Start)) ≡ enabled_in (Pending function.Start)
   pub tested : Does seen_by_lpa (enabled_in (Pending function.Start)) Test (Status (record { 0 = 9 })) (enabled_in Idle)
   pub stored : Does seen_by_lpa (enabled_in Idle) Store
       (Stored (record { device = 0x1002; pim = 0xC0; pam = 0xC0; lpm = 0x80; enabled = true; parm = 7; bits = record { 0 = 0 } }))

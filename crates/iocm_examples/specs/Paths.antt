@@ -3,7 +3,7 @@ use Rattle.std.specs.Prelude.{◌≡◌, [], ◌∷◌, None, Some}
 use Rattle.std.specs.FinMap.{get, from_entries}
 use Rattle.iocm_model.specs.Operation.State.{State, seen_in}
 use Rattle.iocm_model.specs.Change.Edit.{add, Edit}
-use Rattle.iocm_model.specs.Change.Runs.{edited_by_all, cells_written_by_all}
+use Rattle.iocm_model.specs.Change.Runs.{state_after_all, cells_written_by_all}
 use Rattle.iocm_model.specs.Change.Tree.{leaf}
 use Rattle.iocm_model.specs.Operation.Step.{order, answer_in}
 use Rattle.iocm_examples.specs.BaseDeck.{lpb, online_record, unit_on, subchannel}
@@ -21,25 +21,25 @@ base_enabled = enabled_at (subchannel 2 0) 0x40 base_opened
 -- a path that comes online to an image is in its path-available mask; a live record stays as it was, and what START lacked is there
 pub record APathComesOnline : Type 0 where
   pub accepted : Performs (leaf online_51) (online_51 ∷ []) base_enabled
-  pub seen : seen_in (edited_by_all (online_51 ∷ []) base_enabled) (subchannel 2 0) ≡ a_view 0x1000 (0x50 ∷ 0x51 ∷ []) 0xC0 0xC0
+  pub seen : seen_in (state_after_all (online_51 ∷ []) base_enabled) (subchannel 2 0) ≡ a_view 0x1000 (0x50 ∷ 0x51 ∷ []) 0xC0 0xC0
   pub altered : (cells_written_by_all (online_51 ∷ []) base_enabled).subchannels
       ≡ subchannel 2 0 ∷ subchannel 2 1 ∷ subchannel 2 2 ∷ subchannel 2 3 ∷ []
-  pub live : get (edited_by_all (online_51 ∷ []) base_enabled).lives (subchannel 2 0) ≡ Some (enabled_with 0x40)
+  pub live : get (state_after_all (online_51 ∷ []) base_enabled).lives (subchannel 2 0) ≡ Some (enabled_with 0x40)
   pub before : answer_in base_enabled (subchannel 2 0) (order orders.Start) ≡ answers.Io (io.Code 3)
-  pub afterwards : answer_in (edited_by_all (online_51 ∷ []) base_enabled) (subchannel 2 0) (order orders.Start) ≡ answers.Io (io.Code 0)
+  pub afterwards : answer_in (state_after_all (online_51 ∷ []) base_enabled) (subchannel 2 0) (order orders.Start) ≡ answers.Io (io.Code 0)
 
 -- live records come along for two subchannels of 1000: LPB's is altered and gets its own, and LPA's isn't and stays as it was
 abbrev pub online_51_with_lives : Edit
 online_51_with_lives = record {
   action = add (online_record 0x51 lpb);
   places = [];
-  kept = from_entries ((subchannel 1 0, enabled_with 0x40) ∷ (subchannel 2 0, enabled_with 0x40) ∷ []);
+  lives = from_entries ((subchannel 1 0, enabled_with 0x40) ∷ (subchannel 2 0, enabled_with 0x40) ∷ []);
 }
 
 pub record LiveRecordsComeAlong : Type 0 where
   pub accepted : Performs (leaf online_51_with_lives) (online_51_with_lives ∷ []) base_opened
-  pub altered : get (edited_by_all (online_51_with_lives ∷ []) base_opened).lives (subchannel 2 0) ≡ Some (enabled_with 0x40)
-  pub unaltered : get (edited_by_all (online_51_with_lives ∷ []) base_opened).lives (subchannel 1 0) ≡ Some (fresh 0xC0)
+  pub altered : get (state_after_all (online_51_with_lives ∷ []) base_opened).lives (subchannel 2 0) ≡ Some (enabled_with 0x40)
+  pub unaltered : get (state_after_all (online_51_with_lives ∷ []) base_opened).lives (subchannel 1 0) ≡ Some (fresh 0xC0)
 
 -- the unit's paths the other way round
 abbrev pub turned : Edit
@@ -49,6 +49,6 @@ turned = modified (unit_on 0x1000 (0x51 ∷ 0x50 ∷ []) None)
 -- old mask again where that is taken back
 pub record APathListIsTurned : Type 0 where
   pub accepted : Performs (leaf turned) (turned ∷ []) base_enabled
-  pub seen : seen_in (edited_by_all (turned ∷ []) base_enabled) (subchannel 2 0) ≡ a_view 0x1000 (0x51 ∷ 0x50 ∷ []) 0xC0 0x40
-  pub live : get (edited_by_all (turned ∷ []) base_enabled).lives (subchannel 2 0) ≡ Some (enabled_with 0xC0)
+  pub seen : seen_in (state_after_all (turned ∷ []) base_enabled) (subchannel 2 0) ≡ a_view 0x1000 (0x51 ∷ 0x50 ∷ []) 0xC0 0x40
+  pub live : get (state_after_all (turned ∷ []) base_enabled).lives (subchannel 2 0) ≡ Some (enabled_with 0xC0)
   pub taken_back : IsTakenBack (turned ∷ []) base_enabled

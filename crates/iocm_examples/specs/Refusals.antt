@@ -4,7 +4,7 @@ use Rattle.iocm_types.specs.declared.rule.Rule.TheVariants.{B1, E1, E2}
 use Rattle.iocm_model.specs.Operation.State.{State}
 use Rattle.iocm_model.specs.Change.Tree.{leaf, choose}
 use Rattle.iocm_model.specs.Change.InverseTree.{parts_of}
-use Rattle.iocm_model.specs.Operation.Step.{order, device_end, stepped}
+use Rattle.iocm_model.specs.Operation.Step.{order, device_end, after_step}
 use Rattle.iocm_examples.specs.Edits.{base_opened, deleted, modified, Performs, IsRefused, IsTakenBack, add_1000, started_at, base_started}
 use Rattle.iocm_examples.specs.BaseDeck.{device_on_1000, device_key, subchannel}
 use Rattle.iocm_types.specs.declared.key.Key.TheVariants as key
@@ -25,10 +25,10 @@ pub record ABusySubchannel : Type 0 where
 
 -- LPA's subchannel of 1001 is started, and the device ends; then the status is taken by TEST
 unfoldable pub base_ended : State
-base_ended = stepped (subchannel 1 1) device_end (started_at (subchannel 1 1) base_opened)
+base_ended = after_step (subchannel 1 1) device_end (started_at (subchannel 1 1) base_opened)
 
 unfoldable pub base_tested : State
-base_tested = stepped (subchannel 1 1) (order orders.Test) base_ended
+base_tested = after_step (subchannel 1 1) (order orders.Test) base_ended
 
 -- so does one with status pending, until the status is taken
 pub record PendingStatus : Type 0 where

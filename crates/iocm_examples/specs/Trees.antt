@@ -4,8 +4,8 @@ use Rattle.std.specs.FinMap.{get}
 use Rattle.iocm_types.specs.declared.rule.Rule.TheVariants.{V5, B1, E1, E3, C1, C2}
 use Rattle.iocm_model.specs.Operation.State.{State}
 use Rattle.iocm_model.specs.Change.Edit.{Edit}
-use Rattle.iocm_model.specs.Change.Effect.{values_in, written}
-use Rattle.iocm_model.specs.Change.Runs.{edited_by_all, cells_written_by_all}
+use Rattle.iocm_model.specs.Change.Effect.{values_in, with_effect}
+use Rattle.iocm_model.specs.Change.Runs.{state_after_all, cells_written_by_all}
 use Rattle.iocm_model.specs.Change.Tree.{ChangeTree, Parts, leaf, row, group, choose, none, part}
 use Rattle.iocm_model.specs.Change.InverseTree.{parts_of, inverse_tree}
 use Rattle.iocm_model.specs.Change.Meaning.{state_reached, meaning}
@@ -20,10 +20,10 @@ exchange = modified (device_on_1000 0x1002 0x05) ∷ modified (device_on_1000 0x
 
 pub record AnExchange : Type 0 where
   pub accepted : Performs (group (parts_of exchange)) exchange base_opened
-  pub first : get (edited_by_all exchange base_opened).config (device_key 0x1002) ≡ Some (device_on_1000 0x1002 0x03)
-  pub second : get (edited_by_all exchange base_opened).config (device_key 0x1003) ≡ Some (device_on_1000 0x1003 0x02)
+  pub first : get (state_after_all exchange base_opened).config (device_key 0x1002) ≡ Some (device_on_1000 0x1002 0x03)
+  pub second : get (state_after_all exchange base_opened).config (device_key 0x1003) ≡ Some (device_on_1000 0x1003 0x02)
   pub altered : (cells_written_by_all exchange base_opened).subchannels ≡ []
-  pub put_back : written (values_in base_opened (cells_written_by_all exchange base_opened)) (edited_by_all exchange base_opened) ≡ base_opened
+  pub put_back : with_effect (values_in base_opened (cells_written_by_all exchange base_opened)) (state_after_all exchange base_opened) ≡ base_opened
   pub taken_back : IsTakenBack exchange base_opened
 
 -- a unit on a path that isn't there
@@ -79,7 +79,7 @@ pub record LimitsOfTrees : Type 0 where
 
 -- a device has come in, and then LPA starts its subchannel of 1000, or that of the new device
 unfoldable pub base_grown : State
-base_grown = edited_by_all (add_0fff ∷ []) base_opened
+base_grown = state_after_all (add_0fff ∷ []) base_opened
 
 unfoldable pub started_elsewhere : State
 started_elsewhere = started_at (subchannel 1 0) base_grown

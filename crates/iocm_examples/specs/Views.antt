@@ -5,7 +5,7 @@ use Rattle.iocm_types.specs.Key.{key_cmp}
 use Rattle.iocm_types.specs.declared.sub_id.SubId.{SubId}
 use Rattle.iocm_types.specs.declared.view.View.{View}
 use Rattle.iocm_model.specs.Machine.Record.{Rec}
-use Rattle.iocm_model.specs.Machine.Configuration.{Lookup, keyed, configuration_of}
+use Rattle.iocm_model.specs.Machine.Configuration.{Lookup, with_keys, configuration_of}
 use Rattle.iocm_model.specs.Machine.PathList.{path_list}
 use Rattle.iocm_model.specs.Machine.Numbering.{opening}
 use Rattle.iocm_model.specs.Machine.View.{view_if_seen, views}
@@ -13,7 +13,7 @@ use Rattle.iocm_examples.specs.BaseDeck.{lpa, lpb, base, base_without_candidate,
 
 -- the record of a key in a list of records
 abbrev pub found_in : List Rec → Lookup
-found_in records key = find key_cmp key (keyed records)
+found_in records key = find key_cmp key (with_keys records)
 
 -- the view of a device by its number, paths and masks
 abbrev pub a_view : ℕ → List ℕ → ℕ → ℕ → Option View

@@ -10,7 +10,7 @@ use Rattle.iocm_types.specs.declared.rule.Rule.TheVariants.{M1}
 use Rattle.iocm_model.specs.Operation.State.{State}
 use Rattle.iocm_model.specs.Change.Runs.{effect_of}
 use Rattle.iocm_model.specs.Change.Meaning.{Performed, Outcome, meaning}
-use Rattle.iocm_model.specs.Change.Refusal.{refused_at}
+use Rattle.iocm_model.specs.Change.Refusal.{refusal_at}
 use Rattle.iocm_model.specs.Change.Tree.{ChangeTree}
 use Rattle.iocm_history.specs.Entry.{activate, Entry, History}
 use Rattle.iocm_history.specs.Replay.{state_at}
@@ -67,7 +67,7 @@ pub activated_as : (opening : State) (before : History) (e : Entry) (n : ℕ) �
     → IsActivated opening before e
 activated_as opening before e n (inl same) answer = by_entry opening before e n answer same (what_comes opening before e (inl same))
 activated_as opening before e n (inr lack) answer =
-    let other : Changed n ≡ answers.Refused (refused_at M1 Nothing) = sym answer ∙ ap (λ (o : Entry). o.answer) lack.1 in cc
+    let other : Changed n ≡ answers.Refused (refusal_at M1 Nothing) = sym answer ∙ ap (λ (o : Entry). o.answer) lack.1 in cc
 
 -- ---- which entry made a change
 

@@ -7,7 +7,7 @@ use Rattle.iocm_types.specs.declared.refused.At.TheVariants.{Nothing}
 use Rattle.iocm_types.specs.declared.rule.Rule.TheVariants.{J1, J3}
 use Rattle.iocm_types.specs.declared.sub_id.SubId.{SubId}
 use Rattle.iocm_model.specs.Operation.State.{State}
-use Rattle.iocm_model.specs.Change.Refusal.{refused_at}
+use Rattle.iocm_model.specs.Change.Refusal.{refusal_at}
 use Rattle.iocm_model.specs.Change.Effect.{Effect}
 use Rattle.iocm_model.specs.Change.Tree.{ChangeTree}
 use Rattle.iocm_history.specs.Entry.{activate, undo, redo, Entry, History, plain_entry}
@@ -71,7 +71,7 @@ undo_top n (m ∷ ms) busy d is = go (is_in n (m ∷ ms)) (eqb n m) refl refl is
     refused false h later e = cc
 
     go : (here first : Bool) → is_in n (m ∷ ms) ≡ here → eqb n m ≡ first
-        → cond here (unless_stood_on (greatest (filter (nat_lt n) (m ∷ ms))) (unless_not_quiet busy (Undone n))) (answers.Refused (refused_at J1 Nothing)) ≡ Undone n
+        → cond here (unless_stood_on (greatest (filter (nat_lt n) (m ∷ ms))) (unless_not_quiet busy (Undone n))) (answers.Refused (refusal_at J1 Nothing)) ≡ Undone n
         → first ≡ true
     go here true p q e = refl
     go false false p q e = cc
@@ -87,7 +87,7 @@ redo_top n b busy is = go (is_last_undone n b.undone) (is_in n b.undone) (is_pas
   where
     go : (first here past : Bool)
         → cond first (unless_not_quiet busy (Redone n))
-        (cond here (answers.Refused (refused_at J3 Nothing)) (cond past (answers.Refused (refused_at J3 Nothing)) (answers.Refused (refused_at J1 Nothing))))
+        (cond here (answers.Refused (refusal_at J3 Nothing)) (cond past (answers.Refused (refusal_at J3 Nothing)) (answers.Refused (refusal_at J1 Nothing))))
         ≡ Redone n
         → first ≡ true
     go true here past e = refl

@@ -9,7 +9,7 @@ use Rattle.iocm_types.specs.declared.sub_id.SubId.{SubId}
 use Rattle.iocm_model.specs.Operation.State.{State}
 use Rattle.iocm_history.specs.Entry.{History}
 use Rattle.iocm_history.specs.MarkedEntry.{Act, Mark, undone_with, lost, MarkedEntry, is_change, is_step_on, is_undo, altered_by_change, struck, struck_if, strike, unstruck, taken_back, restore, marked_entry, marked_entries, marks_after}
-use Rattle.iocm_history.specs.Replay.{acted_if_kept, replay}
+use Rattle.iocm_history.specs.Replay.{after_act_if_kept, replay}
 use Rattle.iocm_history.specs.HistoryLaws.{struck_steps}
 use Rattle.iocm_history.proofs.Remarked.{AnyMarks, AreRemarked, remarked_same, remarked_strike, remarked_restore, remarked_then}
 
@@ -162,7 +162,7 @@ has_first test (e ∷ new) h (l ∷ ls) r = λ j. test (r.0 j) || has_first test
 -- the replay of lines on lines is a replay after a replay
 pub replay_append : (s : State) (new ls : List MarkedEntry) → replay s (new ++ ls) ≡ replay (replay s ls) new
 replay_append s [] ls = refl
-replay_append s (l ∷ new) ls = ap (acted_if_kept l.mark l.act) (replay_append s new ls)
+replay_append s (l ∷ new) ls = ap (after_act_if_kept l.mark l.act) (replay_append s new ls)
 
 -- the replay of the first lines after the rest
 pub replay_parts : (s : State) (i : ℕ) (ls : List MarkedEntry) → replay s ls ≡ replay (replay s (drop i ls)) (take i ls)

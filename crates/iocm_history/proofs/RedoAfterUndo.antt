@@ -6,7 +6,7 @@ use Rattle.iocm_types.specs.declared.sub_id.SubId.{SubId}
 use Rattle.iocm_model.specs.Operation.State.{State}
 use Rattle.iocm_history.specs.Entry.{Entry, History}
 use Rattle.iocm_history.specs.MarkedEntry.{Act, undoing, Mark, kept, undone_with, lost, MarkedEntry, is_undo, altered_by_change, strike, taken_back, restore, marked_entry, marked_entries}
-use Rattle.iocm_history.specs.Replay.{acted_if_kept, replay, state_at}
+use Rattle.iocm_history.specs.Replay.{after_act_if_kept, replay, state_at}
 use Rattle.iocm_history.specs.Journal.{Journal, is_in, without, journal_after, journal_of}
 use Rattle.iocm_history.specs.Legal.{IsRight, IsLegal, is_last_undone}
 use Rattle.iocm_history.specs.HistoryLaws.{IsUnmarked, struck_steps, undoes_or_redoes, RedoTakesUndoBack}
@@ -41,7 +41,7 @@ no_undos opening n (e ∷ new) h legal others =
     (no_undos opening n new h legal.1 both.1)
 
 -- an undo does nothing to a state by itself
-undoing_passes : (m : Mark) (n : ℕ) (s : State) → acted_if_kept m (undoing n) s ≡ s
+undoing_passes : (m : Mark) (n : ℕ) (s : State) → after_act_if_kept m (undoing n) s ≡ s
 undoing_passes kept n s = refl
 undoing_passes (undone_with k) n s = refl
 undoing_passes lost n s = refl
@@ -53,7 +53,7 @@ unfolding AreRemarked restore
 replay_from_undo xs n s ys [] r = absurd r
 replay_from_undo xs n s ys (l ∷ ls) r =
     let same : is_undo n l.act ≡ true = ap (is_undo n) r.0 ∙ eq-eqb n n refl in
-    rw same (ap (λ (a : Act). acted_if_kept l.mark a (replay s (taken_back n ls))) r.0 ∙ undoing_passes l.mark n (replay s (taken_back n ls)))
+    rw same (ap (λ (a : Act). after_act_if_kept l.mark a (replay s (taken_back n ls))) r.0 ∙ undoing_passes l.mark n (replay s (taken_back n ls)))
 
 -- ---- what the undo struck stays as it was until the redo
 

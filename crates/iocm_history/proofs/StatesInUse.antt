@@ -4,8 +4,8 @@ use Rattle.std.proofs.lemmas.List.{length-append}
 use Rattle.std.specs.List.{list_any}
 use Rattle.iocm_types.specs.declared.answer.Answer.TheVariants.{Changed}
 use Rattle.iocm_model.specs.Operation.State.{State}
-use Rattle.iocm_model.specs.Change.Effect.{written}
-use Rattle.iocm_model.specs.Change.Runs.{edited_by_all, effect_of}
+use Rattle.iocm_model.specs.Change.Effect.{with_effect}
+use Rattle.iocm_model.specs.Change.Runs.{state_after_all, effect_of}
 use Rattle.iocm_model.specs.Rules.FirstBreach.{first_breach}
 use Rattle.iocm_model.specs.Laws.Trees.{IsRunFrom}
 use Rattle.iocm_model.specs.Change.Tree.{ChangeTree}
@@ -15,7 +15,7 @@ use Rattle.iocm_model.proofs.Change.Steps.{steps_stay_sound}
 use Rattle.iocm_model.proofs.Change.Trees.{accepted_trees_are_runs}
 use Rattle.iocm_history.specs.Entry.{activate, Entry, History}
 use Rattle.iocm_history.specs.MarkedEntry.{Act, step, change, undoing, nothing, kept, undone_with, lost, MarkedEntry, act_of, altered_by_change, marked_entry, marked_entries, marks_after}
-use Rattle.iocm_history.specs.Replay.{acted_if_kept, replay, state_at}
+use Rattle.iocm_history.specs.Replay.{after_act_if_kept, replay, state_at}
 use Rattle.iocm_history.specs.Journal.{journal_of}
 use Rattle.iocm_history.specs.Legal.{IsLegal}
 use Rattle.iocm_history.specs.HistoryLaws.{struck_steps, undoes_or_redoes}
@@ -37,11 +37,11 @@ use Rattle.iocm_history.proofs.UndoneStates.{inverse_tree_leaves}
 steps_in_use : (ls : List MarkedEntry) (s : State) → KeepsNoChange ls → IsInUse s → IsInUse (replay s ls)
 steps_in_use ls s none used = record {
   sound = replay_sound ls s none used.sound;
-  kept = (λ i. first_breach (replay_config ls s none i) (replay_numbers ls s none i)) ∙ used.kept;
+  rules = (λ i. first_breach (replay_config ls s none i) (replay_numbers ls s none i)) ∙ used.rules;
 }
 
-plain_in_use : (a : Act) (s : State) → is_plain a ≡ true → IsInUse s → IsInUse (acted_if_kept kept a s)
-plain_in_use (step x made) s plain used = record { sound = steps_stay_sound x made s used.sound; kept = used.kept }
+plain_in_use : (a : Act) (s : State) → is_plain a ≡ true → IsInUse s → IsInUse (after_act_if_kept kept a s)
+plain_in_use (step x made) s plain used = record { sound = steps_stay_sound x made s used.sound; rules = used.rules }
 plain_in_use (change n f) s plain used = cc
 plain_in_use (undoing n) s plain used = cc
 plain_in_use nothing s plain used = used
@@ -49,15 +49,15 @@ plain_in_use nothing s plain used = used
 idle_in_use : (opening : State) (h : History) (e : Entry) → IsIdle e → IsInUse (state_at opening h) → IsInUse (state_at opening (e ∷ h))
 unfolding marked_entries
 idle_in_use opening h e i used =
-    subst (λ (ls : List MarkedEntry). IsInUse (acted_if_kept kept (marked_entry e).act (replay opening ls))) (sym (i.marks (marked_entries h)))
+    subst (λ (ls : List MarkedEntry). IsInUse (after_act_if_kept kept (marked_entry e).act (replay opening ls))) (sym (i.marks (marked_entries h)))
     (plain_in_use (marked_entry e).act (state_at opening h) i.act used)
 
 -- the state after an activation
 activated_state : (opening : State) (h : History) (e : Entry) (n : ℕ) → e.answer ≡ Changed n → (a : IsActivated opening h e)
-    → state_at opening (e ∷ h) ≡ written (effect_of a.done.edits (state_at opening h)) (state_at opening h)
+    → state_at opening (e ∷ h) ≡ with_effect (effect_of a.done.edits (state_at opening h)) (state_at opening h)
 unfolding marked_entries
 activated_state opening h e n answer a =
-    λ i. acted_if_kept kept (act_of (a.call i) (answer i) (a.effect i)) (replay opening (marks_after (answer i) (marked_entries h)))
+    λ i. after_act_if_kept kept (act_of (a.call i) (answer i) (a.effect i)) (replay opening (marks_after (answer i) (marked_entries h)))
 
 activated_in_use : (opening : State) (h : History) (e : Entry) (n : ℕ) → e.answer ≡ Changed n → IsActivated opening h e → IsInUse (state_at opening h)
     → IsInUse (state_at opening (e ∷ h))
@@ -65,10 +65,10 @@ activated_in_use opening h e n answer a used =
     let s = state_at opening h in
     let run : IsRunFrom s a.done = accepted_trees_are_runs a.tree s a.done a.accepted in
     let free = accepted_carry a.done.edits s run.accepted in
-    let there : state_at opening (e ∷ h) ≡ edited_by_all a.done.edits s = activated_state opening h e n answer a ∙ writes_its_effect a.done.edits s used.sound free in
+    let there : state_at opening (e ∷ h) ≡ state_after_all a.done.edits s = activated_state opening h e n answer a ∙ writes_its_effect a.done.edits s used.sound free in
     subst IsInUse (sym there) (record {
       sound = stays_sound a.done.edits s used.sound free;
-      kept = ap (λ (z : State). first_breach z.config z.numbers) (sym run.state) ∙ run.kept;
+      rules = ap (λ (z : State). first_breach z.config z.numbers) (sym run.state) ∙ run.rules;
     })
 
 -- ---- the length of what goes before
@@ -153,4 +153,4 @@ undo_does_what_the_inverse_tree_does opening before after e n tree done used ans
     let stands = undo_stands n (journal_of (after ++ e ∷ before)) (what_comes opening (after ++ e ∷ before) (undo_entry n) legal.0) in
     inverse_tree_leaves opening before after e n tree done answer call effect accepted s.sound
     (change_kept opening before after e n answer legal.1 stands) (not_since opening before after e n answer legal.1)
-    (undo_since opening before after e n answer legal) legal s.kept
+    (undo_since opening before after e n answer legal) legal s.rules

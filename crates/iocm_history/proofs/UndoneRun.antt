@@ -7,7 +7,7 @@ use Rattle.iocm_types.specs.declared.sub_id.SubId.{SubId}
 use Rattle.iocm_model.specs.Operation.State.{State}
 use Rattle.iocm_history.specs.Entry.{Entry, History}
 use Rattle.iocm_history.specs.MarkedEntry.{Act, step, change, undoing, nothing, Mark, kept, undone_with, lost, MarkedEntry, is_change, struck_mark, strike, altered_by_change, marked_entry, marked_entries, marks_after}
-use Rattle.iocm_history.specs.Replay.{acted_if_kept, replay}
+use Rattle.iocm_history.specs.Replay.{after_act_if_kept, replay}
 use Rattle.iocm_history.specs.Journal.{Journal, is_in, journal_after, journal_of}
 use Rattle.iocm_history.specs.Legal.{IsLegal}
 use Rattle.iocm_history.specs.HistoryLaws.{IsUnmarked, struck_steps, UndoLeavesTheRunWithout, UndoGoesBackToTheStateBefore}
@@ -86,10 +86,10 @@ since_change opening n (e ∷ new) h legal counted =
 -- ---- what an undo leaves
 
 -- what is struck counts no more
-replay_struck : (n : ℕ) (l : MarkedEntry) (s : State) → acted_if_kept (struck_mark (undone_with n) l.mark) l.act s ≡ s
+replay_struck : (n : ℕ) (l : MarkedEntry) (s : State) → after_act_if_kept (struck_mark (undone_with n) l.mark) l.act s ≡ s
 replay_struck n l s = go l.mark
   where
-    go : (m : Mark) → acted_if_kept (struck_mark (undone_with n) m) l.act s ≡ s
+    go : (m : Mark) → after_act_if_kept (struck_mark (undone_with n) m) l.act s ≡ s
     go kept = refl
     go (undone_with k) = refl
     go lost = refl

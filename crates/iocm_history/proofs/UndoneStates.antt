@@ -13,8 +13,8 @@ use Rattle.iocm_model.specs.Change.Maps.{cells_at}
 use Rattle.iocm_model.specs.Operation.State.{State, IsSound, HasConfigAndNumbersOf, is_among}
 use Rattle.iocm_model.specs.Change.Edit.{Edit}
 use Rattle.iocm_model.specs.Change.Refusal.{is_not_quiet, first_not_quiet, AreQuiet}
-use Rattle.iocm_model.specs.Change.Effect.{Effect, values_in, written}
-use Rattle.iocm_model.specs.Change.Runs.{edited_by_all, cells_written_by_all, effect_of}
+use Rattle.iocm_model.specs.Change.Effect.{Effect, values_in, with_effect}
+use Rattle.iocm_model.specs.Change.Runs.{state_after_all, cells_written_by_all, effect_of}
 use Rattle.iocm_model.specs.Change.Tree.{ChangeTree}
 use Rattle.iocm_model.specs.Change.Meaning.{Performed, meaning, state_reached}
 use Rattle.iocm_model.specs.Change.InverseTree.{inverse_tree}
@@ -57,7 +57,7 @@ there_if false x = refl
 -- the subchannels of an effect are those that its edits altered
 effect_subchannels : (es : List Edit) (s : State) (x : SubId) → is_among x (keys (effect_of es s).lives) ≡ is_among x (cells_written_by_all es s).subchannels
 effect_subchannels es s x =
-    let t = edited_by_all es s in let xs = (cells_written_by_all es s).subchannels in
+    let t = state_after_all es s in let xs = (cells_written_by_all es s).subchannels in
     sym (contains_key-keys (cells_at t.lives xs) x) ∙ ap is_some (get_cells_at sub_ids_total sub_ids_exact t.lives xs x) ∙ there_if (is_among x xs) (get t.lives x)
 
 -- ---- the undo's own mark
@@ -105,7 +105,7 @@ module _ (opening : State) (before after : History) (e : Entry) (n : ℕ) (tree 
         ∙ ap (λ ls. since ++ ls) (kept_line ∙ (λ i. record { act = made i; mark = kept } ∷ marked_entries before))
 
     -- the state now: what came since, on the state after the change
-    pub state_now : state_at opening (after ++ e ∷ before) ≡ replay (edited_by_all done.edits s) since
+    pub state_now : state_at opening (after ++ e ∷ before) ≡ replay (state_after_all done.edits s) since
     state_now = ap (replay opening) whole ∙ replay_append opening since _
         ∙ ap (λ z. replay z since) (writes_its_effect done.edits s sound (accepted_carry done.edits s performed.accepted))
 
@@ -117,16 +117,16 @@ module _ (opening : State) (before after : History) (e : Entry) (n : ℕ) (tree 
     module _ (legal : IsLegal opening (plain_entry (undo n) (Undone n) ∷ after ++ e ∷ before)) where
       -- the state that the undo leaves: the cells of the change as they were
       pub undone_is_taken_back : state_at opening (plain_entry (undo n) (Undone n) ∷ after ++ e ∷ before)
-          ≡ written (values_in s (cells_written_by_all done.edits s)) (state_at opening (after ++ e ∷ before))
+          ≡ with_effect (values_in s (cells_written_by_all done.edits s)) (state_at opening (after ++ e ∷ before))
       undone_is_taken_back = undo_goes_back opening before after e n answer legal
           ∙ sym (replay_taken_back done.edits s sound (altered_by_change n (marked_entries (after ++ e ∷ before))) (undone_with n) (by_undo n) named since no_change)
-          ∙ ap (written (values_in s (cells_written_by_all done.edits s))) (sym state_now)
+          ∙ ap (with_effect (values_in s (cells_written_by_all done.edits s))) (sym state_now)
 
       -- which is what the inverse tree leaves
       pub inverse_tree_leaves : KeepsTheRules s → state_reached (meaning (inverse_tree done.edits s) (state_at opening (after ++ e ∷ before)))
           ≡ Some (state_at opening (plain_entry (undo n) (Undone n) ∷ after ++ e ∷ before))
       inverse_tree_leaves rules =
-          let t = edited_by_all done.edits s in
+          let t = state_after_all done.edits s in
           let u = state_at opening (after ++ e ∷ before) in
           let sound_t : IsSound t = stays_sound done.edits s sound (accepted_carry done.edits s performed.accepted) in
           let sound_u : IsSound u = subst IsSound (sym state_now) (replay_sound since t no_change sound_t) in

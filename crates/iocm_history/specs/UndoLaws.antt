@@ -13,7 +13,7 @@ use Rattle.iocm_history.specs.Legal.{IsLegal}
 -- a state of a machine in use
 pub record IsInUse (s : State) : Type 0 where
   pub sound : IsSound s
-  pub kept : KeepsTheRules s
+  pub rules : KeepsTheRules s
 
 -- from a state in use, every legal history leads to one
 abbrev pub StatesStayInUse : Type 0

@@ -2,10 +2,10 @@ ghost use Rattle.iocm_model.specs.Laws.Numbers.{
   LowestFreeIsFree,
   LowestFreeIsFound,
   ReachedPlacesAreOfDevices,
-  RenumberedAreExact,
+  NumbersAfterAreExact,
   StayersKeepTheirs,
   CarriedComeBack,
-  RenumberedAreNumbers,
+  NumbersAfterAreNumbers,
   RenumberingGoesBack,
   FreedAreNotTaken,
   OpeningAreNumbers,
@@ -21,13 +21,13 @@ pub fn reached_places_are_of_devices()
 /// after a change whose carried numbers are free.
 pub fn no_number_comes_twice()
     ensures opening { OpeningAreNumbers }
-    ensures change { RenumberedAreNumbers }
+    ensures change { NumbersAfterAreNumbers }
 {}
 
 /// After a change exactly the devices that the new configuration reaches have a number; those that stay keep theirs, and
 /// those that come back with their place get it.
 pub fn numbers_after_a_change()
-    ensures exact { RenumberedAreExact }
+    ensures exact { NumbersAfterAreExact }
     ensures stay { StayersKeepTheirs }
     ensures come_back { CarriedComeBack }
 {}

@@ -12,7 +12,7 @@ use Rattle.iocm_types.specs.declared.key.Key.{Key}
 use Rattle.iocm_types.specs.Key.{key_cmp}
 use Rattle.iocm_types.proofs.KeyOrder.{keys_total}
 use Rattle.iocm_model.specs.Machine.Record.{Rec, key_of}
-use Rattle.iocm_model.specs.Machine.Configuration.{keyed, HasNoKeyTwice}
+use Rattle.iocm_model.specs.Machine.Configuration.{with_keys, HasNoKeyTwice}
 use Rattle.iocm_records.specs.Deck.{with_records}
 use Rattle.iocm_records.specs.Progress.{has_claimed, has_key, IsKept}
 use Rattle.iocm_records.proofs.Opening.{opened}
@@ -25,15 +25,15 @@ some_of : {A : Type 0} (b : Bool) (x : A) (o : Option A) → is_some (cond b (So
 some_of true x o = refl
 some_of false x o = refl
 
-keyed_push : (records : List Rec) (r : Rec) → keyed (records ++ r ∷ []) ≡ keyed records ++ (key_of r, r) ∷ []
+keyed_push : (records : List Rec) (r : Rec) → with_keys (records ++ r ∷ []) ≡ with_keys records ++ (key_of r, r) ∷ []
 keyed_push records r = map-append (λ (x : Rec). (key_of x, x)) records (r ∷ [])
 
 -- the keys with a further record whose key is new
 pub has_key_push : (records : List Rec) (r : Rec) (q : Key) → has_key records (key_of r) ≡ false
     → has_key (records ++ r ∷ []) q ≡ cond (is_eq (key_cmp q (key_of r))) true (has_key records q)
 has_key_push records r q new =
-    rw (keyed_push records r, find-append key_cmp keys_total (keyed records) (key_of r) r q (none_there _ new))
-    (some_of (is_eq (key_cmp q (key_of r))) r (find key_cmp q (keyed records)))
+    rw (keyed_push records r, find-append key_cmp keys_total (with_keys records) (key_of r) r q (none_there _ new))
+    (some_of (is_eq (key_cmp q (key_of r))) r (find key_cmp q (with_keys records)))
 
 neither : (b c : Bool) → cond b true c ≡ false → (b ≡ false) × (c ≡ false)
 neither true c e = cc
@@ -43,7 +43,7 @@ neither false c e = (refl, e)
 new_to_both : (x : Rec) (records : List Rec) (key : Key) → has_key (x ∷ records) key ≡ false
     → (is_eq (key_cmp key (key_of x)) ≡ false) × (has_key records key ≡ false)
 new_to_both x records key new = neither (is_eq (key_cmp key (key_of x))) (has_key records key)
-    (sym (some_of (is_eq (key_cmp key (key_of x))) x (find key_cmp key (keyed records))) ∙ new)
+    (sym (some_of (is_eq (key_cmp key (key_of x))) x (find key_cmp key (with_keys records))) ∙ new)
 
 -- no key stands twice with a further record whose key is new
 pub apart_push : (records : List Rec) (r : Rec) → has_key records (key_of r) ≡ false → HasNoKeyTwice records → HasNoKeyTwice (records ++ r ∷ [])
@@ -52,7 +52,7 @@ apart_push (x ∷ records) r new apart =
     let both = new_to_both x records (key_of r) new in (
       rw (
         keyed_push records r,
-        find-append key_cmp keys_total (keyed records) (key_of r) r (key_of x) (none_there _ both.1),
+        find-append key_cmp keys_total (with_keys records) (key_of r) r (key_of x) (none_there _ both.1),
         (eq_by_cmp_equiv keys_total).symm (key_of x) (key_of r),
         both.0,
       ) apart.0,

@@ -5,7 +5,7 @@ use Rattle.std.specs.FinMap.{find}
 use Rattle.iocm_types.specs.declared.key.Key.{Key}
 use Rattle.iocm_types.specs.Key.{key_cmp}
 use Rattle.iocm_model.specs.Machine.Record.{Rec}
-use Rattle.iocm_model.specs.Machine.Configuration.{keyed, HasNoKeyTwice}
+use Rattle.iocm_model.specs.Machine.Configuration.{with_keys, HasNoKeyTwice}
 
 -- whether there was a RESOURCE statement, and the records
 pub record Progress : Type 0 where
@@ -18,7 +18,7 @@ has_claimed keys key = contains key_cmp keys key
 
 -- whether a record of this key is there
 abbrev pub has_key : List Rec → Key → Bool
-has_key records key = is_some (find key_cmp key (keyed records))
+has_key records key = is_some (find key_cmp key (with_keys records))
 
 -- a set has the keys of these records, and no key of them stands twice
 pub record IsKept (keys : BTreeSet Key) (records : List Rec) : Type 0 where

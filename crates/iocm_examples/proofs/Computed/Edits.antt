@@ -2,7 +2,7 @@
 use Rattle.std.proofs.Common.{◌≡◌, ℕ, true, List, [], ◌∷◌, refl, ap, ◌∙◌}
 use Rattle.iocm_types.specs.declared.sub_id.SubId.{SubId}
 use Rattle.iocm_types.specs.Key.{key_cmp}
-use Rattle.iocm_model.specs.Machine.Configuration.{keyed, configuration_of}
+use Rattle.iocm_model.specs.Machine.Configuration.{with_keys, configuration_of}
 use Rattle.iocm_model.specs.Operation.State.{State}
 use Rattle.iocm_model.specs.Change.Edit.{Action, add, delete, modify}
 use Rattle.iocm_model.specs.Operation.Orders.{fresh}
@@ -14,31 +14,31 @@ use Rattle.iocm_examples.specs.Edits.{started_at, enabled_at, base_started, base
 use Rattle.iocm_examples.proofs.OnLists.{states_on_lists}
 use Rattle.iocm_examples.proofs.Listed.Maps.{put_all}
 use Rattle.iocm_examples.proofs.Listed.Views.{entries-configuration_of}
-use Rattle.iocm_examples.proofs.Listed.States.{ListedState, listing, opened_listed, opened_seen, stepped_is, stepped_listed, ListedEdit}
+use Rattle.iocm_examples.proofs.Listed.States.{ListedState, listing, opening_state_listed, opening_state_seen, after_step_is, after_step_listed, ListedEdit}
 use Rattle.iocm_types.specs.declared.order.Order.TheVariants as orders
 
 -- the example deck, opened, as lists
 unfoldable pub base_listing : ListedState
 base_listing = record {
-  records = keyed base;
+  records = with_keys base;
   numbers = place_of 0x1000 0 ∷ place_of 0x1001 1 ∷ place_of 0x1002 2 ∷ place_of 0x1003 3 ∷ [];
   lives = (subchannel 1 0, fresh 0xC0) ∷ (subchannel 1 1, fresh 0xC0) ∷ (subchannel 1 2, fresh 0xC0) ∷ (subchannel 1 3, fresh 0xC0)
       ∷ (subchannel 2 0, fresh 0xC0) ∷ (subchannel 2 1, fresh 0xC0) ∷ (subchannel 2 2, fresh 0xC0) ∷ (subchannel 2 3, fresh 0xC0) ∷ [];
 }
 
 -- these are the lists at opening of the example deck
-base_computed : opened_listed (put_all key_cmp (keyed base)) ≡ base_listing
+base_computed : opening_state_listed (put_all key_cmp (with_keys base)) ≡ base_listing
 unfolding states_on_lists base_listing
 base_computed = refl
 
 -- and those of its state at opening
 pub base_is : listing base_opened ≡ base_listing
 unfolding base_opened
-base_is = opened_seen (configuration_of base) ∙ ap opened_listed (entries-configuration_of base) ∙ base_computed
+base_is = opening_state_seen (configuration_of base) ∙ ap opening_state_listed (entries-configuration_of base) ∙ base_computed
 
 -- an edit that brings nothing along
 abbrev pub plainly : Action → ListedEdit
-plainly a = record { action = a; places = []; kept = [] }
+plainly a = record { action = a; places = []; lives = [] }
 
 -- an add, a delete and a modify that bring nothing along
 abbrev pub plain_add : Rec → ListedEdit
@@ -75,12 +75,12 @@ enable_step lpm = order (orders.Modify (record { enabled = true; lpm = lpm; parm
 
 -- a subchannel is enabled and started, on lists
 abbrev pub started_listed : SubId → ListedState → ListedState
-started_listed x y = stepped_listed x (order orders.Start) (stepped_listed x (enable_step 0x80) y)
+started_listed x y = after_step_listed x (order orders.Start) (after_step_listed x (enable_step 0x80) y)
 
 -- a subchannel is started in a state that is listed
 pub started_is : (x : SubId) (s : State) (y : ListedState) → listing s ≡ y → listing (started_at x s) ≡ started_listed x y
 started_is x s y is =
-    stepped_is x (order orders.Start) (enabled_at x 0x80 s) (stepped_listed x (enable_step 0x80) y) (stepped_is x (enable_step 0x80) s y is)
+    after_step_is x (order orders.Start) (enabled_at x 0x80 s) (after_step_listed x (enable_step 0x80) y) (after_step_is x (enable_step 0x80) s y is)
 
 -- the lists once LPA has started its subchannel of 1000
 unfoldable pub started_listing : ListedState

@@ -8,7 +8,7 @@ use Rattle.iocm_examples.specs.Effects.{Writes, AnInverse, Effects}
 use Rattle.iocm_examples.specs.Edits.{online_51, delete_1001, base_opened}
 use Rattle.iocm_examples.proofs.OnLists.{on_lists}
 use Rattle.iocm_examples.proofs.Listed.States.{inverse_seen, inverse_listed, edit_from}
-use Rattle.iocm_examples.proofs.Listed.Effects.{ListedEffect, written_listed, effect_listed, effect_listing, effect_is, replayed, edited_all_listed}
+use Rattle.iocm_examples.proofs.Listed.Effects.{ListedEffect, with_effect_listed, effect_listed, effect_listing, effect_is, replayed, state_after_all_listed}
 use Rattle.iocm_examples.proofs.Computed.Edits.{base_listing, base_is, one_for_another_listed, the_1001, the_online}
 use Rattle.iocm_types.specs.declared.key.Key.TheVariants as key
 
@@ -62,7 +62,7 @@ another_computed : effect_listed one_for_another_listed base_listing ≡ another
 unfolding on_lists base_listing another_effect
 another_computed = refl
 
-replay_computed : written_listed another_effect base_listing ≡ edited_all_listed one_for_another_listed base_listing
+replay_computed : with_effect_listed another_effect base_listing ≡ state_after_all_listed one_for_another_listed base_listing
 unfolding on_lists base_listing another_effect
 replay_computed = refl
 
@@ -74,5 +74,5 @@ effects = record {
   deleted = writes (effect_of (delete_1001 ∷ []) base_opened) deleted_effect
       (effect_is (the_1001 ∷ []) base_opened base_listing base_is ∙ deleted_computed);
   replayed = replayed one_for_another_listed base_opened base_listing base_is
-      (ap (λ f. written_listed f base_listing) another_computed ∙ replay_computed);
+      (ap (λ f. with_effect_listed f base_listing) another_computed ∙ replay_computed);
 }

@@ -13,10 +13,10 @@ use Rattle.iocm_model.specs.Operation.Step.{order, device_end}
 use Rattle.iocm_model.specs.Change.Renumbering.{gap_from}
 use Rattle.iocm_model.specs.Rules.FirstBreach.{first_record, first_breach_of}
 use Rattle.iocm_examples.specs.Edits.{base_opened}
-use Rattle.iocm_examples.proofs.Listed.Views.{renumbered_listed}
-use Rattle.iocm_examples.proofs.Listed.States.{ListedState, listing, record_at_is, live_at_is, ListedEdit, edited_listed, refusal_listed, stepped_listed, answer_listed}
+use Rattle.iocm_examples.proofs.Listed.Views.{numbers_after_listed}
+use Rattle.iocm_examples.proofs.Listed.States.{ListedState, listing, record_at_is, live_at_is, ListedEdit, state_after_listed, refusal_listed, after_step_listed, answer_listed}
 use Rattle.iocm_examples.proofs.Listed.Rules.{first_breach_listed}
-use Rattle.iocm_examples.proofs.Listed.Effects.{edited_all_listed, edits_cells_listed, edit_cells_listed, values_listed, written_listed}
+use Rattle.iocm_examples.proofs.Listed.Effects.{state_after_all_listed, edits_cells_listed, edit_cells_listed, values_listed, with_effect_listed}
 use Rattle.iocm_examples.proofs.Listed.Trees.{one, in_group, in_choose, no_parts, parts_listed, mean_listed, meaning_listed}
 use Rattle.iocm_examples.proofs.Computed.Edits.{base_listing, base_is, plain_add, plain_delete}
 use Rattle.iocm_history.specs.MarkedEntry.{MarkedEntry, marked_entries}
@@ -43,8 +43,8 @@ enabled x lpm parm = ordered x (Modify (record { enabled = true; lpm = lpm; parm
 
 -- the history that calls make on the example deck, with all that computes it unfolded
 unfoldable made_by : List ListedCall → ListedHistory
-unfolding base_listing meaning_listed mean_listed edited_all_listed edited_listed refusal_listed first_breach_listed renumbered_listed gap_from
-    first_record first_breach_of edits_cells_listed edit_cells_listed values_listed written_listed stepped_listed answer_listed
+unfolding base_listing meaning_listed mean_listed state_after_all_listed state_after_listed refusal_listed first_breach_listed numbers_after_listed gap_from
+    first_record first_breach_of edits_cells_listed edit_cells_listed values_listed with_effect_listed after_step_listed answer_listed
     strike_lines restore_lines replay_lines call_listed calls_listed ComeRight
 made_by cs = calls_listed base_listing cs uncalled
 

@@ -5,7 +5,7 @@ use Rattle.iocm_examples.specs.Edits.{started_at, base_started, base_opened}
 use Rattle.iocm_examples.specs.Refusals.{base_ended, base_tested, Keys, ABusySubchannel, PendingStatus}
 use Rattle.iocm_examples.specs.BaseDeck.{subchannel, device_on_1000, device_key}
 use Rattle.iocm_examples.proofs.OnLists.{on_lists}
-use Rattle.iocm_examples.proofs.Listed.States.{ListedState, listing, stepped_is, stepped_listed}
+use Rattle.iocm_examples.proofs.Listed.States.{ListedState, listing, after_step_is, after_step_listed}
 use Rattle.iocm_examples.proofs.Listed.Trees.{one, in_choose, meaning_is, meaning_refused, parts_listed, taken_back}
 use Rattle.iocm_examples.proofs.Computed.Edits.{base_listing, base_is, plain_add, plain_delete, plain_modify, started_listed, started_is, started_listing, base_started_is, the_1001}
 use Rattle.iocm_types.specs.declared.key.Key.TheVariants as key
@@ -31,22 +31,22 @@ a_busy_subchannel = record {
 
 -- the lists once device 1001 has ended LPA's start
 unfoldable ended_listing : ListedState
-ended_listing = stepped_listed (subchannel 1 1) device_end (started_listed (subchannel 1 1) base_listing)
+ended_listing = after_step_listed (subchannel 1 1) device_end (started_listed (subchannel 1 1) base_listing)
 
 -- these are those of the state
 base_ended_is : listing base_ended ≡ ended_listing
 unfolding base_ended ended_listing
-base_ended_is = stepped_is (subchannel 1 1) device_end (started_at (subchannel 1 1) base_opened) (started_listed (subchannel 1 1) base_listing)
+base_ended_is = after_step_is (subchannel 1 1) device_end (started_at (subchannel 1 1) base_opened) (started_listed (subchannel 1 1) base_listing)
     (started_is (subchannel 1 1) base_opened base_listing base_is)
 
 -- the lists once the status is taken
 unfoldable tested_listing : ListedState
-tested_listing = stepped_listed (subchannel 1 1) (order orders.Test) ended_listing
+tested_listing = after_step_listed (subchannel 1 1) (order orders.Test) ended_listing
 
 -- these are those of the state
 base_tested_is : listing base_tested ≡ tested_listing
 unfolding base_tested tested_listing
-base_tested_is = stepped_is (subchannel 1 1) (order orders.Test) base_ended ended_listing base_ended_is
+base_tested_is = after_step_is (subchannel 1 1) (order orders.Test) base_ended ended_listing base_ended_is
 
 -- status that is pending
 pub pending_status : PendingStatus

@@ -7,7 +7,7 @@ use Rattle.iocm_examples.specs.Trees.{LimitsOfTrees, TakenBackLater, base_grown,
 use Rattle.iocm_examples.specs.Edits.{started_at, base_started, base_opened}
 use Rattle.iocm_examples.proofs.OnLists.{on_lists}
 use Rattle.iocm_examples.proofs.Listed.States.{ListedState, listing, record_at_is, ListedEdit}
-use Rattle.iocm_examples.proofs.Listed.Effects.{edited_all_listed, edited_all_is, put_back, edits_cells_are}
+use Rattle.iocm_examples.proofs.Listed.Effects.{state_after_all_listed, state_after_all_is, put_back, edits_cells_are}
 use Rattle.iocm_examples.proofs.Listed.Trees.{ListedPlan, ListedPlans, one, in_row, in_group, in_choose, no_parts, and_part, meaning_is, meaning_refused, parts_listed, taken_back, taken_back_at, inverse_refused}
 use Rattle.iocm_examples.proofs.Computed.Edits.{base_listing, base_is, plain_add, plain_delete, plain_modify, the_0fff, add_0fff_listed, one_for_another_listed, started_listed, started_is, started_listing, base_started_is}
 use Rattle.iocm_types.specs.declared.key.Key.TheVariants as key
@@ -20,7 +20,7 @@ exchange_listed =
 -- that they do
 pub an_exchange : AnExchange
 unfolding on_lists base_listing
-an_exchange = let after = edited_all_is exchange_listed base_opened base_listing base_is in record {
+an_exchange = let after = state_after_all_is exchange_listed base_opened base_listing base_is in record {
   accepted = meaning_is (in_group (parts_listed exchange_listed)) exchange_listed base_opened base_listing base_is refl;
   first = record_at_is _ _ (device_key 0x1002) after;
   second = record_at_is _ _ (device_key 0x1003) after;
@@ -101,12 +101,12 @@ limits_of_trees = record {
 
 -- the states after the device has come in
 unfoldable grown_listing : ListedState
-grown_listing = edited_all_listed add_0fff_listed base_listing
+grown_listing = state_after_all_listed add_0fff_listed base_listing
 
 -- these are those of the state
 base_grown_is : listing base_grown ≡ grown_listing
 unfolding base_grown grown_listing
-base_grown_is = edited_all_is add_0fff_listed base_opened base_listing base_is
+base_grown_is = state_after_all_is add_0fff_listed base_opened base_listing base_is
 
 -- a subchannel is started after the device has come in
 started_in_grown : (x : SubId) → listing (started_at x base_grown) ≡ started_listed x grown_listing

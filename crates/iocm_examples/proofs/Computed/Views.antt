@@ -6,7 +6,7 @@ use Rattle.iocm_types.specs.declared.key.Key.{Key}
 use Rattle.iocm_types.specs.declared.place.NumberCell.{NumberCell}
 use Rattle.iocm_types.specs.Place.{cell_cmp}
 use Rattle.iocm_types.proofs.KeyOrder.{cells_total, cells_exact}
-use Rattle.iocm_model.specs.Machine.Configuration.{Lookup, keyed, configuration_of, image_of}
+use Rattle.iocm_model.specs.Machine.Configuration.{Lookup, with_keys, configuration_of, as_image}
 use Rattle.iocm_model.specs.Machine.Record.{Rec, ImageRecord}
 use Rattle.iocm_model.specs.Machine.View.{row_at, views}
 use Rattle.iocm_types.specs.declared.sub_id.SubId.{SubId}
@@ -27,12 +27,12 @@ base_cells = simp base_numbers (entries_in_order cell_cmp cells_total cells_exac
 -- the rows that these records and number cells give
 rows_from : Lookup → List (Key × Rec) → List (NumberCell × ℕ) → List (SubId × View)
 rows_from found records cells = flat_map (λ (i : ImageRecord). filter_map (row_at found i) (filter (λ (e : NumberCell × ℕ). e.0.css == i.css) cells))
-    (filter_map image_of (map (λ (e : Key × Rec). e.1) records))
+    (filter_map as_image (map (λ (e : Key × Rec). e.1) records))
 
 listed_cells : List (NumberCell × ℕ)
 listed_cells = cell_of 0 0x1000 ∷ cell_of 1 0x1001 ∷ cell_of 2 0x1002 ∷ cell_of 3 0x1003 ∷ []
 
-listed : views (configuration_of base) (opening (configuration_of base)) ≡ rows_from (found_in base) (keyed base) listed_cells
+listed : views (configuration_of base) (opening (configuration_of base)) ≡ rows_from (found_in base) (with_keys base) listed_cells
 unfolding rows_from listed_cells
 listed = λ i. rows_from (λ key. base_lookup key i) (base_entries i) (base_cells i)
 

@@ -14,14 +14,14 @@ use Rattle.iocm_model.specs.Change.Meaning.{Outcome, meaning}
 use Rattle.iocm_model.specs.Operation.Step.{Step}
 use Rattle.iocm_examples.proofs.Listed.Maps.{cond_seen, entries-empty}
 use Rattle.iocm_examples.proofs.Listed.Views.{views_seen}
-use Rattle.iocm_examples.proofs.Listed.States.{ListedState, listing, views_at, ListedEdit, busy_listed, busy_seen, answer_listed, answer_seen, stepped_listed, stepped_seen}
-use Rattle.iocm_examples.proofs.Listed.Effects.{ListedEffect, effect_listing, written_listed, written_seen, edits_from, effect_listed, effect_seen}
+use Rattle.iocm_examples.proofs.Listed.States.{ListedState, listing, views_at, ListedEdit, busy_listed, busy_seen, answer_listed, answer_seen, after_step_listed, after_step_seen}
+use Rattle.iocm_examples.proofs.Listed.Effects.{ListedEffect, effect_listing, with_effect_listed, with_effect_seen, edits_from, effect_listed, effect_seen}
 use Rattle.iocm_examples.proofs.Listed.Trees.{ListedPlan, plan_from, ListedOutcome, outcome_listing, meaning_listed, meaning_seen}
 use Rattle.iocm_history.specs.Entry.{Call, at, activate, undo, redo, show, Entry, History, no_effect, plain_entry}
 use Rattle.iocm_history.specs.MarkedEntry.{Act, step, change, undoing, nothing, Mark, kept, undone_with, lost, MarkedEntry, act_of, is_change, is_undo, is_step_on, effect_or, change_effect, altered_by_change, struck_mark, struck_if, strike, unstruck_mark, taken_back, restore, marks_after, marked_entries}
-use Rattle.iocm_history.specs.Replay.{acted, acted_if_kept, replay, state_at}
+use Rattle.iocm_history.specs.Replay.{after_act, after_act_if_kept, replay, state_at}
 use Rattle.iocm_history.specs.Journal.{Journal, journal_after, journal_of}
-use Rattle.iocm_history.specs.Legal.{undo_answer, redo_answer, shown, activated, entry_in, entry_of}
+use Rattle.iocm_history.specs.Legal.{undo_answer, redo_answer, show_answer, activated, entry_in, entry_of}
 use Rattle.iocm_history.specs.Run.{run, answers_of}
 
 -- what an entry did, with its effect as lists
@@ -177,41 +177,41 @@ remarked_seen (Shown a) ls = refl
 remarked_seen (Refused a) ls = refl
 
 -- the state that lines give
-abbrev acted_lines : ListedAct → ListedState → ListedState
-acted_lines (a_step x s) y = stepped_listed x s y
-acted_lines (a_change n f) y = written_listed f y
-acted_lines (an_undo n) y = y
-acted_lines no_act y = y
+abbrev after_act_listed : ListedAct → ListedState → ListedState
+after_act_listed (a_step x s) y = after_step_listed x s y
+after_act_listed (a_change n f) y = with_effect_listed f y
+after_act_listed (an_undo n) y = y
+after_act_listed no_act y = y
 
 -- unless it is struck
-abbrev acted_lines_if : Mark → ListedAct → ListedState → ListedState
-acted_lines_if kept a y = acted_lines a y
-acted_lines_if (undone_with n) a y = y
-acted_lines_if lost a y = y
+abbrev after_act_listed_if : Mark → ListedAct → ListedState → ListedState
+after_act_listed_if kept a y = after_act_listed a y
+after_act_listed_if (undone_with n) a y = y
+after_act_listed_if lost a y = y
 
 -- the state that listed lines give, the latest first
 unfoldable pub replay_lines : ListedState → List ListedLine → ListedState
 replay_lines y [] = y
-replay_lines y (l ∷ ls) = acted_lines_if l.mark l.act (replay_lines y ls)
+replay_lines y (l ∷ ls) = after_act_listed_if l.mark l.act (replay_lines y ls)
 
 -- an act does to a listed state what it does to the state
-acted_seen : (a : Act) (s : State) → listing (acted a s) ≡ acted_lines (act_listing a) (listing s)
-acted_seen (step x p) s = stepped_seen x p s
-acted_seen (change n f) s = written_seen f s
-acted_seen (undoing n) s = refl
-acted_seen nothing s = refl
+after_act_seen : (a : Act) (s : State) → listing (after_act a s) ≡ after_act_listed (act_listing a) (listing s)
+after_act_seen (step x p) s = after_step_seen x p s
+after_act_seen (change n f) s = with_effect_seen f s
+after_act_seen (undoing n) s = refl
+after_act_seen nothing s = refl
 
 -- so does a line, struck or not
-acted_if_seen : (m : Mark) (a : Act) (s : State) → listing (acted_if_kept m a s) ≡ acted_lines_if m (act_listing a) (listing s)
-acted_if_seen kept a s = acted_seen a s
-acted_if_seen (undone_with n) a s = refl
-acted_if_seen lost a s = refl
+after_act_if_seen : (m : Mark) (a : Act) (s : State) → listing (after_act_if_kept m a s) ≡ after_act_listed_if m (act_listing a) (listing s)
+after_act_if_seen kept a s = after_act_seen a s
+after_act_if_seen (undone_with n) a s = refl
+after_act_if_seen lost a s = refl
 
 -- lines give the state that their listing gives
 pub replay_seen : (s : State) (ls : List MarkedEntry) → listing (replay s ls) ≡ replay_lines (listing s) (lines_listing ls)
 unfolding replay_lines
 replay_seen s [] = refl
-replay_seen s (l ∷ ls) = acted_if_seen l.mark l.act (replay s ls) ∙ ap (acted_lines_if l.mark (act_listing l.act)) (replay_seen s ls)
+replay_seen s (l ∷ ls) = after_act_if_seen l.mark l.act (replay s ls) ∙ ap (after_act_listed_if l.mark (act_listing l.act)) (replay_seen s ls)
 
 -- what was made so far: the lines, the book, and the answers, the latest first
 pub record ListedHistory : Type 0 where
@@ -271,8 +271,8 @@ abbrev undone_lines : Answer → ListedHistory → ListedHistory
 undone_lines a m = made a (undo_act a) m
 
 -- what a machine counts, of a listed state
-abbrev shown_listed : ListedState → Journal → Answer
-shown_listed y b =
+abbrev show_answer_listed : ListedState → Journal → Answer
+show_answer_listed y b =
     Shown (record { records = length y.records; subchannels = length (views_at y); standing = length b.standing; undone = length b.undone })
 
 -- what a call makes in a listed state
@@ -281,7 +281,7 @@ called (stepping x s) y m = made (answer_listed y x s) (a_step x s) m
 called (activating p es) y m = activated_lines es (m.journal.count + 1) y (meaning_listed p y) m
 called (undoes n) y m = undone_lines (undo_answer n m.journal.standing (busy_listed y.lives (altered_in n m.marked))) m
 called (redoes n) y m = made (redo_answer n m.journal (busy_listed y.lives (altered_in n m.marked))) no_act m
-called shows y m = made (shown_listed y m.journal) no_act m
+called shows y m = made (show_answer_listed y m.journal) no_act m
 
 -- what a call makes after a listed history
 unfoldable pub call_listed : ListedState → ListedCall → ListedHistory → ListedHistory
@@ -347,13 +347,13 @@ busy_is s n ls y is = busy_seen s.lives (altered_by_change n ls)
     ∙ (λ i. busy_listed ((is i).lives) (altered_seen n ls i))
 
 -- what a machine counts is what its listing counts
-shown_is : (s : State) (b : Journal) (y : ListedState) → listing s ≡ y → shown s b ≡ shown_listed y b
-shown_is s b y is = (λ i. Shown (record {
+show_answer_is : (s : State) (b : Journal) (y : ListedState) → listing s ≡ y → show_answer s b ≡ show_answer_listed y b
+show_answer_is s b y is = (λ i. Shown (record {
   records = len-entries s.config i;
   subchannels = (len-entries (views_in s) ∙ ap length (views_seen s.config s.numbers)) i;
   standing = length b.standing;
   undone = length b.undone;
-})) ∙ ap (λ z. shown_listed z b) is
+})) ∙ ap (λ z. show_answer_listed z b) is
 
 -- an activation makes what it makes on lists
 activated_is : (p : ListedPlan) (es : List ListedEdit) (n : ℕ) (s : State) (h : History) (o : Outcome) → HasEdits es (outcome_listing o)
@@ -400,7 +400,7 @@ called_is (redoes n) s h y is right =
     let a = redo_answer n (journal_of h) (first_not_quiet s.lives (altered_by_change n (marked_entries h))) in
     made_seen (plain_entry (redo n) a) h ∙ ap (λ act. made a act (history_listing h)) (redo_act_is n a)
     ∙ ap (λ busy. made (redo_answer n (journal_of h) busy) no_act (history_listing h)) (busy_is s n (marked_entries h) y is)
-called_is shows s h y is right = made_seen _ h ∙ ap (λ a. made a no_act (history_listing h)) (shown_is s (journal_of h) y is)
+called_is shows s h y is right = made_seen _ h ∙ ap (λ a. made a no_act (history_listing h)) (show_answer_is s (journal_of h) y is)
 
 -- what a call makes after a history that is listed
 call_is : (opening : State) (y : ListedState) → listing opening ≡ y → (c : ListedCall) (h : History) (m : ListedHistory)

@@ -8,7 +8,7 @@ use Rattle.std.specs.Option.{option_eq}
 use Rattle.std.specs.Ordering.{eq_by_cmp}
 use Rattle.std.specs.declared.cmp.Ordering.TheVariants.{Equal}
 use Rattle.std.specs.FinMap.Entries.{where_key, is_sorted-where_key, find-where_key, same_entries}
-use Rattle.iocm_model.specs.Change.Maps.{with_value, overwritten, cells_at, differing}
+use Rattle.iocm_model.specs.Change.Maps.{with_value, with_cells, cells_at, differing}
 
 -- the entries of a map that is made of a list in order are that list
 pub entries_in_order : {K X : Type 0} (R : K → K → Ordering) → IsTotalOrder R → IsAntisymmetric R → (es : List (K × X)) → T (is_sorted R es)
@@ -107,9 +107,9 @@ module _ {K X : Type 0} {R : K → K → Ordering} (total : IsTotalOrder R) (exa
   entries-with_value m key None = entries-remove m key
 
   -- the entries of a map with cells overwritten
-  pub entries-overwritten : (ws : List (K × Option X)) (m : FinMap R X) → entries (overwritten ws m) ≡ put_cells R ws (entries m)
-  entries-overwritten [] m = refl
-  entries-overwritten (w ∷ ws) m = entries-with_value (overwritten ws m) w.0 w.1 ∙ ap (put_or_without R w.0 w.1) (entries-overwritten ws m)
+  pub entries-with_cells : (ws : List (K × Option X)) (m : FinMap R X) → entries (with_cells ws m) ≡ put_cells R ws (entries m)
+  entries-with_cells [] m = refl
+  entries-with_cells (w ∷ ws) m = entries-with_value (with_cells ws m) w.0 w.1 ∙ ap (put_or_without R w.0 w.1) (entries-with_cells ws m)
 
   -- two maps differ at the keys at which their entries do
   pub differing_seen : (same : X → X → Bool) (m n : FinMap R X) → differing same m n ≡ keys_differing R same (entries m) (entries n)

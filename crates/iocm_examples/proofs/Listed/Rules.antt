@@ -11,7 +11,7 @@ use Rattle.iocm_types.specs.declared.rule.Rule.TheVariants.{V1, V2, V3, V4, V5, 
 use Rattle.iocm_types.specs.declared.unit_range.UnitRange.{UnitRange}
 use Rattle.iocm_types.specs.Place.{place_cmp}
 use Rattle.iocm_model.specs.Machine.Record.{Rec, ImageRecord, image, path, unit, device, online}
-use Rattle.iocm_model.specs.Machine.Configuration.{Configuration, Lookup, lookup_of, records_of, image_of}
+use Rattle.iocm_model.specs.Machine.Configuration.{Configuration, Lookup, lookup_of, records_of, as_image}
 use Rattle.iocm_model.specs.Machine.PathList.{paths_in, path_list}
 use Rattle.iocm_model.specs.Machine.Sight.{record_lists}
 use Rattle.iocm_model.specs.Machine.Numbering.{Numbering, subsystems}
@@ -95,12 +95,12 @@ rules_by at rs images number_at = (V1, v1_by rs) ∷ (V2, v2_by images) ∷ (V3,
     ∷ (V13, v13_by at number_at) ∷ (V14, v14_by rs) ∷ []
 
 -- the rules of a configuration and a numbering are these
-rules_seen : (c : Configuration) (n : Numbering) → rules_of c n ≡ rules_by (lookup_of c) (records_of c) (filter_map image_of (records_of c)) (get n)
+rules_seen : (c : Configuration) (n : Numbering) → rules_of c n ≡ rules_by (lookup_of c) (records_of c) (filter_map as_image (records_of c)) (get n)
 rules_seen c n = refl
 
 -- the first breach by the look-up, the numbers and the records
 abbrev breach_by : Lookup → (Place → Option ℕ) → List Rec → Option Breach
-breach_by at number_at rs = first_breach_of (rules_by at rs (filter_map image_of rs) number_at) rs
+breach_by at number_at rs = first_breach_of (rules_by at rs (filter_map as_image rs) number_at) rs
 
 -- the first breach
 unfoldable pub first_breach_listed : Records → Numbers → Option Breach

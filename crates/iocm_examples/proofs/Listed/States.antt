@@ -18,15 +18,15 @@ use Rattle.iocm_types.specs.SubId.{sub_id_cmp}
 use Rattle.iocm_types.proofs.KeyOrder.{keys_total, keys_exact, places_total, places_exact, sub_ids_total, sub_ids_exact}
 use Rattle.iocm_model.specs.Machine.Configuration.{Configuration}
 use Rattle.iocm_model.specs.Machine.Numbering.{Numbering, opening, is_reached_at, reached_places}
-use Rattle.iocm_model.specs.Change.Renumbering.{renumbered}
+use Rattle.iocm_model.specs.Change.Renumbering.{numbers_after}
 use Rattle.iocm_model.specs.Machine.View.{views}
-use Rattle.iocm_model.specs.Operation.State.{State, seen_in, Lives, Views, views_of, views_in, fresh_row, opened}
-use Rattle.iocm_model.specs.Change.Edit.{Action, Edit, key_edited, record_after, config_edited, same_view, live_edited, lives_edited, edited, altered_between, is_altered}
-use Rattle.iocm_model.specs.Change.Refusal.{refused_at, refused_by_key, same_cell, has_cell_twice, is_number_taken, is_not_quiet, first_not_quiet, refused_by_subchannel, refusal_of}
+use Rattle.iocm_model.specs.Operation.State.{State, seen_in, Lives, Views, views_of, views_in, fresh_row, opening_state}
+use Rattle.iocm_model.specs.Change.Edit.{Action, Edit, action_key, record_after, config_after, same_view, live_after_edit, lives_after_edit, state_after, altered_between, is_altered}
+use Rattle.iocm_model.specs.Change.Refusal.{refusal_at, refusal_by_key, same_cell, has_cell_twice, is_number_taken, is_not_quiet, first_not_quiet, refusal_by_subchannel, refusal_of}
 use Rattle.iocm_model.specs.Change.Inverse.{action_back, inverse_of}
-use Rattle.iocm_model.specs.Operation.Step.{Step, subchannel_in, step_answer, answer_in, live_stepped, lives_stepped, stepped}
+use Rattle.iocm_model.specs.Operation.Step.{Step, subchannel_in, step_answer, answer_in, live_after_step, lives_after_step, after_step}
 use Rattle.iocm_examples.proofs.Listed.Maps.{entries_in_order, put_all, put_or_without, keys_differing, same_by_entries, entries-from_entries, entries-retain_keys, entries-with_value, differing_seen}
-use Rattle.iocm_examples.proofs.Listed.Views.{Records, Numbers, ViewList, is_place_in, places_listed, places_seen, opening_listed, opening_seen, rows_listed, rows_seen, views_listed, views_seen, renumbered_listed, renumbered_seen}
+use Rattle.iocm_examples.proofs.Listed.Views.{Records, Numbers, ViewList, is_place_in, places_listed, places_seen, opening_listed, opening_seen, rows_listed, rows_seen, views_listed, views_seen, numbers_after_listed, numbers_after_seen}
 use Rattle.std.specs.List as lists
 use Rattle.iocm_types.specs.declared.refused.At.TheVariants as at
 
@@ -57,17 +57,17 @@ abbrev pub views_at : ListedState → ViewList
 views_at x = views_listed x.records x.numbers
 
 -- a state at opening
-abbrev opened_with : Records → Numbers → ListedState
-opened_with es n = record { records = es; numbers = n; lives = put_all sub_id_cmp (map fresh_row (rows_listed es n)) }
+abbrev opening_state_with : Records → Numbers → ListedState
+opening_state_with es n = record { records = es; numbers = n; lives = put_all sub_id_cmp (map fresh_row (rows_listed es n)) }
 
 -- the state at opening of these records
-unfoldable pub opened_listed : Records → ListedState
-opened_listed es = opened_with es (opening_listed es)
+unfoldable pub opening_state_listed : Records → ListedState
+opening_state_listed es = opening_state_with es (opening_listed es)
 
 -- a configuration opens as its entries do
-pub opened_seen : (c : Configuration) → listing (opened c) ≡ opened_listed (entries c)
-unfolding opened_listed
-opened_seen c = λ i. record {
+pub opening_state_seen : (c : Configuration) → listing (opening_state c) ≡ opening_state_listed (entries c)
+unfolding opening_state_listed
+opening_state_seen c = λ i. record {
   records = entries c;
   numbers = opening_seen c i;
   lives = (entries-from_entries sub_ids_total sub_ids_exact (map fresh_row (views c (opening c)))
@@ -78,66 +78,66 @@ opened_seen c = λ i. record {
 pub record ListedEdit : Type 0 where
   pub action : Action
   pub places : List (Place × ℕ)
-  pub kept : LiveList
+  pub lives : LiveList
 
 -- the edit whose live records are those of the list
 abbrev pub edit_from : ListedEdit → Edit
-edit_from e = record { action = e.action; places = e.places; kept = from_entries e.kept }
+edit_from e = record { action = e.action; places = e.places; lives = from_entries e.lives }
 
 -- the live records after the views have changed
 abbrev lives_by : (SubId → Option View) → ViewList → (SubId → Option Live) → (SubId → Option Live) → LiveList
-lives_by old new kept lives = put_all sub_id_cmp (filter_map
-    (λ (e : SubId × View). option_map (λ (l : Live). (e.0, l)) (live_edited (old e.0) e.1 (kept e.0) (lives e.0))) new)
+lives_by old new carried lives = put_all sub_id_cmp (filter_map
+    (λ (e : SubId × View). option_map (λ (l : Live). (e.0, l)) (live_after_edit (old e.0) e.1 (carried e.0) (lives e.0))) new)
 
 -- the live records after the views have changed, on lists
 abbrev pub lives_listed : ViewList → ViewList → LiveList → LiveList → LiveList
-lives_listed old new kept lives = lives_by (λ x. find sub_id_cmp x old) new (λ x. find sub_id_cmp x kept) (λ x. find sub_id_cmp x lives)
+lives_listed old new carried lives = lives_by (λ x. find sub_id_cmp x old) new (λ x. find sub_id_cmp x carried) (λ x. find sub_id_cmp x lives)
 
 -- live records change as their entries do
-lives_seen : (old new : Views) (kept lives : Lives)
-    → entries (lives_edited old new kept lives) ≡ lives_listed (entries old) (entries new) (entries kept) (entries lives)
-lives_seen old new kept lives = entries-from_entries sub_ids_total sub_ids_exact _
-    ∙ (λ i. lives_by (λ x. get-entries old x i) (entries new) (λ x. get-entries kept x i) (λ x. get-entries lives x i))
+lives_seen : (old new : Views) (carried lives : Lives)
+    → entries (lives_after_edit old new carried lives) ≡ lives_listed (entries old) (entries new) (entries carried) (entries lives)
+lives_seen old new carried lives = entries-from_entries sub_ids_total sub_ids_exact _
+    ∙ (λ i. lives_by (λ x. get-entries old x i) (entries new) (λ x. get-entries carried x i) (λ x. get-entries lives x i))
 
 -- the records after an action, and the state after an edit
-abbrev records_edited : Action → Records → Records
-records_edited a es = put_or_without key_cmp (key_edited a) (record_after a) es
+abbrev records_after_listed : Action → Records → Records
+records_after_listed a es = put_or_without key_cmp (action_key a) (record_after a) es
 
 -- a state after an edit, with these records and numbers
-abbrev edited_with : ListedEdit → ListedState → Records → Numbers → ListedState
-edited_with e x es n = record { records = es; numbers = n; lives = lives_listed (views_at x) (views_listed es n) (put_all sub_id_cmp e.kept) x.lives }
+abbrev state_after_with : ListedEdit → ListedState → Records → Numbers → ListedState
+state_after_with e x es n = record { records = es; numbers = n; lives = lives_listed (views_at x) (views_listed es n) (put_all sub_id_cmp e.lives) x.lives }
 
 -- a state after an edit, with these records
-abbrev edited_to : ListedEdit → ListedState → Records → ListedState
-edited_to e x es = edited_with e x es (renumbered_listed es e.places x.numbers)
+abbrev state_after_from : ListedEdit → ListedState → Records → ListedState
+state_after_from e x es = state_after_with e x es (numbers_after_listed es e.places x.numbers)
 
 -- a state after an edit
-unfoldable pub edited_listed : ListedEdit → ListedState → ListedState
-edited_listed e x = edited_to e x (records_edited e.action x.records)
+unfoldable pub state_after_listed : ListedEdit → ListedState → ListedState
+state_after_listed e x = state_after_from e x (records_after_listed e.action x.records)
 
 -- an action does to a configuration what it does to its entries
-records_seen : (a : Action) (c : Configuration) → entries (config_edited a c) ≡ records_edited a (entries c)
-records_seen a c = entries-with_value keys_total keys_exact c (key_edited a) (record_after a)
+records_seen : (a : Action) (c : Configuration) → entries (config_after a c) ≡ records_after_listed a (entries c)
+records_seen a c = entries-with_value keys_total keys_exact c (action_key a) (record_after a)
 
 -- an edit does to the numbers of a state what it does to their entries
-numbers_seen : (e : ListedEdit) (s : State) → entries (renumbered (config_edited e.action s.config) e.places s.numbers)
-    ≡ renumbered_listed (records_edited e.action (entries s.config)) e.places (entries s.numbers)
-numbers_seen e s = renumbered_seen (config_edited e.action s.config) e.places s.numbers
-    ∙ ap (λ es. renumbered_listed es e.places (entries s.numbers)) (records_seen e.action s.config)
+numbers_seen : (e : ListedEdit) (s : State) → entries (numbers_after (config_after e.action s.config) e.places s.numbers)
+    ≡ numbers_after_listed (records_after_listed e.action (entries s.config)) e.places (entries s.numbers)
+numbers_seen e s = numbers_after_seen (config_after e.action s.config) e.places s.numbers
+    ∙ ap (λ es. numbers_after_listed es e.places (entries s.numbers)) (records_seen e.action s.config)
 
 -- an edit does to a state what it does to its lists
-pub edited_seen : (e : ListedEdit) (s : State) → listing (edited (edit_from e) s) ≡ edited_listed e (listing s)
-unfolding edited_listed
-edited_seen e s =
-    let c = config_edited e.action s.config in
-    let n = renumbered c e.places s.numbers in
+pub state_after_seen : (e : ListedEdit) (s : State) → listing (state_after (edit_from e) s) ≡ state_after_listed e (listing s)
+unfolding state_after_listed
+state_after_seen e s =
+    let c = config_after e.action s.config in
+    let n = numbers_after c e.places s.numbers in
     λ i. record {
       records = records_seen e.action s.config i;
       numbers = numbers_seen e s i;
-      lives = (lives_seen (views_in s) (views_of c n) (from_entries e.kept) s.lives
+      lives = (lives_seen (views_in s) (views_of c n) (from_entries e.lives) s.lives
           ∙ (λ j. lives_listed (views_seen s.config s.numbers j)
           ((views_seen c n ∙ (λ k. views_listed (records_seen e.action s.config k) (numbers_seen e s k))) j)
-          (entries-from_entries sub_ids_total sub_ids_exact e.kept j) (entries s.lives))) i;
+          (entries-from_entries sub_ids_total sub_ids_exact e.lives j) (entries s.lives))) i;
     }
 
 -- the subchannels whose views differ
@@ -186,25 +186,25 @@ pub busy_seen : (lives : Lives) (xs : List SubId) → first_not_quiet lives xs �
 busy_seen lives xs = λ i. busy_by (λ x. get-entries lives x i) xs
 
 -- why an edit is refused
-abbrev refused_by : Action → Bool → Bool → Option SubId → Option Refused
-refused_by a there taken busy = option_or (refused_by_key a there)
-    (option_or (if taken then Some (refused_at E4 (at.Key (key_edited a))) else None) (refused_by_subchannel busy))
+abbrev refusal_by : Action → Bool → Bool → Option SubId → Option Refused
+refusal_by a there taken busy = option_or (refusal_by_key a there)
+    (option_or (if taken then Some (refusal_at E4 (at.Key (action_key a))) else None) (refusal_by_subchannel busy))
 
 -- why an edit is refused in a state, on lists
 unfoldable pub refusal_listed : ListedEdit → ListedState → Option Refused
-refusal_listed e x = refused_by e.action (is_some (find key_cmp (key_edited e.action) x.records))
-    (taken_listed (records_edited e.action x.records) x.numbers e.places) (busy_listed x.lives (altered_listed x (edited_listed e x)))
+refusal_listed e x = refusal_by e.action (is_some (find key_cmp (action_key e.action) x.records))
+    (taken_listed (records_after_listed e.action x.records) x.numbers e.places) (busy_listed x.lives (altered_listed x (state_after_listed e x)))
 
 -- an edit is refused in a state as it is in its lists
 pub refusal_seen : (e : ListedEdit) (s : State) → refusal_of (edit_from e) s ≡ refusal_listed e (listing s)
 unfolding refusal_listed
 refusal_seen e s =
-    let t = edited (edit_from e) s in
-    let taken = taken_seen (config_edited e.action s.config) s.numbers e.places
+    let t = state_after (edit_from e) s in
+    let taken = taken_seen (config_after e.action s.config) s.numbers e.places
     ∙ ap (λ es. taken_listed es (entries s.numbers) e.places) (records_seen e.action s.config) in
     let busy = busy_seen s.lives (altered_between s t)
-    ∙ ap (busy_listed (entries s.lives)) (altered_seen s t ∙ ap (altered_listed (listing s)) (edited_seen e s)) in
-    λ i. refused_by e.action (is_some (get-entries s.config (key_edited e.action) i)) (taken i) (busy i)
+    ∙ ap (busy_listed (entries s.lives)) (altered_seen s t ∙ ap (altered_listed (listing s)) (state_after_seen e s)) in
+    λ i. refusal_by e.action (is_some (get-entries s.config (action_key e.action) i)) (taken i) (busy i)
 
 -- the inverse of an edit, between two states
 abbrev kept_by : (SubId → Option View) → (SubId → Option View) → LiveList → LiveList
@@ -217,14 +217,14 @@ kept_listed v w lives = kept_by (λ x. find sub_id_cmp x v) (λ x. find sub_id_c
 -- the inverse of an edit, between two states
 abbrev inverse_to : ListedEdit → ListedState → ListedState → ListedEdit
 inverse_to e x y = record {
-  action = action_back (key_edited e.action) (find key_cmp (key_edited e.action) x.records) (record_after e.action);
+  action = action_back (action_key e.action) (find key_cmp (action_key e.action) x.records) (record_after e.action);
   places = filter (λ (p : Place × ℕ). not (is_some (find place_cmp p.0 y.numbers))) x.numbers;
-  kept = kept_listed (views_at x) (views_at y) x.lives;
+  lives = kept_listed (views_at x) (views_at y) x.lives;
 }
 
 -- the inverse of an edit in a state
 unfoldable pub inverse_listed : ListedEdit → ListedState → ListedEdit
-inverse_listed e x = inverse_to e x (edited_listed e x)
+inverse_listed e x = inverse_to e x (state_after_listed e x)
 
 -- the live records of the subchannels that are altered
 kept_seen : (s t : State)
@@ -239,12 +239,12 @@ kept_seen s t = same_by_entries sub_ids_total sub_ids_exact _ _ (entries-retain_
 pub inverse_seen : (e : ListedEdit) (s : State) → inverse_of (edit_from e) s ≡ edit_from (inverse_listed e (listing s))
 unfolding inverse_listed
 inverse_seen e s =
-    let t = edited (edit_from e) s in
+    let t = state_after (edit_from e) s in
     (λ i. record {
-      action = action_back (key_edited e.action) (get-entries s.config (key_edited e.action) i) (record_after e.action);
+      action = action_back (action_key e.action) (get-entries s.config (action_key e.action) i) (record_after e.action);
       places = filter (λ (p : Place × ℕ). not (is_some (get-entries t.numbers p.0 i))) (entries s.numbers);
-      kept = kept_seen s t i;
-    }) ∙ ap (λ y. edit_from (inverse_to e (listing s) y)) (edited_seen e s)
+      lives = kept_seen s t i;
+    }) ∙ ap (λ y. edit_from (inverse_to e (listing s) y)) (state_after_seen e s)
 
 -- a subchannel as it is
 abbrev subchannel_listed : ListedState → SubId → Option (View × Live)
@@ -282,27 +282,27 @@ unfolding answer_listed
 answer_seen s x step = ap (step_answer step) (subchannel_seen s x)
 
 -- the state after a step
-abbrev lives_after_step : SubId → Step → Option (View × Live) → LiveList → LiveList
-lives_after_step at step (Some p) lives = put sub_id_cmp at (live_stepped step p.0 p.1) lives
-lives_after_step at step None lives = lives
+abbrev lives_after_step_listed : SubId → Step → Option (View × Live) → LiveList → LiveList
+lives_after_step_listed at step (Some p) lives = put sub_id_cmp at (live_after_step step p.0 p.1) lives
+lives_after_step_listed at step None lives = lives
 
 -- the lists of a state after a step
-unfoldable pub stepped_listed : SubId → Step → ListedState → ListedState
-stepped_listed at step x = record { records = x.records; numbers = x.numbers; lives = lives_after_step at step (subchannel_listed x at) x.lives }
+unfoldable pub after_step_listed : SubId → Step → ListedState → ListedState
+after_step_listed at step x = record { records = x.records; numbers = x.numbers; lives = lives_after_step_listed at step (subchannel_listed x at) x.lives }
 
 -- a step does to live records what it does to their entries
-after_step_seen : (x : SubId) (step : Step) (o : Option (View × Live)) (lives : Lives)
-    → entries (lives_stepped x step o lives) ≡ lives_after_step x step o (entries lives)
-after_step_seen x step (Some p) lives = entries-insert sub_ids_total lives x (live_stepped step p.0 p.1)
-after_step_seen x step None lives = refl
+lives_after_step_seen : (x : SubId) (step : Step) (o : Option (View × Live)) (lives : Lives)
+    → entries (lives_after_step x step o lives) ≡ lives_after_step_listed x step o (entries lives)
+lives_after_step_seen x step (Some p) lives = entries-insert sub_ids_total lives x (live_after_step step p.0 p.1)
+lives_after_step_seen x step None lives = refl
 
 -- a step does to a state what it does to its lists
-pub stepped_seen : (x : SubId) (step : Step) (s : State) → listing (stepped x step s) ≡ stepped_listed x step (listing s)
-unfolding stepped_listed
-stepped_seen x step s = λ i. record {
+pub after_step_seen : (x : SubId) (step : Step) (s : State) → listing (after_step x step s) ≡ after_step_listed x step (listing s)
+unfolding after_step_listed
+after_step_seen x step s = λ i. record {
   records = entries s.config;
   numbers = entries s.numbers;
-  lives = (after_step_seen x step (subchannel_in s x) s.lives ∙ ap (λ o. lives_after_step x step o (entries s.lives)) (subchannel_seen s x)) i;
+  lives = (lives_after_step_seen x step (subchannel_in s x) s.lives ∙ ap (λ o. lives_after_step_listed x step o (entries s.lives)) (subchannel_seen s x)) i;
 }
 
 -- an answer and a step, in a state that is listed
@@ -310,5 +310,5 @@ pub answer_is : (s : State) (y : ListedState) (x : SubId) (step : Step) → list
 answer_is s y x step is = answer_seen s x step ∙ ap (λ z. answer_listed z x step) is
 
 -- a step, in a state that is listed
-pub stepped_is : (x : SubId) (step : Step) (s : State) (y : ListedState) → listing s ≡ y → listing (stepped x step s) ≡ stepped_listed x step y
-stepped_is x step s y is = stepped_seen x step s ∙ ap (stepped_listed x step) is
+pub after_step_is : (x : SubId) (step : Step) (s : State) (y : ListedState) → listing s ≡ y → listing (after_step x step s) ≡ after_step_listed x step y
+after_step_is x step s y is = after_step_seen x step s ∙ ap (after_step_listed x step) is

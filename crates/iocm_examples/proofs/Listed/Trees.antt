@@ -6,15 +6,15 @@ use Rattle.iocm_types.specs.declared.rule.Rule.TheVariants.{C1, C2}
 use Rattle.iocm_model.specs.Rules.FirstBreach.{Breach, first_breach}
 use Rattle.iocm_model.specs.Operation.State.{State}
 use Rattle.iocm_model.specs.Change.Edit.{Edit}
-use Rattle.iocm_model.specs.Change.Refusal.{refused_at, refusal_of}
+use Rattle.iocm_model.specs.Change.Refusal.{refusal_at, refusal_of}
 use Rattle.iocm_model.specs.Change.Tree.{ChangeTree, Parts, leaf, row, group, choose, none, part, leaves_of, depth_of, nodes_of, most_depth, most_leaves}
-use Rattle.iocm_model.specs.Change.Meaning.{Performed, Outcome, at_node, unless_refused, after_run, and_then, or_else, unless_broken, checked, without_parts, node_meaning, parts_meaning, choice_meaning, meaning, state_reached}
+use Rattle.iocm_model.specs.Change.Meaning.{Performed, Outcome, at_node, unless_refused, after_run, and_then, or_else, unless_broken, if_rules_hold, without_parts, node_meaning, parts_meaning, choice_meaning, meaning, state_reached}
 use Rattle.iocm_examples.proofs.Listed.Maps.{cond_seen}
 use Rattle.iocm_examples.proofs.Listed.Rules.{first_breach_listed, first_breach_seen}
-use Rattle.iocm_model.specs.Change.Runs.{edited_by_all}
-use Rattle.iocm_examples.proofs.Listed.Effects.{edits_from, edited_all_listed, edited_all_seen, edited_all_is, inverses_listed, inverses_seen}
+use Rattle.iocm_model.specs.Change.Runs.{state_after_all}
+use Rattle.iocm_examples.proofs.Listed.Effects.{edits_from, state_after_all_listed, state_after_all_seen, state_after_all_is, inverses_listed, inverses_seen}
 use Rattle.iocm_model.specs.Change.InverseTree.{parts_of, inverse_tree}
-use Rattle.iocm_examples.proofs.Listed.States.{ListedState, listing, same_by_listing, ListedEdit, edit_from, edited_listed, edited_seen, refusal_listed, refusal_seen}
+use Rattle.iocm_examples.proofs.Listed.States.{ListedState, listing, same_by_listing, ListedEdit, edit_from, state_after_listed, state_after_seen, refusal_listed, refusal_seen}
 
 mutual
   -- a tree, and the parts of a node
@@ -79,16 +79,16 @@ unless_broken_listed (Some b) n r = Err (record { rule = b.rule; node = Some n; 
 unless_broken_listed None n r = Ok r
 
 -- the rules hold where this node ends
-abbrev checked_listed : ℕ → ListedOutcome → ListedOutcome
-checked_listed n (Ok r) = unless_broken_listed (first_breach_listed r.state.records r.state.numbers) n r
-checked_listed n (Err why) = Err why
+abbrev if_rules_hold_listed : ℕ → ListedOutcome → ListedOutcome
+if_rules_hold_listed n (Ok r) = unless_broken_listed (first_breach_listed r.state.records r.state.numbers) n r
+if_rules_hold_listed n (Err why) = Err why
 
 unfoldable mutual
   -- what a tree means, and its parts
   pub mean_listed : ListedPlan → ℕ → ListedState → ListedOutcome
-  mean_listed (one e) n x = unless_refused_listed (refusal_listed e x) n e (edited_listed e x)
+  mean_listed (one e) n x = unless_refused_listed (refusal_listed e x) n e (state_after_listed e x)
   mean_listed (in_row ps) n x = mean_all_listed ps (n + 1) x
-  mean_listed (in_group ps) n x = checked_listed n (mean_all_listed ps (n + 1) x)
+  mean_listed (in_group ps) n x = if_rules_hold_listed n (mean_all_listed ps (n + 1) x)
   mean_listed (in_choose ps) n x = mean_first_listed ps (n + 1) (without_parts n) x
 
   pub mean_all_listed : ListedPlans → ℕ → ListedState → ListedOutcome
@@ -98,20 +98,20 @@ unfoldable mutual
   pub mean_first_listed : ListedPlans → ℕ → Refused → ListedState → ListedOutcome
   mean_first_listed no_parts n last x = Err last
   mean_first_listed (and_part p ps) n last x =
-      or_else_listed (checked_listed n (mean_listed p n x)) (λ why. mean_first_listed ps (n + nodes_of (plan_from p)) why x)
+      or_else_listed (if_rules_hold_listed n (mean_listed p n x)) (λ why. mean_first_listed ps (n + nodes_of (plan_from p)) why x)
 
 -- a whole tree
 unfoldable pub meaning_listed : ListedPlan → ListedState → ListedOutcome
 meaning_listed p x =
-    if nat_lt most_depth (depth_of (plan_from p)) then Err (refused_at C1 Nothing)
-    else if nat_lt most_leaves (leaves_of (plan_from p)) then Err (refused_at C2 Nothing)
-    else checked_listed 0 (mean_listed p 0 x)
+    if nat_lt most_depth (depth_of (plan_from p)) then Err (refusal_at C1 Nothing)
+    else if nat_lt most_leaves (leaves_of (plan_from p)) then Err (refusal_at C2 Nothing)
+    else if_rules_hold_listed 0 (mean_listed p 0 x)
 
 -- an edit by itself is listed as it is on lists
-refused_seen : (o : Option Refused) (n : ℕ) (e : ListedEdit) (s : State)
-    → outcome_listing (unless_refused o n (edit_from e) s) ≡ unless_refused_listed o n e (edited_listed e (listing s))
-refused_seen (Some why) n e s = refl
-refused_seen None n e s = λ i. Ok (record { state = edited_seen e s i; edits = edit_from e ∷ [] })
+unless_refused_seen : (o : Option Refused) (n : ℕ) (e : ListedEdit) (s : State)
+    → outcome_listing (unless_refused o n (edit_from e) s) ≡ unless_refused_listed o n e (state_after_listed e (listing s))
+unless_refused_seen (Some why) n e s = refl
+unless_refused_seen None n e s = λ i. Ok (record { state = state_after_seen e s i; edits = edit_from e ∷ [] })
 
 -- what was done before is listed with what was done next
 after_seen : (r : Performed) (o : Outcome)
@@ -141,19 +141,19 @@ broken_seen (Some b) n r = refl
 broken_seen None n r = refl
 
 -- the rules hold in what was done where they hold in what is listed
-checked_seen : (n : ℕ) (o : Outcome) → outcome_listing (checked n o) ≡ checked_listed n (outcome_listing o)
-checked_seen n (Ok r) = broken_seen (first_breach r.state.config r.state.numbers) n r
+if_rules_hold_seen : (n : ℕ) (o : Outcome) → outcome_listing (if_rules_hold n o) ≡ if_rules_hold_listed n (outcome_listing o)
+if_rules_hold_seen n (Ok r) = broken_seen (first_breach r.state.config r.state.numbers) n r
     ∙ ap (λ b. unless_broken_listed b n (record { state = listing r.state; edits = r.edits })) (first_breach_seen r.state.config r.state.numbers)
-checked_seen n (Err why) = refl
+if_rules_hold_seen n (Err why) = refl
 
 mutual
   unfolding mean_listed
 
   pub mean_seen : (p : ListedPlan) (n : ℕ) (s : State) → outcome_listing (node_meaning (plan_from p) n s) ≡ mean_listed p n (listing s)
-  mean_seen (one e) n s = refused_seen (refusal_of (edit_from e) s) n e s
-      ∙ ap (λ o. unless_refused_listed o n e (edited_listed e (listing s))) (refusal_seen e s)
+  mean_seen (one e) n s = unless_refused_seen (refusal_of (edit_from e) s) n e s
+      ∙ ap (λ o. unless_refused_listed o n e (state_after_listed e (listing s))) (refusal_seen e s)
   mean_seen (in_row ps) n s = mean_all_seen ps (n + 1) s
-  mean_seen (in_group ps) n s = checked_seen n (parts_meaning (plans_from ps) (n + 1) s) ∙ ap (checked_listed n) (mean_all_seen ps (n + 1) s)
+  mean_seen (in_group ps) n s = if_rules_hold_seen n (parts_meaning (plans_from ps) (n + 1) s) ∙ ap (if_rules_hold_listed n) (mean_all_seen ps (n + 1) s)
   mean_seen (in_choose ps) n s = mean_first_seen ps (n + 1) (without_parts n) s
 
   -- parts mean in a state what they mean in its lists
@@ -170,11 +170,11 @@ mutual
   mean_first_seen no_parts n last s = refl
   mean_first_seen (and_part p ps) n last s =
       let further = n + nodes_of (plan_from p) in
-      else_seen (checked n (node_meaning (plan_from p) n s)) (λ why. choice_meaning (plans_from ps) further why s)
+      else_seen (if_rules_hold n (node_meaning (plan_from p) n s)) (λ why. choice_meaning (plans_from ps) further why s)
       (λ why. mean_first_listed ps further why (listing s))
       (λ why. mean_first_seen ps further why s)
       ∙ ap (λ o. or_else_listed o (λ why. mean_first_listed ps further why (listing s)))
-      (checked_seen n (node_meaning (plan_from p) n s) ∙ ap (checked_listed n) (mean_seen p n s))
+      (if_rules_hold_seen n (node_meaning (plan_from p) n s) ∙ ap (if_rules_hold_listed n) (mean_seen p n s))
 
 -- a whole tree means in a state what it means in its lists
 pub meaning_seen : (p : ListedPlan) (s : State) → outcome_listing (meaning (plan_from p) s) ≡ meaning_listed p (listing s)
@@ -183,9 +183,9 @@ meaning_seen p s =
     let deep = nat_lt most_depth (depth_of (plan_from p)) in
     let many = nat_lt most_leaves (leaves_of (plan_from p)) in
     cond_seen outcome_listing deep _ _
-    ∙ ap (λ o. if deep then Err (refused_at C1 Nothing) else o)
+    ∙ ap (λ o. if deep then Err (refusal_at C1 Nothing) else o)
     (cond_seen outcome_listing many _ _
-    ∙ ap (λ o. if many then Err (refused_at C2 Nothing) else o) (checked_seen 0 (node_meaning (plan_from p) 0 s) ∙ ap (checked_listed 0) (mean_seen p 0 s)))
+    ∙ ap (λ o. if many then Err (refusal_at C2 Nothing) else o) (if_rules_hold_seen 0 (node_meaning (plan_from p) 0 s) ∙ ap (if_rules_hold_listed 0) (mean_seen p 0 s)))
 
 -- an outcome that is listed as accepted, with a state and edits
 pub accepted_as : (o : Outcome) (t : State) (es : List Edit) → outcome_listing o ≡ Ok (record { state = listing t; edits = es })
@@ -202,11 +202,11 @@ refused_as (Err other) why is = let same : other ≡ why = cc in ap Err same
 
 -- a tree that is accepted on lists, with the edits that were performed
 pub meaning_is : (p : ListedPlan) (es : List ListedEdit) (s : State) (x : ListedState) → listing s ≡ x
-    → meaning_listed p x ≡ Ok (record { state = edited_all_listed es x; edits = edits_from es })
-    → meaning (plan_from p) s ≡ Ok (record { state = edited_by_all (edits_from es) s; edits = edits_from es })
-meaning_is p es s x is computed = accepted_as (meaning (plan_from p) s) (edited_by_all (edits_from es) s) (edits_from es)
+    → meaning_listed p x ≡ Ok (record { state = state_after_all_listed es x; edits = edits_from es })
+    → meaning (plan_from p) s ≡ Ok (record { state = state_after_all (edits_from es) s; edits = edits_from es })
+meaning_is p es s x is computed = accepted_as (meaning (plan_from p) s) (state_after_all (edits_from es) s) (edits_from es)
     (meaning_seen p s ∙ ap (meaning_listed p) is ∙ computed
-    ∙ sym (λ i. Ok (record { state = (edited_all_seen es s ∙ ap (edited_all_listed es) is) i; edits = edits_from es })))
+    ∙ sym (λ i. Ok (record { state = (state_after_all_seen es s ∙ ap (state_after_all_listed es) is) i; edits = edits_from es })))
 
 -- a tree that is refused on lists
 pub meaning_refused : (p : ListedPlan) (why : Refused) (s : State) (x : ListedState) → listing s ≡ x → meaning_listed p x ≡ Err why
@@ -250,10 +250,10 @@ taken_back_at es s u t x y z is_x is_y is_z computed =
 
 -- edits that are taken back directly
 pub taken_back : (es : List ListedEdit) (s : State) (x : ListedState) → listing s ≡ x
-    → meaning_listed (inverse_tree_listed es x) (edited_all_listed es x) ≡ Ok (record { state = x; edits = edits_from (inverses_listed es x) })
-    → state_reached (meaning (inverse_tree (edits_from es) s) (edited_by_all (edits_from es) s)) ≡ Some s
+    → meaning_listed (inverse_tree_listed es x) (state_after_all_listed es x) ≡ Ok (record { state = x; edits = edits_from (inverses_listed es x) })
+    → state_reached (meaning (inverse_tree (edits_from es) s) (state_after_all (edits_from es) s)) ≡ Some s
 taken_back es s x is computed =
-    taken_back_at es s (edited_by_all (edits_from es) s) s x (edited_all_listed es x) x is (edited_all_is es s x is) is computed
+    taken_back_at es s (state_after_all (edits_from es) s) s x (state_after_all_listed es x) x is (state_after_all_is es s x is) is computed
 
 -- edits of one state that can't be taken back in another
 pub inverse_refused : (es : List ListedEdit) (why : Refused) (s u : State) (x y : ListedState) → listing s ≡ x → listing u ≡ y

@@ -13,10 +13,10 @@ use Rattle.iocm_types.specs.Key.{key_cmp}
 use Rattle.iocm_types.specs.Place.{place_cmp, cell_cmp}
 use Rattle.iocm_types.specs.SubId.{sub_id_cmp}
 use Rattle.iocm_types.proofs.KeyOrder.{keys_total, keys_exact, places_total, places_exact, cells_total, cells_exact, sub_ids_total, sub_ids_exact}
-use Rattle.iocm_model.specs.Machine.Configuration.{Configuration, Lookup, lookup_of, image_of, device_of, keyed, configuration_of}
+use Rattle.iocm_model.specs.Machine.Configuration.{Configuration, Lookup, lookup_of, as_image, as_device, with_keys, configuration_of}
 use Rattle.iocm_model.specs.Machine.Record.{Rec, ImageRecord, DeviceRecord}
-use Rattle.iocm_model.specs.Machine.Numbering.{Numbering, subsystems, sets, is_reached, reached_places, is_reached_at, numbered, opening, cells_of, numbering_of}
-use Rattle.iocm_model.specs.Change.Renumbering.{gap_from, lowest_free, without_leavers, with_carried, with_lowest, renumbered}
+use Rattle.iocm_model.specs.Machine.Numbering.{Numbering, subsystems, sets, is_reached, reached_places, is_reached_at, numbers_from, opening, cells_of, numbering_of}
+use Rattle.iocm_model.specs.Change.Renumbering.{gap_from, lowest_free, without_leavers, with_carried, with_lowest, numbers_after}
 use Rattle.iocm_model.specs.Machine.View.{row_at, views}
 use Rattle.iocm_model.specs.Operation.State.{views_of}
 use Rattle.iocm_examples.proofs.Listed.Maps.{fold_seen, cond_seen, put_all, entries-from_entries, entries-retain_keys}
@@ -43,13 +43,13 @@ pub lookup_seen : (c : Configuration) → ◌≡◌ {A = Lookup} (lookup_of c) (
 lookup_seen c = λ i key. get-entries c key i
 
 -- the entries of the configuration of some records
-pub entries-configuration_of : (rs : List Rec) → entries (configuration_of rs) ≡ put_all key_cmp (keyed rs)
-entries-configuration_of rs = entries-from_entries keys_total keys_exact (keyed rs)
+pub entries-configuration_of : (rs : List Rec) → entries (configuration_of rs) ≡ put_all key_cmp (with_keys rs)
+entries-configuration_of rs = entries-from_entries keys_total keys_exact (with_keys rs)
 
 -- the devices of a set that are reached, and the places of all that are
 abbrev pub reached_by : Lookup → Records → ℕ → ℕ → List ℕ
 reached_by at es css set = map (λ (d : DeviceRecord). d.number)
-    (filter (λ (d : DeviceRecord). d.set == set && is_reached at css d) (filter_map device_of (map (λ e. e.1) es)))
+    (filter (λ (d : DeviceRecord). d.set == set && is_reached at css d) (filter_map as_device (map (λ e. e.1) es)))
 
 abbrev pub places_by : Lookup → Records → List Place
 places_by at es =
@@ -69,7 +69,7 @@ is_place_in places p = list_any (eq_by_cmp place_cmp p) places
 
 -- the numbers at opening
 abbrev pub first_numbers_by : Lookup → Records → Numbers
-first_numbers_by at es = put_all place_cmp (flat_map (λ css. flat_map (λ set. numbered css set 0 (reached_by at es css set)) sets) subsystems)
+first_numbers_by at es = put_all place_cmp (flat_map (λ css. flat_map (λ set. numbers_from css set 0 (reached_by at es css set)) sets) subsystems)
 
 -- the numbers at opening of these records
 unfoldable pub opening_listed : Records → Numbers
@@ -99,7 +99,7 @@ numbering_seen cells = entries-from_entries places_total places_exact _
 -- the rows that these records and number cells give
 abbrev pub rows_by : Lookup → Records → CellList → ViewList
 rows_by at es cells = flat_map (λ (i : ImageRecord). filter_map (row_at at i) (filter (λ (e : NumberCell × ℕ). e.0.css == i.css) cells))
-    (filter_map image_of (map (λ e. e.1) es))
+    (filter_map as_image (map (λ e. e.1) es))
 
 -- the rows that these records and numbers give
 abbrev pub rows_listed : Records → Numbers → ViewList
@@ -151,20 +151,20 @@ put_seen n p = cond_seen entries _ n (insert n p (lowest_free n p.css p.set))
     else (entries-insert places_total n p (lowest_free n p.css p.set) ∙ (λ j. put place_cmp p (lowest_seen n p j) (entries n))) i)
 
 -- the numbers after a change, where these places are reached
-abbrev pub renumbered_at : List Place → List (Place × ℕ) → Numbers → Numbers
-renumbered_at places carried n = fold lowest_put (fold (carried_listed places) (where_key place_cmp (is_place_in places) n) carried) places
+abbrev pub numbers_after_at : List Place → List (Place × ℕ) → Numbers → Numbers
+numbers_after_at places carried n = fold lowest_put (fold (carried_listed places) (where_key place_cmp (is_place_in places) n) carried) places
 
 -- the numbers after the records have become these
-unfoldable pub renumbered_listed : Records → List (Place × ℕ) → Numbers → Numbers
-renumbered_listed es carried n = renumbered_at (places_listed es) carried n
+unfoldable pub numbers_after_listed : Records → List (Place × ℕ) → Numbers → Numbers
+numbers_after_listed es carried n = numbers_after_at (places_listed es) carried n
 
 -- a numbering is renumbered as its entries are
-pub renumbered_seen : (c : Configuration) (carried : List (Place × ℕ)) (n : Numbering)
-    → entries (renumbered c carried n) ≡ renumbered_listed (entries c) carried (entries n)
-unfolding renumbered_listed
-renumbered_seen c carried n =
+pub numbers_after_seen : (c : Configuration) (carried : List (Place × ℕ)) (n : Numbering)
+    → entries (numbers_after c carried n) ≡ numbers_after_listed (entries c) carried (entries n)
+unfolding numbers_after_listed
+numbers_after_seen c carried n =
     fold_seen entries with_lowest lowest_put put_seen (fold (with_carried c) (without_leavers c n) carried) (reached_places c)
     ∙ ap (λ m. fold lowest_put m (reached_places c))
     (fold_seen entries (with_carried c) (carried_listed (reached_places c)) (carried_seen c) (without_leavers c n) carried
     ∙ ap (λ m. fold (carried_listed (reached_places c)) m carried) (entries-retain_keys places_total places_exact n (is_reached_at c)))
-    ∙ ap (λ places. renumbered_at places carried (entries n)) (places_seen c)
+    ∙ ap (λ places. numbers_after_at places carried (entries n)) (places_seen c)

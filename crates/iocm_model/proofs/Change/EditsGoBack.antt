@@ -14,22 +14,22 @@ use Rattle.iocm_types.proofs.KeyOrder.{keys_total, keys_exact, cells_total, cell
 use Rattle.iocm_model.specs.Machine.Record.{Rec, key_of}
 use Rattle.iocm_model.specs.Machine.Configuration.{Configuration, IsKeyed}
 use Rattle.iocm_model.specs.Machine.Numbering.{Numbering, cells_of, numbering_of}
-use Rattle.iocm_model.specs.Change.Renumbering.{renumbered}
-use Rattle.iocm_model.specs.Change.Maps.{with_value, overwritten, cells_at, differing}
+use Rattle.iocm_model.specs.Change.Renumbering.{numbers_after}
+use Rattle.iocm_model.specs.Change.Maps.{with_value, with_cells, cells_at, differing}
 use Rattle.iocm_model.specs.Operation.State.{State, Lives, views_of, views_in, seen_in, is_among, HasLives, IsSound, HasConfigAndNumbersOf}
-use Rattle.iocm_model.specs.Change.Edit.{Action, Edit, key_edited, record_after, config_edited, same_view, lives_edited, edited, altered_between, altered_by, is_altered}
+use Rattle.iocm_model.specs.Change.Edit.{Action, Edit, action_key, record_after, config_after, same_view, lives_after_edit, state_after, altered_between, altered_by, is_altered}
 use Rattle.iocm_model.specs.Change.Inverse.{action_back, inverse_of}
-use Rattle.iocm_model.specs.Change.Effect.{values_in, written, cells_written}
+use Rattle.iocm_model.specs.Change.Effect.{values_in, with_effect, cells_written}
 use Rattle.iocm_model.specs.Laws.Edits.{AltersWhatDiffers, KeepsTheOthers}
 use Rattle.iocm_model.specs.Laws.Runs.{HasSameKeys, GoesBack}
 use Rattle.iocm_model.proofs.Maps.Found.{same_key}
-use Rattle.iocm_model.proofs.Maps.Cells.{get_with_value, get_overwritten_as, in_differing, get_retained}
+use Rattle.iocm_model.proofs.Maps.Cells.{get_with_value, get_with_cells_as, in_differing, get_retained}
 use Rattle.iocm_model.proofs.Change.SameViews.{sight_is, sight_holds}
-use Rattle.iocm_model.proofs.Change.Lives.{lives_edited_at, same_keeps, left_there, left_back}
+use Rattle.iocm_model.proofs.Change.Lives.{lives_after_edit_at, same_keeps, left_there, left_back}
 use Rattle.iocm_model.proofs.Machine.OwnKeys.{keyed_own}
 use Rattle.iocm_model.proofs.Numbers.Back.{renumbering_goes_back}
 use Rattle.iocm_model.proofs.Numbers.Cells.{cells_give_numbers}
-use Rattle.iocm_model.proofs.Maps.Overwriting.{overwritten_is}
+use Rattle.iocm_model.proofs.Maps.Overwriting.{with_cells_is}
 
 -- a subchannel isn't one of these
 abbrev pub IsNotAmong : SubId → List SubId → Type 0
@@ -50,22 +50,22 @@ unaltered_sees s t x off = sight_is (seen_in s x) (seen_in t x) (not_false _ (sy
 
 pub alters_what_differs : AltersWhatDiffers
 alters_what_differs e s x = (
-  (λ off. unaltered_sees s (edited e s) x off),
-  (λ same. among_altered s (edited e s) x ∙ ap not (sight_holds _ _ same)),
+  (λ off. unaltered_sees s (state_after e s) x off),
+  (λ same. among_altered s (state_after e s) x ∙ ap not (sight_holds _ _ same)),
 )
 
 pub keeps_the_others : KeepsTheOthers
-keeps_the_others e s x lived off = lives_edited_at (views_in s) (views_in (edited e s)) e.kept s.lives x
-    ∙ same_keeps (seen_in s x) (seen_in (edited e s) x) (get e.kept x) (get s.lives x) (sight_holds _ _ (unaltered_sees s (edited e s) x off)) (lived x)
+keeps_the_others e s x lived off = lives_after_edit_at (views_in s) (views_in (state_after e s)) e.lives s.lives x
+    ∙ same_keeps (seen_in s x) (seen_in (state_after e s) x) (get e.lives x) (get s.lives x) (sight_holds _ _ (unaltered_sees s (state_after e s) x off)) (lived x)
 
 -- there is a live record exactly where something is seen afterwards
-pub edited_lived : (e : Edit) (s : State) → HasLives s → HasLives (edited e s)
-edited_lived e s lived x = ap is_some (lives_edited_at (views_in s) (views_in (edited e s)) e.kept s.lives x)
-    ∙ left_there (seen_in s x) (seen_in (edited e s) x) (get e.kept x) (get s.lives x) (lived x)
+pub lived_after : (e : Edit) (s : State) → HasLives s → HasLives (state_after e s)
+lived_after e s lived x = ap is_some (lives_after_edit_at (views_in s) (views_in (state_after e s)) e.lives s.lives x)
+    ∙ left_there (seen_in s x) (seen_in (state_after e s) x) (get e.lives x) (get s.lives x) (lived x)
 
 -- ---- the configuration
 
-pub back_key : (key : Key) (old after : Option Rec) → ((r : Rec) → old ≡ Some r → key_of r ≡ key) → key_edited (action_back key old after) ≡ key
+pub back_key : (key : Key) (old after : Option Rec) → ((r : Rec) → old ≡ Some r → key_of r ≡ key) → action_key (action_back key old after) ≡ key
 back_key key None after own = refl
 back_key key (Some old) None own = own old refl
 back_key key (Some old) (Some new) own = own old refl
@@ -81,11 +81,11 @@ restored false c k q new e = refl
 
 -- the old record put back gives the old configuration
 pub config_back : (a : Action) (c : Configuration) → IsKeyed c
-    → config_edited (action_back (key_edited a) (get c (key_edited a)) (record_after a)) (config_edited a c) ≡ c
+    → config_after (action_back (action_key a) (get c (action_key a)) (record_after a)) (config_after a c) ≡ c
 config_back a c own =
-    let k = key_edited a in
-    (λ i. with_value (config_edited a c) (back_key k (get c k) (record_after a) (keyed_own c own k) i) (back_record k (get c k) (record_after a) i))
-    ∙ same_map keys_total keys_exact _ _ (λ q. get_with_value keys_total keys_exact (config_edited a c) k (get c k) q
+    let k = action_key a in
+    (λ i. with_value (config_after a c) (back_key k (get c k) (record_after a) (keyed_own c own k) i) (back_record k (get c k) (record_after a) i))
+    ∙ same_map keys_total keys_exact _ _ (λ q. get_with_value keys_total keys_exact (config_after a c) k (get c k) q
     ∙ ap (cond (eq_by_cmp key_cmp q k) (get c k)) (get_with_value keys_total keys_exact c k (record_after a) q)
     ∙ restored (eq_by_cmp key_cmp q k) c k q (record_after a) refl)
 
@@ -94,8 +94,8 @@ off_one true x y h = cc
 off_one false x y h = refl
 
 -- off the key of an edit the configuration stays
-pub off_key : (a : Action) (c : Configuration) (q : Key) → list_any (eq_by_cmp key_cmp q) (key_edited a ∷ []) ≡ false → get (config_edited a c) q ≡ get c q
-off_key a c q off = get_with_value keys_total keys_exact c (key_edited a) (record_after a) q ∙ off_one (eq_by_cmp key_cmp q (key_edited a)) (record_after a) (get c q) off
+pub off_key : (a : Action) (c : Configuration) (q : Key) → list_any (eq_by_cmp key_cmp q) (action_key a ∷ []) ≡ false → get (config_after a c) q ≡ get c q
+off_key a c q off = get_with_value keys_total keys_exact c (action_key a) (record_after a) q ∙ off_one (eq_by_cmp key_cmp q (action_key a)) (record_after a) (get c q) off
 
 -- ---- the numbers
 
@@ -114,46 +114,46 @@ off_numbers n m q off = same_number _ _ (not_false _ (sym (in_differing cells_to
 
 -- the configuration and the numbers of a state, with some live records overwritten
 abbrev pub given : State → Lives → List SubId → State → State
-given s kept xs u = record { config = s.config; numbers = s.numbers; lives = overwritten (entries (cells_at kept xs)) u.lives }
+given s carried xs u = record { config = s.config; numbers = s.numbers; lives = with_cells (entries (cells_at carried xs)) u.lives }
 
-lives_back : (e : Edit) (s u : State) (kept : Lives) → HasLives s → ((x : SubId) → is_some (get u.lives x) ≡ is_some (seen_in (edited e s) x))
-    → HasSameKeys kept (inverse_of e s).kept
-    → lives_edited (views_in (edited e s)) (views_in s) kept u.lives ≡ overwritten (entries (cells_at kept (altered_by e s))) u.lives
-lives_back e s u kept lived here same = same_map sub_ids_total sub_ids_exact _ _ (λ x.
-    lives_edited_at (views_in (edited e s)) (views_in s) kept u.lives x
-    ∙ left_back (seen_in s x) (seen_in (edited e s) x) (get kept x) (get s.lives x) (get u.lives x) (lived x) (here x)
-    (same x ∙ ap is_some (get_retained sub_ids_total sub_ids_exact s.lives (is_altered s (edited e s)) x))
-    ∙ ap (λ b. cond b (get kept x) (get u.lives x)) (sym (among_altered s (edited e s) x))
-    ∙ sym (get_overwritten_as sub_ids_total sub_ids_exact kept (altered_by e s) u.lives x))
+lives_back : (e : Edit) (s u : State) (carried : Lives) → HasLives s → ((x : SubId) → is_some (get u.lives x) ≡ is_some (seen_in (state_after e s) x))
+    → HasSameKeys carried (inverse_of e s).lives
+    → lives_after_edit (views_in (state_after e s)) (views_in s) carried u.lives ≡ with_cells (entries (cells_at carried (altered_by e s))) u.lives
+lives_back e s u carried lived here same = same_map sub_ids_total sub_ids_exact _ _ (λ x.
+    lives_after_edit_at (views_in (state_after e s)) (views_in s) carried u.lives x
+    ∙ left_back (seen_in s x) (seen_in (state_after e s) x) (get carried x) (get s.lives x) (get u.lives x) (lived x) (here x)
+    (same x ∙ ap is_some (get_retained sub_ids_total sub_ids_exact s.lives (is_altered s (state_after e s)) x))
+    ∙ ap (λ b. cond b (get carried x) (get u.lives x)) (sym (among_altered s (state_after e s) x))
+    ∙ sym (get_with_cells_as sub_ids_total sub_ids_exact carried (altered_by e s) u.lives x))
 
 here_of : (u t : State) → HasConfigAndNumbersOf u t → (x : SubId) → is_some (get u.lives x) ≡ is_some (seen_in t x)
 here_of u t like x = like.lived x ∙ (λ i. is_some (get (views_of (like.config i) (like.numbers i)) x))
 
 -- what the inverse does
-pub inverse_gives : (e : Edit) (s u : State) (kept : Lives) → IsSound s → HasConfigAndNumbersOf u (edited e s) → HasSameKeys kept (inverse_of e s).kept
-    → edited (record (inverse_of e s) { kept = kept }) u ≡ given s kept (altered_by e s) u
-inverse_gives e s u kept sound like same =
+pub inverse_gives : (e : Edit) (s u : State) (carried : Lives) → IsSound s → HasConfigAndNumbersOf u (state_after e s) → HasSameKeys carried (inverse_of e s).lives
+    → state_after (record (inverse_of e s) { lives = carried }) u ≡ given s carried (altered_by e s) u
+inverse_gives e s u carried sound like same =
     let a = (inverse_of e s).action in
-    let config : config_edited a u.config ≡ s.config = ap (config_edited a) like.config ∙ config_back e.action s.config sound.keyed in
-    let numbers : renumbered (config_edited a u.config) (inverse_of e s).places u.numbers ≡ s.numbers =
-    (λ i. renumbered (config i) (inverse_of e s).places (like.numbers i)) ∙ renumbering_goes_back s.config (edited e s).config e.places s.numbers sound.numbered in
-    let lives = (λ i. lives_edited (views_of (like.config i) (like.numbers i)) (views_of (config i) (numbers i)) kept u.lives)
-    ∙ lives_back e s u kept sound.lived (here_of u (edited e s) like) same in
+    let config : config_after a u.config ≡ s.config = ap (config_after a) like.config ∙ config_back e.action s.config sound.keyed in
+    let numbers : numbers_after (config_after a u.config) (inverse_of e s).places u.numbers ≡ s.numbers =
+    (λ i. numbers_after (config i) (inverse_of e s).places (like.numbers i)) ∙ renumbering_goes_back s.config (state_after e s).config e.places s.numbers sound.numbered in
+    let lives = (λ i. lives_after_edit (views_of (like.config i) (like.numbers i)) (views_of (config i) (numbers i)) carried u.lives)
+    ∙ lives_back e s u carried sound.lived (here_of u (state_after e s) like) same in
     λ i. record { config = config i; numbers = numbers i; lives = lives i }
 
 -- and what writing the cells does
-effect_gives : (e : Edit) (s u : State) (kept : Lives) → IsSound s → HasConfigAndNumbersOf u (edited e s)
-    → written (record (values_in s (cells_written e s)) { lives = cells_at kept (altered_by e s) }) u ≡ given s kept (altered_by e s) u
-effect_gives e s u kept sound like =
-    let t = edited e s in
-    let config = ap (overwritten (entries (cells_at s.config (key_edited e.action ∷ [])))) like.config
-    ∙ overwritten_is keys_total keys_exact t.config s.config (key_edited e.action ∷ []) (off_key e.action s.config) in
+effect_gives : (e : Edit) (s u : State) (carried : Lives) → IsSound s → HasConfigAndNumbersOf u (state_after e s)
+    → with_effect (record (values_in s (cells_written e s)) { lives = cells_at carried (altered_by e s) }) u ≡ given s carried (altered_by e s) u
+effect_gives e s u carried sound like =
+    let t = state_after e s in
+    let config = ap (with_cells (entries (cells_at s.config (action_key e.action ∷ [])))) like.config
+    ∙ with_cells_is keys_total keys_exact t.config s.config (action_key e.action ∷ []) (off_key e.action s.config) in
     let differ = differing nat_eq (cells_of s.numbers) (cells_of t.numbers) in
-    let numbers = (λ i. numbering_of (overwritten (entries (cells_at (cells_of s.numbers) differ)) (cells_of (like.numbers i))))
-    ∙ ap numbering_of (overwritten_is cells_total cells_exact (cells_of t.numbers) (cells_of s.numbers) differ (λ q off. sym (off_numbers s.numbers t.numbers q off)))
+    let numbers = (λ i. numbering_of (with_cells (entries (cells_at (cells_of s.numbers) differ)) (cells_of (like.numbers i))))
+    ∙ ap numbering_of (with_cells_is cells_total cells_exact (cells_of t.numbers) (cells_of s.numbers) differ (λ q off. sym (off_numbers s.numbers t.numbers q off)))
     ∙ cells_give_numbers s.config s.numbers sound.numbered in
-    λ i. record { config = config i; numbers = numbers i; lives = overwritten (entries (cells_at kept (altered_by e s))) u.lives }
+    λ i. record { config = config i; numbers = numbers i; lives = with_cells (entries (cells_at carried (altered_by e s))) u.lives }
 
 pub goes_back : GoesBack
-goes_back e s u kept sound like same =
-    inverse_gives e s u kept sound like same ∙ sym (effect_gives e s u kept sound like)
+goes_back e s u carried sound like same =
+    inverse_gives e s u carried sound like same ∙ sym (effect_gives e s u carried sound like)

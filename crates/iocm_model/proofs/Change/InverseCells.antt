@@ -14,9 +14,9 @@ use Rattle.iocm_types.proofs.KeyOrder.{cells_total, cells_exact}
 use Rattle.iocm_model.specs.Machine.Numbering.{Numbering, cells_of}
 use Rattle.iocm_model.specs.Change.Maps.{differing}
 use Rattle.iocm_model.specs.Operation.State.{State, seen_in, views_of, IsSound, HasConfigAndNumbersOf}
-use Rattle.iocm_model.specs.Change.Edit.{Edit, key_edited, record_after, same_view, edited, altered_between}
+use Rattle.iocm_model.specs.Change.Edit.{Edit, action_key, record_after, same_view, state_after, altered_between}
 use Rattle.iocm_model.specs.Change.Inverse.{inverse_of}
-use Rattle.iocm_model.specs.Change.Runs.{inverses, edited_by_all, cells_written_by_all}
+use Rattle.iocm_model.specs.Change.Runs.{inverses, state_after_all, cells_written_by_all}
 use Rattle.iocm_model.specs.Change.Effect.{Cells, no_cells, both_cells, cells_written}
 use Rattle.iocm_model.specs.Laws.Runs.{HasSameCells, InversesWriteTheSame}
 use Rattle.iocm_model.proofs.Maps.Cells.{in_differing}
@@ -24,7 +24,7 @@ use Rattle.iocm_model.proofs.Machine.OwnKeys.{keyed_own}
 use Rattle.iocm_model.proofs.Maps.Overwriting.{any_append}
 use Rattle.iocm_model.proofs.Change.SameViews.{sight_turned}
 use Rattle.iocm_model.proofs.Change.EditsGoBack.{among_altered, back_key, given}
-use Rattle.iocm_model.proofs.Change.RunsGoBack.{edited_sound, run_back, one_back, given_like, seen_like}
+use Rattle.iocm_model.proofs.Change.RunsGoBack.{sound_after, run_back, one_back, given_like, seen_like}
 
 -- ---- cells of a run that is followed by an edit
 
@@ -68,7 +68,7 @@ regrouped : (w a m b c f : Bool) → w ≡ (a || m) → m ≡ (b || c) → f ≡
 regrouped w a m b c f all more front = all ∙ ap (λ z. a || z) more ∙ or_assoc a b c ∙ ap (λ z. z || c) (sym front)
 
 -- the cells of a run and then an edit
-last_cells : (es : List Edit) (f : Edit) (u : State) → IsOfBoth (cells_written_by_all (es ++ (f ∷ [])) u) (cells_written_by_all es u) (cells_written f (edited_by_all es u))
+last_cells : (es : List Edit) (f : Edit) (u : State) → IsOfBoth (cells_written_by_all (es ++ (f ∷ [])) u) (cells_written_by_all es u) (cells_written f (state_after_all es u))
 last_cells [] f u =
     let all = joined_cells (cells_written f u) no_cells in
     record {
@@ -77,9 +77,9 @@ last_cells [] f u =
       subchannels = λ x. all.subchannels x ∙ or_none (in_subchannels x (cells_written f u));
     }
 last_cells (e ∷ es) f u =
-    let first = cells_written e u in let most = cells_written_by_all (es ++ (f ∷ [])) (edited e u) in
-    let middle = cells_written_by_all es (edited e u) in let last = cells_written f (edited_by_all es (edited e u)) in
-    let all = joined_cells first most in let more = last_cells es f (edited e u) in let front = joined_cells first middle in
+    let first = cells_written e u in let most = cells_written_by_all (es ++ (f ∷ [])) (state_after e u) in
+    let middle = cells_written_by_all es (state_after e u) in let last = cells_written f (state_after_all es (state_after e u)) in
+    let all = joined_cells first most in let more = last_cells es f (state_after e u) in let front = joined_cells first middle in
     record {
       keys = λ k. regrouped (in_keys k (both_cells first most)) (in_keys k first) (in_keys k most) (in_keys k middle) (in_keys k last)
           (in_keys k (both_cells first middle)) (all.keys k) (more.keys k) (front.keys k);
@@ -115,15 +115,15 @@ altered_turned : (s t : State) (x : SubId)
 altered_turned s t x = among_altered s t x ∙ ap not (sight_turned (seen_in s x) (seen_in t x)) ∙ sym (among_altered t s x)
 
 -- the inverse of an edit writes what the edit wrote
-inverse_cells : (e : Edit) (s v : State) → IsSound s → HasConfigAndNumbersOf v (edited e s) → HasSameCells (cells_written (inverse_of e s) v) (cells_written e s)
+inverse_cells : (e : Edit) (s v : State) → IsSound s → HasConfigAndNumbersOf v (state_after e s) → HasSameCells (cells_written (inverse_of e s) v) (cells_written e s)
 inverse_cells e s v sound like =
-    let t = edited e s in let k = key_edited e.action in
-    let there : edited (inverse_of e s) v ≡ given s s.lives (altered_between s t) v = one_back e s v sound like in
-    let key : key_edited (inverse_of e s).action ≡ k = back_key k (get s.config k) (record_after e.action) (keyed_own s.config sound.keyed k) in
+    let t = state_after e s in let k = action_key e.action in
+    let there : state_after (inverse_of e s) v ≡ given s s.lives (altered_between s t) v = one_back e s v sound like in
+    let key : action_key (inverse_of e s).action ≡ k = back_key k (get s.config k) (record_after e.action) (keyed_own s.config sound.keyed k) in
     record {
       keys = λ q i. list_any (eq_by_cmp key_cmp q) (key i ∷ []);
       numbers = λ c. (λ i. list_any (eq_by_cmp cell_cmp c) (differing nat_eq (cells_of (like.numbers i)) (cells_of (there i).numbers))) ∙ numbers_turned t.numbers s.numbers c;
-      subchannels = λ x. among_altered v (edited (inverse_of e s) v) x
+      subchannels = λ x. among_altered v (state_after (inverse_of e s) v) x
           ∙ (λ i. not (option_eq same_view (get (views_of (like.config i) (like.numbers i)) x) (seen_in (there i) x)))
           ∙ ap not (sight_turned (seen_in t x) (seen_in s x)) ∙ sym (among_altered s t x);
     }
@@ -136,16 +136,16 @@ turned_over w a b c d f all front last forth = all ∙ (λ i. front i || last i)
 pub inverses_write_the_same : InversesWriteTheSame
 inverses_write_the_same [] s u sound free like = record { keys = λ k. refl; numbers = λ c. refl; subchannels = λ x. refl }
 inverses_write_the_same (e ∷ es) s u sound free like =
-    let t = edited e s in let sound_t = edited_sound e s sound free.0 in
+    let t = state_after e s in let sound_t = sound_after e s sound free.0 in
     let later = (cells_written_by_all es t).subchannels in
     let v = given t t.lives later u in
-    let there : edited_by_all (inverses es t) u ≡ v = run_back es t u sound_t free.1 like in
+    let there : state_after_all (inverses es t) u ≡ v = run_back es t u sound_t free.1 like in
     let like_v : HasConfigAndNumbersOf v t = given_like t u later sound_t.lived (seen_like es t u like) in
     let all = last_cells (inverses es t) (inverse_of e s) u in
     let front = inverses_write_the_same es t u sound_t free.1 like in
     let last = inverse_cells e s v sound like_v in
     let forth = joined_cells (cells_written e s) (cells_written_by_all es t) in
-    let back = cells_written (inverse_of e s) (edited_by_all (inverses es t) u) in
+    let back = cells_written (inverse_of e s) (state_after_all (inverses es t) u) in
     record {
       keys = λ k. turned_over (in_keys k (cells_written_by_all (inverses (e ∷ es) s) u)) (in_keys k (cells_written_by_all (inverses es t) u)) (in_keys k back)
           (in_keys k (cells_written_by_all es t)) (in_keys k (cells_written e s)) (in_keys k (both_cells (cells_written e s) (cells_written_by_all es t)))

@@ -11,7 +11,7 @@ use Rattle.std.specs.FinMap.Entries.{below_all}
 use Rattle.iocm_types.specs.SubId.{sub_id_cmp}
 use Rattle.iocm_types.proofs.KeyOrder.{sub_ids_total, sub_ids_exact}
 use Rattle.iocm_model.specs.Operation.State.{views_in, seen_in}
-use Rattle.iocm_model.specs.Change.Edit.{same_view, edited, altered_by}
+use Rattle.iocm_model.specs.Change.Edit.{same_view, state_after, altered_by}
 use Rattle.iocm_model.specs.Change.Refusal.{is_not_quiet}
 use Rattle.iocm_model.specs.Laws.Edits.{NamesTheLeast, NamesNoneWhereQuiet}
 use Rattle.iocm_model.proofs.Maps.Found.{same_key, ties_itself, first_holds, second_holds}
@@ -93,13 +93,13 @@ module _ {K X : Type 0} (R : K → K → Ordering) (total : IsTotalOrder R) (exa
 
 pub names_the_least : NamesTheLeast
 names_the_least e s x h =
-    let all = from_entries {R = sub_id_cmp} (entries (views_in s) ++ entries (views_in (edited e s))) in
+    let all = from_entries {R = sub_id_cmp} (entries (views_in s) ++ entries (views_in (state_after e s))) in
     let found = found_passes sub_id_cmp sub_ids_total sub_ids_exact (λ y. is_not_quiet (get s.lives y)) (altered_by e s) x h in
     record {
       altered = found.0;
       busy_or_pending = found.1;
       least = λ y among less. least_found sub_id_cmp sub_ids_total sub_ids_exact
-          (λ z. not (option_eq same_view (seen_in s z) (seen_in (edited e s) z))) (λ z. is_not_quiet (get s.lives z))
+          (λ z. not (option_eq same_view (seen_in s z) (seen_in (state_after e s) z))) (λ z. is_not_quiet (get s.lives z))
           (entries all) (entries_sorted all) x y h among less;
     }
 

@@ -7,18 +7,18 @@ use Rattle.iocm_types.specs.declared.sub_id.SubId.{SubId}
 use Rattle.iocm_types.specs.declared.view.View.{View}
 use Rattle.iocm_types.proofs.KeyOrder.{sub_ids_total, sub_ids_exact}
 use Rattle.iocm_model.specs.Operation.State.{Lives, Views}
-use Rattle.iocm_model.specs.Change.Edit.{same_view, live_of_altered, live_edited, lives_edited}
+use Rattle.iocm_model.specs.Change.Edit.{same_view, live_of_altered, live_after_edit, lives_after_edit}
 use Rattle.iocm_model.proofs.Maps.Cells.{get_each}
 use Rattle.iocm_model.proofs.Change.SameViews.{sight_turned}
 
 -- what an edit leaves at a subchannel of which this was seen, and this is seen afterwards
 abbrev pub left_at : Option View → Option View → Option Live → Option Live → Option Live
-left_at v w k l = option_and_then (λ (z : View). live_edited v z k l) w
+left_at v w k l = option_and_then (λ (z : View). live_after_edit v z k l) w
 
-pub lives_edited_at : (old new : Views) (kept lives : Lives) (x : SubId)
-    → get (lives_edited old new kept lives) x ≡ left_at (get old x) (get new x) (get kept x) (get lives x)
-lives_edited_at old new kept lives x =
-    get_each sub_ids_total sub_ids_exact (λ (y : SubId) (w : View). live_edited (get old y) w (get kept y) (get lives y)) new x
+pub lives_after_edit_at : (old new : Views) (carried lives : Lives) (x : SubId)
+    → get (lives_after_edit old new carried lives) x ≡ left_at (get old x) (get new x) (get carried x) (get lives x)
+lives_after_edit_at old new carried lives x =
+    get_each sub_ids_total sub_ids_exact (λ (y : SubId) (w : View). live_after_edit (get old y) w (get carried y) (get lives y)) new x
 
 is_none_then : {A : Type 0} (o : Option A) → is_some o ≡ false → o ≡ None
 is_none_then None h = refl

@@ -5,11 +5,11 @@ use Rattle.std.proofs.lemmas.List.{length-append}
 use Rattle.iocm_types.specs.declared.refused.Refused.{Refused}
 use Rattle.iocm_model.specs.Rules.FirstBreach.{Breach, first_breach}
 use Rattle.iocm_model.specs.Operation.State.{State}
-use Rattle.iocm_model.specs.Change.Edit.{Edit, edited}
+use Rattle.iocm_model.specs.Change.Edit.{Edit, state_after}
 use Rattle.iocm_model.specs.Change.Refusal.{refusal_of}
-use Rattle.iocm_model.specs.Change.Runs.{edited_by_all, AreAccepted, inverses}
+use Rattle.iocm_model.specs.Change.Runs.{state_after_all, AreAccepted, inverses}
 use Rattle.iocm_model.specs.Change.Tree.{ChangeTree, Parts, leaf, row, group, choose, none, part, or_one, leaves_of, leaves_in, depth_of, depth_in, nodes_of, most_depth, most_leaves}
-use Rattle.iocm_model.specs.Change.Meaning.{Performed, Outcome, unless_refused, after_run, and_then, or_else, unless_broken, checked, without_parts, node_meaning, parts_meaning, choice_meaning, meaning, state_reached}
+use Rattle.iocm_model.specs.Change.Meaning.{Performed, Outcome, unless_refused, after_run, and_then, or_else, unless_broken, if_rules_hold, without_parts, node_meaning, parts_meaning, choice_meaning, meaning, state_reached}
 use Rattle.iocm_model.specs.Laws.Trees.{AcceptedTreesAreRuns, InverseTreesTakeBack}
 use Rattle.iocm_model.specs.Change.Inverse.{inverse_of}
 use Rattle.iocm_model.specs.Change.InverseTree.{parts_of, inverse_tree}
@@ -20,7 +20,7 @@ inner x y h = cc
 
 -- what was done is a run of accepted edits, at most so many
 record IsRunOf (most : ℕ) (s : State) (r : Performed) : Type 0 where
-  state : r.state ≡ edited_by_all r.edits s
+  state : r.state ≡ state_after_all r.edits s
   accepted : AreAccepted r.edits s
   few : length r.edits ≤ most
 
@@ -32,7 +32,7 @@ by_leaf (Some why) e n s r is h = cc
 joined : (a b : ℕ) (s : State) (r next : Performed) → IsRunOf a s r → IsRunOf b r.state next
     → IsRunOf (a + b) s (record { state = next.state; edits = r.edits ++ next.edits })
 joined a b s r next first second = record {
-  state = second.state ∙ ap (edited_by_all next.edits) first.state ∙ sym (all_append r.edits next.edits s);
+  state = second.state ∙ ap (state_after_all next.edits) first.state ∙ sym (all_append r.edits next.edits s);
   accepted = accepted_append r.edits next.edits s first.accepted (subst (AreAccepted next.edits) first.state second.accepted);
   few = let both : length (r.edits ++ next.edits) ≡ length r.edits + length next.edits = length-append r.edits next.edits in
       omega (arith, both, first.few, second.few);
@@ -54,7 +54,7 @@ by_rules : (b : Option Breach) (n : ℕ) (r w : Performed) → unless_broken b n
 by_rules None n r w h = (refl, inner r w h)
 by_rules (Some b) n r w h = cc
 
-rules_hold : (n : ℕ) (o : Outcome) (w : Performed) → checked n o ≡ Ok w → (o ≡ Ok w) × (first_breach w.state.config w.state.numbers ≡ None)
+rules_hold : (n : ℕ) (o : Outcome) (w : Performed) → if_rules_hold n o ≡ Ok w → (o ≡ Ok w) × (first_breach w.state.config w.state.numbers ≡ None)
 rules_hold n (Ok r) w h =
     let both = by_rules (first_breach r.state.config r.state.numbers) n r w h in
     (ap Ok both.1, subst (λ (z : Performed). first_breach z.state.config z.state.numbers ≡ None) both.1 both.0)
@@ -90,7 +90,7 @@ mutual
 
   first_run : (ps : Parts) (n : ℕ) (last : Refused) (s : State) (w : Performed) → choice_meaning ps n last s ≡ Ok w → IsRunOf (leaves_in ps) s w
   first_run none n last s w h = cc
-  first_run (part p ps) n last s w h = by_first (leaves_of p) (leaves_in ps) s (checked n (node_meaning p n s)) (λ why. choice_meaning ps (n + nodes_of p) why s) w
+  first_run (part p ps) n last s w h = by_first (leaves_of p) (leaves_in ps) s (if_rules_hold n (node_meaning p n s)) (λ why. choice_meaning ps (n + nodes_of p) why s) w
       (λ e. mean_run p n s w (rules_hold n (node_meaning p n s) w e).0) (λ why e. first_run ps (n + nodes_of p) why s w e) h
 
 -- an accepted tree keeps within the limits
@@ -106,26 +106,26 @@ refused_not why v h = cc
 record IsWithin (p : ChangeTree) (s : State) (w : Performed) : Type 0 where
   run : IsRunOf (leaves_of p) s w
   leaves : nat_lt most_leaves (leaves_of p) ≡ false
-  kept : first_breach w.state.config w.state.numbers ≡ None
+  rules : first_breach w.state.config w.state.numbers ≡ None
 
 meaning_within : (p : ChangeTree) (s : State) (w : Performed) → meaning p s ≡ Ok w → IsWithin p s w
 meaning_within p s w h =
-    let z = unless_over (nat_lt most_depth (depth_of p)) (nat_lt most_leaves (leaves_of p)) _ _ (checked 0 (node_meaning p 0 s)) w (refused_not _) (refused_not _) h in
+    let z = unless_over (nat_lt most_depth (depth_of p)) (nat_lt most_leaves (leaves_of p)) _ _ (if_rules_hold 0 (node_meaning p 0 s)) w (refused_not _) (refused_not _) h in
     let c = rules_hold 0 (node_meaning p 0 s) w z.1 in
-    record { run = mean_run p 0 s w c.0; leaves = z.0; kept = c.1 }
+    record { run = mean_run p 0 s w c.0; leaves = z.0; rules = c.1 }
 
 pub accepted_trees_are_runs : AcceptedTreesAreRuns
 accepted_trees_are_runs p s w h =
     let within = meaning_within p s w h in
-    record { state = within.run.state; accepted = within.run.accepted; kept = within.kept }
+    record { state = within.run.state; accepted = within.run.accepted; rules = within.rules }
 
 -- ---- the inverse tree
 
-parts_mean : (es : List Edit) (n : ℕ) (s : State) → AreAccepted es s → parts_meaning (parts_of es) n s ≡ Ok (record { state = edited_by_all es s; edits = es })
+parts_mean : (es : List Edit) (n : ℕ) (s : State) → AreAccepted es s → parts_meaning (parts_of es) n s ≡ Ok (record { state = state_after_all es s; edits = es })
 parts_mean [] n s accepted = refl
 parts_mean (e ∷ es) n s accepted =
     ap (λ why. and_then (unless_refused why n e s) (parts_meaning (parts_of es) (n + 1))) accepted.0
-    ∙ ap (after_run (record { state = edited e s; edits = e ∷ [] })) (parts_mean es (n + 1) (edited e s) accepted.1)
+    ∙ ap (after_run (record { state = state_after e s; edits = e ∷ [] })) (parts_mean es (n + 1) (state_after e s) accepted.1)
 
 parts_leaves : (es : List Edit) → leaves_in (parts_of es) ≡ length es
 parts_leaves [] = refl
@@ -138,8 +138,8 @@ parts_depth (e ∷ es) = let more = parts_depth es in omega arith
 inverses_length : (es : List Edit) (s : State) → length (inverses es s) ≡ length es
 inverses_length [] s = refl
 inverses_length (e ∷ es) s =
-    let more = inverses_length es (edited e s) in
-    let both = length-append (inverses es (edited e s)) (inverse_of e s ∷ []) in
+    let more = inverses_length es (state_after e s) in
+    let both = length-append (inverses es (state_after e s)) (inverse_of e s ∷ []) in
     omega arith
 
 not_over : (n : ℕ) → n ≤ 4096 → nat_lt most_leaves n ≡ false
@@ -168,9 +168,9 @@ inverse_trees_take_back p s w sound kept h u like quiet =
     let deep : nat_lt most_depth (depth_of t) ≡ false = let d = parts_depth (inverses es s) in grind arith in
     let many : nat_lt most_leaves (leaves_of t) ≡ false = few_leaves (leaves_in (parts_of (inverses es s))) (leaves_of p) within.leaves
     (let f = within.run.few in let k = parts_leaves (inverses es s) in let l = inverses_length es s in omega (arith, f, k, l)) in
-    let there : parts_meaning (parts_of (inverses es s)) 1 u ≡ Ok (record { state = edited_by_all (inverses es s) u; edits = inverses es s }) = parts_mean (inverses es s) 1 u accepted in
-    let rules : first_breach (edited_by_all (inverses es s) u).config (edited_by_all (inverses es s) u).numbers ≡ None =
+    let there : parts_meaning (parts_of (inverses es s)) 1 u ≡ Ok (record { state = state_after_all (inverses es s) u; edits = inverses es s }) = parts_mean (inverses es s) 1 u accepted in
+    let rules : first_breach (state_after_all (inverses es s) u).config (state_after_all (inverses es s) u).numbers ≡ None =
     ap (λ (z : State). first_breach z.config z.numbers) (run_back es s u sound free like) ∙ kept in
-    ap state_reached (unless_nothing _ _ _ _ _ deep many ∙ ap (checked 0) there
-    ∙ ap (λ b. unless_broken b 0 (record { state = edited_by_all (inverses es s) u; edits = inverses es s })) rules)
+    ap state_reached (unless_nothing _ _ _ _ _ deep many ∙ ap (if_rules_hold 0) there
+    ∙ ap (λ b. unless_broken b 0 (record { state = state_after_all (inverses es s) u; edits = inverses es s })) rules)
     ∙ ap Some back

@@ -6,7 +6,7 @@ use Rattle.iocm_types.specs.declared.key.Key.{Key}
 use Rattle.iocm_types.specs.Key.{key_cmp}
 use Rattle.iocm_types.proofs.KeyOrder.{keys_total, keys_exact}
 use Rattle.iocm_model.specs.Machine.Record.{Rec, key_of}
-use Rattle.iocm_model.specs.Machine.Configuration.{Configuration, IsKeyed, keyed, records_of}
+use Rattle.iocm_model.specs.Machine.Configuration.{Configuration, IsKeyed, with_keys, records_of}
 use Rattle.iocm_model.proofs.Maps.Found.{same_key, first_holds, second_holds, found_first, found_later}
 
 found_by : (b : Bool) (k : Key) (x r : Rec) (rest : Option Rec) → eq_by_cmp key_cmp k (key_of x) ≡ b → (rest ≡ Some r → key_of r ≡ k)
@@ -14,20 +14,20 @@ found_by : (b : Bool) (k : Key) (x r : Rec) (rest : Option Rec) → eq_by_cmp ke
 found_by true k x r rest e more h = let same : x ≡ r = cc in ap key_of (sym same) ∙ sym (same_key key_cmp keys_exact k (key_of x) e)
 found_by false k x r rest e more h = more h
 
-found_own : (rs : List Rec) (k : Key) (r : Rec) → find key_cmp k (keyed rs) ≡ Some r → key_of r ≡ k
+found_own : (rs : List Rec) (k : Key) (r : Rec) → find key_cmp k (with_keys rs) ≡ Some r → key_of r ≡ k
 found_own [] k r h = cc
-found_own (x ∷ rs) k r h = found_by (eq_by_cmp key_cmp k (key_of x)) k x r (find key_cmp k (keyed rs)) refl (found_own rs k r) h
+found_own (x ∷ rs) k r h = found_by (eq_by_cmp key_cmp k (key_of x)) k x r (find key_cmp k (with_keys rs)) refl (found_own rs k r) h
 
 -- what is found stands under its own key
 pub keyed_own : (c : Configuration) → IsKeyed c → (k : Key) (r : Rec) → get c k ≡ Some r → key_of r ≡ k
 keyed_own c own k r h = found_own (records_of c) k r (ap (find key_cmp k) (sym own) ∙ sym (get-entries c k) ∙ h)
 
 entries_own : (es : List (Key × Rec)) → T (is_sorted key_cmp es) → ((k : Key) (r : Rec) → find key_cmp k es ≡ Some r → key_of r ≡ k)
-    → es ≡ keyed (map (λ e. e.1) es)
+    → es ≡ with_keys (map (λ e. e.1) es)
 entries_own [] up own = refl
 entries_own (e ∷ es) up own =
     let here : key_of e.1 ≡ e.0 = own e.0 e.1 (found_first key_cmp keys_total keys_exact e es) in
-    let rest : es ≡ keyed (map (λ f. f.1) es) = entries_own es (second_holds _ _ up)
+    let rest : es ≡ with_keys (map (λ f. f.1) es) = entries_own es (second_holds _ _ up)
     (λ k r h. own k r (found_later key_cmp keys_total keys_exact k e es r (first_holds _ _ up) h)) in
     λ i. (sym here i, e.1) ∷ rest i
 

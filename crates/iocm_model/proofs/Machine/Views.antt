@@ -20,7 +20,7 @@ use Rattle.iocm_types.specs.Place.{cell_cmp}
 use Rattle.iocm_types.specs.SubId.{sub_id_cmp, image_cmp}
 use Rattle.iocm_types.proofs.KeyOrder.{keys_total, keys_exact, cells_exact, sub_ids_exact}
 use Rattle.iocm_model.specs.Machine.Record.{Rec, ImageRecord, key_of, id, resource, image, limit, path, unit, device, online}
-use Rattle.iocm_model.specs.Machine.Configuration.{Configuration, Lookup, lookup_of, IsKeyed, keyed, records_of, image_of}
+use Rattle.iocm_model.specs.Machine.Configuration.{Configuration, Lookup, lookup_of, IsKeyed, with_keys, records_of, as_image}
 use Rattle.iocm_model.specs.Machine.Numbering.{Numbering, cells_of}
 use Rattle.iocm_model.specs.Machine.View.{image_view, row_at, views, IsListOfViews}
 use Rattle.iocm_model.proofs.Maps.Parts.{or_else, or_none, untied, find_append}
@@ -38,8 +38,8 @@ right true b h = h
 right false b h = absurd h
 
 -- what is below all records is below those after the first
-later : (q : Key) (r : Rec) (rs : List Rec) → T (below_all key_cmp q (keyed (r ∷ rs))) → T (below_all key_cmp q (keyed rs))
-later q r rs h = right (is_lt (key_cmp q (key_of r))) (below_all key_cmp q (keyed rs)) h
+later : (q : Key) (r : Rec) (rs : List Rec) → T (below_all key_cmp q (with_keys (r ∷ rs))) → T (below_all key_cmp q (with_keys rs))
+later q r rs h = right (is_lt (key_cmp q (key_of r))) (below_all key_cmp q (with_keys rs)) h
 
 equal_is : (r : Ordering) → is_eq r ≡ true → r ≡ Equal
 equal_is Less h = cc
@@ -159,9 +159,9 @@ module _ (c : Lookup) where
       (rows_rise i es ys (right _ _ up) rise above)
 
   abbrev table : List (NumberCell × ℕ) → List Rec → List (SubId × View)
-  table es rs = flat_map (λ i. rows i es) (filter_map image_of rs)
+  table es rs = flat_map (λ i. rows i es) (filter_map as_image rs)
 
-  above_table : (m : images.Image) (es : List (NumberCell × ℕ)) (rs : List Rec) → T (below_all key_cmp (Image m.css m.mif) (keyed rs)) → T (above_all m (table es rs))
+  above_table : (m : images.Image) (es : List (NumberCell × ℕ)) (rs : List Rec) → T (below_all key_cmp (Image m.css m.mif) (with_keys rs)) → T (above_all m (table es rs))
   above_table m es [] below = tt
   above_table m es (image i ∷ rs) below =
       above_append m (rows i es) (table es rs) (above_rows m i es (less_pair (nat_cmp m.css i.css) (nat_cmp m.mif i.mif) (left _ _ below))) (above_table m es rs (right _ _ below))
@@ -173,7 +173,7 @@ module _ (c : Lookup) where
   above_table m es (device y ∷ rs) below = above_table m es rs (later (Image m.css m.mif) (device y) rs below)
   above_table m es (online y ∷ rs) below = above_table m es rs (later (Image m.css m.mif) (online y) rs below)
 
-  pub table_rises : (es : List (NumberCell × ℕ)) (rs : List Rec) → T (is_sorted cell_cmp es) → T (is_sorted key_cmp (keyed rs)) → T (is_sorted sub_id_cmp (table es rs))
+  pub table_rises : (es : List (NumberCell × ℕ)) (rs : List Rec) → T (is_sorted cell_cmp es) → T (is_sorted key_cmp (with_keys rs)) → T (is_sorted sub_id_cmp (table es rs))
   table_rises es [] up rise = tt
   table_rises es (image i ∷ rs) up rise =
       rows_rise i es (table es rs) up (table_rises es rs up (right _ _ rise)) (above_table (whose i) es rs (left _ _ rise))
@@ -252,22 +252,22 @@ module _ (c : Lookup) where
 
   -- what the image of a record sees there
   abbrev seen : List (NumberCell × ℕ) → SubId → Option Rec → Option View
-  seen es s r = option_and_then (λ (i : ImageRecord). option_and_then (image_view c i s.set) (find cell_cmp (cell s) es)) (option_and_then image_of r)
+  seen es s r = option_and_then (λ (i : ImageRecord). option_and_then (image_view c i s.set) (find cell_cmp (cell s) es)) (option_and_then as_image r)
 
-  missing_key : (q : Key) (rs : List Rec) → T (below_all key_cmp q (keyed rs)) → find key_cmp q (keyed rs) ≡ None
+  missing_key : (q : Key) (rs : List Rec) → T (below_all key_cmp q (with_keys rs)) → find key_cmp q (with_keys rs) ≡ None
   missing_key q [] h = refl
   missing_key q (r ∷ rs) h = let apart : eq_by_cmp key_cmp q (key_of r) ≡ false = not_less_and_equal _ (left _ _ h) in rw apart (missing_key q rs (right _ _ h))
 
   image_by : (es : List (NumberCell × ℕ)) (s : SubId) (i : ImageRecord) (rs : List Rec) (b : Bool) → eq_by_cmp key_cmp (Image s.image.css s.image.mif) (Image i.css i.mif) ≡ b
-      → T (is_sorted cell_cmp es) → T (below_all key_cmp (Image i.css i.mif) (keyed rs))
-      → find sub_id_cmp s (table es rs) ≡ seen es s (find key_cmp (Image s.image.css s.image.mif) (keyed rs))
-      → or_else (find sub_id_cmp s (rows i es)) (find sub_id_cmp s (table es rs)) ≡ seen es s (cond b (Some (image i)) (find key_cmp (Image s.image.css s.image.mif) (keyed rs)))
+      → T (is_sorted cell_cmp es) → T (below_all key_cmp (Image i.css i.mif) (with_keys rs))
+      → find sub_id_cmp s (table es rs) ≡ seen es s (find key_cmp (Image s.image.css s.image.mif) (with_keys rs))
+      → or_else (find sub_id_cmp s (rows i es)) (find sub_id_cmp s (table es rs)) ≡ seen es s (cond b (Some (image i)) (find key_cmp (Image s.image.css s.image.mif) (with_keys rs)))
   image_by es s i rs true e up below more =
       let keys : Image s.image.css s.image.mif ≡ Image i.css i.mif = keys_exact _ _ (equal_is _ e) in
       let css : s.image.css ≡ i.css = cc in
       let mif : s.image.mif ≡ i.mif = cc in
       let at : s ≡ sub i (record { css = i.css; set = s.set; number = s.number }) = λ j. record { image = record { css = css j; mif = mif j }; set = s.set; number = s.number } in
-      let none : find sub_id_cmp s (table es rs) ≡ None = more ∙ ap (seen es s) (ap (λ (q : Key). find key_cmp q (keyed rs)) keys ∙ missing_key (Image i.css i.mif) rs below) in
+      let none : find sub_id_cmp s (table es rs) ≡ None = more ∙ ap (seen es s) (ap (λ (q : Key). find key_cmp q (with_keys rs)) keys ∙ missing_key (Image i.css i.mif) rs below) in
       ap (or_else (find sub_id_cmp s (rows i es))) none ∙ or_none (find sub_id_cmp s (rows i es))
       ∙ ap (λ (t : SubId). find sub_id_cmp t (rows i es)) at ∙ found_rows i s.set s.number es up
       ∙ ap (λ k. option_and_then (image_view c i s.set) (find cell_cmp (record { css = k; set = s.set; number = s.number }) es)) (sym css)
@@ -278,8 +278,8 @@ module _ (c : Lookup) where
       let no : true ≡ false = sym tie ∙ e in cc))
       ∙ more
 
-  pub table_found : (es : List (NumberCell × ℕ)) (rs : List Rec) (s : SubId) → T (is_sorted cell_cmp es) → T (is_sorted key_cmp (keyed rs))
-      → find sub_id_cmp s (table es rs) ≡ seen es s (find key_cmp (Image s.image.css s.image.mif) (keyed rs))
+  pub table_found : (es : List (NumberCell × ℕ)) (rs : List Rec) (s : SubId) → T (is_sorted cell_cmp es) → T (is_sorted key_cmp (with_keys rs))
+      → find sub_id_cmp s (table es rs) ≡ seen es s (find key_cmp (Image s.image.css s.image.mif) (with_keys rs))
   table_found es [] s up rise = refl
   table_found es (image i ∷ rs) s up rise =
       find_append sub_id_cmp s (rows i es) (table es rs)
@@ -301,5 +301,5 @@ views_listed c n keys =
       exact = λ s. table_found (lookup_of c) (entries (cells_of n)) (records_of c) s (entries_sorted (cells_of n)) rise
           ∙ (λ j. option_and_then (λ (i : ImageRecord). option_and_then (image_view (lookup_of c) i s.set)
           (sym (get-entries (cells_of n) (record { css = s.image.css; set = s.set; number = s.number })) j))
-          (option_and_then image_of ((ap (find key_cmp (Image s.image.css s.image.mif)) (sym keys) ∙ sym (get-entries c (Image s.image.css s.image.mif))) j)));
+          (option_and_then as_image ((ap (find key_cmp (Image s.image.css s.image.mif)) (sym keys) ∙ sym (get-entries c (Image s.image.css s.image.mif))) j)));
     }

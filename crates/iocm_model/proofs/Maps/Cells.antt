@@ -7,7 +7,7 @@ use Rattle.std.specs.declared.cmp.Ordering.{Ordering}
 use Rattle.std.specs.Cmp.{IsTotalOrder}
 use Rattle.std.specs.FinMap.{FinMap, IsAntisymmetric, find, is_sorted, get, entries, entries_sorted, keys, from_entries, retain_keys, get-insert, get-remove, get-from_entries, get-entries, get-retain_keys, contains_key-keys}
 use Rattle.std.specs.FinMap.Entries.{below_all}
-use Rattle.iocm_model.specs.Change.Maps.{with_value, overwritten, cells_at, differing}
+use Rattle.iocm_model.specs.Change.Maps.{with_value, with_cells, cells_at, differing}
 use Rattle.iocm_model.proofs.Maps.Found.{same_key, first_holds, second_holds, not_found}
 use Rattle.iocm_model.proofs.Maps.Parts.{or_else, find_append}
 
@@ -61,9 +61,9 @@ module _ {K X : Type 0} {R : K → K → Ordering} (total : IsTotalOrder R) (exa
   get_with_value m k (Some x) q = get-insert total m k x q
 
   -- overwritten cells have what was written, and the others what they had
-  pub get_overwritten : (ws : List (K × Option X)) (m : FinMap R X) (q : K) → get (overwritten ws m) q ≡ unwrap_or (find R q ws) (get m q)
-  get_overwritten [] m q = refl
-  get_overwritten (w ∷ ws) m q = get_with_value (overwritten ws m) w.0 w.1 q ∙ ap (cond (eq_by_cmp R q w.0) w.1) (get_overwritten ws m q)
+  pub get_with_cells : (ws : List (K × Option X)) (m : FinMap R X) (q : K) → get (with_cells ws m) q ≡ unwrap_or (find R q ws) (get m q)
+  get_with_cells [] m q = refl
+  get_with_cells (w ∷ ws) m q = get_with_value (with_cells ws m) w.0 w.1 q ∙ ap (cond (eq_by_cmp R q w.0) w.1) (get_with_cells ws m q)
       ∙ unwrapped (eq_by_cmp R q w.0) w.1 (find R q ws) (get m q)
 
   found_cell : (b : Bool) (m : FinMap R X) (k q : K) (ks : List K) → eq_by_cmp R q k ≡ b
@@ -81,9 +81,9 @@ module _ {K X : Type 0} {R : K → K → Ordering} (total : IsTotalOrder R) (exa
   get_cells_at m ks q = get-from_entries total (map (λ key. (key, get m key)) ks) q ∙ find_cells m ks q
 
   -- cells overwritten as another map has them
-  pub get_overwritten_as : (n : FinMap R X) (ks : List K) (m : FinMap R X) (q : K)
-      → get (overwritten (entries (cells_at n ks)) m) q ≡ cond (list_any (eq_by_cmp R q) ks) (get n q) (get m q)
-  get_overwritten_as n ks m q = get_overwritten (entries (cells_at n ks)) m q ∙ ap (λ o. unwrap_or o (get m q)) (sym (get-entries (cells_at n ks) q) ∙ get_cells_at n ks q)
+  pub get_with_cells_as : (n : FinMap R X) (ks : List K) (m : FinMap R X) (q : K)
+      → get (with_cells (entries (cells_at n ks)) m) q ≡ cond (list_any (eq_by_cmp R q) ks) (get n q) (get m q)
+  get_with_cells_as n ks m q = get_with_cells (entries (cells_at n ks)) m q ∙ ap (λ o. unwrap_or o (get m q)) (sym (get-entries (cells_at n ks) q) ∙ get_cells_at n ks q)
       ∙ unwrap_cond (list_any (eq_by_cmp R q) ks) (get n q) (get m q)
 
   there_in_both : (m n : FinMap R X) (q : K) → list_any (eq_by_cmp R q) (keys (from_entries {R = R} (entries m ++ entries n))) ≡ is_some (or_else (get m q) (get n q))

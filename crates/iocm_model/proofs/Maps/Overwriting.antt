@@ -5,9 +5,9 @@ use Rattle.std.specs.Ordering.{is_eq, eq_by_cmp}
 use Rattle.std.specs.declared.cmp.Ordering.{Ordering}
 use Rattle.std.specs.Cmp.{IsTotalOrder, tied_itself}
 use Rattle.std.specs.FinMap.{FinMap, IsAntisymmetric, get, entries, same_map}
-use Rattle.iocm_model.specs.Change.Maps.{overwritten, cells_at}
+use Rattle.iocm_model.specs.Change.Maps.{with_cells, cells_at}
 use Rattle.iocm_model.proofs.Maps.Found.{same_key}
-use Rattle.iocm_model.proofs.Maps.Cells.{get_overwritten_as}
+use Rattle.iocm_model.proofs.Maps.Cells.{get_with_cells_as}
 
 or_right : (a b : Bool) → (a || b) ≡ false → b ≡ false
 or_right true b h = cc
@@ -65,7 +65,7 @@ module _ {K X : Type 0} {R : K → K → Ordering} (total : IsTotalOrder R) (exa
   at_each false x y same = same refl
 
   -- overwritten as another map has it, a map is that one, where the two agree at all other keys
-  pub overwritten_is : (m n : FinMap R X) (ks : List K) → ((q : K) → list_any (eq_by_cmp R q) ks ≡ false → get m q ≡ get n q)
-      → overwritten (entries (cells_at n ks)) m ≡ n
-  overwritten_is m n ks same = same_map total exact _ _
-      (λ q. get_overwritten_as total exact n ks m q ∙ at_each (list_any (eq_by_cmp R q) ks) (get n q) (get m q) (same q))
+  pub with_cells_is : (m n : FinMap R X) (ks : List K) → ((q : K) → list_any (eq_by_cmp R q) ks ≡ false → get m q ≡ get n q)
+      → with_cells (entries (cells_at n ks)) m ≡ n
+  with_cells_is m n ks same = same_map total exact _ _
+      (λ q. get_with_cells_as total exact n ks m q ∙ at_each (list_any (eq_by_cmp R q) ks) (get n q) (get m q) (same q))

@@ -12,12 +12,12 @@ use Rattle.iocm_types.proofs.KeyOrder.{places_total, places_exact, cells_total, 
 use Rattle.iocm_model.specs.Machine.Configuration.{Configuration}
 use Rattle.iocm_model.specs.Machine.Numbering.{Numbering, reached_places, is_reached_at, cells_of}
 use Rattle.iocm_model.specs.Change.Renumbering.{lowest_free, without_leavers, with_carried, with_lowest, comes_in}
-use Rattle.iocm_model.specs.Laws.Numbers.{is_used, RenumberedAreNumbers}
+use Rattle.iocm_model.specs.Laws.Numbers.{is_used, NumbersAfterAreNumbers}
 use Rattle.iocm_model.specs.Change.Refusal.{same_cell, has_cell_twice, is_number_taken}
 use Rattle.iocm_model.proofs.Numbers.Lowest.{lowest_free_is_free}
 use Rattle.iocm_model.proofs.Maps.Found.{present, same_key, found_fails}
 use Rattle.iocm_model.proofs.Numbers.Cells.{IsApart, cell, has_cell}
-use Rattle.iocm_model.proofs.Numbers.Changed.{comes_new, comes_reached, get_without, stays, before_lowest, renumbered_are_exact}
+use Rattle.iocm_model.proofs.Numbers.Changed.{comes_new, comes_reached, get_without, stays, before_lowest, numbers_after_are_exact}
 
 -- ---- one number more
 
@@ -210,9 +210,9 @@ module _ (c : Configuration) (n : Numbering) where
   }
 
 -- no number comes twice after a change, where none did before and no carried number is taken
-pub renumbered_are_numbers : RenumberedAreNumbers
-renumbered_are_numbers before after carried n numbers free = record {
-  exact = renumbered_are_exact after carried n;
+pub numbers_after_are_numbers : NumbersAfterAreNumbers
+numbers_after_are_numbers before after carried n numbers free = record {
+  exact = numbers_after_are_exact after carried n;
   apart = lowest_apart (before_lowest after carried n) (reached_places after)
       (carried_apart after n (without_leavers after n) carried (free_for_carried after n numbers.apart carried free));
 }

@@ -9,8 +9,8 @@ use Rattle.iocm_types.specs.Place.{place_cmp}
 use Rattle.iocm_types.proofs.KeyOrder.{places_total, places_exact}
 use Rattle.iocm_model.specs.Machine.Configuration.{Configuration}
 use Rattle.iocm_model.specs.Machine.Numbering.{Numbering, reached_places, is_reached_at}
-use Rattle.iocm_model.specs.Change.Renumbering.{lowest_free, without_leavers, with_carried, with_lowest, renumbered}
-use Rattle.iocm_model.specs.Laws.Numbers.{RenumberedAreExact, StayersKeepTheirs, CarriedComeBack}
+use Rattle.iocm_model.specs.Change.Renumbering.{lowest_free, without_leavers, with_carried, with_lowest, numbers_after}
+use Rattle.iocm_model.specs.Laws.Numbers.{NumbersAfterAreExact, StayersKeepTheirs, CarriedComeBack}
 use Rattle.iocm_model.proofs.Maps.Found.{same_key, ties_itself}
 use Rattle.iocm_model.proofs.Maps.Parts.{untied}
 
@@ -180,14 +180,14 @@ before_lowest c carried n = fold (with_carried c) (without_leavers c n) carried
 
 -- who has a number after a change, by whether the place is reached
 exact_by : (c : Configuration) (carried : List (Place × ℕ)) (n : Numbering) (p : Place) (b : Bool) → is_reached_at c p ≡ b
-    → contains_key (renumbered c carried n) p ≡ b
+    → contains_key (numbers_after c carried n) p ≡ b
 exact_by c carried n p true e = lowest_come (before_lowest c carried n) (reached_places c) p e
 exact_by c carried n p false e =
     ap is_some (lowest_not (before_lowest c carried n) (reached_places c) p e ∙ carried_not c (without_leavers c n) carried p e ∙ leaves c n p e)
 
 -- exactly the devices that are reached have a number
-pub renumbered_are_exact : RenumberedAreExact
-renumbered_are_exact c carried n p = exact_by c carried n p (is_reached_at c p) refl
+pub numbers_after_are_exact : NumbersAfterAreExact
+numbers_after_are_exact c carried n p = exact_by c carried n p (is_reached_at c p) refl
 
 -- those that stay keep theirs
 pub stayers_keep_theirs : StayersKeepTheirs

@@ -14,8 +14,8 @@ use Rattle.iocm_types.specs.Key.{key_cmp}
 use Rattle.iocm_types.specs.Place.{place_cmp}
 use Rattle.iocm_types.proofs.KeyOrder.{places_total, places_exact}
 use Rattle.iocm_model.specs.Machine.Record.{Rec, DeviceRecord, id, resource, image, limit, path, unit, device, online}
-use Rattle.iocm_model.specs.Machine.Configuration.{Configuration, Lookup, lookup_of, IsKeyed, keyed, records_of, device_of}
-use Rattle.iocm_model.specs.Machine.Numbering.{is_reached, is_record_reached, reached_in, numbered, opening}
+use Rattle.iocm_model.specs.Machine.Configuration.{Configuration, Lookup, lookup_of, IsKeyed, with_keys, records_of, as_device}
+use Rattle.iocm_model.specs.Machine.Numbering.{is_reached, is_record_reached, reached_devices, numbers_from, opening}
 use Rattle.iocm_model.proofs.Maps.Parts.{untied, find_nowhere, find_part, found_in_part}
 
 -- ---- one set of a channel subsystem
@@ -23,13 +23,13 @@ use Rattle.iocm_model.proofs.Maps.Parts.{untied, find_nowhere, find_part, found_
 abbrev at : ℕ → ℕ → ℕ → Place
 at css set number = record { css = css; set = set; device = number }
 
-other_css : (p : Place) (css set n : ℕ) (ds : List ℕ) → (css ≡ p.css → ⊥) → find place_cmp p (numbered css set n ds) ≡ None
+other_css : (p : Place) (css set n : ℕ) (ds : List ℕ) → (css ≡ p.css → ⊥) → find place_cmp p (numbers_from css set n ds) ≡ None
 other_css p css set n [] other = refl
 other_css p css set n (d ∷ ds) other =
     let apart : eq_by_cmp place_cmp p (at css set d) ≡ false = untied place_cmp places_exact p (at css set d) (λ e. other (sym (ap (λ (q : Place). q.css) e))) in
     rw apart (other_css p css set (n + 1) ds other)
 
-other_set : (p : Place) (css set n : ℕ) (ds : List ℕ) → (set ≡ p.set → ⊥) → find place_cmp p (numbered css set n ds) ≡ None
+other_set : (p : Place) (css set n : ℕ) (ds : List ℕ) → (set ≡ p.set → ⊥) → find place_cmp p (numbers_from css set n ds) ≡ None
 other_set p css set n [] other = refl
 other_set p css set n (d ∷ ds) other =
     let apart : eq_by_cmp place_cmp p (at css set d) ≡ false = untied place_cmp places_exact p (at css set d) (λ e. other (sym (ap (λ (q : Place). q.set) e))) in
@@ -51,17 +51,17 @@ numbered_by true n rest others is = refl
 numbered_by false n rest others is = is
 
 -- a device has a number if it is in the list
-in_set : (css set n x : ℕ) (ds : List ℕ) → is_some (find place_cmp (at css set x) (numbered css set n ds)) ≡ list_any (nat_eq x) ds
+in_set : (css set n x : ℕ) (ds : List ℕ) → is_some (find place_cmp (at css set x) (numbers_from css set n ds)) ≡ list_any (nat_eq x) ds
 in_set css set n x [] = refl
 in_set css set n x (d ∷ ds) =
-    ap (λ b. is_some (cond b (Some n) (find place_cmp (at css set x) (numbered css set (n + 1) ds)))) (same_place css set x d)
+    ap (λ b. is_some (cond b (Some n) (find place_cmp (at css set x) (numbers_from css set (n + 1) ds)))) (same_place css set x d)
     ∙ numbered_by (nat_eq x d) n _ _ (in_set css set (n + 1) x ds)
 
 no_lower_by : (b : Bool) (n k : ℕ) (rest : Option ℕ) → (rest ≡ Some k → n + 1 ≤ k) → cond b (Some n) rest ≡ Some k → n ≤ k
 no_lower_by true n k rest more is = let same : n ≡ k = cc in omega arith
 no_lower_by false n k rest more is = let above = more is in omega arith
 
-no_lower : (css set n x k : ℕ) (ds : List ℕ) → find place_cmp (at css set x) (numbered css set n ds) ≡ Some k → n ≤ k
+no_lower : (css set n x k : ℕ) (ds : List ℕ) → find place_cmp (at css set x) (numbers_from css set n ds) ≡ Some k → n ≤ k
 no_lower css set n x k [] is = cc
 no_lower css set n x k (d ∷ ds) is =
     no_lower_by (eq_by_cmp place_cmp (at css set x) (at css set d)) n k _ (no_lower css set (n + 1) x k ds) is
@@ -74,19 +74,19 @@ one_number_by false true n k x y d r s e f low high more is was = let same : n �
 one_number_by false false n k x y d r s e f low high more is was = more is was
 
 -- a number is one device's
-one_number : (css set n x y k : ℕ) (ds : List ℕ) → find place_cmp (at css set x) (numbered css set n ds) ≡ Some k
-    → find place_cmp (at css set y) (numbered css set n ds) ≡ Some k → x ≡ y
+one_number : (css set n x y k : ℕ) (ds : List ℕ) → find place_cmp (at css set x) (numbers_from css set n ds) ≡ Some k
+    → find place_cmp (at css set y) (numbers_from css set n ds) ≡ Some k → x ≡ y
 one_number css set n x y k [] is was = cc
 one_number css set n x y k (d ∷ ds) is was =
     one_number_by (nat_eq x d) (nat_eq y d) n k x y d _ _ refl refl (no_lower css set (n + 1) x k ds) (no_lower css set (n + 1) y k ds)
     (one_number css set (n + 1) x y k ds)
-    (sym (ap (λ b. cond b (Some n) (find place_cmp (at css set x) (numbered css set (n + 1) ds))) (same_place css set x d)) ∙ is)
-    (sym (ap (λ b. cond b (Some n) (find place_cmp (at css set y) (numbered css set (n + 1) ds))) (same_place css set y d)) ∙ was)
+    (sym (ap (λ b. cond b (Some n) (find place_cmp (at css set x) (numbers_from css set (n + 1) ds))) (same_place css set x d)) ∙ is)
+    (sym (ap (λ b. cond b (Some n) (find place_cmp (at css set y) (numbers_from css set (n + 1) ds))) (same_place css set y d)) ∙ was)
 
 -- ---- all sets of all channel subsystems
 
 abbrev of_set : Configuration → ℕ → ℕ → List (Place × ℕ)
-of_set c css set = numbered css set 0 (reached_in c css set)
+of_set c css set = numbers_from css set 0 (reached_devices c css set)
 
 abbrev of_css : Configuration → ℕ → List (Place × ℕ)
 of_css c css = flat_map (of_set c css) (0 ∷ 1 ∷ 2 ∷ 3 ∷ [])
@@ -95,11 +95,11 @@ abbrev all : Configuration → List (Place × ℕ)
 all c = flat_map (of_css c) (0 ∷ 1 ∷ 2 ∷ 3 ∷ 4 ∷ 5 ∷ [])
 
 css_alone : (c : Configuration) (p : Place) (css : ℕ) → (css ≡ p.css → ⊥) → find place_cmp p (of_css c css) ≡ None
-css_alone c p css other = find_nowhere place_cmp p (of_set c css) (λ s. other_css p css s 0 (reached_in c css s) other) (0 ∷ 1 ∷ 2 ∷ 3 ∷ [])
+css_alone c p css other = find_nowhere place_cmp p (of_set c css) (λ s. other_css p css s 0 (reached_devices c css s) other) (0 ∷ 1 ∷ 2 ∷ 3 ∷ [])
 
 module _ (c : Configuration) (css s x : ℕ) where
   set_alone : (y : ℕ) → (y ≡ s → ⊥) → find place_cmp (at css s x) (of_set c css y) ≡ None
-  set_alone y other = other_set (at css s x) css y 0 (reached_in c css y) other
+  set_alone y other = other_set (at css s x) css y 0 (reached_devices c css y) other
 
   found_set : (k : ℕ) → find place_cmp (at css s x) (all c) ≡ Some k → find place_cmp (at css s x) (of_set c css s) ≡ Some k
   found_set k is =
@@ -126,7 +126,7 @@ in_all c (suc (suc (suc (suc (suc (suc css)))))) s x h = absurd (omega arith)
 
 abbrev reached_among : Lookup → ℕ → ℕ → List Rec → List ℕ
 reached_among c css set rs =
-    map (λ (d : DeviceRecord). d.number) (filter (λ (d : DeviceRecord). nat_eq d.set set && is_reached c css d) (filter_map device_of rs))
+    map (λ (d : DeviceRecord). d.number) (filter (λ (d : DeviceRecord). nat_eq d.set set && is_reached c css d) (filter_map as_device rs))
 
 left : (a b : Bool) → T (a && b) → T a
 left true b h = tt
@@ -179,20 +179,20 @@ module _ (c : Lookup) (css set x : ℕ) where
       (unsigned_ties x d.number ∙ sym (level (nat_cmp x d.number))))
       ∙ ap (λ t. t && nat_eq x d.number) (nat_eq_equiv.symm set d.set)
 
-  none_later : (d : DeviceRecord) (rs : List Rec) → T (below_all key_cmp (Device d.set d.number) (keyed rs)) → (nat_eq d.set set && nat_eq x d.number) ≡ true
-      → answer (find key_cmp (Device set x) (keyed rs)) ≡ false
+  none_later : (d : DeviceRecord) (rs : List Rec) → T (below_all key_cmp (Device d.set d.number) (with_keys rs)) → (nat_eq d.set set && nat_eq x d.number) ≡ true
+      → answer (find key_cmp (Device set x) (with_keys rs)) ≡ false
   none_later d rs below e =
       let in_set : d.set ≡ set = eqb-true d.set set (first_so _ _ e) in
       let number : x ≡ d.number = eqb-true x d.number (second_so _ _ e) in
-      ap answer (none_below (Device set x) (keyed rs) (subst (λ (k : Key). T (below_all key_cmp k (keyed rs))) (λ i. Device (in_set i) (sym number i)) below))
+      ap answer (none_below (Device set x) (with_keys rs) (subst (λ (k : Key). T (below_all key_cmp k (with_keys rs))) (λ i. Device (in_set i) (sym number i)) below))
 
   -- a device is in the list of those that are reached if its record says so
-  pub listed : (rs : List Rec) → T (is_sorted key_cmp (keyed rs)) → wanted rs ≡ answer (find key_cmp (Device set x) (keyed rs))
+  pub listed : (rs : List Rec) → T (is_sorted key_cmp (with_keys rs)) → wanted rs ≡ answer (find key_cmp (Device set x) (with_keys rs))
   listed [] up = refl
   listed (device d ∷ rs) up =
       counted_by d _ (nat_eq d.set set && is_reached c css d)
-      ∙ combined (nat_eq d.set set) (is_reached c css d) (nat_eq x d.number) (wanted rs) (answer (find key_cmp (Device set x) (keyed rs))) (listed rs (right _ _ up)) (none_later d rs (left _ _ up))
-      ∙ sym (ap (λ b. answer (cond b (Some (device d)) (find key_cmp (Device set x) (keyed rs)))) (same_device d) ∙ answer_by d (find key_cmp (Device set x) (keyed rs)) (nat_eq d.set set && nat_eq x d.number))
+      ∙ combined (nat_eq d.set set) (is_reached c css d) (nat_eq x d.number) (wanted rs) (answer (find key_cmp (Device set x) (with_keys rs))) (listed rs (right _ _ up)) (none_later d rs (left _ _ up))
+      ∙ sym (ap (λ b. answer (cond b (Some (device d)) (find key_cmp (Device set x) (with_keys rs)))) (same_device d) ∙ answer_by d (find key_cmp (Device set x) (with_keys rs)) (nat_eq d.set set && nat_eq x d.number))
   listed (id y ∷ rs) up = listed rs (right _ _ up)
   listed (resource y ∷ rs) up = listed rs (right _ _ up)
   listed (image y ∷ rs) up = listed rs (right _ _ up)
@@ -207,13 +207,13 @@ pub domain_at : (c : Configuration) → IsKeyed c → (css s x : ℕ) → css < 
     → is_some (get (opening c) (at css s x)) ≡ is_record_reached (lookup_of c) css (lookup_of c (Device s x))
 domain_at c keys css s x low few =
     ap is_some (get-from_entries places_total (all c) (at css s x) ∙ in_all c css s x low ∙ in_sets c css s x few)
-    ∙ in_set css s 0 x (reached_in c css s)
+    ∙ in_set css s 0 x (reached_devices c css s)
     ∙ listed (lookup_of c) css s x (records_of c) (subst (λ (es : List (Key × Rec)). T (is_sorted key_cmp es)) keys (entries_sorted c))
     ∙ ap (is_record_reached (lookup_of c) css) (ap (find key_cmp (Device s x)) (sym keys) ∙ sym (get-entries c (Device s x)))
 
 apart_at : (c : Configuration) (css s x y k : ℕ) → get (opening c) (at css s x) ≡ Some k → get (opening c) (at css s y) ≡ Some k → x ≡ y
 apart_at c css s x y k is was =
-    one_number css s 0 x y k (reached_in c css s)
+    one_number css s 0 x y k (reached_devices c css s)
     (found_set c css s x k (sym (get-from_entries places_total (all c) (at css s x)) ∙ is))
     (found_set c css s y k (sym (get-from_entries places_total (all c) (at css s y)) ∙ was))
 

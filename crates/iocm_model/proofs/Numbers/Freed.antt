@@ -9,13 +9,13 @@ use Rattle.iocm_types.specs.Place.{place_cmp}
 use Rattle.iocm_types.proofs.KeyOrder.{places_total, places_exact}
 use Rattle.iocm_model.specs.Machine.Configuration.{Configuration}
 use Rattle.iocm_model.specs.Machine.Numbering.{Numbering, is_reached_at, AreNumbersOf}
-use Rattle.iocm_model.specs.Change.Renumbering.{renumbered, without_leavers, comes_in}
+use Rattle.iocm_model.specs.Change.Renumbering.{numbers_after, without_leavers, comes_in}
 use Rattle.iocm_model.specs.Change.Refusal.{same_cell, has_cell_twice}
-use Rattle.iocm_model.specs.Change.Inverse.{freed}
+use Rattle.iocm_model.specs.Change.Inverse.{freed_numbers}
 use Rattle.iocm_model.specs.Laws.Numbers.{FreedAreNotTaken}
 use Rattle.iocm_model.proofs.Maps.Found.{first_holds, second_holds, present, not_found, found_later, found_first, none_passes}
 use Rattle.iocm_model.proofs.Numbers.Cells.{IsApart}
-use Rattle.iocm_model.proofs.Numbers.Changed.{renumbered_are_exact, stayers_keep_theirs}
+use Rattle.iocm_model.proofs.Numbers.Changed.{numbers_after_are_exact, stayers_keep_theirs}
 use Rattle.iocm_model.proofs.Numbers.Back.{get_freed}
 use Rattle.iocm_model.proofs.Numbers.Apart.{had}
 
@@ -48,7 +48,7 @@ module _ (n : Numbering) (apart : IsApart n) where
 module _ (before after : Configuration) (carried : List (Place × ℕ)) (n : Numbering) (numbers : AreNumbersOf before n) where
   -- the numbers after the change
   abbrev there : Numbering
-  there = renumbered after carried n
+  there = numbers_after after carried n
 
   -- those that stay when it is taken back
   abbrev staying : Numbering
@@ -60,11 +60,11 @@ module _ (before after : Configuration) (carried : List (Place × ℕ)) (n : Num
 
   -- the freed places that come in
   abbrev arriving : List (Place × ℕ)
-  arriving = filter (comes_in before there) (freed n there)
+  arriving = filter (comes_in before there) (freed_numbers n there)
 
   -- those that come in stand in order
   rising : T (is_sorted place_cmp arriving)
-  rising = is_sorted-where_key place_cmp comes_back (freed n there)
+  rising = is_sorted-where_key place_cmp comes_back (freed_numbers n there)
       (is_sorted-where_key place_cmp (λ p. not (contains_key there p)) (entries n) (entries_sorted n))
 
   -- `arrived`, by the two tests that one passes
@@ -78,7 +78,7 @@ module _ (before after : Configuration) (carried : List (Place × ℕ)) (n : Num
   arrived : (q : Place) (k : ℕ) → find place_cmp q arriving ≡ Some k → (contains_key there q ≡ false) × (get n q ≡ Some k)
   arrived q k is =
       arrived_by q k (is_reached_at before q) (contains_key there q) refl
-      (sym (find-where_key place_cmp comes_back q (λ x e. ap comes_back (sym (places_exact q x e))) (freed n there)
+      (sym (find-where_key place_cmp comes_back q (λ x e. ap comes_back (sym (places_exact q x e))) (freed_numbers n there)
       ∙ ap (λ o. cond (comes_back q) o None) (get_freed n there q)) ∙ is)
 
   -- a number that stays there is the one that its place had
@@ -86,7 +86,7 @@ module _ (before after : Configuration) (carried : List (Place × ℕ)) (n : Num
   stayed q k is =
       let has = had before there q k is in
       let old = present (get n q) (numbers.exact q ∙ has.0) in
-      let in_reach : is_reached_at after q ≡ true = sym (renumbered_are_exact after carried n q) ∙ ap is_some has.1 in
+      let in_reach : is_reached_at after q ≡ true = sym (numbers_after_are_exact after carried n q) ∙ ap is_some has.1 in
       (ap is_some has.1, old.1 ∙ sym (stayers_keep_theirs after carried n q old.0 in_reach old.1) ∙ has.1)
 
   -- none of their numbers is held by a place that stays

@@ -9,7 +9,7 @@ use Rattle.iocm_types.specs.declared.place.Place.{Place}
 use Rattle.iocm_types.specs.Place.{place_cmp}
 use Rattle.iocm_types.proofs.KeyOrder.{places_total}
 use Rattle.iocm_model.specs.Machine.Configuration.{Configuration}
-use Rattle.iocm_model.specs.Machine.Numbering.{subsystems, sets, reached_in, reached_places, is_reached_at, numbered, opening}
+use Rattle.iocm_model.specs.Machine.Numbering.{subsystems, sets, reached_devices, reached_places, is_reached_at, numbers_from, opening}
 use Rattle.iocm_model.specs.Laws.Numbers.{OpeningAreNumbers, ReachedPlacesAreOfDevices}
 use Rattle.iocm_model.proofs.Numbers.First.{opening_apart, domain_at}
 
@@ -23,7 +23,7 @@ same_parts : {A B : Type 0} (f g : A → List B) → ((x : A) → f x ≡ g x) �
 same_parts f g same xs = λ i. flat_map (λ x. same x i) xs
 
 -- the places of numbered devices are theirs
-numbered_places : (css set n : ℕ) (ds : List ℕ) → map (λ (e : Place × ℕ). e.0) (numbered css set n ds)
+numbered_places : (css set n : ℕ) (ds : List ℕ) → map (λ (e : Place × ℕ). e.0) (numbers_from css set n ds)
     ≡ map (λ d. record { css = css; set = set; device = d }) ds
 numbered_places css set n [] = refl
 numbered_places css set n (d ∷ ds) = ap (λ (ps : List Place). record { css = css; set = set; device = d } ∷ ps) (numbered_places css set (n + 1) ds)
@@ -31,19 +31,19 @@ numbered_places css set n (d ∷ ds) = ap (λ (ps : List Place). record { css = 
 module _ (c : Configuration) where
   -- the first numbers of a channel subsystem and set
   abbrev of_set : ℕ → ℕ → List (Place × ℕ)
-  of_set css set = numbered css set 0 (reached_in c css set)
+  of_set css set = numbers_from css set 0 (reached_devices c css set)
 
   -- the places of a channel subsystem and set that are reached
   abbrev places_of_set : ℕ → ℕ → List Place
-  places_of_set css set = map (λ d. record { css = css; set = set; device = d }) (reached_in c css set)
+  places_of_set css set = map (λ d. record { css = css; set = set; device = d }) (reached_devices c css set)
 
   -- the places that have a number at opening are those that are reached
-  opened_places : map (λ (e : Place × ℕ). e.0) (flat_map (λ css. flat_map (of_set css) sets) subsystems) ≡ reached_places c
-  opened_places =
+  places_at_opening : map (λ (e : Place × ℕ). e.0) (flat_map (λ css. flat_map (of_set css) sets) subsystems) ≡ reached_places c
+  places_at_opening =
       map-flat_map (λ (e : Place × ℕ). e.0) (λ css. flat_map (of_set css) sets) subsystems
       ∙ same_parts (λ css. map (λ (e : Place × ℕ). e.0) (flat_map (of_set css) sets)) (λ css. flat_map (places_of_set css) sets)
       (λ css. map-flat_map (λ (e : Place × ℕ). e.0) (of_set css) sets
-      ∙ same_parts (λ set. map (λ (e : Place × ℕ). e.0) (of_set css set)) (places_of_set css) (λ set. numbered_places css set 0 (reached_in c css set)) sets)
+      ∙ same_parts (λ set. map (λ (e : Place × ℕ). e.0) (of_set css set)) (places_of_set css) (λ set. numbered_places css set 0 (reached_devices c css set)) sets)
       subsystems
 
 -- at opening exactly the devices that are reached have a number
@@ -51,7 +51,7 @@ pub opening_exact : (c : Configuration) (p : Place) → contains_key (opening c)
 opening_exact c p =
     ap is_some (get-from_entries places_total (flat_map (λ css. flat_map (of_set c css) sets) subsystems) p)
     ∙ is_some-find place_cmp p (flat_map (λ css. flat_map (of_set c css) sets) subsystems)
-    ∙ ap (list_any (eq_by_cmp place_cmp p)) (opened_places c)
+    ∙ ap (list_any (eq_by_cmp place_cmp p)) (places_at_opening c)
 
 -- the numbers at opening are those of the configuration
 pub opening_are_numbers : OpeningAreNumbers

@@ -9,10 +9,10 @@ use Rattle.iocm_types.specs.Key.{key_cmp}
 use Rattle.iocm_types.specs.Place.{cell_cmp}
 use Rattle.iocm_types.specs.SubId.{sub_id_cmp}
 use Rattle.iocm_model.specs.Machine.Record.{Rec}
-use Rattle.iocm_model.specs.Change.Maps.{overwritten, cells_at, differing}
+use Rattle.iocm_model.specs.Change.Maps.{with_cells, cells_at, differing}
 use Rattle.iocm_model.specs.Machine.Numbering.{cells_of, numbering_of}
 use Rattle.iocm_model.specs.Operation.State.{State}
-use Rattle.iocm_model.specs.Change.Edit.{Edit, key_edited, edited, altered_between}
+use Rattle.iocm_model.specs.Change.Edit.{Edit, action_key, state_after, altered_between}
 
 -- cells of a state: keys of records, number cells, and subchannels
 pub record Cells : Type 0 where
@@ -30,12 +30,12 @@ pub record Effect : Type 0 where
 abbrev pub values_in : State → Cells → Effect
 values_in s w = record { records = cells_at s.config w.keys; numbers = cells_at (cells_of s.numbers) w.numbers; lives = cells_at s.lives w.subchannels }
 
--- what an effect means: overwrite these cells
-abbrev pub written : Effect → State → State
-written f s = record {
-  config = overwritten (entries f.records) s.config;
-  numbers = numbering_of (overwritten (entries f.numbers) (cells_of s.numbers));
-  lives = overwritten (entries f.lives) s.lives;
+-- the state with an effect: these cells are overwritten
+abbrev pub with_effect : Effect → State → State
+with_effect f s = record {
+  config = with_cells (entries f.records) s.config;
+  numbers = numbering_of (with_cells (entries f.numbers) (cells_of s.numbers));
+  lives = with_cells (entries f.lives) s.lives;
 }
 
 -- no cells; the cells of one and of another
@@ -47,8 +47,8 @@ both_cells v w = record { keys = v.keys ++ w.keys; numbers = v.numbers ++ w.numb
 
 -- the cells that an edit writes: its key, the number cells that it changes, and the subchannels that it alters
 abbrev pub cells_written : Edit → State → Cells
-cells_written e s = let t = edited e s in record {
-  keys = key_edited e.action ∷ [];
+cells_written e s = let t = state_after e s in record {
+  keys = action_key e.action ∷ [];
   numbers = differing ◌==◌ (cells_of s.numbers) (cells_of t.numbers);
   subchannels = altered_between s t;
 }

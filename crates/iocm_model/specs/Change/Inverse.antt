@@ -6,7 +6,7 @@ use Rattle.iocm_types.specs.declared.place.Place.{Place}
 use Rattle.iocm_model.specs.Machine.Record.{Rec}
 use Rattle.iocm_model.specs.Machine.Numbering.{Numbering}
 use Rattle.iocm_model.specs.Operation.State.{State}
-use Rattle.iocm_model.specs.Change.Edit.{Action, add, delete, modify, Edit, key_edited, record_after, edited, is_altered}
+use Rattle.iocm_model.specs.Change.Edit.{Action, add, delete, modify, Edit, action_key, record_after, state_after, is_altered}
 
 -- what brings the old record of a key back
 abbrev pub action_back : Key → Option Rec → Option Rec → Action
@@ -15,14 +15,14 @@ action_back key (Some old) None = add old
 action_back key None after = delete key
 
 -- the numbers that were freed, with the places that had them
-abbrev pub freed : Numbering → Numbering → List (Place × ℕ)
-freed before after = filter (λ (p : Place × ℕ). not (contains_key after p.0)) (entries before)
+abbrev pub freed_numbers : Numbering → Numbering → List (Place × ℕ)
+freed_numbers before after = filter (λ (p : Place × ℕ). not (contains_key after p.0)) (entries before)
 
 -- the inverse of an edit in a state: the old record, the numbers that were freed, and the live records that altered
 -- subchannels had
 abbrev pub inverse_of : Edit → State → Edit
-inverse_of e s = let t = edited e s in record {
-  action = action_back (key_edited e.action) (get s.config (key_edited e.action)) (record_after e.action);
-  places = freed s.numbers t.numbers;
-  kept = retain_keys s.lives (is_altered s t);
+inverse_of e s = let t = state_after e s in record {
+  action = action_back (action_key e.action) (get s.config (action_key e.action)) (record_after e.action);
+  places = freed_numbers s.numbers t.numbers;
+  lives = retain_keys s.lives (is_altered s t);
 }

@@ -11,9 +11,9 @@ module _ {K X : Type 0} {R : K → K → Ordering} where
   with_value m key None = remove m key
 
   -- a map with these cells overwritten, each by a value or by none; of one key the first counts
-  abbrev pub overwritten : List (K × Option X) → FinMap R X → FinMap R X
-  overwritten [] m = m
-  overwritten (w ∷ ws) m = with_value (overwritten ws m) w.0 w.1
+  abbrev pub with_cells : List (K × Option X) → FinMap R X → FinMap R X
+  with_cells [] m = m
+  with_cells (w ∷ ws) m = with_value (with_cells ws m) w.0 w.1
 
   -- what a map has at these keys, absent included
   abbrev pub cells_at : FinMap R X → List K → FinMap R (Option X)

@@ -5,8 +5,8 @@ use Rattle.iocm_types.specs.declared.refused.Refused.{Refused}
 use Rattle.iocm_types.specs.declared.rule.Rule.TheVariants.{C1, C2, E3}
 use Rattle.iocm_model.specs.Rules.FirstBreach.{Breach, first_breach}
 use Rattle.iocm_model.specs.Operation.State.{State}
-use Rattle.iocm_model.specs.Change.Edit.{Edit, edited}
-use Rattle.iocm_model.specs.Change.Refusal.{refused_at, refusal_of}
+use Rattle.iocm_model.specs.Change.Edit.{Edit, state_after}
+use Rattle.iocm_model.specs.Change.Refusal.{refusal_at, refusal_of}
 use Rattle.iocm_model.specs.Change.Tree.{ChangeTree, Parts, leaf, row, group, choose, none, part, leaves_of, depth_of, nodes_of, most_depth, most_leaves}
 
 -- what was done: the state that was reached, and the edits that were performed, in order
@@ -28,7 +28,7 @@ at_node n why = record why { node = Some n }
 -- a leaf: its refusal names the node; else the edit is performed
 abbrev pub unless_refused : Option Refused → ℕ → Edit → State → Outcome
 unless_refused (Some why) n e s = Err (at_node n why)
-unless_refused None n e s = Ok (record { state = edited e s; edits = e ∷ [] })
+unless_refused None n e s = Ok (record { state = state_after e s; edits = e ∷ [] })
 
 -- what was done before, too
 abbrev pub after_run : Performed → Outcome → Outcome
@@ -51,13 +51,13 @@ unless_broken (Some b) n r = Err (record { rule = b.rule; node = Some n; at = Ke
 unless_broken None n r = Ok r
 
 -- the rules hold where this node ends
-abbrev pub checked : ℕ → Outcome → Outcome
-checked n (Ok r) = unless_broken (first_breach r.state.config r.state.numbers) n r
-checked n (Err why) = Err why
+abbrev pub if_rules_hold : ℕ → Outcome → Outcome
+if_rules_hold n (Ok r) = unless_broken (first_breach r.state.config r.state.numbers) n r
+if_rules_hold n (Err why) = Err why
 
 -- E3: a Choose without parts
 abbrev pub without_parts : ℕ → Refused
-without_parts n = at_node n (refused_at E3 Nothing)
+without_parts n = at_node n (refusal_at E3 Nothing)
 
 abbrev mutual
   -- a tree whose first node has this number. A Row performs its parts in order, all or none; after a Group the rules hold; a
@@ -65,7 +65,7 @@ abbrev mutual
   pub node_meaning : ChangeTree → ℕ → State → Outcome
   node_meaning (leaf e) n s = unless_refused (refusal_of e s) n e s
   node_meaning (row ps) n s = parts_meaning ps (n + 1) s
-  node_meaning (group ps) n s = checked n (parts_meaning ps (n + 1) s)
+  node_meaning (group ps) n s = if_rules_hold n (parts_meaning ps (n + 1) s)
   node_meaning (choose ps) n s = choice_meaning ps (n + 1) (without_parts n) s
 
   -- parts in order: the first refusal is the answer
@@ -76,14 +76,14 @@ abbrev mutual
   -- the first part that is accepted; where there is none, the last refusal
   pub choice_meaning : Parts → ℕ → Refused → State → Outcome
   choice_meaning none n last s = Err last
-  choice_meaning (part p ps) n last s = or_else (checked n (node_meaning p n s)) (λ why. choice_meaning ps (n + nodes_of p) why s)
+  choice_meaning (part p ps) n last s = or_else (if_rules_hold n (node_meaning p n s)) (λ why. choice_meaning ps (n + nodes_of p) why s)
 
 -- a whole tree: the limits on depth (C1) and leaves (C2), then the root, then the rules
 abbrev pub meaning : ChangeTree → State → Outcome
 meaning p s =
-    if nat_lt most_depth (depth_of p) then Err (refused_at C1 Nothing)
-    else if nat_lt most_leaves (leaves_of p) then Err (refused_at C2 Nothing)
-    else checked 0 (node_meaning p 0 s)
+    if nat_lt most_depth (depth_of p) then Err (refusal_at C1 Nothing)
+    else if nat_lt most_leaves (leaves_of p) then Err (refusal_at C2 Nothing)
+    else if_rules_hold 0 (node_meaning p 0 s)
 
 -- the state that was reached, if the tree was accepted
 abbrev pub state_reached : Outcome → Option State

@@ -17,18 +17,18 @@ use Rattle.iocm_model.specs.Machine.Numbering.{Numbering}
 use Rattle.iocm_model.specs.Change.Renumbering.{comes_in, without_leavers}
 use Rattle.iocm_model.specs.Operation.Orders.{is_quiet}
 use Rattle.iocm_model.specs.Operation.State.{State, Lives, is_among}
-use Rattle.iocm_model.specs.Change.Edit.{Action, add, delete, modify, Edit, key_edited, config_edited, altered_by}
+use Rattle.iocm_model.specs.Change.Edit.{Action, add, delete, modify, Edit, action_key, config_after, altered_by}
 
 -- a refusal that names no node of a tree
-abbrev pub refused_at : Rule → At → Refused
-refused_at rule at = record { rule = rule; node = None; at = at }
+abbrev pub refusal_at : Rule → At → Refused
+refusal_at rule at = record { rule = rule; node = None; at = at }
 
 -- E1 a key that is there on add, E2 one that isn't on delete or modify
-abbrev pub refused_by_key : Action → Bool → Option Refused
-refused_by_key (add r) true = Some (refused_at E1 (Key (key_of r)))
-refused_by_key (delete key) false = Some (refused_at E2 (Key key))
-refused_by_key (modify r) false = Some (refused_at E2 (Key (key_of r)))
-refused_by_key _ _ = None
+abbrev pub refusal_by_key : Action → Bool → Option Refused
+refusal_by_key (add r) true = Some (refusal_at E1 (Key (key_of r)))
+refusal_by_key (delete key) false = Some (refusal_at E2 (Key key))
+refusal_by_key (modify r) false = Some (refusal_at E2 (Key (key_of r)))
+refusal_by_key _ _ = None
 
 -- one number of one channel subsystem and set
 abbrev pub same_cell : Place × ℕ → Place × ℕ → Bool
@@ -58,12 +58,12 @@ abbrev pub first_not_quiet : Lives → List SubId → Option SubId
 first_not_quiet lives xs = find (λ x. is_not_quiet (get lives x)) xs
 
 -- B1 names the subchannel
-abbrev pub refused_by_subchannel : Option SubId → Option Refused
-refused_by_subchannel found = option_map (λ x. refused_at B1 (Subchannel x)) found
+abbrev pub refusal_by_subchannel : Option SubId → Option Refused
+refusal_by_subchannel found = option_map (λ x. refusal_at B1 (Subchannel x)) found
 
 -- why an edit is refused in a state, if it is: E1 or E2, then E4, then B1 with the least altered subchannel that isn't quiet
 abbrev pub refusal_of : Edit → State → Option Refused
 refusal_of e s =
-    option_or (refused_by_key e.action (contains_key s.config (key_edited e.action)))
-    (option_or (if is_number_taken (config_edited e.action s.config) s.numbers e.places then Some (refused_at E4 (Key (key_edited e.action))) else None)
-    (refused_by_subchannel (first_not_quiet s.lives (altered_by e s))))
+    option_or (refusal_by_key e.action (contains_key s.config (action_key e.action)))
+    (option_or (if is_number_taken (config_after e.action s.config) s.numbers e.places then Some (refusal_at E4 (Key (action_key e.action))) else None)
+    (refusal_by_subchannel (first_not_quiet s.lives (altered_by e s))))

@@ -38,5 +38,5 @@ with_lowest n p = if contains_key n p then n else insert n p (lowest_free n p.cs
 
 -- the numbers after the configuration has become c: leavers, then carried places, then the rest in order of device
 -- number, which avoid the places just carried
-abbrev pub renumbered : Configuration → List (Place × ℕ) → Numbering → Numbering
-renumbered c carried n = fold with_lowest (fold (with_carried c) (without_leavers c n) carried) (reached_places c)
+abbrev pub numbers_after : Configuration → List (Place × ℕ) → Numbering → Numbering
+numbers_after c carried n = fold with_lowest (fold (with_carried c) (without_leavers c n) carried) (reached_places c)

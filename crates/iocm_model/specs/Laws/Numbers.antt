@@ -2,14 +2,14 @@
 use Rattle.std.specs.Prelude.{◌≡◌, ℕ, ◌<◌, nat_eq, Bool, true, false, length, List, Some, None}
 use Rattle.std.specs.List.{list_any}
 use Rattle.iocm_model.specs.Machine.Numbering.{Numbering, is_record_reached, is_reached_at, opening, cells_of, numbering_of, AreNumbersOf}
-use Rattle.iocm_model.specs.Change.Renumbering.{numbers_in, lowest_free, renumbered}
+use Rattle.iocm_model.specs.Change.Renumbering.{numbers_in, lowest_free, numbers_after}
 use Rattle.std.specs.FinMap.{get, contains_key, find}
 use Rattle.iocm_types.specs.declared.place.Place.{Place}
 use Rattle.iocm_types.specs.declared.key.Key.TheVariants.{Device}
 use Rattle.iocm_types.specs.Place.{place_cmp}
 use Rattle.iocm_model.specs.Machine.Configuration.{Configuration, IsKeyed, lookup_of}
 use Rattle.iocm_model.specs.Change.Refusal.{is_number_taken}
-use Rattle.iocm_model.specs.Change.Inverse.{freed}
+use Rattle.iocm_model.specs.Change.Inverse.{freed_numbers}
 
 -- whether a number is given away in a channel subsystem and set
 abbrev pub is_used : Numbering → ℕ → ℕ → ℕ → Bool
@@ -28,34 +28,34 @@ abbrev pub LowestFreeIsFound : Type 0
 LowestFreeIsFound = (n : Numbering) (css set most : ℕ) → length (numbers_in n css set) < most → lowest_free n css set < most
 
 -- exactly the devices that the new configuration reaches have a number
-abbrev pub RenumberedAreExact : Type 0
-RenumberedAreExact = (c : Configuration) (carried : List (Place × ℕ)) (n : Numbering) (p : Place)
-    → contains_key (renumbered c carried n) p ≡ is_reached_at c p
+abbrev pub NumbersAfterAreExact : Type 0
+NumbersAfterAreExact = (c : Configuration) (carried : List (Place × ℕ)) (n : Numbering) (p : Place)
+    → contains_key (numbers_after c carried n) p ≡ is_reached_at c p
 
 -- those that stay keep theirs
 abbrev pub StayersKeepTheirs : Type 0
 StayersKeepTheirs = (c : Configuration) (carried : List (Place × ℕ)) (n : Numbering) (p : Place) (number : ℕ)
-    → is_reached_at c p ≡ true → get n p ≡ Some number → get (renumbered c carried n) p ≡ Some number
+    → is_reached_at c p ≡ true → get n p ≡ Some number → get (numbers_after c carried n) p ≡ Some number
 
 -- those that come in with a carried place get it; of several for one place the first counts
 abbrev pub CarriedComeBack : Type 0
 CarriedComeBack = (c : Configuration) (carried : List (Place × ℕ)) (n : Numbering) (p : Place) (number : ℕ)
-    → is_reached_at c p ≡ true → get n p ≡ None → find place_cmp p carried ≡ Some number → get (renumbered c carried n) p ≡ Some number
+    → is_reached_at c p ≡ true → get n p ≡ None → find place_cmp p carried ≡ Some number → get (numbers_after c carried n) p ≡ Some number
 
 -- no number comes twice, where none did before and no carried number is taken: they are numbers of the new configuration
-abbrev pub RenumberedAreNumbers : Type 0
-RenumberedAreNumbers = (before after : Configuration) (carried : List (Place × ℕ)) (n : Numbering) → AreNumbersOf before n
-    → is_number_taken after n carried ≡ false → AreNumbersOf after (renumbered after carried n)
+abbrev pub NumbersAfterAreNumbers : Type 0
+NumbersAfterAreNumbers = (before after : Configuration) (carried : List (Place × ℕ)) (n : Numbering) → AreNumbersOf before n
+    → is_number_taken after n carried ≡ false → AreNumbersOf after (numbers_after after carried n)
 
 -- with the places that were freed the old numbers come back, whatever was carried
 abbrev pub RenumberingGoesBack : Type 0
 RenumberingGoesBack = (before after : Configuration) (carried : List (Place × ℕ)) (n : Numbering) → AreNumbersOf before n
-    → let there = renumbered after carried n in renumbered before (freed n there) there ≡ n
+    → let there = numbers_after after carried n in numbers_after before (freed_numbers n there) there ≡ n
 
 -- none of the places that were freed is taken when the change is taken back
 abbrev pub FreedAreNotTaken : Type 0
 FreedAreNotTaken = (before after : Configuration) (carried : List (Place × ℕ)) (n : Numbering) → AreNumbersOf before n
-    → let there = renumbered after carried n in is_number_taken before there (freed n there) ≡ false
+    → let there = numbers_after after carried n in is_number_taken before there (freed_numbers n there) ≡ false
 
 -- the numbers at opening are those of the configuration
 abbrev pub OpeningAreNumbers : Type 0

@@ -3,7 +3,7 @@ use Rattle.std.specs.Prelude.{◌≤◌, ◌*◌, ◌≡◌, None, Ok}
 use Rattle.iocm_model.specs.Change.Tree.{ChangeTree, leaves_of, depth_of, nodes_of}
 use Rattle.iocm_model.specs.Rules.FirstBreach.{first_breach}
 use Rattle.iocm_model.specs.Operation.State.{State, IsSound}
-use Rattle.iocm_model.specs.Change.Runs.{edited_by_all, AreAccepted}
+use Rattle.iocm_model.specs.Change.Runs.{state_after_all, AreAccepted}
 use Rattle.iocm_model.specs.Change.Meaning.{Performed, meaning}
 use Rattle.iocm_model.specs.Change.InverseTree.{inverse_tree, TakesBack}
 
@@ -17,9 +17,9 @@ KeepsTheRules s = first_breach s.config s.numbers ≡ None
 
 -- an accepted tree performs edits that are accepted one after the other, and leaves a state in which the rules hold
 pub record IsRunFrom (s : State) (r : Performed) : Type 0 where
-  pub state : r.state ≡ edited_by_all r.edits s
+  pub state : r.state ≡ state_after_all r.edits s
   pub accepted : AreAccepted r.edits s
-  pub kept : KeepsTheRules r.state
+  pub rules : KeepsTheRules r.state
 
 abbrev pub AcceptedTreesAreRuns : Type 0
 AcceptedTreesAreRuns = (p : ChangeTree) (s : State) (r : Performed) → meaning p s ≡ Ok r → IsRunFrom s r

@@ -36,26 +36,26 @@ is_record_reached c css (Some (device d)) = is_reached c css d
 is_record_reached c css _ = false
 
 -- the devices of a set that are reached, in the order of their numbers
-abbrev pub reached_in : Configuration → ℕ → ℕ → List ℕ
-reached_in c css set =
+abbrev pub reached_devices : Configuration → ℕ → ℕ → List ℕ
+reached_devices c css set =
     map (λ (d : DeviceRecord). d.number) (filter (λ (d : DeviceRecord). d.set == set && is_reached (lookup_of c) css d) (devices_of c))
 
 -- the places of all devices that are reached, by channel subsystem, set and device number
 abbrev pub reached_places : Configuration → List Place
-reached_places c = flat_map (λ css. flat_map (λ set. map (λ d. record { css = css; set = set; device = d }) (reached_in c css set)) sets) subsystems
+reached_places c = flat_map (λ css. flat_map (λ set. map (λ d. record { css = css; set = set; device = d }) (reached_devices c css set)) sets) subsystems
 
 -- whether a place is that of a device that is reached
 abbrev pub is_reached_at : Configuration → Place → Bool
 is_reached_at c p = list_any (eq_by_cmp place_cmp p) (reached_places c)
 
 -- numbers from n on, one after the other
-abbrev pub numbered : ℕ → ℕ → ℕ → List ℕ → List (Place × ℕ)
-numbered css set n [] = []
-numbered css set n (d ∷ ds) = (record { css = css; set = set; device = d }, n) ∷ numbered css set (n + 1) ds
+abbrev pub numbers_from : ℕ → ℕ → ℕ → List ℕ → List (Place × ℕ)
+numbers_from css set n [] = []
+numbers_from css set n (d ∷ ds) = (record { css = css; set = set; device = d }, n) ∷ numbers_from css set (n + 1) ds
 
 -- at opening: 0, 1, 2, .. in order of device number, in each channel subsystem and set
 abbrev pub opening : Configuration → Numbering
-opening c = from_entries (flat_map (λ css. flat_map (λ set. numbered css set 0 (reached_in c css set)) sets) subsystems)
+opening c = from_entries (flat_map (λ css. flat_map (λ set. numbers_from css set 0 (reached_devices c css set)) sets) subsystems)
 
 -- the number cells: which device each number is
 abbrev pub cells_of : Numbering → FinMap cell_cmp ℕ

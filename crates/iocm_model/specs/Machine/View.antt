@@ -10,7 +10,7 @@ use Rattle.iocm_types.specs.declared.place.NumberCell.{NumberCell}
 use Rattle.iocm_types.specs.SubId.{sub_id_cmp}
 use Rattle.iocm_types.specs.declared.key.Key.TheVariants.{Image, Device}
 use Rattle.iocm_model.specs.Machine.Record.{ImageRecord, DeviceRecord}
-use Rattle.iocm_model.specs.Machine.Configuration.{Configuration, Lookup, lookup_of, images_of, image_of, device_of}
+use Rattle.iocm_model.specs.Machine.Configuration.{Configuration, Lookup, lookup_of, images_of, as_image, as_device}
 use Rattle.iocm_model.specs.Machine.PathList.{view_paths}
 use Rattle.iocm_model.specs.Machine.Sight.{sees}
 use Rattle.iocm_model.specs.Machine.Mask.{installed, available}
@@ -27,7 +27,7 @@ view_if_seen c css name d = if sees c css name d then Some (view_of c css name d
 
 -- the device record of a device number in a set, if there is one
 abbrev pub device_record : Lookup → ℕ → ℕ → Option DeviceRecord
-device_record c set number = option_and_then device_of (c (Device set number))
+device_record c set number = option_and_then as_device (c (Device set number))
 
 -- what an image sees of the device of a set
 abbrev pub image_view : Lookup → ImageRecord → ℕ → ℕ → Option View
@@ -38,7 +38,7 @@ abbrev pub view_at : Configuration → Numbering → SubId → Option View
 view_at c n s = let at = lookup_of c in
     option_and_then (λ (i : ImageRecord). option_and_then (image_view at i s.set)
     (device_at n (record { css = s.image.css; set = s.set; number = s.number })))
-    (option_and_then image_of (at (Image s.image.css s.image.mif)))
+    (option_and_then as_image (at (Image s.image.css s.image.mif)))
 
 -- the subchannel of an image at a number cell, with its view, if there is one
 abbrev pub row_at : Lookup → ImageRecord → NumberCell × ℕ → Option (SubId × View)

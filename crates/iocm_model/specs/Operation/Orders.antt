@@ -87,32 +87,32 @@ code_of o v l =
     else 0
 
 -- what an order with condition code 0 answers
-abbrev pub accepted : Order → View → Live → Io
-accepted Test v l = Status (bits_of l.phase)
-accepted Store v l = Stored (record { device = v.device; pim = v.pim; pam = v.pam; lpm = l.lpm; enabled = l.enabled; parm = l.parm; bits = bits_of l.phase })
-accepted _ v l = Code 0
+abbrev pub answer_if_accepted : Order → View → Live → Io
+answer_if_accepted Test v l = Status (bits_of l.phase)
+answer_if_accepted Store v l = Stored (record { device = v.device; pim = v.pim; pam = v.pam; lpm = l.lpm; enabled = l.enabled; parm = l.parm; bits = bits_of l.phase })
+answer_if_accepted _ v l = Code 0
 
 -- what it leaves
-abbrev pub performed : Order → Live → Live
-performed Start l = record l { phase = Busy function.Start }
-performed Halt l = record l { phase = Busy function.Halt }
-performed Clear l = record l { phase = Busy function.Clear }
-performed Test l = record l { phase = Idle }
-performed (Modify s) l = record l { enabled = s.enabled; lpm = s.lpm; parm = s.parm }
-performed Store l = l
+abbrev pub live_if_accepted : Order → Live → Live
+live_if_accepted Start l = record l { phase = Busy function.Start }
+live_if_accepted Halt l = record l { phase = Busy function.Halt }
+live_if_accepted Clear l = record l { phase = Busy function.Clear }
+live_if_accepted Test l = record l { phase = Idle }
+live_if_accepted (Modify s) l = record l { enabled = s.enabled; lpm = s.lpm; parm = s.parm }
+live_if_accepted Store l = l
 
 -- the answer to an order, and what it leaves, where the subchannel has a view
 abbrev pub answer_of : Order → View → Live → Io
-answer_of o v l = let code = code_of o v l in if code == 0 then accepted o v l else Code code
+answer_of o v l = let code = code_of o v l in if code == 0 then answer_if_accepted o v l else Code code
 
 abbrev pub live_after : Order → View → Live → Live
-live_after o v l = if code_of o v l == 0 then performed o l else l
+live_after o v l = if code_of o v l == 0 then live_if_accepted o l else l
 
 -- a device end turns a function in progress into its pending status, and else changes nothing
-abbrev pub ended_phase : Phase → Phase
-ended_phase (Busy f) = Pending f
-ended_phase Idle = Idle
-ended_phase (Pending f) = Pending f
+abbrev pub phase_after_device_end : Phase → Phase
+phase_after_device_end (Busy f) = Pending f
+phase_after_device_end Idle = Idle
+phase_after_device_end (Pending f) = Pending f
 
-abbrev pub ended : Live → Live
-ended l = record l { phase = ended_phase l.phase }
+abbrev pub live_after_device_end : Live → Live
+live_after_device_end l = record l { phase = phase_after_device_end l.phase }

@@ -11,7 +11,7 @@ use Rattle.iocm_types.specs.declared.answer.Answer.{Answer}
 use Rattle.iocm_types.specs.declared.answer.Answer.TheVariants as answers
 use Rattle.iocm_types.specs.declared.sub_id.SubId.{SubId}
 use Rattle.iocm_types.specs.declared.view.View.{View}
-use Rattle.iocm_model.specs.Operation.Orders.{is_busy, answer_of, live_after, ended}
+use Rattle.iocm_model.specs.Operation.Orders.{is_busy, answer_of, live_after, live_after_device_end}
 use Rattle.iocm_model.specs.Operation.State.{State, Lives, seen_in}
 
 -- a step
@@ -42,14 +42,14 @@ abbrev pub answer_in : State → SubId → Step → Answer
 answer_in s x step = step_answer step (subchannel_in s x)
 
 -- what a step leaves at its subchannel, if it is there
-abbrev pub live_stepped : Step → View → Live → Live
-live_stepped (order o) v l = live_after o v l
-live_stepped device_end v l = ended l
+abbrev pub live_after_step : Step → View → Live → Live
+live_after_step (order o) v l = live_after o v l
+live_after_step device_end v l = live_after_device_end l
 
-abbrev pub lives_stepped : SubId → Step → Option (View × Live) → Lives → Lives
-lives_stepped x step (Some p) lives = insert lives x (live_stepped step p.0 p.1)
-lives_stepped x step None lives = lives
+abbrev pub lives_after_step : SubId → Step → Option (View × Live) → Lives → Lives
+lives_after_step x step (Some p) lives = insert lives x (live_after_step step p.0 p.1)
+lives_after_step x step None lives = lives
 
 -- the state after a step at a subchannel
-abbrev pub stepped : SubId → Step → State → State
-stepped x step s = record s { lives = lives_stepped x step (subchannel_in s x) s.lives }
+abbrev pub after_step : SubId → Step → State → State
+after_step x step s = record s { lives = lives_after_step x step (subchannel_in s x) s.lives }

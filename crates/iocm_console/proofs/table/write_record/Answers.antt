@@ -1,7 +1,7 @@
 use Rattle.std.proofs.Common.{refl, sym, ◌∙◌, ap}
 use Rattle.std.proofs.lemmas.Result.{on_ok_weaker}
 use Rattle.iocm_records.specs.Meaning.{record_of}
-use Rattle.iocm_model.specs.Machine.Configuration.{image_of}
+use Rattle.iocm_model.specs.Machine.Configuration.{as_image}
 use Rattle.iocm_console.proofs.Printing.{appends_as, appends_nothing}
 use Rattle.iocm_console.proofs.Rows.{record_lines-image, record_lines-other, no_image}
 use Rattle.iocm_console.proofs.table.write_record.Goals as goal
@@ -12,7 +12,7 @@ returns-in-Image-clause-text g c = on_ok_weaker c.write_image.result (λ h. appe
 pub returns-in_default : goal.returns-in_default
 returns-in_default g c = record {
   text = appends_as _ _ _ _ (appends_nothing _)
-      (sym (record_lines-other _ _ _ (ap image_of (sym c.body.ensures) ∙ no_image c.body.result.now c.in_default.not-Image)));
+      (sym (record_lines-other _ _ _ (ap as_image (sym c.body.ensures) ∙ no_image c.body.result.now c.in_default.not-Image)));
   works = refl;
   fault = tt;
 }

@@ -2,7 +2,7 @@
 use Rattle.std.proofs.Common.{List, subst}
 use Rattle.iocm_model.specs.Machine.Record.{Rec}
 use Rattle.iocm_model.specs.Machine.Configuration.{lookup_of}
-use Rattle.iocm_model.specs.Machine.Numbering.{numbered}
+use Rattle.iocm_model.specs.Machine.Numbering.{numbers_from}
 use Rattle.iocm_derive.specs.FirstNumbers.{IsMore, reached_among}
 use Rattle.iocm_derive.proofs.OneByOne.{start_new, next_new, below_later, kept_over, more_opened, more_past, walked}
 use Rattle.iocm_derive.proofs.first_numbers.number_set.Goals as goal
@@ -34,7 +34,7 @@ loop-entry-preserved g c =
 
 pub returns-clause-more : goal.returns-clause-more
 returns-clause-more g c =
-    subst (λ (xs : List Rec). IsMore c.args.numbers.now.numbers (numbered c.args.css c.args.set 0 (reached_among (lookup_of c.args.config.now.records) c.args.css c.args.set xs)) c.loop-entry.numbers.numbers)
+    subst (λ (xs : List Rec). IsMore c.args.numbers.now.numbers (numbers_from c.args.css c.args.set 0 (reached_among (lookup_of c.args.config.now.records) c.args.css c.args.set xs)) c.loop-entry.numbers.numbers)
     (walked c.walk-entry-items.result.now c.args.config.now.records c.walk-entry-items.ensures)
     (c.loop-entry.invariant.more c.loop-entry.numbers.numbers
     (more_past (lookup_of c.args.config.now.records) c.args.css c.args.set c.loop-entry.next c.loop-entry.numbers.numbers c.walk-entry-items.result.now c.loop-entry.entry-index c.loop-entry-test.false))

@@ -3,13 +3,13 @@ use Rattle.std.proofs.Common.{ℕ, List, subst, refl, arith, []}
 use Rattle.std.specs.List.{flat_map}
 use Rattle.iocm_types.specs.declared.place.Place.{Place}
 use Rattle.iocm_model.specs.Machine.Configuration.{Configuration}
-use Rattle.iocm_model.specs.Machine.Numbering.{Numbering, numbered, reached_in}
+use Rattle.iocm_model.specs.Machine.Numbering.{Numbering, numbers_from, reached_devices}
 use Rattle.iocm_derive.specs.FirstNumbers.{IsMore, sets, subsystems}
 use Rattle.iocm_derive.proofs.SetBySet.{subsystem_at, more_part, more_end, empty_unnumbered}
 use Rattle.iocm_derive.proofs.first_numbers.opening.Goals as goal
 
 abbrev of_subsystem : Configuration → ℕ → List (Place × ℕ)
-of_subsystem m css = flat_map (λ set. numbered css set 0 (reached_in m css set)) sets
+of_subsystem m css = flat_map (λ set. numbers_from css set 0 (reached_devices m css set)) sets
 
 pub loop-number-init : goal.loop-number-init
 loop-number-init g c = record {

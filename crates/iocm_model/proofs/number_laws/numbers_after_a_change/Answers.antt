@@ -1,9 +1,9 @@
 -- The laws are proved of the definitions.
-use Rattle.iocm_model.proofs.Numbers.Changed.{renumbered_are_exact, stayers_keep_theirs, carried_come_back}
+use Rattle.iocm_model.proofs.Numbers.Changed.{numbers_after_are_exact, stayers_keep_theirs, carried_come_back}
 use Rattle.iocm_model.proofs.number_laws.numbers_after_a_change.Goals as goal
 
 pub returns-clause-exact : goal.returns-clause-exact
-returns-clause-exact c = renumbered_are_exact
+returns-clause-exact c = numbers_after_are_exact
 
 pub returns-clause-stay : goal.returns-clause-stay
 returns-clause-stay c = stayers_keep_theirs
