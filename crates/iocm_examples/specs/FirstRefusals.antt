@@ -28,7 +28,7 @@ turned_on_both = unit (record {
 
 -- it is modified so, and these places come along with their numbers
 abbrev pub turned_with : List (Place × ℕ) → Edit
-turned_with places = record { action = modify turned_on_both; places = places; kept = empty }
+turned_with places = record { action = modify turned_on_both; places = places; lives = empty }
 
 -- one number for two devices of one channel subsystem and set
 abbrev pub one_for_two : List (Place × ℕ)

@@ -4,7 +4,7 @@ use Rattle.iocm_types.specs.Key.{key_cmp}
 use Rattle.iocm_types.specs.Place.{place_cmp}
 use Rattle.iocm_types.proofs.KeyOrder.{places_total, places_exact}
 use Rattle.iocm_model.specs.Machine.Record.{Rec, limit}
-use Rattle.iocm_model.specs.Machine.Configuration.{configuration_of, keyed}
+use Rattle.iocm_model.specs.Machine.Configuration.{configuration_of, with_keys}
 use Rattle.iocm_examples.specs.DefaultLimits.{deck_of_set, number_of_2000, numbering_of_2000, breach_with, Holds, LimitsOfSets}
 use Rattle.iocm_examples.proofs.OnLists.{states_on_lists}
 use Rattle.iocm_examples.proofs.Listed.Maps.{put_all, entries-from_entries}
@@ -13,7 +13,7 @@ use Rattle.iocm_examples.proofs.Listed.Views.{entries-configuration_of}
 
 -- the first breach with a number
 breach_is : (rs : List Rec) (set number : ℕ)
-    → breach_with rs set number ≡ first_breach_listed (put_all key_cmp (keyed rs)) (put_all place_cmp (number_of_2000 set number))
+    → breach_with rs set number ≡ first_breach_listed (put_all key_cmp (with_keys rs)) (put_all place_cmp (number_of_2000 set number))
 breach_is rs set number = first_breach_seen (configuration_of rs) (numbering_of_2000 set number)
     ∙ (λ i. first_breach_listed (entries-configuration_of rs i) (entries-from_entries places_total places_exact (number_of_2000 set number) i))
 

@@ -23,7 +23,7 @@ second_started_is = started_is (subchannel 1 0) second_opened second_listing sec
 
 -- the edit on lists
 abbrev turned_listed : List (Place × ℕ) → ListedEdit
-turned_listed places = record { action = modify turned_on_both; places = places; kept = [] }
+turned_listed places = record { action = modify turned_on_both; places = places; lives = [] }
 
 pub a_number_for_two : ANumberForTwo
 unfolding on_lists second_listing second_started_listing

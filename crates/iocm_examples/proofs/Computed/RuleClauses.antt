@@ -3,7 +3,7 @@ use Rattle.std.proofs.Common.{◌≡◌, ◌∙◌, List, Bool, [], ◌∷◌, N
 use Rattle.iocm_types.specs.declared.path_kind.PathKind.TheVariants.{Dedicated, Shared}
 use Rattle.iocm_types.specs.Key.{key_cmp}
 use Rattle.iocm_model.specs.Machine.Record.{Rec}
-use Rattle.iocm_model.specs.Machine.Configuration.{configuration_of, keyed, lookup_of, records_of}
+use Rattle.iocm_model.specs.Machine.Configuration.{configuration_of, with_keys, lookup_of, records_of}
 use Rattle.iocm_model.specs.Rules.EachRule.{breaks_v4}
 use Rattle.iocm_examples.specs.BaseDeck.{lpa, lpb, online_record}
 use Rattle.iocm_examples.specs.Rules.{unit_with}
@@ -42,7 +42,7 @@ abbrev v4_listed : Records → Rec → Bool
 v4_listed es r = v4_by (record_in es) (map (λ e. e.1) es) r
 
 -- V4 of records
-v4_of_records : (rs : List Rec) (r : Rec) → breaks_v4 (configuration_of rs) r ≡ v4_listed (put_all key_cmp (keyed rs)) r
+v4_of_records : (rs : List Rec) (r : Rec) → breaks_v4 (configuration_of rs) r ≡ v4_listed (put_all key_cmp (with_keys rs)) r
 v4_of_records rs r = (λ i. v4_by (lookup_seen (configuration_of rs) i) (records_of (configuration_of rs)) r)
     ∙ (λ i. v4_listed (entries-configuration_of rs i) r)
 
