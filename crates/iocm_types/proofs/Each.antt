@@ -1,16 +1,14 @@
 -- The steps of a loop that reads a list item by item: what was gathered, with what the rest gives, is what all gives.
-use Rattle.std.proofs.Common.{◌≡◌, ℕ, ◌+◌, ◌<◌, ◌≤◌, List, [], ◌∷◌, ◌++◌, length, get_or, drop, Result, Ok, Err, refl, sym, ap, append_assoc, add-one, drop-cons}
+use Rattle.std.proofs.Common.{◌≡◌, ℕ, ◌+◌, ◌<◌, ◌≤◌, List, [], ◌∷◌, ◌++◌, length, get_or, drop, Result, Ok, Err, refl, sym, ap, append_assoc}
 use Rattle.std.proofs.Math.ListN.{drop_of_length-le}
 use Rattle.std.proofs.lemmas.List.{append-nil}
 use Rattle.iocm_types.specs.declared.fault.Fault.{Fault}
 use Rattle.iocm_types.specs.Fault.{◌>>=◌}
 use Rattle.iocm_types.specs.Each.{each, after_front}
+use Rattle.iocm_types.proofs.Lists.{drop-item}
 
--- the list from place i on begins with the item there
-opened : {A : Type 0} (xs : List A) (i : ℕ) (x : A) → i < length xs → x ≡ get_or xs i x → drop i xs ≡ x ∷ drop (i + 1) xs
-opened xs i x within item = rw (add-one, drop-cons xs i x within, ← item) refl
-
-front_grows : {B : Type 0} (front : List B) (y : B) (rest : Result (List B) Fault)
+-- an item behind what was gathered is in front of what the rest gives
+pub front_grows : {B : Type 0} (front : List B) (y : B) (rest : Result (List B) Fault)
     → after_front front (rest >>= λ ys. Ok (y ∷ ys)) ≡ after_front (front ++ y ∷ []) rest
 front_grows front y (Ok ys) = ap Ok (sym (append_assoc front (y ∷ []) ys))
 front_grows front y (Err e) = refl
@@ -21,14 +19,14 @@ pub each_goes_on : {A B : Type 0} (read : ℕ → A → Result B Fault) (front :
     → after_front front (each read i (drop i xs)) ≡ after_front (front ++ y ∷ []) (each read (i + 1) (drop (i + 1) xs))
 unfolding each
 each_goes_on read front xs i x y within item is =
-    rw (opened xs i x within item, is) (front_grows front y (each read (i + 1) (drop (i + 1) xs)))
+    rw (drop-item xs i x within item, is) (front_grows front y (each read (i + 1) (drop (i + 1) xs)))
 
 -- an item that is refused is the answer
 pub each_fails : {A B : Type 0} (read : ℕ → A → Result B Fault) (front : List B) (xs : List A) (i : ℕ) (x : A) (f : Fault)
     → i < length xs → x ≡ get_or xs i x → read i x ≡ Err f
     → after_front front (each read i (drop i xs)) ≡ Err f
 unfolding each
-each_fails read front xs i x f within item is = rw (opened xs i x within item, is) refl
+each_fails read front xs i x f within item is = rw (drop-item xs i x within item, is) refl
 
 -- at the end what was gathered is the answer
 pub each_done : {A B : Type 0} (read : ℕ → A → Result B Fault) (front : List B) (xs : List A) (i : ℕ)

@@ -16,6 +16,7 @@ use Rattle.iocm_types.specs.declared.sub_id.SubId.{SubId}
 use Rattle.iocm_types.specs.SubId.{image_cmp, sub_id_cmp}
 use Rattle.iocm_types.specs.Key.{numbers_of, key_cmp}
 use Rattle.iocm_types.specs.Place.{place_cmp, cell_cmp}
+use Rattle.iocm_types.proofs.Orderings.{first_ties, second_ties}
 use Rattle.iocm_types.specs.contracts.key.KeyOrd.TheImpl as of_keys
 use Rattle.iocm_types.specs.contracts.place.PlaceOrd.TheImpl as of_places
 use Rattle.iocm_types.specs.contracts.place.NumberCellOrd.TheImpl as of_cells
@@ -68,16 +69,6 @@ key_back (Online css path name) = refl
 pub keys_exact : IsAntisymmetric key_cmp
 keys_exact x y e =
     sym (key_back x) ∙ ap key_by (slice_cmp-IsAntisymmetric nat_cmp-IsAntisymmetric (numbers_of x) (numbers_of y) e) ∙ key_back y
-
-first_ties : (r s : Ordering) → ordering_then r s ≡ Equal → r ≡ Equal
-first_ties Less s e = e
-first_ties Equal s e = refl
-first_ties Greater s e = e
-
-second_ties : (r s : Ordering) → ordering_then r s ≡ Equal → s ≡ Equal
-second_ties Less s e = cc
-second_ties Equal s e = e
-second_ties Greater s e = cc
 
 same_numbers : (a b c d e f : ℕ) → ordering_then (nat_cmp a b) (ordering_then (nat_cmp c d) (nat_cmp e f)) ≡ Equal
     → (a ≡ b) × (c ≡ d) × (e ≡ f)

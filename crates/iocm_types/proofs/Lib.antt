@@ -1,6 +1,10 @@
 pub mod Each
+pub mod Entries
 pub mod KeyOrder
+pub mod Lists
 pub mod Mapped
+pub mod Orderings
 pub mod Padding
 pub mod Permuted
 pub mod Sorted
+pub mod Tests

@@ -3,14 +3,9 @@ use Rattle.std.proofs.Common.{◌≡◌, Bool, true, false, cond, List, [], ◌�
 use Rattle.std.specs.Ordering.{is_eq, eq_by_cmp}
 use Rattle.std.specs.declared.cmp.Ordering.{Ordering}
 use Rattle.std.specs.declared.cmp.Ordering.TheVariants.{Less, Equal, Greater}
-use Rattle.std.specs.Cmp.{IsTotalOrder}
+use Rattle.std.specs.Cmp.{Equal-is, IsTotalOrder}
 use Rattle.std.specs.FinMap.{FinMap, IsAntisymmetric, find, put, get, insert, entries, from_entries, get-entries, entries-insert, get-insert, get-from_entries, same_map}
 use Rattle.std.specs.FinMap.Entries.{by_order}
-
-equal_is : (r : Ordering) → is_eq r ≡ true → r ≡ Equal
-equal_is Less h = cc
-equal_is Equal h = refl
-equal_is Greater h = cc
 
 new_key : {X : Type 0} (b : Bool) (z : X) (rest : Option X) → cond b (Some z) rest ≡ None → b ≡ false
 new_key true z rest none = cc
@@ -24,7 +19,7 @@ exchanged : {J Y : Type 0} {S : J → J → Ordering} → IsTotalOrder S → (q 
     → eq_by_cmp S q i ≡ a → eq_by_cmp S q j ≡ b → eq_by_cmp S j i ≡ false
     → cond a (Some z) (cond b (Some y) rest) ≡ cond b (Some y) (cond a (Some z) rest)
 exchanged o q j i y z rest true true p r apart =
-    let no : true ≡ false = sym p ∙ ap is_eq (o.congr q j i (equal_is _ r)) ∙ apart in cc
+    let no : true ≡ false = sym p ∙ ap is_eq (o.congr q j i ((Equal-is _).0 r)) ∙ apart in cc
 exchanged o q j i y z rest true false p r apart = refl
 exchanged o q j i y z rest false b p r apart = refl
 

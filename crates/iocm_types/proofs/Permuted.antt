@@ -1,32 +1,24 @@
 -- A list in which no key stands twice, put in the order of its keys, is the same finite map.
 -- R is the order of keys, `key` and `value` read an element.
-use Rattle.std.proofs.Common.{◌≡◌, ℕ, suc, zero, ◌+◌, ◌<◌, ◌≤◌, Bool, true, false, cond, List, [], ◌∷◌, length, get_or, Option, None, Some, refl, sym, ap, subst, ◌∙◌, arith, T, ◌&&◌}
+use Rattle.std.proofs.Common.{◌≡◌, ℕ, suc, zero, ◌+◌, ◌<◌, ◌≤◌, Bool, true, false, cond, List, [], ◌∷◌, length, get_or, Option, None, Some, refl, sym, ap, subst, ◌∙◌, arith, T}
 use Rattle.std.specs.List.{Contains, count_by}
 use Rattle.std.specs.List.Sorted.{IsSortedByKey, IsPermutation}
 use Rattle.std.specs.Ordering.{is_lt, is_eq, eq_by_cmp, ordering_reverse}
 use Rattle.std.specs.declared.cmp.Ordering.{Ordering}
 use Rattle.std.specs.declared.cmp.Ordering.TheVariants.{Less, Equal, Greater}
-use Rattle.std.specs.Cmp.{IsTotalOrder, tied_itself}
+use Rattle.std.specs.Cmp.{Equal-is, IsTotalOrder, tied_itself}
 use Rattle.std.specs.FinMap.{IsAntisymmetric, find, is_sorted, from_sorted, from_entries, get-from_sorted, get-from_entries, same_map}
 use Rattle.std.specs.FinMap.Entries.{below_all, find_tied}
 use Rattle.std.proofs.lemmas.List.Sorted.{ranks_by, sorted_far, Contains-permutation, IsPermutation-sym, sum_by-IsPermutation}
 use Rattle.std.proofs.lemmas.List.Sums.{sum_by-cons}
 use Rattle.iocm_types.proofs.Sorted.{keyed_by}
+use Rattle.iocm_types.proofs.Tests.{both_hold}
 use native.Mathlib.Numerals.{unary_clauses}
 
 -- no key stands twice
 abbrev pub NoKeyTwice : {K V : Type 0} → (K → K → Ordering) → List (K × V) → Type 0
 NoKeyTwice R [] = Unit {0}
 NoKeyTwice R (e ∷ es) = (find R e.0 es ≡ None) × NoKeyTwice R es
-
-equal_is : (r : Ordering) → is_eq r ≡ true → r ≡ Equal
-equal_is Less h = cc
-equal_is Equal h = refl
-equal_is Greater h = cc
-
-both : (a b : Bool) → T a → T b → T (a && b)
-both true b p q = q
-both false b p q = p
 
 module _ {X K V : Type 0} (R : K → K → Ordering) (key : X → K) (value : X → V) where
   -- how often a key stands in a list
@@ -59,7 +51,7 @@ module _ {X K V : Type 0} (R : K → K → Ordering) (key : X → K) (value : X 
     once_by : (q : K) (x : X) (xs : List X) (b : Bool) → eq_by_cmp R q (key x) ≡ b
         → find R (key x) (keyed_by key value xs) ≡ None → times q xs ≤ 1 → times q (x ∷ xs) ≤ 1
     once_by q x xs true e none more =
-        let rest = nowhere q xs (sym (find_tied R o q (key x) (equal_is _ e) (keyed_by key value xs)) ∙ none) in
+        let rest = nowhere q xs (sym (find_tied R o q (key x) ((Equal-is _).0 e) (keyed_by key value xs)) ∙ none) in
         let counted = times_cons q x xs true e in omega arith
     once_by q x xs false e none more = let counted = times_cons q x xs false e in omega arith
 
@@ -79,7 +71,7 @@ module _ {X K V : Type 0} (R : K → K → Ordering) (key : X → K) (value : X 
         → times a zs ≡ 0 → T (below_all R a (keyed_by key value zs))
     below_from a [] up none = tt
     below_from a (z ∷ zs) up none =
-        both _ _ (below_by a z zs (R a (key z)) refl (up 0 z (omega arith)) none)
+        both_hold _ _ (below_by a z zs (R a (key z)) refl (up 0 z (omega arith)) none)
         (below_from a zs (λ j d h. up (suc j) d (omega arith)) (fewer a z zs none))
 
     -- keys that don't fall, none of them twice, rise
@@ -88,7 +80,7 @@ module _ {X K V : Type 0} (R : K → K → Ordering) (key : X → K) (value : X 
     rises_strictly (x ∷ xs) up few =
         let counted = times_cons (key x) x xs true (ap is_eq (tied_itself o (key x))) in
         let alone : times (key x) xs ≡ 0 = omega (arith, few (key x), counted) in
-        both _ _
+        both_hold _ _
         (below_from (key x) xs (λ j d h. sorted_far _ (ranks_by o key) (x ∷ xs) up 0 (suc j) d (omega arith) (omega arith)) alone)
         (rises_strictly xs (λ j d _ h. simp unary_clauses (simp unary_clauses at (up (suc j) d (omega arith) (omega arith))))
         (λ q. omega (arith, few q, times_cons q x xs (eq_by_cmp R q (key x)) refl)))
@@ -125,7 +117,7 @@ module _ {X K V : Type 0} (R : K → K → Ordering) (key : X → K) (value : X 
     comes_from_by q x xs v true e more is = record {
       element = x;
       contained = (0, omega arith, refl);
-      ties = equal_is _ e;
+      ties = (Equal-is _).0 e;
       has = cc;
     }
     comes_from_by q x xs v false e more is =

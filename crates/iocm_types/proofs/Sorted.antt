@@ -1,39 +1,20 @@
 -- A vector in the order of its elements' keys, seen as a finite map: what a binary search finds there, and what a
 -- write, an insert and a remove at that place do to the map. R is the order of keys, `key` and `value` read an element.
-use Rattle.std.proofs.Common.{◌≡◌, ℕ, suc, zero, ◌+◌, ◌<◌, ◌≤◌, Bool, true, false, cond, List, [], ◌∷◌, length, get_or, set, Result, Ok, Err, MatchResult, Option, Some, None, refl, sym, ap, subst, ◌∙◌, arith, map, T, ◌&&◌}
+use Rattle.std.proofs.Common.{◌≡◌, ℕ, suc, zero, ◌+◌, ◌<◌, ◌≤◌, Bool, true, false, cond, List, [], ◌∷◌, length, get_or, set, Result, Ok, Err, MatchResult, Option, Some, None, refl, sym, ap, subst, ◌∙◌, arith, map, T}
 use Rattle.std.specs.List.{insert, remove, HoldsAt}
 use Rattle.std.specs.List.Sorted.{IsBinarySearchResult, IsSearchInRange}
 use Rattle.std.specs.Ordering.{is_lt, is_eq, eq_by_cmp, ordering_reverse}
 use Rattle.std.specs.declared.cmp.Ordering.{Ordering}
 use Rattle.std.specs.declared.cmp.Ordering.TheVariants.{Less, Equal, Greater}
-use Rattle.std.specs.Cmp.{IsTotalOrder, tied_back, alike_right}
+use Rattle.std.specs.Cmp.{Equal-is, IsTotalOrder, tied_back, alike_right}
 use Rattle.std.specs.FinMap as maps
 use Rattle.std.specs.FinMap.{IsAntisymmetric, find, put, is_sorted, get, from_sorted, entries-from_sorted, get-from_sorted, entries-insert, same_entries_map, same_map}
 use Rattle.std.specs.FinMap.Entries.{below_all, is_sorted-put}
 use Rattle.std.proofs.lemmas.List.Sorted.{searchable_from_sorted}
+use Rattle.iocm_types.proofs.Entries.{not_found}
+use Rattle.iocm_types.proofs.Orderings.{less_is}
+use Rattle.iocm_types.proofs.Tests.{first_holds, second_holds, both_hold}
 use native.Mathlib.Numerals.{unary_clauses}
-
-less_is : (r : Ordering) → T (is_lt r) → r ≡ Less
-less_is Less h = refl
-less_is Equal h = absurd h
-less_is Greater h = absurd h
-
-equal_is : (r : Ordering) → is_eq r ≡ true → r ≡ Equal
-equal_is Less h = cc
-equal_is Equal h = refl
-equal_is Greater h = cc
-
-both : (a b : Bool) → T a → T b → T (a && b)
-both true b p q = q
-both false b p q = p
-
-left : (a b : Bool) → T (a && b) → T a
-left true b p = tt
-left false b p = p
-
-right : (a b : Bool) → T (a && b) → T b
-right true b p = p
-right false b p = absurd p
 
 -- each element under its key
 abbrev pub keyed_by : {X K V : Type 0} → (X → K) → (X → V) → List X → List (K × V)
@@ -57,8 +38,8 @@ module _ {X K V : Type 0} (R : K → K → Ordering) (key : X → K) (value : X 
 
   below_each : (a : K) (xs : List X) → T (below_all R a (keyed_by key value xs)) → (i : ℕ) (d : X) → i < length xs → R a (key (get_or xs i d)) ≡ Less
   below_each a [] h i d within = absurd (omega arith)
-  below_each a (x ∷ xs) h zero d within = less_is _ (left _ _ h)
-  below_each a (x ∷ xs) h (suc i) d within = below_each a xs (right _ _ h) i d (omega arith)
+  below_each a (x ∷ xs) h zero d within = less_is _ (first_holds _ _ h)
+  below_each a (x ∷ xs) h (suc i) d within = below_each a xs (second_holds _ _ h) i d (omega arith)
 
   module _ (o : IsTotalOrder R) where
     turned_less : (a b : K) → R a b ≡ Less → R b a ≡ Greater
@@ -70,16 +51,16 @@ module _ {X K V : Type 0} (R : K → K → Ordering) (key : X → K) (value : X 
     rises : (xs : List X) → T (is_sorted R (keyed_by key value xs)) → (k : ℕ) (d : X) → k + 1 < length xs
         → is_lt (R (key (get_or xs (k + 1) d)) (key (get_or xs k d))) ≡ false
     rises [] up k d within = absurd (omega arith)
-    rises (x ∷ xs) up zero d within = ap is_lt (turned_less _ _ (below_each (key x) xs (left _ _ up) 0 d (omega arith)))
-    rises (x ∷ xs) up (suc k) d within = simp unary_clauses (simp unary_clauses at (rises xs (right _ _ up) k d (omega arith)))
+    rises (x ∷ xs) up zero d within = ap is_lt (turned_less _ _ (below_each (key x) xs (first_holds _ _ up) 0 d (omega arith)))
+    rises (x ∷ xs) up (suc k) d within = simp unary_clauses (simp unary_clauses at (rises xs (second_holds _ _ up) k d (omega arith)))
 
     place_from : (k : K) (xs : List X) (i : ℕ) → T (is_sorted R (keyed_by key value xs)) → i < length xs
         → HoldsAt (λ y. R (key y) k ≡ Equal) xs i → IsPlace R key k xs i
     place_from k [] i up within here = absurd (omega arith)
     place_from k (x ∷ xs) zero up within here = tied_back o (key x) k (here x)
     place_from k (x ∷ xs) (suc i) up within here =
-        let less = below_each (key x) xs (left _ _ up) i x (omega arith) in
-        (turned_less (key x) k (sym (alike_right o _ k (key x) (here x)) ∙ less), place_from k xs i (right _ _ up) (omega arith) here)
+        let less = below_each (key x) xs (first_holds _ _ up) i x (omega arith) in
+        (turned_less (key x) k (sym (alike_right o _ k (key x) (here x)) ∙ less), place_from k xs i (second_holds _ _ up) (omega arith) here)
 
     gap_from : (k : K) (xs : List X) (i : ℕ) → i ≤ length xs
         → ((j : ℕ) (d : X) → j < i → R (key (get_or xs j d)) k ≡ Less)
@@ -102,18 +83,12 @@ module _ {X K V : Type 0} (R : K → K → Ordering) (key : X → K) (value : X 
     below_less : (a b : K) (es : List (K × V)) → R a b ≡ Less → T (below_all R b es) → T (below_all R a es)
     below_less a b [] e h = tt
     below_less a b (f ∷ es) e h =
-        both _ _ (subst (λ r. T (is_lt r)) (sym (o.trans a b f.0 e (less_is _ (left _ _ h)))) tt) (below_less a b es e (right _ _ h))
+        both_hold _ _ (subst (λ r. T (is_lt r)) (sym (o.trans a b f.0 e (less_is _ (first_holds _ _ h)))) tt) (below_less a b es e (second_holds _ _ h))
 
     below_tied : (a b : K) (es : List (K × V)) → R a b ≡ Equal → T (below_all R b es) → T (below_all R a es)
     below_tied a b [] e h = tt
     below_tied a b (f ∷ es) e h =
-        both _ _ (subst (λ r. T (is_lt r)) (sym (o.congr a b f.0 e)) (left _ _ h)) (below_tied a b es e (right _ _ h))
-
-    find_below : (q : K) (es : List (K × V)) → T (below_all R q es) → find R q es ≡ None
-    find_below q [] h = refl
-    find_below q (e ∷ es) h =
-        let less : R q e.0 ≡ Less = less_is _ (left _ _ h) in
-        rw less (find_below q es (right _ _ h))
+        both_hold _ _ (subst (λ r. T (is_lt r)) (sym (o.congr a b f.0 e)) (first_holds _ _ h)) (below_tied a b es e (second_holds _ _ h))
 
     -- ---- what is found there
 
@@ -134,8 +109,8 @@ module _ {X K V : Type 0} (R : K → K → Ordering) (key : X → K) (value : X 
     pub get_gap : (k : K) (xs : List X) (i : ℕ) → T (is_sorted R (keyed_by key value xs)) → IsGap R key k xs i
         → find R k (keyed_by key value xs) ≡ None
     get_gap k [] i up h = refl
-    get_gap k (y ∷ xs) zero up h = rw h (find_below k (keyed_by key value xs) (below_less k (key y) (keyed_by key value xs) h (left _ _ up)))
-    get_gap k (y ∷ xs) (suc i) up h = rw h.0 (get_gap k xs i (right _ _ up) h.1)
+    get_gap k (y ∷ xs) zero up h = rw h (not_found R k (keyed_by key value xs) (below_less k (key y) (keyed_by key value xs) h (first_holds _ _ up)))
+    get_gap k (y ∷ xs) (suc i) up h = rw h.0 (get_gap k xs i (second_holds _ _ up) h.1)
 
     -- ---- the elements after a write
 
@@ -177,23 +152,23 @@ module _ {X K V : Type 0} (R : K → K → Ordering) (key : X → K) (value : X 
     below_remove : (a : K) (xs : List X) (i : ℕ) → T (below_all R a (keyed_by key value xs)) → T (below_all R a (keyed_by key value (remove xs i)))
     below_remove a [] zero h = tt
     below_remove a [] (suc i) h = tt
-    below_remove a (x ∷ xs) zero h = right _ _ h
-    below_remove a (x ∷ xs) (suc i) h = both _ _ (left _ _ h) (below_remove a xs i (right _ _ h))
+    below_remove a (x ∷ xs) zero h = second_holds _ _ h
+    below_remove a (x ∷ xs) (suc i) h = both_hold _ _ (first_holds _ _ h) (below_remove a xs i (second_holds _ _ h))
 
     pub sorted-remove : (xs : List X) (i : ℕ) → T (is_sorted R (keyed_by key value xs)) → T (is_sorted R (keyed_by key value (remove xs i)))
     sorted-remove [] zero up = tt
     sorted-remove [] (suc i) up = tt
-    sorted-remove (x ∷ xs) zero up = right _ _ up
-    sorted-remove (x ∷ xs) (suc i) up = both _ _ (below_remove (key x) xs i (left _ _ up)) (sorted-remove xs i (right _ _ up))
+    sorted-remove (x ∷ xs) zero up = second_holds _ _ up
+    sorted-remove (x ∷ xs) (suc i) up = both_hold _ _ (below_remove (key x) xs i (first_holds _ _ up)) (sorted-remove xs i (second_holds _ _ up))
 
     not_there : (q k : K) (es : List (K × V)) (v : V) (t : Bool) → eq_by_cmp R q k ≡ t → T (below_all R k es)
         → find R q es ≡ cond t None (cond t (Some v) (find R q es))
-    not_there q k es v true e below = find_below q es (below_tied q k es (equal_is _ e) below)
+    not_there q k es v true e below = not_found R q es (below_tied q k es ((Equal-is _).0 e) below)
     not_there q k es v false e below = refl
 
     apart : (q k : K) (x : K) (a b : Bool) (v r s : Option V) → R k x ≡ Greater → eq_by_cmp R q x ≡ a → eq_by_cmp R q k ≡ b
         → r ≡ cond b None s → cond a v r ≡ cond b None (cond a v s)
-    apart q k x true true v r s e p g is = let no : true ≡ false = sym p ∙ ap is_eq (o.congr q k x (equal_is _ g) ∙ e) in cc
+    apart q k x true true v r s e p g is = let no : true ≡ false = sym p ∙ ap is_eq (o.congr q k x ((Equal-is _).0 g) ∙ e) in cc
     apart q k x true false v r s e p g is = refl
     apart q k x false b v r s e p g is = is
 
@@ -201,9 +176,9 @@ module _ {X K V : Type 0} (R : K → K → Ordering) (key : X → K) (value : X 
         → find R q (keyed_by key value (remove xs i)) ≡ cond (eq_by_cmp R q k) None (find R q (keyed_by key value xs))
     find_remove k q [] i up h = absurd h
     find_remove k q (x ∷ xs) zero up h =
-        rw (alike_right o k (key x) q h) (not_there q (key x) (keyed_by key value xs) (value x) (eq_by_cmp R q (key x)) refl (left _ _ up))
+        rw (alike_right o k (key x) q h) (not_there q (key x) (keyed_by key value xs) (value x) (eq_by_cmp R q (key x)) refl (first_holds _ _ up))
     find_remove k q (x ∷ xs) (suc i) up h =
-        apart q k (key x) (eq_by_cmp R q (key x)) (eq_by_cmp R q k) (Some (value x)) _ _ h.0 refl refl (find_remove k q xs i (right _ _ up) h.1)
+        apart q k (key x) (eq_by_cmp R q (key x)) (eq_by_cmp R q k) (Some (value x)) _ _ h.0 refl refl (find_remove k q xs i (second_holds _ _ up) h.1)
 
     pub map-remove : IsAntisymmetric R → (k : K) (xs : List X) (i : ℕ) → T (is_sorted R (keyed_by key value xs)) → IsPlace R key k xs i
         → maps.remove (from_sorted {R = R} (keyed_by key value xs)) k ≡ from_sorted (keyed_by key value (remove xs i))
@@ -214,7 +189,7 @@ module _ {X K V : Type 0} (R : K → K → Ordering) (key : X → K) (value : X 
         ∙ sym (get-from_sorted R (keyed_by key value (remove xs i)) q (sorted-remove xs i up)))
 
     kept : (b : Bool) (s : Option V) (q k : K) (m : maps.FinMap R V) → eq_by_cmp R q k ≡ b → get m k ≡ None → get m q ≡ s → cond b None s ≡ s
-    kept true s q k m e none is = sym none ∙ maps.get_tied o m q k (equal_is _ e) ∙ is
+    kept true s q k m e none is = sym none ∙ maps.get_tied o m q k ((Equal-is _).0 e) ∙ is
     kept false s q k m e none is = refl
 
     -- to remove what isn't there changes nothing
