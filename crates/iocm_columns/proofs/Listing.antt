@@ -1,21 +1,16 @@
 -- The steps of a loop that takes the items of a list off its front: what was gathered, with what the rest gives, is what all give.
-use Rattle.std.proofs.Common.{◌≡◌, ℕ, ◌+◌, List, [], ◌∷◌, ◌++◌, Result, Ok, Err, refl, sym, ap, append_assoc}
+use Rattle.std.proofs.Common.{◌≡◌, ℕ, ◌+◌, List, [], ◌∷◌, ◌++◌, Result, Ok, Err, refl}
 use Rattle.std.proofs.lemmas.List.{append-nil}
 use Rattle.iocm_types.specs.declared.fault.Fault.{Fault}
-use Rattle.iocm_types.specs.Fault.{◌>>=◌}
 use Rattle.iocm_types.specs.Each.{each, after_front}
-
-front_grows : {B : Type 0} (front : List B) (y : B) (rest : Result (List B) Fault)
-    → after_front front (rest >>= λ ys. Ok (y ∷ ys)) ≡ after_front (front ++ y ∷ []) rest
-front_grows front y (Ok ys) = ap Ok (sym (append_assoc front (y ∷ []) ys))
-front_grows front y (Err e) = refl
+use Rattle.iocm_types.proofs.Each.{front_grows}
 
 -- the first item is read and goes to what was gathered
 pub first_goes_on : {A B : Type 0} (read : ℕ → A → Result B Fault) (front : List B) (n : ℕ) (items : List A) (x : A) (xs : List A) (y : B)
     → items ≡ x ∷ xs → read n x ≡ Ok y
     → after_front front (each read n items) ≡ after_front (front ++ y ∷ []) (each read (n + 1) xs)
 unfolding each
-first_goes_on read front n items x xs y are is = rw (are, is) (front_grows front y (each read (n + 1) xs))
+first_goes_on read front n items x xs y are is = rw (are, is) (front_grows front (y ∷ []) (each read (n + 1) xs))
 
 -- the first item is refused, and that is the answer
 pub first_fails : {A B : Type 0} (read : ℕ → A → Result B Fault) (front : List B) (n : ℕ) (items : List A) (x : A) (xs : List A) (f : Fault)

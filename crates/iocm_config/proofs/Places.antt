@@ -3,10 +3,11 @@ use Rattle.std.proofs.Common.{◌≡◌, ℕ, ◌<◌, ◌≤◌, List, length, 
 use Rattle.std.specs.List.{insert, remove}
 use Rattle.std.specs.List.Sorted.{IsBinarySearchResult}
 use Rattle.std.specs.FinMap as map
-use Rattle.std.proofs.Common.{map as list_map, refl}
+use Rattle.std.proofs.Common.{map as list_map}
 use Rattle.iocm_types.specs.declared.key.Key.{Key}
 use Rattle.iocm_types.specs.Key.{key_cmp}
 use Rattle.iocm_types.proofs.KeyOrder.{keys_total, keys_exact}
+use Rattle.iocm_types.proofs.Entries.{values_keyed}
 use Rattle.iocm_types.proofs.Sorted as sorted
 use Rattle.iocm_types.proofs.Sorted.{IsPlace, IsGap}
 use Rattle.iocm_model.specs.Machine.Record.{Rec, key_of}
@@ -92,12 +93,8 @@ pub room_left : (k : Key) (m : Configuration) (room : ℕ) → (0 < room) ⊎ Is
 room_left k m room (inl h) none = h
 room_left k m room (inr h) none = let no : false ≡ true = ap is_some none ∙ h in cc
 
-second_keyed : (xs : List Rec) → list_map (λ (e : Key × Rec). e.1) (with_keys xs) ≡ xs
-second_keyed [] = refl
-second_keyed (x ∷ xs) = ap {B = List Rec} (λ rs. x ∷ rs) (second_keyed xs)
-
 -- each record of the map stands under its own key
 pub own_keys : (xs : List Rec) → IsRising xs → IsKeyed (map.from_sorted (with_keys xs))
 own_keys xs up =
     let listed = map.entries-from_sorted key_cmp (with_keys xs) up in
-    listed ∙ ap with_keys (sym (ap (λ (es : List (Key × Rec)). list_map (λ (e : Key × Rec). e.1) es) listed ∙ second_keyed xs))
+    listed ∙ ap with_keys (sym (ap (λ (es : List (Key × Rec)). list_map (λ (e : Key × Rec). e.1) es) listed ∙ values_keyed key_of xs))

@@ -1,6 +1,7 @@
 -- The keys of records, as a set of keys tells them.
-use Rattle.std.proofs.Common.{◌≡◌, ℕ, ◌+◌, ◌<◌, ◌≤◌, Bool, true, false, cond, List, [], ◌∷◌, ◌++◌, length, get_or, take, drop, Option, Some, None, is_some, not, Ok, Err, refl, sym, ap, ◌∙◌, append_assoc}
+use Rattle.std.proofs.Common.{◌≡◌, ℕ, ◌+◌, ◌<◌, ◌≤◌, Bool, true, false, cond, List, [], ◌∷◌, ◌++◌, length, get_or, take, drop, Option, Some, is_some, not, Ok, Err, refl, sym, ap, ◌∙◌, append_assoc}
 use Rattle.std.proofs.Math.ListN.{drop_of_length-le}
+use Rattle.std.proofs.lemmas.Bool.{not-true, not-false}
 use Rattle.std.proofs.lemmas.List.{take_more, map-append}
 use Rattle.std.specs.Ordering.{is_eq}
 use Rattle.std.specs.Cmp.{eq_by_cmp_equiv}
@@ -15,11 +16,8 @@ use Rattle.iocm_model.specs.Machine.Record.{Rec, key_of}
 use Rattle.iocm_model.specs.Machine.Configuration.{with_keys, HasNoKeyTwice}
 use Rattle.iocm_records.specs.Deck.{with_records}
 use Rattle.iocm_records.specs.Progress.{has_claimed, has_key, IsKept}
-use Rattle.iocm_records.proofs.Opening.{opened}
-
-none_there : {A : Type 0} (o : Option A) → is_some o ≡ false → o ≡ None
-none_there None e = refl
-none_there (Some x) e = cc
+use Rattle.iocm_types.proofs.Lists.{drop-item}
+use Rattle.iocm_types.proofs.Tests.{absent}
 
 some_of : {A : Type 0} (b : Bool) (x : A) (o : Option A) → is_some (cond b (Some x) o) ≡ cond b true (is_some o)
 some_of true x o = refl
@@ -32,7 +30,7 @@ keyed_push records r = map-append (λ (x : Rec). (key_of x, x)) records (r ∷ [
 pub has_key_push : (records : List Rec) (r : Rec) (q : Key) → has_key records (key_of r) ≡ false
     → has_key (records ++ r ∷ []) q ≡ cond (is_eq (key_cmp q (key_of r))) true (has_key records q)
 has_key_push records r q new =
-    rw (keyed_push records r, find-append key_cmp keys_total (with_keys records) (key_of r) r q (none_there _ new))
+    rw (keyed_push records r, find-append key_cmp keys_total (with_keys records) (key_of r) r q (absent _ new))
     (some_of (is_eq (key_cmp q (key_of r))) r (find key_cmp q (with_keys records)))
 
 neither : (b c : Bool) → cond b true c ≡ false → (b ≡ false) × (c ≡ false)
@@ -52,7 +50,7 @@ apart_push (x ∷ records) r new apart =
     let both = new_to_both x records (key_of r) new in (
       rw (
         keyed_push records r,
-        find-append key_cmp keys_total (with_keys records) (key_of r) r (key_of x) (none_there _ both.1),
+        find-append key_cmp keys_total (with_keys records) (key_of r) r (key_of x) (absent _ both.1),
         (eq_by_cmp_equiv keys_total).symm (key_of x) (key_of r),
         both.0,
       ) apart.0,
@@ -62,32 +60,24 @@ apart_push (x ∷ records) r new apart =
 -- a key that was not new is there
 pub was_there : (keys : BTreeSet Key) (records : List Rec) (key key' : Key) (is_new : Bool) → IsKept keys records → key ≡ key'
     → is_new ≡ not (has_claimed keys key) → is_new ≡ false → has_key records key' ≡ true
-was_there keys records key key' is_new kept same told old = sym (kept.claimed key') ∙ turned (has_claimed keys key') (sym (sym old ∙ told ∙ ap (λ k. not (has_claimed keys k)) same))
-  where
-    turned : (b : Bool) → not b ≡ false → b ≡ true
-    turned true e = refl
-    turned false e = cc
+was_there keys records key key' is_new kept same told old = sym (kept.claimed key') ∙ not-false (has_claimed keys key') (sym (sym old ∙ told ∙ ap (λ k. not (has_claimed keys k)) same))
 
 -- a key that was new isn't there
 pub was_new : (keys : BTreeSet Key) (records : List Rec) (key key' : Key) (is_new : Bool) → IsKept keys records → key ≡ key'
     → is_new ≡ not (has_claimed keys key) → is_new ≡ true → has_key records key' ≡ false
-was_new keys records key key' is_new kept same told new = sym (kept.claimed key') ∙ turned (has_claimed keys key') (sym (sym new ∙ told ∙ ap (λ k. not (has_claimed keys k)) same))
-  where
-    turned : (b : Bool) → not b ≡ true → b ≡ false
-    turned true e = cc
-    turned false e = refl
+was_new keys records key key' is_new kept same told new = sym (kept.claimed key') ∙ not-true (has_claimed keys key') (sym (sym new ∙ told ∙ ap (λ k. not (has_claimed keys k)) same))
 
 -- a record whose key is new goes behind the others
 pub goes_in : (fault : Fault) (records xs : List Rec) (i : ℕ) (r : Rec) → i < length xs → r ≡ get_or xs i r → has_key records (key_of r) ≡ false
     → with_records fault records (drop i xs) ≡ with_records fault (records ++ r ∷ []) (drop (i + 1) xs)
 unfolding with_records
-goes_in fault records xs i r within item new = rw (opened xs i r within item, new) refl
+goes_in fault records xs i r within item new = rw (drop-item xs i r within item, new) refl
 
 -- a record whose key is there is refused
 pub refused : (fault : Fault) (records xs : List Rec) (i : ℕ) (r : Rec) → i < length xs → r ≡ get_or xs i r → has_key records (key_of r) ≡ true
     → with_records fault records (drop i xs) ≡ Err fault
 unfolding with_records
-refused fault records xs i r within item there = rw (opened xs i r within item, there) refl
+refused fault records xs i r within item there = rw (drop-item xs i r within item, there) refl
 
 -- after the last one
 pub all_in : (fault : Fault) (records xs : List Rec) (i : ℕ) → length xs ≤ i → with_records fault records (drop i xs) ≡ Ok records

@@ -3,7 +3,7 @@ use Rattle.std.proofs.Common.{◌≡◌, ℕ, ◌+◌, ◌<◌, ◌≤◌, ◌==
 use Rattle.std.proofs.Math.ListN.{drop_of_length-le}
 use Rattle.iocm_model.specs.Machine.Record.{ImageRecord}
 use Rattle.iocm_records.specs.NameSet.{with_name}
-use Rattle.iocm_records.proofs.Opening.{opened}
+use Rattle.iocm_types.proofs.Lists.{drop-item}
 
 -- names, with those of the channel subsystem's images among these
 abbrev pub images_named : ℕ → List ImageRecord → List (List ℕ) → List (List ℕ)
@@ -22,7 +22,7 @@ pub image_goes_in : (css : ℕ) (xs : List ImageRecord) (names names' : List (Li
     → i < length xs → x ≡ get_or xs i x → names' ≡ images_named css (x ∷ []) names
     → images_named css (drop i xs) names ≡ images_named css (drop (i + 1) xs) names'
 image_goes_in css xs names names' i x within item is =
-    rw (opened xs i x within item, is) (one_more css x (drop (i + 1) xs) names)
+    rw (drop-item xs i x within item, is) (one_more css x (drop (i + 1) xs) names)
 
 -- after all images
 pub images_done : (css : ℕ) (xs : List ImageRecord) (names : List (List ℕ)) (i : ℕ) → length xs ≤ i → images_named css (drop i xs) names ≡ names

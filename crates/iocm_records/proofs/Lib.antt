@@ -1,4 +1,3 @@
-pub mod Any
 pub mod Claiming
 pub mod Filtering
 pub mod Gathering
@@ -6,6 +5,5 @@ pub mod Images
 pub mod Levels
 pub mod Machine
 pub mod Naming
-pub mod Opening
 pub mod Places
 pub mod Rows

@@ -36,7 +36,7 @@ pub fn is_group(alloc: Global, text: &[u8]) -> Result<bool, AllocError>
 }
 
 /// Whether one of the items is a list whose first item is `CSS(..)`.
-#[tactic(auto, using(crate::proofs::Any::any_steps))]
+#[tactic(auto, using(iocm_types::proofs::Any::any_steps))]
 fn has_group(alloc: Global, items: &[Text]) -> Result<bool, AllocError>
     ensures { IfOk result (λ answer. answer ≡ list_any by.is_group items.now) }
 {

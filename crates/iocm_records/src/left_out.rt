@@ -32,7 +32,7 @@ fn spans_css(alloc: Global, text: &[u8]) -> Result<bool, AllocError>
     }
 }
 
-#[tactic(auto, using(crate::proofs::Any::any_steps))]
+#[tactic(auto, using(iocm_types::proofs::Any::any_steps))]
 fn has_span(alloc: Global, texts: &[Text]) -> Result<bool, AllocError>
     ensures { IfOk result (λ answer. answer ≡ list_any meaning.spans_css texts.now) }
 {
@@ -223,7 +223,7 @@ fn is_left_out(
 
 /// Whether an operand is left out: one that the statement's table doesn't name, or a value in a form
 /// that this product leaves out.
-#[tactic(auto, using(crate::proofs::Any::any_steps))]
+#[tactic(auto, using(iocm_types::proofs::Any::any_steps))]
 pub fn has_left_out(
     alloc: Global,
     operation: Operation,
@@ -250,7 +250,7 @@ fn is_other_form(operation: Operation, key: &OperandKey, text: &[u8]) -> bool
 }
 
 /// Whether a word of the statement's table stands in another form than its own.
-#[tactic(auto, using(crate::proofs::Any::any_steps))]
+#[tactic(auto, using(iocm_types::proofs::Any::any_steps))]
 pub fn has_other_form(operation: Operation, operands: &Operands) -> bool
     ensures { result ≡ list_any (meaning.is_other_form operation) operands.now }
 {

@@ -1,9 +1,10 @@
 -- The steps of the loop that cuts a text.
-use Rattle.std.proofs.Common.{◌≡◌, ℕ, ◌+◌, ◌<◌, ◌≤◌, true, false, None, Some, List, [], ◌∷◌, ◌++◌, length, get_or, drop, Result, Ok, Err, refl, sym, ap, append_assoc, add-one, drop-cons}
+use Rattle.std.proofs.Common.{◌≡◌, ℕ, ◌+◌, ◌<◌, ◌≤◌, true, false, None, Some, List, [], ◌∷◌, ◌++◌, length, get_or, drop, Result, Ok, Err, refl, sym, ap, append_assoc}
 use Rattle.std.proofs.Math.ListN.{drop_of_length-le}
 use Rattle.std.proofs.lemmas.List.{append-nil}
 use Rattle.iocm_types.specs.declared.fault.Fault.{Fault}
 use Rattle.iocm_types.specs.Fault.{◌>>=◌}
+use Rattle.iocm_types.proofs.Lists.{drop-item}
 use Rattle.iocm_statements.specs.declared.place.Place.{Place}
 use Rattle.iocm_statements.specs.Place.{is_outside, step, cuts}
 use Rattle.iocm_statements.specs.Pieces.{onto_first, pieces_from}
@@ -11,9 +12,6 @@ use Rattle.iocm_statements.specs.Pieces.{onto_first, pieces_from}
 -- the pieces that are cut, and the one at hand, in front of those of the rest
 abbrev pub with_front : List (List ℕ) → List ℕ → Result (List (List ℕ)) Fault → Result (List (List ℕ)) Fault
 with_front pieces piece rest = rest >>= λ more. Ok (pieces ++ onto_first piece more)
-
-opened : (text : List ℕ) (i b : ℕ) → i < length text → b ≡ get_or text i b → drop i text ≡ b ∷ drop (i + 1) text
-opened text i b within item = rw (add-one, drop-cons text i b within, ← item) refl
 
 none_in_front : (more : List (List ℕ)) → onto_first [] more ≡ more
 none_in_front [] = refl
@@ -40,7 +38,7 @@ pub cut_ends_piece : (fault : Fault) (pieces : List (List ℕ)) (piece : List �
     → with_front pieces piece (pieces_from fault p (drop i text)) ≡ with_front (pieces ++ piece ∷ []) [] (pieces_from fault p (drop (i + 1) text))
 unfolding pieces_from
 cut_ends_piece fault pieces piece p text i b within item cut =
-    rw (opened text i b within item, cut) (cut_grows pieces piece (pieces_from fault p (drop (i + 1) text)))
+    rw (drop-item text i b within item, cut) (cut_grows pieces piece (pieces_from fault p (drop (i + 1) text)))
 
 -- another byte goes to the piece at hand
 pub byte_joins_piece : (fault : Fault) (pieces : List (List ℕ)) (piece : List ℕ) (p q : Place) (text : List ℕ) (i b : ℕ)
@@ -48,14 +46,14 @@ pub byte_joins_piece : (fault : Fault) (pieces : List (List ℕ)) (piece : List 
     → with_front pieces piece (pieces_from fault p (drop i text)) ≡ with_front pieces (piece ++ b ∷ []) (pieces_from fault q (drop (i + 1) text))
 unfolding pieces_from
 byte_joins_piece fault pieces piece p q text i b within item kept next =
-    rw (opened text i b within item, kept, next) (piece_grows pieces piece b (pieces_from fault q (drop (i + 1) text)))
+    rw (drop-item text i b within item, kept, next) (piece_grows pieces piece b (pieces_from fault q (drop (i + 1) text)))
 
 -- a parenthesis that closes nothing is the fault
 pub closing_fails : (fault : Fault) (pieces : List (List ℕ)) (piece : List ℕ) (p : Place) (text : List ℕ) (i b : ℕ)
     → i < length text → b ≡ get_or text i b → cuts p b ≡ false → step p b ≡ None
     → with_front pieces piece (pieces_from fault p (drop i text)) ≡ Err fault
 unfolding pieces_from
-closing_fails fault pieces piece p text i b within item kept next = rw (opened text i b within item, kept, next) refl
+closing_fails fault pieces piece p text i b within item kept next = rw (drop-item text i b within item, kept, next) refl
 
 -- at the end, outside, the piece at hand is the last
 pub end_ends_piece : (fault : Fault) (pieces : List (List ℕ)) (piece : List ℕ) (p : Place) (text : List ℕ) (i : ℕ)

@@ -1,28 +1,16 @@
 -- Places in a text, and the bytes at which they change.
-use Rattle.std.proofs.Common.{◌≡◌, ℕ, Bool, true, false, not, ◌&&◌, ◌==◌, Some, refl, sym, ap, ◌∙◌, arith}
-use Rattle.std.proofs.lemmas.Bool.{eqb-true, false≢true}
+use Rattle.std.proofs.Common.{◌≡◌, ℕ, true, false, not, ◌==◌, Some, refl, sym, ap, ◌∙◌, arith}
+use Rattle.std.proofs.lemmas.Bool.{eqb-true, and_parts, not-true}
 use Rattle.std.proofs.lemmas.Bool.Decides.{nat_tests}
 use Rattle.iocm_statements.specs.declared.place.Place.{Place}
 use Rattle.iocm_statements.specs.Place.{start, is_outside, step, cuts, sets}
 use Rattle.iocm_statements.specs.Operands.{is_keyword_byte}
 
-pub both_left : (x y : Bool) → (x && y) ≡ true → x ≡ true
-both_left true y h = refl
-both_left false y h = h
-
-pub both_right : (x y : Bool) → (x && y) ≡ true → y ≡ true
-both_right true y h = h
-both_right false y h = absurd (false≢true h)
-
-not_quoted : (q : Bool) → not q ≡ true → q ≡ false
-not_quoted true h = sym h
-not_quoted false h = refl
-
 pub outside_is_start : (p : Place) → is_outside p ≡ true → p ≡ start
 unfolding is_outside
 outside_is_start p out =
-    let depth : p.depth ≡ 0 = eqb-true p.depth 0 (both_right (not p.quoted) (p.depth == 0) out) in
-    let quoted : p.quoted ≡ false = not_quoted p.quoted (both_left (not p.quoted) (p.depth == 0) out) in
+    let depth : p.depth ≡ 0 = eqb-true p.depth 0 (and_parts (not p.quoted) (p.depth == 0) out).1 in
+    let quoted : p.quoted ≡ false = not-true p.quoted (and_parts (not p.quoted) (p.depth == 0) out).0 in
     λ i. record { depth = depth i; quoted = quoted i }
 
 pub start_is_outside : is_outside start ≡ true
@@ -39,11 +27,11 @@ comma_steps = refl
 
 pub cuts_at_start : (p : Place) (b : ℕ) → cuts p b ≡ true → p ≡ start
 unfolding cuts
-cuts_at_start p b cut = outside_is_start p (both_left (is_outside p) (b == 44) cut)
+cuts_at_start p b cut = outside_is_start p (and_parts (is_outside p) (b == 44) cut).0
 
 pub cuts_at_comma : (p : Place) (b : ℕ) → cuts p b ≡ true → b ≡ 44
 unfolding cuts
-cuts_at_comma p b cut = eqb-true b 44 (both_right (is_outside p) (b == 44) cut)
+cuts_at_comma p b cut = eqb-true b 44 (and_parts (is_outside p) (b == 44) cut).1
 
 pub step_over_cut : (p : Place) (b : ℕ) → cuts p b ≡ true → step p b ≡ Some p
 step_over_cut p b cut =
@@ -53,11 +41,11 @@ step_over_cut p b cut =
 
 pub sets_at_start : (p : Place) (b : ℕ) → sets p b ≡ true → p ≡ start
 unfolding sets
-sets_at_start p b here = outside_is_start p (both_left (is_outside p) (b == 61) here)
+sets_at_start p b here = outside_is_start p (and_parts (is_outside p) (b == 61) here).0
 
 pub sets_at_equals : (p : Place) (b : ℕ) → sets p b ≡ true → b ≡ 61
 unfolding sets
-sets_at_equals p b here = eqb-true b 61 (both_right (is_outside p) (b == 61) here)
+sets_at_equals p b here = eqb-true b 61 (and_parts (is_outside p) (b == 61) here).1
 
 pub equals_sets : sets start 61 ≡ true
 unfolding sets is_outside

@@ -1,6 +1,6 @@
 -- The operand of a text is what the text says, and nothing else is.
 use Rattle.std.proofs.Common.{◌≡◌, ◌≢◌, ℕ, suc, ◌+◌, Bool, true, false, not, cond, ◌==◌, Option, None, Some, List, [], ◌∷◌, ◌++◌, length, take, drop, Result, Ok, Err, refl, sym, ap, ◌∙◌, subst, arith}
-use Rattle.std.proofs.lemmas.Bool.{false≢true}
+use Rattle.std.proofs.lemmas.Bool.{false≢true, and_parts}
 use Rattle.std.proofs.Math.Dec.{eqb-suc-zero}
 use Rattle.std.proofs.Math.Seq.{take-append_seam, drop-append-add}
 use Rattle.std.specs.List.{list_all}
@@ -12,7 +12,7 @@ use Rattle.iocm_statements.specs.Place.{start, step, sets}
 use Rattle.iocm_statements.specs.Cutting.{place_behind}
 use Rattle.iocm_statements.specs.Operands.{Operand, equals_from, is_keyword_byte, is_keyword, keyword_operand, operand_split, operand_of}
 use Rattle.iocm_statements.specs.Splitting.{HasNoEquals, Says, FindsOperand, FindsNoOtherOperand}
-use Rattle.iocm_statements.proofs.Places.{both_left, both_right, sets_at_start, sets_at_equals, equals_sets, keyword_byte_sets_not, keyword_byte_stays}
+use Rattle.iocm_statements.proofs.Places.{sets_at_start, sets_at_equals, equals_sets, keyword_byte_sets_not, keyword_byte_stays}
 
 -- ---- the equal sign that is found
 
@@ -100,8 +100,8 @@ equals_behind : (keyword value : List ℕ) → list_all is_keyword_byte keyword 
 unfolding equals_from
 equals_behind [] value word = rw equals_sets refl
 equals_behind (b ∷ keyword) value word =
-    let byte = both_left (is_keyword_byte b) (list_all is_keyword_byte keyword) word in
-    let rest = equals_behind keyword value (both_right (is_keyword_byte b) (list_all is_keyword_byte keyword) word) in
+    let byte = (and_parts (is_keyword_byte b) (list_all is_keyword_byte keyword) word).0 in
+    let rest = equals_behind keyword value (and_parts (is_keyword_byte b) (list_all is_keyword_byte keyword) word).1 in
     rw (keyword_byte_sets_not b byte, keyword_byte_stays b byte, rest) refl
 
 no_equals : (text : List ℕ) → HasNoEquals text → equals_from start text ≡ None
@@ -120,7 +120,7 @@ says_keyword : (fault : Fault) (place : ℕ) (keyword value : List ℕ) → is_k
     → operand_of fault place (keyword ++ 61 ∷ value) ≡ Ok (Keyword keyword, value)
 says_keyword fault place [] value word = absurd (false≢true word)
 says_keyword fault place (b ∷ keyword) value word =
-    let bytes = both_right (not (length (b ∷ keyword) == 0)) (list_all is_keyword_byte (b ∷ keyword)) word in
+    let bytes = (and_parts (not (length (b ∷ keyword) == 0)) (list_all is_keyword_byte (b ∷ keyword)) word).1 in
     operand_more fault place b (keyword ++ 61 ∷ value)
     ∙ ap (operand_split fault place ((b ∷ keyword) ++ 61 ∷ value)) (equals_behind (b ∷ keyword) value bytes)
     ∙ keyword_splits fault (b ∷ keyword) value word

@@ -1,11 +1,12 @@
 -- Operands that come one by one into a map by their keys.
-use Rattle.std.proofs.Common.{◌≡◌, ℕ, ◌+◌, ◌<◌, Bool, true, false, cond, ◌||◌, Option, None, Some, is_some, List, [], ◌∷◌, ◌++◌, map, length, get_or, take, drop, refl, sym, ap, ◌∙◌, subst, add-one, drop-cons, take-append-drop}
+use Rattle.std.proofs.Common.{◌≡◌, ℕ, ◌+◌, ◌<◌, Bool, true, false, cond, ◌||◌, Some, is_some, List, [], ◌∷◌, ◌++◌, map, length, get_or, take, drop, refl, sym, ap, ◌∙◌, subst, take-append-drop}
 use Rattle.std.proofs.lemmas.List.{map-id}
-use Rattle.std.proofs.lemmas.Bool.{false≢true}
+use Rattle.std.proofs.lemmas.Bool.{false≢true, or_parts}
 use Rattle.std.specs.List.{list_any}
 use Rattle.std.specs.Map.{lookup}
 use Rattle.std.proofs.lemmas.List.Folds.{list_any-append}
 use Rattle.std.proofs.Math.Bool.{or-true}
+use Rattle.iocm_types.proofs.Lists.{drop-item}
 use Rattle.iocm_statements.specs.declared.operands.OperandKey.{OperandKey}
 use Rattle.iocm_statements.specs.declared.operands.OperandKey.TheVariants.{Keyword, Bare}
 use Rattle.iocm_statements.specs.contracts.operands.OperandKeyPartialEq.TheImpl as derived
@@ -18,27 +19,19 @@ derived_eq (Keyword a) (Bare j) = refl
 derived_eq (Bare i) (Keyword b) = refl
 derived_eq (Bare i) (Bare j) = refl
 
-or_false_left : (a b : Bool) → (a || b) ≡ false → a ≡ false
-or_false_left true b h = h
-or_false_left false b h = refl
-
-or_false_right : (a b : Bool) → (a || b) ≡ false → b ≡ false
-or_false_right true b h = absurd (false≢true (sym h))
-or_false_right false b h = h
-
 -- an operand whose key is not there brings no twins
 pub stays_distinct : (es : List Operand) (key : OperandKey) (text : List ℕ)
     → has_twins es ≡ false → is_some (lookup (derived.ghosts.eq key) es) ≡ false → has_twins (es ++ (key, text) ∷ []) ≡ false
 stays_distinct [] key text distinct absent = refl
 stays_distinct ((k, t) ∷ es) key text distinct absent =
-    by (derived.ghosts.eq key k) refl absent (stays_distinct es key text (or_false_right _ _ distinct))
+    by (derived.ghosts.eq key k) refl absent (stays_distinct es key text (or_parts _ _ distinct).1)
   where
     by : (b : Bool) → derived.ghosts.eq key k ≡ b → is_some (cond b (Some t) (lookup (derived.ghosts.eq key) es)) ≡ false
         → (is_some (lookup (derived.ghosts.eq key) es) ≡ false → has_twins (es ++ (key, text) ∷ []) ≡ false)
         → (list_any (λ (other : Operand). same_key other.0 k) (es ++ (key, text) ∷ []) || has_twins (es ++ (key, text) ∷ [])) ≡ false
     by true same found rest = absurd (false≢true (sym found))
     by false other missing rest =
-        let none : list_any (λ (other : Operand). same_key other.0 k) es ≡ false = or_false_left _ _ distinct in
+        let none : list_any (λ (other : Operand). same_key other.0 k) es ≡ false = (or_parts _ _ distinct).0 in
         let apart : same_key key k ≡ false = sym (derived_eq key k) ∙ other in
         rw (rest missing, list_any-append (λ (other : Operand). same_key other.0 k) es ((key, text) ∷ []), none, apart) refl
 
@@ -57,17 +50,13 @@ becomes_twin ((k, t) ∷ es) rest key text found =
         rw (list_any-append (λ (other : Operand). same_key other.0 k) es ((key, text) ∷ rest), twin, or-true (list_any (λ (other : Operand). same_key other.0 k) es)) refl
     by false other there more = rw (more there) (or-true _)
 
-pub none_from : {A : Type 0} → (o : Option A) → is_some o ≡ false → o ≡ None
-none_from None h = refl
-none_from (Some x) h = absurd (false≢true (sym h))
-
 -- the items that came first, the item at hand, and the rest are all
 cut_at : (items yielded : List Operand) (e : Operand)
     → map (λ x. x) yielded ≡ take (length yielded) items → (length yielded < length items) × (e ≡ get_or items (length yielded) e)
     → yielded ++ e ∷ drop (length yielded + 1) items ≡ items
 cut_at items yielded e front here =
     let opened : drop (length yielded) items ≡ e ∷ drop (length yielded + 1) items =
-    rw (add-one, drop-cons items (length yielded) e here.0, ← here.1) refl in
+    drop-item items (length yielded) e here.0 here.1 in
     let same : yielded ≡ take (length yielded) items = sym (map-id yielded) ∙ front in
     ap (λ (xs : List Operand). xs ++ e ∷ drop (length yielded + 1) items) same
     ∙ ap (λ (xs : List Operand). take (length yielded) items ++ xs) (sym opened)

@@ -7,11 +7,11 @@ use Rattle.iocm_types.specs.Fault.{◌>>=◌}
 use Rattle.iocm_types.specs.Each.{each, after_front}
 use Rattle.iocm_types.proofs.Lists.{drop-item}
 
--- an item behind what was gathered is in front of what the rest gives
-pub front_grows : {B : Type 0} (front : List B) (y : B) (rest : Result (List B) Fault)
-    → after_front front (rest >>= λ ys. Ok (y ∷ ys)) ≡ after_front (front ++ y ∷ []) rest
-front_grows front y (Ok ys) = ap Ok (sym (append_assoc front (y ∷ []) ys))
-front_grows front y (Err e) = refl
+-- items behind what was gathered are in front of what the rest gives
+pub front_grows : {B : Type 0} (front ys : List B) (rest : Result (List B) Fault)
+    → after_front front (rest >>= λ zs. Ok (ys ++ zs)) ≡ after_front (front ++ ys) rest
+front_grows front ys (Ok zs) = ap Ok (sym (append_assoc front ys zs))
+front_grows front ys (Err e) = refl
 
 -- an item that is read goes to what was gathered
 pub each_goes_on : {A B : Type 0} (read : ℕ → A → Result B Fault) (front : List B) (xs : List A) (i : ℕ) (x : A) (y : B)
@@ -19,7 +19,7 @@ pub each_goes_on : {A B : Type 0} (read : ℕ → A → Result B Fault) (front :
     → after_front front (each read i (drop i xs)) ≡ after_front (front ++ y ∷ []) (each read (i + 1) (drop (i + 1) xs))
 unfolding each
 each_goes_on read front xs i x y within item is =
-    rw (drop-item xs i x within item, is) (front_grows front y (each read (i + 1) (drop (i + 1) xs)))
+    rw (drop-item xs i x within item, is) (front_grows front (y ∷ []) (each read (i + 1) (drop (i + 1) xs)))
 
 -- an item that is refused is the answer
 pub each_fails : {A B : Type 0} (read : ℕ → A → Result B Fault) (front : List B) (xs : List A) (i : ℕ) (x : A) (f : Fault)

@@ -1,3 +1,4 @@
+pub mod Any
 pub mod Each
 pub mod Entries
 pub mod KeyOrder

@@ -6,7 +6,8 @@ use Rattle.std.proofs.lemmas.Iterator.Consumers.{YieldsList-turn, YieldsList-so_
 use Rattle.indexmap.proofs.CallerLemmas.{insert_entry-new}
 use Rattle.iocm_statements.specs.Operands.{Operand, has_twins}
 use Rattle.iocm_statements.specs.contracts.operands.OperandKeyPartialEq.TheImpl as derived
-use Rattle.iocm_statements.proofs.Twins.{none_from, stays_distinct, twin_found}
+use Rattle.iocm_types.proofs.Tests.{absent}
+use Rattle.iocm_statements.proofs.Twins.{stays_distinct, twin_found}
 use Rattle.iocm_statements.proofs.parser.keyed.Goals as goal
 
 pub returns-then-is_some : goal.returns-then-is_some
@@ -22,11 +23,11 @@ returns-then-is_some c =
 
 pub loop-key-preserved : goal.loop-key-preserved
 loop-key-preserved c =
-    let absent : is_some (lookup (derived.ghosts.eq c.in-Some.key) c.loop-key.map.entries) ≡ false =
+    let unused : is_some (lookup (derived.ghosts.eq c.in-Some.key) c.loop-key.map.entries) ≡ false =
     ap is_some (sym c.in_ok-insert.ensures.old) ∙ sym c.if-is_some.ensures in
     record {
       kept = c.in_ok-insert.ensures.entries
-          ∙ insert_entry-new derived.ghosts.eq c.loop-key.map c.in-Some.key c.in-Some.text (none_from _ absent)
+          ∙ insert_entry-new derived.ghosts.eq c.loop-key.map c.in-Some.key c.in-Some.text (absent _ unused)
           ∙ ap (λ (es : List Operand). es ++ (c.in-Some.key, c.in-Some.text) ∷ []) c.loop-key.invariant.kept;
-      distinct = stays_distinct c.loop-key.yielded c.in-Some.key c.in-Some.text c.loop-key.invariant.distinct (rw (← c.loop-key.invariant.kept) absent);
+      distinct = stays_distinct c.loop-key.yielded c.in-Some.key c.in-Some.text c.loop-key.invariant.distinct (rw (← c.loop-key.invariant.kept) unused);
     }
