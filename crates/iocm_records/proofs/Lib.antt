@@ -1,9 +1,4 @@
 pub mod Claiming
-pub mod Filtering
-pub mod Gathering
-pub mod Images
-pub mod Levels
 pub mod Machine
-pub mod Naming
 pub mod Places
 pub mod Rows

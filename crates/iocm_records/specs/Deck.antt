@@ -1,6 +1,6 @@
 -- What a configuration deck means: the records of its statements, or the first fault.
 -- IOCP User's Guide; the order of faults is own.
-use Rattle.std.specs.Prelude.{ℕ, ◌||◌, Bool, true, false, is_none, if◌then◌else◌, Option, None, Some, List, [], ◌∷◌, ◌++◌, map, Result, Ok, Err, codes, unwrap_or}
+use Rattle.std.specs.Prelude.{ℕ, ◌+◌, ◌%◌, ◌||◌, Bool, true, false, is_none, if◌then◌else◌, Option, None, Some, List, [], ◌∷◌, ◌++◌, map, Result, Ok, Err, codes, unwrap_or}
 use Rattle.std.specs.List.{list_any, range_with_len}
 use Rattle.std.specs.Result.{result_ok}
 use Rattle.iocm_types.specs.declared.fault.Fault.{Fault}
@@ -16,13 +16,14 @@ use Rattle.iocm_statements.specs.declared.statement.Statement.{Statement}
 use Rattle.iocm_statements.specs.Operands.{Operand, text_under, has_bare}
 use Rattle.iocm_model.specs.Machine.Record.{Rec, ImageRecord, UnitRecord, path, unit, device, image, online, key_of}
 use Rattle.iocm_records.specs.Progress.{Progress, has_key}
-use Rattle.iocm_records.specs.declared.chpid.Lists.{Lists}
-use Rattle.iocm_records.specs.declared.iodevice.Devices.{Devices}
-use Rattle.iocm_records.specs.Resource.{partition_images, names_in}
-use Rattle.iocm_records.specs.Chpid.{path_of, lists_of}
-use Rattle.iocm_records.specs.Cntlunit.{unit_number, paths_of_value, ranges_of, cuadd_of}
-use Rattle.iocm_records.specs.Iodevice.{devices_of, units_of, first_address, device_at}
-use Rattle.iocm_records.specs.LeftOut.{is_left_out, is_other_form}
+use Rattle.iocm_operands.specs.declared.chpid.Lists.{Lists}
+use Rattle.iocm_operands.specs.declared.iodevice.Devices.{Devices}
+use Rattle.iocm_operands.specs.Resource.{partition_images, names_in}
+use Rattle.iocm_operands.specs.Chpid.{chpid_path, lists_of}
+use Rattle.iocm_values.specs.Numbers.{unit_number}
+use Rattle.iocm_operands.specs.Cntlunit.{paths_of_value, ranges_of, cuadd_of}
+use Rattle.iocm_operands.specs.Iodevice.{devices_of, units_of, first_address}
+use Rattle.iocm_operands.specs.LeftOut.{is_left_out, is_other_form}
 
 -- the images that a RESOURCE statement gives; without PARTITION there are none
 abbrev pub resource_images : Fault → List Operand → Result (List ImageRecord) Fault
@@ -53,7 +54,7 @@ kind_of operands = if has_bare (codes "SHARED") operands then Shared else Dedica
 -- the records of a CHPID statement, in a machine of these images
 abbrev pub chpid_records : Fault → List ImageRecord → List Operand → Result (List Rec) Fault
 chpid_records fault images operands =
-    or_fault fault (text_under (codes "PATH") operands) >>= path_of fault >>= λ (p : CssPath).
+    or_fault fault (text_under (codes "PATH") operands) >>= chpid_path fault >>= λ (p : CssPath).
     lists_of fault (kind_of operands) p.css (names_in p.css images) (text_under (codes "PARTITION") operands) >>= λ lists.
     Ok (path_records p.css p.path (kind_of operands) lists)
 
@@ -70,9 +71,15 @@ unit_fields fault operands =
 abbrev pub cntlunit_records : Fault → List Operand → Result (List Rec) Fault
 cntlunit_records fault operands = unit_fields fault operands >>= λ (u : UnitRecord). Ok (unit u ∷ [])
 
+-- the unit address of the device at a place: one more for each device, or the last two digits of its number
+abbrev pub address_at : Option ℕ → ℕ → ℕ → ℕ
+address_at (Some first) place number = first + place
+address_at None place number = number % 256
+
 -- the record of the device at a place of its statement
 abbrev pub device_record : Devices → List ℕ → Option ℕ → ℕ → Rec
-device_record devices units address place = device (device_at devices units address place)
+device_record devices units address place = let number = devices.first + place in
+    device (record { set = 0; number = number; units = units; unit_address = address_at address place number; candidates = None; carried = [] })
 
 -- the records of an IODEVICE statement, one for each device
 abbrev pub iodevice_records : Fault → List Operand → Result (List Rec) Fault

@@ -1,11 +1,3 @@
-pub mod ByCss
-pub mod Chpid
-pub mod Cntlunit
 pub mod Deck
-pub mod Iodevice
-pub mod Leaves
-pub mod LeftOut
 pub mod Meaning
-pub mod NameSet
 pub mod Progress
-pub mod Resource

@@ -4,10 +4,9 @@ ghost use Rattle.iocm_model.specs.Machine.Configuration.{HasNoKeyTwice};
 ghost use Rattle.iocm_records.specs.Deck as deck;
 
 use crate::Record;
-use crate::left_out::{has_left_out, has_other_form};
 use crate::progress::Progress;
-use crate::resource::ImageEntry;
 use crate::statements::{resource_images, statement_records};
+use iocm_operands::{ImageEntry, has_left_out, has_other_form};
 use iocm_statements::{Operands, Operation, Statement};
 use iocm_types::{Fault, Rule};
 use std::alloc::{AllocError, Global};

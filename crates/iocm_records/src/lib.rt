@@ -5,25 +5,16 @@
 //! another allocator.
 //!
 //! `from_statements` reads the statements of a configuration deck: it gives what `Deck.antt` in `specs/`
-//! says of them, or the first fault with its line. The forms of each operand stand in a file of their own in
-//! `specs/`, and their readers in the file of the same name in `src/`.
+//! says of them, or the first fault with its line. The operands of each statement are read by `iocm_operands`.
 //! Begin with `record.rt`, then `specs/Deck.antt`, then `deck.rt`.
 #![tactic(auto)]
 
-mod by_css;
 mod carried;
-mod chpid;
-mod cntlunit;
 mod copies;
 mod deck;
-mod iodevice;
-mod leaves;
-mod left_out;
-mod name_set;
 mod names;
 mod progress;
 mod record;
-mod resource;
 mod statements;
 
 pub use carried::Carried;

@@ -3,16 +3,16 @@ ghost use Rattle.std.specs.List.{range_with_len};
 ghost use Rattle.iocm_types.specs.Fault.{Gives};
 ghost use Rattle.iocm_model.specs.Machine.Record.{image};
 ghost use Rattle.iocm_records.specs.Meaning.{unit_of};
-ghost use Rattle.iocm_records.specs.Iodevice.{address_at};
 ghost use Rattle.iocm_records.specs.Deck as deck;
 
-use crate::chpid::{Lists, lists_of, path_of};
-use crate::cntlunit::{cuadd_of, paths_of_value, ranges_of, unit_number};
-use crate::iodevice::{Devices, devices_of, first_address, units_of};
-use crate::resource::{ImageEntry, names_in, partition_images};
 use crate::{DeviceFields, PathFields, Record, RecordBody, UnitFields};
+use iocm_operands::{
+    Devices, ImageEntry, Lists, chpid_path, cuadd_of, devices_of, first_address, lists_of,
+    names_in, partition_images, paths_of_value, ranges_of, units_of,
+};
 use iocm_statements::{Operands, Operation};
 use iocm_types::{Chpid, Css, DevNo, Fault, List, Name, PathKind, SetNo, UnitNo};
+use iocm_values::unit_number;
 use std::alloc::{AllocError, Global};
 
 /// The images that a RESOURCE statement gives; without PARTITION there are none.
@@ -122,7 +122,7 @@ fn chpid_records(
     ensures { Gives (λ v. v.items) result (deck.chpid_records fault images.now operands.now) }
 {
     let text = operands.get(b"PATH").ok_or(fault)?;
-    let path = path_of(alloc, text, fault)?;
+    let path = chpid_path(alloc, text, fault)?;
     let kind = kind_of(operands);
     let all = names_in(alloc, path.css, images)?;
     let lists = lists_of(
@@ -172,7 +172,7 @@ fn cntlunit_records(alloc: Global, operands: &Operands, fault: Fault) -> Result<
 // The unit address of the device at a place.
 fn address_at(first: Option<u32>, place: u32, number: u32) -> u8
     requires { IfSome first (λ n. n + place < 256) }
-    ensures { result ≡ address_at first place number }
+    ensures { result ≡ deck.address_at first place number }
 {
     match first {
         Some(first) => (first + place) as u8,

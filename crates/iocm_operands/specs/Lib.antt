@@ -1,0 +1,5 @@
+pub mod Chpid
+pub mod Cntlunit
+pub mod Iodevice
+pub mod LeftOut
+pub mod Resource

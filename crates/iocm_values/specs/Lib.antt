@@ -1,0 +1,4 @@
+pub mod Groups
+pub mod Leaves
+pub mod NameSet
+pub mod Numbers
