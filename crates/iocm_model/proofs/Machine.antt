@@ -1,3 +1,4 @@
 -- Configurations and views.
+pub mod Masks
 pub mod OwnKeys
 pub mod Views

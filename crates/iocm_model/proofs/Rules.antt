@@ -1,2 +1,3 @@
 -- The first breach of the rules.
 pub mod FirstBreach
+pub mod LeastBreach

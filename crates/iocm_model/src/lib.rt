@@ -10,6 +10,7 @@
 #![tactic(auto)]
 
 mod edit_laws;
+mod mask_laws;
 mod number_laws;
 mod rule_laws;
 mod run_laws;
@@ -18,6 +19,7 @@ mod tree_laws;
 mod view_laws;
 
 pub use edit_laws::{an_edit_alters_what_differs, the_least_subchannel_is_named};
+pub use mask_laws::each_bit_is_of_its_path;
 pub use number_laws::{
     cells_are_the_numbers, no_number_comes_twice, numbers_after_a_change, numbers_go_back,
     reached_places_are_of_devices, the_lowest_free_number_is_free,

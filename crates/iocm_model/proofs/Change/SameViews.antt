@@ -14,13 +14,13 @@ both_hold true true h k = refl
 both_hold true false h k = k
 both_hold false b h k = h
 
-same_numbers : (xs ys : List ℕ) → pointwise nat_eq xs ys ≡ true → xs ≡ ys
+pub same_numbers : (xs ys : List ℕ) → pointwise nat_eq xs ys ≡ true → xs ≡ ys
 same_numbers [] [] h = refl
 same_numbers [] (y ∷ ys) h = cc
 same_numbers (x ∷ xs) [] h = cc
 same_numbers (x ∷ xs) (y ∷ ys) h = let p = both_true _ _ h in λ i. eqb-true x y p.0 i ∷ same_numbers xs ys p.1 i
 
-own_numbers : (xs : List ℕ) → pointwise nat_eq xs xs ≡ true
+pub own_numbers : (xs : List ℕ) → pointwise nat_eq xs xs ≡ true
 own_numbers [] = refl
 own_numbers (x ∷ xs) = both_hold _ _ (eq-eqb x x refl) (own_numbers xs)
 

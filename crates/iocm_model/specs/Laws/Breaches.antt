@@ -3,7 +3,11 @@ use Rattle.std.specs.Prelude.{◌≡◌, Bool, true, false, ◌↔◌, None, Som
 use Rattle.std.specs.List.{list_any}
 use Rattle.iocm_types.specs.declared.rule.Rule.{Rule}
 use Rattle.iocm_model.specs.Machine.Record.{Rec, key_of}
-use Rattle.iocm_model.specs.Machine.Configuration.{Configuration, records_of}
+use Rattle.iocm_model.specs.Machine.Configuration.{Configuration, IsKeyed, records_of}
+use Rattle.std.specs.FinMap.{get}
+use Rattle.std.specs.declared.cmp.Ordering.TheVariants.{Less}
+use Rattle.iocm_types.specs.declared.key.Key.{Key}
+use Rattle.iocm_types.specs.Key.{key_cmp}
 use Rattle.iocm_model.specs.Machine.Numbering.{Numbering}
 use Rattle.iocm_model.specs.Rules.FirstBreach.{Breach, rules_of, first_breach}
 
@@ -40,3 +44,19 @@ AnswersTheFirst = (c : Configuration) (n : Numbering) (b : Breach) → first_bre
 -- none is answered exactly where every rule is kept
 abbrev pub AnswersNone : Type 0
 AnswersNone = (c : Configuration) (n : Numbering) → (first_breach c n ≡ None) ↔ AreKept (rules_of c n) (records_of c)
+
+-- a breach is at the least key that breaks its rule, and no rule before it is broken
+pub record IsLeast (c : Configuration) (n : Numbering) (b : Breach) : Type 0 where
+  pub before : List Law
+  pub breaks : Rec → Bool
+  pub after : List Law
+  pub culprit : Rec
+  pub of_laws : rules_of c n ≡ before ++ (b.rule, breaks) ∷ after
+  pub kept_before : AreKept before (records_of c)
+  pub there : get c b.key ≡ Some culprit
+  pub broken : breaks culprit ≡ true
+  pub least : (key : Key) (r : Rec) → get c key ≡ Some r → key_cmp key b.key ≡ Less → breaks r ≡ false
+
+-- the one that is answered is, where each record stands under its own key
+abbrev pub AnswersTheLeast : Type 0
+AnswersTheLeast = (c : Configuration) (n : Numbering) (b : Breach) → IsKeyed c → first_breach c n ≡ Some b → IsLeast c n b
