@@ -5,7 +5,7 @@ use Rattle.std.proofs.lemmas.List.Sums.{fold-append}
 use Rattle.std.proofs.lemmas.Bool.{eqb-true, eq-eqb, and_parts, not-true, both_ways}
 use Rattle.iocm_columns.specs.declared.going.Going.{Going}
 use Rattle.iocm_columns.specs.declared.going.Going.TheVariants.{Exactly, AtNext, Ended}
-use Rattle.iocm_columns.specs.declared.record.Record.{Record}
+use Rattle.iocm_columns.specs.declared.statement_card.StatementCard.{StatementCard}
 use Rattle.iocm_columns.specs.Columns.{after_blanks, behind_operation, continuation_area}
 use Rattle.iocm_columns.specs.Part.{switched, is_quoting, ends, front, Part, part_with}
 use Rattle.iocm_columns.specs.Statements.{with_continuation, statement_of}
@@ -146,10 +146,10 @@ front_only text (b ∷ bs) (s ∷ slice) part =
 abbrev part_at : List ℕ → Going → Part
 part_at text going = record { text = text; going = going }
 
-abbrev SlicesOf : List ℕ → Going → List Record → Type 0
+abbrev SlicesOf : List ℕ → Going → List StatementCard → Type 0
 SlicesOf text going rs = (slices : List (List ℕ)) × AreSlices text going rs slices × ((fold with_continuation (part_at text going) rs).text ≡ text ++ concat slices)
 
-slices_found : (text : List ℕ) (going : Going) (rs : List Record) → SlicesOf text going rs
+slices_found : (text : List ℕ) (going : Going) (rs : List StatementCard) → SlicesOf text going rs
 slices_found text going [] = ([], tt, sym (append-nil text))
 slices_found text Exactly (r ∷ rs) =
     let area = continuation_area r.columns in
@@ -165,7 +165,7 @@ slices_found text Ended (r ∷ rs) =
     let more = slices_found text Ended rs in
     ([] ∷ more.0, (refl, more.1), more.2)
 
-slices_only : (text : List ℕ) (going : Going) (rs : List Record) (slices : List (List ℕ)) → AreSlices text going rs slices
+slices_only : (text : List ℕ) (going : Going) (rs : List StatementCard) (slices : List (List ℕ)) → AreSlices text going rs slices
     → (fold with_continuation (part_at text going) rs).text ≡ text ++ concat slices
 slices_only text going [] [] are = sym (append-nil text)
 slices_only text going [] (s ∷ ss) are = absurd are
@@ -183,8 +183,8 @@ slices_only text AtNext (r ∷ rs) (s ∷ ss) are =
 slices_only text Ended (r ∷ rs) (s ∷ ss) are =
     slices_only text Ended rs ss are.1 ∙ ap (λ x. text ++ (x ++ concat ss)) (sym are.0)
 
--- each statement has slices, one for each record
-pub text_found : (r : Record) (rs : List Record) → (slices : List (List ℕ)) × AreSlicesOf r rs slices × ((statement_of (r ∷ rs)).text ≡ concat slices)
+-- each statement has slices, one for each card
+pub text_found : (r : StatementCard) (rs : List StatementCard) → (slices : List (List ℕ)) × AreSlicesOf r rs slices × ((statement_of (r ∷ rs)).text ≡ concat slices)
 text_found r rs =
     let columns = behind_operation r.columns in
     let slice = front false columns in
@@ -192,7 +192,7 @@ text_found r rs =
     (slice ∷ more.0, (front_found [] columns, more.1), more.2)
 
 -- and the text is the concatenation of any such slices
-pub text_only : (r : Record) (rs : List Record) (slices : List (List ℕ)) → AreSlicesOf r rs slices → (statement_of (r ∷ rs)).text ≡ concat slices
+pub text_only : (r : StatementCard) (rs : List StatementCard) (slices : List (List ℕ)) → AreSlicesOf r rs slices → (statement_of (r ∷ rs)).text ≡ concat slices
 text_only r rs [] are = absurd are
 text_only r rs (s ∷ ss) are =
     let columns = behind_operation r.columns in

@@ -1,20 +1,20 @@
--- The first breach of a deck is that of its first record, or that of the records behind it.
+-- The first fault between cards of a deck is that of its first card, or that of the cards behind it.
 use Rattle.std.proofs.Common.{◌≡◌, None, Some, List, [], ◌∷◌, length, refl, arith}
 use Rattle.iocm_types.specs.declared.fault.Fault.{Fault}
-use Rattle.iocm_columns.specs.declared.record.Record.{Record}
-use Rattle.iocm_columns.specs.Records.{breach, first_breach}
+use Rattle.iocm_columns.specs.declared.statement_card.StatementCard.{StatementCard}
+use Rattle.iocm_columns.specs.StatementCards.{continuation_fault, first_continuation_fault}
 
-pub breach_here : (rows : List Record) (row : Record) (more : List Record) (fault : Fault) → rows ≡ row ∷ more → breach row more ≡ Some fault → first_breach rows ≡ Some fault
-unfolding first_breach
-breach_here rows row more fault are is = rw (are, is) refl
+pub fault_here : (rows : List StatementCard) (row : StatementCard) (more : List StatementCard) (fault : Fault) → rows ≡ row ∷ more → continuation_fault row more ≡ Some fault → first_continuation_fault rows ≡ Some fault
+unfolding first_continuation_fault
+fault_here rows row more fault are is = rw (are, is) refl
 
-pub breach_later : (rows : List Record) (row : Record) (more : List Record) → rows ≡ row ∷ more → breach row more ≡ None → first_breach rows ≡ first_breach more
-unfolding first_breach
-breach_later rows row more are is = rw (are, is) refl
+pub fault_later : (rows : List StatementCard) (row : StatementCard) (more : List StatementCard) → rows ≡ row ∷ more → continuation_fault row more ≡ None → first_continuation_fault rows ≡ first_continuation_fault more
+unfolding first_continuation_fault
+fault_later rows row more are is = rw (are, is) refl
 
-pub breach_never : (rows : List Record) → length rows ≡ 0 → first_breach rows ≡ None
-unfolding first_breach
-breach_never [] none = refl
-breach_never (row ∷ more) none = absurd (omega arith)
+pub no_fault_left : (rows : List StatementCard) → length rows ≡ 0 → first_continuation_fault rows ≡ None
+unfolding first_continuation_fault
+no_fault_left [] none = refl
+no_fault_left (row ∷ more) none = absurd (omega arith)
 
-pub ruleset walking = (breach_here, breach_later, breach_never)
+pub ruleset walking = (fault_here, fault_later, no_fault_left)

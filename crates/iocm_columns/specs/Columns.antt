@@ -10,7 +10,7 @@ is_blank b = b == 32
 abbrev pub columns_of : List ℕ → List ℕ
 columns_of bytes = take 72 bytes ++ replicate (72 - length bytes) 32
 
--- column 72 is nonblank: the next record continues this one
+-- column 72 is nonblank: the next card continues this one
 abbrev pub is_continued : List ℕ → Bool
 is_continued columns = not (is_blank (slice_index columns 71))
 

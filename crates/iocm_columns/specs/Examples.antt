@@ -31,7 +31,7 @@ deck_without_margin =
     ++ line (codes "*")
     ++ line (codes "              B")
 
--- a deck that ends in a continued record
+-- a deck that ends in a continued card
 abbrev pub deck_without_end : List ℕ
 deck_without_end = line (codes "         ID A") ++ line (codes "         ID A,                                                         X") ++ line (codes "*")
 

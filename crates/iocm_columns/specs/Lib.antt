@@ -3,6 +3,6 @@ pub mod Columns
 pub mod Device
 pub mod Examples
 pub mod Part
-pub mod Records
+pub mod StatementCards
 pub mod Slices
 pub mod Statements

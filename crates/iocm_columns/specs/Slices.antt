@@ -1,10 +1,10 @@
--- What the statements of a deck are, as a relation to all of its records: their texts are slices of the records' columns.
+-- What the statements of a deck are, as a relation to all of its cards: their texts are slices of the cards' columns.
 use Rattle.std.specs.Prelude.{◌≡◌, ◌⊎◌, ⊤, ℕ, ◌==◌, true, false, IsTrue, List, [], ◌∷◌, ◌++◌, length}
 use Rattle.std.specs.List.{concat}
 use Rattle.iocm_columns.specs.declared.going.Going.{Going}
 use Rattle.iocm_columns.specs.declared.going.Going.TheVariants.{Exactly, AtNext, Ended}
 use Rattle.iocm_columns.specs.declared.joined.Joined.{Joined}
-use Rattle.iocm_columns.specs.declared.record.Record.{Record}
+use Rattle.iocm_columns.specs.declared.statement_card.StatementCard.{StatementCard}
 use Rattle.iocm_columns.specs.Columns.{after_blanks, behind_operation, continuation_area, has_margin, is_continued, name_of, operation_of}
 use Rattle.iocm_columns.specs.Part.{is_quoting, going_of}
 
@@ -22,7 +22,7 @@ going_behind text columns slice = going_of (text ++ slice) (length slice == leng
 
 -- one slice for each continuation, behind the text so far: at the front of columns 16 to 71, or of what follows
 -- the blanks there, or empty where the continuation is remark
-abbrev pub AreSlices : List ℕ → Going → List Record → List (List ℕ) → Type 0
+abbrev pub AreSlices : List ℕ → Going → List StatementCard → List (List ℕ) → Type 0
 AreSlices text going [] [] = ⊤
 AreSlices text going [] (s ∷ ss) = ⊥
 AreSlices text going (r ∷ rs) [] = ⊥
@@ -34,20 +34,20 @@ AreSlices text AtNext (r ∷ rs) (s ∷ ss) =
     IsFront text columns s × AreSlices (text ++ s) (going_behind text columns s) rs ss
 AreSlices text Ended (r ∷ rs) (s ∷ ss) = (s ≡ []) × AreSlices text Ended rs ss
 
--- one slice for each record of a statement: the first one at the front of the columns behind the operation
-abbrev pub AreSlicesOf : Record → List Record → List (List ℕ) → Type 0
+-- one slice for each card of a statement: the first one at the front of the columns behind the operation
+abbrev pub AreSlicesOf : StatementCard → List StatementCard → List (List ℕ) → Type 0
 AreSlicesOf r rs [] = ⊥
 AreSlicesOf r rs (s ∷ ss) =
     let columns = behind_operation r.columns in
     IsFront [] columns s × AreSlices s (going_behind [] columns s) rs ss
 
--- a record with exactly its continuations behind it: each but the last one is continued, by one with blank columns 1 to 15
-abbrev pub IsContinuedBy : Record → List Record → Type 0
+-- a card with exactly its continuations behind it: each but the last one is continued, by one with blank columns 1 to 15
+abbrev pub IsContinuedBy : StatementCard → List StatementCard → Type 0
 IsContinuedBy r [] = is_continued r.columns ≡ false
 IsContinuedBy r (c ∷ cs) = (is_continued r.columns ≡ true) × (has_margin c.columns ≡ true) × IsContinuedBy c cs
 
--- a statement of a record and its continuations: name and operation stand in the record, the text is slices of all of them
-pub record IsStatementOf (r : Record) (rs : List Record) (joined : Joined) : Type 0 where
+-- a statement of a card and its continuations: name and operation stand in the card, the text is slices of all of them
+pub record IsStatementOf (r : StatementCard) (rs : List StatementCard) (joined : Joined) : Type 0 where
   pub line : joined.line ≡ r.line
   pub name : joined.name ≡ name_of r.columns
   pub operation : joined.operation ≡ operation_of r.columns
@@ -55,9 +55,9 @@ pub record IsStatementOf (r : Record) (rs : List Record) (joined : Joined) : Typ
   pub in_columns : AreSlicesOf r rs slices
   pub text : joined.text ≡ concat slices
 
--- the statements of some records, which stand one after the other in all of them
-abbrev pub AreStatementsOf : List Record → List Joined → Type 0
+-- the statements of some cards, which stand one after the other in all of them
+abbrev pub AreStatementsOf : List StatementCard → List Joined → Type 0
 AreStatementsOf rs [] = rs ≡ []
 AreStatementsOf rs (joined ∷ others) =
-    (first : Record) × (more : List Record) × (rest : List Record) × (rs ≡ first ∷ (more ++ rest)) × IsContinuedBy first more
+    (first : StatementCard) × (more : List StatementCard) × (rest : List StatementCard) × (rs ≡ first ∷ (more ++ rest)) × IsContinuedBy first more
     × IsStatementOf first more joined × AreStatementsOf rest others

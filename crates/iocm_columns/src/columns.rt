@@ -32,7 +32,7 @@ impl Columns {
         })
     }
 
-    /// Whether the next record continues this one.
+    /// Whether the next card continues this one.
     pub(crate) fn is_continued(&self) -> bool
         ensures { result ≡ is_continued self.now }
     {

@@ -5,18 +5,18 @@ ghost use Rattle.iocm_types.specs.Fault.{at};
 ghost use Rattle.iocm_columns.specs.declared.card.Card.{Card};
 ghost use Rattle.iocm_columns.specs.declared.joined.Joined.{Joined};
 ghost use Rattle.iocm_columns.specs.Examples.{deck_with_tab, deck_without_end, deck_without_margin, device_deck, device_statement};
-ghost use Rattle.iocm_columns.specs.Records.{records_of};
+ghost use Rattle.iocm_columns.specs.StatementCards.{statement_cards};
 ghost use Rattle.iocm_columns.specs.Slices.{AreStatementsOf};
 ghost use Rattle.iocm_columns.specs.Statements.{joined_of, statements_of};
 
-/// The statements of a deck stand one after the other in all of its records, name and operation in the
-/// first record of each, and the text is the concatenation of one slice of the columns of each record;
-/// no other statements have this relation to the records.
+/// The statements of a deck stand one after the other in all of its cards, name and operation in the
+/// first card of each, and the text is the concatenation of one slice of the columns of each card;
+/// no other statements have this relation to the cards.
 pub fn statements_are_slices()
     ensures found { (cards : List Card) (joined : List Joined)
-        → statements_of cards ≡ Ok joined → AreStatementsOf (records_of cards) joined }
+        → statements_of cards ≡ Ok joined → AreStatementsOf (statement_cards cards) joined }
     ensures only { (cards : List Card) (joined : List Joined)
-        → AreStatementsOf (records_of cards) joined → statements_of cards ≡ Ok joined }
+        → AreStatementsOf (statement_cards cards) joined → statements_of cards ≡ Ok joined }
 {}
 
 /// Worked examples of decks and what they give.

@@ -5,9 +5,9 @@
 //! columns. The layer above may rely on this: each answer is exactly what the definitions `cards_of` and
 //! `statements_of` say of the bytes, or their first fault; only want of memory may come instead.
 //!
-//! Begin with `specs/Cards.antt` and `specs/Statements.antt`, which say what a line, a record and a
+//! Begin with `specs/Cards.antt` and `specs/Statements.antt`, which say what a line, a card and a
 //! statement are, then `reading.rt` and `statement.rt`. `laws.rt` states what a statement's text is in
-//! other words: one slice of the columns of each of its records.
+//! other words: one slice of the columns of each of its cards.
 #![tactic(auto)]
 
 mod card;
@@ -19,8 +19,8 @@ mod laws;
 mod lines;
 mod part;
 mod reading;
-mod record;
 mod statement;
+mod statement_card;
 #[cfg(test)]
 mod tests;
 mod words;

@@ -5,7 +5,7 @@ ghost use Rattle.iocm_columns.specs.Part.{part_after};
 ghost use Rattle.iocm_columns.specs.Statements.{groups, statement_of, statements_of, with_continuation};
 
 use crate::part::Part;
-use crate::record::{Record, find_breach, records};
+use crate::statement_card::{StatementCard, find_continuation_fault, statement_cards};
 use crate::{Card, Joined};
 use iocm_types::{Fault, Text};
 use std::alloc::{AllocError, Global};
@@ -27,16 +27,16 @@ use std::alloc::{AllocError, Global};
 pub fn join(alloc: Global, cards: &[Card]) -> Result<Vec<Joined>, Fault>
     ensures { Gives (λ v. v.items) result (statements_of cards.now) }
 {
-    let rows = records(alloc, cards)?;
-    if let Some(fault) = find_breach(rows.as_slice()) {
+    let rows = statement_cards(alloc, cards)?;
+    if let Some(fault) = find_continuation_fault(rows.as_slice()) {
         return Err(fault);
     }
     Ok(statements(alloc, rows.as_slice())?)
 }
 
-/// Each record with its continuations, as a statement.
+/// Each card with its continuations, as a statement.
 #[tactic(auto, using(crate::proofs::Grouping::grouping))]
-fn statements(alloc: Global, rows: &[Record]) -> Result<Vec<Joined>, AllocError>
+fn statements(alloc: Global, rows: &[StatementCard]) -> Result<Vec<Joined>, AllocError>
     ensures { IfOk result (λ v. v.items ≡ map statement_of (groups rows.now)) }
 {
     let mut statements = Vec::new(alloc);
@@ -49,9 +49,9 @@ fn statements(alloc: Global, rows: &[Record]) -> Result<Vec<Joined>, AllocError>
     Ok(statements)
 }
 
-/// How many records behind the first belong to it.
+/// How many cards behind the first belong to it.
 #[tactic(auto, using(crate::proofs::Grouping::grouping))]
-fn continuations_len(first: &Record, more: &[Record]) -> usize
+fn continuations_len(first: &StatementCard, more: &[StatementCard]) -> usize
     ensures within { result ≤ length more.now }
     ensures groups { groups (first.now ∷ more.now)
         ≡ (first.now ∷ take result more.now) ∷ groups (drop result more.now) }
@@ -67,7 +67,11 @@ fn continuations_len(first: &Record, more: &[Record]) -> usize
     more.len()
 }
 
-fn make_statement(alloc: Global, first: &Record, more: &[Record]) -> Result<Joined, AllocError>
+fn make_statement(
+    alloc: Global,
+    first: &StatementCard,
+    more: &[StatementCard],
+) -> Result<Joined, AllocError>
     ensures { IfOk result (λ joined. joined ≡ statement_of (first.now ∷ more.now)) }
 {
     let (name, operation, columns) = first.columns.words();
@@ -80,7 +84,7 @@ fn make_statement(alloc: Global, first: &Record, more: &[Record]) -> Result<Join
 }
 
 /// The operand part that begins in these columns and goes on in these continuations.
-fn operands(alloc: Global, columns: &[u8], more: &[Record]) -> Result<Text, AllocError>
+fn operands(alloc: Global, columns: &[u8], more: &[StatementCard]) -> Result<Text, AllocError>
     ensures { IfOk result
         (λ text. text ≡ (fold with_continuation (part_after [] columns.now) more.now).text) }
 {

@@ -5,8 +5,8 @@ use Rattle.std.proofs.lemmas.List.{append-nil}
 use Rattle.iocm_types.specs.declared.fault.Fault.{Fault}
 use Rattle.iocm_types.specs.Fault.{◌>>=◌}
 use Rattle.iocm_types.proofs.Lists.{drop-item}
-use Rattle.iocm_statements.specs.declared.place.Place.{Place}
-use Rattle.iocm_statements.specs.Place.{is_outside, step, cuts}
+use Rattle.iocm_statements.specs.declared.nesting.Nesting.{Nesting}
+use Rattle.iocm_statements.specs.Nesting.{is_outside, step, cuts}
 use Rattle.iocm_statements.specs.Pieces.{onto_first, pieces_from}
 
 -- the pieces that are cut, and the one at hand, in front of those of the rest
@@ -33,7 +33,7 @@ piece_grows pieces piece b (Err e) = refl
 piece_grows pieces piece b (Ok more) = ap (λ x. Ok (pieces ++ x)) (in_front_twice piece (b ∷ []) more)
 
 -- a comma that cuts ends the piece at hand
-pub cut_ends_piece : (fault : Fault) (pieces : List (List ℕ)) (piece : List ℕ) (p : Place) (text : List ℕ) (i b : ℕ)
+pub cut_ends_piece : (fault : Fault) (pieces : List (List ℕ)) (piece : List ℕ) (p : Nesting) (text : List ℕ) (i b : ℕ)
     → i < length text → b ≡ get_or text i b → cuts p b ≡ true
     → with_front pieces piece (pieces_from fault p (drop i text)) ≡ with_front (pieces ++ piece ∷ []) [] (pieces_from fault p (drop (i + 1) text))
 unfolding pieces_from
@@ -41,7 +41,7 @@ cut_ends_piece fault pieces piece p text i b within item cut =
     rw (drop-item text i b within item, cut) (cut_grows pieces piece (pieces_from fault p (drop (i + 1) text)))
 
 -- another byte goes to the piece at hand
-pub byte_joins_piece : (fault : Fault) (pieces : List (List ℕ)) (piece : List ℕ) (p q : Place) (text : List ℕ) (i b : ℕ)
+pub byte_joins_piece : (fault : Fault) (pieces : List (List ℕ)) (piece : List ℕ) (p q : Nesting) (text : List ℕ) (i b : ℕ)
     → i < length text → b ≡ get_or text i b → cuts p b ≡ false → step p b ≡ Some q
     → with_front pieces piece (pieces_from fault p (drop i text)) ≡ with_front pieces (piece ++ b ∷ []) (pieces_from fault q (drop (i + 1) text))
 unfolding pieces_from
@@ -49,21 +49,21 @@ byte_joins_piece fault pieces piece p q text i b within item kept next =
     rw (drop-item text i b within item, kept, next) (piece_grows pieces piece b (pieces_from fault q (drop (i + 1) text)))
 
 -- a parenthesis that closes nothing is the fault
-pub closing_fails : (fault : Fault) (pieces : List (List ℕ)) (piece : List ℕ) (p : Place) (text : List ℕ) (i b : ℕ)
+pub closing_fails : (fault : Fault) (pieces : List (List ℕ)) (piece : List ℕ) (p : Nesting) (text : List ℕ) (i b : ℕ)
     → i < length text → b ≡ get_or text i b → cuts p b ≡ false → step p b ≡ None
     → with_front pieces piece (pieces_from fault p (drop i text)) ≡ Err fault
 unfolding pieces_from
 closing_fails fault pieces piece p text i b within item kept next = rw (drop-item text i b within item, kept, next) refl
 
 -- at the end, outside, the piece at hand is the last
-pub end_ends_piece : (fault : Fault) (pieces : List (List ℕ)) (piece : List ℕ) (p : Place) (text : List ℕ) (i : ℕ)
+pub end_ends_piece : (fault : Fault) (pieces : List (List ℕ)) (piece : List ℕ) (p : Nesting) (text : List ℕ) (i : ℕ)
     → length text ≤ i → is_outside p ≡ true
     → with_front pieces piece (pieces_from fault p (drop i text)) ≡ Ok (pieces ++ piece ∷ [])
 unfolding pieces_from
 end_ends_piece fault pieces piece p text i past out = rw (drop_of_length-le text past, out, append-nil piece) refl
 
 -- at the end, inside, it is the fault
-pub end_fails : (fault : Fault) (pieces : List (List ℕ)) (piece : List ℕ) (p : Place) (text : List ℕ) (i : ℕ)
+pub end_fails : (fault : Fault) (pieces : List (List ℕ)) (piece : List ℕ) (p : Nesting) (text : List ℕ) (i : ℕ)
     → length text ≤ i → is_outside p ≡ false
     → with_front pieces piece (pieces_from fault p (drop i text)) ≡ Err fault
 unfolding pieces_from

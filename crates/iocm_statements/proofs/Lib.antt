@@ -1,5 +1,5 @@
 mod Cutting
-mod Places
+mod Nestings
 mod Relation
 mod Saying
 mod Splitting

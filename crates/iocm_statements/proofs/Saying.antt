@@ -6,58 +6,58 @@ use Rattle.std.proofs.Math.Seq.{take-append_seam, drop-append-add}
 use Rattle.std.specs.List.{list_all}
 use Rattle.std.specs.Option.{option_map, option_and_then}
 use Rattle.iocm_types.specs.declared.fault.Fault.{Fault}
-use Rattle.iocm_statements.specs.declared.place.Place.{Place}
+use Rattle.iocm_statements.specs.declared.nesting.Nesting.{Nesting}
 use Rattle.iocm_statements.specs.declared.operands.OperandKey.TheVariants.{Keyword, Bare}
-use Rattle.iocm_statements.specs.Place.{start, step, sets}
-use Rattle.iocm_statements.specs.Cutting.{place_behind}
+use Rattle.iocm_statements.specs.Nesting.{start, step, sets}
+use Rattle.iocm_statements.specs.Cutting.{nesting_behind}
 use Rattle.iocm_statements.specs.Operands.{Operand, equals_from, is_keyword_byte, is_keyword, keyword_operand, operand_split, operand_of}
 use Rattle.iocm_statements.specs.Splitting.{HasNoEquals, Says, FindsOperand, FindsNoOtherOperand}
-use Rattle.iocm_statements.proofs.Places.{sets_at_start, sets_at_equals, equals_sets, keyword_byte_sets_not, keyword_byte_stays}
+use Rattle.iocm_statements.proofs.Nestings.{sets_at_start, sets_at_equals, equals_sets, keyword_byte_sets_not, keyword_byte_stays}
 
 -- ---- the equal sign that is found
 
 -- it stands behind so many bytes, and they end outside
-abbrev Split : Place → List ℕ → Option ℕ → Type 0
-Split p text None = (a b : List ℕ) → text ≡ a ++ 61 ∷ b → place_behind p a ≢ Some start
-Split p text (Some n) = (take n text ++ 61 ∷ drop (n + 1) text ≡ text) × (place_behind p (take n text) ≡ Some start)
+abbrev Split : Nesting → List ℕ → Option ℕ → Type 0
+Split p text None = (a b : List ℕ) → text ≡ a ++ 61 ∷ b → nesting_behind p a ≢ Some start
+Split p text (Some n) = (take n text ++ 61 ∷ drop (n + 1) text ≡ text) × (nesting_behind p (take n text) ≡ Some start)
 
 no_text : (a b : List ℕ) → [] ≡ a ++ 61 ∷ b → ⊥
 no_text [] b e = cc
 no_text (x ∷ a) b e = cc
 
-split_here : (p : Place) (b : ℕ) (bs : List ℕ) → sets p b ≡ true → Split p (b ∷ bs) (Some 0)
+split_here : (p : Nesting) (b : ℕ) (bs : List ℕ) → sets p b ≡ true → Split p (b ∷ bs) (Some 0)
 split_here p b bs here = (ap (λ c. c ∷ bs) (sym (sets_at_equals p b here)), ap Some (sets_at_start p b here))
 
-none_longer : (p : Place) (b : ℕ) (bs : List ℕ) → sets p b ≡ false
-    → ((a c : List ℕ) → bs ≡ a ++ 61 ∷ c → option_and_then (λ q. place_behind q a) (step p b) ≢ Some start)
+none_longer : (p : Nesting) (b : ℕ) (bs : List ℕ) → sets p b ≡ false
+    → ((a c : List ℕ) → bs ≡ a ++ 61 ∷ c → option_and_then (λ q. nesting_behind q a) (step p b) ≢ Some start)
     → Split p (b ∷ bs) None
 none_longer p b bs other rest [] c e h =
     let equals : b ≡ 61 = cc in
-    let place : p ≡ start = cc in
-    false≢true (sym other ∙ (λ i. sets (place i) (equals i)) ∙ equals_sets)
+    let begun : p ≡ start = cc in
+    false≢true (sym other ∙ (λ i. sets (begun i) (equals i)) ∙ equals_sets)
 none_longer p b bs other rest (x ∷ a) c e h =
     let same : x ≡ b = cc in
     let more : bs ≡ a ++ 61 ∷ c = cc in
-    rest a c more (ap (λ y. option_and_then (λ q. place_behind q a) (step p y)) (sym same) ∙ h)
+    rest a c more (ap (λ y. option_and_then (λ q. nesting_behind q a) (step p y)) (sym same) ∙ h)
 
-longer : (p q : Place) (b : ℕ) (bs : List ℕ) (found : Option ℕ) → sets p b ≡ false → step p b ≡ Some q
+longer : (p q : Nesting) (b : ℕ) (bs : List ℕ) (found : Option ℕ) → sets p b ≡ false → step p b ≡ Some q
     → Split q bs found → Split p (b ∷ bs) (option_map suc found)
-longer p q b bs None other next at = none_longer p b bs other (λ a c e h. at a c e (sym (ap (option_and_then (λ r. place_behind r a)) next) ∙ h))
+longer p q b bs None other next at = none_longer p b bs other (λ a c e h. at a c e (sym (ap (option_and_then (λ r. nesting_behind r a)) next) ∙ h))
 longer p q b bs (Some n) other next at =
     let further : suc n + 1 ≡ suc (n + 1) = omega arith in
     (ap (λ k. b ∷ (take n bs ++ 61 ∷ drop k (b ∷ bs))) further ∙ ap (λ xs. b ∷ xs) at.0, rw next at.1)
 
-split_from : (p : Place) (text : List ℕ) → Split p text (equals_from p text)
+split_from : (p : Nesting) (text : List ℕ) → Split p text (equals_from p text)
 unfolding equals_from
 split_from p [] = λ a b e _. no_text a b e
 split_from p (b ∷ bs) = by (sets p b) refl (step p b) refl (λ q. split_from q bs)
   where
-    by : (here : Bool) → sets p b ≡ here → (next : Option Place) → step p b ≡ next
-        → ((q : Place) → Split q bs (equals_from q bs))
+    by : (here : Bool) → sets p b ≡ here → (next : Option Nesting) → step p b ≡ next
+        → ((q : Nesting) → Split q bs (equals_from q bs))
         → Split p (b ∷ bs) (cond here (Some 0) (option_and_then (λ q. option_map suc (equals_from q bs)) next))
     by true here next is rest = split_here p b bs here
     by false other None is rest =
-        none_longer p b bs other (λ a c e h. let none : None ≡ Some start = sym (ap (option_and_then (λ q. place_behind q a)) is) ∙ h in cc)
+        none_longer p b bs other (λ a c e h. let none : None ≡ Some start = sym (ap (option_and_then (λ q. nesting_behind q a)) is) ∙ h in cc)
     by false other (Some q) is rest = longer p q b bs (equals_from q bs) other is (rest q)
 
 -- ---- the operand that is found

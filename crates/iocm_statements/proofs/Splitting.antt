@@ -3,8 +3,8 @@ use Rattle.std.proofs.Common.{◌≡◌, ℕ, suc, ◌+◌, ◌<◌, ◌≤◌, 
 use Rattle.std.proofs.Math.ListN.{drop_of_length-le}
 use Rattle.std.proofs.lemmas.List.{drop_more}
 use Rattle.std.specs.Option.{option_map}
-use Rattle.iocm_statements.specs.declared.place.Place.{Place}
-use Rattle.iocm_statements.specs.Place.{step, sets}
+use Rattle.iocm_statements.specs.declared.nesting.Nesting.{Nesting}
+use Rattle.iocm_statements.specs.Nesting.{step, sets}
 use Rattle.iocm_statements.specs.Operands.{equals_from}
 
 -- so many bytes further on
@@ -17,25 +17,25 @@ one_further i None = refl
 one_further i (Some n) = ap Some (omega arith)
 
 -- the equal sign stands here
-pub equals_here : (p : Place) (text : List ℕ) (i : ℕ) → i < length text → sets p (get_or text i 0) ≡ true
+pub equals_here : (p : Nesting) (text : List ℕ) (i : ℕ) → i < length text → sets p (get_or text i 0) ≡ true
     → further i (equals_from p (drop i text)) ≡ Some i
 unfolding equals_from further
 equals_here p text i within here = rw (drop_more text i 0 within, here) (ap Some (omega arith))
 
 -- it stands further on
-pub equals_later : (p q : Place) (text : List ℕ) (i : ℕ) → i < length text → sets p (get_or text i 0) ≡ false → step p (get_or text i 0) ≡ Some q
+pub equals_later : (p q : Nesting) (text : List ℕ) (i : ℕ) → i < length text → sets p (get_or text i 0) ≡ false → step p (get_or text i 0) ≡ Some q
     → further i (equals_from p (drop i text)) ≡ further (i + 1) (equals_from q (drop (i + 1) text))
 unfolding equals_from further
 equals_later p q text i within other next = rw (drop_more text i 0 within, other, next) (one_further i (equals_from q (drop (i + 1) text)))
 
 -- there is none behind a parenthesis that closes nothing
-pub equals_lost : (p : Place) (text : List ℕ) (i : ℕ) → i < length text → sets p (get_or text i 0) ≡ false → step p (get_or text i 0) ≡ None
+pub equals_lost : (p : Nesting) (text : List ℕ) (i : ℕ) → i < length text → sets p (get_or text i 0) ≡ false → step p (get_or text i 0) ≡ None
     → further i (equals_from p (drop i text)) ≡ None
 unfolding equals_from further
 equals_lost p text i within other next = rw (drop_more text i 0 within, other, next) refl
 
 -- nor at the end
-pub equals_none : (p : Place) (text : List ℕ) (i : ℕ) → length text ≤ i → further i (equals_from p (drop i text)) ≡ None
+pub equals_none : (p : Nesting) (text : List ℕ) (i : ℕ) → length text ≤ i → further i (equals_from p (drop i text)) ≡ None
 unfolding equals_from further
 equals_none p text i past = rw (drop_of_length-le text past) refl
 

@@ -3,22 +3,22 @@ use Rattle.std.specs.Prelude.{◌≡◌, ◌≢◌, ℕ, Option, Some, List, [],
 use Rattle.std.specs.Option.{option_and_then}
 use Rattle.std.specs.List.{join_with_byte}
 use Rattle.iocm_types.specs.declared.fault.Fault.{Fault}
-use Rattle.iocm_statements.specs.declared.place.Place.{Place}
-use Rattle.iocm_statements.specs.Place.{start, step}
+use Rattle.iocm_statements.specs.declared.nesting.Nesting.{Nesting}
+use Rattle.iocm_statements.specs.Nesting.{start, step}
 use Rattle.iocm_statements.specs.Pieces.{pieces_of}
 
--- the place behind a text that begins at this place
-abbrev pub place_behind : Place → List ℕ → Option Place
-place_behind p [] = Some p
-place_behind p (b ∷ bs) = option_and_then (λ q. place_behind q bs) (step p b)
+-- the nesting behind a text that begins at this nesting
+abbrev pub nesting_behind : Nesting → List ℕ → Option Nesting
+nesting_behind p [] = Some p
+nesting_behind p (b ∷ bs) = option_and_then (λ q. nesting_behind q bs) (step p b)
 
 -- parentheses match and quotes end
 abbrev pub IsBalanced : List ℕ → Type 0
-IsBalanced text = place_behind start text ≡ Some start
+IsBalanced text = nesting_behind start text ≡ Some start
 
 -- each comma of the piece stands inside parentheses or quotes
 abbrev pub IsUncut : List ℕ → Type 0
-IsUncut piece = (a b : List ℕ) → piece ≡ a ++ 44 ∷ b → place_behind start a ≢ Some start
+IsUncut piece = (a b : List ℕ) → piece ≡ a ++ 44 ∷ b → nesting_behind start a ≢ Some start
 
 -- there are pieces; joined by commas they are the text; each is balanced, and has no comma at which to cut
 pub record IsCutInto (text : List ℕ) (pieces : List (List ℕ)) : Type 0 where

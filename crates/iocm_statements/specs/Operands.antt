@@ -8,10 +8,10 @@ use Rattle.iocm_types.specs.declared.fault.Fault.{Fault}
 use Rattle.iocm_types.specs.declared.rule.Rule.TheVariants.{S2, S4, S6}
 use Rattle.iocm_types.specs.Fault.{◌>>=◌, at}
 use Rattle.iocm_types.specs.Each.{each}
-use Rattle.iocm_statements.specs.declared.place.Place.{Place}
+use Rattle.iocm_statements.specs.declared.nesting.Nesting.{Nesting}
 use Rattle.iocm_statements.specs.declared.operands.OperandKey.{OperandKey}
 use Rattle.iocm_statements.specs.declared.operands.OperandKey.TheVariants.{Keyword, Bare}
-use Rattle.iocm_statements.specs.Place.{start, step, sets}
+use Rattle.iocm_statements.specs.Nesting.{start, step, sets}
 use Rattle.iocm_statements.specs.Pieces.{pieces_of}
 
 -- one operand: its key and its text
@@ -19,7 +19,7 @@ abbrev pub Operand : Type 0
 Operand = OperandKey × List ℕ
 
 -- how many bytes stand before the first equal sign outside parentheses and quotes, if there is one
-unfoldable pub equals_from : Place → List ℕ → Option ℕ
+unfoldable pub equals_from : Nesting → List ℕ → Option ℕ
 equals_from p [] = None
 equals_from p (b ∷ bs) =
     if sets p b then Some 0

@@ -2,16 +2,16 @@
 use Rattle.std.specs.Prelude.{ℕ, List, [], ◌∷◌, ◌++◌, if◌then◌else◌, Result, Ok, Err}
 use Rattle.iocm_types.specs.declared.fault.Fault.{Fault}
 use Rattle.iocm_types.specs.Fault.{◌>>=◌, or_fault}
-use Rattle.iocm_statements.specs.declared.place.Place.{Place}
-use Rattle.iocm_statements.specs.Place.{start, is_outside, step, cuts}
+use Rattle.iocm_statements.specs.declared.nesting.Nesting.{Nesting}
+use Rattle.iocm_statements.specs.Nesting.{start, is_outside, step, cuts}
 
 -- these bytes, in front of the first piece
 abbrev pub onto_first : List ℕ → List (List ℕ) → List (List ℕ)
 onto_first front [] = []
 onto_first front (piece ∷ pieces) = (front ++ piece) ∷ pieces
 
--- the pieces of a text that begins at this place, or the fault where parentheses do not match or a quote does not end
-unfoldable pub pieces_from : Fault → Place → List ℕ → Result (List (List ℕ)) Fault
+-- the pieces of a text that begins at this nesting, or the fault where parentheses do not match or a quote does not end
+unfoldable pub pieces_from : Fault → Nesting → List ℕ → Result (List (List ℕ)) Fault
 pieces_from fault p [] = if is_outside p then Ok ([] ∷ []) else Err fault
 pieces_from fault p (b ∷ bs) =
     if cuts p b then (pieces_from fault p bs >>= λ pieces. Ok ([] ∷ pieces))

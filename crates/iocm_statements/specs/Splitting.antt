@@ -2,13 +2,13 @@
 use Rattle.std.specs.Prelude.{◌≡◌, ◌≢◌, ℕ, true, List, [], ◌∷◌, ◌++◌, Some, Ok}
 use Rattle.iocm_types.specs.declared.fault.Fault.{Fault}
 use Rattle.iocm_statements.specs.declared.operands.OperandKey.TheVariants.{Keyword, Bare}
-use Rattle.iocm_statements.specs.Place.{start}
-use Rattle.iocm_statements.specs.Cutting.{place_behind}
+use Rattle.iocm_statements.specs.Nesting.{start}
+use Rattle.iocm_statements.specs.Cutting.{nesting_behind}
 use Rattle.iocm_statements.specs.Operands.{Operand, is_keyword, operand_of}
 
 -- no equal sign stands outside parentheses and quotes
 abbrev pub HasNoEquals : List ℕ → Type 0
-HasNoEquals text = (a b : List ℕ) → text ≡ a ++ 61 ∷ b → place_behind start a ≢ Some start
+HasNoEquals text = (a b : List ℕ) → text ≡ a ++ 61 ∷ b → nesting_behind start a ≢ Some start
 
 -- the text at this place is a keyword, an equal sign and the value; or it is not empty, has no equal sign,
 -- and is all of a bare text

@@ -15,12 +15,12 @@
 
 mod item;
 mod laws;
+mod nesting;
 mod number;
 mod operand;
 mod operands;
 mod operation;
 mod parser;
-mod place;
 mod split;
 mod statement;
 #[cfg(test)]

@@ -2,11 +2,11 @@ ghost use Rattle.std.specs.Prelude.{◌≡◌, ◌+◌, ◌≤◌, length, IfSom
 ghost use Rattle.std.specs.List.{list_all};
 ghost use Rattle.iocm_types.specs.Fault.{Gives};
 ghost use Rattle.iocm_types.specs.Each.{each};
-ghost use Rattle.iocm_statements.specs.Place.{start};
+ghost use Rattle.iocm_statements.specs.Nesting.{start};
 ghost use Rattle.iocm_statements.specs.Operands.{equals_from, is_keyword_byte, is_keyword, keyword_operand, operand_of, operand_texts};
 
 use crate::OperandKey;
-use crate::place::Place;
+use crate::nesting::Nesting;
 use crate::split::pieces;
 use iocm_types::{Fault, Text};
 use std::alloc::Global;
@@ -17,12 +17,12 @@ fn equals_at(text: &[u8]) -> Option<usize>
     ensures found { result ≡ equals_from start text.now }
     ensures within { IfSome result (λ n. n + 1 ≤ length text.now) }
 {
-    let mut place = Place::start();
+    let mut nesting = Nesting::start();
     for (index, byte) in text.iter().enumerate() {
-        if place.sets(*byte) {
+        if nesting.sets(*byte) {
             return Some(index);
         }
-        place = place.after(*byte)?;
+        nesting = nesting.after(*byte)?;
     }
     None
 }

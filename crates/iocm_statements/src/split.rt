@@ -2,9 +2,9 @@ ghost use Rattle.std.specs.Prelude.{◌≡◌};
 ghost use Rattle.iocm_types.specs.Fault.{Gives};
 ghost use Rattle.iocm_statements.specs.Pieces.{pieces_of};
 ghost use Rattle.iocm_statements.specs.Operands.{equals_from};
-ghost use Rattle.iocm_statements.specs.Place.{start};
+ghost use Rattle.iocm_statements.specs.Nesting.{start};
 
-use crate::place::Place;
+use crate::nesting::Nesting;
 use iocm_types::{Fault, Text};
 use std::alloc::Global;
 use std::mem;
@@ -20,16 +20,16 @@ pub fn pieces(alloc: Global, text: &[u8], fault: Fault) -> Result<Vec<Text>, Fau
 {
     let mut pieces = Vec::new(alloc);
     let mut piece = Text::new(alloc);
-    let mut place = Place::start();
+    let mut nesting = Nesting::start();
     for byte in text {
-        if place.cuts(*byte) {
+        if nesting.cuts(*byte) {
             pieces.push(mem::replace(&mut piece, Text::new(alloc)))?;
         } else {
-            place = place.after(*byte).ok_or(fault)?;
+            nesting = nesting.after(*byte).ok_or(fault)?;
             piece.push(*byte)?;
         }
     }
-    if !place.is_outside() {
+    if !nesting.is_outside() {
         return Err(fault);
     }
     pieces.push(piece)?;

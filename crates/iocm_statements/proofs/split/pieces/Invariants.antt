@@ -6,6 +6,6 @@ use Rattle.iocm_statements.proofs.split.pieces.Given as goal
 
 abbrev pub invariant-loop-byte : goal.invariant-loop-byte
 invariant-loop-byte l = record {
-  cut : with_front l.pieces.items l.piece (pieces_from l.fault l.place (drop l.byte-index l.text)) ≡ pieces_of l.fault l.text;
-  depth : l.place.depth ≤ l.byte-index;
+  cut : with_front l.pieces.items l.piece (pieces_from l.fault l.nesting (drop l.byte-index l.text)) ≡ pieces_of l.fault l.text;
+  depth : l.nesting.depth ≤ l.byte-index;
 }

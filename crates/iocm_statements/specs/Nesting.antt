@@ -1,18 +1,18 @@
--- Where a byte of a text stands: inside parentheses, inside quotes, or outside both.
+-- Nesting: inside how many parentheses a byte of a text stands, and whether inside quotes.
 -- Bytes by their codes: 39 is a quote, 40 and 41 are parentheses, 44 is a comma, 61 an equal sign.
 use Rattle.std.specs.Prelude.{ℕ, ◌+◌, ◌-◌, ◌==◌, ◌&&◌, Bool, false, not, if◌then◌else◌, Option, None, Some}
-use Rattle.iocm_statements.specs.declared.place.Place.{Place}
+use Rattle.iocm_statements.specs.declared.nesting.Nesting.{Nesting}
 
--- the place where a text begins
-abbrev pub start : Place
+-- the nesting at the beginning of a text
+abbrev pub start : Nesting
 start = record { depth = 0; quoted = false }
 
 -- outside parentheses and quotes
-unfoldable pub is_outside : Place → Bool
+unfoldable pub is_outside : Nesting → Bool
 is_outside p = not p.quoted && (p.depth == 0)
 
--- the place behind a byte; there is none behind a parenthesis that closes nothing
-unfoldable pub step : Place → ℕ → Option Place
+-- the nesting behind a byte; there is none behind a parenthesis that closes nothing
+unfoldable pub step : Nesting → ℕ → Option Nesting
 step p b =
     if b == 39 then Some (record p { quoted = not p.quoted })
     else if p.quoted then Some p
@@ -21,9 +21,9 @@ step p b =
     else Some p
 
 -- a comma that separates: one outside parentheses and quotes
-unfoldable pub cuts : Place → ℕ → Bool
+unfoldable pub cuts : Nesting → ℕ → Bool
 cuts p b = is_outside p && (b == 44)
 
 -- an equal sign that ends a keyword: one outside parentheses and quotes
-unfoldable pub sets : Place → ℕ → Bool
+unfoldable pub sets : Nesting → ℕ → Bool
 sets p b = is_outside p && (b == 61)
