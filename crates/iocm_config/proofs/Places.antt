@@ -8,6 +8,7 @@ use Rattle.iocm_types.specs.declared.key.Key.{Key}
 use Rattle.iocm_types.specs.Key.{key_cmp}
 use Rattle.iocm_types.proofs.KeyOrder.{keys_total, keys_exact}
 use Rattle.iocm_types.proofs.Entries.{values_keyed}
+use Rattle.iocm_types.proofs.Searched as searched
 use Rattle.iocm_types.proofs.Sorted as sorted
 use Rattle.iocm_types.proofs.Sorted.{IsPlace, IsGap}
 use Rattle.iocm_model.specs.Machine.Record.{Rec, key_of}
@@ -26,14 +27,10 @@ abbrev itself : Rec → Rec
 itself x = x
 
 pub place : (k : Key) (shown xs : List Rec) (i : ℕ) → shown ≡ xs → IsRising xs → i < length shown → Ended k shown (Ok i) → IsPlace key_cmp key_of k xs i
-place k shown xs i same up within ended =
-    let here = subst (λ (ys : List Rec). i < length ys) same within in
-    sorted.searched key_cmp key_of itself keys_total k xs (Ok i) up here (subst (λ (ys : List Rec). Ended k ys (Ok i)) same ended)
+place = searched.place_of key_cmp key_of itself keys_total
 
 pub gap : (k : Key) (shown xs : List Rec) (i : ℕ) → shown ≡ xs → IsRising xs → i ≤ length shown → Ended k shown (Err i) → IsGap key_cmp key_of k xs i
-gap k shown xs i same up within ended =
-    let here = subst (λ (ys : List Rec). i ≤ length ys) same within in
-    sorted.searched key_cmp key_of itself keys_total k xs (Err i) up here (subst (λ (ys : List Rec). Ended k ys (Err i)) same ended)
+gap = searched.gap_of key_cmp key_of itself keys_total
 
 -- the record at the place of a key is what the configuration has
 pub found : (k : Key) (xs : List Rec) (i : ℕ) (x : Rec) (m : Configuration) → map.from_sorted (with_keys xs) ≡ m → IsRising xs

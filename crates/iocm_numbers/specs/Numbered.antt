@@ -11,6 +11,10 @@ pub record Numbered : Type 0 where
   pub numbers : Numbering
   pub room : ℕ
 
+-- each entry's key with its value
+abbrev pub pairs_by : {X K : Type 0} → (X → K) → (X → ℕ) → List X → List (K × ℕ)
+pairs_by key value xs = map (λ x. (key x, value x)) xs
+
 -- each place with its number
 abbrev pub placed : List PlaceNumber → List (Place × ℕ)
 placed xs = map (λ (e : PlaceNumber). (e.place, e.number)) xs

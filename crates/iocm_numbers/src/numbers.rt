@@ -3,7 +3,7 @@ ghost use Rattle.std.specs.FinMap as map;
 ghost use Rattle.iocm_model.specs.Machine.Numbering.{cells_of, device_at};
 ghost use Rattle.iocm_numbers.specs.Numbered.{celled, cell_at};
 
-use crate::search::{put_cell, put_place, search_cells, search_places};
+use crate::search::{put, search};
 use crate::{CellDevice, PlaceNumber};
 use iocm_types::{DevNo, NumberCell, Place};
 use std::alloc::{AllocError, Allocator, Global};
@@ -59,7 +59,7 @@ impl<A: Allocator> Numbers<A> {
     pub fn number_of(&self, place: Place) -> Option<u16>
         ensures { result ≡ map.get self.now.numbers place }
     {
-        match search_places(&self.places, place) {
+        match search(&self.places, place) {
             Ok(at) => Some(self.places[at].number),
             Err(_) => None,
         }
@@ -69,7 +69,7 @@ impl<A: Allocator> Numbers<A> {
     pub fn device_at(&self, cell: NumberCell) -> Option<DevNo>
         ensures { result ≡ device_at self.now.numbers cell }
     {
-        match search_cells(&self.cells, cell) {
+        match search(&self.cells, cell) {
             Ok(at) => Some(self.cells[at].device),
             Err(_) => None,
         }
@@ -109,7 +109,7 @@ impl<A: Allocator> Numbers<A> {
         };
         let device = place.device;
         let Numbers { places, cells } = self;
-        put_place(places, PlaceNumber { place, number });
-        put_cell(cells, CellDevice { cell, device });
+        put(places, PlaceNumber { place, number });
+        put(cells, CellDevice { cell, device });
     }
 }

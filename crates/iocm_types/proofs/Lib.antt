@@ -7,5 +7,6 @@ pub mod Mapped
 pub mod Orderings
 pub mod Padding
 pub mod Permuted
+pub mod Searched
 pub mod Sorted
 pub mod Tests
