@@ -6,7 +6,7 @@ use Rattle.std.specs.FinMap as map
 use Rattle.std.proofs.Common.{map as list_map}
 use Rattle.iocm_types.specs.declared.key.Key.{Key}
 use Rattle.iocm_types.specs.Key.{key_cmp}
-use Rattle.iocm_types.proofs.KeyOrder.{keys_total, keys_exact}
+use Rattle.iocm_types.specs.KeyOrder.{keys_total, keys_exact}
 use Rattle.iocm_types.proofs.Entries.{values_keyed}
 use Rattle.iocm_types.proofs.Searched as searched
 use Rattle.iocm_types.proofs.Sorted as sorted

@@ -14,7 +14,7 @@ use Rattle.iocm_types.specs.declared.place.Place.{Place}
 use Rattle.iocm_types.specs.declared.place.NumberCell.{NumberCell}
 use Rattle.iocm_types.specs.Key.{key_cmp}
 use Rattle.iocm_types.specs.Place.{place_cmp, cell_cmp}
-use Rattle.iocm_types.proofs.KeyOrder.{places_total, places_exact, cells_total, cells_exact}
+use Rattle.iocm_types.specs.KeyOrder.{places_total, places_exact, cells_total, cells_exact}
 use Rattle.iocm_model.specs.Machine.Record.{Rec, DeviceRecord, key_of, id, resource, image, limit, path, unit, device, online}
 use Rattle.iocm_model.specs.Machine.Configuration.{Lookup, Configuration, with_keys, records_of}
 use Rattle.iocm_model.specs.Machine.Numbering.{Numbering, is_reached, device_at, numbers_from}

@@ -8,7 +8,7 @@ use Rattle.iocm_types.specs.declared.answer.Answer.TheVariants as answers
 use Rattle.iocm_types.specs.declared.refused.Refused.{Refused}
 use Rattle.iocm_types.specs.declared.sub_id.SubId.{SubId}
 use Rattle.iocm_types.specs.SubId.{sub_id_cmp}
-use Rattle.iocm_types.proofs.KeyOrder.{sub_ids_total, sub_ids_exact}
+use Rattle.iocm_types.specs.KeyOrder.{sub_ids_total, sub_ids_exact}
 use Rattle.iocm_model.specs.Change.Maps.{cells_at}
 use Rattle.iocm_model.specs.Operation.State.{State, IsSound, HasConfigAndNumbersOf, is_among}
 use Rattle.iocm_model.specs.Change.Edit.{Edit}

@@ -5,7 +5,7 @@ use Rattle.std.proofs.Common.{[], map as list_map}
 use Rattle.iocm_types.specs.declared.place.Place.{Place}
 use Rattle.iocm_types.specs.declared.place.NumberCell.{NumberCell}
 use Rattle.iocm_types.specs.Place.{place_cmp, cell_cmp}
-use Rattle.iocm_types.proofs.KeyOrder.{places_total, cells_total, cells_exact}
+use Rattle.iocm_types.specs.KeyOrder.{places_total, cells_total, cells_exact}
 use Rattle.iocm_types.proofs.Mapped.{mapped-insert}
 use Rattle.iocm_model.specs.Machine.Numbering.{Numbering, cells_of, device_at}
 use Rattle.iocm_numbers.specs.Numbered.{cell_at}

@@ -11,7 +11,7 @@ use Rattle.std.specs.FinMap.Entries.{find-append}
 use Rattle.iocm_types.specs.declared.fault.Fault.{Fault}
 use Rattle.iocm_types.specs.declared.key.Key.{Key}
 use Rattle.iocm_types.specs.Key.{key_cmp}
-use Rattle.iocm_types.proofs.KeyOrder.{keys_total}
+use Rattle.iocm_types.specs.KeyOrder.{keys_total}
 use Rattle.iocm_model.specs.Machine.Record.{Rec, key_of}
 use Rattle.iocm_model.specs.Machine.Configuration.{with_keys, HasNoKeyTwice}
 use Rattle.iocm_records.specs.Deck.{with_records}

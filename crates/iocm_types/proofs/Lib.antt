@@ -1,7 +1,6 @@
 pub mod Any
 pub mod Each
 pub mod Entries
-pub mod KeyOrder
 pub mod Lists
 pub mod Mapped
 pub mod Orderings

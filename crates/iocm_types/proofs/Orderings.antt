@@ -1,6 +1,6 @@
 -- What the result of a comparison tells.
 use Rattle.std.proofs.Common.{◌≡◌, ℕ, false, T, refl, sym, ap, ◌∙◌}
-use Rattle.std.specs.Ordering.{nat_cmp, is_lt, is_eq, ordering_then}
+use Rattle.std.specs.Ordering.{nat_cmp, is_lt, is_eq}
 use Rattle.std.specs.declared.cmp.Ordering.{Ordering}
 use Rattle.std.specs.declared.cmp.Ordering.TheVariants.{Less, Equal, Greater}
 use Rattle.std.specs.Cmp.{nat_cmp_total, tied_itself}
@@ -18,15 +18,3 @@ less_unequal r h = ap is_eq (less_is r h)
 -- equal numbers tie
 pub ties : (a b : ℕ) → a ≡ b → nat_cmp a b ≡ Equal
 ties a b e = ap (nat_cmp a) (sym e) ∙ tied_itself nat_cmp_total a
-
--- of two comparisons that tie one after the other, the first ties
-pub first_ties : (r s : Ordering) → ordering_then r s ≡ Equal → r ≡ Equal
-first_ties Less s e = e
-first_ties Equal s e = refl
-first_ties Greater s e = e
-
--- and so does the second
-pub second_ties : (r s : Ordering) → ordering_then r s ≡ Equal → s ≡ Equal
-second_ties Less s e = cc
-second_ties Equal s e = e
-second_ties Greater s e = cc

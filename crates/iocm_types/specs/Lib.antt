@@ -1,6 +1,7 @@
 pub mod Each
 pub mod Fault
 pub mod Key
+pub mod KeyOrder
 pub mod Name
 pub mod Place
 pub mod Print

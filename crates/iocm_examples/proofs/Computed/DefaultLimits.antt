@@ -2,7 +2,7 @@
 use Rattle.std.proofs.Common.{◌≡◌, ◌∙◌, ℕ, List, ◌∷◌, ap, refl}
 use Rattle.iocm_types.specs.Key.{key_cmp}
 use Rattle.iocm_types.specs.Place.{place_cmp}
-use Rattle.iocm_types.proofs.KeyOrder.{places_total, places_exact}
+use Rattle.iocm_types.specs.KeyOrder.{places_total, places_exact}
 use Rattle.iocm_model.specs.Machine.Record.{Rec, limit}
 use Rattle.iocm_model.specs.Machine.Configuration.{configuration_of, with_keys}
 use Rattle.iocm_examples.specs.DefaultLimits.{deck_of_set, number_of_2000, numbering_of_2000, breach_with, Holds, LimitsOfSets}

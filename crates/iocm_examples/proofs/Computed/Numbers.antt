@@ -3,7 +3,7 @@ use Rattle.std.proofs.Common.{◌≡◌, ℕ, List, [], ◌∷◌, refl, ◌∙�
 use Rattle.std.specs.FinMap.{entries, get, get-from_entries}
 use Rattle.iocm_types.specs.declared.key.Key.{Key}
 use Rattle.iocm_types.specs.Key.{key_cmp}
-use Rattle.iocm_types.proofs.KeyOrder.{keys_total, keys_exact, places_total, places_exact}
+use Rattle.iocm_types.specs.KeyOrder.{keys_total, keys_exact, places_total, places_exact}
 use Rattle.iocm_model.specs.Machine.Configuration.{with_keys, configuration_of}
 use Rattle.iocm_examples.specs.BaseDeck.{base, place_of, subchannel, device_on_1000}
 use Rattle.iocm_examples.specs.Views.{found_in}

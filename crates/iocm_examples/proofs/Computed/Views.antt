@@ -5,7 +5,7 @@ use Rattle.std.specs.FinMap.{entries}
 use Rattle.iocm_types.specs.declared.key.Key.{Key}
 use Rattle.iocm_types.specs.declared.place.NumberCell.{NumberCell}
 use Rattle.iocm_types.specs.Place.{cell_cmp}
-use Rattle.iocm_types.proofs.KeyOrder.{cells_total, cells_exact}
+use Rattle.iocm_types.specs.KeyOrder.{cells_total, cells_exact}
 use Rattle.iocm_model.specs.Machine.Configuration.{Lookup, with_keys, configuration_of, as_image}
 use Rattle.iocm_model.specs.Machine.Record.{Rec, ImageRecord}
 use Rattle.iocm_model.specs.Machine.View.{row_at, views}

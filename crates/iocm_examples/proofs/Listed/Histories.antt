@@ -5,7 +5,7 @@ use Rattle.std.specs.FinMap.{keys, len-entries}
 use Rattle.iocm_types.specs.declared.answer.Answer.{Answer}
 use Rattle.iocm_types.specs.declared.answer.Answer.TheVariants.{Changed, Undone, Redone, Shown, Refused, Io, Ended}
 use Rattle.iocm_types.specs.declared.sub_id.SubId.{SubId}
-use Rattle.iocm_types.proofs.KeyOrder.{sub_ids_total, sub_ids_exact}
+use Rattle.iocm_types.specs.KeyOrder.{sub_ids_total, sub_ids_exact}
 use Rattle.iocm_model.specs.Operation.State.{State, views_in, is_among}
 use Rattle.iocm_model.specs.Change.Refusal.{first_not_quiet}
 use Rattle.iocm_model.specs.Change.Effect.{Effect}

@@ -15,7 +15,7 @@ use Rattle.iocm_types.specs.declared.rule.Rule.TheVariants.{E4}
 use Rattle.iocm_types.specs.Key.{key_cmp}
 use Rattle.iocm_types.specs.Place.{place_cmp}
 use Rattle.iocm_types.specs.SubId.{sub_id_cmp}
-use Rattle.iocm_types.proofs.KeyOrder.{keys_total, keys_exact, places_total, places_exact, sub_ids_total, sub_ids_exact}
+use Rattle.iocm_types.specs.KeyOrder.{keys_total, keys_exact, places_total, places_exact, sub_ids_total, sub_ids_exact}
 use Rattle.iocm_model.specs.Machine.Configuration.{Configuration}
 use Rattle.iocm_model.specs.Machine.Numbering.{Numbering, opening, is_reached_at, reached_places}
 use Rattle.iocm_model.specs.Change.Renumbering.{numbers_after}

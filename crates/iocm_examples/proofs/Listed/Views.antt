@@ -12,7 +12,7 @@ use Rattle.iocm_types.specs.declared.view.View.{View}
 use Rattle.iocm_types.specs.Key.{key_cmp}
 use Rattle.iocm_types.specs.Place.{place_cmp, cell_cmp}
 use Rattle.iocm_types.specs.SubId.{sub_id_cmp}
-use Rattle.iocm_types.proofs.KeyOrder.{keys_total, keys_exact, places_total, places_exact, cells_total, cells_exact, sub_ids_total, sub_ids_exact}
+use Rattle.iocm_types.specs.KeyOrder.{keys_total, keys_exact, places_total, places_exact, cells_total, cells_exact, sub_ids_total, sub_ids_exact}
 use Rattle.iocm_model.specs.Machine.Configuration.{Configuration, Lookup, lookup_of, as_image, as_device, with_keys, configuration_of}
 use Rattle.iocm_model.specs.Machine.Record.{Rec, ImageRecord, DeviceRecord}
 use Rattle.iocm_model.specs.Machine.Numbering.{Numbering, subsystems, sets, is_reached, reached_places, is_reached_at, numbers_from, opening, cells_of, numbering_of}

@@ -10,7 +10,7 @@ use Rattle.iocm_types.specs.declared.sub_id.SubId.{SubId}
 use Rattle.iocm_types.specs.Key.{key_cmp}
 use Rattle.iocm_types.specs.Place.{cell_cmp}
 use Rattle.iocm_types.specs.SubId.{sub_id_cmp}
-use Rattle.iocm_types.proofs.KeyOrder.{cells_total, cells_exact}
+use Rattle.iocm_types.specs.KeyOrder.{cells_total, cells_exact}
 use Rattle.iocm_model.specs.Machine.Numbering.{Numbering, cells_of}
 use Rattle.iocm_model.specs.Change.Maps.{differing}
 use Rattle.iocm_model.specs.Operation.State.{State, seen_in, views_of, IsSound, HasConfigAndNumbersOf}

@@ -9,7 +9,7 @@ use Rattle.std.specs.Cmp.{IsTotalOrder, tied_itself}
 use Rattle.std.specs.FinMap.{IsAntisymmetric, is_sorted, get, entries, entries_sorted, from_entries}
 use Rattle.std.specs.FinMap.Entries.{below_all}
 use Rattle.iocm_types.specs.SubId.{sub_id_cmp}
-use Rattle.iocm_types.proofs.KeyOrder.{sub_ids_total, sub_ids_exact}
+use Rattle.iocm_types.specs.KeyOrder.{sub_ids_total, sub_ids_exact}
 use Rattle.iocm_model.specs.Operation.State.{views_in, seen_in}
 use Rattle.iocm_model.specs.Change.Edit.{same_view, state_after, altered_by}
 use Rattle.iocm_model.specs.Change.Refusal.{is_not_quiet}

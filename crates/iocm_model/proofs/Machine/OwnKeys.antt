@@ -4,7 +4,7 @@ use Rattle.std.specs.Ordering.{eq_by_cmp}
 use Rattle.std.specs.FinMap.{find, get, entries, entries_sorted, is_sorted, get-entries}
 use Rattle.iocm_types.specs.declared.key.Key.{Key}
 use Rattle.iocm_types.specs.Key.{key_cmp}
-use Rattle.iocm_types.proofs.KeyOrder.{keys_total, keys_exact}
+use Rattle.iocm_types.specs.KeyOrder.{keys_total, keys_exact}
 use Rattle.iocm_model.specs.Machine.Record.{Rec, key_of}
 use Rattle.iocm_model.specs.Machine.Configuration.{Configuration, IsKeyed, with_keys, records_of}
 use Rattle.iocm_model.proofs.Maps.Found.{same_key, first_holds, second_holds, found_first, found_later}

@@ -18,7 +18,7 @@ use Rattle.iocm_types.specs.declared.view.View.{View}
 use Rattle.iocm_types.specs.Key.{key_cmp}
 use Rattle.iocm_types.specs.Place.{cell_cmp}
 use Rattle.iocm_types.specs.SubId.{sub_id_cmp, image_cmp}
-use Rattle.iocm_types.proofs.KeyOrder.{keys_total, keys_exact, cells_exact, sub_ids_exact}
+use Rattle.iocm_types.specs.KeyOrder.{keys_total, keys_exact, cells_exact, sub_ids_exact}
 use Rattle.iocm_model.specs.Machine.Record.{Rec, ImageRecord, key_of, id, resource, image, limit, path, unit, device, online}
 use Rattle.iocm_model.specs.Machine.Configuration.{Configuration, Lookup, lookup_of, IsKeyed, with_keys, records_of, as_image}
 use Rattle.iocm_model.specs.Machine.Numbering.{Numbering, cells_of}

@@ -4,7 +4,7 @@ use Rattle.std.specs.FinMap.{get, contains_key, entries, entries_sorted, get-ent
 use Rattle.iocm_types.specs.declared.place.Place.{Place}
 use Rattle.iocm_types.specs.declared.place.NumberCell.{NumberCell}
 use Rattle.iocm_types.specs.Place.{place_cmp, cell_cmp}
-use Rattle.iocm_types.proofs.KeyOrder.{places_total, places_exact, cells_total, cells_exact}
+use Rattle.iocm_types.specs.KeyOrder.{places_total, places_exact, cells_total, cells_exact}
 use Rattle.iocm_model.specs.Machine.Numbering.{Numbering, cells_of, numbering_of}
 use Rattle.iocm_model.specs.Laws.Numbers.{CellsAreTheNumbers}
 use Rattle.iocm_model.proofs.Maps.Found.{found_back, found_on, present}

@@ -6,7 +6,7 @@ use Rattle.std.specs.Ordering.{eq_by_cmp}
 use Rattle.std.specs.FinMap.{find, get, insert, contains_key, get-insert, get-retain_keys}
 use Rattle.iocm_types.specs.declared.place.Place.{Place}
 use Rattle.iocm_types.specs.Place.{place_cmp}
-use Rattle.iocm_types.proofs.KeyOrder.{places_total, places_exact}
+use Rattle.iocm_types.specs.KeyOrder.{places_total, places_exact}
 use Rattle.iocm_model.specs.Machine.Configuration.{Configuration}
 use Rattle.iocm_model.specs.Machine.Numbering.{Numbering, reached_places, is_reached_at}
 use Rattle.iocm_model.specs.Change.Renumbering.{lowest_free, without_leavers, with_carried, with_lowest, numbers_after}

@@ -6,7 +6,7 @@ use Rattle.std.specs.FinMap.{find, get, contains_key, entries, entries_sorted, i
 use Rattle.std.specs.FinMap.Entries.{find-where_key, is_sorted-where_key}
 use Rattle.iocm_types.specs.declared.place.Place.{Place}
 use Rattle.iocm_types.specs.Place.{place_cmp}
-use Rattle.iocm_types.proofs.KeyOrder.{places_total, places_exact}
+use Rattle.iocm_types.specs.KeyOrder.{places_total, places_exact}
 use Rattle.iocm_model.specs.Machine.Configuration.{Configuration}
 use Rattle.iocm_model.specs.Machine.Numbering.{Numbering, is_reached_at, AreNumbersOf}
 use Rattle.iocm_model.specs.Change.Renumbering.{numbers_after, without_leavers, comes_in}

@@ -7,7 +7,7 @@ use Rattle.std.specs.FinMap.{contains_key, get-from_entries}
 use Rattle.std.specs.FinMap.Entries.{is_some-find}
 use Rattle.iocm_types.specs.declared.place.Place.{Place}
 use Rattle.iocm_types.specs.Place.{place_cmp}
-use Rattle.iocm_types.proofs.KeyOrder.{places_total}
+use Rattle.iocm_types.specs.KeyOrder.{places_total}
 use Rattle.iocm_model.specs.Machine.Configuration.{Configuration}
 use Rattle.iocm_model.specs.Machine.Numbering.{subsystems, sets, reached_devices, reached_places, is_reached_at, numbers_from, opening}
 use Rattle.iocm_model.specs.Laws.Numbers.{OpeningAreNumbers, ReachedPlacesAreOfDevices}

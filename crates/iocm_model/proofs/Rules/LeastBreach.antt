@@ -10,7 +10,7 @@ use Rattle.std.specs.FinMap.{find, get, entries, entries_sorted, is_sorted, get-
 use Rattle.std.specs.FinMap.Entries.{below_all}
 use Rattle.iocm_types.specs.declared.key.Key.{Key}
 use Rattle.iocm_types.specs.Key.{key_cmp}
-use Rattle.iocm_types.proofs.KeyOrder.{keys_total, keys_exact}
+use Rattle.iocm_types.specs.KeyOrder.{keys_total, keys_exact}
 use Rattle.iocm_model.specs.Machine.Record.{Rec, key_of}
 use Rattle.iocm_model.specs.Machine.Configuration.{with_keys}
 use Rattle.iocm_model.specs.Laws.Breaches.{AnswersTheLeast}

@@ -4,7 +4,7 @@ use Rattle.std.specs.List.Sorted.{IsBinarySearchResult}
 use Rattle.std.specs.declared.cmp.Ordering.{Ordering}
 use Rattle.std.proofs.lemmas.List.Sorted.{answers_always}
 use Rattle.iocm_types.specs.declared.key.Key.{Key}
-use Rattle.iocm_types.proofs.KeyOrder.{derived_cmp}
+use Rattle.iocm_types.specs.KeyOrder.{derived_cmp}
 use Rattle.iocm_model.specs.Machine.Record.{key_of}
 use Rattle.iocm_config.proofs.search.search.Goals as goal
 

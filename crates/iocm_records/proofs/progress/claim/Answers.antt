@@ -4,7 +4,7 @@ use Rattle.std.specs.BTreeSet.{contains}
 use Rattle.std.specs.Ordering.{is_eq}
 use Rattle.std.specs.declared.cmp.Ordering.{Ordering}
 use Rattle.iocm_types.specs.declared.key.Key.{Key}
-use Rattle.iocm_types.proofs.KeyOrder.{derived_cmp}
+use Rattle.iocm_types.specs.KeyOrder.{derived_cmp}
 use Rattle.iocm_records.proofs.progress.claim.Goals as goal
 
 pub returns-clause-added : goal.returns-clause-added

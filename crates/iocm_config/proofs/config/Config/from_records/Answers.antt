@@ -5,7 +5,7 @@ use Rattle.std.specs.declared.cmp.Ordering.{Ordering}
 use Rattle.std.proofs.lemmas.List.Sorted.{answers_always}
 use Rattle.iocm_types.specs.declared.key.Key.{Key}
 use Rattle.iocm_types.specs.Key.{key_cmp}
-use Rattle.iocm_types.proofs.KeyOrder.{derived_cmp, keys_total, keys_exact}
+use Rattle.iocm_types.specs.KeyOrder.{derived_cmp, keys_total, keys_exact}
 use Rattle.iocm_types.proofs.Permuted.{sorted-permuted, map-permuted}
 use Rattle.iocm_model.specs.Machine.Record.{Rec, key_of}
 use Rattle.iocm_config.proofs.Places.{no_key_twice}

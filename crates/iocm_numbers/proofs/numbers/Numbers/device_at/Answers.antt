@@ -3,7 +3,7 @@ use Rattle.std.proofs.Common.{ap, ◌∙◌, ℕ}
 use Rattle.std.specs.FinMap as map
 use Rattle.std.specs.FinMap.{FinMap}
 use Rattle.iocm_types.specs.Place.{cell_cmp}
-use Rattle.iocm_types.proofs.KeyOrder.{cells_total}
+use Rattle.iocm_types.specs.KeyOrder.{cells_total}
 use Rattle.iocm_model.specs.Machine.Numbering.{device_at}
 use Rattle.iocm_numbers.specs.Numbered.{Numbered}
 use Rattle.iocm_numbers.specs.declared.entry.CellDevice.{CellDevice}

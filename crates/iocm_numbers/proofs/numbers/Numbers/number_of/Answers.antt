@@ -2,7 +2,7 @@
 use Rattle.std.proofs.Common.{ap, ◌∙◌}
 use Rattle.std.specs.FinMap as map
 use Rattle.iocm_types.specs.Place.{place_cmp}
-use Rattle.iocm_types.proofs.KeyOrder.{places_total}
+use Rattle.iocm_types.specs.KeyOrder.{places_total}
 use Rattle.iocm_numbers.specs.Numbered.{Numbered}
 use Rattle.iocm_numbers.specs.declared.entry.PlaceNumber.{PlaceNumber}
 use Rattle.iocm_types.proofs.Searched as searched

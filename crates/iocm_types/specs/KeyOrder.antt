@@ -1,6 +1,6 @@
 -- The orders of keys, places, number cells and subchannels: the derived `cmp` is the definition, each order is total,
 -- and only equal values tie.
-use Rattle.std.proofs.Common.{◌≡◌, ℕ, List, [], ◌∷◌, get_or, nat_eq, cond, refl, sym, ap, ◌∙◌}
+use Rattle.std.proofs.Common.{◌≡◌, ℕ, List, [], ◌∷◌, get_or, nat_eq, cond, refl, sym, ap, subst, ◌∙◌}
 use Rattle.std.specs.Ordering.{nat_cmp, ordering_then}
 use Rattle.std.specs.declared.cmp.Ordering.{Ordering}
 use Rattle.std.specs.declared.cmp.Ordering.TheVariants.{Less, Equal, Greater}
@@ -21,6 +21,18 @@ use Rattle.iocm_types.specs.contracts.key.KeyOrd.TheImpl as of_keys
 use Rattle.iocm_types.specs.contracts.place.PlaceOrd.TheImpl as of_places
 use Rattle.iocm_types.specs.contracts.place.NumberCellOrd.TheImpl as of_cells
 use Rattle.iocm_types.specs.contracts.sub_id.SubIdOrd.TheImpl as of_subchannels
+
+-- of two comparisons that tie one after the other, the first ties
+first_ties : (r s : Ordering) → ordering_then r s ≡ Equal → r ≡ Equal
+first_ties Less s e = e
+first_ties Equal s e = refl
+first_ties Greater s e = e
+
+-- and so does the second
+second_ties : (r s : Ordering) → ordering_then r s ≡ Equal → s ≡ Equal
+second_ties Less s e = cc
+second_ties Equal s e = e
+second_ties Greater s e = cc
 
 then_equal : (r : Ordering) → r ≡ ordering_then r Equal
 then_equal Less = refl
@@ -126,3 +138,16 @@ sub_ids_exact x y e =
     let set = nat_cmp-IsAntisymmetric x.set y.set (first_ties _ _ rest) in
     let number = nat_cmp-IsAntisymmetric x.number y.number (second_ties _ _ rest) in
     λ i. record { image = image i; set = set i; number = number i }
+
+-- only equal keys tie in the derived orders
+pub derived_keys_exact : IsAntisymmetric of_keys.ghosts.cmp
+derived_keys_exact = subst IsAntisymmetric (sym derived_cmp) keys_exact
+
+pub derived_places_exact : IsAntisymmetric of_places.ghosts.cmp
+derived_places_exact = subst IsAntisymmetric (sym derived_place_cmp) places_exact
+
+pub derived_cells_exact : IsAntisymmetric of_cells.ghosts.cmp
+derived_cells_exact = subst IsAntisymmetric (sym derived_cell_cmp) cells_exact
+
+pub derived_sub_ids_exact : IsAntisymmetric of_subchannels.ghosts.cmp
+derived_sub_ids_exact = subst IsAntisymmetric (sym derived_sub_id_cmp) sub_ids_exact
