@@ -1,0 +1,31 @@
+-- An empty slot that is added: no row changes, and no key loses its place.
+use Rattle.std.proofs.Common.{◌≡◌, Bool, true, false, cond, List, [], ◌∷◌, Option, None, Some, is_some, refl, ap, ◌∙◌}
+use Rattle.std.specs.Ordering.{is_eq, match_ordering}
+use Rattle.std.specs.declared.cmp.Ordering.{Ordering}
+use Rattle.std.specs.declared.cmp.Ordering.TheVariants.{Less, Equal, Greater}
+use Rattle.std.specs.Map.{lookup}
+use Rattle.std.specs.BTreeMap.{BTreeMap, get, get_by, insert_entry, is_at, Updates}
+use Rattle.iocm_table.specs.Slots.{present, listed_first}
+
+module _ {K X : Type 0} (R : K → K → Ordering) (key : K) where
+  below_tie : (b : Bool) (x : Option X) (r : Option (Option X)) → cond b (Some x) r ≡ None → r ≡ None
+  below_tie true x r h = cc
+  below_tie false x r h = h
+
+  added_at : (r : Ordering) (e : K × Option X) (es more : List (K × Option X)) → cond (is_eq r) (Some e.1) (lookup (is_at (R key)) es) ≡ None
+      → present more ≡ present es → present (match_ordering r ((key, None) ∷ e ∷ es) ((e.0, None) ∷ es) (e ∷ more)) ≡ present (e ∷ es)
+  added_at Less e es more none same = refl
+  added_at Equal e es more none same = cc
+  added_at Greater e es more none same = ap (listed_first e.0 e.1) same
+
+  pub present_added : (es : List (K × Option X)) → lookup (is_at (R key)) es ≡ None → present (insert_entry R es key None) ≡ present es
+  present_added [] none = refl
+  present_added (e ∷ es) none = added_at (R key e.0) e es (insert_entry R es key None) none
+      (present_added es (below_tie (is_eq (R key e.0)) e.1 (lookup (is_at (R key)) es) none))
+
+  some_either : (b : Bool) (r : Option (Option X)) → is_some r ≡ true → is_some (cond b (Some None) r) ≡ true
+  some_either true r h = refl
+  some_either false r h = h
+
+  pub kept_added : (m n : BTreeMap K (Option X)) → Updates R m n key (Some None) → (q : K) → is_some (get R m q) ≡ true → is_some (get R n q) ≡ true
+  kept_added m n u q h = ap is_some (u.0 q) ∙ some_either (is_eq (R key q)) (get R m q) h

@@ -1,0 +1,5 @@
+pub mod Adding
+pub mod Lookups
+pub mod Presence
+pub mod Sweeping
+pub mod Writing
