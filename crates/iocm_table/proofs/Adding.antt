@@ -4,7 +4,7 @@ use Rattle.std.specs.Ordering.{is_eq, match_ordering}
 use Rattle.std.specs.declared.cmp.Ordering.{Ordering}
 use Rattle.std.specs.declared.cmp.Ordering.TheVariants.{Less, Equal, Greater}
 use Rattle.std.specs.Map.{lookup}
-use Rattle.std.specs.BTreeMap.{BTreeMap, get, get_by, insert_entry, is_at, Updates}
+use Rattle.std.specs.BTreeMap.{BTreeMap, get, insert_entry, is_at, Updates}
 use Rattle.iocm_table.specs.Slots.{present, listed_first}
 
 module _ {K X : Type 0} (R : K → K → Ordering) (key : K) where

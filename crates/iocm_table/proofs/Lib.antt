@@ -2,4 +2,5 @@ pub mod Adding
 pub mod Lookups
 pub mod Presence
 pub mod Sweeping
+pub mod Walking
 pub mod Writing

@@ -1,11 +1,11 @@
 -- Tables as finite maps: what a look-up, the number of rows and the rows in order are, in the order that clauses name.
-use Rattle.std.proofs.Common.{◌≡◌, ℕ, List, [], ◌∷◌, Option, None, Some, length, refl, sym, ap, subst, ◌∙◌}
+use Rattle.std.proofs.Common.{◌≡◌, List, [], Option, length, refl, sym, ap, subst, ◌∙◌}
 use Rattle.std.specs.Option.{option_flatten}
 use Rattle.std.specs.Cmp.{IsTotalOrder}
 use Rattle.std.specs.declared.cmp.Ordering.{Ordering}
 use Rattle.std.specs.BTreeMap.{BTreeMap, IsOrdered, keys, get_by}
 use Rattle.std.specs.FinMap.{get, len, entries, empty, from_sorted, get-from_sorted, len-entries, entries-from_sorted, empty_of_len}
-use Rattle.iocm_table.specs.Slots.{Stored, present, rows, AreCounted}
+use Rattle.iocm_table.specs.Slots.{Stored, present, rows, rows_from}
 use Rattle.iocm_table.proofs.Presence.{sorted_present, find_present}
 
 -- what contracts see of slots
@@ -28,6 +28,11 @@ module _ {K X : Type 0} {R S : K → K → Ordering} (same : ◌≡◌ {A = K �
   row_at o q = subst (λ (r : K → K → Ordering). get (rows r t) q ≡ option_flatten (get_by (R q) m)) same
       (subst (λ u. get (rows R u) q ≡ option_flatten (get_by (R q) m)) is
       (get-from_sorted R (present m.entries) q (sorted_present R m.entries rise) ∙ find_present o q m.entries rise))
+
+  -- those from a key on
+  pub rows_from_key : (q : K) → rows_from R q (present m.entries) ≡ rows_from S q (entries (rows S t))
+  rows_from_key q = ap (λ es. rows_from R q es) (sym entries_of_rows)
+      ∙ subst (λ (r : K → K → Ordering). rows_from R q (entries (rows S t)) ≡ rows_from r q (entries (rows S t))) same refl
 
 -- no slots are the empty map
 pub no_rows : {K X : Type 0} {R S : K → K → Ordering} → ◌≡◌ {A = K → K → Ordering} R S → (m : BTreeMap K (Option X)) → IsOrdered R m

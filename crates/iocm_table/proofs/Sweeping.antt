@@ -1,5 +1,5 @@
 -- The slots that have a row: their rows are those of all slots, and their keys those of the rows.
-use Rattle.std.proofs.Common.{◌≡◌, Bool, true, false, cond, List, [], ◌∷◌, Option, None, Some, is_some, filter, map, refl, ap}
+use Rattle.std.proofs.Common.{◌≡◌, Bool, cond, List, [], ◌∷◌, Option, None, Some, is_some, filter, refl, ap}
 use Rattle.std.specs.Map.{keys_of}
 use Rattle.iocm_table.specs.Slots.{present, listed_first}
 

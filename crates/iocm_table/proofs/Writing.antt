@@ -2,15 +2,14 @@
 use Rattle.std.proofs.Common.{◌≡◌, ℕ, zero, suc, ◌+◌, ◌-◌, ◌≤◌, Bool, true, false, not, cond, T, List, [], ◌∷◌, Option, None, Some, is_some, length, refl, sym, ap, subst, ◌∙◌, arith}
 use Rattle.std.specs.List.{list_any}
 use Rattle.std.specs.Option.{option_flatten}
-use Rattle.std.specs.Ordering.{is_eq, eq_by_cmp}
+use Rattle.std.specs.Ordering.{eq_by_cmp}
 use Rattle.std.specs.Cmp.{IsTotalOrder}
 use Rattle.std.specs.declared.cmp.Ordering.{Ordering}
-use Rattle.std.specs.Map.{keys_of, lookup}
-use Rattle.std.specs.BTreeMap.{BTreeMap, IsOrdered, keys, get_by, is_at, UpdatesBy}
-use Rattle.std.specs.FinMap.{FinMap, IsAntisymmetric, get, len, insert, remove, contains_key, get-insert, get-remove, get_tied, len-insert, len-remove, same_map, empty_of_len, get-empty}
+use Rattle.std.specs.BTreeMap.{BTreeMap, IsOrdered, get_by, is_at, UpdatesBy}
+use Rattle.std.specs.FinMap.{IsAntisymmetric, get, len, insert, remove, contains_key, get-insert, get-remove, get_tied, len-insert, len-remove, same_map, empty_of_len, get-empty}
 use Rattle.std.proofs.lemmas.Cmp.{eq_by_cmp_equiv}
 use Rattle.std.proofs.lemmas.Map.Made.{is_some-lookup}
-use Rattle.iocm_table.specs.Slots.{Stored, present, listed_first, rows, HasPlace, AreCounted}
+use Rattle.iocm_table.specs.Slots.{Stored, present, listed_first, rows, HasPlace}
 use Rattle.iocm_table.proofs.Lookups.{seen_of, row_at, len_of_rows}
 use Rattle.iocm_table.proofs.Presence.{equal_is}
 

@@ -13,7 +13,7 @@ use std::marker::Model;
 /// finite map, and the keys that have a place.
 #[derive(Drop)]
 pub struct Table<K: TableKey, V, A: Allocator = Global> {
-    slots: BTreeMap<K, Option<V>, A>,
+    pub(crate) slots: BTreeMap<K, Option<V>, A>,
     len: usize,
 }
 

@@ -1,7 +1,6 @@
 use Rattle.std.proofs.Common.{◌≡◌, ◌+◌, true, false, Some, sym, ap, subst, ◌∙◌, arith, is_some}
 use Rattle.std.specs.Option.{option_copied_mut, option_flatten}
 use Rattle.std.specs.BTreeMap.{UpdatesBy, get_by}
-use Rattle.iocm_table.specs.Slots.{AreCounted}
 use Rattle.iocm_table.proofs.Lookups.{row_at}
 use Rattle.iocm_table.proofs.Writing.{present_short, place_found, counted_in, rows_put}
 use Rattle.iocm_table.proofs.table.Table.put.Goals as goal

@@ -1,4 +1,4 @@
-use Rattle.std.proofs.Common.{◌≡◌, List, length, refl, sym, ap, ◌∙◌, rules, filter, Option}
+use Rattle.std.proofs.Common.{◌≡◌, length, sym, ap, ◌∙◌, rules, filter}
 use Rattle.iocm_table.specs.Slots.{present}
 use Rattle.std.specs.Map.{keys_of}
 use Rattle.std.proofs.lemmas.Map.Made.{filter_same_pairs}

@@ -1,6 +1,6 @@
-use Rattle.std.proofs.Common.{◌≡◌, ◌-◌, ◌≤◌, true, false, None, Some, sym, ap, subst, ◌∙◌, arith, is_some}
+use Rattle.std.proofs.Common.{◌-◌, ◌≤◌, None, Some, sym, ap, subst, ◌∙◌, is_some}
 use Rattle.std.specs.Option.{option_copied_mut, option_flatten}
-use Rattle.std.specs.BTreeMap.{UpdatesBy, get_by}
+use Rattle.std.specs.BTreeMap.{UpdatesBy}
 use Rattle.iocm_table.specs.Slots.{rows}
 use Rattle.iocm_table.proofs.Lookups.{seen_of, row_at}
 use Rattle.iocm_table.proofs.Writing.{counted_out, one_row, rows_taken, rows_untaken}
