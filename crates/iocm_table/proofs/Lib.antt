@@ -1,4 +1,5 @@
 pub mod Adding
+pub mod Building
 pub mod Lookups
 pub mod Presence
 pub mod Sweeping

@@ -52,7 +52,7 @@ module _ {K X : Type 0} {R : K → K → Ordering} (o : IsTotalOrder R) where
   find_empty q key true is ps r below h = find_none q key (equal_is _ is) ps below
   find_empty q key false is ps r below h = h
 
-  find_full : (b : Bool) (row : X) (p : Option X) (r : Option (Option X)) → p ≡ option_flatten r
+  pub find_full : (b : Bool) (row : X) (p : Option X) (r : Option (Option X)) → p ≡ option_flatten r
       → cond b (Some row) p ≡ option_flatten (cond b (Some (Some row)) r)
   find_full true row p r h = refl
   find_full false row p r h = h

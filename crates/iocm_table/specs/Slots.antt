@@ -1,5 +1,5 @@
 -- The slots of a table: keys that have a place, each with its row or empty; and the rows as a finite map.
-use Rattle.std.specs.Prelude.{◌≡◌, ℕ, T, List, length, [], ◌∷◌, Option, None, Some, filter}
+use Rattle.std.specs.Prelude.{◌≡◌, ℕ, T, List, length, [], ◌∷◌, Option, None, Some, map, filter}
 use Rattle.std.specs.List.{list_any}
 use Rattle.std.specs.Ordering.{eq_by_cmp, is_le}
 use Rattle.std.specs.declared.cmp.Ordering.{Ordering}
@@ -21,6 +21,10 @@ module _ {K X : Type 0} where
   abbrev pub present : List (K × Option X) → List (K × X)
   present [] = []
   present (e ∷ es) = listed_first e.0 e.1 (present es)
+
+  -- a slot for each row
+  abbrev pub full_slots : List (K × X) → List (K × Option X)
+  full_slots es = map (λ e. (e.0, Some e.1)) es
 
   -- the rows as a finite map
   abbrev pub rows : (R : K → K → Ordering) → Stored K X → FinMap R X

@@ -9,6 +9,7 @@
 //! Begin with `table.rt`, then `rows.rt` for walks.
 #![tactic(auto)]
 
+mod build;
 mod rows;
 mod table;
 

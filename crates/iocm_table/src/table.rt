@@ -14,7 +14,7 @@ use std::marker::Model;
 #[derive(Drop)]
 pub struct Table<K: TableKey, V, A: Allocator = Global> {
     pub(crate) slots: BTreeMap<K, Option<V>, A>,
-    len: usize,
+    pub(crate) len: usize,
 }
 
 impl<K: TableKey, V, A: Allocator> Model for Table<K, V, A> {
