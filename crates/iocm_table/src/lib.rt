@@ -12,6 +12,8 @@
 mod build;
 mod rows;
 mod table;
+#[cfg(test)]
+mod tests;
 
 pub use rows::Rows;
 pub use table::Table;

@@ -16,7 +16,6 @@ use Rattle.iocm_types.specs.declared.sub_id.SubId.{SubId}
 use Rattle.iocm_types.specs.SubId.{image_cmp, sub_id_cmp}
 use Rattle.iocm_types.specs.Key.{numbers_of, key_cmp}
 use Rattle.iocm_types.specs.Place.{place_cmp, cell_cmp}
-use Rattle.iocm_types.proofs.Orderings.{first_ties, second_ties}
 use Rattle.iocm_types.specs.contracts.key.KeyOrd.TheImpl as of_keys
 use Rattle.iocm_types.specs.contracts.place.PlaceOrd.TheImpl as of_places
 use Rattle.iocm_types.specs.contracts.place.NumberCellOrd.TheImpl as of_cells
