@@ -86,6 +86,7 @@ impl<A: Allocator> Config<A> {
     pub fn has_own_keys(&self)
         ensures { IsKeyed self.now.records }
     {
+        // For the proof alone: what always holds of the vector is known once it is read.
         let _records = &self.records;
     }
 

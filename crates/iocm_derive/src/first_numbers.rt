@@ -91,7 +91,8 @@ fn number_record<A: Allocator, B: Allocator>(
     if !is_reached(config, css, device.units.as_slice()) {
         return Ok(next);
     }
-    let highest = device.number.number();
+    // For the proof alone: the next number is no higher than the device's, which has 16 bits, so it fits.
+    let _highest = device.number.number();
     numbers.room(1)?;
     let place = Place {
         css,
