@@ -5,5 +5,8 @@ pub mod Cells
 pub mod Changed
 pub mod First
 pub mod Freed
+pub mod FromNone
+pub mod InOrder
 pub mod Lowest
 pub mod Opening
+pub mod Rest

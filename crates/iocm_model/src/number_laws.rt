@@ -5,6 +5,8 @@ ghost use Rattle.iocm_model.specs.Laws.Numbers.{
   NumbersAfterAreExact,
   StayersKeepTheirs,
   CarriedComeBack,
+  RestGetTheLowest,
+  OpeningIsFromNone,
   NumbersAfterAreNumbers,
   RenumberingGoesBack,
   FreedAreNotTaken,
@@ -24,12 +26,15 @@ pub fn no_number_comes_twice()
     ensures change { NumbersAfterAreNumbers }
 {}
 
-/// After a change exactly the devices that the new configuration reaches have a number; those that stay keep theirs, and
-/// those that come back with their place get it.
+/// After a change exactly the devices that the new configuration reaches have a number; those that stay keep theirs,
+/// those that come back with their place get it, and the rest get the lowest free ones in order of device number. The numbers
+/// at opening are those that come of it where there was none before.
 pub fn numbers_after_a_change()
     ensures exact { NumbersAfterAreExact }
     ensures stay { StayersKeepTheirs }
     ensures come_back { CarriedComeBack }
+    ensures rest { RestGetTheLowest }
+    ensures opening { OpeningIsFromNone }
 {}
 
 /// The lowest free number of a channel subsystem and set isn't used, and each smaller one is; where fewer

@@ -41,7 +41,7 @@ module _ {K X : Type 0} (R : K → K → Ordering) where
 
   module _ (q : K) (part : ℕ → List (K × X)) (x : ℕ) (alone : (y : ℕ) → (y ≡ x → ⊥) → find R q (part y) ≡ None) where
     -- the number isn't in the list
-    abbrev without : List ℕ → Bool
+    abbrev pub without : List ℕ → Bool
     without xs = list_all (λ y. not (nat_eq y x)) xs
 
     not_same : (y : ℕ) (b : Bool) → T (not (nat_eq y x) && b) → y ≡ x → ⊥
@@ -51,7 +51,7 @@ module _ {K X : Type 0} (R : K → K → Ordering) where
     rest_of true b h = h
     rest_of false b h = absurd h
 
-    none_in : (xs : List ℕ) → T (without xs) → find R q (flat_map part xs) ≡ None
+    pub none_in : (xs : List ℕ) → T (without xs) → find R q (flat_map part xs) ≡ None
     none_in [] h = refl
     none_in (y ∷ xs) h = find_append q (part y) (flat_map part xs)
         ∙ (λ i. or_else (alone y (not_same y (without xs) h) i) (none_in xs (rest_of _ _ h) i))

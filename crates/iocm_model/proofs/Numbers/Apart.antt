@@ -50,7 +50,7 @@ any_by test g x xs true = refl
 any_by test g x xs false = refl
 
 -- a test of what is made of those that a filter keeps
-any_kept : {A B : Type 0} (test : B → Bool) (g : A → B) (keep : A → Bool) (xs : List A)
+pub any_kept : {A B : Type 0} (test : B → Bool) (g : A → B) (keep : A → Bool) (xs : List A)
     → list_any test (map g (filter keep xs)) ≡ list_any (λ x. keep x && test (g x)) xs
 any_kept test g keep [] = refl
 any_kept test g keep (x ∷ xs) = any_by test g x (filter keep xs) (keep x) ∙ ap (λ b. (keep x && test (g x)) || b) (any_kept test g keep xs)

@@ -88,7 +88,7 @@ module _ (c : Configuration) where
       carried_not (with_carried c n x) xs p out ∙ carried_not_by n x p (is_reached_at c x.0 && not (contains_key n x.0)) refl out
 
   -- one carried place changes no other, by whether it comes in
-  other_carried_by : (n : Numbering) (x : Place × ℕ) (p : Place) (b : Bool) → eq_by_cmp place_cmp p x.0 ≡ false → get (cond b (insert n x.0 x.1) n) p ≡ get n p
+  pub other_carried_by : (n : Numbering) (x : Place × ℕ) (p : Place) (b : Bool) → eq_by_cmp place_cmp p x.0 ≡ false → get (cond b (insert n x.0 x.1) n) p ≡ get n p
   other_carried_by n x p true apart = other_place n x.0 p x.1 apart
   other_carried_by n x p false apart = refl
 
@@ -131,7 +131,7 @@ lowest_keep n [] p k has = has
 lowest_keep n (q ∷ ps) p k has = lowest_keep (with_lowest n q) ps p k (lowest_keeps_by n q p k (contains_key n q) refl has)
 
 -- one lowest free number changes no other place, by whether its place had one
-other_lowest_by : (n : Numbering) (q p : Place) (b : Bool) → eq_by_cmp place_cmp p q ≡ false
+pub other_lowest_by : (n : Numbering) (q p : Place) (b : Bool) → eq_by_cmp place_cmp p q ≡ false
     → get (cond b n (insert n q (lowest_free n q.css q.set))) p ≡ get n p
 other_lowest_by n q p true apart = refl
 other_lowest_by n q p false apart = other_place n q p (lowest_free n q.css q.set) apart

@@ -20,7 +20,7 @@ use Rattle.iocm_model.proofs.Maps.Parts.{untied, find_nowhere, find_part, found_
 
 -- ---- one set of a channel subsystem
 
-abbrev at : ℕ → ℕ → ℕ → Place
+abbrev pub at : ℕ → ℕ → ℕ → Place
 at css set number = record { css = css; set = set; device = number }
 
 other_css : (p : Place) (css set n : ℕ) (ds : List ℕ) → (css ≡ p.css → ⊥) → find place_cmp p (numbers_from css set n ds) ≡ None
@@ -42,7 +42,7 @@ ties_by_device Equal Equal t a b = refl
 ties_by_device Equal Greater t a b = cc
 ties_by_device Greater q t a b = cc
 
-same_place : (css set x y : ℕ) → eq_by_cmp place_cmp (at css set x) (at css set y) ≡ nat_eq x y
+pub same_place : (css set x y : ℕ) → eq_by_cmp place_cmp (at css set x) (at css set y) ≡ nat_eq x y
 same_place css set x y =
     ties_by_device (nat_cmp css css) (nat_cmp set set) (nat_cmp x y) (tied_itself nat_cmp_total css) (tied_itself nat_cmp_total set) ∙ unsigned_tied x y
 
@@ -51,7 +51,7 @@ numbered_by true n rest others is = refl
 numbered_by false n rest others is = is
 
 -- a device has a number if it is in the list
-in_set : (css set n x : ℕ) (ds : List ℕ) → is_some (find place_cmp (at css set x) (numbers_from css set n ds)) ≡ list_any (nat_eq x) ds
+pub in_set : (css set n x : ℕ) (ds : List ℕ) → is_some (find place_cmp (at css set x) (numbers_from css set n ds)) ≡ list_any (nat_eq x) ds
 in_set css set n x [] = refl
 in_set css set n x (d ∷ ds) =
     ap (λ b. is_some (cond b (Some n) (find place_cmp (at css set x) (numbers_from css set (n + 1) ds)))) (same_place css set x d)
@@ -61,7 +61,7 @@ no_lower_by : (b : Bool) (n k : ℕ) (rest : Option ℕ) → (rest ≡ Some k �
 no_lower_by true n k rest more is = let same : n ≡ k = cc in omega arith
 no_lower_by false n k rest more is = let above = more is in omega arith
 
-no_lower : (css set n x k : ℕ) (ds : List ℕ) → find place_cmp (at css set x) (numbers_from css set n ds) ≡ Some k → n ≤ k
+pub no_lower : (css set n x k : ℕ) (ds : List ℕ) → find place_cmp (at css set x) (numbers_from css set n ds) ≡ Some k → n ≤ k
 no_lower css set n x k [] is = cc
 no_lower css set n x k (d ∷ ds) is =
     no_lower_by (eq_by_cmp place_cmp (at css set x) (at css set d)) n k _ (no_lower css set (n + 1) x k ds) is
@@ -85,35 +85,35 @@ one_number css set n x y k (d ∷ ds) is was =
 
 -- ---- all sets of all channel subsystems
 
-abbrev of_set : Configuration → ℕ → ℕ → List (Place × ℕ)
+abbrev pub of_set : Configuration → ℕ → ℕ → List (Place × ℕ)
 of_set c css set = numbers_from css set 0 (reached_devices c css set)
 
-abbrev of_css : Configuration → ℕ → List (Place × ℕ)
+abbrev pub of_css : Configuration → ℕ → List (Place × ℕ)
 of_css c css = flat_map (of_set c css) (0 ∷ 1 ∷ 2 ∷ 3 ∷ [])
 
-abbrev all : Configuration → List (Place × ℕ)
+abbrev pub all : Configuration → List (Place × ℕ)
 all c = flat_map (of_css c) (0 ∷ 1 ∷ 2 ∷ 3 ∷ 4 ∷ 5 ∷ [])
 
-css_alone : (c : Configuration) (p : Place) (css : ℕ) → (css ≡ p.css → ⊥) → find place_cmp p (of_css c css) ≡ None
+pub css_alone : (c : Configuration) (p : Place) (css : ℕ) → (css ≡ p.css → ⊥) → find place_cmp p (of_css c css) ≡ None
 css_alone c p css other = find_nowhere place_cmp p (of_set c css) (λ s. other_css p css s 0 (reached_devices c css s) other) (0 ∷ 1 ∷ 2 ∷ 3 ∷ [])
 
 module _ (c : Configuration) (css s x : ℕ) where
-  set_alone : (y : ℕ) → (y ≡ s → ⊥) → find place_cmp (at css s x) (of_set c css y) ≡ None
+  pub set_alone : (y : ℕ) → (y ≡ s → ⊥) → find place_cmp (at css s x) (of_set c css y) ≡ None
   set_alone y other = other_set (at css s x) css y 0 (reached_devices c css y) other
 
-  found_set : (k : ℕ) → find place_cmp (at css s x) (all c) ≡ Some k → find place_cmp (at css s x) (of_set c css s) ≡ Some k
+  pub found_set : (k : ℕ) → find place_cmp (at css s x) (all c) ≡ Some k → find place_cmp (at css s x) (of_set c css s) ≡ Some k
   found_set k is =
       found_in_part place_cmp (at css s x) (of_set c css) s set_alone (0 ∷ 1 ∷ 2 ∷ 3 ∷ []) k
       (found_in_part place_cmp (at css s x) (of_css c) css (css_alone c (at css s x)) (0 ∷ 1 ∷ 2 ∷ 3 ∷ 4 ∷ 5 ∷ []) k is)
 
-in_sets : (c : Configuration) (css s x : ℕ) → s < 4 → find place_cmp (at css s x) (of_css c css) ≡ find place_cmp (at css s x) (of_set c css s)
+pub in_sets : (c : Configuration) (css s x : ℕ) → s < 4 → find place_cmp (at css s x) (of_css c css) ≡ find place_cmp (at css s x) (of_set c css s)
 in_sets c css zero x h = find_part place_cmp (at css 0 x) (of_set c css) 0 (set_alone c css 0 x) [] (1 ∷ 2 ∷ 3 ∷ []) tt tt
 in_sets c css (suc zero) x h = find_part place_cmp (at css 1 x) (of_set c css) 1 (set_alone c css 1 x) (0 ∷ []) (2 ∷ 3 ∷ []) tt tt
 in_sets c css (suc (suc zero)) x h = find_part place_cmp (at css 2 x) (of_set c css) 2 (set_alone c css 2 x) (0 ∷ 1 ∷ []) (3 ∷ []) tt tt
 in_sets c css (suc (suc (suc zero))) x h = find_part place_cmp (at css 3 x) (of_set c css) 3 (set_alone c css 3 x) (0 ∷ 1 ∷ 2 ∷ []) [] tt tt
 in_sets c css (suc (suc (suc (suc s)))) x h = absurd (omega arith)
 
-in_all : (c : Configuration) (css s x : ℕ) → css < 6 → find place_cmp (at css s x) (all c) ≡ find place_cmp (at css s x) (of_css c css)
+pub in_all : (c : Configuration) (css s x : ℕ) → css < 6 → find place_cmp (at css s x) (all c) ≡ find place_cmp (at css s x) (of_css c css)
 in_all c zero s x h = find_part place_cmp (at 0 s x) (of_css c) 0 (css_alone c (at 0 s x)) [] (1 ∷ 2 ∷ 3 ∷ 4 ∷ 5 ∷ []) tt tt
 in_all c (suc zero) s x h = find_part place_cmp (at 1 s x) (of_css c) 1 (css_alone c (at 1 s x)) (0 ∷ []) (2 ∷ 3 ∷ 4 ∷ 5 ∷ []) tt tt
 in_all c (suc (suc zero)) s x h = find_part place_cmp (at 2 s x) (of_css c) 2 (css_alone c (at 2 s x)) (0 ∷ 1 ∷ []) (3 ∷ 4 ∷ 5 ∷ []) tt tt
@@ -124,7 +124,7 @@ in_all c (suc (suc (suc (suc (suc (suc css)))))) s x h = absurd (omega arith)
 
 -- ---- the devices of a set that are reached
 
-abbrev reached_among : Lookup → ℕ → ℕ → List Rec → List ℕ
+abbrev pub reached_among : Lookup → ℕ → ℕ → List Rec → List ℕ
 reached_among c css set rs =
     map (λ (d : DeviceRecord). d.number) (filter (λ (d : DeviceRecord). nat_eq d.set set && is_reached c css d) (filter_map as_device rs))
 
@@ -152,7 +152,7 @@ module _ (c : Lookup) (css set x : ℕ) where
   abbrev answer : Option Rec → Bool
   answer r = is_record_reached c css r
 
-  counted_by : (d : DeviceRecord) (ds : List DeviceRecord) (b : Bool)
+  pub counted_by : (d : DeviceRecord) (ds : List DeviceRecord) (b : Bool)
       → list_any (nat_eq x) (map (λ (e : DeviceRecord). e.number) (cond b (d ∷ ds) ds)) ≡ ((b && nat_eq x d.number) || list_any (nat_eq x) (map (λ (e : DeviceRecord). e.number) ds))
   counted_by d ds true = refl
   counted_by d ds false = refl

@@ -89,7 +89,7 @@ gap_most n (x ∷ xs) = let step = most_at (nat_eq x n) n (length xs) xs (gap_mo
 tied : (a b : ℕ) → a ≡ b → nat_cmp a b ≡ Equal
 tied a b e = sym (nat_cmp_is a b Equal e)
 
-less : (a b : ℕ) → T (is_lt (nat_cmp a b)) → a < b
+pub less : (a b : ℕ) → T (is_lt (nat_cmp a b)) → a < b
 less a b h = by_order (nat_cmp a b) refl h
   where
     by_order : (o : Ordering) → nat_cmp a b ≡ o → T (is_lt o) → a < b

@@ -1,9 +1,9 @@
 -- What subchannel numbers promise: the lowest that is free, the numbers at opening, after a change, and after it is taken back.
-use Rattle.std.specs.Prelude.{◌≡◌, ℕ, ◌<◌, nat_eq, Bool, true, false, length, List, Some, None}
+use Rattle.std.specs.Prelude.{◌≡◌, ◌⊎◌, is_some, [], ℕ, ◌<◌, nat_eq, Bool, true, false, length, List, Some, None}
 use Rattle.std.specs.List.{list_any}
 use Rattle.iocm_model.specs.Machine.Numbering.{Numbering, is_record_reached, is_reached_at, opening, cells_of, numbering_of, AreNumbersOf}
 use Rattle.iocm_model.specs.Change.Renumbering.{numbers_in, lowest_free, numbers_after}
-use Rattle.std.specs.FinMap.{get, contains_key, find}
+use Rattle.std.specs.FinMap.{get, contains_key, find, empty}
 use Rattle.iocm_types.specs.declared.place.Place.{Place}
 use Rattle.iocm_types.specs.declared.key.Key.TheVariants.{Device}
 use Rattle.iocm_types.specs.Place.{place_cmp}
@@ -41,6 +41,26 @@ StayersKeepTheirs = (c : Configuration) (carried : List (Place × ℕ)) (n : Num
 abbrev pub CarriedComeBack : Type 0
 CarriedComeBack = (c : Configuration) (carried : List (Place × ℕ)) (n : Numbering) (p : Place) (number : ℕ)
     → is_reached_at c p ≡ true → get n p ≡ None → find place_cmp p carried ≡ Some number → get (numbers_after c carried n) p ≡ Some number
+
+-- a place of the same channel subsystem and set that has this number after a change: it had one before, one was carried for it, or its device
+-- number is smaller
+pub record IsHeldBefore (c : Configuration) (carried : List (Place × ℕ)) (n : Numbering) (p : Place) (number : ℕ) : Type 0 where
+  pub place : Place
+  pub css : place.css ≡ p.css
+  pub set : place.set ≡ p.set
+  pub has : get (numbers_after c carried n) place ≡ Some number
+  pub before : (contains_key n place ≡ true) ⊎ ((is_some (find place_cmp place carried) ≡ true) ⊎ (place.device < p.device))
+
+-- the rest of those that come in get the lowest free numbers in order of device number: each number below theirs is held by a device that had
+-- one, that brought one along, or that has a smaller device number
+abbrev pub RestGetTheLowest : Type 0
+RestGetTheLowest = (c : Configuration) (carried : List (Place × ℕ)) (n : Numbering) (p : Place) (number : ℕ) → IsKeyed c
+    → get n p ≡ None → find place_cmp p carried ≡ None → get (numbers_after c carried n) p ≡ Some number
+    → (k : ℕ) → k < number → IsHeldBefore c carried n p k
+
+-- opening is renumbering from none
+abbrev pub OpeningIsFromNone : Type 0
+OpeningIsFromNone = (c : Configuration) → IsKeyed c → numbers_after c [] empty ≡ opening c
 
 -- no number comes twice, where none did before and no carried number is taken: they are numbers of the new configuration
 abbrev pub NumbersAfterAreNumbers : Type 0
