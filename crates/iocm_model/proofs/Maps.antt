@@ -1,5 +1,3 @@
--- Finite maps: what is found in them, and cells that are overwritten.
+-- Finite maps of which cells are overwritten.
 pub mod Cells
-pub mod Found
 pub mod Overwriting
-pub mod Parts

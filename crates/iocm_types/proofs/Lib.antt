@@ -1,10 +1,12 @@
 pub mod Any
 pub mod Each
 pub mod Entries
+pub mod Found
 pub mod Lists
 pub mod Mapped
 pub mod Orderings
 pub mod Padding
+pub mod Parts
 pub mod Permuted
 pub mod Searched
 pub mod Sorted

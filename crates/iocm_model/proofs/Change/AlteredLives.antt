@@ -1,7 +1,7 @@
 -- The live records that altered subchannels have after an edit.
 use Rattle.std.proofs.Common.{◌≡◌, ◌≢◌, Bool, true, false, cond, not, Option, Some, None, refl, sym, ap, ◌∙◌}
 use Rattle.std.specs.Option.{option_eq}
-use Rattle.std.specs.Cmp.Lexicographic.{pointwise}
+use Rattle.std.specs.Cmp.Lexicographic.{pointwise, same_text}
 use Rattle.std.specs.Prelude.{nat_eq}
 use Rattle.std.specs.FinMap.{get}
 use Rattle.iocm_types.specs.declared.live.Live.{Live}
@@ -9,9 +9,9 @@ use Rattle.iocm_types.specs.declared.view.View.{View}
 use Rattle.iocm_model.specs.Operation.State.{views_in, seen_in}
 use Rattle.iocm_model.specs.Change.Edit.{same_view, own_live, state_after}
 use Rattle.iocm_model.specs.Laws.Edits.{AlteredHaveTheirLives}
-use Rattle.iocm_model.proofs.Change.SameViews.{same_numbers, own_numbers}
 use Rattle.iocm_model.proofs.Change.Lives.{left_at, lives_after_edit_at}
 use Rattle.iocm_model.proofs.Change.EditsGoBack.{among_altered}
+use Rattle.std.proofs.lemmas.Cmp.{nat_list_eq_equiv}
 
 -- what comes along is what is left
 left_carried : (v : Option View) (new : View) (l : Live) (own : Option Live) → option_eq same_view v (Some new) ≡ false
@@ -21,11 +21,11 @@ left_carried v new l own other = rw other refl
 -- an own live record stays as it was where the path list does
 own_same : (old new : View) (l : Live) → old.paths ≡ new.paths → own_live old new l ≡ l
 own_same old new l same =
-    let is : pointwise nat_eq old.paths new.paths ≡ true = ap (pointwise nat_eq old.paths) (sym same) ∙ own_numbers old.paths in rw is refl
+    let is : pointwise nat_eq old.paths new.paths ≡ true = ap (pointwise nat_eq old.paths) (sym same) ∙ nat_list_eq_equiv.refl old.paths in rw is refl
 
 own_other : (b : Bool) (old new : View) (l : Live) → pointwise nat_eq old.paths new.paths ≡ b → old.paths ≢ new.paths
     → cond b l (record l { lpm = new.pim }) ≡ record l { lpm = new.pim }
-own_other true old new l is other = absurd (other (same_numbers old.paths new.paths is))
+own_other true old new l is other = absurd (other (same_text old.paths new.paths (sym is)))
 own_other false old new l is other = refl
 
 -- an own live record is left where nothing comes along

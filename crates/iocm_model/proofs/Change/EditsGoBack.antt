@@ -22,7 +22,7 @@ use Rattle.iocm_model.specs.Change.Inverse.{action_back, inverse_of}
 use Rattle.iocm_model.specs.Change.Effect.{values_in, with_effect, cells_written}
 use Rattle.iocm_model.specs.Laws.Edits.{AltersWhatDiffers, KeepsTheOthers}
 use Rattle.iocm_model.specs.Laws.Runs.{HasSameKeys, GoesBack}
-use Rattle.iocm_model.proofs.Maps.Found.{same_key}
+use Rattle.iocm_types.proofs.Found.{same_key}
 use Rattle.iocm_model.proofs.Maps.Cells.{get_with_value, get_with_cells_as, in_differing, get_retained}
 use Rattle.iocm_model.proofs.Change.SameViews.{sight_is, sight_holds}
 use Rattle.iocm_model.proofs.Change.Lives.{lives_after_edit_at, same_keeps, left_there, left_back}

@@ -21,16 +21,13 @@ use Rattle.iocm_model.specs.Change.Effect.{Cells, no_cells, both_cells, cells_wr
 use Rattle.iocm_model.specs.Laws.Runs.{HasSameCells, InversesWriteTheSame}
 use Rattle.iocm_model.proofs.Maps.Cells.{in_differing}
 use Rattle.iocm_model.proofs.Machine.OwnKeys.{keyed_own}
-use Rattle.iocm_model.proofs.Maps.Overwriting.{any_append}
 use Rattle.iocm_model.proofs.Change.SameViews.{sight_turned}
 use Rattle.iocm_model.proofs.Change.EditsGoBack.{among_altered, back_key, given}
 use Rattle.iocm_model.proofs.Change.RunsGoBack.{sound_after, run_back, one_back, given_like, seen_like}
+use Rattle.std.proofs.lemmas.List.Folds.{list_any-append}
+use Rattle.std.proofs.Math.Bool.{or_assoc}
 
 -- ---- cells of a run that is followed by an edit
-
-or_assoc : (a b c : Bool) → (a || (b || c)) ≡ ((a || b) || c)
-or_assoc true b c = refl
-or_assoc false b c = refl
 
 or_turned : (a b : Bool) → (a || b) ≡ (b || a)
 or_turned true true = refl
@@ -59,13 +56,13 @@ record IsOfBoth (w a b : Cells) : Type 0 where
 
 joined_cells : (a b : Cells) → IsOfBoth (both_cells a b) a b
 joined_cells a b = record {
-  keys = λ k. any_append key_cmp k a.keys b.keys;
-  numbers = λ c. any_append cell_cmp c a.numbers b.numbers;
-  subchannels = λ x. any_append sub_id_cmp x a.subchannels b.subchannels;
+  keys = λ k. list_any-append (eq_by_cmp key_cmp k) a.keys b.keys;
+  numbers = λ c. list_any-append (eq_by_cmp cell_cmp c) a.numbers b.numbers;
+  subchannels = λ x. list_any-append (eq_by_cmp sub_id_cmp x) a.subchannels b.subchannels;
 }
 
 regrouped : (w a m b c f : Bool) → w ≡ (a || m) → m ≡ (b || c) → f ≡ (a || b) → w ≡ (f || c)
-regrouped w a m b c f all more front = all ∙ ap (λ z. a || z) more ∙ or_assoc a b c ∙ ap (λ z. z || c) (sym front)
+regrouped w a m b c f all more front = all ∙ ap (λ z. a || z) more ∙ sym (or_assoc a b c) ∙ ap (λ z. z || c) (sym front)
 
 -- the cells of a run and then an edit
 last_cells : (es : List Edit) (f : Edit) (u : State) → IsOfBoth (cells_written_by_all (es ++ (f ∷ [])) u) (cells_written_by_all es u) (cells_written f (state_after_all es u))

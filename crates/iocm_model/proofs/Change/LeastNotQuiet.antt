@@ -2,7 +2,7 @@
 use Rattle.std.proofs.Common.{◌≡◌, Bool, true, false, cond, not, ◌||◌, List, [], ◌∷◌, ◌++◌, map, Option, Some, T, refl, sym, ap, ◌∙◌}
 use Rattle.std.specs.List.{filter, list_any, find}
 use Rattle.std.specs.Option.{option_eq}
-use Rattle.std.specs.Ordering.{is_lt, eq_by_cmp, ordering_reverse}
+use Rattle.std.specs.Ordering.{eq_by_cmp, ordering_reverse}
 use Rattle.std.specs.declared.cmp.Ordering.{Ordering}
 use Rattle.std.specs.declared.cmp.Ordering.TheVariants.{Less, Equal, Greater}
 use Rattle.std.specs.Cmp.{IsTotalOrder, tied_itself}
@@ -14,8 +14,11 @@ use Rattle.iocm_model.specs.Operation.State.{views_in, seen_in}
 use Rattle.iocm_model.specs.Change.Edit.{same_view, state_after, altered_by}
 use Rattle.iocm_model.specs.Change.Refusal.{is_not_quiet}
 use Rattle.iocm_model.specs.Laws.Edits.{NamesTheLeast, NamesNoneWhereQuiet}
-use Rattle.iocm_model.proofs.Maps.Found.{same_key, ties_itself, first_holds, second_holds}
+use Rattle.iocm_types.proofs.Found.{same_key, ties_itself}
 use Rattle.iocm_model.proofs.Maps.Overwriting.{find_none, none_found}
+use Rattle.std.proofs.lemmas.Bool.{or_right}
+use Rattle.iocm_types.proofs.Orderings.{less_is}
+use Rattle.iocm_types.proofs.Tests.{first_holds, second_holds}
 
 module _ {K : Type 0} (R : K → K → Ordering) (total : IsTotalOrder R) (exact : IsAntisymmetric R) where
   found_by : (test : K → Bool) (k x : K) (b : Bool) (rest : Option K) (among : Bool) → test k ≡ b → (rest ≡ Some x → (among ≡ true) × (test x ≡ true))
@@ -23,11 +26,7 @@ module _ {K : Type 0} (R : K → K → Ordering) (total : IsTotalOrder R) (exact
   found_by test k x true rest among e more h =
       let same : k ≡ x = cc in
       (ap (λ z. eq_by_cmp R z k || among) (sym same) ∙ ap (λ b. b || among) (ties_itself R total k), ap test (sym same) ∙ e)
-  found_by test k x false rest among e more h = let both = more h in (later (eq_by_cmp R x k) among both.0, both.1)
-    where
-      later : (a b : Bool) → b ≡ true → (a || b) ≡ true
-      later true b h = refl
-      later false b h = h
+  found_by test k x false rest among e more h = let both = more h in (or_right (eq_by_cmp R x k) among both.0, both.1)
 
   -- what is found is there and passes
   pub found_passes : (test : K → Bool) (xs : List K) (x : K) → find test xs ≡ Some x → (list_any (eq_by_cmp R x) xs ≡ true) × (test x ≡ true)
@@ -40,11 +39,6 @@ module _ {K : Type 0} (R : K → K → Ordering) (total : IsTotalOrder R) (exact
       no : Greater ≡ Less → ⊥
       no e = cc
 
-  is_less : (r : Ordering) → T (is_lt r) → r ≡ Less
-  is_less Less h = refl
-  is_less Equal h = absurd h
-  is_less Greater h = absurd h
-
 module _ {K X : Type 0} (R : K → K → Ordering) (total : IsTotalOrder R) (exact : IsAntisymmetric R) (pass test : K → Bool) where
   -- a key of entries that are all above another is above it
   above : (k : K) (es : List (K × X)) → T (below_all R k es) → (y : K) → list_any (eq_by_cmp R y) (filter pass (map (λ e. e.0) es)) ≡ true → R k y ≡ Less
@@ -54,7 +48,7 @@ module _ {K X : Type 0} (R : K → K → Ordering) (total : IsTotalOrder R) (exa
       by : (p b : Bool) → eq_by_cmp R y e.0 ≡ b → (list_any (eq_by_cmp R y) (filter pass (map (λ f. f.0) es)) ≡ true → R k y ≡ Less)
           → list_any (eq_by_cmp R y) (cond p (e.0 ∷ filter pass (map (λ f. f.0) es)) (filter pass (map (λ f. f.0) es))) ≡ true → R k y ≡ Less
       by false b t more h = more h
-      by true true t more h = ap (R k) (same_key R exact y e.0 t) ∙ is_less R total exact (R k e.0) (first_holds _ _ below)
+      by true true t more h = ap (R k) (same_key R exact y e.0 t) ∙ less_is (R k e.0) (first_holds _ _ below)
       by true false t more h = more (sym (ap (λ c. c || list_any (eq_by_cmp R y) (filter pass (map (λ f. f.0) es))) t) ∙ h)
 
   least_by : (k x y : K) (es : List (K × X)) (p c b : Bool) → test k ≡ c → eq_by_cmp R y k ≡ b → T (below_all R k es)

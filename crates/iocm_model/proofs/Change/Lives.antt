@@ -10,6 +10,7 @@ use Rattle.iocm_model.specs.Operation.State.{Lives, Views}
 use Rattle.iocm_model.specs.Change.Edit.{same_view, live_of_altered, live_after_edit, lives_after_edit}
 use Rattle.iocm_model.proofs.Maps.Cells.{get_each}
 use Rattle.iocm_model.proofs.Change.SameViews.{sight_turned}
+use Rattle.iocm_types.proofs.Tests.{absent}
 
 -- what an edit leaves at a subchannel of which this was seen, and this is seen afterwards
 abbrev pub left_at : Option View → Option View → Option Live → Option Live → Option Live
@@ -20,13 +21,9 @@ pub lives_after_edit_at : (old new : Views) (carried lives : Lives) (x : SubId)
 lives_after_edit_at old new carried lives x =
     get_each sub_ids_total sub_ids_exact (λ (y : SubId) (w : View). live_after_edit (get old y) w (get carried y) (get lives y)) new x
 
-is_none_then : {A : Type 0} (o : Option A) → is_some o ≡ false → o ≡ None
-is_none_then None h = refl
-is_none_then (Some x) h = cc
-
 -- where the same is seen, the record stays
 pub same_keeps : (v w : Option View) (k l : Option Live) → option_eq same_view v w ≡ true → is_some l ≡ is_some v → left_at v w k l ≡ l
-same_keeps None None k l same there = sym (is_none_then l there)
+same_keeps None None k l same there = sym (absent l there)
 same_keeps None (Some b) k l same there = cc
 same_keeps (Some a) None k l same there = cc
 same_keeps (Some a) (Some b) k l same there = rw same refl
@@ -54,8 +51,8 @@ back_by false a c (Some y) ul other kept = rw other refl
 pub left_back : (v w : Option View) (k l ul : Option Live) → is_some l ≡ is_some v → is_some ul ≡ is_some w
     → is_some k ≡ is_some (cond (not (option_eq same_view v w)) l None)
     → left_at w v k ul ≡ cond (not (option_eq same_view v w)) k ul
-left_back None None k l ul there here kept = sym (is_none_then ul here)
-left_back None (Some c) k l ul there here kept = sym (is_none_then k (kept ∙ there))
+left_back None None k l ul there here kept = sym (absent ul here)
+left_back None (Some c) k l ul there here kept = sym (absent k (kept ∙ there))
 left_back (Some a) None None l ul there here kept = absurd (nothing (kept ∙ there))
   where
     nothing : false ≡ true → ⊥

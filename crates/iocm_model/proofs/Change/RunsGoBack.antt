@@ -26,15 +26,17 @@ use Rattle.iocm_model.specs.Change.Inverse.{action_back, inverse_of}
 use Rattle.iocm_model.specs.Change.Runs.{inverses, state_after_all, cells_written_by_all, AreAccepted, CarryFreeNumbers}
 use Rattle.iocm_model.specs.Change.Effect.{values_in, with_effect, cells_written}
 use Rattle.iocm_model.specs.Laws.Runs.{AcceptedCarryFreeNumbers, StaysSound, WritesItsEffect, PutsBack, RunGoesBack, InversesAreAccepted}
-use Rattle.iocm_model.proofs.Maps.Found.{same_key}
+use Rattle.iocm_types.proofs.Found.{same_key}
 use Rattle.iocm_model.proofs.Maps.Cells.{get_with_value, get_with_cells_as, get_retained}
 use Rattle.iocm_model.proofs.Numbers.Cells.{cells_give_numbers}
 use Rattle.iocm_model.proofs.Numbers.Freed.{freed_are_not_taken}
 use Rattle.iocm_model.proofs.Numbers.Apart.{numbers_after_are_numbers}
-use Rattle.iocm_model.proofs.Maps.Overwriting.{not_in_first, not_in_second, any_append, find_none, none_found, with_cells_is}
+use Rattle.iocm_model.proofs.Maps.Overwriting.{not_in_first, not_in_second, find_none, none_found, with_cells_is}
 use Rattle.iocm_model.proofs.Change.SameViews.{sight_turned}
 use Rattle.iocm_model.proofs.Machine.OwnKeys.{keyed_own, own_keyed}
 use Rattle.iocm_model.proofs.Change.EditsGoBack.{IsNotAmong, among_altered, unaltered_sees, keeps_the_others, lived_after, back_key, config_back, off_key, off_numbers, given, inverse_gives}
+use Rattle.std.proofs.lemmas.Bool.{or_right}
+use Rattle.std.proofs.lemmas.List.Folds.{list_any-append}
 
 -- ---- why an accepted edit was not refused
 
@@ -236,7 +238,7 @@ altered_were_quiet (e ∷ es) s x lived accepted h =
     (λ here. quiet_at s.lives (altered_by e s) (no_subchannel_busy e s accepted.0) x here)
     (λ off. ap is_not_quiet (sym (keeps_the_others e s x lived off))
     ∙ altered_were_quiet es t x (lived_after e s lived) accepted.1
-    (later_by _ _ (sym (any_append sub_id_cmp x (altered_by e s) (cells_written_by_all es t).subchannels) ∙ h) off))
+    (later_by _ _ (sym (list_any-append (eq_by_cmp sub_id_cmp x) (altered_by e s) (cells_written_by_all es t).subchannels) ∙ h) off))
 
 -- an action that was accepted can be taken back
 back_passes : (key : Key) (old : Option Rec) (a : Action) → refusal_by_key a (is_some old) ≡ None
@@ -270,7 +272,7 @@ run_back (e ∷ es) s u sound free like =
     ∙ ap (cond (list_any (eq_by_cmp sub_id_cmp x) (altered_by e s)) (get s.lives x)) (overlaid_at t.lives later u.lives x)
     ∙ merged_by (list_any (eq_by_cmp sub_id_cmp x) (altered_by e s)) (list_any (eq_by_cmp sub_id_cmp x) later) (get s.lives x) (get t.lives x) (get u.lives x)
     (λ off. keeps_the_others e s x sound.lived off)
-    ∙ ap (λ b. cond b (get s.lives x) (get u.lives x)) (sym (any_append sub_id_cmp x (altered_by e s) later))
+    ∙ ap (λ b. cond b (get s.lives x) (get u.lives x)) (sym (list_any-append (eq_by_cmp sub_id_cmp x) (altered_by e s) later))
     ∙ sym (overlaid_at s.lives (altered_by e s ++ later) u.lives x)) in
     all_append (inverses es t) (inverse_of e s ∷ []) u
     ∙ ap (state_after (inverse_of e s)) (run_back es t u (sound_after e s sound free.0) free.1 like)
@@ -306,7 +308,7 @@ inverses_accepted (e ∷ es) s u sound accepted like quiet =
     let t = state_after e s in let later = (cells_written_by_all es t).subchannels in
     let among : (x : SubId) → list_any (eq_by_cmp sub_id_cmp x) (altered_by e s ++ later)
     ≡ (list_any (eq_by_cmp sub_id_cmp x) (altered_by e s) || list_any (eq_by_cmp sub_id_cmp x) later) =
-    λ x. any_append sub_id_cmp x (altered_by e s) later in
+    λ x. list_any-append (eq_by_cmp sub_id_cmp x) (altered_by e s) later in
     let sound_t = sound_after e s sound (no_number_taken e s accepted.0) in
     let v = given t t.lives later u in
     let like_v : HasConfigAndNumbersOf v t = given_like t u later sound_t.lived (seen_like es t u like) in
@@ -316,12 +318,8 @@ inverses_accepted (e ∷ es) s u sound accepted like quiet =
     (λ l. altered_were_quiet es t x sound_t.lived accepted.1 l) (λ l. quiet x (among x ∙ ap (λ b. b || list_any (eq_by_cmp sub_id_cmp x) later) h)) in
     let there = run_back es t u sound_t (accepted_carry es t accepted.1) like in
     accepted_append (inverses es t) (inverse_of e s ∷ []) u
-    (inverses_accepted es t u sound_t accepted.1 like (λ x h. quiet x (among x ∙ later_true (list_any (eq_by_cmp sub_id_cmp x) (altered_by e s)) _ h)))
+    (inverses_accepted es t u sound_t accepted.1 like (λ x h. quiet x (among x ∙ or_right (list_any (eq_by_cmp sub_id_cmp x) (altered_by e s)) _ h)))
     (ap (refusal_of (inverse_of e s)) there ∙ inverse_accepted e s v sound accepted.0 like_v quiet_v, tt)
-  where
-    later_true : (b c : Bool) → c ≡ true → (b || c) ≡ true
-    later_true true c h = refl
-    later_true false c h = h
 
 pub run_goes_back : RunGoesBack
 run_goes_back es s u sound free like =

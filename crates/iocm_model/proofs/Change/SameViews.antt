@@ -1,36 +1,20 @@
 -- Views that are one by the test are equal, and the other way round.
-use Rattle.std.proofs.Common.{◌≡◌, ℕ, Bool, true, false, ◌&&◌, nat_eq, eqb-true, eq-eqb, List, [], ◌∷◌, Option, Some, None, refl, sym, ap, ◌∙◌}
+use Rattle.std.proofs.Common.{◌≡◌, Bool, true, false, eqb-true, eq-eqb, Option, Some, None, refl, sym, ap, ◌∙◌}
 use Rattle.std.specs.Option.{option_eq}
-use Rattle.std.specs.Cmp.Lexicographic.{pointwise}
+use Rattle.std.specs.Cmp.Lexicographic.{same_text}
 use Rattle.iocm_types.specs.declared.view.View.{View}
 use Rattle.iocm_model.specs.Change.Edit.{same_view}
-
-both_true : (a b : Bool) → (a && b) ≡ true → (a ≡ true) × (b ≡ true)
-both_true true b h = (refl, h)
-both_true false b h = cc
-
-both_hold : (a b : Bool) → a ≡ true → b ≡ true → (a && b) ≡ true
-both_hold true true h k = refl
-both_hold true false h k = k
-both_hold false b h k = h
-
-pub same_numbers : (xs ys : List ℕ) → pointwise nat_eq xs ys ≡ true → xs ≡ ys
-same_numbers [] [] h = refl
-same_numbers [] (y ∷ ys) h = cc
-same_numbers (x ∷ xs) [] h = cc
-same_numbers (x ∷ xs) (y ∷ ys) h = let p = both_true _ _ h in λ i. eqb-true x y p.0 i ∷ same_numbers xs ys p.1 i
-
-pub own_numbers : (xs : List ℕ) → pointwise nat_eq xs xs ≡ true
-own_numbers [] = refl
-own_numbers (x ∷ xs) = both_hold _ _ (eq-eqb x x refl) (own_numbers xs)
+use Rattle.std.proofs.lemmas.Bool.{and_parts}
+use Rattle.std.specs.Cmp.Derive.{both_true}
+use Rattle.std.proofs.lemmas.Cmp.{nat_list_eq_equiv}
 
 view_is : (a b : View) → same_view a b ≡ true → a ≡ b
 view_is a b h =
-    let p = both_true _ _ h in let q = both_true _ _ p.0 in let r = both_true _ _ q.0 in
-    λ i. record { device = eqb-true a.device b.device r.0 i; paths = same_numbers a.paths b.paths r.1 i; pim = eqb-true a.pim b.pim q.1 i; pam = eqb-true a.pam b.pam p.1 i }
+    let p = and_parts _ _ h in let q = and_parts _ _ p.0 in let r = and_parts _ _ q.0 in
+    λ i. record { device = eqb-true a.device b.device r.0 i; paths = same_text a.paths b.paths (sym r.1) i; pim = eqb-true a.pim b.pim q.1 i; pam = eqb-true a.pam b.pam p.1 i }
 
 own_view : (a : View) → same_view a a ≡ true
-own_view a = both_hold _ _ (both_hold _ _ (both_hold _ _ (eq-eqb a.device a.device refl) (own_numbers a.paths)) (eq-eqb a.pim a.pim refl)) (eq-eqb a.pam a.pam refl)
+own_view a = both_true (both_true (both_true (eq-eqb a.device a.device refl) (nat_list_eq_equiv.refl a.paths)) (eq-eqb a.pim a.pim refl)) (eq-eqb a.pam a.pam refl)
 
 -- what is seen is equal where the test holds
 pub sight_is : (v w : Option View) → option_eq same_view v w ≡ true → v ≡ w

@@ -18,7 +18,7 @@ use Rattle.iocm_model.specs.Change.Runs.{state_after_all, cells_written_by_all, 
 use Rattle.iocm_model.specs.Laws.Runs.{OpeningIsSound}
 use Rattle.iocm_model.specs.Laws.Steps.{StepsStaySound, Passes, StepsElsewherePass, StepsElsewherePassBack, OverwrittenStepsVanish}
 use Rattle.iocm_model.specs.Operation.Step.{Step, subchannel_in, live_after_step, lives_after_step, step_answer}
-use Rattle.iocm_model.proofs.Maps.Found.{same_key}
+use Rattle.iocm_types.proofs.Found.{same_key}
 use Rattle.iocm_model.proofs.Maps.Cells.{get_with_cells_as}
 use Rattle.iocm_model.proofs.Numbers.Cells.{cells_give_numbers}
 use Rattle.iocm_model.proofs.Numbers.Opening.{opening_are_numbers}

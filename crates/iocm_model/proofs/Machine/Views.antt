@@ -6,7 +6,7 @@ use Rattle.std.specs.Option.{option_map, option_and_then}
 use Rattle.std.specs.Ordering.{nat_cmp, is_eq, is_lt, eq_by_cmp, ordering_then}
 use Rattle.std.specs.declared.cmp.Ordering.{Ordering}
 use Rattle.std.specs.declared.cmp.Ordering.TheVariants.{Less, Equal, Greater}
-use Rattle.std.specs.Cmp.{nat_cmp_total, tied_itself}
+use Rattle.std.specs.Cmp.{Equal-is, nat_cmp_total, tied_itself}
 use Rattle.std.specs.FinMap.{find, entries, entries_sorted, is_sorted, get-entries}
 use Rattle.std.specs.FinMap.Entries.{below_all}
 use Rattle.iocm_types.specs.declared.key.Key.{Key}
@@ -23,33 +23,10 @@ use Rattle.iocm_model.specs.Machine.Record.{Rec, ImageRecord, key_of, id, resour
 use Rattle.iocm_model.specs.Machine.Configuration.{Configuration, Lookup, lookup_of, IsKeyed, with_keys, records_of, as_image}
 use Rattle.iocm_model.specs.Machine.Numbering.{Numbering, cells_of}
 use Rattle.iocm_model.specs.Machine.View.{image_view, row_at, views, IsListOfViews}
-use Rattle.iocm_model.proofs.Maps.Parts.{or_else, or_none, untied, find_append}
-
-both : (a b : Bool) → T a → T b → T (a && b)
-both true b h k = k
-both false b h k = h
-
-left : (a b : Bool) → T (a && b) → T a
-left true b h = tt
-left false b h = h
-
-right : (a b : Bool) → T (a && b) → T b
-right true b h = h
-right false b h = absurd h
-
--- what is below all records is below those after the first
-later : (q : Key) (r : Rec) (rs : List Rec) → T (below_all key_cmp q (with_keys (r ∷ rs))) → T (below_all key_cmp q (with_keys rs))
-later q r rs h = right (is_lt (key_cmp q (key_of r))) (below_all key_cmp q (with_keys rs)) h
-
-equal_is : (r : Ordering) → is_eq r ≡ true → r ≡ Equal
-equal_is Less h = cc
-equal_is Equal h = refl
-equal_is Greater h = cc
-
-not_less_and_equal : (r : Ordering) → T (is_lt r) → is_eq r ≡ false
-not_less_and_equal Less h = refl
-not_less_and_equal Equal h = absurd h
-not_less_and_equal Greater h = absurd h
+use Rattle.iocm_types.proofs.Parts.{or_else, or_none, untied, find_append}
+use Rattle.iocm_types.proofs.Tests.{first_holds, second_holds, both_hold}
+use Rattle.iocm_types.proofs.Orderings.{ties}
+use Rattle.iocm_types.proofs.Entries.{not_found, below_rest}
 
 less_after : (r q s : Ordering) → r ≡ Equal → s ≡ Equal → T (is_lt (ordering_then r q)) → T (is_lt (ordering_then s q))
 less_after r q s a b h = subst (λ t. T (is_lt (ordering_then t q))) (sym b) (subst (λ t. T (is_lt (ordering_then t q))) a h)
@@ -84,13 +61,10 @@ module _ (c : Lookup) where
   image_tie : (m : images.Image) → image_cmp m m ≡ Equal
   image_tie m = ap (λ r. ordering_then r (nat_cmp m.mif m.mif)) (tied_itself nat_cmp_total m.css) ∙ tied_itself nat_cmp_total m.mif
 
-  css_tie : (a b : ℕ) → a ≡ b → nat_cmp a b ≡ Equal
-  css_tie a b e = ap (nat_cmp a) (sym e) ∙ tied_itself nat_cmp_total a
-
   below_row : (x : SubId) (k : SubId) (o : Option View) (rest : List (SubId × View)) → T (is_lt (sub_id_cmp x k)) → T (below_all sub_id_cmp x rest)
       → T (below_all sub_id_cmp x (cons_option (option_map (λ (v : View). (k, v)) o) rest))
   below_row x k None rest h below = below
-  below_row x k (Some v) rest h below = both _ _ h below
+  below_row x k (Some v) rest h below = both_hold _ _ h below
 
   below_by : (i : ImageRecord) (x : SubId) (e : NumberCell × ℕ) (es : List (NumberCell × ℕ)) (b : Bool) → (b ≡ true → T (is_lt (sub_id_cmp x (sub i e.0))))
       → T (below_all sub_id_cmp x (filter_map (row_at c i) es)) → T (below_all sub_id_cmp x (filter_map (row_at c i) (cond b (e ∷ es) es)))
@@ -103,8 +77,8 @@ module _ (c : Lookup) where
   rows_below i a (e ∷ es) own below =
       below_by i (sub i a) e (filter (λ (f : NumberCell × ℕ). nat_eq f.0.css i.css) es) (nat_eq e.0.css i.css)
       (λ its. less_after (nat_cmp a.css e.0.css) (ordering_then (nat_cmp a.set e.0.set) (nat_cmp a.number e.0.number)) (image_cmp (whose i) (whose i))
-      (css_tie a.css e.0.css (own ∙ sym (eqb-true e.0.css i.css its))) (image_tie (whose i)) (left _ _ below))
-      (rows_below i a es own (right _ _ below))
+      (ties a.css e.0.css (own ∙ sym (eqb-true e.0.css i.css its))) (image_tie (whose i)) (first_holds _ _ below))
+      (rows_below i a es own (second_holds _ _ below))
 
   -- ---- rows of images, one behind the other
 
@@ -115,20 +89,20 @@ module _ (c : Lookup) where
 
   above_append : (m : images.Image) (xs ys : List (SubId × View)) → T (above_all m xs) → T (above_all m ys) → T (above_all m (xs ++ ys))
   above_append m [] ys h k = k
-  above_append m (x ∷ xs) ys h k = both _ _ (left _ _ h) (above_append m xs ys (right _ _ h) k)
+  above_append m (x ∷ xs) ys h k = both_hold _ _ (first_holds _ _ h) (above_append m xs ys (second_holds _ _ h) k)
 
   below_append : (x : SubId) (xs ys : List (SubId × View)) → T (below_all sub_id_cmp x xs) → T (below_all sub_id_cmp x ys) → T (below_all sub_id_cmp x (xs ++ ys))
   below_append x [] ys h k = k
-  below_append x (e ∷ xs) ys h k = both _ _ (left _ _ h) (below_append x xs ys (right _ _ h) k)
+  below_append x (e ∷ xs) ys h k = both_hold _ _ (first_holds _ _ h) (below_append x xs ys (second_holds _ _ h) k)
 
   above_below : (x : SubId) (ys : List (SubId × View)) → T (above_all x.image ys) → T (below_all sub_id_cmp x ys)
   above_below x [] h = tt
-  above_below x (e ∷ ys) h = both _ _ (less_first (image_cmp x.image e.0.image) _ (left _ _ h)) (above_below x ys (right _ _ h))
+  above_below x (e ∷ ys) h = both_hold _ _ (less_first (image_cmp x.image e.0.image) _ (first_holds _ _ h)) (above_below x ys (second_holds _ _ h))
 
   above_row : (m : images.Image) (k : SubId) (o : Option View) (rest : List (SubId × View)) → T (is_lt (image_cmp m k.image)) → T (above_all m rest)
       → T (above_all m (cons_option (option_map (λ (v : View). (k, v)) o) rest))
   above_row m k None rest h above = above
-  above_row m k (Some v) rest h above = both _ _ h above
+  above_row m k (Some v) rest h above = both_hold _ _ h above
 
   above_by : (m : images.Image) (i : ImageRecord) (e : NumberCell × ℕ) (es : List (NumberCell × ℕ)) (b : Bool) → T (is_lt (image_cmp m (whose i)))
       → T (above_all m (filter_map (row_at c i) es)) → T (above_all m (filter_map (row_at c i) (cond b (e ∷ es) es)))
@@ -142,7 +116,7 @@ module _ (c : Lookup) where
   rise_row : (k : SubId) (o : Option View) (rest ys : List (SubId × View)) → T (below_all sub_id_cmp k (rest ++ ys)) → T (is_sorted sub_id_cmp (rest ++ ys))
       → T (is_sorted sub_id_cmp (cons_option (option_map (λ (v : View). (k, v)) o) rest ++ ys))
   rise_row k None rest ys below up = up
-  rise_row k (Some v) rest ys below up = both _ _ below up
+  rise_row k (Some v) rest ys below up = both_hold _ _ below up
 
   rise_by : (i : ImageRecord) (e : NumberCell × ℕ) (es : List (NumberCell × ℕ)) (ys : List (SubId × View)) (b : Bool)
       → (b ≡ true → T (below_all sub_id_cmp (sub i e.0) (filter_map (row_at c i) es ++ ys))) → T (is_sorted sub_id_cmp (filter_map (row_at c i) es ++ ys))
@@ -155,8 +129,8 @@ module _ (c : Lookup) where
   rows_rise i [] ys up rise above = rise
   rows_rise i (e ∷ es) ys up rise above =
       rise_by i e (filter (λ (f : NumberCell × ℕ). nat_eq f.0.css i.css) es) ys (nat_eq e.0.css i.css)
-      (λ its. below_append (sub i e.0) (rows i es) ys (rows_below i e.0 es (eqb-true e.0.css i.css its) (left _ _ up)) (above_below (sub i e.0) ys above))
-      (rows_rise i es ys (right _ _ up) rise above)
+      (λ its. below_append (sub i e.0) (rows i es) ys (rows_below i e.0 es (eqb-true e.0.css i.css its) (first_holds _ _ up)) (above_below (sub i e.0) ys above))
+      (rows_rise i es ys (second_holds _ _ up) rise above)
 
   abbrev table : List (NumberCell × ℕ) → List Rec → List (SubId × View)
   table es rs = flat_map (λ i. rows i es) (filter_map as_image rs)
@@ -164,26 +138,26 @@ module _ (c : Lookup) where
   above_table : (m : images.Image) (es : List (NumberCell × ℕ)) (rs : List Rec) → T (below_all key_cmp (Image m.css m.mif) (with_keys rs)) → T (above_all m (table es rs))
   above_table m es [] below = tt
   above_table m es (image i ∷ rs) below =
-      above_append m (rows i es) (table es rs) (above_rows m i es (less_pair (nat_cmp m.css i.css) (nat_cmp m.mif i.mif) (left _ _ below))) (above_table m es rs (right _ _ below))
-  above_table m es (id y ∷ rs) below = above_table m es rs (later (Image m.css m.mif) (id y) rs below)
-  above_table m es (resource y ∷ rs) below = above_table m es rs (later (Image m.css m.mif) (resource y) rs below)
-  above_table m es (limit y ∷ rs) below = above_table m es rs (later (Image m.css m.mif) (limit y) rs below)
-  above_table m es (path y ∷ rs) below = above_table m es rs (later (Image m.css m.mif) (path y) rs below)
-  above_table m es (unit y ∷ rs) below = above_table m es rs (later (Image m.css m.mif) (unit y) rs below)
-  above_table m es (device y ∷ rs) below = above_table m es rs (later (Image m.css m.mif) (device y) rs below)
-  above_table m es (online y ∷ rs) below = above_table m es rs (later (Image m.css m.mif) (online y) rs below)
+      above_append m (rows i es) (table es rs) (above_rows m i es (less_pair (nat_cmp m.css i.css) (nat_cmp m.mif i.mif) (first_holds _ _ below))) (above_table m es rs (second_holds _ _ below))
+  above_table m es (id y ∷ rs) below = above_table m es rs (below_rest key_cmp (Image m.css m.mif) (key_of (id y), id y) (with_keys rs) below)
+  above_table m es (resource y ∷ rs) below = above_table m es rs (below_rest key_cmp (Image m.css m.mif) (key_of (resource y), resource y) (with_keys rs) below)
+  above_table m es (limit y ∷ rs) below = above_table m es rs (below_rest key_cmp (Image m.css m.mif) (key_of (limit y), limit y) (with_keys rs) below)
+  above_table m es (path y ∷ rs) below = above_table m es rs (below_rest key_cmp (Image m.css m.mif) (key_of (path y), path y) (with_keys rs) below)
+  above_table m es (unit y ∷ rs) below = above_table m es rs (below_rest key_cmp (Image m.css m.mif) (key_of (unit y), unit y) (with_keys rs) below)
+  above_table m es (device y ∷ rs) below = above_table m es rs (below_rest key_cmp (Image m.css m.mif) (key_of (device y), device y) (with_keys rs) below)
+  above_table m es (online y ∷ rs) below = above_table m es rs (below_rest key_cmp (Image m.css m.mif) (key_of (online y), online y) (with_keys rs) below)
 
   pub table_rises : (es : List (NumberCell × ℕ)) (rs : List Rec) → T (is_sorted cell_cmp es) → T (is_sorted key_cmp (with_keys rs)) → T (is_sorted sub_id_cmp (table es rs))
   table_rises es [] up rise = tt
   table_rises es (image i ∷ rs) up rise =
-      rows_rise i es (table es rs) up (table_rises es rs up (right _ _ rise)) (above_table (whose i) es rs (left _ _ rise))
-  table_rises es (id y ∷ rs) up rise = table_rises es rs up (right _ _ rise)
-  table_rises es (resource y ∷ rs) up rise = table_rises es rs up (right _ _ rise)
-  table_rises es (limit y ∷ rs) up rise = table_rises es rs up (right _ _ rise)
-  table_rises es (path y ∷ rs) up rise = table_rises es rs up (right _ _ rise)
-  table_rises es (unit y ∷ rs) up rise = table_rises es rs up (right _ _ rise)
-  table_rises es (device y ∷ rs) up rise = table_rises es rs up (right _ _ rise)
-  table_rises es (online y ∷ rs) up rise = table_rises es rs up (right _ _ rise)
+      rows_rise i es (table es rs) up (table_rises es rs up (second_holds _ _ rise)) (above_table (whose i) es rs (first_holds _ _ rise))
+  table_rises es (id y ∷ rs) up rise = table_rises es rs up (second_holds _ _ rise)
+  table_rises es (resource y ∷ rs) up rise = table_rises es rs up (second_holds _ _ rise)
+  table_rises es (limit y ∷ rs) up rise = table_rises es rs up (second_holds _ _ rise)
+  table_rises es (path y ∷ rs) up rise = table_rises es rs up (second_holds _ _ rise)
+  table_rises es (unit y ∷ rs) up rise = table_rises es rs up (second_holds _ _ rise)
+  table_rises es (device y ∷ rs) up rise = table_rises es rs up (second_holds _ _ rise)
+  table_rises es (online y ∷ rs) up rise = table_rises es rs up (second_holds _ _ rise)
 
   -- ---- what is found there
 
@@ -195,10 +169,6 @@ module _ (c : Lookup) where
       → find sub_id_cmp s (cons_option (option_map (λ (v : View). (k, v)) o) rest) ≡ cond (eq_by_cmp sub_id_cmp s k) (or_else o (find sub_id_cmp s rest)) (find sub_id_cmp s rest)
   find_row s k None rest = sym (same (eq_by_cmp sub_id_cmp s k) (find sub_id_cmp s rest))
   find_row s k (Some v) rest = refl
-
-  not_there : (q : NumberCell) (es : List (NumberCell × ℕ)) → T (below_all cell_cmp q es) → find cell_cmp q es ≡ None
-  not_there q [] h = refl
-  not_there q (e ∷ es) h = let apart : eq_by_cmp cell_cmp q e.0 ≡ false = not_less_and_equal _ (left _ _ h) in rw apart (not_there q es (right _ _ h))
 
   seen_by : (t : Bool) (o r : Option View) (g : ℕ → Option View) (x : ℕ) (f : Option ℕ) → r ≡ option_and_then g f → (t ≡ true → g x ≡ o) → (t ≡ true → f ≡ None)
       → cond t (or_else o r) r ≡ option_and_then g (cond t (Some x) f)
@@ -215,12 +185,12 @@ module _ (c : Lookup) where
       let q : NumberCell = record { css = i.css; set = set; number = number } in
       let ties : eq_by_cmp sub_id_cmp (sub i q) (sub i e.0) ≡ eq_by_cmp cell_cmp q e.0 =
       ties_after (image_cmp (whose i) (whose i)) (ordering_then (nat_cmp set e.0.set) (nat_cmp number e.0.number)) (nat_cmp i.css e.0.css)
-      (image_tie (whose i)) (css_tie i.css e.0.css (sym (eqb-true e.0.css i.css its))) in
+      (image_tie (whose i)) (ties i.css e.0.css (sym (eqb-true e.0.css i.css its))) in
       find_row (sub i q) (sub i e.0) (image_view c i e.0.set e.1) (filter_map (row_at c i) fs)
       ∙ ap (λ t. cond t (or_else (image_view c i e.0.set e.1) (find sub_id_cmp (sub i q) (filter_map (row_at c i) fs))) (find sub_id_cmp (sub i q) (filter_map (row_at c i) fs))) ties
       ∙ seen_by (eq_by_cmp cell_cmp q e.0) (image_view c i e.0.set e.1) (find sub_id_cmp (sub i q) (filter_map (row_at c i) fs)) (image_view c i set) e.1 (find cell_cmp q es) more
-      (λ t. ap (λ (a : NumberCell). image_view c i a.set e.1) (cells_exact q e.0 (equal_is _ t)))
-      (λ t. ap (λ (a : NumberCell). find cell_cmp a es) (cells_exact q e.0 (equal_is _ t)) ∙ not_there e.0 es below)
+      (λ t. ap (λ (a : NumberCell). image_view c i a.set e.1) (cells_exact q e.0 ((Equal-is _).0 t)))
+      (λ t. ap (λ (a : NumberCell). find cell_cmp a es) (cells_exact q e.0 ((Equal-is _).0 t)) ∙ not_found cell_cmp e.0 es below)
   found_by i set number e es fs false other below more =
       let q : NumberCell = record { css = i.css; set = set; number = number } in
       let apart : eq_by_cmp cell_cmp q e.0 ≡ false = untied cell_cmp cells_exact q e.0 (λ is. eqb-false e.0.css i.css other (sym (ap (λ (a : NumberCell). a.css) is))) in
@@ -232,7 +202,7 @@ module _ (c : Lookup) where
       ≡ option_and_then (image_view c i set) (find cell_cmp (record { css = i.css; set = set; number = number }) es)
   found_rows i set number [] up = refl
   found_rows i set number (e ∷ es) up =
-      found_by i set number e es (filter (λ (f : NumberCell × ℕ). nat_eq f.0.css i.css) es) (nat_eq e.0.css i.css) refl (left _ _ up) (found_rows i set number es (right _ _ up))
+      found_by i set number e es (filter (λ (f : NumberCell × ℕ). nat_eq f.0.css i.css) es) (nat_eq e.0.css i.css) refl (first_holds _ _ up) (found_rows i set number es (second_holds _ _ up))
 
   no_by : (i : ImageRecord) (s : SubId) (e : NumberCell × ℕ) (fs : List (NumberCell × ℕ)) (b : Bool) → (s.image ≡ whose i → ⊥)
       → find sub_id_cmp s (filter_map (row_at c i) fs) ≡ None → find sub_id_cmp s (filter_map (row_at c i) (cond b (e ∷ fs) fs)) ≡ None
@@ -254,20 +224,16 @@ module _ (c : Lookup) where
   abbrev seen : List (NumberCell × ℕ) → SubId → Option Rec → Option View
   seen es s r = option_and_then (λ (i : ImageRecord). option_and_then (image_view c i s.set) (find cell_cmp (cell s) es)) (option_and_then as_image r)
 
-  missing_key : (q : Key) (rs : List Rec) → T (below_all key_cmp q (with_keys rs)) → find key_cmp q (with_keys rs) ≡ None
-  missing_key q [] h = refl
-  missing_key q (r ∷ rs) h = let apart : eq_by_cmp key_cmp q (key_of r) ≡ false = not_less_and_equal _ (left _ _ h) in rw apart (missing_key q rs (right _ _ h))
-
   image_by : (es : List (NumberCell × ℕ)) (s : SubId) (i : ImageRecord) (rs : List Rec) (b : Bool) → eq_by_cmp key_cmp (Image s.image.css s.image.mif) (Image i.css i.mif) ≡ b
       → T (is_sorted cell_cmp es) → T (below_all key_cmp (Image i.css i.mif) (with_keys rs))
       → find sub_id_cmp s (table es rs) ≡ seen es s (find key_cmp (Image s.image.css s.image.mif) (with_keys rs))
       → or_else (find sub_id_cmp s (rows i es)) (find sub_id_cmp s (table es rs)) ≡ seen es s (cond b (Some (image i)) (find key_cmp (Image s.image.css s.image.mif) (with_keys rs)))
   image_by es s i rs true e up below more =
-      let keys : Image s.image.css s.image.mif ≡ Image i.css i.mif = keys_exact _ _ (equal_is _ e) in
+      let keys : Image s.image.css s.image.mif ≡ Image i.css i.mif = keys_exact _ _ ((Equal-is _).0 e) in
       let css : s.image.css ≡ i.css = cc in
       let mif : s.image.mif ≡ i.mif = cc in
       let at : s ≡ sub i (record { css = i.css; set = s.set; number = s.number }) = λ j. record { image = record { css = css j; mif = mif j }; set = s.set; number = s.number } in
-      let none : find sub_id_cmp s (table es rs) ≡ None = more ∙ ap (seen es s) (ap (λ (q : Key). find key_cmp q (with_keys rs)) keys ∙ missing_key (Image i.css i.mif) rs below) in
+      let none : find sub_id_cmp s (table es rs) ≡ None = more ∙ ap (seen es s) (ap (λ (q : Key). find key_cmp q (with_keys rs)) keys ∙ not_found key_cmp (Image i.css i.mif) (with_keys rs) below) in
       ap (or_else (find sub_id_cmp s (rows i es))) none ∙ or_none (find sub_id_cmp s (rows i es))
       ∙ ap (λ (t : SubId). find sub_id_cmp t (rows i es)) at ∙ found_rows i s.set s.number es up
       ∙ ap (λ k. option_and_then (image_view c i s.set) (find cell_cmp (record { css = k; set = s.set; number = s.number }) es)) (sym css)
@@ -283,14 +249,14 @@ module _ (c : Lookup) where
   table_found es [] s up rise = refl
   table_found es (image i ∷ rs) s up rise =
       find_append sub_id_cmp s (rows i es) (table es rs)
-      ∙ image_by es s i rs (eq_by_cmp key_cmp (Image s.image.css s.image.mif) (Image i.css i.mif)) refl up (left _ _ rise) (table_found es rs s up (right _ _ rise))
-  table_found es (id y ∷ rs) s up rise = table_found es rs s up (right _ _ rise)
-  table_found es (resource y ∷ rs) s up rise = table_found es rs s up (right _ _ rise)
-  table_found es (limit y ∷ rs) s up rise = table_found es rs s up (right _ _ rise)
-  table_found es (path y ∷ rs) s up rise = table_found es rs s up (right _ _ rise)
-  table_found es (unit y ∷ rs) s up rise = table_found es rs s up (right _ _ rise)
-  table_found es (device y ∷ rs) s up rise = table_found es rs s up (right _ _ rise)
-  table_found es (online y ∷ rs) s up rise = table_found es rs s up (right _ _ rise)
+      ∙ image_by es s i rs (eq_by_cmp key_cmp (Image s.image.css s.image.mif) (Image i.css i.mif)) refl up (first_holds _ _ rise) (table_found es rs s up (second_holds _ _ rise))
+  table_found es (id y ∷ rs) s up rise = table_found es rs s up (second_holds _ _ rise)
+  table_found es (resource y ∷ rs) s up rise = table_found es rs s up (second_holds _ _ rise)
+  table_found es (limit y ∷ rs) s up rise = table_found es rs s up (second_holds _ _ rise)
+  table_found es (path y ∷ rs) s up rise = table_found es rs s up (second_holds _ _ rise)
+  table_found es (unit y ∷ rs) s up rise = table_found es rs s up (second_holds _ _ rise)
+  table_found es (device y ∷ rs) s up rise = table_found es rs s up (second_holds _ _ rise)
+  table_found es (online y ∷ rs) s up rise = table_found es rs s up (second_holds _ _ rise)
 
 -- the list of views rises, and has at each subchannel its view
 pub views_listed : (c : Configuration) (n : Numbering) → IsKeyed c → IsListOfViews c n (views c n)

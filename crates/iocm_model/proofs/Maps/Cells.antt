@@ -8,8 +8,10 @@ use Rattle.std.specs.Cmp.{IsTotalOrder}
 use Rattle.std.specs.FinMap.{FinMap, IsAntisymmetric, find, is_sorted, get, entries, entries_sorted, keys, from_entries, retain_keys, get-insert, get-remove, get-from_entries, get-entries, get-retain_keys, contains_key-keys}
 use Rattle.std.specs.FinMap.Entries.{below_all}
 use Rattle.iocm_model.specs.Change.Maps.{with_value, with_cells, cells_at, differing}
-use Rattle.iocm_model.proofs.Maps.Found.{same_key, first_holds, second_holds, not_found}
-use Rattle.iocm_model.proofs.Maps.Parts.{or_else, find_append}
+use Rattle.iocm_types.proofs.Found.{same_key}
+use Rattle.iocm_types.proofs.Parts.{or_else, find_append}
+use Rattle.iocm_types.proofs.Tests.{first_holds, second_holds}
+use Rattle.iocm_types.proofs.Entries.{not_found}
 
 unwrapped : {A : Type 0} (b : Bool) (x : A) (o : Option A) (d : A) → cond b x (unwrap_or o d) ≡ unwrap_or (cond b (Some x) o) d
 unwrapped true x o d = refl
@@ -116,7 +118,7 @@ module _ {K X Y : Type 0} {R : K → K → Ordering} (total : IsTotalOrder R) (e
   find_each g [] up q = refl
   find_each g (e ∷ es) up q =
       one_by (eq_by_cmp R q e.0) g q e (g e.0 e.1) _ (find R q es) refl refl (find_each g es (second_holds _ _ up) q)
-      (λ h. not_found R total exact q es (subst (λ k. T (below_all R k es)) (sym (same_key R exact q e.0 h)) (first_holds _ _ up)))
+      (λ h. not_found R q es (subst (λ k. T (below_all R k es)) (sym (same_key R exact q e.0 h)) (first_holds _ _ up)))
 
   -- what is made of each entry of a map, where something is
   pub get_each : (g : K → X → Option Y) (m : FinMap R X) (q : K)

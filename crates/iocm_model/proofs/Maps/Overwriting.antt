@@ -6,47 +6,29 @@ use Rattle.std.specs.declared.cmp.Ordering.{Ordering}
 use Rattle.std.specs.Cmp.{IsTotalOrder, tied_itself}
 use Rattle.std.specs.FinMap.{FinMap, IsAntisymmetric, get, entries, same_map}
 use Rattle.iocm_model.specs.Change.Maps.{with_cells, cells_at}
-use Rattle.iocm_model.proofs.Maps.Found.{same_key}
+use Rattle.iocm_types.proofs.Found.{same_key}
 use Rattle.iocm_model.proofs.Maps.Cells.{get_with_cells_as}
-
-or_right : (a b : Bool) → (a || b) ≡ false → b ≡ false
-or_right true b h = cc
-or_right false b h = h
-
-or_left : (a b : Bool) → (a || b) ≡ false → a ≡ false
-or_left true b h = h
-or_left false b h = refl
+use Rattle.std.proofs.lemmas.Bool.{or_parts, or_right}
+use Rattle.std.proofs.lemmas.List.Folds.{list_any-append}
 
 module _ {K : Type 0} (R : K → K → Ordering) where
-  or_assoc : (a b c : Bool) → (a || (b || c)) ≡ ((a || b) || c)
-  or_assoc true b c = refl
-  or_assoc false b c = refl
-
-  pub any_append : (q : K) (xs ys : List K) → list_any (eq_by_cmp R q) (xs ++ ys) ≡ (list_any (eq_by_cmp R q) xs || list_any (eq_by_cmp R q) ys)
-  any_append q [] ys = refl
-  any_append q (x ∷ xs) ys = ap (λ b. eq_by_cmp R q x || b) (any_append q xs ys) ∙ or_assoc (eq_by_cmp R q x) _ _
-
   -- a key that stands in neither of two lists
   pub not_in_first : (q : K) (xs ys : List K) → list_any (eq_by_cmp R q) (xs ++ ys) ≡ false → list_any (eq_by_cmp R q) xs ≡ false
-  not_in_first q xs ys h = or_left _ _ (sym (any_append q xs ys) ∙ h)
+  not_in_first q xs ys h = (or_parts _ _ (sym (list_any-append (eq_by_cmp R q) xs ys) ∙ h)).0
 
   pub not_in_second : (q : K) (xs ys : List K) → list_any (eq_by_cmp R q) (xs ++ ys) ≡ false → list_any (eq_by_cmp R q) ys ≡ false
-  not_in_second q xs ys h = or_right _ _ (sym (any_append q xs ys) ∙ h)
+  not_in_second q xs ys h = (or_parts _ _ (sym (list_any-append (eq_by_cmp R q) xs ys) ∙ h)).1
 
 module _ {K : Type 0} (R : K → K → Ordering) (total : IsTotalOrder R) (exact : IsAntisymmetric R) where
   stands_first : (x : K) (xs : List K) → list_any (eq_by_cmp R x) (x ∷ xs) ≡ true
   stands_first x xs = ap (λ r. is_eq r || list_any (eq_by_cmp R x) xs) (tied_itself total x)
-
-  stands_later : (a b : Bool) → b ≡ true → (a || b) ≡ true
-  stands_later true b h = refl
-  stands_later false b h = h
 
   -- where no key of a list passes a test, none is found
   pub find_none : (test : K → Bool) (xs : List K) → ((q : K) → list_any (eq_by_cmp R q) xs ≡ true → test q ≡ false) → find test xs ≡ None
   find_none test [] none = refl
   find_none test (x ∷ xs) none =
       let here : test x ≡ false = none x (stands_first x xs) in
-      rw here (find_none test xs (λ q h. none q (stands_later (eq_by_cmp R q x) _ h)))
+      rw here (find_none test xs (λ q h. none q (or_right (eq_by_cmp R q x) _ h)))
 
   found_by : (test : K → Bool) (x q : K) (xs : List K) (a b : Bool) → test x ≡ a → eq_by_cmp R q x ≡ b → cond a (Some x) (find test xs) ≡ None
       → (find test xs ≡ None → list_any (eq_by_cmp R q) xs ≡ true → test q ≡ false) → (b || list_any (eq_by_cmp R q) xs) ≡ true → test q ≡ false

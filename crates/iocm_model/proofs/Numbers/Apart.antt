@@ -15,9 +15,10 @@ use Rattle.iocm_model.specs.Change.Renumbering.{lowest_free, without_leavers, wi
 use Rattle.iocm_model.specs.Laws.Numbers.{is_used, NumbersAfterAreNumbers}
 use Rattle.iocm_model.specs.Change.Refusal.{same_cell, has_cell_twice, is_number_taken}
 use Rattle.iocm_model.proofs.Numbers.Lowest.{lowest_free_is_free}
-use Rattle.iocm_model.proofs.Maps.Found.{present, same_key, found_fails}
+use Rattle.iocm_types.proofs.Found.{same_key, found_fails}
 use Rattle.iocm_model.proofs.Numbers.Cells.{IsApart, cell, has_cell}
 use Rattle.iocm_model.proofs.Numbers.Changed.{comes_new, comes_reached, get_without, stays, before_lowest, numbers_after_are_exact}
+use Rattle.iocm_types.proofs.Tests.{present}
 
 -- ---- one number more
 

@@ -10,8 +10,8 @@ use Rattle.iocm_model.specs.Machine.Numbering.{Numbering, is_reached_at, AreNumb
 use Rattle.iocm_model.specs.Change.Renumbering.{numbers_after}
 use Rattle.iocm_model.specs.Change.Inverse.{freed_numbers}
 use Rattle.iocm_model.specs.Laws.Numbers.{RenumberingGoesBack}
-use Rattle.iocm_model.proofs.Maps.Found.{absent, present}
 use Rattle.iocm_model.proofs.Numbers.Changed.{numbers_after_are_exact, stayers_keep_theirs, carried_come_back}
+use Rattle.iocm_types.proofs.Tests.{absent, present}
 
 -- the freed places have what they had
 pub get_freed : (n there : Numbering) (p : Place) → find place_cmp p (freed_numbers n there) ≡ cond (not (contains_key there p)) (get n p) None

@@ -7,7 +7,8 @@ use Rattle.iocm_types.specs.Place.{place_cmp, cell_cmp}
 use Rattle.iocm_types.specs.KeyOrder.{places_total, places_exact, cells_total, cells_exact}
 use Rattle.iocm_model.specs.Machine.Numbering.{Numbering, cells_of, numbering_of}
 use Rattle.iocm_model.specs.Laws.Numbers.{CellsAreTheNumbers}
-use Rattle.iocm_model.proofs.Maps.Found.{found_back, found_on, present}
+use Rattle.iocm_types.proofs.Found.{found_back, found_on}
+use Rattle.iocm_types.proofs.Tests.{present}
 
 -- no number comes twice in a channel subsystem and set
 abbrev pub IsApart : Numbering → Type 0

@@ -11,8 +11,8 @@ use Rattle.iocm_model.specs.Machine.Configuration.{Configuration}
 use Rattle.iocm_model.specs.Machine.Numbering.{Numbering, reached_places, is_reached_at}
 use Rattle.iocm_model.specs.Change.Renumbering.{lowest_free, without_leavers, with_carried, with_lowest, numbers_after}
 use Rattle.iocm_model.specs.Laws.Numbers.{NumbersAfterAreExact, StayersKeepTheirs, CarriedComeBack}
-use Rattle.iocm_model.proofs.Maps.Found.{same_key, ties_itself}
-use Rattle.iocm_model.proofs.Maps.Parts.{untied}
+use Rattle.iocm_types.proofs.Found.{same_key, ties_itself}
+use Rattle.iocm_types.proofs.Parts.{untied}
 
 -- ---- one number more
 
@@ -46,6 +46,14 @@ stays c n p in_reach = get_without c n p ∙ ap (λ b. cond b (get n p) None) in
 -- one that leaves has none
 pub leaves : (c : Configuration) (n : Numbering) (p : Place) → is_reached_at c p ≡ false → get (without_leavers c n) p ≡ None
 leaves c n p out = get_without c n p ∙ ap (λ b. cond b (get n p) None) out
+
+-- one that has none gets none
+pub none_stays : (c : Configuration) (n : Numbering) (p : Place) → get n p ≡ None → get (without_leavers c n) p ≡ None
+none_stays c n p none = get_without c n p ∙ ap (λ o. cond (is_reached_at c p) o None) none ∙ neither (is_reached_at c p)
+  where
+    neither : (b : Bool) → cond {A = Option ℕ} b None None ≡ None
+    neither true = refl
+    neither false = refl
 
 -- ---- carried places
 

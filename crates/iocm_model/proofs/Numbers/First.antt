@@ -1,7 +1,7 @@
 -- The numbers at opening: each device that is reached has one, and no two of a set have the same.
 use Rattle.std.proofs.Common.{◌≡◌, ℕ, suc, zero, ◌+◌, ◌<◌, ◌≤◌, Bool, true, false, cond, ◌&&◌, ◌||◌, nat_eq, eqb-true, List, [], ◌∷◌, map, Option, Some, None, is_some, T, refl, sym, ap, subst, ◌∙◌, arith}
 use Rattle.std.specs.List.{filter, filter_map, flat_map, list_any}
-use Rattle.std.specs.Ordering.{nat_cmp, is_eq, is_lt, eq_by_cmp, ordering_then}
+use Rattle.std.specs.Ordering.{nat_cmp, is_eq, eq_by_cmp, ordering_then}
 use Rattle.std.specs.declared.cmp.Ordering.{Ordering}
 use Rattle.std.specs.declared.cmp.Ordering.TheVariants.{Less, Equal, Greater}
 use Rattle.std.specs.Cmp.{nat_cmp_total, tied_itself, unsigned_tied, unsigned_ties, both_tied, first_so, second_so, nat_eq_equiv}
@@ -15,8 +15,10 @@ use Rattle.iocm_types.specs.Place.{place_cmp}
 use Rattle.iocm_types.specs.KeyOrder.{places_total, places_exact}
 use Rattle.iocm_model.specs.Machine.Record.{Rec, DeviceRecord, id, resource, image, limit, path, unit, device, online}
 use Rattle.iocm_model.specs.Machine.Configuration.{Configuration, Lookup, lookup_of, IsKeyed, with_keys, records_of, as_device}
-use Rattle.iocm_model.specs.Machine.Numbering.{is_reached, is_record_reached, reached_devices, numbers_from, opening}
-use Rattle.iocm_model.proofs.Maps.Parts.{untied, find_nowhere, find_part, found_in_part}
+use Rattle.iocm_model.specs.Machine.Numbering.{is_reached, is_record_reached, reached_devices, numbers_from, opening, subsystems, sets}
+use Rattle.iocm_types.proofs.Parts.{untied, find_nowhere, find_part, found_in_part, AreDistinct}
+use Rattle.iocm_types.proofs.Tests.{first_holds, second_holds}
+use Rattle.iocm_types.proofs.Entries.{not_found}
 
 -- ---- one set of a channel subsystem
 
@@ -89,13 +91,13 @@ abbrev pub of_set : Configuration → ℕ → ℕ → List (Place × ℕ)
 of_set c css set = numbers_from css set 0 (reached_devices c css set)
 
 abbrev pub of_css : Configuration → ℕ → List (Place × ℕ)
-of_css c css = flat_map (of_set c css) (0 ∷ 1 ∷ 2 ∷ 3 ∷ [])
+of_css c css = flat_map (of_set c css) sets
 
 abbrev pub all : Configuration → List (Place × ℕ)
-all c = flat_map (of_css c) (0 ∷ 1 ∷ 2 ∷ 3 ∷ 4 ∷ 5 ∷ [])
+all c = flat_map (of_css c) subsystems
 
 pub css_alone : (c : Configuration) (p : Place) (css : ℕ) → (css ≡ p.css → ⊥) → find place_cmp p (of_css c css) ≡ None
-css_alone c p css other = find_nowhere place_cmp p (of_set c css) (λ s. other_css p css s 0 (reached_devices c css s) other) (0 ∷ 1 ∷ 2 ∷ 3 ∷ [])
+css_alone c p css other = find_nowhere place_cmp p (of_set c css) (λ s. other_css p css s 0 (reached_devices c css s) other) sets
 
 module _ (c : Configuration) (css s x : ℕ) where
   pub set_alone : (y : ℕ) → (y ≡ s → ⊥) → find place_cmp (at css s x) (of_set c css y) ≡ None
@@ -103,47 +105,46 @@ module _ (c : Configuration) (css s x : ℕ) where
 
   pub found_set : (k : ℕ) → find place_cmp (at css s x) (all c) ≡ Some k → find place_cmp (at css s x) (of_set c css s) ≡ Some k
   found_set k is =
-      found_in_part place_cmp (at css s x) (of_set c css) s set_alone (0 ∷ 1 ∷ 2 ∷ 3 ∷ []) k
-      (found_in_part place_cmp (at css s x) (of_css c) css (css_alone c (at css s x)) (0 ∷ 1 ∷ 2 ∷ 3 ∷ 4 ∷ 5 ∷ []) k is)
+      found_in_part place_cmp (at css s x) (of_set c css) s set_alone sets k
+      (found_in_part place_cmp (at css s x) (of_css c) css (css_alone c (at css s x)) subsystems k is)
 
-pub in_sets : (c : Configuration) (css s x : ℕ) → s < 4 → find place_cmp (at css s x) (of_css c css) ≡ find place_cmp (at css s x) (of_set c css s)
-in_sets c css zero x h = find_part place_cmp (at css 0 x) (of_set c css) 0 (set_alone c css 0 x) [] (1 ∷ 2 ∷ 3 ∷ []) tt tt
-in_sets c css (suc zero) x h = find_part place_cmp (at css 1 x) (of_set c css) 1 (set_alone c css 1 x) (0 ∷ []) (2 ∷ 3 ∷ []) tt tt
-in_sets c css (suc (suc zero)) x h = find_part place_cmp (at css 2 x) (of_set c css) 2 (set_alone c css 2 x) (0 ∷ 1 ∷ []) (3 ∷ []) tt tt
-in_sets c css (suc (suc (suc zero))) x h = find_part place_cmp (at css 3 x) (of_set c css) 3 (set_alone c css 3 x) (0 ∷ 1 ∷ 2 ∷ []) [] tt tt
-in_sets c css (suc (suc (suc (suc s)))) x h = absurd (omega arith)
+-- the six channel subsystems, and the four sets
+subsystem_there : (css : ℕ) → css < 6 → list_any (nat_eq css) subsystems ≡ true
+subsystem_there zero h = refl
+subsystem_there (suc zero) h = refl
+subsystem_there (suc (suc zero)) h = refl
+subsystem_there (suc (suc (suc zero))) h = refl
+subsystem_there (suc (suc (suc (suc zero)))) h = refl
+subsystem_there (suc (suc (suc (suc (suc zero))))) h = refl
+subsystem_there (suc (suc (suc (suc (suc (suc css)))))) h = absurd (omega arith)
 
-pub in_all : (c : Configuration) (css s x : ℕ) → css < 6 → find place_cmp (at css s x) (all c) ≡ find place_cmp (at css s x) (of_css c css)
-in_all c zero s x h = find_part place_cmp (at 0 s x) (of_css c) 0 (css_alone c (at 0 s x)) [] (1 ∷ 2 ∷ 3 ∷ 4 ∷ 5 ∷ []) tt tt
-in_all c (suc zero) s x h = find_part place_cmp (at 1 s x) (of_css c) 1 (css_alone c (at 1 s x)) (0 ∷ []) (2 ∷ 3 ∷ 4 ∷ 5 ∷ []) tt tt
-in_all c (suc (suc zero)) s x h = find_part place_cmp (at 2 s x) (of_css c) 2 (css_alone c (at 2 s x)) (0 ∷ 1 ∷ []) (3 ∷ 4 ∷ 5 ∷ []) tt tt
-in_all c (suc (suc (suc zero))) s x h = find_part place_cmp (at 3 s x) (of_css c) 3 (css_alone c (at 3 s x)) (0 ∷ 1 ∷ 2 ∷ []) (4 ∷ 5 ∷ []) tt tt
-in_all c (suc (suc (suc (suc zero)))) s x h = find_part place_cmp (at 4 s x) (of_css c) 4 (css_alone c (at 4 s x)) (0 ∷ 1 ∷ 2 ∷ 3 ∷ []) (5 ∷ []) tt tt
-in_all c (suc (suc (suc (suc (suc zero))))) s x h = find_part place_cmp (at 5 s x) (of_css c) 5 (css_alone c (at 5 s x)) (0 ∷ 1 ∷ 2 ∷ 3 ∷ 4 ∷ []) [] tt tt
-in_all c (suc (suc (suc (suc (suc (suc css)))))) s x h = absurd (omega arith)
+set_there : (s : ℕ) → s < 4 → list_any (nat_eq s) sets ≡ true
+set_there zero h = refl
+set_there (suc zero) h = refl
+set_there (suc (suc zero)) h = refl
+set_there (suc (suc (suc zero))) h = refl
+set_there (suc (suc (suc (suc s)))) h = absurd (omega arith)
+
+-- none of them stands twice
+pub subsystems_distinct : AreDistinct subsystems
+subsystems_distinct = (refl, (refl, (refl, (refl, (refl, (refl, tt))))))
+
+pub sets_distinct : AreDistinct sets
+sets_distinct = (refl, (refl, (refl, (refl, tt))))
+
+module _ (c : Configuration) (css s x : ℕ) where
+  -- a place is found in its set, and in its channel subsystem
+  pub in_sets : list_any (nat_eq s) sets ≡ true → find place_cmp (at css s x) (of_css c css) ≡ find place_cmp (at css s x) (of_set c css s)
+  in_sets there = find_part place_cmp (at css s x) (of_set c css) s (set_alone c css s x) sets sets_distinct there
+
+  pub in_all : list_any (nat_eq css) subsystems ≡ true → find place_cmp (at css s x) (all c) ≡ find place_cmp (at css s x) (of_css c css)
+  in_all there = find_part place_cmp (at css s x) (of_css c) css (css_alone c (at css s x)) subsystems subsystems_distinct there
 
 -- ---- the devices of a set that are reached
 
 abbrev pub reached_among : Lookup → ℕ → ℕ → List Rec → List ℕ
 reached_among c css set rs =
     map (λ (d : DeviceRecord). d.number) (filter (λ (d : DeviceRecord). nat_eq d.set set && is_reached c css d) (filter_map as_device rs))
-
-left : (a b : Bool) → T (a && b) → T a
-left true b h = tt
-left false b h = h
-
-right : (a b : Bool) → T (a && b) → T b
-right true b h = h
-right false b h = absurd h
-
-less_is : (r : Ordering) → T (is_lt r) → is_eq r ≡ false
-less_is Less h = refl
-less_is Equal h = absurd h
-less_is Greater h = absurd h
-
-none_below : (q : Key) (es : List (Key × Rec)) → T (below_all key_cmp q es) → find key_cmp q es ≡ None
-none_below q [] h = refl
-none_below q (e ∷ es) h = let apart : eq_by_cmp key_cmp q e.0 ≡ false = less_is _ (left _ _ h) in rw apart (none_below q es (right _ _ h))
 
 module _ (c : Lookup) (css set x : ℕ) where
   abbrev wanted : List Rec → Bool
@@ -184,29 +185,29 @@ module _ (c : Lookup) (css set x : ℕ) where
   none_later d rs below e =
       let in_set : d.set ≡ set = eqb-true d.set set (first_so _ _ e) in
       let number : x ≡ d.number = eqb-true x d.number (second_so _ _ e) in
-      ap answer (none_below (Device set x) (with_keys rs) (subst (λ (k : Key). T (below_all key_cmp k (with_keys rs))) (λ i. Device (in_set i) (sym number i)) below))
+      ap answer (not_found key_cmp (Device set x) (with_keys rs) (subst (λ (k : Key). T (below_all key_cmp k (with_keys rs))) (λ i. Device (in_set i) (sym number i)) below))
 
   -- a device is in the list of those that are reached if its record says so
   pub listed : (rs : List Rec) → T (is_sorted key_cmp (with_keys rs)) → wanted rs ≡ answer (find key_cmp (Device set x) (with_keys rs))
   listed [] up = refl
   listed (device d ∷ rs) up =
       counted_by d _ (nat_eq d.set set && is_reached c css d)
-      ∙ combined (nat_eq d.set set) (is_reached c css d) (nat_eq x d.number) (wanted rs) (answer (find key_cmp (Device set x) (with_keys rs))) (listed rs (right _ _ up)) (none_later d rs (left _ _ up))
+      ∙ combined (nat_eq d.set set) (is_reached c css d) (nat_eq x d.number) (wanted rs) (answer (find key_cmp (Device set x) (with_keys rs))) (listed rs (second_holds _ _ up)) (none_later d rs (first_holds _ _ up))
       ∙ sym (ap (λ b. answer (cond b (Some (device d)) (find key_cmp (Device set x) (with_keys rs)))) (same_device d) ∙ answer_by d (find key_cmp (Device set x) (with_keys rs)) (nat_eq d.set set && nat_eq x d.number))
-  listed (id y ∷ rs) up = listed rs (right _ _ up)
-  listed (resource y ∷ rs) up = listed rs (right _ _ up)
-  listed (image y ∷ rs) up = listed rs (right _ _ up)
-  listed (limit y ∷ rs) up = listed rs (right _ _ up)
-  listed (path y ∷ rs) up = listed rs (right _ _ up)
-  listed (unit y ∷ rs) up = listed rs (right _ _ up)
-  listed (online y ∷ rs) up = listed rs (right _ _ up)
+  listed (id y ∷ rs) up = listed rs (second_holds _ _ up)
+  listed (resource y ∷ rs) up = listed rs (second_holds _ _ up)
+  listed (image y ∷ rs) up = listed rs (second_holds _ _ up)
+  listed (limit y ∷ rs) up = listed rs (second_holds _ _ up)
+  listed (path y ∷ rs) up = listed rs (second_holds _ _ up)
+  listed (unit y ∷ rs) up = listed rs (second_holds _ _ up)
+  listed (online y ∷ rs) up = listed rs (second_holds _ _ up)
 
 -- ---- the law
 
 pub domain_at : (c : Configuration) → IsKeyed c → (css s x : ℕ) → css < 6 → s < 4
     → is_some (get (opening c) (at css s x)) ≡ is_record_reached (lookup_of c) css (lookup_of c (Device s x))
 domain_at c keys css s x low few =
-    ap is_some (get-from_entries places_total (all c) (at css s x) ∙ in_all c css s x low ∙ in_sets c css s x few)
+    ap is_some (get-from_entries places_total (all c) (at css s x) ∙ in_all c css s x (subsystem_there css low) ∙ in_sets c css s x (set_there s few))
     ∙ in_set css s 0 x (reached_devices c css s)
     ∙ listed (lookup_of c) css s x (records_of c) (subst (λ (es : List (Key × Rec)). T (is_sorted key_cmp es)) keys (entries_sorted c))
     ∙ ap (is_record_reached (lookup_of c) css) (ap (find key_cmp (Device s x)) (sym keys) ∙ sym (get-entries c (Device s x)))

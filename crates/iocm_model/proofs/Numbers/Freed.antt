@@ -13,11 +13,13 @@ use Rattle.iocm_model.specs.Change.Renumbering.{numbers_after, without_leavers, 
 use Rattle.iocm_model.specs.Change.Refusal.{same_cell, has_cell_twice}
 use Rattle.iocm_model.specs.Change.Inverse.{freed_numbers}
 use Rattle.iocm_model.specs.Laws.Numbers.{FreedAreNotTaken}
-use Rattle.iocm_model.proofs.Maps.Found.{first_holds, second_holds, present, not_found, found_later, found_first, none_passes}
+use Rattle.iocm_types.proofs.Found.{found_later, found_first, none_passes}
 use Rattle.iocm_model.proofs.Numbers.Cells.{IsApart}
 use Rattle.iocm_model.proofs.Numbers.Changed.{numbers_after_are_exact, stayers_keep_theirs}
 use Rattle.iocm_model.proofs.Numbers.Back.{get_freed}
 use Rattle.iocm_model.proofs.Numbers.Apart.{had}
+use Rattle.iocm_types.proofs.Tests.{first_holds, second_holds, present}
+use Rattle.iocm_types.proofs.Entries.{not_found}
 
 module _ (n : Numbering) (apart : IsApart n) where
   -- places whose numbers are one cell are one place
@@ -40,7 +42,7 @@ module _ (n : Numbering) (apart : IsApart n) where
       none_passes place_cmp places_total places_exact (same_cell e) es (second_holds _ _ up)
       (λ q k is. not_one_cell e.0 q e.1 k (own e.0 e.1 (found_first place_cmp places_total places_exact e es))
       (own q k (found_later place_cmp places_total places_exact q e es k (first_holds _ _ up) is))
-      (λ same. let none = not_found place_cmp places_total places_exact e.0 es (first_holds _ _ up) in
+      (λ same. let none = not_found place_cmp e.0 es (first_holds _ _ up) in
       let some = ap (λ p. find place_cmp p es) same ∙ is in cc)) in
       rw first (no_cell_twice es (second_holds _ _ up)
       (λ q k is. own q k (found_later place_cmp places_total places_exact q e es k (first_holds _ _ up) is)))

@@ -1,24 +1,24 @@
 -- Opening is renumbering from none: in both each number below that of a place is held by one of a smaller device number, and there is one
 -- such numbering.
-use Rattle.std.proofs.Common.{◌≡◌, ℕ, zero, suc, ◌+◌, ◌<◌, ◌≤◌, Bool, true, false, cond, ◌||◌, ◌⊎◌, inl, inr, nat_eq, eq-eqb, List, [], ◌∷◌, Option, Some, None, is_some, T, refl, sym, ap, subst, ◌∙◌, arith}
-use Rattle.std.proofs.lemmas.Bool.{cases_lt}
+use Rattle.std.proofs.Common.{◌≡◌, ℕ, zero, suc, ◌+◌, ◌<◌, ◌≤◌, Bool, true, false, cond, ◌||◌, ◌⊎◌, inl, inr, nat_eq, eq-eqb, List, [], ◌∷◌, Option, Some, None, is_some, refl, sym, ap, subst, ◌∙◌, arith}
+use Rattle.std.proofs.lemmas.Bool.{cases_lt, or_right}
 use Rattle.std.proofs.Math.Nat.{eq-or-lt_of_le}
 use Rattle.std.specs.List.{list_any}
 use Rattle.std.specs.Ordering.{eq_by_cmp}
 use Rattle.std.specs.FinMap.{find, get, contains_key, empty, get-empty, get-from_entries, same_map}
 use Rattle.iocm_types.specs.declared.place.Place.{Place}
 use Rattle.iocm_types.specs.Place.{place_cmp}
-use Rattle.iocm_types.proofs.KeyOrder.{places_total, places_exact}
+use Rattle.iocm_types.specs.KeyOrder.{places_total, places_exact}
 use Rattle.iocm_model.specs.Machine.Configuration.{Configuration, IsKeyed}
-use Rattle.iocm_model.specs.Machine.Numbering.{Numbering, reached_devices, reached_places, is_reached_at, numbers_from, opening}
+use Rattle.iocm_model.specs.Machine.Numbering.{Numbering, reached_devices, reached_places, numbers_from, opening, subsystems, sets}
 use Rattle.iocm_model.specs.Change.Renumbering.{without_leavers, numbers_after}
 use Rattle.iocm_model.specs.Laws.Numbers.{OpeningIsFromNone}
-use Rattle.iocm_model.proofs.Maps.Found.{ties_itself}
-use Rattle.iocm_model.proofs.Maps.Parts.{untied, without, none_in}
+use Rattle.iocm_types.proofs.Found.{ties_itself}
+use Rattle.iocm_types.proofs.Parts.{untied, part_there}
 use Rattle.iocm_model.proofs.Numbers.Cells.{IsApart}
 use Rattle.iocm_model.proofs.Numbers.First.{at, of_set, of_css, all, css_alone, set_alone, in_set, in_sets, in_all, opening_apart}
 use Rattle.iocm_model.proofs.Numbers.Opening.{opening_exact}
-use Rattle.iocm_model.proofs.Numbers.Changed.{get_without, numbers_after_are_exact}
+use Rattle.iocm_model.proofs.Numbers.Changed.{none_stays, numbers_after_are_exact}
 use Rattle.iocm_model.proofs.Numbers.Apart.{lowest_apart}
 use Rattle.iocm_model.proofs.Numbers.InOrder.{Rises, reached_rise}
 use Rattle.iocm_model.proofs.Numbers.Rest.{rest_get_the_lowest}
@@ -108,13 +108,9 @@ smaller css set n (d ∷ ds) rise x b k is from low =
         (λ same. let e : rest.device ≡ d = ap (λ (q : Place). q.device) same in omega arith) in record {
           device = rest.device;
           found = rw apart rest.found;
-          there = later (nat_eq rest.device d) _ rest.there;
+          there = or_right (nat_eq rest.device d) _ rest.there;
           less = rest.less;
         }
-      where
-        later : (a b : Bool) → b ≡ true → (a || b) ≡ true
-        later true b h = refl
-        later false b h = h
 
     by : (t : Bool) → cond t (Some n) (find place_cmp (at css set x) (numbers_from css set (n + 1) ds)) ≡ Some b
         → (find place_cmp (at css set x) (numbers_from css set (n + 1) ds) ≡ Some b → n + 1 ≤ k → IsSmaller css set (n + 1) ds x k)
@@ -123,44 +119,12 @@ smaller css set n (d ∷ ds) rise x b k is from low =
     by false is more = behind (in_list css set (n + 1) x b ds is) (eq-or-lt_of_le from) (more is)
 
 module _ (c : Configuration) where
-  -- a place that has a number at opening is of one of the six channel subsystems
-  css_there : (css s x b : ℕ) → find place_cmp (at css s x) (all c) ≡ Some b → css < 6
-  css_there css s x b is = by (cases_lt css 6)
-    where
-      by : (css < 6) ⊎ (6 ≤ css) → css < 6
-      by (inl low) = low
-      by (inr high) =
-          let zero_other : nat_eq 0 css ≡ false = grind arith in
-          let one_other : nat_eq 1 css ≡ false = grind arith in
-          let two_other : nat_eq 2 css ≡ false = grind arith in
-          let three_other : nat_eq 3 css ≡ false = grind arith in
-          let four_other : nat_eq 4 css ≡ false = grind arith in
-          let five_other : nat_eq 5 css ≡ false = grind arith in
-          let others : T (without place_cmp (at css s x) (of_css c) css (css_alone c (at css s x)) (0 ∷ 1 ∷ 2 ∷ 3 ∷ 4 ∷ 5 ∷ []))
-          = rw (zero_other, one_other, two_other, three_other, four_other, five_other) tt in
-          let bad : None ≡ Some b = sym (none_in place_cmp (at css s x) (of_css c) css (css_alone c (at css s x)) (0 ∷ 1 ∷ 2 ∷ 3 ∷ 4 ∷ 5 ∷ []) others) ∙ is in cc
-
-  -- and of one of the four sets
-  set_there : (css s x b : ℕ) → find place_cmp (at css s x) (of_css c css) ≡ Some b → s < 4
-  set_there css s x b is = by (cases_lt s 4)
-    where
-      by : (s < 4) ⊎ (4 ≤ s) → s < 4
-      by (inl low) = low
-      by (inr high) =
-          let zero_other : nat_eq 0 s ≡ false = grind arith in
-          let one_other : nat_eq 1 s ≡ false = grind arith in
-          let two_other : nat_eq 2 s ≡ false = grind arith in
-          let three_other : nat_eq 3 s ≡ false = grind arith in
-          let others : T (without place_cmp (at css s x) (of_set c css) s (set_alone c css s x) (0 ∷ 1 ∷ 2 ∷ 3 ∷ []))
-          = rw (zero_other, one_other, two_other, three_other) tt in
-          let bad : None ≡ Some b = sym (none_in place_cmp (at css s x) (of_set c css) s (set_alone c css s x) (0 ∷ 1 ∷ 2 ∷ 3 ∷ []) others) ∙ is in cc
-
   opening_gapless : IsKeyed c → IsGapless (opening c)
   opening_gapless keyed p number k is low =
       let there : find place_cmp p (all c) ≡ Some number = sym (get-from_entries places_total (all c) p) ∙ is in
-      let few = css_there p.css p.set p.device number there in
+      let few = part_there place_cmp p (of_css c) p.css (css_alone c p) subsystems number there in
       let in_css = sym (in_all c p.css p.set p.device few) ∙ there in
-      let fewer = set_there p.css p.set p.device number in_css in
+      let fewer = part_there place_cmp p (of_set c p.css) p.set (set_alone c p.css p.set p.device) sets number in_css in
       let w = smaller p.css p.set 0 (reached_devices c p.css p.set) (reached_rise c keyed p.css p.set) p.device number k
       (sym (in_sets c p.css p.set p.device fewer) ∙ in_css) (omega arith) low in record {
         place = at p.css p.set w.device;
@@ -174,11 +138,7 @@ module _ (c : Configuration) where
   -- ---- renumbering from none
 
   none_yet : (p : Place) → get (without_leavers c empty) p ≡ None
-  none_yet p = get_without c empty p ∙ ap (λ o. cond (is_reached_at c p) o None) (get-empty place_cmp p) ∙ neither (is_reached_at c p)
-    where
-      neither : (b : Bool) → cond {A = Option ℕ} b None None ≡ None
-      neither true = refl
-      neither false = refl
+  none_yet p = none_stays c empty p (get-empty place_cmp p)
 
   from_none_apart : IsApart (numbers_after c [] empty)
   from_none_apart = lowest_apart (without_leavers c empty) (reached_places c)

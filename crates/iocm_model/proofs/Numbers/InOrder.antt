@@ -1,6 +1,6 @@
 -- The devices that are reached, and their places, stand in the order of device numbers.
 use Rattle.std.proofs.Common.{◌≡◌, ℕ, ◌<◌, Bool, true, false, cond, ◌&&◌, ◌||◌, ◌⊎◌, inl, inr, nat_eq, eqb-true, eq-eqb, List, [], ◌∷◌, ◌++◌, map, T, refl, sym, ap, subst, ◌∙◌}
-use Rattle.std.proofs.lemmas.Bool.{and_parts}
+use Rattle.std.proofs.lemmas.Bool.{and_parts, or_cases, or_right}
 use Rattle.std.proofs.lemmas.List.Folds.{list_any-append}
 use Rattle.std.specs.List.{filter, filter_map, flat_map, list_any}
 use Rattle.std.specs.Ordering.{nat_cmp, is_lt, eq_by_cmp, ordering_then}
@@ -14,22 +14,16 @@ use Rattle.iocm_types.specs.declared.key.Key.TheVariants.{Device}
 use Rattle.iocm_types.specs.declared.place.Place.{Place}
 use Rattle.iocm_types.specs.Key.{key_cmp}
 use Rattle.iocm_types.specs.Place.{place_cmp}
-use Rattle.iocm_types.proofs.KeyOrder.{places_total, places_exact}
+use Rattle.iocm_types.specs.KeyOrder.{places_total, places_exact}
 use Rattle.iocm_model.specs.Machine.Record.{Rec, DeviceRecord, key_of, id, resource, image, limit, path, unit, device, online}
 use Rattle.iocm_model.specs.Machine.Configuration.{Configuration, Lookup, lookup_of, IsKeyed, with_keys, records_of, as_device}
 use Rattle.iocm_model.specs.Machine.Numbering.{subsystems, sets, is_reached, reached_devices, reached_places}
-use Rattle.iocm_model.proofs.Maps.Found.{same_key, ties_itself, first_holds, second_holds}
-use Rattle.iocm_model.proofs.Numbers.First.{at, reached_among, counted_by}
+use Rattle.iocm_types.proofs.Found.{same_key, ties_itself}
+use Rattle.iocm_model.proofs.Numbers.First.{at, reached_among, counted_by, subsystems_distinct, sets_distinct}
 use Rattle.iocm_model.proofs.Numbers.Lowest.{less}
-
--- one of two that hold together
-either : (a b : Bool) → (a || b) ≡ true → (a ≡ true) ⊎ (b ≡ true)
-either true b h = inl refl
-either false b h = inr h
-
-second_true : (a b : Bool) → b ≡ true → (a || b) ≡ true
-second_true true b h = refl
-second_true false b h = h
+use Rattle.iocm_types.proofs.Tests.{first_holds, second_holds}
+use Rattle.iocm_types.proofs.Entries.{below_rest}
+use Rattle.iocm_types.proofs.Parts.{AreDistinct}
 
 -- ---- device numbers
 
@@ -56,28 +50,25 @@ module _ (c : Lookup) (css set : ℕ) where
       let same : d.set ≡ k.set = eqb-true d.set set (and_parts _ _ p.0).0 ∙ sym own in
       smaller_device k.set k.number x (subst (λ (y : Key). T (is_lt (key_cmp (Device k.set k.number) y))) (λ i. Device (same i) (sym number i)) below)
 
-  behind : (k : Key) (r : Rec) (rs : List Rec) → T (below_all key_cmp k (with_keys (r ∷ rs))) → T (below_all key_cmp k (with_keys rs))
-  behind k r rs below = second_holds (is_lt (key_cmp k (key_of r))) (below_all key_cmp k (with_keys rs)) below
-
   -- a device that is reached among later records has a greater number
   later : (k : DeviceRecord) (rs : List Rec) (x : ℕ) → k.set ≡ set → T (below_all key_cmp (Device k.set k.number) (with_keys rs))
       → list_any (nat_eq x) (reached_among c css set rs) ≡ true → k.number < x
   later k [] x own below h = cc
   later k (device d ∷ rs) x own below h =
-      by (either _ _ (sym (counted_by c css set x d (filter (λ (e : DeviceRecord). nat_eq e.set set && is_reached c css e) (filter_map as_device rs))
-      (nat_eq d.set set && is_reached c css d)) ∙ h)) (later k rs x own (behind (Device k.set k.number) (device d) rs below))
+      by (or_cases _ _ (sym (counted_by c css set x d (filter (λ (e : DeviceRecord). nat_eq e.set set && is_reached c css e) (filter_map as_device rs))
+      (nat_eq d.set set && is_reached c css d)) ∙ h)) (later k rs x own (below_rest key_cmp (Device k.set k.number) (key_of (device d), device d) (with_keys rs) below))
     where
       by : ((((nat_eq d.set set && is_reached c css d) && nat_eq x d.number) ≡ true) ⊎ (list_any (nat_eq x) (reached_among c css set rs) ≡ true))
           → (list_any (nat_eq x) (reached_among c css set rs) ≡ true → k.number < x) → k.number < x
       by (inl e) more = here_later k d x (is_reached c css d) own (first_holds _ _ below) e
       by (inr e) more = more e
-  later k (id y ∷ rs) x own below h = later k rs x own (behind (Device k.set k.number) (id y) rs below) h
-  later k (resource y ∷ rs) x own below h = later k rs x own (behind (Device k.set k.number) (resource y) rs below) h
-  later k (image y ∷ rs) x own below h = later k rs x own (behind (Device k.set k.number) (image y) rs below) h
-  later k (limit y ∷ rs) x own below h = later k rs x own (behind (Device k.set k.number) (limit y) rs below) h
-  later k (path y ∷ rs) x own below h = later k rs x own (behind (Device k.set k.number) (path y) rs below) h
-  later k (unit y ∷ rs) x own below h = later k rs x own (behind (Device k.set k.number) (unit y) rs below) h
-  later k (online y ∷ rs) x own below h = later k rs x own (behind (Device k.set k.number) (online y) rs below) h
+  later k (id y ∷ rs) x own below h = later k rs x own (below_rest key_cmp (Device k.set k.number) (key_of (id y), id y) (with_keys rs) below) h
+  later k (resource y ∷ rs) x own below h = later k rs x own (below_rest key_cmp (Device k.set k.number) (key_of (resource y), resource y) (with_keys rs) below) h
+  later k (image y ∷ rs) x own below h = later k rs x own (below_rest key_cmp (Device k.set k.number) (key_of (image y), image y) (with_keys rs) below) h
+  later k (limit y ∷ rs) x own below h = later k rs x own (below_rest key_cmp (Device k.set k.number) (key_of (limit y), limit y) (with_keys rs) below) h
+  later k (path y ∷ rs) x own below h = later k rs x own (below_rest key_cmp (Device k.set k.number) (key_of (path y), path y) (with_keys rs) below) h
+  later k (unit y ∷ rs) x own below h = later k rs x own (below_rest key_cmp (Device k.set k.number) (key_of (unit y), unit y) (with_keys rs) below) h
+  later k (online y ∷ rs) x own below h = later k rs x own (below_rest key_cmp (Device k.set k.number) (key_of (online y), online y) (with_keys rs) below) h
 
   rises_by : (d : DeviceRecord) (ds : List DeviceRecord) (b : Bool) → (nat_eq d.set set && is_reached c css d) ≡ b
       → (d.set ≡ set → (x : ℕ) → list_any (nat_eq x) (map (λ (e : DeviceRecord). e.number) ds) ≡ true → d.number < x)
@@ -125,7 +116,7 @@ record IsAt (css set : ℕ) (ds : List ℕ) (p : Place) : Type 0 where
 
 is_at : (css set : ℕ) (ds : List ℕ) (p : Place) → is_one_of p (places_at css set ds) ≡ true → IsAt css set ds p
 is_at css set [] p h = cc
-is_at css set (d ∷ ds) p h = by (either _ _ h) (is_at css set ds p)
+is_at css set (d ∷ ds) p h = by (or_cases _ _ h) (is_at css set ds p)
   where
     by : ((eq_by_cmp place_cmp p (at css set d) ≡ true) ⊎ (is_one_of p (places_at css set ds) ≡ true))
         → (is_one_of p (places_at css set ds) ≡ true → IsAt css set ds p) → IsAt css set (d ∷ ds) p
@@ -137,7 +128,7 @@ is_at css set (d ∷ ds) p h = by (either _ _ h) (is_at css set ds p)
     by (inr e) more = let rest = more e in record {
       css_is = rest.css_is;
       set_is = rest.set_is;
-      device_is = second_true (nat_eq p.device d) _ rest.device_is;
+      device_is = or_right (nat_eq p.device d) _ rest.device_is;
     }
 
 set_in_order : (css set : ℕ) (ds : List ℕ) → Rises ds → InOrder (places_at css set ds)
@@ -147,30 +138,25 @@ set_in_order css set (d ∷ ds) rise = (
   set_in_order css set ds rise.1,
 )
 
--- numbers of which none stands twice
-abbrev AreDistinct : List ℕ → Type 0
-AreDistinct [] = Unit {0}
-AreDistinct (i ∷ is) = (list_any (nat_eq i) is ≡ false) × AreDistinct is
-
 -- places in parts of which each has a number of its own
 module _ (tag : Place → ℕ) (same_tag : (p q : Place) → p.css ≡ q.css → p.set ≡ q.set → tag p ≡ tag q) (part : ℕ → List Place)
     (own : (i : ℕ) (p : Place) → is_one_of p (part i) ≡ true → tag p ≡ i) where
   tag_there : (is : List ℕ) (p : Place) → is_one_of p (flat_map part is) ≡ true → list_any (nat_eq (tag p)) is ≡ true
   tag_there [] p h = cc
-  tag_there (i ∷ is) p h = by (either _ _ (sym (list_any-append (eq_by_cmp place_cmp p) (part i) (flat_map part is)) ∙ h)) (tag_there is p)
+  tag_there (i ∷ is) p h = by (or_cases _ _ (sym (list_any-append (eq_by_cmp place_cmp p) (part i) (flat_map part is)) ∙ h)) (tag_there is p)
     where
       by : ((is_one_of p (part i) ≡ true) ⊎ (is_one_of p (flat_map part is) ≡ true))
           → (is_one_of p (flat_map part is) ≡ true → list_any (nat_eq (tag p)) is ≡ true) → (nat_eq (tag p) i || list_any (nat_eq (tag p)) is) ≡ true
       by (inl e) more = ap (λ b. b || list_any (nat_eq (tag p)) is) (eq-eqb (tag p) i (own i p e))
-      by (inr e) more = second_true (nat_eq (tag p) i) _ (more e)
+      by (inr e) more = or_right (nat_eq (tag p) i) _ (more e)
 
   -- a part before others of other numbers
   before_others : (i : ℕ) (is : List ℕ) → list_any (nat_eq i) is ≡ false → (xs : List Place) → ((x : Place) → is_one_of x xs ≡ true → tag x ≡ i)
       → InOrder xs → InOrder (flat_map part is) → InOrder (xs ++ flat_map part is)
   before_others i is apart [] mine order rest = rest
   before_others i is apart (x ∷ xs) mine order rest = (
-    (λ p among css set. by p css set (either _ _ (sym (list_any-append (eq_by_cmp place_cmp p) xs (flat_map part is)) ∙ among))),
-    before_others i is apart xs (λ y e. mine y (second_true (eq_by_cmp place_cmp y x) _ e)) order.1 rest,
+    (λ p among css set. by p css set (or_cases _ _ (sym (list_any-append (eq_by_cmp place_cmp p) xs (flat_map part is)) ∙ among))),
+    before_others i is apart xs (λ y e. mine y (or_right (eq_by_cmp place_cmp y x) _ e)) order.1 rest,
   )
     where
       by : (p : Place) → x.css ≡ p.css → x.set ≡ p.set → ((is_one_of p xs ≡ true) ⊎ (is_one_of p (flat_map part is) ≡ true)) → x.device < p.device
@@ -188,7 +174,7 @@ module _ (tag : Place → ℕ) (same_tag : (p q : Place) → p.css ≡ q.css →
 of_parts : (P : Place → Type 0) (part : ℕ → List Place) → ((i : ℕ) (p : Place) → is_one_of p (part i) ≡ true → P p)
     → (is : List ℕ) (p : Place) → is_one_of p (flat_map part is) ≡ true → P p
 of_parts P part each [] p h = cc
-of_parts P part each (i ∷ is) p h = by (either _ _ (sym (list_any-append (eq_by_cmp place_cmp p) (part i) (flat_map part is)) ∙ h)) (of_parts P part each is p)
+of_parts P part each (i ∷ is) p h = by (or_cases _ _ (sym (list_any-append (eq_by_cmp place_cmp p) (part i) (flat_map part is)) ∙ h)) (of_parts P part each is p)
   where
     by : ((is_one_of p (part i) ≡ true) ⊎ (is_one_of p (flat_map part is) ≡ true)) → (is_one_of p (flat_map part is) ≡ true → P p) → P p
     by (inl e) more = each i p e
@@ -201,5 +187,5 @@ reached_in_order c keyed =
     (λ css. of_parts (λ p. p.css ≡ css) (λ set. places_at css set (reached_devices c css set)) (λ set p h. (is_at css set (reached_devices c css set) p h).css_is) sets)
     (λ css. parts_in_order (λ p. p.set) (λ p q css set. set) (λ set. places_at css set (reached_devices c css set))
     (λ set p h. (is_at css set (reached_devices c css set) p h).set_is)
-    (λ set. set_in_order css set (reached_devices c css set) (reached_rise c keyed css set)) sets (refl, (refl, (refl, (refl, tt)))))
-    subsystems (refl, (refl, (refl, (refl, (refl, (refl, tt))))))
+    (λ set. set_in_order css set (reached_devices c css set) (reached_rise c keyed css set)) sets sets_distinct)
+    subsystems subsystems_distinct

@@ -1,9 +1,9 @@
 -- The first gap in rising numbers.
 use Rattle.std.proofs.Common.{◌≡◌, ℕ, ◌+◌, ◌<◌, ◌≤◌, ◌==◌, ◌&&◌, nat_eq, Bool, true, false, cond, T, List, [], ◌∷◌, length, map, filter, refl, sym, ◌∙◌, arith}
-use Rattle.std.proofs.lemmas.Bool.{eqb-true, eqb-false}
+use Rattle.std.proofs.lemmas.Bool.{and_parts, eqb-true, eqb-false}
 use Rattle.std.specs.List.{list_any}
 use Rattle.std.specs.Ordering.{nat_cmp, is_lt}
-use Rattle.std.specs.Cmp.{nat_cmp_is, ranked}
+use Rattle.std.specs.Cmp.{ranked}
 use Rattle.std.specs.declared.cmp.Ordering.{Ordering}
 use Rattle.std.specs.declared.cmp.Ordering.TheVariants.{Less, Equal, Greater}
 use Rattle.std.specs.FinMap.{entries, entries_sorted, is_sorted}
@@ -13,6 +13,8 @@ use Rattle.iocm_types.specs.Place.{cell_cmp}
 use Rattle.iocm_model.specs.Machine.Numbering.{Numbering, cells_of}
 use Rattle.iocm_model.specs.Change.Renumbering.{gap_from, numbers_in}
 use Rattle.iocm_model.specs.Laws.Numbers.{LowestFreeIsFree, LowestFreeIsFound}
+use Rattle.iocm_types.proofs.Tests.{first_holds, second_holds}
+use Rattle.iocm_types.proofs.Orderings.{ties}
 
 -- numbers that strictly rise, the first at least n
 pub rises_from : ℕ → List ℕ → Type 0
@@ -86,9 +88,6 @@ unfolding gap_from
 gap_most n [] = omega arith
 gap_most n (x ∷ xs) = let step = most_at (nat_eq x n) n (length xs) xs (gap_most (n + 1) xs) in omega arith
 
-tied : (a b : ℕ) → a ≡ b → nat_cmp a b ≡ Equal
-tied a b e = sym (nat_cmp_is a b Equal e)
-
 pub less : (a b : ℕ) → T (is_lt (nat_cmp a b)) → a < b
 less a b h = by_order (nat_cmp a b) refl h
   where
@@ -99,19 +98,7 @@ less a b h = by_order (nat_cmp a b) refl h
 
 -- of two cells of one set the one in front has the smaller number
 smaller_number : (x y : NumberCell) → x.css ≡ y.css → x.set ≡ y.set → T (is_lt (cell_cmp x y)) → x.number < y.number
-smaller_number x y css set h = less x.number y.number (rw (tied x.css y.css css, tied x.set y.set set) at h)
-
-front_true : (a b : Bool) → T (a && b) → T a
-front_true true b h = tt
-front_true false b h = absurd h
-
-back_true : (a b : Bool) → T (a && b) → T b
-back_true true b h = h
-back_true false b h = absurd h
-
-both : (a b : Bool) → (a && b) ≡ true → (a ≡ true) × (b ≡ true)
-both true b e = (refl, e)
-both false b e = cc
+smaller_number x y css set h = less x.number y.number (rw (ties x.css y.css css, ties x.set y.set set) at h)
 
 -- a cell of this channel subsystem and set
 is_in : ℕ → ℕ → NumberCell × ℕ → Bool
@@ -127,10 +114,10 @@ from_first : (css set : ℕ) (x : NumberCell × ℕ) (es : List (NumberCell × �
 unfolding AtLeast is_in
 from_first css set x [] here h = tt
 from_first css set x (e ∷ es) here h = (
-  (λ there. let p = both _ _ here in let q = both _ _ there in
+  (λ there. let p = and_parts _ _ here in let q = and_parts _ _ there in
       let w = smaller_number x.0 e.0 (eqb-true x.0.css css p.0 ∙ sym (eqb-true e.0.css css q.0)) (eqb-true x.0.set set p.1 ∙ sym (eqb-true e.0.set set q.1))
-      (front_true _ _ h) in omega arith),
-  from_first css set x es here (back_true _ _ h),
+      (first_holds _ _ h) in omega arith),
+  from_first css set x es here (second_holds _ _ h),
 )
 
 numbers_of : ℕ → ℕ → List (NumberCell × ℕ) → List ℕ
@@ -147,7 +134,7 @@ rises_all : (css set m : ℕ) (es : List (NumberCell × ℕ)) → T (is_sorted c
 unfolding AtLeast numbers_of rises_from
 rises_all css set m [] sorted rest = tt
 rises_all css set m (x ∷ es) sorted rest =
-    rises_at (is_in css set x) css set m x es refl rest.0 (front_true _ _ sorted) rest.1 (λ k at. rises_all css set k es (back_true _ _ sorted) at)
+    rises_at (is_in css set x) css set m x es refl rest.0 (first_holds _ _ sorted) rest.1 (λ k at. rises_all css set k es (second_holds _ _ sorted) at)
 
 from_zero : (css set : ℕ) (es : List (NumberCell × ℕ)) → AtLeast css set 0 es
 unfolding AtLeast

@@ -1,48 +1,25 @@
 -- The rest of those that come in get the lowest free numbers in order of device number.
-use Rattle.std.proofs.Common.{◌≡◌, ℕ, ◌<◌, Bool, true, false, cond, ◌&&◌, ◌||◌, ◌⊎◌, inl, inr, nat_eq, eqb-true, List, [], ◌∷◌, Option, Some, None, is_some, T, refl, sym, ap, ◌∙◌}
+use Rattle.std.proofs.Common.{◌≡◌, ℕ, ◌<◌, Bool, true, false, cond, ◌&&◌, ◌⊎◌, inl, inr, nat_eq, eqb-true, List, [], ◌∷◌, Option, Some, None, is_some, refl, sym, ap, ◌∙◌}
 use Rattle.std.proofs.lemmas.Bool.{and_parts}
-use Rattle.std.specs.List.{fold, list_any}
+use Rattle.std.specs.List.{fold}
 use Rattle.std.specs.Ordering.{eq_by_cmp}
-use Rattle.std.specs.declared.cmp.Ordering.{Ordering}
-use Rattle.std.specs.Cmp.{IsTotalOrder}
-use Rattle.std.specs.FinMap.{IsAntisymmetric, find, get, insert, contains_key, entries, entries_sorted, is_sorted, get-entries}
+use Rattle.std.specs.FinMap.{find, get, insert, contains_key, entries, entries_sorted, get-entries}
 use Rattle.iocm_types.specs.declared.place.Place.{Place}
 use Rattle.iocm_types.specs.declared.place.NumberCell.{NumberCell}
 use Rattle.iocm_types.specs.Place.{place_cmp, cell_cmp}
-use Rattle.iocm_types.proofs.KeyOrder.{places_exact, cells_total, cells_exact}
+use Rattle.iocm_types.specs.KeyOrder.{places_exact, cells_total, cells_exact}
 use Rattle.iocm_model.specs.Machine.Configuration.{Configuration}
 use Rattle.iocm_model.specs.Machine.Numbering.{Numbering, reached_places, is_reached_at, cells_of}
 use Rattle.iocm_model.specs.Change.Renumbering.{lowest_free, without_leavers, with_carried, with_lowest}
 use Rattle.iocm_model.specs.Laws.Numbers.{is_used, RestGetTheLowest}
-use Rattle.iocm_model.proofs.Maps.Found.{same_key, first_holds, second_holds, found_first, found_later}
+use Rattle.iocm_types.proofs.Found.{same_key, IsPassing, passing}
 use Rattle.iocm_model.proofs.Numbers.Cells.{has_number}
 use Rattle.iocm_model.proofs.Numbers.Lowest.{lowest_free_is_free}
 use Rattle.iocm_model.proofs.Numbers.Apart.{any_kept}
-use Rattle.iocm_model.proofs.Numbers.Changed.{given, get_without, other_carried_by, lowest_keep, other_lowest_by, lowest_not, before_lowest}
+use Rattle.iocm_model.proofs.Numbers.Changed.{given, get_without, other_carried_by, lowest_keep, other_lowest_by, lowest_not, before_lowest, none_stays}
 use Rattle.iocm_model.proofs.Numbers.InOrder.{is_one_of, InOrder, reached_in_order}
 
 -- ---- a number that is used is a place's
-
--- an entry that passes a test, as it is found
-record IsPassing {K X : Type 0} (R : K → K → Ordering) (test : K × X → Bool) (es : List (K × X)) : Type 0 where
-  key : K
-  value : X
-  found : find R key es ≡ Some value
-  passes : test (key, value) ≡ true
-
-module _ {K X : Type 0} (R : K → K → Ordering) (total : IsTotalOrder R) (exact : IsAntisymmetric R) (test : K × X → Bool) where
-  passing : (es : List (K × X)) → T (is_sorted R es) → list_any test es ≡ true → IsPassing R test es
-  passing [] up h = cc
-  passing (e ∷ es) up h = by (test e) refl h (passing es (second_holds _ _ up))
-    where
-      by : (b : Bool) → test e ≡ b → (b || list_any test es) ≡ true → (list_any test es ≡ true → IsPassing R test es) → IsPassing R test (e ∷ es)
-      by true is h more = record { key = e.0; value = e.1; found = found_first R total exact e es; passes = is }
-      by false is h more = let rest = more h in record {
-        key = rest.key;
-        value = rest.value;
-        found = found_later R total exact rest.key e es rest.value (first_holds _ _ up) rest.found;
-        passes = rest.passes;
-      }
 
 -- a place of a channel subsystem and set that has this number
 record HasNumber (n : Numbering) (css set number : ℕ) : Type 0 where
@@ -167,8 +144,7 @@ had_one c carried n q there = by (find place_cmp q carried) refl
 
 pub rest_get_the_lowest : RestGetTheLowest
 rest_get_the_lowest c carried n p number keyed none alone is k low =
-    let before : get (before_lowest c carried n) p ≡ None = not_carried c (without_leavers c n) carried p alone ∙ get_without c n p
-    ∙ ap (λ o. cond (is_reached_at c p) o None) none ∙ neither (is_reached_at c p) in
+    let before : get (before_lowest c carried n) p ≡ None = not_carried c (without_leavers c n) carried p alone ∙ none_stays c n p none in
     let h = held (before_lowest c carried n) (reached_places c) (reached_in_order c keyed) p number before is k low in record {
       place = h.place;
       css = h.css_is;
@@ -177,10 +153,6 @@ rest_get_the_lowest c carried n p number keyed none alone is k low =
       before = by h.place h.before;
     }
   where
-    neither : (b : Bool) → cond {A = Option ℕ} b None None ≡ None
-    neither true = refl
-    neither false = refl
-
     or_carried : (q : Place) → ((contains_key n q ≡ true) ⊎ (is_some (find place_cmp q carried) ≡ true))
         → (contains_key n q ≡ true) ⊎ ((is_some (find place_cmp q carried) ≡ true) ⊎ (q.device < p.device))
     or_carried q (inl h) = inl h

@@ -2,8 +2,7 @@
 use Rattle.std.proofs.Common.{◌≡◌, Bool, true, false, cond, Some, List, [], ◌∷◌, ◌++◌, T, refl, sym, ap, subst, ◌∙◌}
 use Rattle.std.proofs.lemmas.Bool.{or_parts}
 use Rattle.std.specs.List.{list_any}
-use Rattle.std.specs.Ordering.{is_lt, eq_by_cmp, ordering_reverse}
-use Rattle.std.specs.declared.cmp.Ordering.{Ordering}
+use Rattle.std.specs.Ordering.{eq_by_cmp, ordering_reverse}
 use Rattle.std.specs.declared.cmp.Ordering.TheVariants.{Less, Equal, Greater}
 use Rattle.std.specs.Cmp.{tied_itself}
 use Rattle.std.specs.FinMap.{find, get, entries, entries_sorted, is_sorted, get-entries}
@@ -14,13 +13,10 @@ use Rattle.iocm_types.specs.KeyOrder.{keys_total, keys_exact}
 use Rattle.iocm_model.specs.Machine.Record.{Rec, key_of}
 use Rattle.iocm_model.specs.Machine.Configuration.{with_keys}
 use Rattle.iocm_model.specs.Laws.Breaches.{AnswersTheLeast}
-use Rattle.iocm_model.proofs.Maps.Found.{same_key, first_holds, second_holds, found_first, found_later}
+use Rattle.iocm_types.proofs.Found.{same_key, found_first, found_later}
 use Rattle.iocm_model.proofs.Rules.FirstBreach.{answers_the_first}
-
-is_less : (r : Ordering) → T (is_lt r) → r ≡ Less
-is_less Less h = refl
-is_less Equal h = absurd h
-is_less Greater h = absurd h
+use Rattle.iocm_types.proofs.Orderings.{less_is}
+use Rattle.iocm_types.proofs.Tests.{first_holds, second_holds}
 
 not_both_less : (k q : Key) → key_cmp k q ≡ Less → key_cmp q k ≡ Less → ⊥
 not_both_less k q h g = let bad : Greater ≡ Less = sym (keys_total.antisymm k q ∙ ap ordering_reverse g) ∙ h in cc
@@ -35,7 +31,7 @@ above k q (e ∷ es) r below h = by (eq_by_cmp key_cmp q e.0) refl (above k q es
   where
     by : (b : Bool) → eq_by_cmp key_cmp q e.0 ≡ b → (find key_cmp q es ≡ Some r → key_cmp k q ≡ Less)
         → cond b (Some e.1) (find key_cmp q es) ≡ Some r → key_cmp k q ≡ Less
-    by true t more h = ap (key_cmp k) (same_key key_cmp keys_exact q e.0 t) ∙ is_less _ (first_holds _ _ below)
+    by true t more h = ap (key_cmp k) (same_key key_cmp keys_exact q e.0 t) ∙ less_is _ (first_holds _ _ below)
     by false t more h = more h
 
 -- of records in order, one of a smaller key than that of the first that breaks a rule keeps it

@@ -1,53 +1,20 @@
 -- What is found in the entries of a map, what a test says of it, and what is found after each entry was turned into another.
-use Rattle.std.proofs.Common.{◌≡◌, Bool, true, false, cond, ◌&&◌, ◌||◌, List, [], ◌∷◌, map, Option, Some, None, is_some, T, refl, sym, ap, subst, ◌∙◌}
+use Rattle.std.proofs.Common.{◌≡◌, Bool, true, false, cond, ◌||◌, List, [], ◌∷◌, map, Option, Some, None, is_some, T, refl, sym, ap, subst, ◌∙◌}
 use Rattle.std.proofs.lemmas.Bool.{or_parts}
 use Rattle.std.specs.List.{list_any}
-use Rattle.std.specs.Ordering.{is_eq, is_lt, eq_by_cmp}
+use Rattle.std.specs.Ordering.{is_eq, eq_by_cmp}
 use Rattle.std.specs.declared.cmp.Ordering.{Ordering}
-use Rattle.std.specs.declared.cmp.Ordering.TheVariants.{Less, Equal, Greater}
-use Rattle.std.specs.Cmp.{IsTotalOrder, tied_itself}
+use Rattle.std.specs.Cmp.{Equal-is, IsTotalOrder, tied_itself}
 use Rattle.std.specs.FinMap.{IsAntisymmetric, find, is_sorted}
 use Rattle.std.specs.FinMap.Entries.{below_all}
-
--- ---- tests
-
--- the first part of two that hold
-pub first_holds : (a b : Bool) → T (a && b) → T a
-first_holds true b h = tt
-first_holds false b h = h
-
--- the second part of two that hold
-pub second_holds : (a b : Bool) → T (a && b) → T b
-second_holds true b h = h
-second_holds false b h = absurd h
-
--- what is not there is none
-pub absent : {A : Type 0} (o : Option A) → is_some o ≡ false → o ≡ None
-absent None e = refl
-absent (Some x) e = cc
-
--- what is there has a value
-pub present : {A : Type 0} (o : Option A) → is_some o ≡ true → (x : A) × (o ≡ Some x)
-present None e = cc
-present (Some x) e = (x, refl)
+use Rattle.iocm_types.proofs.Tests.{first_holds, second_holds}
+use Rattle.iocm_types.proofs.Entries.{not_found}
 
 -- ---- keys that tie
 
--- a result that is equal
-equal_is : (r : Ordering) → is_eq r ≡ true → r ≡ Equal
-equal_is Less e = cc
-equal_is Equal e = refl
-equal_is Greater e = cc
-
--- a result that is less isn't equal
-less_is : (r : Ordering) → T (is_lt r) → is_eq r ≡ false
-less_is Less h = refl
-less_is Equal h = absurd h
-less_is Greater h = absurd h
-
 -- keys that tie are equal
 pub same_key : {K : Type 0} (R : K → K → Ordering) → IsAntisymmetric R → (x y : K) → eq_by_cmp R x y ≡ true → x ≡ y
-same_key R exact x y e = exact x y (equal_is (R x y) e)
+same_key R exact x y e = exact x y ((Equal-is (R x y)).0 e)
 
 -- a key ties with itself
 pub ties_itself : {K : Type 0} (R : K → K → Ordering) → IsTotalOrder R → (x : K) → eq_by_cmp R x x ≡ true
@@ -56,15 +23,10 @@ ties_itself R total x = ap is_eq (tied_itself total x)
 -- ---- entries in order
 
 module _ {K X : Type 0} (R : K → K → Ordering) (total : IsTotalOrder R) (exact : IsAntisymmetric R) where
-  -- a key that is below all isn't found
-  pub not_found : (q : K) (es : List (K × X)) → T (below_all R q es) → find R q es ≡ None
-  not_found q [] h = refl
-  not_found q (e ∷ es) h = let apart : eq_by_cmp R q e.0 ≡ false = less_is _ (first_holds _ _ h) in rw apart (not_found q es (second_holds _ _ h))
-
   -- `found_later`, by whether the key ties with that of the entry in front
   found_later_by : (q : K) (e : K × X) (es : List (K × X)) (v : X) (b : Bool) → eq_by_cmp R q e.0 ≡ b → T (below_all R e.0 es)
       → find R q es ≡ Some v → cond b (Some e.1) (find R q es) ≡ Some v
-  found_later_by q e es v true t h is = let none : find R q es ≡ None = ap (λ k. find R k es) (same_key R exact q e.0 t) ∙ not_found e.0 es h in cc
+  found_later_by q e es v true t h is = let none : find R q es ≡ None = ap (λ k. find R k es) (same_key R exact q e.0 t) ∙ not_found R e.0 es h in cc
   found_later_by q e es v false t h is = is
 
   -- what is found behind an entry is found with it in front, where the entry is below all
@@ -97,6 +59,27 @@ module _ {K X : Type 0} (R : K → K → Ordering) (total : IsTotalOrder R) (exa
   found_fails test [] q v none is = cc
   found_fails test (e ∷ es) q v none is =
       found_fails_by test e (list_any test es) (find R q es) q v (eq_by_cmp R q e.0) refl none (found_fails test es q v) is
+
+-- an entry that passes a test, as it is found
+pub record IsPassing {K X : Type 0} (R : K → K → Ordering) (test : K × X → Bool) (es : List (K × X)) : Type 0 where
+  pub key : K
+  pub value : X
+  pub found : find R key es ≡ Some value
+  pub passes : test (key, value) ≡ true
+
+module _ {K X : Type 0} (R : K → K → Ordering) (total : IsTotalOrder R) (exact : IsAntisymmetric R) (test : K × X → Bool) where
+  pub passing : (es : List (K × X)) → T (is_sorted R es) → list_any test es ≡ true → IsPassing R test es
+  passing [] up h = cc
+  passing (e ∷ es) up h = by (test e) refl h (passing es (second_holds _ _ up))
+    where
+      by : (b : Bool) → test e ≡ b → (b || list_any test es) ≡ true → (list_any test es ≡ true → IsPassing R test es) → IsPassing R test (e ∷ es)
+      by true is h more = record { key = e.0; value = e.1; found = found_first R total exact e es; passes = is }
+      by false is h more = let rest = more h in record {
+        key = rest.key;
+        value = rest.value;
+        found = found_later R total exact rest.key e es rest.value (first_holds _ _ up) rest.found;
+        passes = rest.passes;
+      }
 
 -- ---- entries that are turned into others, and back
 

@@ -1,7 +1,7 @@
 -- What is found in a list that is put together of parts, where a key stands in one part alone.
-use Rattle.std.proofs.Common.{◌≡◌, ℕ, Bool, true, false, cond, not, ◌&&◌, nat_eq, eqb-true, eq-eqb, subst, List, [], ◌∷◌, ◌++◌, Option, Some, None, T, refl, sym, ap, ◌∙◌}
-use Rattle.std.proofs.lemmas.Bool.{eqb-false}
-use Rattle.std.specs.List.{flat_map, list_all}
+use Rattle.std.proofs.Common.{◌≡◌, ℕ, Bool, true, false, cond, nat_eq, eqb-true, List, [], ◌∷◌, ◌++◌, Option, Some, None, refl, sym, ap, ◌∙◌, ◌||◌}
+use Rattle.std.proofs.lemmas.Bool.{eqb-false, or_parts}
+use Rattle.std.specs.List.{flat_map, list_any}
 use Rattle.std.specs.Ordering.{is_eq, eq_by_cmp}
 use Rattle.std.specs.declared.cmp.Ordering.{Ordering}
 use Rattle.std.specs.declared.cmp.Ordering.TheVariants.{Less, Equal, Greater}
@@ -25,6 +25,11 @@ untied R exact x y other = by (R x y) refl
     by Equal e = absurd (other (exact x y e))
     by Greater e = refl
 
+-- numbers of which none stands twice
+abbrev pub AreDistinct : List ℕ → Type 0
+AreDistinct [] = Unit {0}
+AreDistinct (i ∷ is) = (list_any (nat_eq i) is ≡ false) × AreDistinct is
+
 module _ {K X : Type 0} (R : K → K → Ordering) where
   found_by : (b : Bool) (x : X) (a c : Option X) → cond b (Some x) (or_else a c) ≡ or_else (cond b (Some x) a) c
   found_by true x a c = refl
@@ -40,28 +45,33 @@ module _ {K X : Type 0} (R : K → K → Ordering) where
   find_nowhere q part none (y ∷ xs) = find_append q (part y) (flat_map part xs) ∙ (λ i. or_else (none y i) (find_nowhere q part none xs i))
 
   module _ (q : K) (part : ℕ → List (K × X)) (x : ℕ) (alone : (y : ℕ) → (y ≡ x → ⊥) → find R q (part y) ≡ None) where
-    -- the number isn't in the list
-    abbrev pub without : List ℕ → Bool
-    without xs = list_all (λ y. not (nat_eq y x)) xs
-
-    not_same : (y : ℕ) (b : Bool) → T (not (nat_eq y x) && b) → y ≡ x → ⊥
-    not_same y b h e = absurd (subst (λ t. T (not t && b)) (eq-eqb y x e) h)
-
-    rest_of : (a b : Bool) → T (a && b) → T b
-    rest_of true b h = h
-    rest_of false b h = absurd h
-
-    pub none_in : (xs : List ℕ) → T (without xs) → find R q (flat_map part xs) ≡ None
+    -- where its number isn't in the list, it isn't found
+    none_in : (xs : List ℕ) → list_any (nat_eq x) xs ≡ false → find R q (flat_map part xs) ≡ None
     none_in [] h = refl
-    none_in (y ∷ xs) h = find_append q (part y) (flat_map part xs)
-        ∙ (λ i. or_else (alone y (not_same y (without xs) h) i) (none_in xs (rest_of _ _ h) i))
+    none_in (y ∷ xs) h =
+        let apart = or_parts _ _ h in
+        find_append q (part y) (flat_map part xs) ∙ (λ i. or_else (alone y (λ e. eqb-false x y apart.0 (sym e)) i) (none_in xs apart.1 i))
 
-    -- the key is found in its part
-    pub find_part : (before after : List ℕ) → T (without before) → T (without after)
-        → find R q (flat_map part (before ++ x ∷ after)) ≡ find R q (part x)
-    find_part [] after h k = find_append q (part x) (flat_map part after) ∙ ap (or_else (find R q (part x))) (none_in after k) ∙ or_none (find R q (part x))
-    find_part (y ∷ before) after h k = find_append q (part y) (flat_map part (before ++ x ∷ after))
-        ∙ ap (λ a. or_else a (find R q (flat_map part (before ++ x ∷ after)))) (alone y (not_same y (without before) h)) ∙ find_part before after (rest_of _ _ h) k
+    -- where it is found, its number is in the list
+    pub part_there : (xs : List ℕ) (v : X) → find R q (flat_map part xs) ≡ Some v → list_any (nat_eq x) xs ≡ true
+    part_there xs v is = by (list_any (nat_eq x) xs) refl
+      where
+        by : (b : Bool) → list_any (nat_eq x) xs ≡ b → b ≡ true
+        by true e = refl
+        by false e = let bad : None ≡ Some v = sym (none_in xs e) ∙ is in cc
+
+    -- the key is found in its part, where no number stands twice
+    pub find_part : (xs : List ℕ) → AreDistinct xs → list_any (nat_eq x) xs ≡ true → find R q (flat_map part xs) ≡ find R q (part x)
+    find_part [] distinct h = cc
+    find_part (y ∷ xs) distinct h = find_append q (part y) (flat_map part xs) ∙ by (nat_eq x y) refl h (find_part xs distinct.1)
+      where
+        by : (b : Bool) → nat_eq x y ≡ b → (b || list_any (nat_eq x) xs) ≡ true
+            → (list_any (nat_eq x) xs ≡ true → find R q (flat_map part xs) ≡ find R q (part x))
+            → or_else (find R q (part y)) (find R q (flat_map part xs)) ≡ find R q (part x)
+        by true e h more =
+            let same : y ≡ x = sym (eqb-true x y e) in
+            (λ i. or_else (find R q (part (same i))) (none_in xs (ap (λ k. list_any (nat_eq k) xs) (sym same) ∙ distinct.0) i)) ∙ or_none (find R q (part x))
+        by false e h more = (λ i. or_else (alone y (λ k. eqb-false x y e (sym k)) i) (more h i))
 
     from_by : (y : ℕ) (v : X) (b : Bool) (rest : Option X) → nat_eq y x ≡ b → (rest ≡ Some v → find R q (part x) ≡ Some v)
         → or_else (find R q (part y)) rest ≡ Some v → find R q (part x) ≡ Some v
