@@ -17,103 +17,97 @@ use Rattle.iocm_history.proofs.Remarked.{AnyMarks, AreRemarked, remarked_same, r
 abbrev pub has : (Act → Bool) → List MarkedEntry → Bool
 has test ls = list_any (λ (l : MarkedEntry). test l.act) ls
 
--- ---- the undo of a change
+-- ---- a walk over the lines that stops at the first whose act passes a test, and what it does to the rest
+
+module _ (stops : Act → Bool) (walk rest : List MarkedEntry → List MarkedEntry) (first pass : MarkedEntry → MarkedEntry) (ends : walk [] ≡ [])
+    (goes : (l : MarkedEntry) (ls : List MarkedEntry) → walk (l ∷ ls) ≡ cond (stops l.act) (first l ∷ rest ls) (pass l ∷ walk ls))
+    (drop_rest : (i : ℕ) (ls : List MarkedEntry) → drop i (rest ls) ≡ rest (drop i ls)) where
+  -- where it stops among the first lines, the rest is what it makes of the rest
+  drop_walk : (i : ℕ) (ls : List MarkedEntry) → has stops (take i ls) ≡ true → drop i (walk ls) ≡ rest (drop i ls)
+  drop_walk zero ls is = cc
+  drop_walk (suc i) [] is = cc
+  drop_walk (suc i) (l ∷ ls) is = ap (drop (suc i)) (goes l ls) ∙ by (stops l.act) is (drop_walk i ls)
+    where
+      by : (b : Bool) → (b || has stops (take i ls)) ≡ true → (has stops (take i ls) ≡ true → drop i (walk ls) ≡ rest (drop i ls))
+          → drop (suc i) (cond b (first l ∷ rest ls) (pass l ∷ walk ls)) ≡ rest (drop i ls)
+      by true is more = drop_rest i ls
+      by false is more = more is
+
+  -- where it doesn't, it walks on over the rest
+  drop_walk_past : (i : ℕ) (ls : List MarkedEntry) → has stops (take i ls) ≡ false → drop i (walk ls) ≡ walk (drop i ls)
+  drop_walk_past zero ls lacks = refl
+  drop_walk_past (suc i) [] lacks = ap (drop (suc i)) ends ∙ sym ends
+  drop_walk_past (suc i) (l ∷ ls) lacks =
+      let both = or_parts (stops l.act) (has stops (take i ls)) lacks in
+      ap (drop (suc i)) (goes l ls) ∙ by (stops l.act) both.0 (drop_walk_past i ls both.1)
+    where
+      by : (b : Bool) → b ≡ false → drop i (walk ls) ≡ walk (drop i ls) → drop (suc i) (cond b (first l ∷ rest ls) (pass l ∷ walk ls)) ≡ walk (drop i ls)
+      by true lacks more = cc
+      by false lacks more = more
+
+  -- and passes the first lines
+  take_walk : (i : ℕ) (ls : List MarkedEntry) → has stops (take i ls) ≡ false → take i (walk ls) ≡ map pass (take i ls)
+  take_walk zero ls lacks = refl
+  take_walk (suc i) [] lacks = ap (take (suc i)) ends
+  take_walk (suc i) (l ∷ ls) lacks =
+      let both = or_parts (stops l.act) (has stops (take i ls)) lacks in
+      ap (take (suc i)) (goes l ls) ∙ by (stops l.act) both.0 (take_walk i ls both.1)
+    where
+      by : (b : Bool) → b ≡ false → take i (walk ls) ≡ map pass (take i ls)
+          → take (suc i) (cond b (first l ∷ rest ls) (pass l ∷ walk ls)) ≡ pass l ∷ map pass (take i ls)
+      by true lacks more = cc
+      by false lacks more = ap (λ (ms : List MarkedEntry). pass l ∷ ms) more
+
+-- ---- the undo and the redo of a change
 
 module _ (xs : List SubId) (n : ℕ) where
-  -- drop_strike's step
-  later_kept : (b : Bool) (i : ℕ) (l : MarkedEntry) (ls : List MarkedEntry) → (b || has (is_change n) (take i ls)) ≡ true
-      → (has (is_change n) (take i ls) ≡ true → drop i (strike xs n ls) ≡ drop i ls)
-      → drop (suc i) (cond b (struck (undone_with n) l ∷ ls) (struck_if (is_step_on xs l.act) (undone_with n) l ∷ strike xs n ls)) ≡ drop i ls
-  later_kept true i l ls is rest = refl
-  later_kept false i l ls is rest = rest is
+  -- a line of a step on these subchannels is struck
+  abbrev pass_by : Mark → MarkedEntry → MarkedEntry
+  pass_by by l = struck_if (is_step_on xs l.act) by l
+
+  strike_ends : strike xs n [] ≡ []
+  unfolding strike
+  strike_ends = refl
+
+  strike_goes : (l : MarkedEntry) (ls : List MarkedEntry)
+      → strike xs n (l ∷ ls) ≡ cond (is_change n l.act) (struck (undone_with n) l ∷ ls) (pass_by (undone_with n) l ∷ strike xs n ls)
+  unfolding strike
+  strike_goes l ls = refl
 
   -- where the change is among the first lines, the rest is not struck
   pub drop_strike : (i : ℕ) (ls : List MarkedEntry) → has (is_change n) (take i ls) ≡ true → drop i (strike xs n ls) ≡ drop i ls
-  unfolding strike
-  drop_strike zero ls is = cc
-  drop_strike (suc i) [] is = cc
-  drop_strike (suc i) (l ∷ ls) is = later_kept (is_change n l.act) i l ls is (drop_strike i ls)
-
-  -- drop_strike_past's step
-  later_struck : (b : Bool) (i : ℕ) (l : MarkedEntry) (ls : List MarkedEntry) → b ≡ false → drop i (strike xs n ls) ≡ strike xs n (drop i ls)
-      → drop (suc i) (cond b (struck (undone_with n) l ∷ ls) (struck_if (is_step_on xs l.act) (undone_with n) l ∷ strike xs n ls))
-      ≡ strike xs n (drop i ls)
-  later_struck true i l ls lacks rest = cc
-  later_struck false i l ls lacks rest = rest
+  drop_strike = drop_walk (is_change n) (strike xs n) (λ ls. ls) (struck (undone_with n)) (pass_by (undone_with n)) strike_ends strike_goes (λ i ls. refl)
 
   -- where it is not, the rest is struck
   pub drop_strike_past : (i : ℕ) (ls : List MarkedEntry) → has (is_change n) (take i ls) ≡ false → drop i (strike xs n ls) ≡ strike xs n (drop i ls)
-  unfolding strike
-  drop_strike_past zero ls lacks = refl
-  drop_strike_past (suc i) [] lacks = refl
-  drop_strike_past (suc i) (l ∷ ls) lacks =
-      let both = or_parts (is_change n l.act) (has (is_change n) (take i ls)) lacks in
-      later_struck (is_change n l.act) i l ls both.0 (drop_strike_past i ls both.1)
-
-  -- take_strike's step
-  first_struck : (b : Bool) (i : ℕ) (l : MarkedEntry) (ls : List MarkedEntry) → b ≡ false → take i (strike xs n ls) ≡ struck_steps xs (undone_with n) (take i ls)
-      → take (suc i) (cond b (struck (undone_with n) l ∷ ls) (struck_if (is_step_on xs l.act) (undone_with n) l ∷ strike xs n ls))
-      ≡ struck_steps xs (undone_with n) (l ∷ take i ls)
-  first_struck true i l ls lacks rest = cc
-  first_struck false i l ls lacks rest = ap (λ (ms : List MarkedEntry). struck_if (is_step_on xs l.act) (undone_with n) l ∷ ms) rest
+  drop_strike_past =
+      drop_walk_past (is_change n) (strike xs n) (λ ls. ls) (struck (undone_with n)) (pass_by (undone_with n)) strike_ends strike_goes (λ i ls. refl)
 
   -- and of the first lines each step on these subchannels is struck
   pub take_strike : (i : ℕ) (ls : List MarkedEntry) → has (is_change n) (take i ls) ≡ false
       → take i (strike xs n ls) ≡ struck_steps xs (undone_with n) (take i ls)
-  unfolding strike
-  take_strike zero ls lacks = refl
-  take_strike (suc i) [] lacks = refl
-  take_strike (suc i) (l ∷ ls) lacks =
-      let both = or_parts (is_change n l.act) (has (is_change n) (take i ls)) lacks in
-      first_struck (is_change n l.act) i l ls both.0 (take_strike i ls both.1)
+  take_strike = take_walk (is_change n) (strike xs n) (λ ls. ls) (struck (undone_with n)) (pass_by (undone_with n)) strike_ends strike_goes (λ i ls. refl)
 
-  -- ---- the redo of a change
+  restore_ends : restore xs n [] ≡ []
+  unfolding restore
+  restore_ends = refl
 
-  -- drop_restore's step
-  later_back : (b : Bool) (i : ℕ) (l : MarkedEntry) (ls : List MarkedEntry) → (b || has (is_undo n) (take i ls)) ≡ true
-      → drop i (taken_back n ls) ≡ taken_back n (drop i ls)
-      → (has (is_undo n) (take i ls) ≡ true → drop i (restore xs n ls) ≡ taken_back n (drop i ls))
-      → drop (suc i) (cond b (l ∷ taken_back n ls) (struck_if (is_step_on xs l.act) lost l ∷ restore xs n ls)) ≡ taken_back n (drop i ls)
-  later_back true i l ls is back rest = back
-  later_back false i l ls is back rest = rest is
+  restore_goes : (l : MarkedEntry) (ls : List MarkedEntry)
+      → restore xs n (l ∷ ls) ≡ cond (is_undo n l.act) (l ∷ taken_back n ls) (pass_by lost l ∷ restore xs n ls)
+  unfolding restore
+  restore_goes l ls = refl
 
   -- where the undo is among the first lines, the rest is taken back
   pub drop_restore : (i : ℕ) (ls : List MarkedEntry) → has (is_undo n) (take i ls) ≡ true → drop i (restore xs n ls) ≡ taken_back n (drop i ls)
-  unfolding restore
-  drop_restore zero ls is = cc
-  drop_restore (suc i) [] is = cc
-  drop_restore (suc i) (l ∷ ls) is = later_back (is_undo n l.act) i l ls is (drop-map (unstruck n) i ls) (drop_restore i ls)
-
-  -- drop_restore_past's step
-  later_restored : (b : Bool) (i : ℕ) (l : MarkedEntry) (ls : List MarkedEntry) → b ≡ false → drop i (restore xs n ls) ≡ restore xs n (drop i ls)
-      → drop (suc i) (cond b (l ∷ taken_back n ls) (struck_if (is_step_on xs l.act) lost l ∷ restore xs n ls)) ≡ restore xs n (drop i ls)
-  later_restored true i l ls lacks rest = cc
-  later_restored false i l ls lacks rest = rest
+  drop_restore = drop_walk (is_undo n) (restore xs n) (taken_back n) (λ l. l) (pass_by lost) restore_ends restore_goes (drop-map (unstruck n))
 
   -- where it is not, the rest is restored
   pub drop_restore_past : (i : ℕ) (ls : List MarkedEntry) → has (is_undo n) (take i ls) ≡ false → drop i (restore xs n ls) ≡ restore xs n (drop i ls)
-  unfolding restore
-  drop_restore_past zero ls lacks = refl
-  drop_restore_past (suc i) [] lacks = refl
-  drop_restore_past (suc i) (l ∷ ls) lacks =
-      let both = or_parts (is_undo n l.act) (has (is_undo n) (take i ls)) lacks in
-      later_restored (is_undo n l.act) i l ls both.0 (drop_restore_past i ls both.1)
-
-  -- take_restore's step
-  first_lost : (b : Bool) (i : ℕ) (l : MarkedEntry) (ls : List MarkedEntry) → b ≡ false → take i (restore xs n ls) ≡ struck_steps xs lost (take i ls)
-      → take (suc i) (cond b (l ∷ taken_back n ls) (struck_if (is_step_on xs l.act) lost l ∷ restore xs n ls))
-      ≡ struck_steps xs lost (l ∷ take i ls)
-  first_lost true i l ls lacks rest = cc
-  first_lost false i l ls lacks rest = ap (λ (ms : List MarkedEntry). struck_if (is_step_on xs l.act) lost l ∷ ms) rest
+  drop_restore_past = drop_walk_past (is_undo n) (restore xs n) (taken_back n) (λ l. l) (pass_by lost) restore_ends restore_goes (drop-map (unstruck n))
 
   -- and of the first lines each step on these subchannels is lost
   pub take_restore : (i : ℕ) (ls : List MarkedEntry) → has (is_undo n) (take i ls) ≡ false → take i (restore xs n ls) ≡ struck_steps xs lost (take i ls)
-  unfolding restore
-  take_restore zero ls lacks = refl
-  take_restore (suc i) [] lacks = refl
-  take_restore (suc i) (l ∷ ls) lacks =
-      let both = or_parts (is_undo n l.act) (has (is_undo n) (take i ls)) lacks in
-      first_lost (is_undo n l.act) i l ls both.0 (take_restore i ls both.1)
+  take_restore = take_walk (is_undo n) (restore xs n) (taken_back n) (λ l. l) (pass_by lost) restore_ends restore_goes (drop-map (unstruck n))
 
 -- ---- acts stay
 
