@@ -3,12 +3,12 @@
 use Rattle.std.specs.Prelude.{ℕ, ◌+◌, List, [], ◌∷◌, map, None, codes, Option}
 use Rattle.iocm_types.specs.declared.css_path.CssPath.{CssPath}
 use Rattle.iocm_types.specs.declared.path_kind.PathKind.TheVariants.{Shared}
-use Rattle.iocm_model.specs.Machine.Record.{Rec, DeviceRecord, image, path, unit, device, online}
 use Rattle.iocm_types.specs.declared.key.Key.{Key}
 use Rattle.iocm_types.specs.declared.key.Key.TheVariants.{Device}
 use Rattle.iocm_types.specs.declared.place.Place.{Place}
 use Rattle.iocm_types.specs.declared.sub_id.SubId.{SubId}
 use Rattle.iocm_types.specs.declared.key.Key.TheVariants as key
+use Rattle.iocm_model.specs.Machine.Record.{Rec, DeviceRecord, image, path, unit, device, online}
 
 abbrev pub lpa : List ℕ
 lpa = codes "LPA"

@@ -7,6 +7,7 @@ use Rattle.iocm_types.specs.declared.live.Live.{Live}
 use Rattle.iocm_types.specs.declared.refused.At.{At}
 use Rattle.iocm_types.specs.declared.rule.Rule.{Rule}
 use Rattle.iocm_types.specs.declared.sub_id.SubId.{SubId}
+use Rattle.iocm_types.specs.declared.order.Order.TheVariants as orders
 use Rattle.iocm_model.specs.Machine.Record.{Rec}
 use Rattle.iocm_model.specs.Machine.Configuration.{configuration_of}
 use Rattle.iocm_model.specs.Operation.State.{State, opening_state}
@@ -17,7 +18,6 @@ use Rattle.iocm_model.specs.Change.InverseTree.{inverse_tree}
 use Rattle.iocm_model.specs.Change.Meaning.{state_reached, meaning}
 use Rattle.iocm_model.specs.Operation.Step.{order, after_step}
 use Rattle.iocm_examples.specs.BaseDeck.{lpb, base, online_record, device_on_1000, device_key, subchannel}
-use Rattle.iocm_types.specs.declared.order.Order.TheVariants as orders
 
 -- the example deck, opened
 unfoldable pub base_opened : State

@@ -5,15 +5,15 @@ use Rattle.iocm_types.specs.declared.key.Key.{Key}
 use Rattle.iocm_types.specs.declared.live.Live.{Live}
 use Rattle.iocm_types.specs.declared.place.NumberCell.{NumberCell}
 use Rattle.iocm_types.specs.declared.sub_id.SubId.{SubId}
+use Rattle.iocm_types.specs.declared.key.Key.TheVariants as key
 use Rattle.iocm_model.specs.Machine.Record.{Rec}
 use Rattle.iocm_model.specs.Change.Edit.{add}
 use Rattle.iocm_model.specs.Change.Effect.{Effect, with_effect}
 use Rattle.iocm_model.specs.Change.Runs.{effect_of, state_after_all}
 use Rattle.iocm_model.specs.Change.Inverse.{inverse_of}
-use Rattle.iocm_examples.specs.BaseDeck.{lpb, online_record, place_of, device_on_1000, device_key, subchannel}
 use Rattle.iocm_model.specs.Operation.Orders.{fresh}
+use Rattle.iocm_examples.specs.BaseDeck.{lpb, online_record, place_of, device_on_1000, device_key, subchannel}
 use Rattle.iocm_examples.specs.Edits.{base_opened, one_for_another, online_51, delete_1001}
-use Rattle.iocm_types.specs.declared.key.Key.TheVariants as key
 
 -- the inverse of a delete adds the old record, and brings along the number that was freed and the two live records that went
 abbrev pub AnInverse : Type 0

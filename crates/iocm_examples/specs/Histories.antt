@@ -20,12 +20,12 @@ use Rattle.iocm_model.specs.Change.InverseTree.{parts_of}
 use Rattle.iocm_model.specs.Change.Meaning.{at_node}
 use Rattle.iocm_model.specs.Change.Tree.{leaf, group, choose, none}
 use Rattle.iocm_model.specs.Operation.Step.{order, device_end}
-use Rattle.iocm_examples.specs.Edits.{base_opened, added, deleted, online_51, enabled_with}
-use Rattle.iocm_examples.specs.BaseDeck.{device_on_1000, device_key, subchannel}
 use Rattle.iocm_history.specs.Entry.{Call, at, activate, undo, redo, show, History}
 use Rattle.iocm_history.specs.MarkedEntry.{Mark, kept, undone_with, lost, MarkedEntry, marked_entries}
 use Rattle.iocm_history.specs.Replay.{state_at}
 use Rattle.iocm_history.specs.Run.{run, answers_of}
+use Rattle.iocm_examples.specs.Edits.{base_opened, added, deleted, online_51, enabled_with}
+use Rattle.iocm_examples.specs.BaseDeck.{device_on_1000, device_key, subchannel}
 
 -- calls with their answers, in order
 abbrev pub Script : Type 0

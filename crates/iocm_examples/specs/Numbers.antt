@@ -3,20 +3,20 @@ use Rattle.std.specs.Prelude.{◌≡◌, ℕ, List, [], ◌∷◌, Some, None, c
 use Rattle.std.specs.FinMap.{entries, get, empty}
 use Rattle.iocm_types.specs.declared.place.Place.{Place}
 use Rattle.iocm_types.specs.declared.sub_id.SubId.{SubId}
+use Rattle.iocm_types.specs.declared.path_kind.PathKind.TheVariants.{Shared}
+use Rattle.iocm_types.specs.declared.rule.Rule.TheVariants.{E4}
+use Rattle.iocm_types.specs.declared.refused.At.TheVariants as at
 use Rattle.iocm_model.specs.Machine.Record.{Rec, image, path, unit}
 use Rattle.iocm_model.specs.Machine.Configuration.{configuration_of}
 use Rattle.iocm_model.specs.Machine.Numbering.{opening}
-use Rattle.iocm_examples.specs.BaseDeck.{base, place_of, css_path, device_on_1000, device_key, subchannel}
-use Rattle.iocm_types.specs.declared.path_kind.PathKind.TheVariants.{Shared}
-use Rattle.iocm_types.specs.declared.rule.Rule.TheVariants.{E4}
 use Rattle.iocm_model.specs.Operation.State.{State, opening_state}
 use Rattle.iocm_model.specs.Change.Edit.{add, Edit, altered_between}
 use Rattle.iocm_model.specs.Change.Runs.{state_after_all, cells_written_by_all}
 use Rattle.iocm_model.specs.Change.Tree.{leaf, row}
 use Rattle.iocm_model.specs.Change.InverseTree.{parts_of}
 use Rattle.iocm_model.specs.Operation.Orders.{fresh}
+use Rattle.iocm_examples.specs.BaseDeck.{base, place_of, css_path, device_on_1000, device_key, subchannel}
 use Rattle.iocm_examples.specs.Edits.{base_opened, modified, Performs, IsRefused, IsTakenBack, add_0fff, one_for_another}
-use Rattle.iocm_types.specs.declared.refused.At.TheVariants as at
 
 -- at opening the four devices have the numbers 0 to 3 in channel subsystem 0, and none elsewhere
 abbrev pub BaseNumbers : Type 0

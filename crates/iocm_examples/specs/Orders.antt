@@ -8,8 +8,8 @@ use Rattle.iocm_types.specs.declared.order.Order.TheVariants.{Start, Halt, Clear
 use Rattle.iocm_types.specs.declared.order.Io.{Io}
 use Rattle.iocm_types.specs.declared.order.Io.TheVariants.{Code, Status, Stored}
 use Rattle.iocm_types.specs.declared.view.View.{View}
-use Rattle.iocm_model.specs.Operation.Orders.{fresh, answer_of, live_after, live_after_device_end}
 use Rattle.iocm_types.specs.declared.live.Function.TheVariants as function
+use Rattle.iocm_model.specs.Operation.Orders.{fresh, answer_of, live_after, live_after_device_end}
 
 -- LPA's view of 1002, and LPB's, to which path 51 isn't available
 abbrev pub seen_by_lpa : View

@@ -1,18 +1,18 @@
 -- What an edit of paths leaves of a subchannel that is enabled, as it is stated by hand.
 use Rattle.std.specs.Prelude.{◌≡◌, [], ◌∷◌, None, Some}
 use Rattle.std.specs.FinMap.{get, from_entries}
+use Rattle.iocm_types.specs.declared.answer.Answer.TheVariants as answers
+use Rattle.iocm_types.specs.declared.order.Order.TheVariants as orders
+use Rattle.iocm_types.specs.declared.order.Io.TheVariants as io
 use Rattle.iocm_model.specs.Operation.State.{State, seen_in}
 use Rattle.iocm_model.specs.Change.Edit.{add, Edit}
 use Rattle.iocm_model.specs.Change.Runs.{state_after_all, cells_written_by_all}
 use Rattle.iocm_model.specs.Change.Tree.{leaf}
 use Rattle.iocm_model.specs.Operation.Step.{order, answer_in}
+use Rattle.iocm_model.specs.Operation.Orders.{fresh}
 use Rattle.iocm_examples.specs.BaseDeck.{lpb, online_record, unit_on, subchannel}
 use Rattle.iocm_examples.specs.Views.{a_view}
-use Rattle.iocm_model.specs.Operation.Orders.{fresh}
 use Rattle.iocm_examples.specs.Edits.{base_opened, modified, Performs, IsTakenBack, enabled_at, online_51, enabled_with}
-use Rattle.iocm_types.specs.declared.answer.Answer.TheVariants as answers
-use Rattle.iocm_types.specs.declared.order.Order.TheVariants as orders
-use Rattle.iocm_types.specs.declared.order.Io.TheVariants as io
 
 -- LPB's subchannel of 1000 is enabled, with path 51 alone in its logical-path mask
 unfoldable pub base_enabled : State

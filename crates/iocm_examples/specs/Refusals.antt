@@ -1,15 +1,15 @@
 -- Edits that are refused, by their keys and by subchannels that are busy or have status pending, as it is stated by hand.
 use Rattle.std.specs.Prelude.{[], ◌∷◌}
 use Rattle.iocm_types.specs.declared.rule.Rule.TheVariants.{B1, E1, E2}
+use Rattle.iocm_types.specs.declared.key.Key.TheVariants as key
+use Rattle.iocm_types.specs.declared.order.Order.TheVariants as orders
+use Rattle.iocm_types.specs.declared.refused.At.TheVariants as at
 use Rattle.iocm_model.specs.Operation.State.{State}
 use Rattle.iocm_model.specs.Change.Tree.{leaf, choose}
 use Rattle.iocm_model.specs.Change.InverseTree.{parts_of}
 use Rattle.iocm_model.specs.Operation.Step.{order, device_end, after_step}
 use Rattle.iocm_examples.specs.Edits.{base_opened, deleted, modified, Performs, IsRefused, IsTakenBack, add_1000, started_at, base_started}
 use Rattle.iocm_examples.specs.BaseDeck.{device_on_1000, device_key, subchannel}
-use Rattle.iocm_types.specs.declared.key.Key.TheVariants as key
-use Rattle.iocm_types.specs.declared.order.Order.TheVariants as orders
-use Rattle.iocm_types.specs.declared.refused.At.TheVariants as at
 
 -- a key that is there, on add; one that isn't, on delete and on modify
 pub record Keys : Type 0 where

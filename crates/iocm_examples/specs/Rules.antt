@@ -8,12 +8,12 @@ use Rattle.iocm_types.specs.declared.link.Link.{Link}
 use Rattle.iocm_types.specs.declared.unit_range.UnitRange.{UnitRange}
 use Rattle.iocm_types.specs.declared.rule.Rule.{Rule}
 use Rattle.iocm_types.specs.declared.rule.Rule.TheVariants.{V1, V2, V3, V4, V5, V6, V7, V8, V9, V10, V11, V12, V13, V14}
+use Rattle.iocm_types.specs.declared.link.Link.TheVariants as link
 use Rattle.iocm_model.specs.Machine.Record.{Rec, image, limit, path, unit, device}
 use Rattle.iocm_model.specs.Machine.Configuration.{configuration_of}
 use Rattle.iocm_model.specs.Machine.Numbering.{opening}
 use Rattle.iocm_model.specs.Rules.FirstBreach.{Breach, first_breach}
 use Rattle.iocm_examples.specs.BaseDeck.{lpa, lpb, base, base_without_candidate, path_record, css_path, device_record, online_record, shared_path, unit_on}
-use Rattle.iocm_types.specs.declared.link.Link.TheVariants as link
 
 -- the first breach of a deck, with its numbers at opening
 abbrev pub first_breach_at_opening : List Rec → Option Breach

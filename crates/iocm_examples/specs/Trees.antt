@@ -2,6 +2,8 @@
 use Rattle.std.specs.Prelude.{◌≡◌, ℕ, zero, suc, List, [], ◌∷◌, None, Some, Err}
 use Rattle.std.specs.FinMap.{get}
 use Rattle.iocm_types.specs.declared.rule.Rule.TheVariants.{V5, B1, E1, E3, C1, C2}
+use Rattle.iocm_types.specs.declared.key.Key.TheVariants as key
+use Rattle.iocm_types.specs.declared.refused.At.TheVariants as at
 use Rattle.iocm_model.specs.Operation.State.{State}
 use Rattle.iocm_model.specs.Change.Edit.{Edit}
 use Rattle.iocm_model.specs.Change.Effect.{values_in, with_effect}
@@ -11,8 +13,6 @@ use Rattle.iocm_model.specs.Change.InverseTree.{parts_of, inverse_tree}
 use Rattle.iocm_model.specs.Change.Meaning.{state_reached, meaning}
 use Rattle.iocm_examples.specs.BaseDeck.{unit_on, device_on_1000, device_key, subchannel}
 use Rattle.iocm_examples.specs.Edits.{base_opened, added, deleted, modified, Performs, IsRefused, IsTakenBack, add_0fff, one_for_another, add_1000, started_at, base_started}
-use Rattle.iocm_types.specs.declared.key.Key.TheVariants as key
-use Rattle.iocm_types.specs.declared.refused.At.TheVariants as at
 
 -- two devices change their unit addresses by way of a third one
 abbrev pub exchange : List Edit

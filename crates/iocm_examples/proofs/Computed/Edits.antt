@@ -2,20 +2,20 @@
 use Rattle.std.proofs.Common.{◌≡◌, ℕ, true, List, [], ◌∷◌, refl, ap, ◌∙◌}
 use Rattle.iocm_types.specs.declared.sub_id.SubId.{SubId}
 use Rattle.iocm_types.specs.Key.{key_cmp}
+use Rattle.iocm_types.specs.declared.key.Key.{Key}
+use Rattle.iocm_types.specs.declared.order.Order.TheVariants as orders
 use Rattle.iocm_model.specs.Machine.Configuration.{with_keys, configuration_of}
 use Rattle.iocm_model.specs.Operation.State.{State}
 use Rattle.iocm_model.specs.Change.Edit.{Action, add, delete, modify}
 use Rattle.iocm_model.specs.Operation.Orders.{fresh}
-use Rattle.iocm_examples.specs.BaseDeck.{base, lpb, online_record, place_of, subchannel, device_on_1000, device_key}
 use Rattle.iocm_model.specs.Machine.Record.{Rec}
 use Rattle.iocm_model.specs.Operation.Step.{Step, order}
-use Rattle.iocm_types.specs.declared.key.Key.{Key}
+use Rattle.iocm_examples.specs.BaseDeck.{base, lpb, online_record, place_of, subchannel, device_on_1000, device_key}
 use Rattle.iocm_examples.specs.Edits.{started_at, enabled_at, base_started, base_opened}
 use Rattle.iocm_examples.proofs.OnLists.{states_on_lists}
 use Rattle.iocm_examples.proofs.Listed.Maps.{put_all}
 use Rattle.iocm_examples.proofs.Listed.Views.{entries-configuration_of}
 use Rattle.iocm_examples.proofs.Listed.States.{ListedState, listing, opening_state_listed, opening_state_seen, after_step_is, after_step_listed, ListedEdit}
-use Rattle.iocm_types.specs.declared.order.Order.TheVariants as orders
 
 -- the example deck, opened, as lists
 unfoldable pub base_listing : ListedState

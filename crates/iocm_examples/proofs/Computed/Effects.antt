@@ -1,5 +1,6 @@
 -- An inverse and effects, computed on states as lists.
 use Rattle.std.proofs.Common.{◌≡◌, Some, None, [], ◌∷◌, refl, ap, ◌∙◌}
+use Rattle.iocm_types.specs.declared.key.Key.TheVariants as key
 use Rattle.iocm_model.specs.Change.Effect.{Effect}
 use Rattle.iocm_model.specs.Change.Runs.{effect_of}
 use Rattle.iocm_model.specs.Operation.Orders.{fresh}
@@ -10,7 +11,6 @@ use Rattle.iocm_examples.proofs.OnLists.{on_lists}
 use Rattle.iocm_examples.proofs.Listed.States.{inverse_seen, inverse_listed, edit_from}
 use Rattle.iocm_examples.proofs.Listed.Effects.{ListedEffect, with_effect_listed, effect_listed, effect_listing, effect_is, replayed, state_after_all_listed}
 use Rattle.iocm_examples.proofs.Computed.Edits.{base_listing, base_is, one_for_another_listed, the_1001, the_online}
-use Rattle.iocm_types.specs.declared.key.Key.TheVariants as key
 
 -- an inverse
 pub an_inverse : AnInverse

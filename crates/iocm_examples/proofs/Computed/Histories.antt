@@ -8,21 +8,21 @@ use Rattle.iocm_types.specs.declared.sub_id.SubId.{SubId}
 use Rattle.iocm_types.specs.Key.{key_cmp}
 use Rattle.iocm_types.specs.Place.{place_cmp}
 use Rattle.iocm_types.specs.SubId.{sub_id_cmp}
-use Rattle.iocm_examples.specs.BaseDeck.{lpb, online_record, device_on_1000, device_key, subchannel}
 use Rattle.iocm_model.specs.Operation.Step.{order, device_end}
 use Rattle.iocm_model.specs.Change.Renumbering.{gap_from}
 use Rattle.iocm_model.specs.Rules.FirstBreach.{first_record, first_breach_of}
+use Rattle.iocm_history.specs.MarkedEntry.{MarkedEntry, marked_entries}
+use Rattle.iocm_history.specs.Replay.{state_at}
+use Rattle.iocm_history.specs.Run.{run, answers_of}
+use Rattle.iocm_examples.specs.BaseDeck.{lpb, online_record, device_on_1000, device_key, subchannel}
 use Rattle.iocm_examples.specs.Edits.{base_opened}
+use Rattle.iocm_examples.specs.Histories.{Answers, number_of, LatestFirst, AChooseUndone, StepsElsewhere, PendingStatus, three_changes, empty_changes, a_path_comes_online, APathUndone, ABusyUndo, ABusyRedo, UndoneInTurn}
 use Rattle.iocm_examples.proofs.Listed.Views.{numbers_after_listed}
 use Rattle.iocm_examples.proofs.Listed.States.{ListedState, listing, record_at_is, live_at_is, ListedEdit, state_after_listed, refusal_listed, after_step_listed, answer_listed}
 use Rattle.iocm_examples.proofs.Listed.Rules.{first_breach_listed}
 use Rattle.iocm_examples.proofs.Listed.Effects.{state_after_all_listed, edits_cells_listed, edit_cells_listed, values_listed, with_effect_listed}
 use Rattle.iocm_examples.proofs.Listed.Trees.{one, in_group, in_choose, no_parts, parts_listed, mean_listed, meaning_listed}
 use Rattle.iocm_examples.proofs.Computed.Edits.{base_listing, base_is, plain_add, plain_delete}
-use Rattle.iocm_history.specs.MarkedEntry.{MarkedEntry, marked_entries}
-use Rattle.iocm_history.specs.Replay.{state_at}
-use Rattle.iocm_history.specs.Run.{run, answers_of}
-use Rattle.iocm_examples.specs.Histories.{Answers, number_of, LatestFirst, AChooseUndone, StepsElsewhere, PendingStatus, three_changes, empty_changes, a_path_comes_online, APathUndone, ABusyUndo, ABusyRedo, UndoneInTurn}
 use Rattle.iocm_examples.proofs.Listed.Histories.{ListedLine, lines_listing, ListedCall, stepping, activating, undoes, redoes, shows, calls_from, ListedHistory, strike_lines, restore_lines, replay_lines, call_listed, calls_listed, ComeRight, uncalled, run_is, last_state_is, first_come_right}
 
 -- a change of one edit

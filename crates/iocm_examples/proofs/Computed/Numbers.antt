@@ -4,17 +4,17 @@ use Rattle.std.specs.FinMap.{entries, get, get-from_entries}
 use Rattle.iocm_types.specs.declared.key.Key.{Key}
 use Rattle.iocm_types.specs.Key.{key_cmp}
 use Rattle.iocm_types.specs.KeyOrder.{keys_total, keys_exact, places_total, places_exact}
-use Rattle.iocm_model.specs.Machine.Configuration.{with_keys, configuration_of}
-use Rattle.iocm_examples.specs.BaseDeck.{base, place_of, subchannel, device_on_1000}
-use Rattle.iocm_examples.specs.Views.{found_in}
-use Rattle.iocm_examples.specs.Numbers.{BaseNumbers, second_subsystem, second_opened, unit_on_both, ASecondSubsystem, ANumberComesAlong, ADeviceComesIn, ANumberIsUsedAgain}
-use Rattle.iocm_examples.proofs.Listed.Maps.{entries_in_order, put_all}
 use Rattle.iocm_types.specs.declared.place.Place.{Place}
+use Rattle.iocm_model.specs.Machine.Configuration.{with_keys, configuration_of}
 use Rattle.iocm_model.specs.Change.Edit.{add}
 use Rattle.iocm_model.specs.Change.Runs.{state_after_all}
 use Rattle.iocm_model.specs.Change.Effect.{Cells}
 use Rattle.iocm_model.specs.Operation.Orders.{fresh}
+use Rattle.iocm_examples.specs.BaseDeck.{base, place_of, subchannel, device_on_1000}
+use Rattle.iocm_examples.specs.Views.{found_in}
+use Rattle.iocm_examples.specs.Numbers.{BaseNumbers, second_subsystem, second_opened, unit_on_both, ASecondSubsystem, ANumberComesAlong, ADeviceComesIn, ANumberIsUsedAgain}
 use Rattle.iocm_examples.specs.Edits.{one_for_another, base_opened}
+use Rattle.iocm_examples.proofs.Listed.Maps.{entries_in_order, put_all}
 use Rattle.iocm_examples.proofs.OnLists.{states_on_lists, on_lists}
 use Rattle.iocm_examples.proofs.Listed.Views.{entries-configuration_of}
 use Rattle.iocm_examples.proofs.Listed.States.{ListedState, listing, opening_state_listed, opening_state_seen, live_at_is, number_at_is, altered_listed, altered_seen, ListedEdit}

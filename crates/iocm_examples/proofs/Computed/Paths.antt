@@ -1,9 +1,10 @@
 -- Edits of paths, computed on states as lists.
 use Rattle.std.proofs.Common.{◌≡◌, None, [], ◌∷◌, refl, ap}
+use Rattle.iocm_types.specs.declared.order.Order.TheVariants as orders
 use Rattle.iocm_model.specs.Change.Edit.{add}
 use Rattle.iocm_model.specs.Change.Effect.{Cells}
-use Rattle.iocm_examples.specs.BaseDeck.{lpb, online_record, unit_on, subchannel}
 use Rattle.iocm_model.specs.Operation.Step.{order}
+use Rattle.iocm_examples.specs.BaseDeck.{lpb, online_record, unit_on, subchannel}
 use Rattle.iocm_examples.specs.Edits.{enabled_with, base_opened}
 use Rattle.iocm_examples.specs.Paths.{LiveRecordsComeAlong, base_enabled, APathComesOnline, APathListIsTurned}
 use Rattle.iocm_examples.proofs.OnLists.{on_lists}
@@ -11,7 +12,6 @@ use Rattle.iocm_examples.proofs.Listed.States.{ListedState, listing, live_at_is,
 use Rattle.iocm_examples.proofs.Listed.Effects.{state_after_all_is, edits_cells_are}
 use Rattle.iocm_examples.proofs.Listed.Trees.{one, meaning_is, taken_back}
 use Rattle.iocm_examples.proofs.Computed.Edits.{base_listing, base_is, plain_modify, enable_step, the_online}
-use Rattle.iocm_types.specs.declared.order.Order.TheVariants as orders
 
 -- the lists once LPB has enabled its subchannel of 1000
 unfoldable enabled_listing : ListedState

@@ -1,5 +1,7 @@
 -- Edits that are refused, computed on states as lists.
 use Rattle.std.proofs.Common.{◌≡◌, [], ◌∷◌, refl}
+use Rattle.iocm_types.specs.declared.key.Key.TheVariants as key
+use Rattle.iocm_types.specs.declared.order.Order.TheVariants as orders
 use Rattle.iocm_model.specs.Operation.Step.{order, device_end}
 use Rattle.iocm_examples.specs.Edits.{started_at, base_started, base_opened}
 use Rattle.iocm_examples.specs.Refusals.{base_ended, base_tested, Keys, ABusySubchannel, PendingStatus}
@@ -8,8 +10,6 @@ use Rattle.iocm_examples.proofs.OnLists.{on_lists}
 use Rattle.iocm_examples.proofs.Listed.States.{ListedState, listing, after_step_is, after_step_listed}
 use Rattle.iocm_examples.proofs.Listed.Trees.{one, in_choose, meaning_is, meaning_refused, parts_listed, taken_back}
 use Rattle.iocm_examples.proofs.Computed.Edits.{base_listing, base_is, plain_add, plain_delete, plain_modify, started_listed, started_is, started_listing, base_started_is, the_1001}
-use Rattle.iocm_types.specs.declared.key.Key.TheVariants as key
-use Rattle.iocm_types.specs.declared.order.Order.TheVariants as orders
 
 -- keys that are there, and that are missing
 pub keys_there_and_missing : Keys

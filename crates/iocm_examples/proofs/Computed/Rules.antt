@@ -1,6 +1,7 @@
 -- The first breaches of decks, computed.
 use Rattle.std.proofs.Common.{◌≡◌, List, refl, ap, ◌∙◌}
 use Rattle.iocm_types.specs.Key.{key_cmp}
+use Rattle.iocm_types.specs.declared.link.Link.TheVariants as link
 use Rattle.iocm_model.specs.Machine.Record.{Rec}
 use Rattle.iocm_model.specs.Machine.Configuration.{with_keys, configuration_of}
 use Rattle.iocm_model.specs.Machine.Numbering.{opening}
@@ -10,7 +11,6 @@ use Rattle.iocm_examples.proofs.OnLists.{states_on_lists}
 use Rattle.iocm_examples.proofs.Listed.Maps.{put_all}
 use Rattle.iocm_examples.proofs.Listed.Views.{entries-configuration_of, opening_listed, opening_seen}
 use Rattle.iocm_examples.proofs.Listed.Rules.{first_breach_listed, first_breach_seen}
-use Rattle.iocm_types.specs.declared.link.Link.TheVariants as link
 
 -- the first breach of records at opening
 pub first_breach_of_records : (rs : List Rec)

@@ -1,6 +1,7 @@
 -- Change trees, computed on states as lists.
 use Rattle.std.proofs.Common.{◌≡◌, ℕ, zero, suc, None, List, [], ◌∷◌, refl, ap}
 use Rattle.iocm_types.specs.declared.sub_id.SubId.{SubId}
+use Rattle.iocm_types.specs.declared.key.Key.TheVariants as key
 use Rattle.iocm_model.specs.Change.Effect.{Cells}
 use Rattle.iocm_examples.specs.BaseDeck.{unit_on, subchannel, device_on_1000, device_key}
 use Rattle.iocm_examples.specs.Trees.{LimitsOfTrees, TakenBackLater, base_grown, started_elsewhere, started_there, AnExchange, NodesOfBreaches, WhereRulesHold, AfterAGroup, EmptyNodes}
@@ -10,7 +11,6 @@ use Rattle.iocm_examples.proofs.Listed.States.{ListedState, listing, record_at_i
 use Rattle.iocm_examples.proofs.Listed.Effects.{state_after_all_listed, state_after_all_is, put_back, edits_cells_are}
 use Rattle.iocm_examples.proofs.Listed.Trees.{ListedPlan, ListedPlans, one, in_row, in_group, in_choose, no_parts, and_part, meaning_is, meaning_refused, parts_listed, taken_back, taken_back_at, inverse_refused}
 use Rattle.iocm_examples.proofs.Computed.Edits.{base_listing, base_is, plain_add, plain_delete, plain_modify, the_0fff, add_0fff_listed, one_for_another_listed, started_listed, started_is, started_listing, base_started_is}
-use Rattle.iocm_types.specs.declared.key.Key.TheVariants as key
 
 -- two devices exchange their unit addresses
 abbrev exchange_listed : List ListedEdit

@@ -6,11 +6,11 @@ use Rattle.iocm_types.specs.declared.key.Key.{Key}
 use Rattle.iocm_types.specs.declared.place.NumberCell.{NumberCell}
 use Rattle.iocm_types.specs.Place.{cell_cmp}
 use Rattle.iocm_types.specs.KeyOrder.{cells_total, cells_exact}
+use Rattle.iocm_types.specs.declared.sub_id.SubId.{SubId}
+use Rattle.iocm_types.specs.declared.view.View.{View}
 use Rattle.iocm_model.specs.Machine.Configuration.{Lookup, with_keys, configuration_of, as_image}
 use Rattle.iocm_model.specs.Machine.Record.{Rec, ImageRecord}
 use Rattle.iocm_model.specs.Machine.View.{row_at, views}
-use Rattle.iocm_types.specs.declared.sub_id.SubId.{SubId}
-use Rattle.iocm_types.specs.declared.view.View.{View}
 use Rattle.iocm_model.specs.Machine.Numbering.{opening, cells_of}
 use Rattle.iocm_examples.specs.BaseDeck.{base}
 use Rattle.iocm_examples.specs.Views.{found_in, BaseRows}

@@ -12,17 +12,17 @@ use Rattle.iocm_model.specs.Change.Effect.{Effect}
 use Rattle.iocm_model.specs.Change.Runs.{effect_of}
 use Rattle.iocm_model.specs.Change.Meaning.{Outcome, meaning}
 use Rattle.iocm_model.specs.Operation.Step.{Step}
-use Rattle.iocm_examples.proofs.Listed.Maps.{cond_seen, entries-empty}
-use Rattle.iocm_examples.proofs.Listed.Views.{views_seen}
-use Rattle.iocm_examples.proofs.Listed.States.{ListedState, listing, views_at, ListedEdit, busy_listed, busy_seen, answer_listed, answer_seen, after_step_listed, after_step_seen}
-use Rattle.iocm_examples.proofs.Listed.Effects.{ListedEffect, effect_listing, with_effect_listed, with_effect_seen, edits_from, effect_listed, effect_seen}
-use Rattle.iocm_examples.proofs.Listed.Trees.{ListedPlan, plan_from, ListedOutcome, outcome_listing, meaning_listed, meaning_seen}
 use Rattle.iocm_history.specs.Entry.{Call, at, activate, undo, redo, show, Entry, History, no_effect, plain_entry}
 use Rattle.iocm_history.specs.MarkedEntry.{Act, step, change, undoing, nothing, Mark, kept, undone_with, lost, MarkedEntry, act_of, is_change, is_undo, is_step_on, effect_or, change_effect, altered_by_change, struck_mark, struck_if, strike, unstruck_mark, taken_back, restore, marks_after, marked_entries}
 use Rattle.iocm_history.specs.Replay.{after_act, after_act_if_kept, replay, state_at}
 use Rattle.iocm_history.specs.Journal.{Journal, journal_after, journal_of}
 use Rattle.iocm_history.specs.Legal.{undo_answer, redo_answer, show_answer, activated, entry_in, entry_of}
 use Rattle.iocm_history.specs.Run.{run, answers_of}
+use Rattle.iocm_examples.proofs.Listed.Maps.{cond_seen, entries-empty}
+use Rattle.iocm_examples.proofs.Listed.Views.{views_seen}
+use Rattle.iocm_examples.proofs.Listed.States.{ListedState, listing, views_at, ListedEdit, busy_listed, busy_seen, answer_listed, answer_seen, after_step_listed, after_step_seen}
+use Rattle.iocm_examples.proofs.Listed.Effects.{ListedEffect, effect_listing, with_effect_listed, with_effect_seen, edits_from, effect_listed, effect_seen}
+use Rattle.iocm_examples.proofs.Listed.Trees.{ListedPlan, plan_from, ListedOutcome, outcome_listing, meaning_listed, meaning_seen}
 
 -- what an entry did, with its effect as lists
 pub data ListedAct : Type 0 where

@@ -4,6 +4,7 @@ use Rattle.std.specs.List.{filter_map, list_any}
 use Rattle.std.specs.Option.{option_map, option_or, option_eq, option_zip}
 use Rattle.std.specs.FinMap.{get, find, put, entries, entries_sorted, from_entries, retain_keys, get-entries, entries-insert}
 use Rattle.std.specs.FinMap.Entries.{where_key, is_sorted-where_key}
+use Rattle.std.specs.List as lists
 use Rattle.iocm_types.specs.declared.key.Key.{Key}
 use Rattle.iocm_types.specs.declared.live.Live.{Live}
 use Rattle.iocm_types.specs.declared.place.Place.{Place}
@@ -16,6 +17,7 @@ use Rattle.iocm_types.specs.Key.{key_cmp}
 use Rattle.iocm_types.specs.Place.{place_cmp}
 use Rattle.iocm_types.specs.SubId.{sub_id_cmp}
 use Rattle.iocm_types.specs.KeyOrder.{keys_total, keys_exact, places_total, places_exact, sub_ids_total, sub_ids_exact}
+use Rattle.iocm_types.specs.declared.refused.At.TheVariants as at
 use Rattle.iocm_model.specs.Machine.Configuration.{Configuration}
 use Rattle.iocm_model.specs.Machine.Numbering.{Numbering, opening, is_reached_at, reached_places}
 use Rattle.iocm_model.specs.Change.Renumbering.{numbers_after}
@@ -27,8 +29,6 @@ use Rattle.iocm_model.specs.Change.Inverse.{action_back, inverse_of}
 use Rattle.iocm_model.specs.Operation.Step.{Step, subchannel_in, step_answer, answer_in, live_after_step, lives_after_step, after_step}
 use Rattle.iocm_examples.proofs.Listed.Maps.{entries_in_order, put_all, put_or_without, keys_differing, same_by_entries, entries-from_entries, entries-retain_keys, entries-with_value, differing_seen}
 use Rattle.iocm_examples.proofs.Listed.Views.{Records, Numbers, ViewList, is_place_in, places_listed, places_seen, opening_listed, opening_seen, rows_listed, rows_seen, views_listed, views_seen, numbers_after_listed, numbers_after_seen}
-use Rattle.std.specs.List as lists
-use Rattle.iocm_types.specs.declared.refused.At.TheVariants as at
 
 -- live records as a list
 abbrev pub LiveList : Type 0

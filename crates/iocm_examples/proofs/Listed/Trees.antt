@@ -9,11 +9,11 @@ use Rattle.iocm_model.specs.Change.Edit.{Edit}
 use Rattle.iocm_model.specs.Change.Refusal.{refusal_at, refusal_of}
 use Rattle.iocm_model.specs.Change.Tree.{ChangeTree, Parts, leaf, row, group, choose, none, part, leaves_of, depth_of, nodes_of, most_depth, most_leaves}
 use Rattle.iocm_model.specs.Change.Meaning.{Performed, Outcome, at_node, unless_refused, after_run, and_then, or_else, unless_broken, if_rules_hold, without_parts, node_meaning, parts_meaning, choice_meaning, meaning, state_reached}
+use Rattle.iocm_model.specs.Change.Runs.{state_after_all}
+use Rattle.iocm_model.specs.Change.InverseTree.{parts_of, inverse_tree}
 use Rattle.iocm_examples.proofs.Listed.Maps.{cond_seen}
 use Rattle.iocm_examples.proofs.Listed.Rules.{first_breach_listed, first_breach_seen}
-use Rattle.iocm_model.specs.Change.Runs.{state_after_all}
 use Rattle.iocm_examples.proofs.Listed.Effects.{edits_from, state_after_all_listed, state_after_all_seen, state_after_all_is, inverses_listed, inverses_seen}
-use Rattle.iocm_model.specs.Change.InverseTree.{parts_of, inverse_tree}
 use Rattle.iocm_examples.proofs.Listed.States.{ListedState, listing, same_by_listing, ListedEdit, edit_from, state_after_listed, state_after_seen, refusal_listed, refusal_seen}
 
 mutual

@@ -4,6 +4,7 @@ use Rattle.std.specs.Option.{option_eq}
 use Rattle.std.specs.Cmp.Lexicographic.{pointwise, same_text}
 use Rattle.std.specs.Prelude.{nat_eq}
 use Rattle.std.specs.FinMap.{get}
+use Rattle.std.proofs.lemmas.Cmp.{nat_list_eq_equiv}
 use Rattle.iocm_types.specs.declared.live.Live.{Live}
 use Rattle.iocm_types.specs.declared.view.View.{View}
 use Rattle.iocm_model.specs.Operation.State.{views_in, seen_in}
@@ -11,7 +12,6 @@ use Rattle.iocm_model.specs.Change.Edit.{same_view, own_live, state_after}
 use Rattle.iocm_model.specs.Laws.Edits.{AlteredHaveTheirLives}
 use Rattle.iocm_model.proofs.Change.Lives.{left_at, lives_after_edit_at}
 use Rattle.iocm_model.proofs.Change.EditsGoBack.{among_altered}
-use Rattle.std.proofs.lemmas.Cmp.{nat_list_eq_equiv}
 
 -- what comes along is what is left
 left_carried : (v : Option View) (new : View) (l : Live) (own : Option Live) → option_eq same_view v (Some new) ≡ false

@@ -11,6 +11,7 @@ use Rattle.iocm_types.specs.Key.{key_cmp}
 use Rattle.iocm_types.specs.Place.{cell_cmp}
 use Rattle.iocm_types.specs.SubId.{sub_id_cmp}
 use Rattle.iocm_types.specs.KeyOrder.{keys_total, keys_exact, cells_total, cells_exact, sub_ids_total, sub_ids_exact}
+use Rattle.iocm_types.proofs.Found.{same_key}
 use Rattle.iocm_model.specs.Machine.Record.{Rec, key_of}
 use Rattle.iocm_model.specs.Machine.Configuration.{Configuration, IsKeyed}
 use Rattle.iocm_model.specs.Machine.Numbering.{Numbering, cells_of, numbering_of}
@@ -22,7 +23,6 @@ use Rattle.iocm_model.specs.Change.Inverse.{action_back, inverse_of}
 use Rattle.iocm_model.specs.Change.Effect.{values_in, with_effect, cells_written}
 use Rattle.iocm_model.specs.Laws.Edits.{AltersWhatDiffers, KeepsTheOthers}
 use Rattle.iocm_model.specs.Laws.Runs.{HasSameKeys, GoesBack}
-use Rattle.iocm_types.proofs.Found.{same_key}
 use Rattle.iocm_model.proofs.Maps.Cells.{get_with_value, get_with_cells_as, in_differing, get_retained}
 use Rattle.iocm_model.proofs.Change.SameViews.{sight_is, sight_holds}
 use Rattle.iocm_model.proofs.Change.Lives.{lives_after_edit_at, same_keeps, left_there, left_back}

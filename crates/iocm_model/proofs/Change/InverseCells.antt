@@ -4,6 +4,8 @@ use Rattle.std.specs.List.{list_any}
 use Rattle.std.specs.Option.{option_eq}
 use Rattle.std.specs.Ordering.{eq_by_cmp}
 use Rattle.std.specs.FinMap.{get}
+use Rattle.std.proofs.lemmas.List.Folds.{list_any-append}
+use Rattle.std.proofs.Math.Bool.{or_assoc}
 use Rattle.iocm_types.specs.declared.key.Key.{Key}
 use Rattle.iocm_types.specs.declared.place.NumberCell.{NumberCell}
 use Rattle.iocm_types.specs.declared.sub_id.SubId.{SubId}
@@ -24,8 +26,6 @@ use Rattle.iocm_model.proofs.Machine.OwnKeys.{keyed_own}
 use Rattle.iocm_model.proofs.Change.SameViews.{sight_turned}
 use Rattle.iocm_model.proofs.Change.EditsGoBack.{among_altered, back_key, given}
 use Rattle.iocm_model.proofs.Change.RunsGoBack.{sound_after, run_back, one_back, given_like, seen_like}
-use Rattle.std.proofs.lemmas.List.Folds.{list_any-append}
-use Rattle.std.proofs.Math.Bool.{or_assoc}
 
 -- ---- cells of a run that is followed by an edit
 

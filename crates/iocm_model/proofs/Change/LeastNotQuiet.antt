@@ -8,17 +8,17 @@ use Rattle.std.specs.declared.cmp.Ordering.TheVariants.{Less, Equal, Greater}
 use Rattle.std.specs.Cmp.{IsTotalOrder, tied_itself}
 use Rattle.std.specs.FinMap.{IsAntisymmetric, is_sorted, get, entries, entries_sorted, from_entries}
 use Rattle.std.specs.FinMap.Entries.{below_all}
+use Rattle.std.proofs.lemmas.Bool.{or_right}
 use Rattle.iocm_types.specs.SubId.{sub_id_cmp}
 use Rattle.iocm_types.specs.KeyOrder.{sub_ids_total, sub_ids_exact}
+use Rattle.iocm_types.proofs.Found.{same_key, ties_itself}
+use Rattle.iocm_types.proofs.Orderings.{less_is}
+use Rattle.iocm_types.proofs.Tests.{first_holds, second_holds}
 use Rattle.iocm_model.specs.Operation.State.{views_in, seen_in}
 use Rattle.iocm_model.specs.Change.Edit.{same_view, state_after, altered_by}
 use Rattle.iocm_model.specs.Change.Refusal.{is_not_quiet}
 use Rattle.iocm_model.specs.Laws.Edits.{NamesTheLeast, NamesNoneWhereQuiet}
-use Rattle.iocm_types.proofs.Found.{same_key, ties_itself}
 use Rattle.iocm_model.proofs.Maps.Overwriting.{find_none, none_found}
-use Rattle.std.proofs.lemmas.Bool.{or_right}
-use Rattle.iocm_types.proofs.Orderings.{less_is}
-use Rattle.iocm_types.proofs.Tests.{first_holds, second_holds}
 
 module _ {K : Type 0} (R : K → K → Ordering) (total : IsTotalOrder R) (exact : IsAntisymmetric R) where
   found_by : (test : K → Bool) (k x : K) (b : Bool) (rest : Option K) (among : Bool) → test k ≡ b → (rest ≡ Some x → (among ≡ true) × (test x ≡ true))

@@ -6,11 +6,11 @@ use Rattle.iocm_types.specs.declared.live.Live.{Live}
 use Rattle.iocm_types.specs.declared.sub_id.SubId.{SubId}
 use Rattle.iocm_types.specs.declared.view.View.{View}
 use Rattle.iocm_types.specs.KeyOrder.{sub_ids_total, sub_ids_exact}
+use Rattle.iocm_types.proofs.Tests.{absent}
 use Rattle.iocm_model.specs.Operation.State.{Lives, Views}
 use Rattle.iocm_model.specs.Change.Edit.{same_view, live_of_altered, live_after_edit, lives_after_edit}
 use Rattle.iocm_model.proofs.Maps.Cells.{get_each}
 use Rattle.iocm_model.proofs.Change.SameViews.{sight_turned}
-use Rattle.iocm_types.proofs.Tests.{absent}
 
 -- what an edit leaves at a subchannel of which this was seen, and this is seen afterwards
 abbrev pub left_at : Option View → Option View → Option Live → Option Live → Option Live

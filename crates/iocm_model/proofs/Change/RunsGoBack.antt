@@ -5,6 +5,8 @@ use Rattle.std.specs.Option.{option_or, option_eq, is_some}
 use Rattle.std.specs.Ordering.{is_eq, eq_by_cmp}
 use Rattle.std.specs.Cmp.{tied_itself}
 use Rattle.std.specs.FinMap.{get, entries, contains_key, same_map}
+use Rattle.std.proofs.lemmas.Bool.{or_right}
+use Rattle.std.proofs.lemmas.List.Folds.{list_any-append}
 use Rattle.iocm_types.specs.declared.key.Key.{Key}
 use Rattle.iocm_types.specs.declared.place.NumberCell.{NumberCell}
 use Rattle.iocm_types.specs.declared.live.Live.{Live}
@@ -15,6 +17,7 @@ use Rattle.iocm_types.specs.Key.{key_cmp}
 use Rattle.iocm_types.specs.Place.{cell_cmp}
 use Rattle.iocm_types.specs.SubId.{sub_id_cmp}
 use Rattle.iocm_types.specs.KeyOrder.{keys_total, keys_exact, cells_total, cells_exact, sub_ids_total, sub_ids_exact}
+use Rattle.iocm_types.proofs.Found.{same_key}
 use Rattle.iocm_model.specs.Machine.Record.{Rec, key_of}
 use Rattle.iocm_model.specs.Machine.Configuration.{Configuration, IsKeyed}
 use Rattle.iocm_model.specs.Machine.Numbering.{cells_of, numbering_of}
@@ -26,7 +29,6 @@ use Rattle.iocm_model.specs.Change.Inverse.{action_back, inverse_of}
 use Rattle.iocm_model.specs.Change.Runs.{inverses, state_after_all, cells_written_by_all, AreAccepted, CarryFreeNumbers}
 use Rattle.iocm_model.specs.Change.Effect.{values_in, with_effect, cells_written}
 use Rattle.iocm_model.specs.Laws.Runs.{AcceptedCarryFreeNumbers, StaysSound, WritesItsEffect, PutsBack, RunGoesBack, InversesAreAccepted}
-use Rattle.iocm_types.proofs.Found.{same_key}
 use Rattle.iocm_model.proofs.Maps.Cells.{get_with_value, get_with_cells_as, get_retained}
 use Rattle.iocm_model.proofs.Numbers.Cells.{cells_give_numbers}
 use Rattle.iocm_model.proofs.Numbers.Freed.{freed_are_not_taken}
@@ -35,8 +37,6 @@ use Rattle.iocm_model.proofs.Maps.Overwriting.{not_in_first, not_in_second, find
 use Rattle.iocm_model.proofs.Change.SameViews.{sight_turned}
 use Rattle.iocm_model.proofs.Machine.OwnKeys.{keyed_own, own_keyed}
 use Rattle.iocm_model.proofs.Change.EditsGoBack.{IsNotAmong, among_altered, unaltered_sees, keeps_the_others, lived_after, back_key, config_back, off_key, off_numbers, given, inverse_gives}
-use Rattle.std.proofs.lemmas.Bool.{or_right}
-use Rattle.std.proofs.lemmas.List.Folds.{list_any-append}
 
 -- ---- why an accepted edit was not refused
 

@@ -2,11 +2,11 @@
 use Rattle.std.proofs.Common.{◌≡◌, Bool, true, false, eqb-true, eq-eqb, Option, Some, None, refl, sym, ap, ◌∙◌}
 use Rattle.std.specs.Option.{option_eq}
 use Rattle.std.specs.Cmp.Lexicographic.{same_text}
-use Rattle.iocm_types.specs.declared.view.View.{View}
-use Rattle.iocm_model.specs.Change.Edit.{same_view}
 use Rattle.std.proofs.lemmas.Bool.{and_parts}
 use Rattle.std.specs.Cmp.Derive.{both_true}
 use Rattle.std.proofs.lemmas.Cmp.{nat_list_eq_equiv}
+use Rattle.iocm_types.specs.declared.view.View.{View}
+use Rattle.iocm_model.specs.Change.Edit.{same_view}
 
 view_is : (a b : View) → same_view a b ≡ true → a ≡ b
 view_is a b h =

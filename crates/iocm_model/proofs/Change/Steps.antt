@@ -9,6 +9,7 @@ use Rattle.iocm_types.specs.declared.sub_id.SubId.{SubId}
 use Rattle.iocm_types.specs.declared.view.View.{View}
 use Rattle.iocm_types.specs.SubId.{sub_id_cmp}
 use Rattle.iocm_types.specs.KeyOrder.{keys_total, keys_exact, cells_total, cells_exact, sub_ids_total, sub_ids_exact}
+use Rattle.iocm_types.proofs.Found.{same_key}
 use Rattle.iocm_model.specs.Machine.Numbering.{cells_of, numbering_of, opening}
 use Rattle.iocm_model.specs.Change.Maps.{with_cells, cells_at}
 use Rattle.iocm_model.specs.Operation.State.{State, Lives, views_of, views_in, HasLives, seen_in, is_among, fresh_row}
@@ -18,7 +19,6 @@ use Rattle.iocm_model.specs.Change.Runs.{state_after_all, cells_written_by_all, 
 use Rattle.iocm_model.specs.Laws.Runs.{OpeningIsSound}
 use Rattle.iocm_model.specs.Laws.Steps.{StepsStaySound, Passes, StepsElsewherePass, StepsElsewherePassBack, OverwrittenStepsVanish}
 use Rattle.iocm_model.specs.Operation.Step.{Step, subchannel_in, live_after_step, lives_after_step, step_answer}
-use Rattle.iocm_types.proofs.Found.{same_key}
 use Rattle.iocm_model.proofs.Maps.Cells.{get_with_cells_as}
 use Rattle.iocm_model.proofs.Numbers.Cells.{cells_give_numbers}
 use Rattle.iocm_model.proofs.Numbers.Opening.{opening_are_numbers}

@@ -5,10 +5,10 @@ use Rattle.std.specs.FinMap.{find, get, entries, entries_sorted, is_sorted, get-
 use Rattle.iocm_types.specs.declared.key.Key.{Key}
 use Rattle.iocm_types.specs.Key.{key_cmp}
 use Rattle.iocm_types.specs.KeyOrder.{keys_total, keys_exact}
-use Rattle.iocm_model.specs.Machine.Record.{Rec, key_of}
-use Rattle.iocm_model.specs.Machine.Configuration.{Configuration, IsKeyed, with_keys, records_of}
 use Rattle.iocm_types.proofs.Found.{same_key, found_first, found_later}
 use Rattle.iocm_types.proofs.Tests.{first_holds, second_holds}
+use Rattle.iocm_model.specs.Machine.Record.{Rec, key_of}
+use Rattle.iocm_model.specs.Machine.Configuration.{Configuration, IsKeyed, with_keys, records_of}
 
 found_by : (b : Bool) (k : Key) (x r : Rec) (rest : Option Rec) → eq_by_cmp key_cmp k (key_of x) ≡ b → (rest ≡ Some r → key_of r ≡ k)
     → cond b (Some x) rest ≡ Some r → key_of r ≡ k

@@ -19,14 +19,14 @@ use Rattle.iocm_types.specs.Key.{key_cmp}
 use Rattle.iocm_types.specs.Place.{cell_cmp}
 use Rattle.iocm_types.specs.SubId.{sub_id_cmp, image_cmp}
 use Rattle.iocm_types.specs.KeyOrder.{keys_total, keys_exact, cells_exact, sub_ids_exact}
-use Rattle.iocm_model.specs.Machine.Record.{Rec, ImageRecord, key_of, id, resource, image, limit, path, unit, device, online}
-use Rattle.iocm_model.specs.Machine.Configuration.{Configuration, Lookup, lookup_of, IsKeyed, with_keys, records_of, as_image}
-use Rattle.iocm_model.specs.Machine.Numbering.{Numbering, cells_of}
-use Rattle.iocm_model.specs.Machine.View.{image_view, row_at, views, IsListOfViews}
 use Rattle.iocm_types.proofs.Parts.{or_else, or_none, untied, find_append}
 use Rattle.iocm_types.proofs.Tests.{first_holds, second_holds, both_hold}
 use Rattle.iocm_types.proofs.Orderings.{ties}
 use Rattle.iocm_types.proofs.Entries.{not_found, below_rest}
+use Rattle.iocm_model.specs.Machine.Record.{Rec, ImageRecord, key_of, id, resource, image, limit, path, unit, device, online}
+use Rattle.iocm_model.specs.Machine.Configuration.{Configuration, Lookup, lookup_of, IsKeyed, with_keys, records_of, as_image}
+use Rattle.iocm_model.specs.Machine.Numbering.{Numbering, cells_of}
+use Rattle.iocm_model.specs.Machine.View.{image_view, row_at, views, IsListOfViews}
 
 less_after : (r q s : Ordering) → r ≡ Equal → s ≡ Equal → T (is_lt (ordering_then r q)) → T (is_lt (ordering_then s q))
 less_after r q s a b h = subst (λ t. T (is_lt (ordering_then t q))) (sym b) (subst (λ t. T (is_lt (ordering_then t q))) a h)

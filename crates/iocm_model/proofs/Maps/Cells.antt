@@ -7,11 +7,11 @@ use Rattle.std.specs.declared.cmp.Ordering.{Ordering}
 use Rattle.std.specs.Cmp.{IsTotalOrder}
 use Rattle.std.specs.FinMap.{FinMap, IsAntisymmetric, find, is_sorted, get, entries, entries_sorted, keys, from_entries, retain_keys, get-insert, get-remove, get-from_entries, get-entries, get-retain_keys, contains_key-keys}
 use Rattle.std.specs.FinMap.Entries.{below_all}
-use Rattle.iocm_model.specs.Change.Maps.{with_value, with_cells, cells_at, differing}
 use Rattle.iocm_types.proofs.Found.{same_key}
 use Rattle.iocm_types.proofs.Parts.{or_else, find_append}
 use Rattle.iocm_types.proofs.Tests.{first_holds, second_holds}
 use Rattle.iocm_types.proofs.Entries.{not_found}
+use Rattle.iocm_model.specs.Change.Maps.{with_value, with_cells, cells_at, differing}
 
 unwrapped : {A : Type 0} (b : Bool) (x : A) (o : Option A) (d : A) → cond b x (unwrap_or o d) ≡ unwrap_or (cond b (Some x) o) d
 unwrapped true x o d = refl

@@ -5,11 +5,11 @@ use Rattle.std.specs.Ordering.{is_eq, eq_by_cmp}
 use Rattle.std.specs.declared.cmp.Ordering.{Ordering}
 use Rattle.std.specs.Cmp.{IsTotalOrder, tied_itself}
 use Rattle.std.specs.FinMap.{FinMap, IsAntisymmetric, get, entries, same_map}
-use Rattle.iocm_model.specs.Change.Maps.{with_cells, cells_at}
-use Rattle.iocm_types.proofs.Found.{same_key}
-use Rattle.iocm_model.proofs.Maps.Cells.{get_with_cells_as}
 use Rattle.std.proofs.lemmas.Bool.{or_parts, or_right}
 use Rattle.std.proofs.lemmas.List.Folds.{list_any-append}
+use Rattle.iocm_types.proofs.Found.{same_key}
+use Rattle.iocm_model.specs.Change.Maps.{with_cells, cells_at}
+use Rattle.iocm_model.proofs.Maps.Cells.{get_with_cells_as}
 
 module _ {K : Type 0} (R : K → K → Ordering) where
   -- a key that stands in neither of two lists

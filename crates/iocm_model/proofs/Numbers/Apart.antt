@@ -9,16 +9,16 @@ use Rattle.iocm_types.specs.declared.place.Place.{Place}
 use Rattle.iocm_types.specs.declared.place.NumberCell.{NumberCell}
 use Rattle.iocm_types.specs.Place.{place_cmp, cell_cmp}
 use Rattle.iocm_types.specs.KeyOrder.{places_total, places_exact, cells_total, cells_exact}
+use Rattle.iocm_types.proofs.Found.{same_key, found_fails}
+use Rattle.iocm_types.proofs.Tests.{present}
 use Rattle.iocm_model.specs.Machine.Configuration.{Configuration}
 use Rattle.iocm_model.specs.Machine.Numbering.{Numbering, reached_places, is_reached_at, cells_of}
 use Rattle.iocm_model.specs.Change.Renumbering.{lowest_free, without_leavers, with_carried, with_lowest, comes_in}
 use Rattle.iocm_model.specs.Laws.Numbers.{is_used, NumbersAfterAreNumbers}
 use Rattle.iocm_model.specs.Change.Refusal.{same_cell, has_cell_twice, is_number_taken}
 use Rattle.iocm_model.proofs.Numbers.Lowest.{lowest_free_is_free}
-use Rattle.iocm_types.proofs.Found.{same_key, found_fails}
 use Rattle.iocm_model.proofs.Numbers.Cells.{IsApart, cell, has_cell}
 use Rattle.iocm_model.proofs.Numbers.Changed.{comes_new, comes_reached, get_without, stays, before_lowest, numbers_after_are_exact}
-use Rattle.iocm_types.proofs.Tests.{present}
 
 -- ---- one number more
 

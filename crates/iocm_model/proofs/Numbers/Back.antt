@@ -5,13 +5,13 @@ use Rattle.std.specs.FinMap.Entries.{find-where_key}
 use Rattle.iocm_types.specs.declared.place.Place.{Place}
 use Rattle.iocm_types.specs.Place.{place_cmp}
 use Rattle.iocm_types.specs.KeyOrder.{places_total, places_exact}
+use Rattle.iocm_types.proofs.Tests.{absent, present}
 use Rattle.iocm_model.specs.Machine.Configuration.{Configuration}
 use Rattle.iocm_model.specs.Machine.Numbering.{Numbering, is_reached_at, AreNumbersOf}
 use Rattle.iocm_model.specs.Change.Renumbering.{numbers_after}
 use Rattle.iocm_model.specs.Change.Inverse.{freed_numbers}
 use Rattle.iocm_model.specs.Laws.Numbers.{RenumberingGoesBack}
 use Rattle.iocm_model.proofs.Numbers.Changed.{numbers_after_are_exact, stayers_keep_theirs, carried_come_back}
-use Rattle.iocm_types.proofs.Tests.{absent, present}
 
 -- the freed places have what they had
 pub get_freed : (n there : Numbering) (p : Place) → find place_cmp p (freed_numbers n there) ≡ cond (not (contains_key there p)) (get n p) None

@@ -5,10 +5,10 @@ use Rattle.iocm_types.specs.declared.place.Place.{Place}
 use Rattle.iocm_types.specs.declared.place.NumberCell.{NumberCell}
 use Rattle.iocm_types.specs.Place.{place_cmp, cell_cmp}
 use Rattle.iocm_types.specs.KeyOrder.{places_total, places_exact, cells_total, cells_exact}
-use Rattle.iocm_model.specs.Machine.Numbering.{Numbering, cells_of, numbering_of}
-use Rattle.iocm_model.specs.Laws.Numbers.{CellsAreTheNumbers}
 use Rattle.iocm_types.proofs.Found.{found_back, found_on}
 use Rattle.iocm_types.proofs.Tests.{present}
+use Rattle.iocm_model.specs.Machine.Numbering.{Numbering, cells_of, numbering_of}
+use Rattle.iocm_model.specs.Laws.Numbers.{CellsAreTheNumbers}
 
 -- no number comes twice in a channel subsystem and set
 abbrev pub IsApart : Numbering → Type 0

@@ -7,12 +7,12 @@ use Rattle.std.specs.FinMap.{find, get, insert, contains_key, get-insert, get-re
 use Rattle.iocm_types.specs.declared.place.Place.{Place}
 use Rattle.iocm_types.specs.Place.{place_cmp}
 use Rattle.iocm_types.specs.KeyOrder.{places_total, places_exact}
+use Rattle.iocm_types.proofs.Found.{same_key, ties_itself}
+use Rattle.iocm_types.proofs.Parts.{untied}
 use Rattle.iocm_model.specs.Machine.Configuration.{Configuration}
 use Rattle.iocm_model.specs.Machine.Numbering.{Numbering, reached_places, is_reached_at}
 use Rattle.iocm_model.specs.Change.Renumbering.{lowest_free, without_leavers, with_carried, with_lowest, numbers_after}
 use Rattle.iocm_model.specs.Laws.Numbers.{NumbersAfterAreExact, StayersKeepTheirs, CarriedComeBack}
-use Rattle.iocm_types.proofs.Found.{same_key, ties_itself}
-use Rattle.iocm_types.proofs.Parts.{untied}
 
 -- ---- one number more
 

@@ -13,12 +13,12 @@ use Rattle.iocm_types.specs.declared.place.Place.{Place}
 use Rattle.iocm_types.specs.Key.{key_cmp}
 use Rattle.iocm_types.specs.Place.{place_cmp}
 use Rattle.iocm_types.specs.KeyOrder.{places_total, places_exact}
-use Rattle.iocm_model.specs.Machine.Record.{Rec, DeviceRecord, id, resource, image, limit, path, unit, device, online}
-use Rattle.iocm_model.specs.Machine.Configuration.{Configuration, Lookup, lookup_of, IsKeyed, with_keys, records_of, as_device}
-use Rattle.iocm_model.specs.Machine.Numbering.{is_reached, is_record_reached, reached_devices, numbers_from, opening, subsystems, sets}
 use Rattle.iocm_types.proofs.Parts.{untied, find_nowhere, find_part, found_in_part, AreDistinct}
 use Rattle.iocm_types.proofs.Tests.{first_holds, second_holds}
 use Rattle.iocm_types.proofs.Entries.{not_found}
+use Rattle.iocm_model.specs.Machine.Record.{Rec, DeviceRecord, id, resource, image, limit, path, unit, device, online}
+use Rattle.iocm_model.specs.Machine.Configuration.{Configuration, Lookup, lookup_of, IsKeyed, with_keys, records_of, as_device}
+use Rattle.iocm_model.specs.Machine.Numbering.{is_reached, is_record_reached, reached_devices, numbers_from, opening, subsystems, sets}
 
 -- ---- one set of a channel subsystem
 

@@ -7,19 +7,19 @@ use Rattle.std.specs.FinMap.Entries.{find-where_key, is_sorted-where_key}
 use Rattle.iocm_types.specs.declared.place.Place.{Place}
 use Rattle.iocm_types.specs.Place.{place_cmp}
 use Rattle.iocm_types.specs.KeyOrder.{places_total, places_exact}
+use Rattle.iocm_types.proofs.Found.{found_later, found_first, none_passes}
+use Rattle.iocm_types.proofs.Tests.{first_holds, second_holds, present}
+use Rattle.iocm_types.proofs.Entries.{not_found}
 use Rattle.iocm_model.specs.Machine.Configuration.{Configuration}
 use Rattle.iocm_model.specs.Machine.Numbering.{Numbering, is_reached_at, AreNumbersOf}
 use Rattle.iocm_model.specs.Change.Renumbering.{numbers_after, without_leavers, comes_in}
 use Rattle.iocm_model.specs.Change.Refusal.{same_cell, has_cell_twice}
 use Rattle.iocm_model.specs.Change.Inverse.{freed_numbers}
 use Rattle.iocm_model.specs.Laws.Numbers.{FreedAreNotTaken}
-use Rattle.iocm_types.proofs.Found.{found_later, found_first, none_passes}
 use Rattle.iocm_model.proofs.Numbers.Cells.{IsApart}
 use Rattle.iocm_model.proofs.Numbers.Changed.{numbers_after_are_exact, stayers_keep_theirs}
 use Rattle.iocm_model.proofs.Numbers.Back.{get_freed}
 use Rattle.iocm_model.proofs.Numbers.Apart.{had}
-use Rattle.iocm_types.proofs.Tests.{first_holds, second_holds, present}
-use Rattle.iocm_types.proofs.Entries.{not_found}
 
 module _ (n : Numbering) (apart : IsApart n) where
   -- places whose numbers are one cell are one place

@@ -9,12 +9,12 @@ use Rattle.std.specs.FinMap.{find, get, contains_key, empty, get-empty, get-from
 use Rattle.iocm_types.specs.declared.place.Place.{Place}
 use Rattle.iocm_types.specs.Place.{place_cmp}
 use Rattle.iocm_types.specs.KeyOrder.{places_total, places_exact}
+use Rattle.iocm_types.proofs.Found.{ties_itself}
+use Rattle.iocm_types.proofs.Parts.{untied, part_there}
 use Rattle.iocm_model.specs.Machine.Configuration.{Configuration, IsKeyed}
 use Rattle.iocm_model.specs.Machine.Numbering.{Numbering, reached_devices, reached_places, numbers_from, opening, subsystems, sets}
 use Rattle.iocm_model.specs.Change.Renumbering.{without_leavers, numbers_after}
 use Rattle.iocm_model.specs.Laws.Numbers.{OpeningIsFromNone}
-use Rattle.iocm_types.proofs.Found.{ties_itself}
-use Rattle.iocm_types.proofs.Parts.{untied, part_there}
 use Rattle.iocm_model.proofs.Numbers.Cells.{IsApart}
 use Rattle.iocm_model.proofs.Numbers.First.{at, of_set, of_css, all, css_alone, set_alone, in_set, in_sets, in_all, opening_apart}
 use Rattle.iocm_model.proofs.Numbers.Opening.{opening_exact}

@@ -15,15 +15,15 @@ use Rattle.iocm_types.specs.declared.place.Place.{Place}
 use Rattle.iocm_types.specs.Key.{key_cmp}
 use Rattle.iocm_types.specs.Place.{place_cmp}
 use Rattle.iocm_types.specs.KeyOrder.{places_total, places_exact}
-use Rattle.iocm_model.specs.Machine.Record.{Rec, DeviceRecord, key_of, id, resource, image, limit, path, unit, device, online}
-use Rattle.iocm_model.specs.Machine.Configuration.{Configuration, Lookup, lookup_of, IsKeyed, with_keys, records_of, as_device}
-use Rattle.iocm_model.specs.Machine.Numbering.{subsystems, sets, is_reached, reached_devices, reached_places}
 use Rattle.iocm_types.proofs.Found.{same_key, ties_itself}
-use Rattle.iocm_model.proofs.Numbers.First.{at, reached_among, counted_by, subsystems_distinct, sets_distinct}
-use Rattle.iocm_model.proofs.Numbers.Lowest.{less}
 use Rattle.iocm_types.proofs.Tests.{first_holds, second_holds}
 use Rattle.iocm_types.proofs.Entries.{below_rest}
 use Rattle.iocm_types.proofs.Parts.{AreDistinct}
+use Rattle.iocm_model.specs.Machine.Record.{Rec, DeviceRecord, key_of, id, resource, image, limit, path, unit, device, online}
+use Rattle.iocm_model.specs.Machine.Configuration.{Configuration, Lookup, lookup_of, IsKeyed, with_keys, records_of, as_device}
+use Rattle.iocm_model.specs.Machine.Numbering.{subsystems, sets, is_reached, reached_devices, reached_places}
+use Rattle.iocm_model.proofs.Numbers.First.{at, reached_among, counted_by, subsystems_distinct, sets_distinct}
+use Rattle.iocm_model.proofs.Numbers.Lowest.{less}
 
 -- ---- device numbers
 

@@ -10,11 +10,11 @@ use Rattle.std.specs.FinMap.{entries, entries_sorted, is_sorted}
 use Rattle.std.specs.FinMap.Entries.{below_all}
 use Rattle.iocm_types.specs.declared.place.NumberCell.{NumberCell}
 use Rattle.iocm_types.specs.Place.{cell_cmp}
+use Rattle.iocm_types.proofs.Tests.{first_holds, second_holds}
+use Rattle.iocm_types.proofs.Orderings.{ties}
 use Rattle.iocm_model.specs.Machine.Numbering.{Numbering, cells_of}
 use Rattle.iocm_model.specs.Change.Renumbering.{gap_from, numbers_in}
 use Rattle.iocm_model.specs.Laws.Numbers.{LowestFreeIsFree, LowestFreeIsFound}
-use Rattle.iocm_types.proofs.Tests.{first_holds, second_holds}
-use Rattle.iocm_types.proofs.Orderings.{ties}
 
 -- numbers that strictly rise, the first at least n
 pub rises_from : ℕ → List ℕ → Type 0

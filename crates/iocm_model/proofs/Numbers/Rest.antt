@@ -8,11 +8,11 @@ use Rattle.iocm_types.specs.declared.place.Place.{Place}
 use Rattle.iocm_types.specs.declared.place.NumberCell.{NumberCell}
 use Rattle.iocm_types.specs.Place.{place_cmp, cell_cmp}
 use Rattle.iocm_types.specs.KeyOrder.{places_exact, cells_total, cells_exact}
+use Rattle.iocm_types.proofs.Found.{same_key, IsPassing, passing}
 use Rattle.iocm_model.specs.Machine.Configuration.{Configuration}
 use Rattle.iocm_model.specs.Machine.Numbering.{Numbering, reached_places, is_reached_at, cells_of}
 use Rattle.iocm_model.specs.Change.Renumbering.{lowest_free, without_leavers, with_carried, with_lowest}
 use Rattle.iocm_model.specs.Laws.Numbers.{is_used, RestGetTheLowest}
-use Rattle.iocm_types.proofs.Found.{same_key, IsPassing, passing}
 use Rattle.iocm_model.proofs.Numbers.Cells.{has_number}
 use Rattle.iocm_model.proofs.Numbers.Lowest.{lowest_free_is_free}
 use Rattle.iocm_model.proofs.Numbers.Apart.{any_kept}

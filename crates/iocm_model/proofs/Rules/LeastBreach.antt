@@ -10,13 +10,13 @@ use Rattle.std.specs.FinMap.Entries.{below_all}
 use Rattle.iocm_types.specs.declared.key.Key.{Key}
 use Rattle.iocm_types.specs.Key.{key_cmp}
 use Rattle.iocm_types.specs.KeyOrder.{keys_total, keys_exact}
+use Rattle.iocm_types.proofs.Found.{same_key, found_first, found_later}
+use Rattle.iocm_types.proofs.Orderings.{less_is}
+use Rattle.iocm_types.proofs.Tests.{first_holds, second_holds}
 use Rattle.iocm_model.specs.Machine.Record.{Rec, key_of}
 use Rattle.iocm_model.specs.Machine.Configuration.{with_keys}
 use Rattle.iocm_model.specs.Laws.Breaches.{AnswersTheLeast}
-use Rattle.iocm_types.proofs.Found.{same_key, found_first, found_later}
 use Rattle.iocm_model.proofs.Rules.FirstBreach.{answers_the_first}
-use Rattle.iocm_types.proofs.Orderings.{less_is}
-use Rattle.iocm_types.proofs.Tests.{first_holds, second_holds}
 
 not_both_less : (k q : Key) → key_cmp k q ≡ Less → key_cmp q k ≡ Less → ⊥
 not_both_less k q h g = let bad : Greater ≡ Less = sym (keys_total.antisymm k q ∙ ap ordering_reverse g) ∙ h in cc

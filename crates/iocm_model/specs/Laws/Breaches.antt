@@ -1,13 +1,13 @@
 -- What the first breach promises.
 use Rattle.std.specs.Prelude.{◌≡◌, Bool, true, false, ◌↔◌, None, Some, List, [], ◌∷◌, ◌++◌}
 use Rattle.std.specs.List.{list_any}
-use Rattle.iocm_types.specs.declared.rule.Rule.{Rule}
-use Rattle.iocm_model.specs.Machine.Record.{Rec, key_of}
-use Rattle.iocm_model.specs.Machine.Configuration.{Configuration, IsKeyed, records_of}
 use Rattle.std.specs.FinMap.{get}
 use Rattle.std.specs.declared.cmp.Ordering.TheVariants.{Less}
+use Rattle.iocm_types.specs.declared.rule.Rule.{Rule}
 use Rattle.iocm_types.specs.declared.key.Key.{Key}
 use Rattle.iocm_types.specs.Key.{key_cmp}
+use Rattle.iocm_model.specs.Machine.Record.{Rec, key_of}
+use Rattle.iocm_model.specs.Machine.Configuration.{Configuration, IsKeyed, records_of}
 use Rattle.iocm_model.specs.Machine.Numbering.{Numbering}
 use Rattle.iocm_model.specs.Rules.FirstBreach.{Breach, rules_of, first_breach}
 

@@ -1,12 +1,12 @@
 -- What subchannel numbers promise: the lowest that is free, the numbers at opening, after a change, and after it is taken back.
 use Rattle.std.specs.Prelude.{◌≡◌, ◌⊎◌, is_some, [], ℕ, ◌<◌, nat_eq, Bool, true, false, length, List, Some, None}
 use Rattle.std.specs.List.{list_any}
-use Rattle.iocm_model.specs.Machine.Numbering.{Numbering, is_record_reached, is_reached_at, opening, cells_of, numbering_of, AreNumbersOf}
-use Rattle.iocm_model.specs.Change.Renumbering.{numbers_in, lowest_free, numbers_after}
 use Rattle.std.specs.FinMap.{get, contains_key, find, empty}
 use Rattle.iocm_types.specs.declared.place.Place.{Place}
 use Rattle.iocm_types.specs.declared.key.Key.TheVariants.{Device}
 use Rattle.iocm_types.specs.Place.{place_cmp}
+use Rattle.iocm_model.specs.Machine.Numbering.{Numbering, is_record_reached, is_reached_at, opening, cells_of, numbering_of, AreNumbersOf}
+use Rattle.iocm_model.specs.Change.Renumbering.{numbers_in, lowest_free, numbers_after}
 use Rattle.iocm_model.specs.Machine.Configuration.{Configuration, IsKeyed, lookup_of}
 use Rattle.iocm_model.specs.Change.Refusal.{is_number_taken}
 use Rattle.iocm_model.specs.Change.Inverse.{freed_numbers}

@@ -14,12 +14,12 @@ use Rattle.iocm_types.specs.declared.path_kind.PathKind.{PathKind}
 use Rattle.iocm_types.specs.declared.path_kind.PathKind.TheVariants.{Dedicated, Shared, Reconfigurable}
 use Rattle.iocm_types.specs.declared.key.Key.TheVariants.{Path, Unit, Limit}
 use Rattle.iocm_types.specs.Key.{key_cmp}
+use Rattle.iocm_types.specs.declared.link.Link.TheVariants as link
 use Rattle.iocm_model.specs.Machine.Record.{Rec, ImageRecord, UnitRecord, image, limit, path, unit, device, online, key_of}
 use Rattle.iocm_model.specs.Machine.Configuration.{Configuration, lookup_of, records_of, images_of}
 use Rattle.iocm_model.specs.Machine.PathList.{paths_in, path_list}
 use Rattle.iocm_model.specs.Machine.Sight.{record_lists}
 use Rattle.iocm_model.specs.Machine.Numbering.{Numbering, subsystems}
-use Rattle.iocm_types.specs.declared.link.Link.TheVariants as link
 
 abbrev pub same_name : List ℕ → List ℕ → Bool
 same_name = pointwise nat_eq
