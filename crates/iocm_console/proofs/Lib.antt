@@ -1,3 +1,5 @@
+pub mod Hexadecimal
+pub mod Line
 pub mod Printing
 pub mod Rows
 pub mod Showing

@@ -20,15 +20,15 @@ use Rattle.iocm_model.specs.Machine.Numbering.{Numbering, cells_of}
 use Rattle.iocm_model.specs.Machine.Table.{line_of, heading, table_of}
 use Rattle.iocm_model.specs.Machine.View.{row_at, image_view}
 use Rattle.iocm_types.specs.declared.view.View.{View}
-use Rattle.iocm_console.specs.Lines.{Cells, lines_of, image_lines, record_lines}
+use Rattle.iocm_console.specs.Lines.{CellDevices, lines_of, image_lines, record_lines}
 
 -- the lines of an image at some cells and at further ones
-pub image_lines-append : (c : Lookup) (i : ImageRecord) (xs ys : Cells) → image_lines c i (xs ++ ys) ≡ image_lines c i xs ++ image_lines c i ys
+pub image_lines-append : (c : Lookup) (i : ImageRecord) (xs ys : CellDevices) → image_lines c i (xs ++ ys) ≡ image_lines c i xs ++ image_lines c i ys
 unfolding image_lines lines_of
 image_lines-append c i xs ys = simp (filter-append, filter_map-append, flat_map-append)
 
 -- the lines of some records and of further ones
-pub record_lines-append : (c : Lookup) (cells : Cells) (xs ys : List Rec) → record_lines c cells (xs ++ ys) ≡ record_lines c cells xs ++ record_lines c cells ys
+pub record_lines-append : (c : Lookup) (cells : CellDevices) (xs ys : List Rec) → record_lines c cells (xs ++ ys) ≡ record_lines c cells xs ++ record_lines c cells ys
 unfolding record_lines
 record_lines-append c cells xs ys = simp (filter_map-append, flat_map-append)
 
@@ -60,18 +60,18 @@ image_lines_more c i xs k x h is =
     ∙ image_lines-append c i _ _)
 
 -- the lines of one more record
-pub record_lines_more : (c : Lookup) (cells : Cells) (xs : List Rec) (k : ℕ) (x : Rec) → k < length xs → x ≡ get_or xs k x
+pub record_lines_more : (c : Lookup) (cells : CellDevices) (xs : List Rec) (k : ℕ) (x : Rec) → k < length xs → x ≡ get_or xs k x
     → record_lines c cells (take k xs) ++ record_lines c cells (x ∷ []) ≡ record_lines c cells (take (k + 1) xs)
 record_lines_more c cells xs k x h is =
     sym (ap (record_lines c cells) (take_more xs k x h ∙ ap (λ y. take k xs ++ y ∷ []) (sym is)) ∙ record_lines-append c cells _ _)
 
 -- the lines of a record that is an image's
-pub record_lines-image : (c : Lookup) (cells : Cells) (r : Rec) (i : ImageRecord) → r ≡ image i → image_lines c i cells ≡ record_lines c cells (r ∷ [])
+pub record_lines-image : (c : Lookup) (cells : CellDevices) (r : Rec) (i : ImageRecord) → r ≡ image i → image_lines c i cells ≡ record_lines c cells (r ∷ [])
 unfolding record_lines
 record_lines-image c cells r i same = rw same (sym (append-nil _))
 
 -- any other record has none
-pub record_lines-other : (c : Lookup) (cells : Cells) (r : Rec) → as_image r ≡ None → record_lines c cells (r ∷ []) ≡ []
+pub record_lines-other : (c : Lookup) (cells : CellDevices) (r : Rec) → as_image r ≡ None → record_lines c cells (r ∷ []) ≡ []
 unfolding record_lines
 record_lines-other c cells r none = rw none refl
 
@@ -81,7 +81,7 @@ unfolding image_lines lines_of
 image_lines-nil c i = refl
 
 -- no records give no lines
-pub record_lines-nil : (c : Lookup) (cells : Cells) → [] ≡ record_lines c cells []
+pub record_lines-nil : (c : Lookup) (cells : CellDevices) → [] ≡ record_lines c cells []
 unfolding record_lines
 record_lines-nil c cells = refl
 
@@ -108,7 +108,7 @@ lines_of-flat_map f [] = refl
 lines_of-flat_map f (i ∷ is) = flat_map-append _ (f i) (flat_map f is) ∙ ap (λ xs. lines_of (f i) ++ xs) (lines_of-flat_map f is)
 
 -- the heading and then the lines of all records are the table
-pub table_lines : (c : Configuration) (n : Numbering) (cells : Cells) (records : List Rec) → with_keys records ≡ entries c → cells ≡ entries (cells_of n)
+pub table_lines : (c : Configuration) (n : Numbering) (cells : CellDevices) (records : List Rec) → with_keys records ≡ entries c → cells ≡ entries (cells_of n)
     → (heading ++ 10 ∷ []) ++ record_lines (lookup_of c) cells records ≡ table_of c n
 unfolding record_lines image_lines lines_of
 table_lines c n cells records all places =

@@ -11,19 +11,19 @@ use Rattle.iocm_model.specs.Machine.View.{row_at}
 use Rattle.iocm_console.specs.declared.table.NamedImage.{NamedImage}
 
 -- number cells with their devices
-abbrev pub Cells : Type 0
-Cells = List (NumberCell × ℕ)
+abbrev pub CellDevices : Type 0
+CellDevices = List (NumberCell × ℕ)
 
 -- the lines of some subchannels, each with its end
 unfoldable pub lines_of : List (SubId × View) → List ℕ
 lines_of rows = flat_map (λ row. line_of row ++ 10 ∷ []) rows
 
 -- the lines of an image at some number cells, of which those of its channel subsystem count
-unfoldable pub image_lines : Lookup → ImageRecord → Cells → List ℕ
+unfoldable pub image_lines : Lookup → ImageRecord → CellDevices → List ℕ
 image_lines c i cells = lines_of (filter_map (row_at c i) (filter (λ (e : NumberCell × ℕ). e.0.css == i.css) cells))
 
 -- the lines of the images among some records
-unfoldable pub record_lines : Lookup → Cells → List Rec → List ℕ
+unfoldable pub record_lines : Lookup → CellDevices → List Rec → List ℕ
 record_lines c cells records = flat_map (λ i. image_lines c i cells) (filter_map as_image records)
 
 -- the record of an image

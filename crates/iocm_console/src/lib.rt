@@ -6,11 +6,11 @@
 //! of a device is an error, `ConsoleError`, and is noted where it came from: L5 at the `Device`, L6 at the
 //! `Output`. All memory is taken before the first byte is written; a line takes none.
 //!
-//! Begin with `specs/Show.antt`, which says what `show` means, then `show.rt` and `table.rt`. `row.rt` and
-//! `refusal.rt` have the lines, as `Display` states them.
+//! Begin with `specs/Show.antt`, which says what `show` means, then `show.rt` and `table.rt`. `row.rt`
+//! puts a line of the table together, digit by digit; `refusal.rt` has that of a refusal, as `Display` states it.
 #![tactic(auto)]
 
-mod cell;
+mod digits;
 mod error;
 mod output;
 mod refusal;
@@ -24,7 +24,7 @@ mod tests;
 pub use error::ConsoleError;
 pub use output::Output;
 pub use refusal::Refusal;
-pub use row::{Row, write_heading, write_row};
+pub use row::{write_heading, write_row};
 pub use show::{refuse, show_deck};
 pub use status::Status;
 pub use table::write_table;

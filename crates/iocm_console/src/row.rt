@@ -1,58 +1,16 @@
-ghost use Rattle.std.specs.Prelude.{◌≡◌, ◌++◌, ◌∷◌, [], OnOk};
+ghost use Rattle.std.specs.Prelude.{◌≡◌, ◌≤◌, ◌+◌, ◌++◌, ◌∷◌, [], OnOk, length};
 ghost use Rattle.std.specs.Io.KnownBytes.{Appends};
-ghost use Rattle.iocm_model.specs.Machine.Table.{line_of, heading};
+ghost use Rattle.arrayvec.specs.ArrayVec.{array_vec_len};
+ghost use Rattle.iocm_model.specs.Machine.Table.{line_of, heading, chpids};
 
-use crate::cell::{Hex4, Left2, Left3};
+use crate::digits::digit;
+use arrayvec::ArrayVec;
 use iocm_types::{Chpid, SubId, View};
+use std::io;
 use std::io::Write;
-use std::{fmt, io};
 
-/// The numbers of the paths of a view, with a blank before each.
-#[derive(Clone, Copy)]
-struct PathNumbers<'a>(&'a [Chpid]);
-
-impl fmt::Display for PathNumbers<'_> {
-    ghost use Rattle.std.specs.Prelude.{Some};
-    ghost use Rattle.iocm_model.specs.Machine.Table.{chpids};
-
-    ghost output = { λ p. Some (chpids p.0.now) };
-
-    fn fmt<W: fmt::Write>(&self, f: &mut fmt::Formatter<W>) -> fmt::Result {
-        for path in self.0 {
-            write!(f, " {path}")?;
-        }
-        Ok(())
-    }
-}
-
-/// A line of the table, without its end: a subchannel and what its image sees there.
-#[derive(Clone, Copy)]
-pub struct Row<'a> {
-    pub id: SubId,
-    pub view: &'a View,
-}
-
-impl fmt::Display for Row<'_> {
-    ghost use Rattle.std.specs.Prelude.{Some};
-    ghost use Rattle.iocm_model.specs.Machine.Table.{line_of};
-
-    ghost output = { λ r. Some (line_of (r.id, r.view.now)) };
-
-    fn fmt<W: fmt::Write>(&self, f: &mut fmt::Formatter<W>) -> fmt::Result {
-        let css = Left3(self.id.image.css.number());
-        let mif = Left2(self.id.image.mif.number());
-        let set = Left3(self.id.set.number());
-        let number = Hex4(self.id.number);
-        let device = self.view.device;
-        let pim = self.view.pim;
-        let pam = self.view.pam;
-        let paths = PathNumbers(self.view.paths.as_slice());
-        write!(
-            f,
-            "{css} {mif} {set} {number} {device} {pim}  {pam} {paths}"
-        )
-    }
-}
+/// The most bytes of a line: 28 before the paths, three for each of at most eight paths, and its end.
+const LONGEST: usize = 53;
 
 /// Writes the heading of the table, with its end. Takes no memory.
 pub fn write_heading<W: Write>(writer: &mut W) -> io::Result<()>
@@ -61,10 +19,80 @@ pub fn write_heading<W: Write>(writer: &mut W) -> io::Result<()>
     writeln!(writer, "CSS IM SET SUBC DEVN PIM PAM CHPIDS")
 }
 
-/// Writes the line of a subchannel, with its end. Takes no memory.
+/// Writes the line of a subchannel, with its end, as one piece. Takes no memory.
 pub fn write_row<W: Write>(writer: &mut W, id: SubId, view: &View) -> io::Result<()>
     ensures { OnOk result (Appends (W.contents writer.old) (W.contents writer.new) (line_of (id, view.now) ++ 10 ∷ [])) }
 {
-    let row = Row { id, view };
-    writeln!(writer, "{row}")
+    let mut line = ArrayVec::new();
+    put_line(&mut line, id, view);
+    writer.write_all(line.as_slice())
+}
+
+/// Puts the line of a subchannel, with its end, where no byte is.
+#[inline]
+fn put_line(line: &mut ArrayVec<u8, LONGEST>, id: SubId, view: &View)
+    requires { line.old.items ≡ [] }
+    ensures { line.new.items ≡ line_of (id, view.now) ++ 10 ∷ [] }
+{
+    let Ok(()) = line.try_extend_from_slice(&numbers(id, view)) else {
+        unreachable!()
+    };
+    for path in view.paths.as_slice() {
+        put_path(line, *path);
+    }
+    line.push(b'\n');
+}
+
+/// Puts the number of a path at the end of a line, with a blank before it.
+#[inline]
+fn put_path(line: &mut ArrayVec<u8, LONGEST>, path: Chpid)
+    requires { array_vec_len line.old + 3 ≤ 53 }
+    ensures text { line.new.items ≡ line.old.items ++ chpids (path ∷ []) }
+    ensures length { array_vec_len line.new ≡ array_vec_len line.old + 3 }
+{
+    let number = path.number();
+    line.push(b' ');
+    line.push(digit(number / 16));
+    line.push(digit(number % 16));
+}
+
+/// The part of a line before its paths, 28 places.
+#[inline]
+fn numbers(id: SubId, view: &View) -> [u8; 28]
+    ensures { result ++ chpids view.now.paths ≡ line_of (id, view.now) }
+{
+    let number = id.number;
+    let device = view.device.number();
+    let pim = view.pim.bits();
+    let pam = view.pam.bits();
+    [
+        digit(id.image.css.number()),
+        b' ',
+        b' ',
+        b' ',
+        digit(id.image.mif.number()),
+        b' ',
+        b' ',
+        digit(id.set.number()),
+        b' ',
+        b' ',
+        b' ',
+        digit((number / 4096) as u8),
+        digit((number / 256 % 16) as u8),
+        digit((number / 16 % 16) as u8),
+        digit((number % 16) as u8),
+        b' ',
+        digit((device / 4096) as u8),
+        digit((device / 256 % 16) as u8),
+        digit((device / 16 % 16) as u8),
+        digit((device % 16) as u8),
+        b' ',
+        digit(pim / 16),
+        digit(pim % 16),
+        b' ',
+        b' ',
+        digit(pam / 16),
+        digit(pam % 16),
+        b' ',
+    ]
 }

@@ -7,7 +7,7 @@ ghost use Rattle.iocm_console.specs.Output.{has_failed, Prints, FailedToWrite};
 
 use crate::{ConsoleError, Output};
 use iocm_config::Config;
-use iocm_derive::{ImageSight, Near};
+use iocm_derive::ImageSight;
 use iocm_numbers::{CellDevice, Numbers};
 use iocm_records::{Record, RecordBody};
 use iocm_types::{Image, Name, SubId};
@@ -87,23 +87,23 @@ fn write_image<A: Allocator, W: Write>(
     ensures works { OnOk result (has_failed output.new ≡ has_failed output.old) }
     ensures fault { IfErr result (FailedToWrite output.new) }
 {
-    let sight = ImageSight::new(config, image.image, image.name);
-    write_cells(output, &sight, cells)
+    let mut sight = ImageSight::new(config, image.image, image.name);
+    write_cells(output, &mut sight, cells)
 }
 
 /// Writes the lines of an image at some number cells.
 fn write_cells<A: Allocator, W: Write>(
     output: &mut Output<W>,
-    sight: &ImageSight<'_, A>,
+    sight: &mut ImageSight<'_, A>,
     cells: &[CellDevice],
 ) -> Result<(), ConsoleError>
-    ensures text { OnOk result (Prints W.contents output.old output.new (image_lines (lookup_of sight.now.records) sight.now.image (celled cells.now))) }
+    ensures text { OnOk result (Prints W.contents output.old output.new (image_lines (lookup_of sight.old.records) sight.old.image (celled cells.now))) }
+    ensures same { sight.new ≡ sight.old }
     ensures works { OnOk result (has_failed output.new ≡ has_failed output.old) }
     ensures fault { IfErr result (FailedToWrite output.new) }
 {
-    let mut near = Near::start();
     for place in cells {
-        write_cell(output, sight, *place, &mut near)?;
+        write_cell(output, sight, *place)?;
     }
     Ok(())
 }
@@ -112,11 +112,11 @@ fn write_cells<A: Allocator, W: Write>(
 /// the device there.
 fn write_cell<A: Allocator, W: Write>(
     output: &mut Output<W>,
-    sight: &ImageSight<'_, A>,
+    sight: &mut ImageSight<'_, A>,
     place: CellDevice,
-    near: &mut Near,
 ) -> Result<(), ConsoleError>
-    ensures text { OnOk result (Prints W.contents output.old output.new (image_lines (lookup_of sight.now.records) sight.now.image (celled (place ∷ [])))) }
+    ensures text { OnOk result (Prints W.contents output.old output.new (image_lines (lookup_of sight.old.records) sight.old.image (celled (place ∷ [])))) }
+    ensures same { sight.new ≡ sight.old }
     ensures works { OnOk result (has_failed output.new ≡ has_failed output.old) }
     ensures fault { IfErr result (FailedToWrite output.new) }
 {
@@ -124,18 +124,18 @@ fn write_cell<A: Allocator, W: Write>(
     if place.cell.css != image.css {
         return Ok(());
     }
-    write_seen(output, sight, place, near)
+    write_seen(output, sight, place)
 }
 
 /// Writes the line of an image at a number cell of its channel subsystem, if it sees the device there.
 fn write_seen<A: Allocator, W: Write>(
     output: &mut Output<W>,
-    sight: &ImageSight<'_, A>,
+    sight: &mut ImageSight<'_, A>,
     place: CellDevice,
-    near: &mut Near,
 ) -> Result<(), ConsoleError>
-    requires { place.cell.css ≡ sight.now.image.css }
-    ensures text { OnOk result (Prints W.contents output.old output.new (image_lines (lookup_of sight.now.records) sight.now.image (celled (place ∷ [])))) }
+    requires { place.cell.css ≡ sight.old.image.css }
+    ensures text { OnOk result (Prints W.contents output.old output.new (image_lines (lookup_of sight.old.records) sight.old.image (celled (place ∷ [])))) }
+    ensures same { sight.new ≡ sight.old }
     ensures works { OnOk result (has_failed output.new ≡ has_failed output.old) }
     ensures fault { IfErr result (FailedToWrite output.new) }
 {
@@ -145,7 +145,7 @@ fn write_seen<A: Allocator, W: Write>(
         set: cell.set,
         number: cell.number,
     };
-    match sight.view(cell.set, place.device, near) {
+    match sight.view(cell.set, place.device) {
         Some(view) => output.row(id, &view),
         None => Ok(()),
     }

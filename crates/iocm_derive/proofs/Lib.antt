@@ -1,5 +1,6 @@
 pub mod Eight
 pub mod Joined
+pub mod Noted
 pub mod OneByOne
 pub mod SetBySet
-pub mod TableMore
+pub mod Walked

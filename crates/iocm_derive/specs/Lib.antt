@@ -1,3 +1,4 @@
 pub mod Derived
 pub mod FirstNumbers
+pub mod PathTables
 pub mod Sighted

@@ -61,14 +61,15 @@ fn number_set<A: Allocator, B: Allocator>(
     ensures others { OnOk result ((a b : ℕ) → ((a ≡ css) × (b ≡ set) → ⊥) → IsUnnumbered numbers.old.numbers a b → IsUnnumbered numbers.new.numbers a b) }
 {
     let mut next = 0u32;
+    let mut near = 0;
     for entry in config.walk() {
-        next = number_record(numbers, config, css, set, entry, next)?;
+        next = number_record(numbers, config, css, set, entry, next, &mut near)?;
     }
     Ok(())
 }
 
 /// Gives the device of a record the next number, if it is of the set and reached, and gives back the number
-/// after that.
+/// after that. Its unit is looked for near that of the last device.
 fn number_record<A: Allocator, B: Allocator>(
     numbers: &mut Numbers<B>,
     config: &Config<A>,
@@ -76,6 +77,7 @@ fn number_record<A: Allocator, B: Allocator>(
     set: SetNo,
     entry: &Record<A>,
     next: u32,
+    near: &mut usize,
 ) -> Result<u32, AllocError>
     requires new { IsNewAt numbers.old.numbers css set next entry.now }
     requires free { AreFree numbers.old.numbers css set next }
@@ -88,11 +90,10 @@ fn number_record<A: Allocator, B: Allocator>(
     if device.set != set {
         return Ok(next);
     }
-    if !is_reached(config, css, device.units.as_slice()) {
+    if !is_reached(config, css, device.units.as_slice(), near) {
         return Ok(next);
     }
-    // For the proof alone: the next number is no higher than the device's, which has 16 bits, so it fits.
-    let _highest = device.number.number();
+    let highest = device.number.number();
     numbers.room(1)?;
     let place = Place {
         css,
@@ -103,10 +104,15 @@ fn number_record<A: Allocator, B: Allocator>(
     Ok(next + 1)
 }
 
-/// Whether one of these units has a path in a channel subsystem.
-fn is_reached<A: Allocator>(config: &Config<A>, css: Css, units: &[UnitNo]) -> bool
+/// Whether one of these units has a path in a channel subsystem. The first unit is looked for near a place.
+fn is_reached<A: Allocator>(
+    config: &Config<A>,
+    css: Css,
+    units: &[UnitNo],
+    near: &mut usize,
+) -> bool
     ensures { result ≡ not (model.is_empty (paths.path_list (lookup_of config.now.records) css units.now)) }
 {
-    let paths = paths_of_units(config, css, units);
+    let paths = paths_of_units(config, css, units, near);
     !paths.as_slice().is_empty()
 }

@@ -1,32 +1,34 @@
-ghost use Rattle.std.specs.Prelude.{◌≡◌, if◌then◌else◌};
-ghost use Rattle.std.specs.List.{list_any};
+ghost use Rattle.std.specs.Prelude.{◌≡◌};
+ghost use Rattle.std.specs.Option.{option_copied, option_map};
 ghost use Rattle.iocm_model.specs.Machine.Configuration.{lookup_of};
-ghost use Rattle.iocm_model.specs.Machine.Mask as mask;
-ghost use Rattle.iocm_model.specs.Machine.PathList as path_lists;
-ghost use Rattle.iocm_model.specs.Machine.Sight as sight;
 ghost use Rattle.iocm_model.specs.Machine.View as model;
 ghost use Rattle.iocm_records.specs.Meaning.{device_of};
-ghost use Rattle.iocm_derive.specs.Sighted.{IsTableOf};
 
-use crate::lookup::{Near, find_device_near, find_paths_near, is_path_online, reaches_path};
-use crate::masks::bit_if;
-use crate::paths::paths_of_units_near;
-use crate::sight::is_candidate;
+use crate::lookup::{device_at, device_fields};
+use crate::path_tables::{PathTables, path_tables};
+use crate::reach::{ImageRecords, Reach};
+use crate::units_view::{UnitsView, are_same, units_view, view_by};
 use iocm_config::Config;
 use iocm_records::DeviceFields;
-use iocm_types::{Chpid, Css, CssPath, DevNo, Image, Mask, Name, Paths, SetNo, UnitNo, View};
+use iocm_types::{Chpid, Css, DevNo, Image, Key, Mask, Name, Paths, SetNo, View};
 use std::alloc::Allocator;
 use std::marker::Model;
 
 /// An image of a configuration, with the paths that it reaches and those that are online to it looked up
-/// once: its views of many devices follow quickly. Contracts see the configuration and the image.
+/// once, and with what it sees of the last device kept for the next: its views of many devices, one after the
+/// other, follow quickly. Contracts see the configuration and the image.
 #[derive(Drop)]
 pub struct ImageSight<'a, A: Allocator> {
     config: &'a Config<A>,
     image: Image,
     name: Name,
-    reached: [bool; 256],
-    online: [bool; 256],
+    tables: PathTables,
+    /// Where the record of the next device is looked for first.
+    next: usize,
+    /// Near which record a unit of the next device is looked for.
+    unit: usize,
+    /// What the image sees by the units of the last device.
+    last: UnitsView<'a>,
 }
 
 impl<'a, A: Allocator> Model for ImageSight<'a, A> {
@@ -44,7 +46,7 @@ impl<'a, A: Allocator> Model for ImageSight<'a, A> {
 
     ghost view = { λ s. record { records = s.config.now.records; image = record { css = s.image.css; mif = s.image.mif; name = s.name } } };
 
-    ghost invariant = { λ s. IsSighted s.config.now.records s.image.css s.name s.reached s.online };
+    ghost invariant = { λ s. IsSighted s.config.now.records s.image.css s.name s.tables s.last };
 }
 
 impl<'a, A: Allocator> ImageSight<'a, A> {
@@ -52,12 +54,15 @@ impl<'a, A: Allocator> ImageSight<'a, A> {
     pub fn new(config: &'a Config<A>, image: Image, name: Name) -> Self
         ensures { result ≡ record { records = config.entry.now.records; image = record { css = image.css; mif = image.mif; name = name } } }
     {
+        let records = ImageRecords::new(config, image.css, name);
         ImageSight {
             config,
             image,
             name,
-            reached: reached_table(config, image.css, name),
-            online: online_table(config, image.css, name),
+            tables: path_tables(config, image.css, name),
+            next: 0,
+            unit: 0,
+            last: units_view(&records, &[], &mut 0),
         }
     }
 
@@ -68,108 +73,62 @@ impl<'a, A: Allocator> ImageSight<'a, A> {
         self.image
     }
 
-    /// What the image sees of the device of a number in a set, if it is there and seen; `near` remembers where
-    /// the last one was found.
-    pub fn view(&self, set: SetNo, device: DevNo, near: &mut Near) -> Option<View>
-        ensures { result ≡ model.image_view (lookup_of self.now.records) self.now.image set device }
+    /// What the image sees of the device of a number in a set, if it is there and seen. A device next to the
+    /// last one, or on the same units, is quickly answered.
+    pub fn view(&mut self, set: SetNo, device: DevNo) -> Option<View>
+        ensures view { result ≡ model.image_view (lookup_of self.old.records) self.old.image set device }
+        ensures same { self.new ≡ self.old }
     {
-        let fields = find_device_near(self.config, set, device, near)?;
-        if !self.sees_device(fields, near) {
-            return None;
+        let fields = self.find_next(set, device)?;
+        let units = fields.units.as_slice();
+        if !are_same(self.last.units, units) {
+            let mut near = self.unit;
+            self.last = units_view(self, units, &mut near);
+            self.unit = near;
         }
-        let paths = paths_of_units_near(self.config, self.image.css, fields.units.as_slice(), near);
-        Some(View {
-            device: fields.number,
-            pim: self.pim(&paths),
-            pam: self.pam(&paths),
-            paths,
-        })
+        view_by(self, &self.last, fields)
     }
 
-    fn sees_device(&self, device: &DeviceFields<A>, near: &mut Near) -> bool
-        ensures { result ≡ sight.sees (lookup_of self.now.records) self.now.image.css self.now.image.name (device_of device.now) }
+    /// The device of a number in a set, if there is one. It is looked for next to the last one first.
+    fn find_next(&mut self, set: SetNo, device: DevNo) -> Option<&'a DeviceFields<A>>
+        ensures device { option_map device_of (option_copied result) ≡ model.device_record (lookup_of self.old.records) set device }
+        ensures same { self.new ≡ self.old }
     {
-        is_candidate(device.candidates.as_ref(), self.name)
-            && self.reaches_units(device.units.as_slice(), near)
-    }
-
-    fn reaches_units(&self, units: &[UnitNo], near: &mut Near) -> bool
-        ensures { result ≡ list_any (sight.reaches (lookup_of self.now.records) self.now.image.css self.now.image.name) (path_lists.path_list (lookup_of self.now.records) self.now.image.css units.now) }
-    {
-        for unit in units {
-            if self.reaches_any(find_paths_near(self.config, *unit, near)) {
-                return true;
-            }
+        let mut at = self.next;
+        if let Some(fields) = device_at(self.config, at, set, device) {
+            self.next = at.saturating_add(1);
+            return Some(fields);
         }
-        false
-    }
-
-    fn reaches_any(&self, paths: &[CssPath]) -> bool
-        ensures { result ≡ list_any (sight.reaches (lookup_of self.now.records) self.now.image.css self.now.image.name) (path_lists.paths_in self.now.image.css paths.now) }
-    {
-        for path in paths {
-            if path.css == self.image.css && self.reaches(path.path) {
-                return true;
-            }
-        }
-        false
-    }
-
-    fn reaches(&self, path: Chpid) -> bool
-        ensures { result ≡ sight.reaches (lookup_of self.now.records) self.now.image.css self.now.image.name path }
-    {
-        self.reached[usize::from(path.number())]
-    }
-
-    fn is_online(&self, path: Chpid) -> bool
-        ensures { result ≡ mask.is_online (lookup_of self.now.records) self.now.image.css self.now.image.name path }
-    {
-        self.online[usize::from(path.number())]
-    }
-
-    fn pim(&self, paths: &Paths) -> Mask
-        ensures { result ≡ mask.installed (lookup_of self.now.records) self.now.image.css self.now.image.name paths.now }
-    {
-        let mut bit = 128u8;
-        let mut bits = 0u8;
-        for path in paths.as_slice() {
-            bits += bit_if(self.reaches(*path), bit);
-            bit /= 2;
-        }
-        Mask::from_bits(bits)
-    }
-
-    fn pam(&self, paths: &Paths) -> Mask
-        ensures { result ≡ mask.available (lookup_of self.now.records) self.now.image.css self.now.image.name paths.now }
-    {
-        let mut bit = 128u8;
-        let mut bits = 0u8;
-        for path in paths.as_slice() {
-            bits += bit_if(self.is_online(*path), bit);
-            bit /= 2;
-        }
-        Mask::from_bits(bits)
+        let entry = self.config.get_near(&Key::Device(set, device), &mut at);
+        self.next = at.saturating_add(1);
+        device_fields(entry?)
     }
 }
 
-/// The paths of a channel subsystem that the image of a name reaches, by their numbers.
-fn reached_table<A: Allocator>(config: &Config<A>, css: Css, name: Name) -> [bool; 256]
-    ensures { IsTableOf (sight.reaches (lookup_of config.now.records) css name) result }
-{
-    let mut table = [false; 256];
-    for number in 0..256usize {
-        table[number] = reaches_path(config, css, name, Chpid::new(number as u8));
-    }
-    table
-}
+impl<'a, A: Allocator> Reach<A> for ImageSight<'a, A> {
+    ghost records = { λ s. s.records };
 
-/// The paths of a channel subsystem that are online to the image of a name, by their numbers.
-fn online_table<A: Allocator>(config: &Config<A>, css: Css, name: Name) -> [bool; 256]
-    ensures { IsTableOf (mask.is_online (lookup_of config.now.records) css name) result }
-{
-    let mut table = [false; 256];
-    for number in 0..256usize {
-        table[number] = is_path_online(config, css, name, Chpid::new(number as u8));
+    ghost subsystem = { λ s. s.image.css };
+
+    ghost called = { λ s. s.image.name };
+
+    fn config(&self) -> &Config<A> {
+        self.config
     }
-    table
+
+    fn css(&self) -> Css {
+        self.image.css
+    }
+
+    fn name(&self) -> Name {
+        self.name
+    }
+
+    fn reaches(&self, path: Chpid) -> bool {
+        self.tables.reached[usize::from(path.number())]
+    }
+
+    fn is_online(&self, path: Chpid) -> bool {
+        self.tables.online[usize::from(path.number())]
+    }
 }

@@ -10,15 +10,17 @@ mod first_numbers;
 mod image_sight;
 mod lookup;
 mod masks;
+mod path_tables;
 mod paths;
+mod reach;
 mod sight;
 #[cfg(test)]
 mod tests;
+mod units_view;
 mod view;
 
 pub use first_numbers::opening;
 pub use image_sight::ImageSight;
-pub use lookup::Near;
 pub use masks::{pam, pim};
 pub use paths::path_list;
 pub use sight::sees;

@@ -1,16 +1,17 @@
-ghost use Rattle.std.specs.Prelude.{◌≡◌};
+ghost use Rattle.std.specs.Prelude.{◌≡◌, IfSome};
 ghost use Rattle.std.specs.Option.{option_copied, option_map};
 ghost use Rattle.iocm_types.specs.declared.key.Key.TheVariants as key;
-ghost use Rattle.iocm_model.specs.Machine.Configuration.{lookup_of};
+ghost use Rattle.iocm_model.specs.Machine.Configuration.{lookup_of, as_device};
 ghost use Rattle.iocm_model.specs.Machine.Mask.{is_online};
-ghost use Rattle.iocm_model.specs.Machine.Sight.{reaches};
+ghost use Rattle.iocm_model.specs.Machine.Record.{path};
+ghost use Rattle.iocm_model.specs.Machine.Sight.{reaches, record_lists};
 ghost use Rattle.iocm_model.specs.Machine.View.{device_record};
 ghost use Rattle.iocm_records.specs.Meaning as meaning;
 ghost use Rattle.iocm_derive.specs.Derived.{all_paths, image_name};
 
 use crate::sight::has_name;
 use iocm_config::Config;
-use iocm_records::{DeviceFields, RecordBody};
+use iocm_records::{DeviceFields, PathFields, Record, RecordBody};
 use iocm_types::{Chpid, Css, CssPath, DevNo, Image, Key, Name, SetNo, UnitNo};
 use std::alloc::Allocator;
 
@@ -22,62 +23,35 @@ pub fn find_device<A: Allocator>(
 ) -> Option<&DeviceFields<A>>
     ensures { option_map meaning.device_of (option_copied result) ≡ device_record (lookup_of config.now.records) set device }
 {
-    match config.get(&Key::Device(set, device))?.body() {
+    device_fields(config.get(&Key::Device(set, device))?)
+}
+
+/// The device of a record, if it is that of one.
+pub fn device_fields<A: Allocator>(entry: &Record<A>) -> Option<&DeviceFields<A>>
+    ensures { option_map meaning.device_of (option_copied result) ≡ as_device entry.now }
+{
+    match entry.body() {
         RecordBody::Device(fields) => Some(fields),
         _ => None,
     }
 }
 
-/// Where the last lookups of a device and of a control unit ended, near which the next ones begin. It changes
-/// no answer, only the time: views of many devices, one after the other, need no search.
-#[derive(Clone, Copy, Debug)]
-pub struct Near {
-    device: usize,
-    unit: usize,
-}
-
-impl Near {
-    /// Before the first lookup.
-    pub fn start() -> Self {
-        Near { device: 0, unit: 0 }
-    }
-}
-
-/// The same as `find_device`, near where the last device was found.
-pub fn find_device_near<'a, A: Allocator>(
-    config: &'a Config<A>,
+/// The device whose record stands at a place of all records, if it is that of this number in this set.
+pub fn device_at<A: Allocator>(
+    config: &Config<A>,
+    place: usize,
     set: SetNo,
     device: DevNo,
-    near: &mut Near,
-) -> Option<&'a DeviceFields<A>>
-    ensures { option_map meaning.device_of (option_copied result) ≡ device_record (lookup_of config.entry.now.records) set device }
+) -> Option<&DeviceFields<A>>
+    ensures { IfSome result (λ fields. device_record (lookup_of config.now.records) set device ≡ Some (meaning.device_of fields.now)) }
 {
-    let mut at = near.device;
-    let entry = config.get_near(&Key::Device(set, device), &mut at);
-    near.device = at;
-    match entry?.body() {
-        RecordBody::Device(fields) => Some(fields),
-        _ => None,
+    let records = config.walk();
+    if place >= records.len() {
+        return None;
     }
-}
-
-/// The same as `find_paths`, near where the last unit was found.
-pub fn find_paths_near<'a, A: Allocator>(
-    config: &'a Config<A>,
-    unit: UnitNo,
-    near: &mut Near,
-) -> &'a [CssPath]
-    ensures { result.now ≡ all_paths (lookup_of config.entry.now.records (key.Unit unit)) }
-{
-    let mut at = near.unit;
-    let entry = config.get_near(&Key::Unit(unit), &mut at);
-    near.unit = at;
-    let Some(entry) = entry else {
-        return &[];
-    };
-    match entry.body() {
-        RecordBody::Unit(fields) => fields.paths.as_slice(),
-        _ => &[],
+    match records[place].body() {
+        RecordBody::Device(fields) if fields.set == set && fields.number == device => Some(fields),
+        _ => None,
     }
 }
 
@@ -91,11 +65,16 @@ pub fn find_image<A: Allocator>(config: &Config<A>, image: Image) -> Option<(Css
     }
 }
 
-/// The paths of a control unit in all channel subsystems; a unit that isn't there has none.
-pub fn find_paths<A: Allocator>(config: &Config<A>, unit: UnitNo) -> &[CssPath]
-    ensures { result.now ≡ all_paths (lookup_of config.now.records (key.Unit unit)) }
+/// The paths of a control unit in all channel subsystems; a unit that isn't there has none. It is looked for
+/// near a place first, which is then its place.
+pub fn find_paths<'a, A: Allocator>(
+    config: &'a Config<A>,
+    unit: UnitNo,
+    near: &mut usize,
+) -> &'a [CssPath]
+    ensures { result.now ≡ all_paths (lookup_of config.entry.now.records (key.Unit unit)) }
 {
-    let Some(entry) = config.get(&Key::Unit(unit)) else {
+    let Some(entry) = config.get_near(&Key::Unit(unit), near) else {
         return &[];
     };
     match entry.body() {
@@ -112,10 +91,16 @@ pub fn reaches_path<A: Allocator>(config: &Config<A>, css: Css, name: Name, path
         return false;
     };
     match entry.body() {
-        RecordBody::Path(fields) => has_name(fields.access.as_slice(), name)
-            || has_name(fields.candidates.as_slice(), name),
+        RecordBody::Path(fields) => lists_name(fields, name),
         _ => false,
     }
+}
+
+/// Whether a path has a name in its access or its candidate list.
+pub fn lists_name<A: Allocator>(fields: &PathFields<A>, name: Name) -> bool
+    ensures { result ≡ record_lists name (Some (path (meaning.path_of fields.now))) }
+{
+    has_name(fields.access.as_slice(), name) || has_name(fields.candidates.as_slice(), name)
 }
 
 /// Whether a path is online to the image of a name.

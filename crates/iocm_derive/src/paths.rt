@@ -3,7 +3,7 @@ ghost use Rattle.iocm_model.specs.Machine.Configuration.{lookup_of};
 ghost use Rattle.iocm_model.specs.Machine.PathList.{paths_in, unit_paths, view_paths};
 ghost use Rattle.iocm_derive.specs.Derived.{paths_at};
 
-use crate::lookup::{Near, find_device, find_paths_near};
+use crate::lookup::{find_device, find_paths};
 use iocm_config::Config;
 use iocm_types::{Css, CssPath, DevNo, Paths, SetNo, UnitNo};
 use std::alloc::Allocator;
@@ -14,31 +14,23 @@ pub fn path_list<A: Allocator>(config: &Config<A>, css: Css, set: SetNo, device:
     ensures { result ≡ paths_at (lookup_of config.now.records) css set device }
 {
     match find_device(config, set, device) {
-        Some(fields) => paths_of_units(config, css, fields.units.as_slice()),
+        Some(fields) => paths_of_units(config, css, fields.units.as_slice(), &mut 0),
         None => Paths::new(),
     }
 }
 
-/// The first eight paths of these units in a channel subsystem.
-pub fn paths_of_units<A: Allocator>(config: &Config<A>, css: Css, units: &[UnitNo]) -> Paths
-    ensures { result ≡ view_paths (lookup_of config.now.records) css units.now }
-{
-    let mut near = Near::start();
-    paths_of_units_near(config, css, units, &mut near)
-}
-
-/// The same as `paths_of_units`, near where the last unit was found.
-pub fn paths_of_units_near<A: Allocator>(
+/// The first eight paths of these units in a channel subsystem. The first unit is looked for near a place.
+pub fn paths_of_units<A: Allocator>(
     config: &Config<A>,
     css: Css,
     units: &[UnitNo],
-    near: &mut Near,
+    near: &mut usize,
 ) -> Paths
     ensures { result ≡ view_paths (lookup_of config.now.records) css units.now }
 {
     let mut paths = Paths::new();
     for unit in units {
-        add_paths(&mut paths, css, find_paths_near(config, *unit, near));
+        add_paths(&mut paths, css, find_paths(config, *unit, near));
     }
     paths
 }
@@ -67,4 +59,15 @@ fn add_path(paths: &mut Paths, css: Css, path: CssPath)
         return;
     }
     paths.push(path.path);
+}
+
+/// The same list once more.
+pub fn copy_paths(paths: &Paths) -> Paths
+    ensures { result ≡ paths.now }
+{
+    let mut copy = Paths::new();
+    for path in paths.as_slice() {
+        copy.push(*path);
+    }
+    copy
 }

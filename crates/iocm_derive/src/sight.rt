@@ -7,10 +7,11 @@ ghost use Rattle.iocm_model.specs.Machine.Sight as model;
 ghost use Rattle.iocm_records.specs.Meaning.{device_of};
 ghost use Rattle.iocm_derive.specs.Derived.{sees};
 
-use crate::lookup::{find_device, find_image, find_paths, reaches_path};
+use crate::lookup::{find_device, find_image, find_paths};
+use crate::reach::{ImageRecords, Reach};
 use iocm_config::Config;
 use iocm_records::DeviceFields;
-use iocm_types::{Css, CssPath, DevNo, Image, List, Name, SetNo, UnitNo};
+use iocm_types::{CssPath, DevNo, Image, List, Name, SetNo, UnitNo};
 use std::alloc::Allocator;
 
 /// Whether an image sees a device of a set: the device lists no candidates or the image among them, and the
@@ -22,22 +23,17 @@ pub fn sees<A: Allocator>(config: &Config<A>, image: Image, set: SetNo, device: 
         return false;
     };
     match find_device(config, set, device) {
-        Some(fields) => sees_device(config, css, name, fields),
+        Some(fields) => sees_device(&ImageRecords::new(config, css, name), fields),
         None => false,
     }
 }
 
-/// Whether the image of a name sees a device that is there.
-pub fn sees_device<A: Allocator>(
-    config: &Config<A>,
-    css: Css,
-    name: Name,
-    device: &DeviceFields<A>,
-) -> bool
-    ensures { result ≡ model.sees (lookup_of config.now.records) css name (device_of device.now) }
+/// Whether an image sees a device that is there.
+fn sees_device<A: Allocator, R: Reach<A>>(reach: &R, device: &DeviceFields<A>) -> bool
+    ensures { result ≡ model.sees (lookup_of (R.records reach.now)) (R.subsystem reach.now) (R.called reach.now) (device_of device.now) }
 {
-    is_candidate(device.candidates.as_ref(), name)
-        && reaches_units(config, css, name, device.units.as_slice())
+    is_candidate(device.candidates.as_ref(), reach.name())
+        && reaches_units(reach, device.units.as_slice(), &mut 0)
 }
 
 /// Whether no candidates are listed, or the name is among them.
@@ -57,24 +53,29 @@ pub fn has_name(names: &[Name], name: Name) -> bool
     names.iter().any(|other| name == *other)
 }
 
-/// Whether the image of a name reaches one of the paths of these units.
-fn reaches_units<A: Allocator>(config: &Config<A>, css: Css, name: Name, units: &[UnitNo]) -> bool
-    ensures { result ≡ list_any (model.reaches (lookup_of config.now.records) css name) (path_list (lookup_of config.now.records) css units.now) }
+/// Whether an image reaches one of the paths of these units. The first unit is looked for near a place.
+pub fn reaches_units<A: Allocator, R: Reach<A>>(
+    reach: &R,
+    units: &[UnitNo],
+    near: &mut usize,
+) -> bool
+    ensures { result ≡ list_any (model.reaches (lookup_of (R.records reach.now)) (R.subsystem reach.now) (R.called reach.now)) (path_list (lookup_of (R.records reach.now)) (R.subsystem reach.now) units.now) }
 {
     for unit in units {
-        if reaches_any(config, css, name, find_paths(config, *unit)) {
+        if reaches_any(reach, find_paths(reach.config(), *unit, near)) {
             return true;
         }
     }
     false
 }
 
-/// Whether the image of a name reaches one of these paths that are in its channel subsystem.
-fn reaches_any<A: Allocator>(config: &Config<A>, css: Css, name: Name, paths: &[CssPath]) -> bool
-    ensures { result ≡ list_any (model.reaches (lookup_of config.now.records) css name) (paths_in css paths.now) }
+/// Whether an image reaches one of these paths that are in its channel subsystem.
+fn reaches_any<A: Allocator, R: Reach<A>>(reach: &R, paths: &[CssPath]) -> bool
+    ensures { result ≡ list_any (model.reaches (lookup_of (R.records reach.now)) (R.subsystem reach.now) (R.called reach.now)) (paths_in (R.subsystem reach.now) paths.now) }
 {
+    let css = reach.css();
     for path in paths {
-        if path.css == css && reaches_path(config, css, name, path.path) {
+        if path.css == css && reach.reaches(path.path) {
             return true;
         }
     }

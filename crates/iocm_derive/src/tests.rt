@@ -1,4 +1,4 @@
-use crate::{ImageSight, Near, image_view, opening, path_list, sees, view_at};
+use crate::{ImageSight, image_view, opening, path_list, sees, view_at};
 use iocm_config::Config;
 use iocm_records::{DeviceFields, PathFields, Record, RecordBody, UnitFields};
 use iocm_types::{
@@ -84,9 +84,8 @@ fn small_configuration(alloc: Global) -> Result<Option<Config>, AllocError> {
 
 // The same view by the image's tables.
 fn sighted(config: &Config, image: Image, name: Name, set: SetNo) -> Option<View> {
-    let sight = ImageSight::new(config, image, name);
-    let mut near = Near::start();
-    sight.view(set, DevNo::new(0x1000), &mut near)
+    let mut sight = ImageSight::new(config, image, name);
+    sight.view(set, DevNo::new(0x1000))
 }
 
 #[test]

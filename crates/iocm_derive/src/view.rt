@@ -1,12 +1,12 @@
 ghost use Rattle.std.specs.Prelude.{◌≡◌};
+ghost use Rattle.std.specs.Option.{option_and_then};
 ghost use Rattle.iocm_model.specs.Machine.Configuration.{lookup_of};
 ghost use Rattle.iocm_model.specs.Machine.View as model;
 ghost use Rattle.iocm_records.specs.Meaning.{device_of};
 
 use crate::lookup::{find_device, find_image};
-use crate::masks::{pam, pim};
-use crate::paths::paths_of_units;
-use crate::sight::sees_device;
+use crate::reach::{ImageRecords, Reach};
+use crate::units_view::{units_view, view_by};
 use iocm_config::Config;
 use iocm_numbers::Numbers;
 use iocm_records::DeviceFields;
@@ -29,8 +29,7 @@ pub fn view_at<A: Allocator, B: Allocator>(
         number: subchannel.number,
     };
     let device = numbers.device_at(cell)?;
-    let fields = find_device(config, subchannel.set, device)?;
-    view_if_seen(config, css, name, fields)
+    named_view(config, css, name, subchannel.set, device)
 }
 
 /// What an image of this name sees of the device of a number in a set, if it is there and seen.
@@ -43,27 +42,27 @@ pub fn image_view<A: Allocator>(
 ) -> Option<View>
     ensures { result ≡ model.image_view (lookup_of config.now.records) (record { css = image.css; mif = image.mif; name = name }) set device }
 {
-    let fields = find_device(config, set, device)?;
-    view_if_seen(config, image.css, name, fields)
+    named_view(config, image.css, name, set, device)
 }
 
-/// The view of a device, if the image of the name sees it.
-fn view_if_seen<A: Allocator>(
+/// What the image of a name in a channel subsystem sees of the device of a number in a set.
+fn named_view<A: Allocator>(
     config: &Config<A>,
     css: Css,
     name: Name,
-    device: &DeviceFields<A>,
+    set: SetNo,
+    device: DevNo,
 ) -> Option<View>
-    ensures { result ≡ model.view_if_seen (lookup_of config.now.records) css name (device_of device.now) }
+    ensures { result ≡ option_and_then (model.view_if_seen (lookup_of config.now.records) css name) (model.device_record (lookup_of config.now.records) set device) }
 {
-    if !sees_device(config, css, name, device) {
-        return None;
-    }
-    let paths = paths_of_units(config, css, device.units.as_slice());
-    Some(View {
-        device: device.number,
-        pim: pim(config, css, name, &paths),
-        pam: pam(config, css, name, &paths),
-        paths,
-    })
+    let fields = find_device(config, set, device)?;
+    view_if_seen(&ImageRecords::new(config, css, name), fields)
+}
+
+/// The view of a device, if the image sees it.
+fn view_if_seen<A: Allocator, R: Reach<A>>(reach: &R, device: &DeviceFields<A>) -> Option<View>
+    ensures { result ≡ model.view_if_seen (lookup_of (R.records reach.now)) (R.subsystem reach.now) (R.called reach.now) (device_of device.now) }
+{
+    let by = units_view(reach, device.units.as_slice(), &mut 0);
+    view_by(reach, &by, device)
 }

@@ -1,3 +1,4 @@
+-- The lines of the cells so far are written.
 use Rattle.std.proofs.Common.{take, ◌≡◌}
 use Rattle.iocm_model.specs.Machine.Configuration.{lookup_of}
 use Rattle.iocm_numbers.specs.Numbered.{celled}
@@ -6,6 +7,9 @@ use Rattle.iocm_console.specs.Output.{has_failed, Prints}
 use Rattle.iocm_console.proofs.table.write_cells.Given as goal
 
 abbrev pub invariant-loop-place : goal.invariant-loop-place
-invariant-loop-place g l =
-    Prints g.W.Write.contents l.initial.output l.output (image_lines (lookup_of l.sight.records) l.sight.image (celled (take l.place-index l.cells)))
-    × (has_failed l.output ≡ has_failed l.initial.output)
+invariant-loop-place g l = record {
+  text : Prints g.W.Write.contents l.initial.output l.output
+      (image_lines (lookup_of l.initial.sight.records) l.initial.sight.image (celled (take l.place-index l.cells)));
+  works : has_failed l.output ≡ has_failed l.initial.output;
+  same : l.sight ≡ l.initial.sight;
+}

@@ -1,0 +1,74 @@
+ghost use Rattle.std.specs.Prelude.{◌≡◌, ◌↔◌, IsTrue};
+ghost use Rattle.iocm_model.specs.Machine.Configuration.{lookup_of};
+ghost use Rattle.iocm_model.specs.Machine.View as model;
+ghost use Rattle.iocm_records.specs.Meaning.{device_of};
+ghost use Rattle.iocm_derive.specs.Sighted.{IsSeenBy};
+
+use crate::masks::{available_paths, installed_paths};
+use crate::paths::{copy_paths, paths_of_units};
+use crate::reach::Reach;
+use crate::sight::{is_candidate, reaches_units};
+use iocm_records::DeviceFields;
+use iocm_types::{Mask, Paths, UnitNo, View};
+use std::alloc::Allocator;
+
+/// What an image sees of each device on these control units: whether it reaches a path to them, the first
+/// eight paths, and their masks.
+#[derive(Drop)]
+pub struct UnitsView<'a> {
+    pub units: &'a [UnitNo],
+    pub is_reached: bool,
+    pub paths: Paths,
+    pub pim: Mask,
+    pub pam: Mask,
+}
+
+/// What an image sees by these units. The first one is looked for near a place.
+pub fn units_view<'a, A: Allocator, R: Reach<A>>(
+    reach: &R,
+    units: &'a [UnitNo],
+    near: &mut usize,
+) -> UnitsView<'a>
+    ensures units { result.units.now ≡ units.entry.now }
+    ensures seen { IsSeenBy (lookup_of (R.records reach.now)) (R.subsystem reach.now) (R.called reach.now) result }
+{
+    let paths = paths_of_units(reach.config(), reach.css(), units, near);
+    UnitsView {
+        units,
+        is_reached: reaches_units(reach, units, near),
+        pim: installed_paths(reach, &paths),
+        pam: available_paths(reach, &paths),
+        paths,
+    }
+}
+
+/// Whether these are the same units.
+pub fn are_same(units: &[UnitNo], others: &[UnitNo]) -> bool
+    ensures { IsTrue result ↔ (units.now ≡ others.now) }
+{
+    units == others
+}
+
+/// The view of a device by its units, if the image sees it.
+pub fn view_by<A: Allocator, R: Reach<A>>(
+    reach: &R,
+    by: &UnitsView,
+    device: &DeviceFields<A>,
+) -> Option<View>
+    requires units { by.now.units.now ≡ device.now.units }
+    requires seen { IsSeenBy (lookup_of (R.records reach.now)) (R.subsystem reach.now) (R.called reach.now) by.now }
+    ensures { result ≡ model.view_if_seen (lookup_of (R.records reach.now)) (R.subsystem reach.now) (R.called reach.now) (device_of device.now) }
+{
+    if !is_candidate(device.candidates.as_ref(), reach.name()) {
+        return None;
+    }
+    if !by.is_reached {
+        return None;
+    }
+    Some(View {
+        device: device.number,
+        paths: copy_paths(&by.paths),
+        pim: by.pim,
+        pam: by.pam,
+    })
+}
