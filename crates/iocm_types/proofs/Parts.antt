@@ -2,17 +2,14 @@
 use Rattle.std.proofs.Common.{◌≡◌, ℕ, Bool, true, false, cond, nat_eq, eqb-true, List, [], ◌∷◌, ◌++◌, Option, Some, None, refl, sym, ap, ◌∙◌, ◌||◌}
 use Rattle.std.proofs.lemmas.Bool.{eqb-false, or_parts}
 use Rattle.std.specs.List.{flat_map, list_any}
+use Rattle.std.specs.Option.{option_or}
 use Rattle.std.specs.Ordering.{is_eq, eq_by_cmp}
 use Rattle.std.specs.declared.cmp.Ordering.{Ordering}
 use Rattle.std.specs.declared.cmp.Ordering.TheVariants.{Less, Equal, Greater}
 use Rattle.std.specs.FinMap.{IsAntisymmetric, find}
 
--- the first of two answers that is there
-abbrev pub or_else : {A : Type 0} → Option A → Option A → Option A
-or_else None b = b
-or_else (Some x) b = Some x
-
-pub or_none : {A : Type 0} (a : Option A) → or_else a None ≡ a
+-- an answer, or else none
+pub or_none : {A : Type 0} (a : Option A) → option_or a None ≡ a
 or_none None = refl
 or_none (Some x) = refl
 
@@ -31,18 +28,18 @@ AreDistinct [] = Unit {0}
 AreDistinct (i ∷ is) = (list_any (nat_eq i) is ≡ false) × AreDistinct is
 
 module _ {K X : Type 0} (R : K → K → Ordering) where
-  found_by : (b : Bool) (x : X) (a c : Option X) → cond b (Some x) (or_else a c) ≡ or_else (cond b (Some x) a) c
+  found_by : (b : Bool) (x : X) (a c : Option X) → cond b (Some x) (option_or a c) ≡ option_or (cond b (Some x) a) c
   found_by true x a c = refl
   found_by false x a c = refl
 
-  pub find_append : (q : K) (xs ys : List (K × X)) → find R q (xs ++ ys) ≡ or_else (find R q xs) (find R q ys)
+  pub find_append : (q : K) (xs ys : List (K × X)) → find R q (xs ++ ys) ≡ option_or (find R q xs) (find R q ys)
   find_append q [] ys = refl
   find_append q (e ∷ xs) ys = ap (cond (eq_by_cmp R q e.0) (Some e.1)) (find_append q xs ys) ∙ found_by (eq_by_cmp R q e.0) e.1 (find R q xs) (find R q ys)
 
   -- what is in no part isn't found
   pub find_nowhere : (q : K) (part : ℕ → List (K × X)) → ((y : ℕ) → find R q (part y) ≡ None) → (xs : List ℕ) → find R q (flat_map part xs) ≡ None
   find_nowhere q part none [] = refl
-  find_nowhere q part none (y ∷ xs) = find_append q (part y) (flat_map part xs) ∙ (λ i. or_else (none y i) (find_nowhere q part none xs i))
+  find_nowhere q part none (y ∷ xs) = find_append q (part y) (flat_map part xs) ∙ (λ i. option_or (none y i) (find_nowhere q part none xs i))
 
   module _ (q : K) (part : ℕ → List (K × X)) (x : ℕ) (alone : (y : ℕ) → (y ≡ x → ⊥) → find R q (part y) ≡ None) where
     -- where its number isn't in the list, it isn't found
@@ -50,7 +47,7 @@ module _ {K X : Type 0} (R : K → K → Ordering) where
     none_in [] h = refl
     none_in (y ∷ xs) h =
         let apart = or_parts _ _ h in
-        find_append q (part y) (flat_map part xs) ∙ (λ i. or_else (alone y (λ e. eqb-false x y apart.0 (sym e)) i) (none_in xs apart.1 i))
+        find_append q (part y) (flat_map part xs) ∙ (λ i. option_or (alone y (λ e. eqb-false x y apart.0 (sym e)) i) (none_in xs apart.1 i))
 
     -- where it is found, its number is in the list
     pub part_there : (xs : List ℕ) (v : X) → find R q (flat_map part xs) ≡ Some v → list_any (nat_eq x) xs ≡ true
@@ -67,21 +64,21 @@ module _ {K X : Type 0} (R : K → K → Ordering) where
       where
         by : (b : Bool) → nat_eq x y ≡ b → (b || list_any (nat_eq x) xs) ≡ true
             → (list_any (nat_eq x) xs ≡ true → find R q (flat_map part xs) ≡ find R q (part x))
-            → or_else (find R q (part y)) (find R q (flat_map part xs)) ≡ find R q (part x)
+            → option_or (find R q (part y)) (find R q (flat_map part xs)) ≡ find R q (part x)
         by true e h more =
             let same : y ≡ x = sym (eqb-true x y e) in
-            (λ i. or_else (find R q (part (same i))) (none_in xs (ap (λ k. list_any (nat_eq k) xs) (sym same) ∙ distinct.0) i)) ∙ or_none (find R q (part x))
-        by false e h more = (λ i. or_else (alone y (λ k. eqb-false x y e (sym k)) i) (more h i))
+            (λ i. option_or (find R q (part (same i))) (none_in xs (ap (λ k. list_any (nat_eq k) xs) (sym same) ∙ distinct.0) i)) ∙ or_none (find R q (part x))
+        by false e h more = (λ i. option_or (alone y (λ k. eqb-false x y e (sym k)) i) (more h i))
 
     from_by : (y : ℕ) (v : X) (b : Bool) (rest : Option X) → nat_eq y x ≡ b → (rest ≡ Some v → find R q (part x) ≡ Some v)
-        → or_else (find R q (part y)) rest ≡ Some v → find R q (part x) ≡ Some v
+        → option_or (find R q (part y)) rest ≡ Some v → find R q (part x) ≡ Some v
     from_by y v true rest same more is = here (find R q (part y)) refl is
       where
-        here : (a : Option X) → find R q (part y) ≡ a → or_else a rest ≡ Some v → find R q (part x) ≡ Some v
+        here : (a : Option X) → find R q (part y) ≡ a → option_or a rest ≡ Some v → find R q (part x) ≡ Some v
         here None e k = more k
         here (Some w) e k = ap (λ z. find R q (part z)) (sym (eqb-true y x same)) ∙ e ∙ k
     from_by y v false rest other more is =
-        more (sym (ap (λ a. or_else a rest) (alone y (eqb-false y x other))) ∙ is)
+        more (sym (ap (λ a. option_or a rest) (alone y (eqb-false y x other))) ∙ is)
 
     -- what is found is found in its part
     pub found_in_part : (xs : List ℕ) (v : X) → find R q (flat_map part xs) ≡ Some v → find R q (part x) ≡ Some v

@@ -2,7 +2,7 @@
 use Rattle.std.proofs.Common.{◌≡◌, ℕ, Bool, true, false, cond, ◌&&◌, nat_eq, eqb-true, List, [], ◌∷◌, ◌++◌, Option, Some, None, T, refl, sym, ap, subst, ◌∙◌}
 use Rattle.std.proofs.lemmas.Bool.{eqb-false}
 use Rattle.std.specs.List.{filter, filter_map, flat_map, cons_option}
-use Rattle.std.specs.Option.{option_map, option_and_then}
+use Rattle.std.specs.Option.{option_map, option_and_then, option_or}
 use Rattle.std.specs.Ordering.{nat_cmp, is_eq, is_lt, eq_by_cmp, ordering_then}
 use Rattle.std.specs.declared.cmp.Ordering.{Ordering}
 use Rattle.std.specs.declared.cmp.Ordering.TheVariants.{Less, Equal, Greater}
@@ -19,7 +19,7 @@ use Rattle.iocm_types.specs.Key.{key_cmp}
 use Rattle.iocm_types.specs.Place.{cell_cmp}
 use Rattle.iocm_types.specs.SubId.{sub_id_cmp, image_cmp}
 use Rattle.iocm_types.specs.KeyOrder.{keys_total, keys_exact, cells_exact, sub_ids_exact}
-use Rattle.iocm_types.proofs.Parts.{or_else, or_none, untied, find_append}
+use Rattle.iocm_types.proofs.Parts.{or_none, untied, find_append}
 use Rattle.iocm_types.proofs.Tests.{first_holds, second_holds, both_hold}
 use Rattle.iocm_types.proofs.Orderings.{ties}
 use Rattle.iocm_types.proofs.Entries.{not_found, below_rest}
@@ -166,13 +166,13 @@ module _ (c : Lookup) where
   same false x = refl
 
   find_row : (s k : SubId) (o : Option View) (rest : List (SubId × View))
-      → find sub_id_cmp s (cons_option (option_map (λ (v : View). (k, v)) o) rest) ≡ cond (eq_by_cmp sub_id_cmp s k) (or_else o (find sub_id_cmp s rest)) (find sub_id_cmp s rest)
+      → find sub_id_cmp s (cons_option (option_map (λ (v : View). (k, v)) o) rest) ≡ cond (eq_by_cmp sub_id_cmp s k) (option_or o (find sub_id_cmp s rest)) (find sub_id_cmp s rest)
   find_row s k None rest = sym (same (eq_by_cmp sub_id_cmp s k) (find sub_id_cmp s rest))
   find_row s k (Some v) rest = refl
 
   seen_by : (t : Bool) (o r : Option View) (g : ℕ → Option View) (x : ℕ) (f : Option ℕ) → r ≡ option_and_then g f → (t ≡ true → g x ≡ o) → (t ≡ true → f ≡ None)
-      → cond t (or_else o r) r ≡ option_and_then g (cond t (Some x) f)
-  seen_by true o r g x f is here none = ap (or_else o) (is ∙ ap (option_and_then g) (none refl)) ∙ or_none o ∙ sym (here refl)
+      → cond t (option_or o r) r ≡ option_and_then g (cond t (Some x) f)
+  seen_by true o r g x f is here none = ap (option_or o) (is ∙ ap (option_and_then g) (none refl)) ∙ or_none o ∙ sym (here refl)
   seen_by false o r g x f is here none = is
 
   found_by : (i : ImageRecord) (set number : ℕ) (e : NumberCell × ℕ) (es : List (NumberCell × ℕ)) (fs : List (NumberCell × ℕ)) (b : Bool) → nat_eq e.0.css i.css ≡ b
@@ -187,7 +187,7 @@ module _ (c : Lookup) where
       ties_after (image_cmp (whose i) (whose i)) (ordering_then (nat_cmp set e.0.set) (nat_cmp number e.0.number)) (nat_cmp i.css e.0.css)
       (image_tie (whose i)) (ties i.css e.0.css (sym (eqb-true e.0.css i.css its))) in
       find_row (sub i q) (sub i e.0) (image_view c i e.0.set e.1) (filter_map (row_at c i) fs)
-      ∙ ap (λ t. cond t (or_else (image_view c i e.0.set e.1) (find sub_id_cmp (sub i q) (filter_map (row_at c i) fs))) (find sub_id_cmp (sub i q) (filter_map (row_at c i) fs))) ties
+      ∙ ap (λ t. cond t (option_or (image_view c i e.0.set e.1) (find sub_id_cmp (sub i q) (filter_map (row_at c i) fs))) (find sub_id_cmp (sub i q) (filter_map (row_at c i) fs))) ties
       ∙ seen_by (eq_by_cmp cell_cmp q e.0) (image_view c i e.0.set e.1) (find sub_id_cmp (sub i q) (filter_map (row_at c i) fs)) (image_view c i set) e.1 (find cell_cmp q es) more
       (λ t. ap (λ (a : NumberCell). image_view c i a.set e.1) (cells_exact q e.0 ((Equal-is _).0 t)))
       (λ t. ap (λ (a : NumberCell). find cell_cmp a es) (cells_exact q e.0 ((Equal-is _).0 t)) ∙ not_found cell_cmp e.0 es below)
@@ -209,7 +209,7 @@ module _ (c : Lookup) where
   no_by i s e fs true other none =
       let apart : eq_by_cmp sub_id_cmp s (sub i e.0) ≡ false = untied sub_id_cmp sub_ids_exact s (sub i e.0) (λ is. other (ap (λ (t : SubId). t.image) is)) in
       find_row s (sub i e.0) (image_view c i e.0.set e.1) (filter_map (row_at c i) fs)
-      ∙ ap (λ t. cond t (or_else (image_view c i e.0.set e.1) (find sub_id_cmp s (filter_map (row_at c i) fs))) (find sub_id_cmp s (filter_map (row_at c i) fs))) apart ∙ none
+      ∙ ap (λ t. cond t (option_or (image_view c i e.0.set e.1) (find sub_id_cmp s (filter_map (row_at c i) fs))) (find sub_id_cmp s (filter_map (row_at c i) fs))) apart ∙ none
   no_by i s e fs false other none = none
 
   -- no row of the image is another image's
@@ -227,18 +227,18 @@ module _ (c : Lookup) where
   image_by : (es : List (NumberCell × ℕ)) (s : SubId) (i : ImageRecord) (rs : List Rec) (b : Bool) → eq_by_cmp key_cmp (Image s.image.css s.image.mif) (Image i.css i.mif) ≡ b
       → T (is_sorted cell_cmp es) → T (below_all key_cmp (Image i.css i.mif) (with_keys rs))
       → find sub_id_cmp s (table es rs) ≡ seen es s (find key_cmp (Image s.image.css s.image.mif) (with_keys rs))
-      → or_else (find sub_id_cmp s (rows i es)) (find sub_id_cmp s (table es rs)) ≡ seen es s (cond b (Some (image i)) (find key_cmp (Image s.image.css s.image.mif) (with_keys rs)))
+      → option_or (find sub_id_cmp s (rows i es)) (find sub_id_cmp s (table es rs)) ≡ seen es s (cond b (Some (image i)) (find key_cmp (Image s.image.css s.image.mif) (with_keys rs)))
   image_by es s i rs true e up below more =
       let keys : Image s.image.css s.image.mif ≡ Image i.css i.mif = keys_exact _ _ ((Equal-is _).0 e) in
       let css : s.image.css ≡ i.css = cc in
       let mif : s.image.mif ≡ i.mif = cc in
       let at : s ≡ sub i (record { css = i.css; set = s.set; number = s.number }) = λ j. record { image = record { css = css j; mif = mif j }; set = s.set; number = s.number } in
       let none : find sub_id_cmp s (table es rs) ≡ None = more ∙ ap (seen es s) (ap (λ (q : Key). find key_cmp q (with_keys rs)) keys ∙ not_found key_cmp (Image i.css i.mif) (with_keys rs) below) in
-      ap (or_else (find sub_id_cmp s (rows i es))) none ∙ or_none (find sub_id_cmp s (rows i es))
+      ap (option_or (find sub_id_cmp s (rows i es))) none ∙ or_none (find sub_id_cmp s (rows i es))
       ∙ ap (λ (t : SubId). find sub_id_cmp t (rows i es)) at ∙ found_rows i s.set s.number es up
       ∙ ap (λ k. option_and_then (image_view c i s.set) (find cell_cmp (record { css = k; set = s.set; number = s.number }) es)) (sym css)
   image_by es s i rs false e up below more =
-      ap (λ a. or_else a (find sub_id_cmp s (table es rs))) (no_rows i s es (λ is.
+      ap (λ a. option_or a (find sub_id_cmp s (table es rs))) (no_rows i s es (λ is.
       let tie : eq_by_cmp key_cmp (Image s.image.css s.image.mif) (Image i.css i.mif) ≡ true =
       ap (λ (m : images.Image). eq_by_cmp key_cmp (Image m.css m.mif) (Image i.css i.mif)) is ∙ ap is_eq (tied_itself keys_total (Image i.css i.mif)) in
       let no : true ≡ false = sym tie ∙ e in cc))

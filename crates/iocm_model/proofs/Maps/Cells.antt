@@ -1,14 +1,14 @@
 -- Finite maps of which cells are overwritten: what they have at a key.
 use Rattle.std.proofs.Common.{◌≡◌, Bool, true, false, cond, not, ◌&&◌, ◌||◌, List, [], ◌∷◌, ◌++◌, map, Option, Some, None, T, refl, sym, ap, subst, ◌∙◌}
 use Rattle.std.specs.List.{filter, filter_map, cons_option, list_any}
-use Rattle.std.specs.Option.{option_map, option_and_then, option_eq, unwrap_or, is_some}
+use Rattle.std.specs.Option.{option_map, option_and_then, option_eq, unwrap_or, is_some, option_or}
 use Rattle.std.specs.Ordering.{eq_by_cmp}
 use Rattle.std.specs.declared.cmp.Ordering.{Ordering}
 use Rattle.std.specs.Cmp.{IsTotalOrder}
 use Rattle.std.specs.FinMap.{FinMap, IsAntisymmetric, find, is_sorted, get, entries, entries_sorted, keys, from_entries, retain_keys, get-insert, get-remove, get-from_entries, get-entries, get-retain_keys, contains_key-keys}
 use Rattle.std.specs.FinMap.Entries.{below_all}
 use Rattle.iocm_types.proofs.Found.{same_key}
-use Rattle.iocm_types.proofs.Parts.{or_else, find_append}
+use Rattle.iocm_types.proofs.Parts.{find_append}
 use Rattle.iocm_types.proofs.Tests.{first_holds, second_holds}
 use Rattle.iocm_types.proofs.Entries.{not_found}
 use Rattle.iocm_model.specs.Change.Maps.{with_value, with_cells, cells_at, differing}
@@ -26,7 +26,7 @@ joined : {A : Type 0} (b c : Bool) (x : A) → cond b (Some x) (cond c (Some x) 
 joined true c x = refl
 joined false c x = refl
 
-either_there : {A : Type 0} (a b : Option A) (same : A → A → Bool) → (is_some (or_else a b) && not (option_eq same a b)) ≡ not (option_eq same a b)
+either_there : {A : Type 0} (a b : Option A) (same : A → A → Bool) → (is_some (option_or a b) && not (option_eq same a b)) ≡ not (option_eq same a b)
 either_there None None same = refl
 either_there None (Some y) same = refl
 either_there (Some x) None same = refl
@@ -88,10 +88,10 @@ module _ {K X : Type 0} {R : K → K → Ordering} (total : IsTotalOrder R) (exa
   get_with_cells_as n ks m q = get_with_cells (entries (cells_at n ks)) m q ∙ ap (λ o. unwrap_or o (get m q)) (sym (get-entries (cells_at n ks) q) ∙ get_cells_at n ks q)
       ∙ unwrap_cond (list_any (eq_by_cmp R q) ks) (get n q) (get m q)
 
-  there_in_both : (m n : FinMap R X) (q : K) → list_any (eq_by_cmp R q) (keys (from_entries {R = R} (entries m ++ entries n))) ≡ is_some (or_else (get m q) (get n q))
+  there_in_both : (m n : FinMap R X) (q : K) → list_any (eq_by_cmp R q) (keys (from_entries {R = R} (entries m ++ entries n))) ≡ is_some (option_or (get m q) (get n q))
   there_in_both m n q = sym (contains_key-keys (from_entries {R = R} (entries m ++ entries n)) q)
       ∙ ap is_some (get-from_entries total (entries m ++ entries n) q ∙ find_append R q (entries m) (entries n)
-      ∙ (λ i. or_else (sym (get-entries m q) i) (sym (get-entries n q) i)))
+      ∙ (λ i. option_or (sym (get-entries m q) i) (sym (get-entries n q) i)))
 
   -- a key stands among those at which two maps differ exactly where they differ
   pub in_differing : (same : X → X → Bool) (m n : FinMap R X) (q : K)
