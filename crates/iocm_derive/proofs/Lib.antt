@@ -3,4 +3,5 @@ pub mod Joined
 pub mod Noted
 pub mod OneByOne
 pub mod SetBySet
+pub mod Untied
 pub mod Walked

@@ -6,9 +6,9 @@ use Rattle.std.specs.Ordering.{eq_by_cmp, is_eq}
 use Rattle.std.proofs.Math.ListN.{drop_of_length-le}
 use Rattle.std.proofs.lemmas.List.{get_or-replicate}
 use Rattle.std.specs.Cmp.{tied_itself}
-use Rattle.std.specs.declared.cmp.Ordering.{Ordering}
-use Rattle.std.specs.declared.cmp.Ordering.TheVariants.{Less, Equal, Greater}
+use Rattle.std.specs.declared.cmp.Ordering.TheVariants.{Equal}
 use Rattle.std.specs.FinMap.{get, find, entries, get-entries}
+use Rattle.iocm_types.proofs.Lists.{drop-item}
 use Rattle.iocm_types.specs.declared.key.Key.{Key}
 use Rattle.iocm_types.specs.declared.key.Key.TheVariants.{Online}
 use Rattle.iocm_types.specs.Key.{key_cmp}
@@ -16,7 +16,7 @@ use Rattle.iocm_types.specs.KeyOrder.{keys_total, keys_exact}
 use Rattle.iocm_model.specs.Machine.Record.{Rec, key_of}
 use Rattle.iocm_model.specs.Machine.Configuration.{Configuration, with_keys}
 use Rattle.iocm_derive.specs.PathTables.{IsTableOf, IsNoted, noted}
-use Rattle.iocm_derive.proofs.Joined.{opened}
+use Rattle.iocm_derive.proofs.Untied.{untied_by}
 
 -- what some records say of the path of a number
 abbrev pub said : (ℕ → Key) → (Option Rec → Bool) → List Rec → ℕ → Bool
@@ -32,7 +32,7 @@ pub table_more : (key : ℕ → Key) (says : Option Rec → Bool) (rs : List Rec
     → IsTableOf (said key says (drop (i + 1) rs)) old → IsNoted key says r old new → IsTableOf (said key says (drop i rs)) new
 table_more key says rs i r old new within item so_far here number small =
     here number small ∙ ap (noted key says r number) (so_far number small) ∙ sym (said_more key says r (drop (i + 1) rs) number)
-    ∙ sym (ap (λ (xs : List Rec). said key says xs number) (opened rs i r within item))
+    ∙ sym (ap (λ (xs : List Rec). said key says xs number) (drop-item rs i r within item))
 
 -- all records are noted
 pub table_whole : (key : ℕ → Key) (says : Option Rec → Bool) (m : Configuration) (rs : List Rec) (table : List Bool) → with_keys rs ≡ entries m
@@ -42,12 +42,7 @@ table_whole key says m rs table all right number small =
 
 -- a record under another key says nothing
 pub untied : (p q : Key) → (p ≡ q → ⊥) → eq_by_cmp key_cmp p q ≡ false
-untied p q other = go (key_cmp p q) refl
-  where
-    go : (r : Ordering) → key_cmp p q ≡ r → is_eq r ≡ false
-    go Less e = refl
-    go Equal e = absurd (other (keys_exact p q e))
-    go Greater e = refl
+untied p q other = untied_by key_cmp keys_exact p q (key_cmp p q) refl other
 
 pub tied : (p q : Key) → p ≡ q → eq_by_cmp key_cmp p q ≡ true
 tied p q same = ap is_eq (subst (λ k. key_cmp p k ≡ Equal) same (tied_itself keys_total p))

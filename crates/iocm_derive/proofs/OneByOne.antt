@@ -2,12 +2,14 @@
 use Rattle.std.proofs.Common.{◌≡◌, ℕ, suc, zero, ◌+◌, ◌<◌, ◌≤◌, Bool, true, false, cond, ◌&&◌, nat_eq, List, [], ◌∷◌, ◌++◌, map, length, get_or, drop, Some, None, T, refl, sym, ap, subst, ◌∙◌, arith, append_assoc, add-zero, eqb-true}
 use Rattle.std.proofs.lemmas.List.{append-nil}
 use Rattle.std.proofs.Math.ListN.{drop_of_length-le}
-use Rattle.std.specs.Ordering.{nat_cmp, is_eq, is_lt, ordering_then}
+use Rattle.std.specs.Ordering.{nat_cmp, is_lt, ordering_then}
 use Rattle.std.specs.declared.cmp.Ordering.{Ordering}
 use Rattle.std.specs.declared.cmp.Ordering.TheVariants.{Less, Equal, Greater}
 use Rattle.std.specs.Cmp.{IsTotalOrder, nat_cmp_total, tied_itself, ranked}
 use Rattle.std.specs.FinMap.{FinMap, IsAntisymmetric, find, get, insert, entries, from_entries, is_sorted, entries_sorted, get-insert, get-from_entries, from_entries_push}
 use Rattle.std.specs.FinMap.Entries.{below_all}
+use Rattle.iocm_types.proofs.Lists.{drop-item}
+use Rattle.iocm_types.proofs.Tests.{first_holds, second_holds}
 use Rattle.iocm_types.specs.declared.key.Key.{Key}
 use Rattle.iocm_types.specs.declared.key.Key.TheVariants.{Device}
 use Rattle.iocm_types.specs.declared.place.Place.{Place}
@@ -20,14 +22,9 @@ use Rattle.iocm_model.specs.Machine.Configuration.{Lookup, Configuration, with_k
 use Rattle.iocm_model.specs.Machine.Numbering.{Numbering, is_reached, device_at, numbers_from}
 use Rattle.iocm_numbers.proofs.Tables.{cells_insert}
 use Rattle.iocm_derive.specs.FirstNumbers.{place_at, cell_of, reached_of, reached_among, numbered_on, IsMore, IsUnnumbered, IsNewAt, AreNew, AreFree}
-use Rattle.iocm_derive.proofs.Joined.{opened}
+use Rattle.iocm_derive.proofs.Untied.{untied_by}
 
 -- ---- what an insert leaves as it was
-
-untied_by : {K : Type 0} (R : K → K → Ordering) → IsAntisymmetric R → (x y : K) (r : Ordering) → R x y ≡ r → (x ≡ y → ⊥) → is_eq r ≡ false
-untied_by R exact x y Less e other = refl
-untied_by R exact x y Equal e other = absurd (other (exact x y e))
-untied_by R exact x y Greater e other = refl
 
 get_other : {K X : Type 0} {R : K → K → Ordering} → IsTotalOrder R → IsAntisymmetric R → (m : FinMap R X) (p q : K) (x : X) → (q ≡ p → ⊥) → get m q ≡ None → get (insert m p x) q ≡ None
 get_other {R = R} o exact m p q x other none =
@@ -76,20 +73,12 @@ reached_cons c css set (unit x) rs = refl
 reached_cons c css set (device d) rs = reached_by c css set d _ (nat_eq d.set set && is_reached c css d)
 reached_cons c css set (online x) rs = refl
 
-first_holds : (a b : Bool) → (a && b) ≡ true → a ≡ true
-first_holds true b e = refl
-first_holds false b e = e
+first_true : (a b : Bool) → (a && b) ≡ true → a ≡ true
+first_true true b e = refl
+first_true false b e = e
 
 of_set : (c : Lookup) (css set : ℕ) (d : DeviceRecord) → (nat_eq d.set set && is_reached c css d) ≡ true → d.set ≡ set
-of_set c css set d e = eqb-true d.set set (first_holds _ _ e)
-
-left : (a b : Bool) → T (a && b) → T a
-left true b h = tt
-left false b h = h
-
-right : (a b : Bool) → T (a && b) → T b
-right true b h = h
-right false b h = absurd h
+of_set c css set d e = eqb-true d.set set (first_true _ _ e)
 
 less_by : (r q : Ordering) → r ≡ Equal → T (is_lt (ordering_then r (ordering_then q Equal))) → q ≡ Less
 less_by Less q e h = cc
@@ -126,7 +115,7 @@ module _ (m : Numbering) (css set n : ℕ) where
       → AreNew m css set n rs → AreNew (insert m (place_at css set d.number) n) css set (n + 1) rs
   new_after d [] below same low were = tt
   new_after d (r ∷ rs) below same low were =
-      (new_after_at d r (left _ _ below) same low were.0, new_after d rs (right _ _ below) same low were.1)
+      (new_after_at d r (first_holds _ _ below) same low were.0, new_after d rs (second_holds _ _ below) same low were.1)
 
   device_more : (d : DeviceRecord) (b : Bool) → (b ≡ true → d.set ≡ set) → IsNewAt m css set n (device d)
       → IsMore m (numbers_from css set n (cond b (d.number ∷ []) [])) (numbered_on m (numbers_from css set n (cond b (d.number ∷ []) [])))
@@ -222,19 +211,19 @@ start_new m css set un (online x ∷ rs) = (tt, start_new m css set un rs)
 -- the first of the records that are left is new
 pub next_new : (m : Numbering) (css set n : ℕ) (xs : List Rec) (i : ℕ) (x : Rec) → i < length xs → x ≡ get_or xs i x → AreNew m css set n (drop i xs)
     → AreNew m css set n (x ∷ drop (i + 1) xs)
-next_new m css set n xs i x within item are = subst (λ (rs : List Rec). AreNew m css set n rs) (opened xs i x within item) are
+next_new m css set n xs i x within item are = subst (λ (rs : List Rec). AreNew m css set n rs) (drop-item xs i x within item) are
 
 rising_drop : (xs : List Rec) (i : ℕ) → T (is_sorted key_cmp (with_keys xs)) → T (is_sorted key_cmp (with_keys (drop i xs)))
 rising_drop xs zero up = up
 rising_drop [] (suc i) up = tt
-rising_drop (x ∷ xs) (suc i) up = rising_drop xs i (right _ _ up)
+rising_drop (x ∷ xs) (suc i) up = rising_drop xs i (second_holds _ _ up)
 
 -- a record stands below those after it
 pub below_later : (xs : List Rec) (m : Configuration) (i : ℕ) (x : Rec) → with_keys xs ≡ entries m → i < length xs → x ≡ get_or xs i x
     → T (below_all key_cmp (key_of x) (with_keys (drop (i + 1) xs)))
 below_later xs m i x is within item =
     let up = subst (λ (es : List (Key × Rec)). T (is_sorted key_cmp es)) (sym is) (entries_sorted m) in
-    left _ _ (subst (λ (rs : List Rec). T (is_sorted key_cmp (with_keys rs))) (opened xs i x within item) (rising_drop xs i up))
+    first_holds _ _ (subst (λ (rs : List Rec). T (is_sorted key_cmp (with_keys rs))) (drop-item xs i x within item) (rising_drop xs i up))
 
 values_keyed : (xs : List Rec) → map (λ (e : Key × Rec). e.1) (with_keys xs) ≡ xs
 values_keyed [] = refl
@@ -257,7 +246,7 @@ more_opened c css set n m now goal k xs i x within item is next new rest =
     (ap (λ j. numbers_from css set n (reached_of c css set x) ++ numbers_from css set j (reached_among c css set (drop (i + 1) xs))) next
     ∙ sym (numbered_append css set n (reached_of c css set x) (reached_among c css set (drop (i + 1) xs)))
     ∙ ap (numbers_from css set n) (sym (reached_cons c css set x (drop (i + 1) xs)))
-    ∙ ap (λ (rs : List Rec). numbers_from css set n (reached_among c css set rs)) (sym (opened xs i x within item)))
+    ∙ ap (λ (rs : List Rec). numbers_from css set n (reached_among c css set rs)) (sym (drop-item xs i x within item)))
     all
 
 -- what is kept over a record

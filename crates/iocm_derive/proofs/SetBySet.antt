@@ -1,32 +1,24 @@
 -- The first numbers, one set and one channel subsystem after the other.
-use Rattle.std.proofs.Common.{◌≡◌, ℕ, suc, zero, ◌+◌, ◌<◌, ◌≤◌, List, ◌∷◌, ◌++◌, drop, length, refl, sym, ap, subst, ◌∙◌, arith}
+use Rattle.std.proofs.Common.{◌≡◌, ℕ, ◌+◌, ◌<◌, ◌≤◌, List, ◌∷◌, ◌++◌, drop, length, sym, ap, subst, ◌∙◌}
 use Rattle.std.proofs.Math.ListN.{drop_of_length-le}
 use Rattle.std.specs.List.{flat_map}
 use Rattle.std.specs.FinMap.{FinMap, empty, get, get-empty}
 use Rattle.iocm_types.specs.declared.place.Place.{Place}
 use Rattle.iocm_types.specs.Place.{place_cmp, cell_cmp}
+use Rattle.iocm_types.proofs.Lists.{drop-range}
 use Rattle.iocm_types.proofs.Sorted.{map-empty}
-use Rattle.iocm_model.specs.Machine.Numbering.{Numbering, cells_of, device_at}
+use Rattle.iocm_model.specs.Machine.Numbering.{Numbering, cells_of, device_at, sets, subsystems}
 use Rattle.iocm_numbers.specs.declared.entry.PlaceNumber.{PlaceNumber}
 use Rattle.iocm_numbers.proofs.Tables.{no_cells}
-use Rattle.iocm_derive.specs.FirstNumbers.{place_at, cell_of, IsMore, IsUnnumbered, sets, subsystems}
+use Rattle.iocm_derive.specs.FirstNumbers.{place_at, cell_of, IsMore, IsUnnumbered}
 use Rattle.iocm_derive.proofs.OneByOne.{more_none, more_then}
 
+-- the sets from one on, and the channel subsystems
 pub set_at : (i : ℕ) → i < 4 → drop i sets ≡ i ∷ drop (i + 1) sets
-set_at zero h = refl
-set_at (suc zero) h = refl
-set_at (suc (suc zero)) h = refl
-set_at (suc (suc (suc zero))) h = refl
-set_at (suc (suc (suc (suc i)))) h = absurd (omega arith)
+set_at i h = drop-range 4 i h
 
 pub subsystem_at : (i : ℕ) → i < 6 → drop i subsystems ≡ i ∷ drop (i + 1) subsystems
-subsystem_at zero h = refl
-subsystem_at (suc zero) h = refl
-subsystem_at (suc (suc zero)) h = refl
-subsystem_at (suc (suc (suc zero))) h = refl
-subsystem_at (suc (suc (suc (suc zero)))) h = refl
-subsystem_at (suc (suc (suc (suc (suc zero))))) h = refl
-subsystem_at (suc (suc (suc (suc (suc (suc i)))))) h = absurd (omega arith)
+subsystem_at i h = drop-range 6 i h
 
 -- what one part and the rest make of a numbering
 pub more_part : (m now end : Numbering) (f : ℕ → List (Place × ℕ)) (xs : List ℕ) (i x : ℕ) → drop i xs ≡ i ∷ drop (i + 1) xs → x ≡ i → IsMore m (f x) now

@@ -14,9 +14,9 @@ use Rattle.iocm_model.specs.Machine.Configuration.{Configuration, with_keys}
 abbrev itself : Rec → Rec
 itself x = x
 
-pub walked : (m : Configuration) (xs : List Rec) (i : ℕ) (x : Rec) (k : Key) → with_keys xs ≡ entries m → i < length xs → x ≡ get_or xs i x → key_of x ≡ k
+pub found_on_walk : (m : Configuration) (xs : List Rec) (i : ℕ) (x : Rec) (k : Key) → with_keys xs ≡ entries m → i < length xs → x ≡ get_or xs i x → key_of x ≡ k
     → get m k ≡ Some x
-walked m xs i x k all within item key =
+found_on_walk m xs i x k all within item key =
     let up : T (is_sorted key_cmp (with_keys xs)) = subst (λ es. T (is_sorted key_cmp es)) (sym all) (entries_sorted m) in
     let tied : key_cmp (key_of x) k ≡ Equal = subst (λ q. key_cmp (key_of x) q ≡ Equal) key (tied_itself keys_total (key_of x)) in
     let here = sorted.searched key_cmp key_of itself keys_total k xs (Ok i) up within

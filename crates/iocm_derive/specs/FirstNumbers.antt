@@ -52,10 +52,3 @@ AreNew m css set next (r ∷ rs) = IsNewAt m css set next r × AreNew m css set 
 -- the next number and those above it are free
 abbrev pub AreFree : Numbering → ℕ → ℕ → ℕ → Type 0
 AreFree m css set next = (number : ℕ) → next ≤ number → device_at m (cell_of css set number) ≡ None
-
--- the sets of a channel subsystem, and the channel subsystems
-abbrev pub sets : List ℕ
-sets = 0 ∷ 1 ∷ 2 ∷ 3 ∷ []
-
-abbrev pub subsystems : List ℕ
-subsystems = 0 ∷ 1 ∷ 2 ∷ 3 ∷ 4 ∷ 5 ∷ []

@@ -3,7 +3,7 @@ ghost use Rattle.iocm_model.specs.Machine.Configuration.{lookup_of};
 ghost use Rattle.iocm_model.specs.Machine.Numbering as model;
 ghost use Rattle.iocm_model.specs.Machine.PathList as paths;
 ghost use Rattle.std.specs.List.{flat_map};
-ghost use Rattle.iocm_derive.specs.FirstNumbers.{reached_of, numbered_on, IsMore, IsUnnumbered, IsNewAt, AreFree, sets};
+ghost use Rattle.iocm_derive.specs.FirstNumbers.{reached_of, numbered_on, IsMore, IsUnnumbered, IsNewAt, AreFree};
 
 use crate::paths::paths_of_units;
 use iocm_config::Config;
@@ -37,7 +37,7 @@ fn number_subsystem<A: Allocator, B: Allocator>(
     css: Css,
 ) -> Result<(), AllocError>
     requires { (set : ℕ) → IsUnnumbered numbers.old.numbers css set }
-    ensures more { OnOk result (IsMore numbers.old.numbers (flat_map (λ set. model.numbers_from css set 0 (model.reached_devices config.now.records css set)) sets) numbers.new.numbers) }
+    ensures more { OnOk result (IsMore numbers.old.numbers (flat_map (λ set. model.numbers_from css set 0 (model.reached_devices config.now.records css set)) model.sets) numbers.new.numbers) }
     ensures others { OnOk result ((other set : ℕ) → (other ≡ css → ⊥) → IsUnnumbered numbers.old.numbers other set → IsUnnumbered numbers.new.numbers other set) }
 {
     for number in 0..4u8 {
@@ -93,7 +93,8 @@ fn number_record<A: Allocator, B: Allocator>(
     if !is_reached(config, css, device.units.as_slice(), near) {
         return Ok(next);
     }
-    let highest = device.number.number();
+    // For the proof alone: the next number is no higher than the device's, which has 16 bits, so it fits.
+    let _highest = device.number.number();
     numbers.room(1)?;
     let place = Place {
         css,

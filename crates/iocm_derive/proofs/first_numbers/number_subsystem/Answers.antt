@@ -1,7 +1,6 @@
 -- One set more.
 use Rattle.std.proofs.Common.{arith}
-use Rattle.iocm_model.specs.Machine.Numbering.{numbers_from, reached_devices}
-use Rattle.iocm_derive.specs.FirstNumbers.{sets}
+use Rattle.iocm_model.specs.Machine.Numbering.{numbers_from, reached_devices, sets}
 use Rattle.iocm_derive.proofs.SetBySet.{set_at, more_part, more_end}
 use Rattle.iocm_derive.proofs.first_numbers.number_subsystem.Goals as goal
 

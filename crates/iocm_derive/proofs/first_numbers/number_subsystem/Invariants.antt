@@ -1,8 +1,8 @@
 -- The sets that are left have no numbers, and what they make of the numbering is the whole.
 use Rattle.std.proofs.Common.{◌≡◌, ℕ, ◌≤◌, drop}
 use Rattle.std.specs.List.{flat_map}
-use Rattle.iocm_model.specs.Machine.Numbering.{Numbering, numbers_from, reached_devices}
-use Rattle.iocm_derive.specs.FirstNumbers.{IsMore, IsUnnumbered, sets}
+use Rattle.iocm_model.specs.Machine.Numbering.{Numbering, numbers_from, reached_devices, sets}
+use Rattle.iocm_derive.specs.FirstNumbers.{IsMore, IsUnnumbered}
 use Rattle.iocm_derive.proofs.first_numbers.number_subsystem.Given as goal
 
 abbrev pub invariant-loop-number : goal.invariant-loop-number

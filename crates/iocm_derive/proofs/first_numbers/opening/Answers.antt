@@ -3,8 +3,8 @@ use Rattle.std.proofs.Common.{ℕ, List, subst, refl, arith, []}
 use Rattle.std.specs.List.{flat_map}
 use Rattle.iocm_types.specs.declared.place.Place.{Place}
 use Rattle.iocm_model.specs.Machine.Configuration.{Configuration}
-use Rattle.iocm_model.specs.Machine.Numbering.{Numbering, numbers_from, reached_devices}
-use Rattle.iocm_derive.specs.FirstNumbers.{IsMore, sets, subsystems}
+use Rattle.iocm_model.specs.Machine.Numbering.{Numbering, numbers_from, reached_devices, sets, subsystems}
+use Rattle.iocm_derive.specs.FirstNumbers.{IsMore}
 use Rattle.iocm_derive.proofs.SetBySet.{subsystem_at, more_part, more_end, empty_unnumbered}
 use Rattle.iocm_derive.proofs.first_numbers.opening.Goals as goal
 

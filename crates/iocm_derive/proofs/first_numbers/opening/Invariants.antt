@@ -2,8 +2,8 @@
 use Rattle.std.proofs.Common.{ℕ, ◌≤◌, drop}
 use Rattle.std.specs.List.{flat_map}
 use Rattle.std.specs.FinMap.{empty}
-use Rattle.iocm_model.specs.Machine.Numbering.{Numbering, numbers_from, reached_devices}
-use Rattle.iocm_derive.specs.FirstNumbers.{IsMore, IsUnnumbered, sets, subsystems}
+use Rattle.iocm_model.specs.Machine.Numbering.{Numbering, numbers_from, reached_devices, sets, subsystems}
+use Rattle.iocm_derive.specs.FirstNumbers.{IsMore, IsUnnumbered}
 use Rattle.iocm_derive.proofs.first_numbers.opening.Given as goal
 
 abbrev pub invariant-loop-number : goal.invariant-loop-number
