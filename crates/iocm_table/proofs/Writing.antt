@@ -121,3 +121,8 @@ pub place_of : {K X : Type 0} {R S : K → K → Ordering} → ◌≡◌ {A = K 
     → seen_of m ≡ t → (key : K) → is_some (get_by (R key) m) ≡ true → HasPlace S t key
 place_of {K} {X} {R} same m t is key has = subst (λ (r : K → K → Ordering). HasPlace r t key) same
     (subst (λ u. T (list_any (eq_by_cmp R key) u.places)) is (subst T (sym (sym (is_some-lookup (is_at (R key)) m.entries) ∙ has)) tt))
+
+-- a slot with a row is a slot
+pub inner_some : {X : Type 0} (r : Option (Option X)) → is_some (option_flatten r) ≡ true → is_some r ≡ true
+inner_some None has = has
+inner_some (Some o) has = refl

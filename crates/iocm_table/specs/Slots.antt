@@ -1,9 +1,9 @@
 -- The slots of a table: keys that have a place, each with its row or empty; and the rows as a finite map.
-use Rattle.std.specs.Prelude.{◌≡◌, ℕ, T, List, length, [], ◌∷◌, Option, None, Some, map, filter}
+use Rattle.std.specs.Prelude.{◌≡◌, ℕ, true, T, List, length, [], ◌∷◌, Option, None, Some, map, filter}
 use Rattle.std.specs.List.{list_any}
 use Rattle.std.specs.Ordering.{eq_by_cmp, is_le}
 use Rattle.std.specs.declared.cmp.Ordering.{Ordering}
-use Rattle.std.specs.FinMap.{FinMap, from_sorted}
+use Rattle.std.specs.FinMap.{FinMap, from_sorted, contains_key}
 use Rattle.std.specs.BTreeMap.{BTreeMap, IsOrdered}
 
 -- what contracts see of a table: its rows in the order of keys, and the keys that have a place
@@ -33,6 +33,10 @@ module _ {K X : Type 0} where
   -- a key has a place
   abbrev pub HasPlace : (K → K → Ordering) → Stored K X → K → Type 0
   HasPlace R t key = T (list_any (eq_by_cmp R key) t.places)
+
+  -- a key that has a row has a place
+  abbrev pub RowsHavePlaces : (K → K → Ordering) → Stored K X → Type 0
+  RowsHavePlaces R t = (key : K) → contains_key (rows R t) key ≡ true → HasPlace R t key
 
   -- of rows in order those from a key on
   abbrev pub rows_from : (K → K → Ordering) → K → List (K × X) → List (K × X)

@@ -2,7 +2,7 @@ ghost use Rattle.std.specs.Prelude.{◌≡◌, [], None, IsOk, IsSome, OnOk, ◌
 ghost use Rattle.std.specs.BTreeMap.{get, IsOrdered};
 ghost use Rattle.std.specs.Option.{option_copied};
 ghost use Rattle.std.specs.FinMap as map;
-ghost use Rattle.iocm_table.specs.Slots.{rows, present, HasPlace};
+ghost use Rattle.iocm_table.specs.Slots.{rows, present, HasPlace, RowsHavePlaces};
 
 use iocm_types::TableKey;
 use std::alloc::{AllocError, Allocator, Global};
@@ -58,6 +58,14 @@ impl<K: TableKey, V, A: Allocator> Table<K, V, A> {
     {
         let slot = self.slots.get(key)?;
         slot.as_ref()
+    }
+
+    /// A key that has a row has a place, in every table. It reads nothing, and is there for proofs: a row that is replaced
+    /// needs no call of `room`.
+    pub fn has_places(&self)
+        ensures { RowsHavePlaces K.order self.now }
+    {
+        let _ = &self.len;
     }
 
     /// Gives a key a place, if it has none. Every other key keeps its place, and no row changes.
