@@ -1,7 +1,7 @@
 //! A configuration in memory: at most one record of each key, in the order of keys.
 //!
 //! `Config<A>` owns its records under any allocator. Contracts see it as a finite map from keys to records,
-//! with the room that is left: `put` and `take` need no memory, and `room` is where memory can be wanting.
+//! with the room that is left: `put` and `take` can't answer want of memory; `room` and `from_records` can.
 //! What the layers above rely on: `get` is the map's lookup, `walk` its entries in the order of keys, `put`
 //! its insert and `take` its remove. `from_records` builds a whole configuration at once, in any order.
 //! Begin with `config.rt`.

@@ -2,7 +2,8 @@
 //!
 //! `show_deck` reads a deck from a `Device` and prints the table of its subchannels to an `Output`, or the
 //! one line of its refusal. The program above may rely on this: what is printed and the status are exactly
-//! what `shown` says of the deck's bytes, and only want of memory (`refused M1`) may come instead. A fault
+//! what `shown` says of the deck's bytes (of some bytes, where they aren't known beforehand), as far as it is known
+//! what the writer holds, and only want of memory (`refused M1`) may come instead. A fault
 //! of a device is an error, `ConsoleError`, and is noted where it came from: L5 at the `Device`, L6 at the
 //! `Output`. All memory is taken before the first byte is written; a line takes none.
 //!

@@ -1,9 +1,11 @@
 //! What follows from a configuration and its numbers: path lists, sight, masks and views.
 //!
-//! Nothing is kept here: each function reads a `Config` and `Numbers`, takes no memory, and answers exactly
-//! what its definition in the model says. `view_at` is what an image sees at one subchannel; `path_list`,
-//! `sees`, `pim` and `pam` are its parts. `opening` gives each reached device its first number.
-//! Begin with `view.rt`.
+//! Each function reads a `Config`, and `view_at` its `Numbers` too, and answers exactly what its definition says.
+//! `view_at` is what an image sees at one subchannel; `path_list`, `sees`, `pim` and `pam` are its parts.
+//! `ImageSight` gives the views of one image at many devices, one after the other: it keeps tables of the image's
+//! paths, and what it sees by the last device's control units. `opening` gives each reached device its first
+//! number, and is the only one that may want memory.
+//! Begin with `view.rt`, then `reach.rt` for what both ways share.
 #![tactic(auto)]
 
 mod first_numbers;

@@ -1,10 +1,10 @@
 //! One table for everything that is looked up: records by key, numbers by place and by cell, live records by
-//! subchannel, and who names whom.
+//! subchannel. Nothing stands on it yet.
 //!
 //! A `Table` has rows under keys, in the order of keys. Contracts see the finite map of its rows and the keys that
 //! have a place. `room` gives a key a place; besides building it is the only call that may want memory. `put` wants
-//! a place and takes no memory, and `take` leaves the place, so what was taken out can always be put back. A place
-//! is lost by `sweep` alone. The cost of a call grows with the logarithm of the table's size.
+//! a place and can't answer want of memory, and `take` leaves the place, so what was taken out can always be put
+//! back. A place is lost by `sweep` alone. The cost of a call grows with the logarithm of the table's size.
 //!
 //! Begin with `table.rt`, then `rows.rt` for walks.
 #![tactic(auto)]
