@@ -107,7 +107,7 @@ impl<A: Allocator> Config<A> {
         self.records.reserve(more)
     }
 
-    /// Puts a record in under its key, and gives back the one that was there. Takes no memory: there is
+    /// Puts a record in under its key, and gives back the one that was there. Can't answer want of memory: there is
     /// room, or a record of this key.
     pub fn put(&mut self, entry: Record<A>) -> Option<Record<A>>
         requires { 0 < self.old.room ⊎ IsSome (map.get self.old.records (key_of entry)) }
@@ -125,7 +125,7 @@ impl<A: Allocator> Config<A> {
         }
     }
 
-    /// Takes the record of a key out, if there is one. Takes no memory, and leaves its room free.
+    /// Takes the record of a key out, if there is one. Can't answer want of memory, and leaves its room free.
     pub fn take(&mut self, key: &Key) -> Option<Record<A>>
         ensures before { result ≡ map.get self.old.records key.now }
         ensures records { self.new.records ≡ map.remove self.old.records key.now }

@@ -55,7 +55,7 @@ impl<W> Output<W> {
 }
 
 impl<W: Write> Output<W> {
-    /// Writes the heading of the table. Takes no memory.
+    /// Writes the heading of the table. Can't answer want of memory.
     pub(crate) fn heading(&mut self) -> Result<(), ConsoleError>
         ensures text { OnOk result (Prints W.contents self.old self.new (heading ++ 10 ∷ [])) }
         ensures works { OnOk result (has_failed self.new ≡ has_failed self.old) }
@@ -65,7 +65,7 @@ impl<W: Write> Output<W> {
         self.note(written)
     }
 
-    /// Writes the line of a subchannel. Takes no memory.
+    /// Writes the line of a subchannel. Can't answer want of memory.
     pub(crate) fn row(&mut self, id: SubId, view: &View) -> Result<(), ConsoleError>
         ensures text { OnOk result (Prints W.contents self.old self.new (line_of (id, view.now) ++ 10 ∷ [])) }
         ensures works { OnOk result (has_failed self.new ≡ has_failed self.old) }
@@ -75,7 +75,7 @@ impl<W: Write> Output<W> {
         self.note(written)
     }
 
-    /// Writes a refusal. Takes no memory.
+    /// Writes a refusal. Can't answer want of memory.
     pub(crate) fn refusal(&mut self, fault: Fault) -> Result<(), ConsoleError>
         ensures text { OnOk result (Prints W.contents self.old self.new (refusal_line fault)) }
         ensures works { OnOk result (has_failed self.new ≡ has_failed self.old) }

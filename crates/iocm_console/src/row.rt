@@ -12,14 +12,14 @@ use std::io::Write;
 /// The most bytes of a line: 28 before the paths, three for each of at most eight paths, and its end.
 const LONGEST: usize = 53;
 
-/// Writes the heading of the table, with its end. Takes no memory.
+/// Writes the heading of the table, with its end. Can't answer want of memory.
 pub fn write_heading<W: Write>(writer: &mut W) -> io::Result<()>
     ensures { OnOk result (Appends (W.contents writer.old) (W.contents writer.new) (heading ++ 10 ∷ [])) }
 {
     writeln!(writer, "CSS IM SET SUBC DEVN PIM PAM CHPIDS")
 }
 
-/// Writes the line of a subchannel, with its end, as one piece. Takes no memory.
+/// Writes the line of a subchannel, with its end, as one piece. Can't answer want of memory.
 pub fn write_row<W: Write>(writer: &mut W, id: SubId, view: &View) -> io::Result<()>
     ensures { OnOk result (Appends (W.contents writer.old) (W.contents writer.new) (line_of (id, view.now) ++ 10 ∷ [])) }
 {

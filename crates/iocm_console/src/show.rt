@@ -76,7 +76,7 @@ fn answer_unread<W: Write>(fault: Fault, output: &mut Output<W>) -> Result<Statu
     refuse(fault, output)
 }
 
-/// Prints a refusal. Takes no memory.
+/// Prints a refusal. Can't answer want of memory.
 pub fn refuse<W: Write>(fault: Fault, output: &mut Output<W>) -> Result<Status, ConsoleError>
     ensures text { IfOk result (Says W.contents output.old output.new (refused fault)) }
     ensures works { OnOk result (has_failed output.new ≡ has_failed output.old) }
@@ -103,7 +103,7 @@ fn show_cards<W: Write>(
     }
 }
 
-/// Prints the table of an opened deck. Takes no memory.
+/// Prints the table of an opened deck. Can't answer want of memory.
 fn show_opened<W: Write>(opened: &Opened, output: &mut Output<W>) -> Result<Status, ConsoleError>
     requires { opened.now.numbers.numbers ≡ model.opening opened.now.config.records }
     ensures text { IfOk result (Says W.contents output.old output.new (table_shown (Ok opened.now.config.records))) }

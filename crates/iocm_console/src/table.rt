@@ -21,7 +21,7 @@ struct NamedImage {
     name: Name,
 }
 
-/// Writes the table of subchannels. Takes no memory.
+/// Writes the table of subchannels. Can't answer want of memory.
 pub fn write_table<A: Allocator, B: Allocator, W: Write>(
     output: &mut Output<W>,
     config: &Config<A>,

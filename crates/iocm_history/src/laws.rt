@@ -9,7 +9,7 @@ ghost use Rattle.iocm_history.specs.HistoryLaws.{
   RunsAreLegal,
 };
 
-/// What an undo newly struck, taken back, is as it was before the undo.
+/// What an undo newly struck, taken back, is as it was before the undo, where nothing was marked with that undo before.
 pub fn restoring_undoes_striking()
     ensures { RestoringUndoesStriking }
 {}

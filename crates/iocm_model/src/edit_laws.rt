@@ -8,7 +8,7 @@ ghost use Rattle.iocm_model.specs.Laws.Edits.{
 };
 
 /// An edit alters exactly the subchannels at which what is seen differs. These have the live records that the edit leaves
-/// them, and all others keep theirs.
+/// them, and all others keep theirs where each subchannel that is seen has a live record.
 pub fn an_edit_alters_what_differs()
     ensures altered { AltersWhatDiffers }
     ensures others { KeepsTheOthers }

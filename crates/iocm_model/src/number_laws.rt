@@ -14,7 +14,8 @@ ghost use Rattle.iocm_model.specs.Laws.Numbers.{
   CellsAreTheNumbers,
 };
 
-/// A place is reached exactly where its device is there and its path list isn't empty.
+/// A place of a channel subsystem from 0 to 5 and a set from 0 to 3 is reached exactly where its device is there and its path
+/// list isn't empty, in a configuration with each record under its own key.
 pub fn reached_places_are_of_devices()
     ensures { ReachedPlacesAreOfDevices }
 {}
@@ -28,7 +29,8 @@ pub fn no_number_comes_twice()
 
 /// After a change exactly the devices that the new configuration reaches have a number; those that stay keep theirs,
 /// those that come back with their place get it, and the rest get the lowest free ones in order of device number. The numbers
-/// at opening are those that come of it where there was none before.
+/// at opening are those that come of it where there was none before. What the rest get, and the numbers at opening, are said of
+/// configurations with each record under its own key.
 pub fn numbers_after_a_change()
     ensures exact { NumbersAfterAreExact }
     ensures stay { StayersKeepTheirs }
@@ -44,13 +46,13 @@ pub fn the_lowest_free_number_is_free()
     ensures found { LowestFreeIsFound }
 {}
 
-/// With the places that a change freed the old numbers come back, and none of them is taken then.
+/// With the places that a change freed the old numbers of a configuration come back, and none of them is taken then.
 pub fn numbers_go_back()
     ensures back { RenumberingGoesBack }
     ensures free { FreedAreNotTaken }
 {}
 
-/// Number cells and numbers say the same.
+/// Number cells and the numbers of a configuration say the same.
 pub fn cells_are_the_numbers()
     ensures { CellsAreTheNumbers }
 {}

@@ -11,8 +11,8 @@ ghost use Rattle.iocm_model.specs.Laws.Runs.{
 };
 ghost use Rattle.iocm_model.specs.Laws.Steps.{StepsStaySound};
 
-/// The state at opening is sound, and edits whose carried numbers are free, as those of accepted edits are, and steps leave a
-/// sound state.
+/// The state at opening is sound where each record is under its own key. Edits whose carried numbers are free, as those of
+/// accepted edits are, and steps leave a sound state.
 pub fn states_stay_sound()
     ensures opening { OpeningIsSound }
     ensures edits { StaysSound }
@@ -20,7 +20,8 @@ pub fn states_stay_sound()
     ensures steps { StepsStaySound }
 {}
 
-/// What edits do is to overwrite the cells of their effect; and to overwrite these cells as they were gives back the state.
+/// What edits whose carried numbers are free do to a sound state is to overwrite the cells of their effect; and to overwrite
+/// these cells as they were gives back the state.
 pub fn edits_write_their_effect()
     ensures forth { WritesItsEffect }
     ensures back { PutsBack }

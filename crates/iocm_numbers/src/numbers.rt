@@ -93,7 +93,7 @@ impl<A: Allocator> Numbers<A> {
         self.cells.reserve(more)
     }
 
-    /// Gives a device at a place a number. Takes no memory. The place has no number, and the number is free
+    /// Gives a device at a place a number. Can't answer want of memory. The place has no number, and the number is free
     /// in its channel subsystem and set.
     pub fn place(&mut self, place: Place, number: u16)
         requires room { 0 < self.old.room }

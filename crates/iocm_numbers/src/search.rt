@@ -14,7 +14,7 @@ pub fn search<E: Entry>(entries: &[E], key: E::Key) -> Result<usize, usize>
     entries.binary_search_by_key(&key, |entry| entry.key())
 }
 
-/// Puts an entry in whose key has none. Takes no memory: there is room.
+/// Puts an entry in whose key has none. Can't answer want of memory: there is room.
 pub fn put<E: Entry, A: Allocator>(entries: &mut Vec<E, A>, entry: E)
     requires room { vec_len entries.old < vec_capacity entries.old }
     requires rise { T (map.is_sorted E.Key.cmp (pairs_by E.key_of E.value_of entries.old.items)) }

@@ -34,7 +34,7 @@ impl<K: TableKey, V, A: Allocator> Model for Table<K, V, A> {
 }
 
 impl<K: TableKey, V, A: Allocator> Table<K, V, A> {
-    /// A table without rows and places. Takes no memory.
+    /// A table without rows and places. Can't answer want of memory.
     pub fn new(alloc: A) -> Self
         ensures rows { rows K.order result ≡ map.empty }
         ensures places { result.places ≡ [] }
@@ -87,7 +87,7 @@ impl<K: TableKey, V, A: Allocator> Table<K, V, A> {
         add_place(&mut self.slots, key)
     }
 
-    /// Puts a row under a key that has a place, and gives back the row that was there. Takes no memory.
+    /// Puts a row under a key that has a place, and gives back the row that was there. Can't answer want of memory.
     pub fn put(&mut self, key: &K, row: V) -> Option<V>
         requires { HasPlace K.order self.old key.now }
         ensures before { result ≡ map.get (rows K.order self.old) key.now }
@@ -104,7 +104,7 @@ impl<K: TableKey, V, A: Allocator> Table<K, V, A> {
         before
     }
 
-    /// Takes the row of a key out, if it has one. Its place stays. Takes no memory.
+    /// Takes the row of a key out, if it has one. Its place stays. Can't answer want of memory.
     pub fn take(&mut self, key: &K) -> Option<V>
         ensures before { result ≡ map.get (rows K.order self.old) key.now }
         ensures rows { rows K.order self.new ≡ map.remove (rows K.order self.old) key.now }

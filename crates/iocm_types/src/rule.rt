@@ -43,7 +43,7 @@ pub enum Rule {
     V2,
     /// A path that more images reach than its kind allows.
     V3,
-    /// An image online at a path that is not there, or does not list it, or is another's.
+    /// An image online at a path that isn't there or doesn't list it, or a second one at a dedicated or REC path.
     V4,
     /// A control unit with no path, too many, one twice, or one that is not there.
     V5,
