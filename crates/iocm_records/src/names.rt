@@ -1,4 +1,4 @@
-ghost use Rattle.std.specs.Prelude.{◌≡◌, [], ◌++◌, map, slice_get, unwrap_or};
+ghost use Rattle.std.specs.Prelude.{◌≡◌, [], ◌++◌, length, map, slice_get, unwrap_or};
 ghost use Rattle.iocm_model.specs.Machine.Naming as names;
 
 use iocm_types::{CssPath, Key, List, Name, Named, UnitNo};
@@ -60,4 +60,31 @@ pub fn device_names<A: Allocator>(
         return unit_at(units, place);
     }
     candidate_at(candidates, place - units.len())
+}
+
+/// How many images a path names.
+pub fn path_names_len(access: &[Name], candidates: &[Name]) -> usize
+    ensures { result ≡ length (map names.image_named access.now ++ map names.image_named candidates.now) }
+{
+    access.len() + candidates.len()
+}
+
+/// How many paths a unit names.
+pub fn unit_names_len(paths: &[CssPath]) -> usize
+    ensures { result ≡ length (map names.path_named paths.now) }
+{
+    paths.len()
+}
+
+/// How many units and images a device names.
+pub fn device_names_len<A: Allocator>(
+    units: &[UnitNo],
+    candidates: &Option<List<Name, A>>,
+) -> usize
+    ensures { result ≡ length (map names.unit_named units.now ++ map names.image_named (unwrap_or candidates.now [])) }
+{
+    match candidates {
+        Some(list) => units.len() + list.as_slice().len(),
+        None => units.len(),
+    }
 }

@@ -1,9 +1,11 @@
-ghost use Rattle.std.specs.Prelude.{◌≡◌, slice_get, IfOk};
+ghost use Rattle.std.specs.Prelude.{◌≡◌, length, slice_get, IfOk};
 
 use crate::Carried;
 use crate::carried::copy_carried;
 use crate::copies::{copy_device, copy_path, copy_unit};
-use crate::names::{device_names, path_names, unit_names};
+use crate::names::{
+    device_names, device_names_len, path_names, path_names_len, unit_names, unit_names_len,
+};
 use iocm_types::{
     Chpid, Css, CssLink, CssPath, DevNo, Key, List, Mif, Name, Named, PathKind, SetNo, UnitNo,
     UnitRange,
@@ -142,6 +144,23 @@ impl<A: Allocator> Record<A> {
             RecordBody::Unit(unit) => Key::Unit(unit.number),
             RecordBody::Device(device) => Key::Device(device.set, device.number),
             RecordBody::Online(css, path, name) => Key::Online(*css, *path, *name),
+        }
+    }
+
+    /// How many things the record names.
+    pub fn names_len(&self) -> usize
+        ensures { result ≡ length (named_by self.now) }
+    {
+        match &self.body {
+            RecordBody::Path(path) => {
+                path_names_len(path.access.as_slice(), path.candidates.as_slice())
+            }
+            RecordBody::Unit(unit) => unit_names_len(unit.paths.as_slice()),
+            RecordBody::Device(device) => {
+                device_names_len(device.units.as_slice(), &device.candidates)
+            }
+            RecordBody::Online(_, _, _) => 2,
+            _ => 0,
         }
     }
 

@@ -16,6 +16,12 @@ use Rattle.iocm_types.specs.declared.sub_id.SubId.{SubId}
 use Rattle.iocm_types.specs.SubId.{image_cmp, sub_id_cmp}
 use Rattle.iocm_types.specs.Key.{numbers_of, key_cmp}
 use Rattle.iocm_types.specs.Place.{place_cmp, cell_cmp}
+use Rattle.iocm_types.specs.declared.named.Named.{Named}
+use Rattle.iocm_types.specs.declared.named.Named.TheVariants as named
+use Rattle.iocm_types.specs.declared.naming.Naming.{Naming}
+use Rattle.iocm_types.specs.Naming.{numbers_of_named, named_cmp, naming_cmp}
+use Rattle.iocm_types.specs.contracts.named.NamedOrd.TheImpl as of_named
+use Rattle.iocm_types.specs.contracts.naming.NamingOrd.TheImpl as of_namings
 use Rattle.iocm_types.specs.contracts.key.KeyOrd.TheImpl as of_keys
 use Rattle.iocm_types.specs.contracts.place.PlaceOrd.TheImpl as of_places
 use Rattle.iocm_types.specs.contracts.place.NumberCellOrd.TheImpl as of_cells
@@ -150,3 +156,36 @@ derived_cells_exact = subst IsAntisymmetric (sym derived_cell_cmp) cells_exact
 
 pub derived_sub_ids_exact : IsAntisymmetric of_subchannels.ghosts.cmp
 derived_sub_ids_exact = subst IsAntisymmetric (sym derived_sub_id_cmp) sub_ids_exact
+
+-- the derived orders of what is named and of namings are the definitions
+derived_named_at : (a b : Named) → of_named.ghosts.cmp a b ≡ named_cmp a b
+derived_named_at (named.Record a) (named.Record b) = derived_at a b
+derived_named_at (named.Image a) (named.Image b) = refl
+derived_named_at (named.Record a) (named.Image b) = refl
+derived_named_at (named.Image a) (named.Record b) = refl
+
+pub derived_naming_cmp : ◌≡◌ {A = Naming → Naming → Ordering} of_namings.ghosts.cmp naming_cmp
+derived_naming_cmp = λ i a b. ordering_then (derived_named_at a.named b.named i) (derived_at a.user b.user i)
+
+abbrev named_by_numbers : List ℕ → Named
+named_by_numbers xs = cond (nat_eq (get_or xs 0 0) 0) (named.Record (key_by (from_second xs))) (named.Image (from_second xs))
+
+named_back : (n : Named) → named_by_numbers (numbers_of_named n) ≡ n
+named_back (named.Record key) = ap named.Record (key_back key)
+named_back (named.Image name) = refl
+
+pub named_exact : IsAntisymmetric named_cmp
+named_exact x y e = sym (named_back x)
+    ∙ ap named_by_numbers (slice_cmp-IsAntisymmetric nat_cmp-IsAntisymmetric (numbers_of_named x) (numbers_of_named y) e) ∙ named_back y
+
+pub namings_total : IsTotalOrder naming_cmp
+namings_total = then_total (on_total (λ (n : Naming). n.named) (on_total numbers_of_named nat_list_cmp_total)) (on_total (λ (n : Naming). n.user) keys_total)
+
+pub namings_exact : IsAntisymmetric naming_cmp
+namings_exact x y e =
+    let what = named_exact x.named y.named (first_ties _ _ e) in
+    let user = keys_exact x.user y.user (second_ties _ _ e) in
+    λ i. record { named = what i; user = user i }
+
+pub derived_namings_exact : IsAntisymmetric of_namings.ghosts.cmp
+derived_namings_exact = subst IsAntisymmetric (sym derived_naming_cmp) namings_exact

@@ -3,6 +3,7 @@ pub mod Fault
 pub mod Key
 pub mod KeyOrder
 pub mod Name
+pub mod Naming
 pub mod Place
 pub mod Print
 pub mod Rule

@@ -1,4 +1,4 @@
-use crate::{Key, NumberCell, Place, SubId};
+use crate::{Key, Naming, NumberCell, Place, SubId};
 
 /// What rows of a table are kept under and looked up by. `Ord` alone says that keys which tie can stand for one
 /// another; tables of finite maps want more: the order has a name that contracts write, and keys that tie are equal.
@@ -56,4 +56,15 @@ impl TableKey for SubId {
     ghost is_cmp = { derived_sub_id_cmp };
 
     ghost exact = { derived_sub_ids_exact };
+}
+
+impl TableKey for Naming {
+    ghost use Rattle.iocm_types.specs.Naming.{naming_cmp};
+    ghost use Rattle.iocm_types.specs.KeyOrder.{derived_naming_cmp, derived_namings_exact};
+
+    ghost order = { naming_cmp };
+
+    ghost is_cmp = { derived_naming_cmp };
+
+    ghost exact = { derived_namings_exact };
 }

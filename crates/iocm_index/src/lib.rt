@@ -1,0 +1,17 @@
+//! Who names whom: which records of a configuration name a record or an image.
+//!
+//! A device names its control units and the images of its candidates, a control unit its paths, a path the images of its
+//! lists, an online record its path and its image. An `Index` has the pairs of what is named and the key that names it, in
+//! order: `link` puts those of a record in, `unlink` takes them out, `users_of` gives the keys that name a thing. Only
+//! `room` may want memory: what was unlinked can be linked again.
+//!
+//! Begin with `specs/Namings.antt`, then `index.rt`.
+#![tactic(auto)]
+
+mod index;
+#[cfg(test)]
+mod tests;
+mod users;
+
+pub use index::Index;
+pub use users::Users;

@@ -1,0 +1,138 @@
+ghost use Rattle.std.specs.Prelude.{OnOk};
+ghost use Rattle.iocm_index.specs.Namings.{namings_of, HavePlaces};
+
+use crate::Index;
+use iocm_records::{DeviceFields, Record, RecordBody};
+use iocm_types::{Chpid, Css, DevNo, Key, List, Name, Named, SetNo, UnitNo};
+use std::alloc::{AllocError, Global};
+use std::test::Fail;
+
+/// The key of the control unit of a number.
+fn unit(number: u16) -> Result<Named, Fail> {
+    let number = UnitNo::new(number).ok_or("a control unit")?;
+    Ok(Named::Record(Key::Unit(number)))
+}
+
+/// The key of the device of a number, of subchannel set 0.
+fn device(number: u16) -> Key {
+    Key::Device(SetNo::FIRST, DevNo::new(number))
+}
+
+/// Control units of these numbers.
+fn units_of(alloc: Global, numbers: &[u16]) -> Result<List<UnitNo>, Fail> {
+    let mut listed = Vec::new(alloc);
+    for number in numbers {
+        listed.push(UnitNo::new(*number).ok_or("a control unit")?)?;
+    }
+    Ok(List::from_vec(listed))
+}
+
+/// The device of a number, with these control units.
+fn device_of(alloc: Global, number: u16, units: &[u16]) -> Result<Record, Fail> {
+    let units = units_of(alloc, units)?;
+    Ok(Record::new(RecordBody::Device(DeviceFields {
+        set: SetNo::FIRST,
+        number: DevNo::new(number),
+        units,
+        unit_address: 0,
+        candidates: None,
+        carried: Vec::new(alloc),
+    })))
+}
+
+/// Makes room for a record, and links it.
+fn add(index: &mut Index, entry: &Record) -> Result<(), AllocError>
+    ensures { OnOk result (HavePlaces index.new (namings_of entry.now)) }
+{
+    index.room(entry)?;
+    index.link(entry);
+    Ok(())
+}
+
+/// An index of two devices: 4001 with the control units 2000 and 1000, then 4000 with 1000.
+fn two_devices(alloc: Global) -> Result<Index, Fail> {
+    let mut index = Index::new(alloc);
+    add(&mut index, &device_of(alloc, 0x4001, &[0x2000, 0x1000])?)?;
+    add(&mut index, &device_of(alloc, 0x4000, &[0x1000])?)?;
+    Ok(index)
+}
+
+/// The first two users of a thing, and what the walk gives after them.
+fn first_users(index: &Index, named: Named) -> [Option<Key>; 3] {
+    let mut users = index.users_of(named);
+    [users.next(), users.next(), users.next()]
+}
+
+#[test]
+fn nobody_names_anything_in_a_new_index(rt: HostRuntime) -> Result<(), Fail> {
+    let index = Index::new(rt.alloc());
+    assert_eq!(rt; first_users(&index, unit(0x1000)?), [None, None, None]);
+    Ok(())
+}
+
+#[test]
+fn users_come_in_the_order_of_keys(rt: HostRuntime) -> Result<(), Fail> {
+    let index = two_devices(rt.alloc())?;
+    let both = [Some(device(0x4000)), Some(device(0x4001)), None];
+    assert_eq!(rt; first_users(&index, unit(0x1000)?), both);
+    Ok(())
+}
+
+#[test]
+fn a_walk_ends_after_the_users_of_the_thing(rt: HostRuntime) -> Result<(), Fail> {
+    let index = two_devices(rt.alloc())?;
+    assert_eq!(rt;
+        first_users(&index, unit(0x2000)?),
+        [Some(device(0x4001)), None, None]
+    );
+    Ok(())
+}
+
+#[test]
+fn what_nobody_names_has_no_users(rt: HostRuntime) -> Result<(), Fail> {
+    let index = two_devices(rt.alloc())?;
+    assert_eq!(rt; first_users(&index, unit(0x1800)?), [None, None, None]);
+    Ok(())
+}
+
+#[test]
+fn a_record_that_is_unlinked_names_nothing(rt: HostRuntime) -> Result<(), Fail> {
+    let mut index = two_devices(rt.alloc())?;
+    index.unlink(&device_of(rt.alloc(), 0x4000, &[0x1000])?);
+    assert_eq!(rt;
+        first_users(&index, unit(0x1000)?),
+        [Some(device(0x4001)), None, None]
+    );
+    Ok(())
+}
+
+#[test]
+fn what_was_unlinked_is_linked_again_without_room(rt: HostRuntime) -> Result<(), Fail> {
+    let mut index = Index::new(rt.alloc());
+    let entry = device_of(rt.alloc(), 0x4000, &[0x1000, 0x2000])?;
+    add(&mut index, &entry)?;
+    index.unlink(&entry);
+    index.link(&entry);
+    assert_eq!(rt;
+        first_users(&index, unit(0x2000)?),
+        [Some(device(0x4000)), None, None]
+    );
+    Ok(())
+}
+
+#[test]
+fn an_image_has_users(rt: HostRuntime) -> Result<(), Fail> {
+    let name = Name::new(b"LPA").ok_or("LPA")?;
+    let (css, path) = (Css::FIRST, Chpid::new(0x50));
+    let mut index = Index::new(rt.alloc());
+    add(
+        &mut index,
+        &Record::new(RecordBody::Online(css, path, name)),
+    )?;
+    let online = Key::Online(css, path, name);
+    assert_eq!(rt;
+        first_users(&index, Named::Image(name)),
+        [Some(online), None, None]
+    );
+    Ok(())
+}
