@@ -77,10 +77,7 @@ pub fn unit_names_len(paths: &[CssPath]) -> usize
 }
 
 /// How many units and images a device names.
-pub fn device_names_len<A: Allocator>(
-    units: &[UnitNo],
-    candidates: &Option<List<Name, A>>,
-) -> usize
+pub fn device_names_len<A: Allocator>(units: &[UnitNo], candidates: &Option<List<Name, A>>) -> usize
     ensures { result ≡ length (map names.unit_named units.now ++ map names.image_named (unwrap_or candidates.now [])) }
 {
     match candidates {
