@@ -1,4 +1,4 @@
-ghost use Rattle.std.specs.Prelude.{◌≡◌, ◌<◌, Some, IsOk, OnOk, length, slice_get};
+ghost use Rattle.std.specs.Prelude.{◌≡◌, ◌<◌, [], Some, IsOk, OnOk, length, slice_get};
 ghost use Rattle.std.specs.FinMap.{empty};
 ghost use Rattle.iocm_types.specs.Naming.{naming_cmp};
 ghost use Rattle.iocm_table.specs.Slots.{rows, HasPlace};
@@ -30,7 +30,8 @@ impl<A: Allocator> Model for Index<A> {
 impl<A: Allocator> Index<A> {
     /// An index in which nobody names anything. Can't answer want of memory.
     pub fn new(alloc: A) -> Self
-        ensures { rows naming_cmp result ≡ empty }
+        ensures namings { rows naming_cmp result ≡ empty }
+        ensures places { result.places ≡ [] }
     {
         Index {
             namings: Table::new(alloc),

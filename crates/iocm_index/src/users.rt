@@ -67,7 +67,7 @@ impl<'a> Users<'a> {
 }
 
 impl<A: Allocator> Index<A> {
-    /// The keys of the records that name a thing, in order; the time is in proportion to their number.
+    /// The keys of the records that name a thing, in order. The time is that of one search, and in proportion to their number.
     pub fn users_of(&self, named: Named) -> Users<'_>
         ensures { result ≡ users_in named (rows naming_cmp self.now) }
     {

@@ -11,10 +11,6 @@ less_is Less h = refl
 less_is Equal h = absurd h
 less_is Greater h = absurd h
 
--- a result that is less is not equal
-pub less_unequal : (r : Ordering) → T (is_lt r) → is_eq r ≡ false
-less_unequal r h = ap is_eq (less_is r h)
-
 -- equal numbers tie
 pub ties : (a b : ℕ) → a ≡ b → nat_cmp a b ≡ Equal
 ties a b e = ap (nat_cmp a) (sym e) ∙ tied_itself nat_cmp_total a

@@ -178,9 +178,6 @@ pub named_exact : IsAntisymmetric named_cmp
 named_exact x y e = sym (named_back x)
     ∙ ap named_by_numbers (slice_cmp-IsAntisymmetric nat_cmp-IsAntisymmetric (numbers_of_named x) (numbers_of_named y) e) ∙ named_back y
 
-pub namings_total : IsTotalOrder naming_cmp
-namings_total = then_total (on_total (λ (n : Naming). n.named) (on_total numbers_of_named nat_list_cmp_total)) (on_total (λ (n : Naming). n.user) keys_total)
-
 pub namings_exact : IsAntisymmetric naming_cmp
 namings_exact x y e =
     let what = named_exact x.named y.named (first_ties _ _ e) in

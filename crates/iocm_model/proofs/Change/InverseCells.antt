@@ -107,10 +107,6 @@ numbers_turned : (n m : Numbering) (c : NumberCell)
 numbers_turned n m c = in_differing cells_total cells_exact nat_eq (cells_of n) (cells_of m) c
     ∙ ap not (same_turned (get (cells_of n) c) (get (cells_of m) c)) ∙ sym (in_differing cells_total cells_exact nat_eq (cells_of m) (cells_of n) c)
 
-altered_turned : (s t : State) (x : SubId)
-    → list_any (eq_by_cmp sub_id_cmp x) (altered_between s t) ≡ list_any (eq_by_cmp sub_id_cmp x) (altered_between t s)
-altered_turned s t x = among_altered s t x ∙ ap not (sight_turned (seen_in s x) (seen_in t x)) ∙ sym (among_altered t s x)
-
 -- the inverse of an edit writes what the edit wrote
 inverse_cells : (e : Edit) (s v : State) → IsSound s → HasConfigAndNumbersOf v (state_after e s) → HasSameCells (cells_written (inverse_of e s) v) (cells_written e s)
 inverse_cells e s v sound like =

@@ -16,10 +16,6 @@ so_many : (b : Bool) (bit : ℕ) → cond b bit 0 ≡ cond b 1 0 * bit
 so_many true bit = omega arith
 so_many false bit = omega arith
 
-at_most_once : (b : Bool) → cond b 1 0 < 2
-at_most_once true = omega arith
-at_most_once false = omega arith
-
 module _ (test : ℕ → Bool) where
   -- with no bit left, nothing is added
   spent : (ps : List ℕ) → mask_from 0 test ps ≡ 0
