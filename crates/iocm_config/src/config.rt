@@ -1,140 +1,166 @@
-ghost use Rattle.std.specs.Prelude.{◌≡◌, ◌+◌, ◌<◌, ◌≤◌, ◌⊎◌, IfOk, OnOk, IsOk, IsSome, IsNone};
+ghost use Rattle.std.specs.Prelude.{◌≡◌, ◌<◌, ◌^◌, [], IfOk, OnOk, IsOk, length};
 ghost use Rattle.std.specs.Option.{option_copied};
+ghost use Rattle.std.specs.Vec.{vec_items};
 ghost use Rattle.std.specs.FinMap as map;
+ghost use Rattle.iocm_types.specs.Key.{key_cmp};
+ghost use Rattle.iocm_types.specs.declared.key.Key as keys;
 ghost use Rattle.iocm_model.specs.Machine.Record.{key_of};
 ghost use Rattle.iocm_model.specs.Machine.Configuration.{with_keys, configuration_of, HasNoKeyTwice, IsKeyed};
+ghost use Rattle.iocm_table.specs.Slots.{rows_from};
+ghost use Rattle.iocm_config.specs.Stored.{HasPlace, RecordsHavePlaces};
 
-use crate::search::{search, search_near};
 use iocm_records::Record;
+use iocm_table::{Rows, Table};
 use iocm_types::Key;
 use std::alloc::{AllocError, Allocator, Global};
 use std::marker::Model;
-use std::mem;
 
-/// A configuration: at most one record of each key. Contracts see the finite map of its records, and how
-/// many more records can be put in without memory.
-#[derive(Debug, Drop)]
+/// A configuration: at most one record of each key. Contracts see the finite map of its records, and the keys that
+/// have a place, under which a record can be put in without memory.
+#[derive(Drop)]
 pub struct Config<A: Allocator = Global> {
-    records: Vec<Record<A>, A>,
+    table: Table<Key, Record<A>, A>,
 }
 
 impl<A: Allocator> Model for Config<A> {
-    ghost use Rattle.std.specs.Prelude.{ℕ, ◌-◌, T, refl, vec_len, vec_capacity};
+    ghost use Rattle.std.specs.Prelude.{List, refl};
     ghost use Rattle.std.specs.FinMap as map;
-    ghost use Rattle.std.specs.Coded.{code_by, coded×, coded_ℕ};
+    ghost use Rattle.std.specs.Coded.{code_by, coded×, coded_list, codes};
+    ghost use Rattle.iocm_types.specs.declared.key.Key.{Key};
     ghost use Rattle.iocm_types.specs.Key.{key_cmp};
-    ghost use Rattle.iocm_model.specs.Machine.Configuration.{Configuration, with_keys};
+    ghost use Rattle.iocm_model.specs.Machine.Configuration.{Configuration, IsKeyed};
+    ghost use Rattle.iocm_table.specs.Slots.{rows};
     ghost use Rattle.iocm_config.specs.Stored.{Stored};
-    ghost use Rattle.std.specs.Coded.{codes};
 
     ghost Value = { Stored };
 
-    ghost coded = { code_by (Configuration × ℕ) (coded× (map.code (Prim.hlevel codes) (Prim.hlevel codes)) coded_ℕ)
-        (λ s. (s.records, s.room)) (λ p. record { records = p.0; room = p.1 }) (λ _. refl) };
+    ghost coded = { code_by (Configuration × List Key) (coded× (map.code (Prim.hlevel codes) (Prim.hlevel codes)) (coded_list (Prim.hlevel codes)))
+        (λ s. (s.records, s.places)) (λ p. record { records = p.0; places = p.1 }) (λ _. refl) };
 
-    ghost view = { λ c. record { records = map.from_sorted (with_keys c.records.items); room = vec_capacity c.records - vec_len c.records } };
+    ghost view = { λ c. record { records = rows key_cmp c.table; places = c.table.places } };
 
-    ghost invariant = { λ c. T (map.is_sorted key_cmp (with_keys c.records.items)) };
+    ghost invariant = { λ c. IsKeyed (rows key_cmp c.table) };
 }
 
 impl<A: Allocator> Config<A> {
-    /// The configuration with no records and no room.
+    /// The configuration with no records and no places. Can't answer want of memory.
     pub fn new(alloc: A) -> Self
-        ensures { result.records ≡ map.empty }
+        ensures records { result.records ≡ map.empty }
+        ensures places { result.places ≡ [] }
     {
         Config {
-            records: Vec::new(alloc),
+            table: Table::new(alloc),
         }
     }
 
-    /// The configuration of these records, no two of one key, in any order. In time n log n; it fails
-    /// where memory for sorting is wanting.
-    pub fn from_records(records: Vec<Record<A>, A>) -> Result<Config<A>, AllocError>
+    /// The configuration of these records, no two of one key; each key has a place. The time is in proportion to their
+    /// number where they stand in the order of keys, and else to that of sorting them.
+    ///
+    /// `AllocError` (M1): memory was wanted.
+    pub fn from_records<B: Allocator>(
+        alloc: A,
+        records: Vec<Record<A>, B>,
+    ) -> Result<Config<A>, AllocError>
+    where
+        A: Clone,
         requires { HasNoKeyTwice records.items }
         ensures { IfOk result (λ c. c.records ≡ configuration_of records.items) }
     {
-        let mut records = records;
-        records.sort_by_key(|entry| entry.key())?;
-        Ok(Config { records })
+        let listed = list_by_key(alloc.clone()?, records)?;
+        let table = Table::from_rows(alloc, listed)?;
+        Ok(Config { table })
     }
 
     /// The record of a key, if there is one.
     pub fn get(&self, key: &Key) -> Option<&Record<A>>
         ensures { option_copied result ≡ map.get self.now.records key.now }
     {
-        match search(&self.records, key) {
-            Ok(at) => Some(&self.records[at]),
-            Err(_) => None,
-        }
+        self.table.get(key)
     }
 
-    /// The same as `get`, for keys that are asked for one after the other: the search begins near the place
-    /// where the last one ended, which `near` remembers. Begin with 0; it changes no answer.
-    pub fn get_near(&self, key: &Key, near: &mut usize) -> Option<&Record<A>>
-        ensures { option_copied result ≡ map.get self.now.records key.now }
+    /// How many records there are.
+    pub fn len(&self) -> usize
+        ensures { result ≡ map.len self.now.records }
     {
-        match search_near(&self.records, key, *near) {
-            Ok(at) => {
-                *near = at;
-                Some(&self.records[at])
-            }
-            Err(_) => None,
-        }
+        self.table.len()
     }
 
-    /// Each record stands under its own key: a fact for callers' proofs, with nothing to run.
+    /// Each record stands under its own key. It reads nothing, and is there for callers' proofs.
     pub fn has_own_keys(&self)
         ensures { IsKeyed self.now.records }
     {
-        // For the proof alone: what always holds of the vector is known once it is read.
-        let _records = &self.records;
+        let _ = &self.table;
     }
 
-    /// All records, in the order of keys.
-    pub fn walk(&self) -> &[Record<A>]
-        ensures { with_keys result.now ≡ map.entries self.now.records }
+    /// A key that has a record has a place. It reads nothing, and is there for callers' proofs: a record that is replaced
+    /// needs no call of `room`.
+    pub fn has_places(&self)
+        ensures { RecordsHavePlaces self.now }
     {
-        self.records.as_slice()
+        self.table.has_places();
     }
 
-    /// Room for this many more records.
-    pub fn room(&mut self, more: usize) -> Result<(), AllocError>
+    /// All records with their keys, in the order of keys.
+    pub fn walk(&self) -> Rows<'_, Key, Record<A>>
+        ensures entries { result ≡ map.entries self.now.records }
+        ensures fits { length result < 2 ^ 63 }
+    {
+        self.table.walk()
+    }
+
+    /// The records from a key on with their keys, in the order of keys. The time is that of one search.
+    pub fn walk_from(&self, from: &Key) -> Rows<'_, Key, Record<A>>
+        ensures entries { result ≡ rows_from key_cmp from.now (map.entries self.now.records) }
+        ensures fits { length result < 2 ^ 63 }
+    {
+        self.table.walk_from(from)
+    }
+
+    /// Gives a key a place, if it has none. Every other key keeps its place, and no record changes.
+    ///
+    /// `AllocError` (M1): memory was wanted, which can't be where the key has a place already.
+    pub fn room(&mut self, key: Key) -> Result<(), AllocError>
+    where
+        A: Clone,
         ensures records { self.new.records ≡ self.old.records }
-        ensures ok { OnOk result (more ≤ self.new.room) }
-        ensures kept { self.old.room ≤ self.new.room }
-        ensures succeeds { more ≤ self.old.room → IsOk result }
+        ensures ok { OnOk result (HasPlace self.new key) }
+        ensures kept { (q : keys.Key) → HasPlace self.old q → HasPlace self.new q }
+        ensures succeeds { HasPlace self.old key → IsOk result }
     {
-        self.records.reserve(more)
+        self.table.room(key)
     }
 
-    /// Puts a record in under its key, and gives back the one that was there. Can't answer want of memory: there is
-    /// room, or a record of this key.
+    /// Puts a record in under its key, which has a place, and gives back the record that was there. Can't answer want of
+    /// memory.
     pub fn put(&mut self, entry: Record<A>) -> Option<Record<A>>
-        requires { 0 < self.old.room ⊎ IsSome (map.get self.old.records (key_of entry)) }
+        requires { HasPlace self.old (key_of entry) }
         ensures before { result ≡ map.get self.old.records (key_of entry) }
         ensures records { self.new.records ≡ map.insert self.old.records (key_of entry) entry }
-        ensures same_room { IsSome result → self.new.room ≡ self.old.room }
-        ensures less_room { IsNone result → self.new.room + 1 ≡ self.old.room }
+        ensures places { self.new.places ≡ self.old.places }
     {
-        match search(&self.records, &entry.key()) {
-            Ok(at) => Some(mem::replace(&mut self.records[at], entry)),
-            Err(at) => match self.records.insert(at, entry) {
-                Ok(()) => None,
-                Err(_) => unreachable!(),
-            },
-        }
+        let key = entry.key();
+        self.table.put(&key, entry)
     }
 
-    /// Takes the record of a key out, if there is one. Can't answer want of memory, and leaves its room free.
+    /// Takes the record of a key out, if there is one. The key's place stays. Can't answer want of memory.
     pub fn take(&mut self, key: &Key) -> Option<Record<A>>
         ensures before { result ≡ map.get self.old.records key.now }
         ensures records { self.new.records ≡ map.remove self.old.records key.now }
-        ensures same_room { IsNone result → self.new.room ≡ self.old.room }
-        ensures more_room { IsSome result → self.new.room ≡ self.old.room + 1 }
+        ensures places { self.new.places ≡ self.old.places }
     {
-        match search(&self.records, key) {
-            Ok(at) => Some(self.records.remove(at)),
-            Err(_) => None,
-        }
+        self.table.take(key)
     }
+}
+
+/// Records, each with its key before it.
+fn list_by_key<A: Allocator, B: Allocator, C: Allocator>(
+    alloc: C,
+    records: Vec<Record<A>, B>,
+) -> Result<Vec<(Key, Record<A>), C>, AllocError>
+    ensures { IfOk result (λ listed. vec_items listed ≡ with_keys records.items) }
+{
+    records
+        .into_iter()
+        .map(|entry| (entry.key(), entry))
+        .collect(alloc)
 }

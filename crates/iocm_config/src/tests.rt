@@ -1,26 +1,121 @@
 use crate::Config;
 use iocm_records::{Record, RecordBody};
-use iocm_types::{Key, UnitNo};
+use iocm_types::{Css, Key, SetNo};
 use std::alloc::{AllocError, Global};
+use std::test::Fail;
 
-// The records of ID and RESOURCE, the greater key first.
-fn two(alloc: Global) -> Result<Config, AllocError> {
+/// The key of the limit of set 0 in channel subsystem 0.
+const LIMIT: Key = Key::Limit(Css::FIRST, SetNo::FIRST);
+
+/// The record of that limit.
+fn limit(limit: u16) -> Record {
+    Record::new(RecordBody::Limit(Css::FIRST, SetNo::FIRST, limit))
+}
+
+/// The limit in a record.
+fn limit_in(entry: Option<&Record>) -> Option<u16> {
+    match entry?.body() {
+        RecordBody::Limit(_, _, limit) => Some(*limit),
+        _ => None,
+    }
+}
+
+/// The records of a limit of 100, RESOURCE and ID, the greater key first.
+fn three(alloc: Global) -> Result<Config, AllocError> {
     let resource = Record::new(RecordBody::Resource(Vec::new(alloc)));
     let id = Record::new(RecordBody::Id(Vec::new(alloc)));
-    Config::from_records(vec![in alloc; resource, id]?)
+    let first = Record::new(RecordBody::Limit(Css::FIRST, SetNo::FIRST, 100));
+    Config::from_records(alloc, vec![in alloc; first, resource, id]?)
+}
+
+/// Makes room for a record, and puts it in.
+fn add(config: &mut Config, entry: Record) -> Result<Option<Record>, AllocError> {
+    config.room(entry.key())?;
+    Ok(config.put(entry))
+}
+
+/// The first three keys of a walk.
+fn first_keys(config: &Config, from: &Key) -> [Option<Key>; 3] {
+    let mut walk = config.walk_from(from);
+    [
+        walk.next().map(|row| *row.0),
+        walk.next().map(|row| *row.0),
+        walk.next().map(|row| *row.0),
+    ]
 }
 
 #[test]
-fn sorts_and_takes_out_and_puts_in(rt: HostRuntime) -> Result<(), AllocError> {
-    let mut config = two(rt.alloc())?;
-    assert!(rt; config.walk().first().map(|entry| entry.key()) == Some(Key::Id));
-    assert!(rt; config.take(&Key::Id).is_some());
-    assert!(rt; config.take(&Key::Id).is_none());
-    config.room(1)?;
-    let id = Record::new(RecordBody::Id(Vec::new(rt.alloc())));
-    assert!(rt; config.put(id).is_none());
-    assert!(rt; config.get(&Key::Id).is_some());
-    let unit = UnitNo::new(0).expect(&rt, "a control unit");
-    assert!(rt; config.get(&Key::Unit(unit)).is_none());
+fn records_in_any_order_are_walked_in_the_order_of_keys(rt: HostRuntime) -> Result<(), Fail> {
+    let config = three(rt.alloc())?;
+    let mut walked = Vec::new(rt.alloc());
+    for (key, entry) in config.walk() {
+        if *key == entry.key() {
+            walked.push(*key)?;
+        }
+    }
+    assert_eq!(rt;
+        walked.as_slice(),
+        [Key::Id, Key::Resource, LIMIT].as_slice()
+    );
+    Ok(())
+}
+
+#[test]
+fn a_walk_begins_at_a_key(rt: HostRuntime) -> Result<(), Fail> {
+    let config = three(rt.alloc())?;
+    let keys = first_keys(&config, &Key::Resource);
+    assert_eq!(rt; keys, [Some(Key::Resource), Some(LIMIT), None]);
+    Ok(())
+}
+
+#[test]
+fn a_new_configuration_is_empty(rt: HostRuntime) -> Result<(), Fail> {
+    let config: Config = Config::new(rt.alloc());
+    assert_eq!(rt; (config.len(), config.get(&Key::Id).is_some()), (0, false));
+    Ok(())
+}
+
+#[test]
+fn the_record_of_a_key_is_found(rt: HostRuntime) -> Result<(), Fail> {
+    let config = three(rt.alloc())?;
+    let found = limit_in(config.get(&LIMIT));
+    assert_eq!(rt; found, Some(100));
+    Ok(())
+}
+
+#[test]
+fn a_record_is_put_where_there_is_room(rt: HostRuntime) -> Result<(), Fail> {
+    let mut config = Config::new(rt.alloc());
+    let before = add(&mut config, limit(100))?;
+    let found = limit_in(config.get(&LIMIT));
+    assert_eq!(rt;
+        (before.is_some(), found, config.len()),
+        (false, Some(100), 1)
+    );
+    Ok(())
+}
+
+#[test]
+fn a_record_that_is_replaced_is_given_back(rt: HostRuntime) -> Result<(), Fail> {
+    let mut config = three(rt.alloc())?;
+    let before = add(&mut config, limit(200))?;
+    let limits = [limit_in(before.as_ref()), limit_in(config.get(&LIMIT))];
+    assert_eq!(rt; limits, [Some(100), Some(200)]);
+    Ok(())
+}
+
+#[test]
+fn what_was_taken_out_is_put_back(rt: HostRuntime) -> Result<(), Fail> {
+    let mut config = three(rt.alloc())?;
+    let taken = config.take(&Key::Id);
+    let gone = config.get(&Key::Id).is_none();
+    let again = config.take(&Key::Id).is_none();
+    if let Some(entry) = taken {
+        let _ = add(&mut config, entry)?;
+    }
+    assert_eq!(rt;
+        [gone, again, config.get(&Key::Id).is_some()],
+        [true, true, true]
+    );
     Ok(())
 }

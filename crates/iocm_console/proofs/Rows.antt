@@ -6,8 +6,6 @@ use Rattle.std.proofs.lemmas.List.Elements.{filter-append, filter_map-append}
 use Rattle.std.proofs.lemmas.Grind.{flat_map-append}
 use Rattle.std.proofs.lemmas.Bool.Decides.{nat_tests}
 use Rattle.iocm_types.specs.declared.place.NumberCell.{NumberCell}
-use Rattle.iocm_numbers.specs.declared.entry.CellDevice.{CellDevice}
-use Rattle.iocm_numbers.specs.Numbered.{celled}
 use Rattle.iocm_records.specs.declared.record.RecordBody.{RecordBody}
 use Rattle.iocm_records.specs.declared.record.RecordBody.TheVariants as body
 use Rattle.iocm_records.specs.Meaning.{record_of}
@@ -15,12 +13,13 @@ use Rattle.iocm_model.specs.Machine.Record.{Rec, ImageRecord, image}
 use Rattle.std.specs.FinMap.{entries}
 use Rattle.iocm_types.specs.declared.key.Key.{Key}
 use Rattle.iocm_types.specs.declared.sub_id.SubId.{SubId}
-use Rattle.iocm_model.specs.Machine.Configuration.{Configuration, Lookup, lookup_of, with_keys, as_image, records_of}
+use Rattle.iocm_model.specs.Machine.Configuration.{Configuration, Lookup, lookup_of, as_image, records_of}
 use Rattle.iocm_model.specs.Machine.Numbering.{Numbering, cells_of}
 use Rattle.iocm_model.specs.Machine.Table.{line_of, heading, table_of}
 use Rattle.iocm_model.specs.Machine.View.{row_at, image_view}
 use Rattle.iocm_types.specs.declared.view.View.{View}
-use Rattle.iocm_console.specs.Lines.{CellDevices, lines_of, image_lines, record_lines}
+use Rattle.iocm_console.specs.declared.cells.CellDevice.{CellDevice}
+use Rattle.iocm_console.specs.Lines.{CellDevices, celled, lines_of, image_lines, record_lines}
 
 -- the lines of an image at some cells and at further ones
 pub image_lines-append : (c : Lookup) (i : ImageRecord) (xs ys : CellDevices) → image_lines c i (xs ++ ys) ≡ image_lines c i xs ++ image_lines c i ys
@@ -59,11 +58,16 @@ image_lines_more c i xs k x h is =
     sym (ap (image_lines c i) (ap celled (take_more xs k x h ∙ ap (λ y. take k xs ++ y ∷ []) (sym is)) ∙ map-append _ (take k xs) _)
     ∙ image_lines-append c i _ _)
 
--- the lines of one more record
-pub record_lines_more : (c : Lookup) (cells : CellDevices) (xs : List Rec) (k : ℕ) (x : Rec) → k < length xs → x ≡ get_or xs k x
-    → record_lines c cells (take k xs) ++ record_lines c cells (x ∷ []) ≡ record_lines c cells (take (k + 1) xs)
-record_lines_more c cells xs k x h is =
-    sym (ap (record_lines c cells) (take_more xs k x h ∙ ap (λ y. take k xs ++ y ∷ []) (sym is)) ∙ record_lines-append c cells _ _)
+-- the records of rows, as they are shown
+abbrev pub records_in : {A : Type 0} → (A → Key × Rec) → List A → List Rec
+records_in shows rows = map (λ (e : Key × Rec). e.1) (map shows rows)
+
+-- the lines of one more row
+pub record_lines_more : {A : Type 0} (c : Lookup) (cells : CellDevices) (shows : A → Key × Rec) (rows : List A) (x : A)
+    → record_lines c cells (records_in shows rows) ++ record_lines c cells ((shows x).1 ∷ []) ≡ record_lines c cells (records_in shows (rows ++ x ∷ []))
+record_lines_more c cells shows rows x =
+    sym (ap (record_lines c cells) (ap (map (λ (e : Key × Rec). e.1)) (map-append shows rows (x ∷ [])) ∙ map-append _ (map shows rows) _)
+    ∙ record_lines-append c cells _ _)
 
 -- the lines of a record that is an image's
 pub record_lines-image : (c : Lookup) (cells : CellDevices) (r : Rec) (i : ImageRecord) → r ≡ image i → image_lines c i cells ≡ record_lines c cells (r ∷ [])
@@ -96,11 +100,6 @@ no_image (body.Unit x) h = refl
 no_image (body.Device x) h = refl
 no_image (body.Online css path name) h = refl
 
--- the records under their keys are the records
-records_back : (records : List Rec) → map (λ (e : Key × Rec). e.1) (with_keys records) ≡ records
-records_back [] = refl
-records_back (r ∷ rs) = ap (λ xs. r ∷ xs) (records_back rs)
-
 -- lines of a list of lists of rows
 lines_of-flat_map : (f : ImageRecord → List (SubId × View)) (is : List ImageRecord) → lines_of (flat_map f is) ≡ flat_map (λ i. lines_of (f i)) is
 unfolding lines_of
@@ -108,11 +107,10 @@ lines_of-flat_map f [] = refl
 lines_of-flat_map f (i ∷ is) = flat_map-append _ (f i) (flat_map f is) ∙ ap (λ xs. lines_of (f i) ++ xs) (lines_of-flat_map f is)
 
 -- the heading and then the lines of all records are the table
-pub table_lines : (c : Configuration) (n : Numbering) (cells : CellDevices) (records : List Rec) → with_keys records ≡ entries c → cells ≡ entries (cells_of n)
-    → (heading ++ 10 ∷ []) ++ record_lines (lookup_of c) cells records ≡ table_of c n
+pub table_lines : (c : Configuration) (n : Numbering) (cells : CellDevices) → cells ≡ entries (cells_of n)
+    → (heading ++ 10 ∷ []) ++ record_lines (lookup_of c) cells (records_of c) ≡ table_of c n
 unfolding record_lines image_lines lines_of
-table_lines c n cells records all places =
-    let same : records ≡ records_of c = sym (records_back records) ∙ ap (map (λ (e : Key × Rec). e.1)) all in
+table_lines c n cells places =
     append_assoc heading (10 ∷ []) _
-    ∙ ap (λ (xs : List ℕ). heading ++ 10 ∷ xs) (rw (← same, ← places) (sym (lines_of-flat_map
-    (λ i. filter_map (row_at (lookup_of c) i) (filter (λ (e : NumberCell × ℕ). e.0.css == i.css) cells)) (filter_map as_image records))))
+    ∙ ap (λ (xs : List ℕ). heading ++ 10 ∷ xs) (rw (← places) (sym (lines_of-flat_map
+    (λ i. filter_map (row_at (lookup_of c) i) (filter (λ (e : NumberCell × ℕ). e.0.css == i.css) cells)) (filter_map as_image (records_of c)))))

@@ -11,7 +11,7 @@ use Rattle.iocm_model.specs.Machine.Configuration.{Configuration}
 use Rattle.iocm_console.specs.declared.output.Output.{Output}
 use Rattle.iocm_console.specs.declared.status.Status.{Status}
 use Rattle.iocm_console.specs.declared.error.ConsoleError.{ConsoleError}
-use Rattle.iocm_console.specs.Show.{configuration_in, shown, table_shown, refused, Says, SaysIfMemory}
+use Rattle.iocm_console.specs.Show.{Shown, configuration_in, shown, table_shown, refused, Says, SaysIfMemory}
 
 -- a text that was written stays written
 pub appends_kept : (old mid new : Option (List ℕ)) (a : List ℕ) → Appends old mid a → Keeps mid new → Appends old new a
@@ -32,6 +32,18 @@ module _ {W : Type 0} (contents : W → Option (List ℕ)) (old new : Output W) 
       → IfOk result (Says contents old new (refused fault)) → IfOk result (SaysIfMemory contents old new (table_shown read))
   refuses (Ok status) read fault fails says = says_fault read fault status fails says
   refuses (Err e) read fault fails says = tt
+
+  -- what was said under another name
+  pub says_as : (result : Result Status ConsoleError) (said named : Shown) → said ≡ named → IfOk result (Says contents old new said)
+      → IfOk result (SaysIfMemory contents old new named)
+  says_as (Ok status) said named same says = inl (subst (λ what. Says contents old new what status) same says)
+  says_as (Err e) said named same says = tt
+
+  -- the refusal for want of memory, in place of anything
+  pub says_memory : (result : Result Status ConsoleError) (fault : Fault) (what : Shown) → fault ≡ memory → IfOk result (Says contents old new (refused fault))
+      → IfOk result (SaysIfMemory contents old new what)
+  says_memory (Ok status) fault what same says = inr (subst (λ f. Says contents old new (refused f) status) same says)
+  says_memory (Err e) fault what same says = tt
 
   -- a fault of the lines is one of the deck
   fails_later : (bytes : List ℕ) (fault : Fault) → Fails fault (cards_of bytes) → Fails fault (cards_of bytes >>= configuration_in)

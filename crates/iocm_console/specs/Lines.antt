@@ -1,5 +1,5 @@
 -- The lines of the table, image by image.
-use Rattle.std.specs.Prelude.{ℕ, ◌==◌, List, [], ◌∷◌, ◌++◌, filter}
+use Rattle.std.specs.Prelude.{ℕ, ◌==◌, List, [], ◌∷◌, ◌++◌, map, filter}
 use Rattle.std.specs.List.{flat_map, filter_map}
 use Rattle.iocm_types.specs.declared.place.NumberCell.{NumberCell}
 use Rattle.iocm_types.specs.declared.sub_id.SubId.{SubId}
@@ -9,10 +9,15 @@ use Rattle.iocm_model.specs.Machine.Configuration.{Lookup, as_image}
 use Rattle.iocm_model.specs.Machine.Table.{line_of}
 use Rattle.iocm_model.specs.Machine.View.{row_at}
 use Rattle.iocm_console.specs.declared.table.NamedImage.{NamedImage}
+use Rattle.iocm_console.specs.declared.cells.CellDevice.{CellDevice}
 
 -- number cells with their devices
 abbrev pub CellDevices : Type 0
 CellDevices = List (NumberCell × ℕ)
+
+-- each number cell with its device
+abbrev pub celled : List CellDevice → CellDevices
+celled xs = map (λ (e : CellDevice). (e.cell, e.device)) xs
 
 -- the lines of some subchannels, each with its end
 unfoldable pub lines_of : List (SubId × View) → List ℕ

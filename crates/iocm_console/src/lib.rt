@@ -11,6 +11,7 @@
 //! puts a line of the table together, digit by digit; `refusal.rt` has that of a refusal, as `Display` states it.
 #![tactic(auto)]
 
+mod cells;
 mod digits;
 mod error;
 mod output;

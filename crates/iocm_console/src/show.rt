@@ -9,8 +9,7 @@ use crate::table::write_table;
 use crate::{ConsoleError, Output, Status};
 use iocm_columns::{Card, Device, join, read_cards};
 use iocm_config::Config;
-use iocm_derive::opening;
-use iocm_numbers::Numbers;
+use iocm_numbers::{Numbers, opening};
 use iocm_records::from_statements;
 use iocm_statements::parse;
 use iocm_types::{Fault, Rule};
@@ -98,21 +97,23 @@ fn show_cards<W: Write>(
     ensures fault { IfErr result (FailedToWrite output.new) }
 {
     match open_cards(alloc, cards) {
-        Ok(opened) => show_opened(&opened, output),
+        Ok(opened) => show_opened(alloc, &opened, output),
         Err(fault) => refuse(fault, output),
     }
 }
 
-/// Prints the table of an opened deck. Can't answer want of memory.
-fn show_opened<W: Write>(opened: &Opened, output: &mut Output<W>) -> Result<Status, ConsoleError>
+/// Prints the table of an opened deck, or that memory is wanted.
+fn show_opened<W: Write>(
+    alloc: Global,
+    opened: &Opened,
+    output: &mut Output<W>,
+) -> Result<Status, ConsoleError>
     requires { opened.now.numbers.numbers ≡ model.opening opened.now.config.records }
-    ensures text { IfOk result (Says W.contents output.old output.new (table_shown (Ok opened.now.config.records))) }
+    ensures text { IfOk result (SaysIfMemory W.contents output.old output.new (table_shown (Ok opened.now.config.records))) }
     ensures works { OnOk result (has_failed output.new ≡ has_failed output.old) }
     ensures fault { IfErr result (FailedToWrite output.new) }
 {
-    write_table(output, &opened.config, &opened.numbers)?;
-    output.flush()?;
-    Ok(Status::Done)
+    write_table(alloc, output, &opened.config, &opened.numbers)
 }
 
 /// The configuration of the lines of a deck with its numbers at opening, or its first fault.
@@ -123,7 +124,7 @@ fn open_cards(alloc: Global, cards: &[Card]) -> Result<Opened, Fault>
     let joined = join(alloc, cards)?;
     let statements = parse(alloc, &joined)?;
     let records = from_statements(alloc, &statements)?;
-    let config = Config::from_records(records)?;
+    let config = Config::from_records(alloc, records)?;
     let numbers = opening(alloc, &config)?;
     Ok(Opened { config, numbers })
 }

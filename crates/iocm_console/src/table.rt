@@ -1,16 +1,17 @@
-ghost use Rattle.std.specs.Prelude.{◌≡◌, [], ◌∷◌, ◌++◌, OnOk, IfErr};
-ghost use Rattle.iocm_model.specs.Machine.Configuration.{lookup_of};
-ghost use Rattle.iocm_model.specs.Machine.Table.{table_of};
-ghost use Rattle.iocm_numbers.specs.Numbered.{celled};
-ghost use Rattle.iocm_console.specs.Lines.{image_lines, record_lines, image_record};
+ghost use Rattle.std.specs.Prelude.{◌≡◌, [], ◌∷◌, OnOk, IfOk, IfErr};
+ghost use Rattle.iocm_model.specs.Machine.Configuration.{lookup_of, records_of};
+ghost use Rattle.iocm_console.specs.Lines.{celled, image_lines, record_lines, image_record};
 ghost use Rattle.iocm_console.specs.Output.{has_failed, Prints, FailedToWrite};
+ghost use Rattle.iocm_console.specs.Show.{table_at, table_done, Says, SaysIfMemory};
 
-use crate::{ConsoleError, Output};
+use crate::cells::{CellDevice, gather_cells};
+use crate::show::refuse;
+use crate::{ConsoleError, Output, Status};
 use iocm_config::Config;
 use iocm_derive::ImageSight;
-use iocm_numbers::{CellDevice, Numbers};
+use iocm_numbers::Numbers;
 use iocm_records::{Record, RecordBody};
-use iocm_types::{Image, Name, SubId};
+use iocm_types::{Fault, Image, Name, SubId};
 use std::alloc::Allocator;
 use std::io::Write;
 
@@ -21,32 +22,52 @@ struct NamedImage {
     name: Name,
 }
 
-/// Writes the table of subchannels. Can't answer want of memory.
-pub fn write_table<A: Allocator, B: Allocator, W: Write>(
+/// Prints the table of subchannels. All memory is taken before the first byte is written.
+///
+/// M1, a refusal, which is printed: memory was wanted.
+pub fn write_table<A: Allocator, B: Allocator, C: Allocator + Drop, W: Write>(
+    alloc: C,
     output: &mut Output<W>,
     config: &Config<A>,
     numbers: &Numbers<B>,
-) -> Result<(), ConsoleError>
-    ensures text { OnOk result (Prints W.contents output.old output.new (table_of config.now.records numbers.now.numbers)) }
+) -> Result<Status, ConsoleError>
+    ensures text { IfOk result (SaysIfMemory W.contents output.old output.new (table_done config.now.records numbers.now.numbers)) }
+    ensures works { OnOk result (has_failed output.new ≡ has_failed output.old) }
+    ensures fault { IfErr result (FailedToWrite output.new) }
+{
+    match gather_cells(alloc, numbers.cells()) {
+        Ok(cells) => write_lines(output, config, cells.as_slice()),
+        Err(error) => refuse(Fault::from(error), output),
+    }
+}
+
+/// Prints the heading and the lines of all images at some number cells. Can't answer want of memory.
+fn write_lines<A: Allocator, W: Write>(
+    output: &mut Output<W>,
+    config: &Config<A>,
+    cells: &[CellDevice],
+) -> Result<Status, ConsoleError>
+    ensures text { IfOk result (Says W.contents output.old output.new (table_at config.now.records (celled cells.now))) }
     ensures works { OnOk result (has_failed output.new ≡ has_failed output.old) }
     ensures fault { IfErr result (FailedToWrite output.new) }
 {
     output.heading()?;
-    write_rows(output, config, config.walk(), numbers.cells())
+    write_rows(output, config, cells)?;
+    output.flush()?;
+    Ok(Status::Done)
 }
 
-/// Writes the lines of the images among some records.
+/// Writes the lines of all images at some number cells.
 fn write_rows<A: Allocator, W: Write>(
     output: &mut Output<W>,
     config: &Config<A>,
-    records: &[Record<A>],
     cells: &[CellDevice],
 ) -> Result<(), ConsoleError>
-    ensures text { OnOk result (Prints W.contents output.old output.new (record_lines (lookup_of config.now.records) (celled cells.now) records.now)) }
+    ensures text { OnOk result (Prints W.contents output.old output.new (record_lines (lookup_of config.now.records) (celled cells.now) (records_of config.now.records))) }
     ensures works { OnOk result (has_failed output.new ≡ has_failed output.old) }
     ensures fault { IfErr result (FailedToWrite output.new) }
 {
-    for entry in records {
+    for (_, entry) in config.walk() {
         write_record(output, config, entry, cells)?;
     }
     Ok(())

@@ -1,4 +1,3 @@
 pub mod Derived
-pub mod FirstNumbers
 pub mod PathTables
 pub mod Sighted

@@ -4,12 +4,13 @@ ghost use Rattle.iocm_model.specs.Machine.Configuration.{lookup_of};
 ghost use Rattle.iocm_model.specs.Machine.View as model;
 ghost use Rattle.iocm_records.specs.Meaning.{device_of};
 
-use crate::lookup::{device_at, device_fields};
+use crate::lookup::{device_under, find_device, walk_behind, walk_devices};
 use crate::path_tables::{PathTables, path_tables};
 use crate::reach::{ImageRecords, Reach};
 use crate::units_view::{UnitsView, are_same, units_view, view_by};
 use iocm_config::Config;
-use iocm_records::DeviceFields;
+use iocm_records::{DeviceFields, Record};
+use iocm_table::Rows;
 use iocm_types::{Chpid, Css, DevNo, Image, Key, Mask, Name, Paths, SetNo, View};
 use std::alloc::Allocator;
 use std::marker::Model;
@@ -23,10 +24,8 @@ pub struct ImageSight<'a, A: Allocator> {
     image: Image,
     name: Name,
     tables: PathTables,
-    /// Where the record of the next device is looked for first.
-    next: usize,
-    /// Near which record a unit of the next device is looked for.
-    unit: usize,
+    /// The records behind that of the last device, where the next one's is looked for first.
+    walk: Rows<'a, Key, Record<A>>,
     /// What the image sees by the units of the last device.
     last: UnitsView<'a>,
 }
@@ -46,7 +45,7 @@ impl<'a, A: Allocator> Model for ImageSight<'a, A> {
 
     ghost view = { λ s. record { records = s.config.now.records; image = record { css = s.image.css; mif = s.image.mif; name = s.name } } };
 
-    ghost invariant = { λ s. IsSighted s.config.now.records s.image.css s.name s.tables s.last };
+    ghost invariant = { λ s. IsSighted s.config.now.records s.image.css s.name s.tables s.walk s.last };
 }
 
 impl<'a, A: Allocator> ImageSight<'a, A> {
@@ -60,9 +59,8 @@ impl<'a, A: Allocator> ImageSight<'a, A> {
             image,
             name,
             tables: path_tables(config, image.css, name),
-            next: 0,
-            unit: 0,
-            last: units_view(&records, &[], &mut 0),
+            walk: walk_devices(config, SetNo::FIRST, DevNo::new(0)),
+            last: units_view(&records, &[]),
         }
     }
 
@@ -82,26 +80,23 @@ impl<'a, A: Allocator> ImageSight<'a, A> {
         let fields = self.find_next(set, device)?;
         let units = fields.units.as_slice();
         if !are_same(self.last.units, units) {
-            let mut near = self.unit;
-            self.last = units_view(self, units, &mut near);
-            self.unit = near;
+            self.last = units_view(self, units);
         }
         view_by(self, &self.last, fields)
     }
 
-    /// The device of a number in a set, if there is one. It is looked for next to the last one first.
+    /// The device of a number in a set, if there is one. It is looked for behind the last one first.
     fn find_next(&mut self, set: SetNo, device: DevNo) -> Option<&'a DeviceFields<A>>
         ensures device { option_map device_of (option_copied result) ≡ model.device_record (lookup_of self.old.records) set device }
         ensures same { self.new ≡ self.old }
     {
-        let mut at = self.next;
-        if let Some(fields) = device_at(self.config, at, set, device) {
-            self.next = at.saturating_add(1);
-            return Some(fields);
+        if let Some((key, entry)) = self.walk.next() {
+            if let Some(fields) = device_under(key, entry, set, device) {
+                return Some(fields);
+            }
         }
-        let entry = self.config.get_near(&Key::Device(set, device), &mut at);
-        self.next = at.saturating_add(1);
-        device_fields(entry?)
+        self.walk = walk_behind(self.config, set, device);
+        find_device(self.config, set, device)
     }
 }
 

@@ -1,14 +1,13 @@
 //! What follows from a configuration and its numbers: path lists, sight, masks and views.
 //!
-//! Each function reads a `Config`, and `view_at` its `Numbers` too, and answers exactly what its definition says.
+//! Each function reads a `Config`, and `view_at` its `Numbers` too, and answers exactly what its definition says. None can
+//! answer want of memory.
 //! `view_at` is what an image sees at one subchannel; `path_list`, `sees`, `pim` and `pam` are its parts.
 //! `ImageSight` gives the views of one image at many devices, one after the other: it keeps tables of the image's
-//! paths, and what it sees by the last device's control units. `opening` gives each reached device its first
-//! number, and is the only one that may want memory.
+//! paths, where the walk over the devices stands, and what it sees by the last device's control units.
 //! Begin with `view.rt`, then `reach.rt` for what both ways share.
 #![tactic(auto)]
 
-mod first_numbers;
 mod image_sight;
 mod lookup;
 mod masks;
@@ -21,7 +20,6 @@ mod tests;
 mod units_view;
 mod view;
 
-pub use first_numbers::opening;
 pub use image_sight::ImageSight;
 pub use masks::{pam, pim};
 pub use paths::path_list;

@@ -8,10 +8,12 @@ ghost use Rattle.iocm_model.specs.Machine.Sight.{reaches, record_lists};
 ghost use Rattle.iocm_model.specs.Machine.View.{device_record};
 ghost use Rattle.iocm_records.specs.Meaning as meaning;
 ghost use Rattle.iocm_derive.specs.Derived.{all_paths, image_name};
+ghost use Rattle.iocm_derive.specs.Sighted.{AreOf};
 
 use crate::sight::has_name;
 use iocm_config::Config;
 use iocm_records::{DeviceFields, PathFields, Record, RecordBody};
+use iocm_table::Rows;
 use iocm_types::{Chpid, Css, CssPath, DevNo, Image, Key, Name, SetNo, UnitNo};
 use std::alloc::Allocator;
 
@@ -36,23 +38,43 @@ pub fn device_fields<A: Allocator>(entry: &Record<A>) -> Option<&DeviceFields<A>
     }
 }
 
-/// The device whose record stands at a place of all records, if it is that of this number in this set.
-pub fn device_at<A: Allocator>(
-    config: &Config<A>,
-    place: usize,
+/// The device of a record under a key, if the key is that of this number in this set.
+pub fn device_under<'a, A: Allocator>(
+    under: &Key,
+    entry: &'a Record<A>,
     set: SetNo,
     device: DevNo,
-) -> Option<&DeviceFields<A>>
-    ensures { IfSome result (λ fields. device_record (lookup_of config.now.records) set device ≡ Some (meaning.device_of fields.now)) }
+) -> Option<&'a DeviceFields<A>>
+    ensures { IfSome result (λ fields. (under.now ≡ key.Device set device) × (as_device entry.entry.now ≡ Some (meaning.device_of fields.now))) }
 {
-    let records = config.walk();
-    if place >= records.len() {
-        return None;
-    }
-    match records[place].body() {
-        RecordBody::Device(fields) if fields.set == set && fields.number == device => Some(fields),
+    match under {
+        Key::Device(of_set, number) if *of_set == set && *number == device => device_fields(entry),
         _ => None,
     }
+}
+
+/// The rows of all records from a device on.
+pub fn walk_devices<A: Allocator>(
+    config: &Config<A>,
+    set: SetNo,
+    device: DevNo,
+) -> Rows<'_, Key, Record<A>>
+    ensures { AreOf config.now.records result }
+{
+    config.walk_from(&Key::Device(set, device))
+}
+
+/// The rows of all records behind a device, if it is there.
+pub fn walk_behind<A: Allocator>(
+    config: &Config<A>,
+    set: SetNo,
+    device: DevNo,
+) -> Rows<'_, Key, Record<A>>
+    ensures { AreOf config.now.records result }
+{
+    let mut rows = walk_devices(config, set, device);
+    let _ = rows.next();
+    rows
 }
 
 /// The channel subsystem and the name in an image's record, if there is one.
@@ -65,16 +87,11 @@ pub fn find_image<A: Allocator>(config: &Config<A>, image: Image) -> Option<(Css
     }
 }
 
-/// The paths of a control unit in all channel subsystems; a unit that isn't there has none. It is looked for
-/// near a place first, which is then its place.
-pub fn find_paths<'a, A: Allocator>(
-    config: &'a Config<A>,
-    unit: UnitNo,
-    near: &mut usize,
-) -> &'a [CssPath]
-    ensures { result.now ≡ all_paths (lookup_of config.entry.now.records (key.Unit unit)) }
+/// The paths of a control unit in all channel subsystems; a unit that isn't there has none.
+pub fn find_paths<A: Allocator>(config: &Config<A>, unit: UnitNo) -> &[CssPath]
+    ensures { result.now ≡ all_paths (lookup_of config.now.records (key.Unit unit)) }
 {
-    let Some(entry) = config.get_near(&Key::Unit(unit), near) else {
+    let Some(entry) = config.get(&Key::Unit(unit)) else {
         return &[];
     };
     match entry.body() {

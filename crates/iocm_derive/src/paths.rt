@@ -14,23 +14,18 @@ pub fn path_list<A: Allocator>(config: &Config<A>, css: Css, set: SetNo, device:
     ensures { result ≡ paths_at (lookup_of config.now.records) css set device }
 {
     match find_device(config, set, device) {
-        Some(fields) => paths_of_units(config, css, fields.units.as_slice(), &mut 0),
+        Some(fields) => paths_of_units(config, css, fields.units.as_slice()),
         None => Paths::new(),
     }
 }
 
-/// The first eight paths of these units in a channel subsystem. The first unit is looked for near a place.
-pub fn paths_of_units<A: Allocator>(
-    config: &Config<A>,
-    css: Css,
-    units: &[UnitNo],
-    near: &mut usize,
-) -> Paths
+/// The first eight paths of these units in a channel subsystem.
+pub fn paths_of_units<A: Allocator>(config: &Config<A>, css: Css, units: &[UnitNo]) -> Paths
     ensures { result ≡ view_paths (lookup_of config.now.records) css units.now }
 {
     let mut paths = Paths::new();
     for unit in units {
-        add_paths(&mut paths, css, find_paths(config, *unit, near));
+        add_paths(&mut paths, css, find_paths(config, *unit));
     }
     paths
 }

@@ -33,7 +33,7 @@ fn sees_device<A: Allocator, R: Reach<A>>(reach: &R, device: &DeviceFields<A>) -
     ensures { result ≡ model.sees (lookup_of (R.records reach.now)) (R.subsystem reach.now) (R.called reach.now) (device_of device.now) }
 {
     is_candidate(device.candidates.as_ref(), reach.name())
-        && reaches_units(reach, device.units.as_slice(), &mut 0)
+        && reaches_units(reach, device.units.as_slice())
 }
 
 /// Whether no candidates are listed, or the name is among them.
@@ -53,16 +53,12 @@ pub fn has_name(names: &[Name], name: Name) -> bool
     names.iter().any(|other| name == *other)
 }
 
-/// Whether an image reaches one of the paths of these units. The first unit is looked for near a place.
-pub fn reaches_units<A: Allocator, R: Reach<A>>(
-    reach: &R,
-    units: &[UnitNo],
-    near: &mut usize,
-) -> bool
+/// Whether an image reaches one of the paths of these units.
+pub fn reaches_units<A: Allocator, R: Reach<A>>(reach: &R, units: &[UnitNo]) -> bool
     ensures { result ≡ list_any (model.reaches (lookup_of (R.records reach.now)) (R.subsystem reach.now) (R.called reach.now)) (path_list (lookup_of (R.records reach.now)) (R.subsystem reach.now) units.now) }
 {
     for unit in units {
-        if reaches_any(reach, find_paths(reach.config(), *unit, near)) {
+        if reaches_any(reach, find_paths(reach.config(), *unit)) {
             return true;
         }
     }

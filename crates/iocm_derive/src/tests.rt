@@ -1,11 +1,11 @@
-use crate::{ImageSight, image_view, opening, path_list, sees, view_at};
+use crate::{ImageSight, image_view, path_list, sees};
 use iocm_config::Config;
 use iocm_records::{DeviceFields, PathFields, Record, RecordBody, UnitFields};
 use iocm_types::{
-    Chpid, Css, CssPath, DevNo, Image, List, Mask, Mif, Name, PathKind, Paths, SetNo, SubId,
-    UnitNo, View,
+    Chpid, Css, CssPath, DevNo, Image, List, Mask, Mif, Name, PathKind, Paths, SetNo, UnitNo, View,
 };
 use std::alloc::{AllocError, Global};
+use std::test::Fail;
 
 // One image that reaches path 50, a unit behind it, device 1000, and the path online; out of order.
 fn small(
@@ -18,7 +18,7 @@ fn small(
 ) -> Result<Config, AllocError> {
     let path = Chpid::new(0x50);
     let device = Record::new(RecordBody::Device(DeviceFields {
-        set: set,
+        set,
         number: DevNo::new(0x1000),
         units: List::from_vec(vec![in alloc; unit_number]?),
         unit_address: 0,
@@ -27,14 +27,14 @@ fn small(
     }));
     let unit = Record::new(RecordBody::Unit(UnitFields {
         number: unit_number,
-        paths: List::from_vec(vec![in alloc; CssPath { css: css, path }]?),
+        paths: List::from_vec(vec![in alloc; CssPath { css, path }]?),
         ranges: List::from_vec(Vec::new(alloc)),
         links: List::from_vec(Vec::new(alloc)),
         cuadd: None,
         carried: Vec::new(alloc),
     }));
     let way = Record::new(RecordBody::Path(PathFields {
-        css: css,
+        css,
         number: path,
         kind: PathKind::Shared,
         access: List::from_vec(vec![in alloc; name]?),
@@ -43,7 +43,7 @@ fn small(
     }));
     let image = Record::new(RecordBody::Image(css, mif, name));
     let online = Record::new(RecordBody::Online(css, path, name));
-    Config::from_records(vec![in alloc; online, device, unit, way, image]?)
+    Config::from_records(alloc, vec![in alloc; online, device, unit, way, image]?)
 }
 
 // The path 50 alone.
@@ -68,45 +68,55 @@ fn image_name() -> Option<Name> {
     Name::new(b"LPA")
 }
 
-// The small configuration, or nothing where a part is out of range.
-fn small_configuration(alloc: Global) -> Result<Option<Config>, AllocError> {
-    let (Some(css), Some(mif), Some(set), Some(unit), Some(name)) = (
-        Css::new(0),
-        Mif::new(1),
-        SetNo::new(0),
-        UnitNo::new(0x1000),
-        image_name(),
-    ) else {
-        return Ok(None);
-    };
-    Ok(Some(small(alloc, css, mif, name, set, unit)?))
+// The image.
+fn image() -> Result<Image, Fail> {
+    let css = Css::FIRST;
+    let mif = Mif::new(1).ok_or("1")?;
+    Ok(Image { css, mif })
 }
 
-// The same view by the image's tables.
-fn sighted(config: &Config, image: Image, name: Name, set: SetNo) -> Option<View> {
-    let mut sight = ImageSight::new(config, image, name);
-    sight.view(set, DevNo::new(0x1000))
+// The small configuration.
+fn small_configuration(alloc: Global) -> Result<Config, Fail> {
+    let unit = UnitNo::new(0x1000).ok_or("1000")?;
+    let name = image_name().ok_or("LPA")?;
+    let image = image()?;
+    Ok(small(alloc, image.css, image.mif, name, SetNo::FIRST, unit)?)
 }
 
 #[test]
-fn shows_the_view_of_a_small_configuration(rt: HostRuntime) -> Result<(), AllocError> {
-    let config = small_configuration(rt.alloc())?.expect(&rt, "the parts are in range");
-    let numbers = opening(rt.alloc(), &config)?;
-    let css = Css::new(0).expect(&rt, "a channel subsystem");
-    let mif = Mif::new(1).expect(&rt, "a MIF image ID");
-    let name = image_name().expect(&rt, "a name");
-    let set = SetNo::new(0).expect(&rt, "a set");
-    let image = Image { css, mif };
-    let device = DevNo::new(0x1000);
-    assert!(rt; path_list(&config, css, set, device) == one_path());
-    assert!(rt; sees(&config, image, set, device));
-    assert!(rt; image_view(&config, image, name, set, device) == Some(one_view()));
-    assert!(rt; sighted(&config, image, name, set) == Some(one_view()));
-    let subchannel = SubId {
-        image,
-        set,
-        number: 0,
-    };
-    assert!(rt; view_at(&config, &numbers, subchannel) == Some(one_view()));
+fn a_device_has_the_paths_of_its_unit(rt: HostRuntime) -> Result<(), Fail> {
+    let config = small_configuration(rt.alloc())?;
+    let paths = path_list(&config, Css::FIRST, SetNo::FIRST, DevNo::new(0x1000));
+    assert!(rt; paths == one_path());
+    Ok(())
+}
+
+#[test]
+fn an_image_sees_a_device_behind_a_path_of_its(rt: HostRuntime) -> Result<(), Fail> {
+    let config = small_configuration(rt.alloc())?;
+    assert!(rt; sees(&config, image()?, SetNo::FIRST, DevNo::new(0x1000)));
+    Ok(())
+}
+
+#[test]
+fn an_image_has_a_view_of_a_device(rt: HostRuntime) -> Result<(), Fail> {
+    let config = small_configuration(rt.alloc())?;
+    let name = image_name().ok_or("LPA")?;
+    let view = image_view(&config, image()?, name, SetNo::FIRST, DevNo::new(0x1000));
+    assert!(rt; view == Some(one_view()));
+    Ok(())
+}
+
+#[test]
+fn views_of_devices_in_any_order_are_the_same(rt: HostRuntime) -> Result<(), Fail> {
+    let config = small_configuration(rt.alloc())?;
+    let name = image_name().ok_or("LPA")?;
+    let mut sight = ImageSight::new(&config, image()?, name);
+    let views = [
+        sight.view(SetNo::FIRST, DevNo::new(0x1000)),
+        sight.view(SetNo::FIRST, DevNo::new(0x0FFF)),
+        sight.view(SetNo::FIRST, DevNo::new(0x1000)),
+    ];
+    assert!(rt; views == [Some(one_view()), None, Some(one_view())]);
     Ok(())
 }

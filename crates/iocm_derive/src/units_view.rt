@@ -23,19 +23,15 @@ pub struct UnitsView<'a> {
     pub pam: Mask,
 }
 
-/// What an image sees by these units. The first one is looked for near a place.
-pub fn units_view<'a, A: Allocator, R: Reach<A>>(
-    reach: &R,
-    units: &'a [UnitNo],
-    near: &mut usize,
-) -> UnitsView<'a>
+/// What an image sees by these units.
+pub fn units_view<'a, A: Allocator, R: Reach<A>>(reach: &R, units: &'a [UnitNo]) -> UnitsView<'a>
     ensures units { result.units.now ≡ units.entry.now }
     ensures seen { IsSeenBy (lookup_of (R.records reach.now)) (R.subsystem reach.now) (R.called reach.now) result }
 {
-    let paths = paths_of_units(reach.config(), reach.css(), units, near);
+    let paths = paths_of_units(reach.config(), reach.css(), units);
     UnitsView {
         units,
-        is_reached: reaches_units(reach, units, near),
+        is_reached: reaches_units(reach, units),
         pim: installed_paths(reach, &paths),
         pam: available_paths(reach, &paths),
         paths,

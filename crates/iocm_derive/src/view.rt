@@ -63,6 +63,6 @@ fn named_view<A: Allocator>(
 fn view_if_seen<A: Allocator, R: Reach<A>>(reach: &R, device: &DeviceFields<A>) -> Option<View>
     ensures { result ≡ model.view_if_seen (lookup_of (R.records reach.now)) (R.subsystem reach.now) (R.called reach.now) (device_of device.now) }
 {
-    let by = units_view(reach, device.units.as_slice(), &mut 0);
+    let by = units_view(reach, device.units.as_slice());
     view_by(reach, &by, device)
 }

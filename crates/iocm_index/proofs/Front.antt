@@ -1,7 +1,7 @@
 -- Who names a thing stands together in the order of namings: from the first of them on, at the front.
 use Rattle.std.proofs.Common.{◌≡◌, T, Bool, true, cond, List, [], ◌∷◌, map, filter, refl, sym, ap, ◌∙◌}
 use Rattle.std.specs.Ordering.{is_le, is_eq, eq_by_cmp, ordering_then, ordering_reverse}
-use Rattle.std.specs.Cmp.{IsTotalOrder, on_total}
+use Rattle.std.specs.Cmp.{IsTotalOrder, on_total, then_total}
 use Rattle.std.specs.Cmp.Lexicographic.{nat_list_cmp_total}
 use Rattle.std.specs.declared.cmp.Ordering.{Ordering}
 use Rattle.std.specs.declared.cmp.Ordering.TheVariants.{Less, Equal, Greater}
@@ -11,17 +11,21 @@ use Rattle.iocm_types.specs.declared.key.Key.TheVariants as key
 use Rattle.iocm_types.specs.declared.named.Named.{Named}
 use Rattle.iocm_types.specs.declared.naming.Naming.{Naming}
 use Rattle.iocm_types.specs.Key.{key_cmp}
+use Rattle.iocm_types.specs.KeyOrder.{keys_total}
 use Rattle.iocm_types.specs.Naming.{numbers_of_named, named_cmp, naming_cmp}
 use Rattle.iocm_types.proofs.Orderings.{less_is}
 use Rattle.iocm_types.proofs.Tests.{first_holds, second_holds}
 use Rattle.iocm_table.specs.Slots.{rows_from}
 use Rattle.iocm_index.specs.Namings.{users_in_front}
 
-abbrev Listed : Type 0
+abbrev pub Listed : Type 0
 Listed = List (Naming × Unit {0})
 
-named_total : IsTotalOrder named_cmp
+pub named_total : IsTotalOrder named_cmp
 named_total = on_total numbers_of_named nat_list_cmp_total
+
+pub namings_total : IsTotalOrder naming_cmp
+namings_total = then_total (on_total (λ (n : Naming). n.named) named_total) (on_total (λ (n : Naming). n.user) keys_total)
 
 -- no key is before that of the ID statement
 first_key : (k : Key) → is_le (key_cmp key.Id k) ≡ true
@@ -35,10 +39,10 @@ first_key (key.Device a b) = refl
 first_key (key.Online a b c) = refl
 
 -- the namings of a thing, in any order
-abbrev is_of : Named → Naming × Unit {0} → Bool
+abbrev pub is_of : Named → Naming × Unit {0} → Bool
 is_of named e = eq_by_cmp named_cmp named e.0.named
 
-abbrev users : Named → Listed → List Key
+abbrev pub users : Named → Listed → List Key
 users named es = map (λ e. e.0.user) (filter (is_of named) es)
 
 -- of two comparisons one after the other that are less, the first isn't greater

@@ -1,15 +1,15 @@
--- Who names whom: the namings of a record, and a set of namings with those of a record put in or taken out. Own.
-use Rattle.std.specs.Prelude.{List, [], ◌∷◌, map, filter, if◌then◌else◌}
-use Rattle.std.specs.List.{AllByRecursion}
+-- Who names whom: the namings of a record, the set of namings that an index holds, and the users of a thing. Own.
+use Rattle.std.specs.Prelude.{◌≡◌, Bool, List, [], ◌∷◌, map, filter, if◌then◌else◌}
+use Rattle.std.specs.List.{AllByRecursion, list_any}
 use Rattle.std.specs.Ordering.{eq_by_cmp}
-use Rattle.std.specs.FinMap.{FinMap, entries, insert, remove}
+use Rattle.std.specs.FinMap.{FinMap, entries, contains_key}
 use Rattle.iocm_types.specs.declared.key.Key.{Key}
 use Rattle.iocm_types.specs.declared.named.Named.{Named}
 use Rattle.iocm_types.specs.declared.naming.Naming.{Naming}
 use Rattle.iocm_types.specs.Naming.{named_cmp, naming_cmp}
 use Rattle.iocm_model.specs.Machine.Record.{Rec, key_of}
 use Rattle.iocm_model.specs.Machine.Naming.{named_by}
-use Rattle.iocm_table.specs.Slots.{Stored, HasPlace}
+use Rattle.iocm_table.specs.Slots.{Stored, rows, HasPlace}
 
 -- that something is named, by a record of this key
 abbrev pub naming : Key → Named → Naming
@@ -19,18 +19,17 @@ naming user named = record { named = named; user = user }
 abbrev pub namings_of : Rec → List Naming
 namings_of r = map (naming (key_of r)) (named_by r)
 
+-- a naming is one of a record's
+abbrev pub is_naming_of : Rec → Naming → Bool
+is_naming_of r n = list_any (eq_by_cmp naming_cmp n) (namings_of r)
+
 -- a set of namings
 abbrev pub Namings : Type 0
 Namings = FinMap naming_cmp (Unit {0})
 
--- a set with these, and without these
-abbrev pub with_namings : List Naming → Namings → Namings
-with_namings [] m = m
-with_namings (n ∷ ns) m = with_namings ns (insert m n tt)
-
-abbrev pub without_namings : List Naming → Namings → Namings
-without_namings [] m = m
-without_namings (n ∷ ns) m = without_namings ns (remove m n)
+-- a naming is in an index
+abbrev pub is_linked : Stored Naming (Unit {0}) → Naming → Bool
+is_linked t n = contains_key (rows naming_cmp t) n
 
 -- the keys of the records that name a thing, in order
 abbrev pub users_in : Named → Namings → List Key
@@ -44,3 +43,7 @@ users_in_front named (e ∷ es) = if eq_by_cmp named_cmp named e.0.named then e.
 -- these namings have places
 abbrev pub HavePlaces : Stored Naming (Unit {0}) → List Naming → Type 0
 HavePlaces t ns = AllByRecursion (HasPlace naming_cmp t) ns
+
+-- two sets in which the same namings are, are the same set
+abbrev pub AreTheirNamings : Type 0
+AreTheirNamings = (a b : Namings) → ((n : Naming) → contains_key a n ≡ contains_key b n) → a ≡ b

@@ -1,10 +1,10 @@
-ghost use Rattle.std.specs.Prelude.{◌≡◌, ◌<◌, [], Some, IsOk, OnOk, length, slice_get};
+ghost use Rattle.std.specs.Prelude.{◌≡◌, ◌<◌, ◌⊎◌, ◌||◌, ◌&&◌, not, [], Some, IsOk, IsTrue, OnOk, length, slice_get};
 ghost use Rattle.std.specs.FinMap.{empty};
 ghost use Rattle.iocm_types.specs.Naming.{naming_cmp};
 ghost use Rattle.iocm_table.specs.Slots.{rows, HasPlace};
 ghost use Rattle.iocm_types.specs.declared.naming.Naming as naming;
 ghost use Rattle.iocm_model.specs.Machine.Naming.{named_by};
-ghost use Rattle.iocm_index.specs.Namings.{namings_of, with_namings, without_namings, HavePlaces};
+ghost use Rattle.iocm_index.specs.Namings.{namings_of, is_naming_of, is_linked, HavePlaces};
 
 use iocm_records::Record;
 use iocm_table::Table;
@@ -38,7 +38,8 @@ impl<A: Allocator> Index<A> {
         }
     }
 
-    /// Gives each naming of a record a place, if it has none. Every other naming keeps its place, and the set stays.
+    /// Gives each naming of a record a place, if it has none. Each other naming that has a place keeps it, no other naming
+    /// gets one, and the set stays.
     ///
     /// `AllocError` (M1): memory was wanted, which can't be where all have places already.
     pub fn room<B: Allocator>(&mut self, entry: &Record<B>) -> Result<(), AllocError>
@@ -47,6 +48,7 @@ impl<A: Allocator> Index<A> {
         ensures rows { rows naming_cmp self.new ≡ rows naming_cmp self.old }
         ensures ok { OnOk result (HavePlaces self.new (namings_of entry.now)) }
         ensures kept { (n : naming.Naming) → HasPlace naming_cmp self.old n → HasPlace naming_cmp self.new n }
+        ensures no_more { (n : naming.Naming) → HasPlace naming_cmp self.new n → HasPlace naming_cmp self.old n ⊎ IsTrue (is_naming_of entry.now n) }
         ensures succeeds { HavePlaces self.old (namings_of entry.now) → IsOk result }
     {
         for place in 0..entry.names_len() {
@@ -55,10 +57,10 @@ impl<A: Allocator> Index<A> {
         Ok(())
     }
 
-    /// Puts the namings of a record in, each of which has a place. Can't answer want of memory.
+    /// Puts the namings of a record in, each of which has a place, and no others. Can't answer want of memory.
     pub fn link<B: Allocator>(&mut self, entry: &Record<B>)
         requires { HavePlaces self.old (namings_of entry.now) }
-        ensures rows { rows naming_cmp self.new ≡ with_namings (namings_of entry.now) (rows naming_cmp self.old) }
+        ensures linked { (n : naming.Naming) → is_linked self.new n ≡ (is_naming_of entry.now n || is_linked self.old n) }
         ensures places { self.new.places ≡ self.old.places }
     {
         for place in 0..entry.names_len() {
@@ -66,9 +68,9 @@ impl<A: Allocator> Index<A> {
         }
     }
 
-    /// Takes the namings of a record out. Their places stay. Can't answer want of memory.
+    /// Takes the namings of a record out, and no others. Their places stay. Can't answer want of memory.
     pub fn unlink<B: Allocator>(&mut self, entry: &Record<B>)
-        ensures rows { rows naming_cmp self.new ≡ without_namings (namings_of entry.now) (rows naming_cmp self.old) }
+        ensures linked { (n : naming.Naming) → is_linked self.new n ≡ (not (is_naming_of entry.now n) && is_linked self.old n) }
         ensures places { self.new.places ≡ self.old.places }
     {
         for place in 0..entry.names_len() {

@@ -9,9 +9,11 @@
 #![tactic(auto)]
 
 mod index;
+mod laws;
 #[cfg(test)]
 mod tests;
 mod users;
 
 pub use index::Index;
+pub use laws::sets_are_their_namings;
 pub use users::Users;

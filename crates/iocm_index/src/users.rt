@@ -1,11 +1,16 @@
 ghost use Rattle.std.specs.Prelude.{◌≡◌, length};
 ghost use Rattle.std.specs.Iterator.{at_most};
 ghost use Rattle.std.specs.Map.Iter.{TakesFirst};
+ghost use Rattle.std.specs.List.{list_any};
+ghost use Rattle.std.specs.List.Sorted.{IsStrictlySortedBy};
+ghost use Rattle.std.specs.Ordering.{eq_by_cmp};
+ghost use Rattle.iocm_types.specs.Key.{key_cmp};
 ghost use Rattle.iocm_types.specs.Naming.{naming_cmp};
+ghost use Rattle.iocm_types.specs.declared.key.Key as key_type;
 ghost use Rattle.iocm_types.specs.declared.key.Key.TheVariants as key;
 ghost use Rattle.std.specs.FinMap.{entries};
 ghost use Rattle.iocm_table.specs.Slots.{rows, rows_from};
-ghost use Rattle.iocm_index.specs.Namings.{naming, users_in, users_in_front};
+ghost use Rattle.iocm_index.specs.Namings.{naming, is_linked, users_in, users_in_front};
 
 use crate::Index;
 use iocm_table::Rows;
@@ -67,9 +72,12 @@ impl<'a> Users<'a> {
 }
 
 impl<A: Allocator> Index<A> {
-    /// The keys of the records that name a thing, in order. The time is that of one search, and in proportion to their number.
+    /// The keys of the records that name a thing, each once and in order. The time is that of one search, and in proportion
+    /// to their number.
     pub fn users_of(&self, named: Named) -> Users<'_>
-        ensures { result ≡ users_in named (rows naming_cmp self.now) }
+        ensures users { result ≡ users_in named (rows naming_cmp self.now) }
+        ensures named { (k : key_type.Key) → list_any (eq_by_cmp key_cmp k) result ≡ is_linked self.now (naming k named) }
+        ensures rise { IsStrictlySortedBy key_cmp result }
     {
         let rows = self.from_first(&named);
         Users::over(rows, named)

@@ -1,1 +1,15 @@
-pub mod Tables
+pub mod BitWords
+pub mod Built
+pub mod Counting
+pub mod FirstPlaces
+pub mod FirstRows
+pub mod Gathering
+pub mod InPlaces
+pub mod Lowest
+pub mod OneLess
+pub mod OneMore
+pub mod PathsThere
+pub mod Renumbered
+pub mod Restored
+pub mod Steps
+pub mod Tied

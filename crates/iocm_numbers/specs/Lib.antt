@@ -1,1 +1,5 @@
+pub mod Bits
 pub mod Numbered
+pub mod Opening
+pub mod PutBack
+pub mod Renumbering

@@ -1,10 +1,10 @@
--- An empty slot that is added: no row changes, and no key loses its place.
-use Rattle.std.proofs.Common.{◌≡◌, Bool, true, false, cond, List, [], ◌∷◌, Option, None, Some, is_some, refl, ap, ◌∙◌}
+-- An empty slot that is added: no row changes.
+use Rattle.std.proofs.Common.{◌≡◌, Bool, true, false, cond, List, [], ◌∷◌, Option, None, Some, refl, ap}
 use Rattle.std.specs.Ordering.{is_eq, match_ordering}
 use Rattle.std.specs.declared.cmp.Ordering.{Ordering}
 use Rattle.std.specs.declared.cmp.Ordering.TheVariants.{Less, Equal, Greater}
 use Rattle.std.specs.Map.{lookup}
-use Rattle.std.specs.BTreeMap.{BTreeMap, get, insert_entry, is_at, Updates}
+use Rattle.std.specs.BTreeMap.{insert_entry, is_at}
 use Rattle.iocm_table.specs.Slots.{present, listed_first}
 
 module _ {K X : Type 0} (R : K → K → Ordering) (key : K) where
@@ -22,10 +22,3 @@ module _ {K X : Type 0} (R : K → K → Ordering) (key : K) where
   present_added [] none = refl
   present_added (e ∷ es) none = added_at (R key e.0) e es (insert_entry R es key None) none
       (present_added es (below_tie (is_eq (R key e.0)) e.1 (lookup (is_at (R key)) es) none))
-
-  some_either : (b : Bool) (r : Option (Option X)) → is_some r ≡ true → is_some (cond b (Some None) r) ≡ true
-  some_either true r h = refl
-  some_either false r h = h
-
-  pub kept_added : (m n : BTreeMap K (Option X)) → Updates R m n key (Some None) → (q : K) → is_some (get R m q) ≡ true → is_some (get R n q) ≡ true
-  kept_added m n u q h = ap is_some (u.0 q) ∙ some_either (is_eq (R key q)) (get R m q) h

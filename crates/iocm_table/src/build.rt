@@ -13,13 +13,14 @@ use std::alloc::{AllocError, Allocator};
 use std::collections::BTreeMap;
 
 impl<K: TableKey + Drop, V: Drop, A: Allocator + Clone> Table<K, V, A> {
-    /// The table of some rows, no two of which have one key; each key has a place. The time is in proportion to the
+    /// The table of some rows, no two of which have one key; their keys have places, and no others. The time is in proportion to the
     /// number of rows where they stand in the order of keys, and else to that of sorting them.
     ///
     /// `AllocError` (M1): memory was wanted.
     pub fn from_rows<B: Allocator>(alloc: A, listed: Vec<(K, V), B>) -> Result<Self, AllocError>
         requires { IsDistinct (eq_by_cmp K.order) (keys_of (vec_items listed)) }
-        ensures { IfOk result (λ t. rows K.order t ≡ map.from_entries (vec_items listed)) }
+        ensures rows { IfOk result (λ t. rows K.order t ≡ map.from_entries (vec_items listed)) }
+        ensures places { IfOk result (λ t. t.places ≡ map.keys (rows K.order t)) }
     {
         let len = listed.len();
         let slots = make_slots(alloc, listed)?;

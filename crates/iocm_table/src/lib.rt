@@ -1,5 +1,5 @@
 //! One table for everything that is looked up: records by key, numbers by place and by cell, live records by
-//! subchannel. Nothing stands on it yet.
+//! subchannel.
 //!
 //! A `Table` has rows under keys, in the order of keys. Contracts see the finite map of its rows and the keys that
 //! have a place. `room` gives a key a place; besides building it is the only call that may want memory. `put` wants

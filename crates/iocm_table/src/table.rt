@@ -1,4 +1,4 @@
-ghost use Rattle.std.specs.Prelude.{◌≡◌, [], None, IsOk, IsSome, OnOk, ◌≤◌, if◌then◌else◌};
+ghost use Rattle.std.specs.Prelude.{◌≡◌, ◌⊎◌, [], None, IsOk, IsSome, OnOk, ◌≤◌, if◌then◌else◌};
 ghost use Rattle.std.specs.BTreeMap.{get, IsOrdered};
 ghost use Rattle.std.specs.Option.{option_copied};
 ghost use Rattle.std.specs.FinMap as map;
@@ -68,7 +68,7 @@ impl<K: TableKey, V, A: Allocator> Table<K, V, A> {
         let _ = &self.len;
     }
 
-    /// Gives a key a place, if it has none. Every other key keeps its place, and no row changes.
+    /// Gives a key a place, if it has none. Each other key that has a place keeps it, no other key gets one, and no row changes.
     ///
     /// `AllocError` (M1): memory was wanted, which can't be where the key has a place already.
     pub fn room(&mut self, key: K) -> Result<(), AllocError>
@@ -79,6 +79,7 @@ impl<K: TableKey, V, A: Allocator> Table<K, V, A> {
         ensures rows { rows K.order self.new ≡ rows K.order self.old }
         ensures ok { OnOk result (HasPlace K.order self.new key) }
         ensures kept { (q : K) → HasPlace K.order self.old q → HasPlace K.order self.new q }
+        ensures no_more { (q : K) → HasPlace K.order self.new q → HasPlace K.order self.old q ⊎ (q ≡ key) }
         ensures succeeds { HasPlace K.order self.old key → IsOk result }
     {
         if self.slots.contains_key(&key) {
@@ -138,6 +139,7 @@ fn add_place<K: TableKey + Drop, V: Drop, A: Allocator + Clone>(
     ensures rise { IsOrdered K.cmp slots.new }
     ensures ok { OnOk result (IsSome (get K.cmp slots.new key)) }
     ensures kept { (q : K) → IsSome (get K.cmp slots.old q) → IsSome (get K.cmp slots.new q) }
+    ensures no_more { (q : K) → IsSome (get K.cmp slots.new q) → IsSome (get K.cmp slots.old q) ⊎ (q ≡ key) }
 {
     slots.insert(key, None)?;
     Ok(())

@@ -151,7 +151,7 @@ module _ (c : Configuration) (n : Numbering) where
   still_old_by m x p false e none = none
 
   -- what is free for the carried places is free for the rest after the first, by whether that comes in
-  step_by : (m : Numbering) (x : Place × ℕ) (xs : List (Place × ℕ)) (b : Bool) → (is_reached_at c x.0 && not (contains_key m x.0)) ≡ b
+  pub step_by : (m : Numbering) (x : Place × ℕ) (xs : List (Place × ℕ)) (b : Bool) → (is_reached_at c x.0 && not (contains_key m x.0)) ≡ b
       → IsFreeFor m (x ∷ xs) → IsFreeFor (cond b (insert m x.0 x.1) m) xs
   step_by m x xs true e h =
       let in_reach : is_reached_at c x.0 ≡ true = comes_reached c m x e in

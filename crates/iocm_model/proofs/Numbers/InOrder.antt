@@ -109,12 +109,12 @@ abbrev places_at : ℕ → ℕ → List ℕ → List Place
 places_at css set ds = map (λ d. at css set d) ds
 
 -- a place of these is of this channel subsystem and set, and its device is one of them
-record IsAt (css set : ℕ) (ds : List ℕ) (p : Place) : Type 0 where
-  css_is : p.css ≡ css
-  set_is : p.set ≡ set
-  device_is : list_any (nat_eq p.device) ds ≡ true
+pub record IsAt (css set : ℕ) (ds : List ℕ) (p : Place) : Type 0 where
+  pub css_is : p.css ≡ css
+  pub set_is : p.set ≡ set
+  pub device_is : list_any (nat_eq p.device) ds ≡ true
 
-is_at : (css set : ℕ) (ds : List ℕ) (p : Place) → is_one_of p (places_at css set ds) ≡ true → IsAt css set ds p
+pub is_at : (css set : ℕ) (ds : List ℕ) (p : Place) → is_one_of p (places_at css set ds) ≡ true → IsAt css set ds p
 is_at css set [] p h = cc
 is_at css set (d ∷ ds) p h = by (or_cases _ _ h) (is_at css set ds p)
   where
@@ -171,7 +171,7 @@ module _ (tag : Place → ℕ) (same_tag : (p q : Place) → p.css ≡ q.css →
       before_others i is distinct.0 (part i) (own i) (order i) (parts_in_order order is distinct.1)
 
 -- what holds of each place of each part holds of all
-of_parts : (P : Place → Type 0) (part : ℕ → List Place) → ((i : ℕ) (p : Place) → is_one_of p (part i) ≡ true → P p)
+pub of_parts : (P : Place → Type 0) (part : ℕ → List Place) → ((i : ℕ) (p : Place) → is_one_of p (part i) ≡ true → P p)
     → (is : List ℕ) (p : Place) → is_one_of p (flat_map part is) ≡ true → P p
 of_parts P part each [] p h = cc
 of_parts P part each (i ∷ is) p h = by (or_cases _ _ (sym (list_any-append (eq_by_cmp place_cmp p) (part i) (flat_map part is)) ∙ h)) (of_parts P part each is p)

@@ -38,7 +38,7 @@ module _ (c : Configuration) where
   places_of_set css set = map (λ d. record { css = css; set = set; device = d }) (reached_devices c css set)
 
   -- the places that have a number at opening are those that are reached
-  places_at_opening : map (λ (e : Place × ℕ). e.0) (flat_map (λ css. flat_map (of_set css) sets) subsystems) ≡ reached_places c
+  pub places_at_opening : map (λ (e : Place × ℕ). e.0) (flat_map (λ css. flat_map (of_set css) sets) subsystems) ≡ reached_places c
   places_at_opening =
       map-flat_map (λ (e : Place × ℕ). e.0) (λ css. flat_map (of_set css) sets) subsystems
       ∙ same_parts (λ css. map (λ (e : Place × ℕ). e.0) (flat_map (of_set css) sets)) (λ css. flat_map (places_of_set css) sets)

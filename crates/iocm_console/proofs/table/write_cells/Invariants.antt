@@ -1,8 +1,7 @@
 -- The lines of the cells so far are written.
 use Rattle.std.proofs.Common.{take, ◌≡◌}
 use Rattle.iocm_model.specs.Machine.Configuration.{lookup_of}
-use Rattle.iocm_numbers.specs.Numbered.{celled}
-use Rattle.iocm_console.specs.Lines.{image_lines}
+use Rattle.iocm_console.specs.Lines.{celled, image_lines}
 use Rattle.iocm_console.specs.Output.{has_failed, Prints}
 use Rattle.iocm_console.proofs.table.write_cells.Given as goal
 

@@ -1,11 +1,14 @@
-use Rattle.std.proofs.Common.{take, ◌≡◌}
+-- The lines of the records so far are written.
+use Rattle.std.proofs.Common.{◌≡◌}
+use Rattle.std.specs.Map.Iter.{deref_pair}
 use Rattle.iocm_model.specs.Machine.Configuration.{lookup_of}
-use Rattle.iocm_numbers.specs.Numbered.{celled}
-use Rattle.iocm_console.specs.Lines.{record_lines}
+use Rattle.iocm_console.specs.Lines.{celled, record_lines}
 use Rattle.iocm_console.specs.Output.{has_failed, Prints}
+use Rattle.iocm_console.proofs.Rows.{records_in}
 use Rattle.iocm_console.proofs.table.write_rows.Given as goal
 
 abbrev pub invariant-loop-entry : goal.invariant-loop-entry
-invariant-loop-entry g l =
-    Prints g.W.Write.contents l.initial.output l.output (record_lines (lookup_of l.config.records) (celled l.cells) (take l.entry-index l.records))
-    × (has_failed l.output ≡ has_failed l.initial.output)
+invariant-loop-entry g l = record {
+  text : Prints g.W.Write.contents l.initial.output l.output (record_lines (lookup_of l.config.records) (celled l.cells) (records_in deref_pair l.yielded));
+  works : has_failed l.output ≡ has_failed l.initial.output;
+}

@@ -1,9 +1,20 @@
-use Rattle.std.proofs.lemmas.Result.{on_ok_weaker}
-use Rattle.iocm_console.proofs.Printing.{appends_as, appends_then}
+use Rattle.std.proofs.Common.{List, ℕ, ap, ◌∙◌}
+use Rattle.iocm_console.specs.declared.status.Status.TheVariants.{Done}
+use Rattle.iocm_console.specs.Lines.{celled}
+use Rattle.iocm_console.specs.Show.{Shown, table_at, table_done}
 use Rattle.iocm_console.proofs.Rows.{table_lines}
+use Rattle.iocm_console.proofs.Showing.{says_as, says_memory}
 use Rattle.iocm_console.proofs.table.write_table.Goals as goal
 
-pub returns-clause-text : goal.returns-clause-text
-returns-clause-text g c = on_ok_weaker c.write_rows.result (λ h.
-    appends_as _ _ _ _ (appends_then _ _ _ _ _ c.in_ok-heading.ensures.text h) (table_lines _ _ _ _ c.walk.ensures c.cells.ensures))
-    c.write_rows.ensures.text
+abbrev shows : List ℕ → Shown
+shows text = record { text = text; status = Done }
+
+pub returns-in-Ok-clause-text : goal.returns-in-Ok-clause-text
+returns-in-Ok-clause-text g c = says_as g.W.Write.contents c.args.output.now c.write_lines.new.output c.write_lines.result
+    (table_at c.args.config.now.records (celled c.as_slice.result.now)) (table_done c.args.config.now.records c.args.numbers.now.numbers)
+    (ap shows (table_lines c.args.config.now.records c.args.numbers.now.numbers (celled c.as_slice.result.now) (ap celled c.as_slice.ensures.value ∙ c.in-Ok.ensures ∙ c.cells.ensures)))
+    c.write_lines.ensures.text
+
+pub returns-in-Err-clause-text : goal.returns-in-Err-clause-text
+returns-in-Err-clause-text g c = says_memory g.W.Write.contents c.args.output.now c.refuse.new.output c.refuse.result c.from.result
+    (table_done c.args.config.now.records c.args.numbers.now.numbers) c.from.ensures c.refuse.ensures.text

@@ -1,41 +1,16 @@
--- Before the first record, one record more, and behind the last one.
-use Rattle.std.proofs.Common.{◌≡◌, ℕ, ◌+◌, ◌-◌, drop, is_some, refl, subst, arith}
-use Rattle.iocm_types.specs.declared.key.Key.TheVariants.{Path, Online}
-use Rattle.iocm_model.specs.Machine.Sight.{record_lists}
-use Rattle.iocm_derive.specs.PathTables.{IsTableOf}
-use Rattle.iocm_derive.proofs.Noted.{said, table_none, table_more, table_whole}
+use Rattle.std.proofs.Common.{ap, ◌∙◌, arith}
+use Rattle.iocm_model.specs.Machine.Configuration.{lookup_of}
+use Rattle.iocm_model.specs.Machine.Sight.{reaches}
+use Rattle.iocm_model.specs.Machine.Mask.{is_online}
+use Rattle.iocm_derive.proofs.Tables.{table_more}
 use Rattle.iocm_derive.proofs.path_tables.path_tables.Goals as goal
 
-pub loop-left-init : goal.loop-left-init
-loop-left-init g c = record {
-  within = omega arith;
-  reached = table_none (Path c.args.css) (record_lists c.args.name) c.walk-records.result.now _ refl refl;
-  online = table_none (λ (path : ℕ). Online c.args.css path c.args.name) is_some c.walk-records.result.now _ refl refl;
+pub loop-number-preserved : goal.loop-number-preserved
+loop-number-preserved g c = record {
+  reached = table_more (reaches (lookup_of c.args.config.now.records) c.args.css c.args.name) c.loop-number.number c.loop-number.reached c.reaches_path.result
+      (omega arith) (c.reaches_path.ensures ∙ ap (reaches (lookup_of c.args.config.now.records) c.args.css c.args.name) c.new-path.ensures)
+      c.loop-number.invariant.reached;
+  online = table_more (is_online (lookup_of c.args.config.now.records) c.args.css c.args.name) c.loop-number.number c.loop-number.online c.is_path_online.result
+      (omega arith) (c.is_path_online.ensures ∙ ap (is_online (lookup_of c.args.config.now.records) c.args.css c.args.name) c.new-path.ensures)
+      c.loop-number.invariant.online;
 }
-
-pub loop-left-preserved : goal.loop-left-preserved
-loop-left-preserved g c =
-    let next : c.loop-left.left ≡ (c.loop-left.left - 1) + 1 = omega arith in
-    record {
-      within = omega arith;
-      reached = table_more (Path c.args.css) (record_lists c.args.name) c.walk-records.result.now (c.loop-left.left - 1) c.index-records-left.result c.loop-left.reached c.note_reached.new.table
-          (omega arith) c.index-records-left.is
-          (subst (λ n. IsTableOf (said (Path c.args.css) (record_lists c.args.name) (drop n c.walk-records.result.now)) c.loop-left.reached) next c.loop-left.invariant.reached)
-          c.note_reached.ensures;
-      online = table_more (λ (path : ℕ). Online c.args.css path c.args.name) is_some c.walk-records.result.now (c.loop-left.left - 1) c.index-records-left-in-loop-left.result c.loop-left.online c.note_online.new.table
-          (omega arith) c.index-records-left-in-loop-left.is
-          (subst (λ n. IsTableOf (said (λ (path : ℕ). Online c.args.css path c.args.name) is_some (drop n c.walk-records.result.now)) c.loop-left.online) next c.loop-left.invariant.online)
-          c.note_online.ensures;
-    }
-
-pub returns-clause-reached : goal.returns-clause-reached
-returns-clause-reached g c =
-    let none : c.loop-left.left ≡ 0 = omega arith in
-    table_whole (Path c.args.css) (record_lists c.args.name) c.args.config.now.records c.walk-records.result.now c.loop-left.reached c.walk-records.ensures
-    (subst (λ n. IsTableOf (said (Path c.args.css) (record_lists c.args.name) (drop n c.walk-records.result.now)) c.loop-left.reached) none c.loop-left.invariant.reached)
-
-pub returns-clause-online : goal.returns-clause-online
-returns-clause-online g c =
-    let none : c.loop-left.left ≡ 0 = omega arith in
-    table_whole (λ (path : ℕ). Online c.args.css path c.args.name) is_some c.args.config.now.records c.walk-records.result.now c.loop-left.online c.walk-records.ensures
-    (subst (λ n. IsTableOf (said (λ (path : ℕ). Online c.args.css path c.args.name) is_some (drop n c.walk-records.result.now)) c.loop-left.online) none c.loop-left.invariant.online)

@@ -1,17 +1,12 @@
--- The tables have what the records behind the place say.
-use Rattle.std.proofs.Common.{◌≤◌, drop, length, is_some}
-use Rattle.iocm_types.specs.declared.key.Key.TheVariants.{Path, Online}
-use Rattle.iocm_model.specs.Machine.Sight.{record_lists}
-use Rattle.iocm_derive.specs.PathTables.{IsTableOf}
-use Rattle.iocm_derive.proofs.Noted.{said}
+-- The tables are right below the number.
+use Rattle.iocm_model.specs.Machine.Configuration.{lookup_of}
+use Rattle.iocm_model.specs.Machine.Sight.{reaches}
+use Rattle.iocm_model.specs.Machine.Mask.{is_online}
+use Rattle.iocm_derive.proofs.Tables.{IsTableBelow}
 use Rattle.iocm_derive.proofs.path_tables.path_tables.Given as goal
 
-abbrev pub invariant-loop-left : goal.invariant-loop-left
-invariant-loop-left g l = record {
-  within : l.left ≤ length l.records;
-  reached : IsTableOf (said (Path l.fn.css) (record_lists l.fn.name) (drop l.left l.records)) l.reached;
-  online : IsTableOf (said (λ path. Online l.fn.css path l.fn.name) is_some (drop l.left l.records)) l.online;
+abbrev pub invariant-loop-number : goal.invariant-loop-number
+invariant-loop-number g l = record {
+  reached : IsTableBelow (reaches (lookup_of l.config.records) l.css l.name) l.number l.reached;
+  online : IsTableBelow (is_online (lookup_of l.config.records) l.css l.name) l.number l.online;
 }
-
-abbrev pub decreases-loop-left : goal.decreases-loop-left
-decreases-loop-left g l = l.left

@@ -1,26 +1,19 @@
--- Sorted records are the configuration of the records in any order.
-use Rattle.std.proofs.Common.{rules, subst}
-use Rattle.std.specs.List.Sorted.{IsSortedByKey}
-use Rattle.std.specs.declared.cmp.Ordering.{Ordering}
-use Rattle.std.proofs.lemmas.List.Sorted.{answers_always}
-use Rattle.iocm_types.specs.declared.key.Key.{Key}
+use Rattle.std.proofs.Common.{List, subst, sym, ap, ◌∙◌}
+use Rattle.std.specs.List.{IsDistinct}
+use Rattle.std.specs.Map.{keys_of}
+use Rattle.std.specs.Ordering.{eq_by_cmp}
+use Rattle.std.specs.FinMap.{from_entries}
 use Rattle.iocm_types.specs.Key.{key_cmp}
-use Rattle.iocm_types.specs.KeyOrder.{derived_cmp, keys_total, keys_exact}
-use Rattle.iocm_types.proofs.Permuted.{sorted-permuted, map-permuted}
-use Rattle.iocm_model.specs.Machine.Record.{Rec, key_of}
-use Rattle.iocm_config.proofs.Places.{no_key_twice}
+use Rattle.iocm_types.specs.declared.key.Key.{Key}
+use Rattle.iocm_model.specs.Machine.Record.{Rec}
+use Rattle.iocm_model.specs.Machine.Configuration.{IsKeyed}
+use Rattle.iocm_config.proofs.Keyed.{keyed_made, keys_apart}
 use Rattle.iocm_config.proofs.config.Config.from_records.Goals as goal
 
-pub invariant_of-result : goal.invariant_of-result
-invariant_of-result g c =
-    sorted-permuted key_cmp key_of (λ (r : Rec). r) keys_total c.args.records.items c.sort_by_key.new.self.items
-    (no_key_twice c.args.records.items c.requires) c.sort_by_key.ensures.permutation
-    (subst (λ (cmp : Key → Key → Ordering). IsSortedByKey key_of cmp c.sort_by_key.new.self.items) derived_cmp
-    (c.in_ok-sort_by_key.ensures.sorted key_of (answers_always _ _ _ (λ f a r g called. search rules))))
+pub from_rows-requires : goal.from_rows-requires
+from_rows-requires g c = subst (λ (es : List (Key × Rec)). IsDistinct (eq_by_cmp key_cmp) (keys_of es)) (sym c.in_ok-listed.ensures)
+    (keys_apart c.args.records.items c.requires)
 
-pub returns : goal.returns
-returns g c =
-    map-permuted key_cmp key_of (λ (r : Rec). r) keys_total keys_exact c.args.records.items c.sort_by_key.new.self.items
-    (no_key_twice c.args.records.items c.requires) c.sort_by_key.ensures.permutation
-    (subst (λ (cmp : Key → Key → Ordering). IsSortedByKey key_of cmp c.sort_by_key.new.self.items) derived_cmp
-    (c.in_ok-sort_by_key.ensures.sorted key_of (answers_always _ _ _ (λ f a r g called. search rules))))
+pub invariant_of-result : goal.invariant_of-result
+invariant_of-result g c = subst IsKeyed (sym (c.in_ok-table.ensures.rows ∙ ap (λ (es : List (Key × Rec)). from_entries {R = key_cmp} es) c.in_ok-listed.ensures))
+    (keyed_made c.args.records.items)

@@ -1,11 +1,7 @@
--- No records are the empty configuration.
-use Rattle.std.proofs.Common.{ap, ◌∙◌, List}
-use Rattle.std.specs.FinMap as map
-use Rattle.iocm_types.specs.Key.{key_cmp}
-use Rattle.iocm_types.proofs.Sorted.{map-empty}
-use Rattle.iocm_model.specs.Machine.Record.{Rec, key_of}
-use Rattle.iocm_model.specs.Machine.Configuration.{with_keys}
+use Rattle.std.proofs.Common.{subst, sym}
+use Rattle.iocm_model.specs.Machine.Configuration.{IsKeyed}
+use Rattle.iocm_config.proofs.Keyed.{keyed_none}
 use Rattle.iocm_config.proofs.config.Config.new.Goals as goal
 
-pub returns : goal.returns
-returns g c = ap (λ (xs : List Rec). map.from_sorted {R = key_cmp} (with_keys xs)) c.new.ensures.items ∙ map-empty key_cmp key_of (λ (r : Rec). r)
+pub invariant_of-result : goal.invariant_of-result
+invariant_of-result g c = subst IsKeyed (sym c.new.ensures.rows) keyed_none

@@ -1,4 +1,4 @@
-use Rattle.std.proofs.Common.{◌≡◌, true, false, length, refl, sym, ap, ◌∙◌}
+use Rattle.std.proofs.Common.{◌≡◌, true, false, length, inl, inr, ⊎_elim, refl, sym, ap, ◌∙◌}
 use Rattle.std.proofs.lemmas.Result.{on_ok_weaker}
 use Rattle.iocm_table.proofs.Lookups.{seen_of, same_rows}
 use Rattle.iocm_table.proofs.Writing.{place_found, place_of}
@@ -20,6 +20,11 @@ returns-clause-ok g c = on_ok_weaker c.add_place.result
 pub returns-clause-kept : goal.returns-clause-kept
 returns-clause-kept g c q had = place_of g.met.K.TableKey.is_cmp c.add_place.new.slots (seen_of c.add_place.new.slots) refl q
     (c.add_place.ensures.kept q (place_found g.met.K.TableKey.is_cmp c.self.inside.slots c.args.self.now c.self.view_is q had))
+
+pub returns-clause-no_more : goal.returns-clause-no_more
+returns-clause-no_more g c q has = ⊎_elim
+    (λ had. inl (place_of g.met.K.TableKey.is_cmp c.self.inside.slots c.args.self.now c.self.view_is q had)) (λ same. inr same)
+    (c.add_place.ensures.no_more q (place_found g.met.K.TableKey.is_cmp c.add_place.new.slots (seen_of c.add_place.new.slots) refl q has))
 
 pub returns-clause-succeeds : goal.returns-clause-succeeds
 returns-clause-succeeds g c had =

@@ -1,0 +1,6 @@
+-- Those that are left to fill give what all give.
+use Rattle.iocm_numbers.proofs.Steps.{IsFilling}
+use Rattle.iocm_numbers.proofs.numbers.Numbers.fill.Given as goal
+
+abbrev pub invariant-loop-place : goal.invariant-loop-place
+invariant-loop-place g l = IsFilling l.config.records l.touched l.place-index l.fn.self l.self

@@ -1,0 +1,72 @@
+ghost use Rattle.std.specs.Prelude.{◌≡◌, not};
+ghost use Rattle.iocm_model.specs.Machine.Configuration.{lookup_of};
+ghost use Rattle.iocm_model.specs.Machine.Numbering.{is_empty, is_record_reached, is_reached_at};
+ghost use Rattle.iocm_model.specs.Machine.PathList.{paths_in, unit_paths, path_list};
+
+use iocm_config::Config;
+use iocm_records::{Record, RecordBody};
+use iocm_types::{Css, CssPath, Key, Place, UnitNo};
+use std::alloc::Allocator;
+
+/// Whether a channel subsystem reaches devices on these units: one of them has a path there. One search for each unit, until
+/// one has a path.
+pub fn is_reached<A: Allocator>(config: &Config<A>, css: Css, units: &[UnitNo]) -> bool
+    ensures { result ≡ not (is_empty (path_list (lookup_of config.now.records) css units.now)) }
+{
+    for unit in units {
+        if has_path(config, css, *unit) {
+            return true;
+        }
+    }
+    false
+}
+
+/// Whether a place is that of a device that is there and reached. One search for the device, and one for each of its units
+/// until one has a path.
+pub fn is_place_reached<A: Allocator>(config: &Config<A>, place: Place) -> bool
+    ensures { result ≡ is_reached_at config.now.records place }
+{
+    // For the proof alone: each record stands under its own key, and the place's numbers are in their ranges.
+    config.has_own_keys();
+    let _css = place.css.number();
+    let _set = place.set.number();
+    match config.get(&Key::Device(place.set, place.device)) {
+        Some(entry) => is_device_reached(config, place.css, entry),
+        None => false,
+    }
+}
+
+/// Whether a record is that of a device that a channel subsystem reaches.
+fn is_device_reached<A: Allocator>(config: &Config<A>, css: Css, entry: &Record<A>) -> bool
+    ensures { result ≡ is_record_reached (lookup_of config.now.records) css (Some entry.now) }
+{
+    match entry.body() {
+        RecordBody::Device(fields) => is_reached(config, css, fields.units.as_slice()),
+        _ => false,
+    }
+}
+
+/// Whether a unit has a path in a channel subsystem; one that isn't there has none.
+fn has_path<A: Allocator>(config: &Config<A>, css: Css, unit: UnitNo) -> bool
+    ensures { result ≡ not (is_empty (unit_paths (lookup_of config.now.records) css unit)) }
+{
+    let Some(entry) = config.get(&Key::Unit(unit)) else {
+        return false;
+    };
+    match entry.body() {
+        RecordBody::Unit(fields) => is_one_in(css, fields.paths.as_slice()),
+        _ => false,
+    }
+}
+
+/// Whether one of these paths is in a channel subsystem.
+fn is_one_in(css: Css, paths: &[CssPath]) -> bool
+    ensures { result ≡ not (is_empty (paths_in css paths.now)) }
+{
+    for path in paths {
+        if path.css == css {
+            return true;
+        }
+    }
+    false
+}

@@ -1,0 +1,185 @@
+ghost use Rattle.std.specs.Prelude.{◌≡◌, true, false, not, ◌&&◌, None, fold, OnOk, OnErr};
+ghost use Rattle.std.specs.FinMap as map;
+ghost use Rattle.iocm_model.specs.Machine.Numbering.{is_reached_at, device_at};
+ghost use Rattle.iocm_model.specs.Change.Renumbering.{without_leavers, with_carried, numbers_after};
+ghost use Rattle.iocm_model.specs.Change.Refusal.{is_number_taken};
+ghost use Rattle.iocm_numbers.specs.Numbered.{cell_at, HasSameRoom, KeepsRoom};
+ghost use Rattle.iocm_numbers.specs.Renumbering.{left_by, filled_by, AreAllTouched, ChangesComersAlone, Rise};
+
+use crate::Numbers;
+use crate::reached::is_place_reached;
+use iocm_config::Config;
+use iocm_types::Place;
+use std::alloc::{AllocError, Allocator};
+
+impl<A: Allocator> Numbers<A> {
+    /// Numbers the devices of a configuration that has changed, in three steps: those that leave lose their numbers; those that come in and have
+    /// one carried along get it; the rest of those that come in get the lowest free ones, in order of device number. The places that
+    /// the change may touch are given, so the time doesn't grow with the machine. No carried number is held by a device that stays, or carried twice.
+    ///
+    /// `AllocError` (M1): memory was wanted. The numbers are as before then; room that was made stays.
+    pub fn renumber<B: Allocator, C: Allocator>(
+        &mut self,
+        alloc: C,
+        config: &Config<B>,
+        touched: &[Place],
+        carried: &[(Place, u16)],
+    ) -> Result<(), AllocError>
+    where
+        A: Clone,
+        requires rise { Rise touched.now }
+        requires all { AreAllTouched config.now.records self.old.numbers touched.now }
+        requires free { is_number_taken config.now.records self.old.numbers carried.now ≡ false }
+        ensures numbers { OnOk result (self.new.numbers ≡ numbers_after config.now.records carried.now self.old.numbers) }
+        ensures same { OnErr result (self.new.numbers ≡ self.old.numbers) }
+        ensures room { KeepsRoom self.old self.new }
+    {
+        // For the proof alone: what always holds of a configuration and of numbers.
+        config.has_own_keys();
+        self.are_apart();
+        self.have_room();
+        let before = self.numbers_at(alloc, touched)?;
+        self.leave(config, touched);
+        match self.give(config, touched, carried) {
+            Ok(()) => Ok(()),
+            Err(error) => {
+                self.free_all(touched);
+                self.place_all(before.as_slice());
+                Err(error)
+            }
+        }
+    }
+
+    /// The second and the third step.
+    fn give<B: Allocator>(
+        &mut self,
+        config: &Config<B>,
+        touched: &[Place],
+        carried: &[(Place, u16)],
+    ) -> Result<(), AllocError>
+    where
+        A: Clone,
+        requires stay { without_leavers config.now.records self.old.numbers ≡ self.old.numbers }
+        requires free { is_number_taken config.now.records self.old.numbers carried.now ≡ false }
+        ensures numbers { OnOk result (self.new.numbers ≡ fold (filled_by config.now.records) (fold (with_carried config.now.records) self.old.numbers carried.now) touched.now) }
+        ensures others { ChangesComersAlone config.now.records self.old.numbers self.new.numbers }
+        ensures room { KeepsRoom self.old self.new }
+    {
+        self.carry(config, carried)?;
+        self.fill(config, touched)
+    }
+
+    /// The first step: devices at these places that aren't reached lose their numbers.
+    fn leave<B: Allocator>(&mut self, config: &Config<B>, touched: &[Place])
+        ensures numbers { self.new.numbers ≡ fold (left_by config.now.records) self.old.numbers touched.now }
+        ensures room { HasSameRoom self.new self.old }
+    {
+        for place in touched {
+            self.leave_one(config, place);
+        }
+    }
+
+    /// A device that isn't reached loses its number.
+    fn leave_one<B: Allocator>(&mut self, config: &Config<B>, place: &Place)
+        ensures numbers { self.new.numbers ≡ left_by config.now.records self.old.numbers place.now }
+        ensures room { HasSameRoom self.new self.old }
+    {
+        if !is_place_reached(config, *place) {
+            let _ = self.free(*place);
+        }
+    }
+
+    /// The second step: devices that come in and have a number carried along get it.
+    fn carry<B: Allocator>(
+        &mut self,
+        config: &Config<B>,
+        carried: &[(Place, u16)],
+    ) -> Result<(), AllocError>
+    where
+        A: Clone,
+        requires stay { without_leavers config.now.records self.old.numbers ≡ self.old.numbers }
+        requires free { is_number_taken config.now.records self.old.numbers carried.now ≡ false }
+        ensures numbers { OnOk result (self.new.numbers ≡ fold (with_carried config.now.records) self.old.numbers carried.now) }
+        ensures others { ChangesComersAlone config.now.records self.old.numbers self.new.numbers }
+        ensures room { KeepsRoom self.old self.new }
+    {
+        self.are_apart();
+        for row in carried {
+            self.carry_one(config, &row.0, row.1)?;
+        }
+        Ok(())
+    }
+
+    /// A device that comes in gets the number that it has carried along.
+    fn carry_one<B: Allocator>(
+        &mut self,
+        config: &Config<B>,
+        place: &Place,
+        number: u16,
+    ) -> Result<(), AllocError>
+    where
+        A: Clone,
+        requires { (is_reached_at config.now.records place.now && not (map.contains_key self.old.numbers place.now)) ≡ true → device_at self.old.numbers (cell_at place.now number) ≡ None }
+        ensures numbers { OnOk result (self.new.numbers ≡ with_carried config.now.records self.old.numbers (place.now, number)) }
+        ensures same { OnErr result (self.new.numbers ≡ self.old.numbers) }
+        ensures room { KeepsRoom self.old self.new }
+    {
+        if !self.comes_in(config, place) {
+            return Ok(());
+        }
+        self.room(*place, number)?;
+        self.place(*place, number);
+        Ok(())
+    }
+
+    /// The third step: the rest of those that come in get the lowest free numbers, in the order of these places.
+    fn fill<B: Allocator>(
+        &mut self,
+        config: &Config<B>,
+        touched: &[Place],
+    ) -> Result<(), AllocError>
+    where
+        A: Clone,
+        ensures numbers { OnOk result (self.new.numbers ≡ fold (filled_by config.now.records) self.old.numbers touched.now) }
+        ensures others { ChangesComersAlone config.now.records self.old.numbers self.new.numbers }
+        ensures room { KeepsRoom self.old self.new }
+    {
+        for place in touched {
+            self.fill_one(config, place)?;
+        }
+        Ok(())
+    }
+
+    /// A device that comes in gets the lowest free number.
+    fn fill_one<B: Allocator>(
+        &mut self,
+        config: &Config<B>,
+        place: &Place,
+    ) -> Result<(), AllocError>
+    where
+        A: Clone,
+        ensures numbers { OnOk result (self.new.numbers ≡ filled_by config.now.records self.old.numbers place.now) }
+        ensures same { OnErr result (self.new.numbers ≡ self.old.numbers) }
+        ensures room { KeepsRoom self.old self.new }
+    {
+        if !self.comes_in(config, place) {
+            return Ok(());
+        }
+        // For the proof alone: there are no more devices in a set than device numbers, so one number is free.
+        self.are_apart();
+        let _device = place.device.number();
+        let Some(number) = self.lowest_free(place.css, place.set) else {
+            unreachable!()
+        };
+        self.room(*place, number)?;
+        self.place(*place, number);
+        Ok(())
+    }
+
+    /// Whether a device comes in at a place: it is reached there and has no number yet.
+    fn comes_in<B: Allocator>(&self, config: &Config<B>, place: &Place) -> bool
+        ensures { result ≡ (is_reached_at config.now.records place.now && not (map.contains_key self.now.numbers place.now)) }
+    {
+        is_place_reached(config, *place) && self.number_of(*place).is_none()
+    }
+}

@@ -1,0 +1,184 @@
+use crate::{Numbers, is_place_reached, is_reached, opening};
+use iocm_config::Config;
+use iocm_records::{DeviceFields, Record, RecordBody, UnitFields};
+use iocm_types::{Chpid, Css, CssPath, DevNo, List, NumberCell, Place, SetNo, UnitNo};
+use std::alloc::Global;
+use std::test::Fail;
+
+/// The channel subsystem of a number.
+fn css(number: u8) -> Result<Css, Fail> {
+    Ok(Css::new(number).ok_or("a channel subsystem")?)
+}
+
+/// The control unit of a number.
+fn unit_no(number: u16) -> Result<UnitNo, Fail> {
+    Ok(UnitNo::new(number).ok_or("a control unit")?)
+}
+
+/// The place of a device.
+fn place(in_css: u8, in_set: u8, device: u16) -> Result<Place, Fail> {
+    Ok(Place {
+        css: css(in_css)?,
+        set: SetNo::new(in_set).ok_or("a set")?,
+        device: DevNo::new(device),
+    })
+}
+
+/// The record of a control unit with a path 50 in each of these channel subsystems.
+fn unit(alloc: Global, number: u16, subsystems: &[u8]) -> Result<Record, Fail> {
+    let mut paths = Vec::new(alloc);
+    for subsystem in subsystems {
+        paths.push(CssPath {
+            css: css(*subsystem)?,
+            path: Chpid::new(0x50),
+        })?;
+    }
+    Ok(Record::new(RecordBody::Unit(UnitFields {
+        number: unit_no(number)?,
+        paths: List::from_vec(paths),
+        ranges: List::from_vec(Vec::new(alloc)),
+        links: List::from_vec(Vec::new(alloc)),
+        cuadd: None,
+        carried: Vec::new(alloc),
+    })))
+}
+
+/// The record of a device on these control units.
+fn device(alloc: Global, set: u8, number: u16, units: &[u16]) -> Result<Record, Fail> {
+    let mut numbers = Vec::new(alloc);
+    for unit in units {
+        numbers.push(unit_no(*unit)?)?;
+    }
+    Ok(Record::new(RecordBody::Device(DeviceFields {
+        set: SetNo::new(set).ok_or("a set")?,
+        number: DevNo::new(number),
+        units: List::from_vec(numbers),
+        unit_address: 0,
+        candidates: None,
+        carried: Vec::new(alloc),
+    })))
+}
+
+/// Puts a record in.
+fn put_in(config: &mut Config, entry: Record) -> Result<(), Fail> {
+    config.room(entry.key())?;
+    let _ = config.put(entry);
+    Ok(())
+}
+
+/// Unit 1000 has paths in channel subsystems 0 and 1, unit 2000 one in 1, and unit 3000 none; the devices come out of order.
+fn three_units(alloc: Global) -> Result<Config, Fail> {
+    let mut config = Config::new(alloc);
+    put_in(&mut config, device(alloc, 0, 0x1003, &[0x3000])?)?;
+    put_in(&mut config, device(alloc, 1, 0x1000, &[0x1000])?)?;
+    put_in(&mut config, device(alloc, 0, 0x1002, &[0x3000, 0x2000])?)?;
+    put_in(&mut config, device(alloc, 0, 0x1001, &[0x2000])?)?;
+    put_in(&mut config, device(alloc, 0, 0x1000, &[0x1000])?)?;
+    put_in(&mut config, unit(alloc, 0x1000, &[0, 1])?)?;
+    put_in(&mut config, unit(alloc, 0x2000, &[1])?)?;
+    put_in(&mut config, unit(alloc, 0x3000, &[])?)?;
+    Ok(config)
+}
+
+#[test]
+fn devices_that_are_reached_are_numbered_from_0_in_each_set(rt: HostRuntime) -> Result<(), Fail> {
+    let config = three_units(rt.alloc())?;
+    let numbers = opening(rt.alloc(), &config)?;
+    let given = [
+        numbers.number_of(place(0, 0, 0x1000)?),
+        numbers.number_of(place(0, 0, 0x1001)?),
+        numbers.number_of(place(0, 1, 0x1000)?),
+        numbers.number_of(place(1, 0, 0x1000)?),
+        numbers.number_of(place(1, 0, 0x1001)?),
+        numbers.number_of(place(1, 0, 0x1002)?),
+        numbers.number_of(place(1, 1, 0x1000)?),
+    ];
+    assert_eq!(rt;
+        given,
+        [Some(0), None, Some(0), Some(0), Some(1), Some(2), Some(0)]
+    );
+    Ok(())
+}
+
+#[test]
+fn units_are_reached_where_one_of_them_has_a_path(rt: HostRuntime) -> Result<(), Fail> {
+    let config = three_units(rt.alloc())?;
+    let pathless = unit_no(0x3000)?;
+    let missing = unit_no(0x4000)?;
+    let both = [pathless, unit_no(0x2000)?];
+    let answers = [
+        is_reached(&config, css(0)?, &both),
+        is_reached(&config, css(1)?, &both),
+        is_reached(&config, css(1)?, &[pathless]),
+        is_reached(&config, css(1)?, &[missing]),
+        is_reached(&config, css(1)?, &[]),
+    ];
+    assert_eq!(rt; answers, [false, true, false, false, false]);
+    Ok(())
+}
+
+#[test]
+fn a_place_is_reached_where_its_device_is_there_and_reached(rt: HostRuntime) -> Result<(), Fail> {
+    let config = three_units(rt.alloc())?;
+    let answers = [
+        is_place_reached(&config, place(1, 0, 0x1002)?),
+        is_place_reached(&config, place(0, 0, 0x1002)?),
+        is_place_reached(&config, place(1, 0, 0x1003)?),
+        is_place_reached(&config, place(1, 2, 0x1000)?),
+    ];
+    assert_eq!(rt; answers, [true, false, false, false]);
+    Ok(())
+}
+
+#[test]
+fn a_number_that_is_taken_back_is_the_lowest_free(rt: HostRuntime) -> Result<(), Fail> {
+    let config = three_units(rt.alloc())?;
+    let mut numbers = opening(rt.alloc(), &config)?;
+    let freed = numbers.free(place(1, 0, 0x1001)?);
+    let again = numbers.free(place(1, 0, 0x1001)?);
+    let set = SetNo::new(0).ok_or("a set")?;
+    let lowest = [
+        numbers.lowest_free(css(0)?, set),
+        numbers.lowest_free(css(1)?, set),
+        numbers.lowest_free(css(2)?, set),
+    ];
+    assert_eq!(rt;
+        (freed, again, lowest),
+        (Some(1), None, [Some(1), Some(1), Some(0)])
+    );
+    Ok(())
+}
+
+#[test]
+fn numbers_are_looked_up_both_ways(rt: HostRuntime) -> Result<(), Fail> {
+    let config = three_units(rt.alloc())?;
+    let numbers = opening(rt.alloc(), &config)?;
+    let cell = NumberCell {
+        css: css(1)?,
+        set: SetNo::new(0).ok_or("a set")?,
+        number: 2,
+    };
+    let device = numbers.device_at(cell);
+    let number = numbers.number_of(place(1, 0, 0x1002)?);
+    assert_eq!(rt; (device, number), (Some(DevNo::new(0x1002)), Some(2)));
+    Ok(())
+}
+
+#[test]
+fn a_device_that_comes_in_gets_the_lowest_free_number(rt: HostRuntime) -> Result<(), Fail> {
+    let config = three_units(rt.alloc())?;
+    let mut numbers = opening(rt.alloc(), &config)?;
+    let touched = [place(1, 0, 0x1001)?];
+    let _ = numbers.free(touched[0]);
+    numbers.renumber(rt.alloc(), &config, &touched, &[])?;
+    assert_eq!(rt; numbers.number_of(touched[0]), Some(1));
+    Ok(())
+}
+
+#[test]
+fn room_is_made_among_no_numbers(rt: HostRuntime) -> Result<(), Fail> {
+    let mut numbers = Numbers::new(rt.alloc())?;
+    numbers.room(place(1, 0, 0x1001)?, 7)?;
+    assert_eq!(rt; numbers.number_of(place(1, 0, 0x1001)?), None);
+    Ok(())
+}
