@@ -85,8 +85,8 @@ impl<A: Allocator> Numbers<A> {
         self.cells.walk()
     }
 
-    /// The lowest number that no device has in a channel subsystem and set, if one of the 65,536 is free. The time doesn't grow with how
-    /// many devices there are: it is that of looking at a bit for each lower number, 64 at a time.
+    /// The lowest number that no device has in a channel subsystem and set, if one of the 65,536 is free. The time is that
+    /// of looking at a bit for each lower number, 64 at a time: at 1,024 words at the most, however many devices there are.
     pub fn lowest_free(&self, css: Css, set: SetNo) -> Option<u16>
         ensures some { IfSome result (λ number. number ≡ renumbering.lowest_free self.now.numbers css set) }
         ensures none { IsNone result → 65536 ≤ renumbering.lowest_free self.now.numbers css set }

@@ -14,8 +14,8 @@ use std::alloc::{AllocError, Allocator};
 
 impl<A: Allocator> Numbers<A> {
     /// Numbers the devices of a configuration that has changed, in three steps: those that leave lose their numbers; those that come in and have
-    /// one carried along get it; the rest of those that come in get the lowest free ones, in order of device number. The places that
-    /// the change may touch are given, so the time doesn't grow with the machine. No carried number is held by a device that stays, or carried twice.
+    /// one carried along get it; the rest of those that come in get the lowest free ones, in order of device number. All places that
+    /// the change may touch are given, rising, and no others are looked at. No carried number is held by a device that stays, or carried twice.
     ///
     /// `AllocError` (M1): memory was wanted. The numbers are as before then; room that was made stays.
     pub fn renumber<B: Allocator, C: Allocator>(
