@@ -1,4 +1,4 @@
-ghost use Rattle.std.specs.Prelude.{◌≡◌, ◌<◌, ◌^◌, [], IfOk, OnOk, IsOk, length};
+ghost use Rattle.std.specs.Prelude.{◌≡◌, ◌⊎◌, ◌<◌, ◌^◌, [], IfOk, OnOk, IsOk, length};
 ghost use Rattle.std.specs.Option.{option_copied};
 ghost use Rattle.std.specs.Vec.{vec_items};
 ghost use Rattle.std.specs.FinMap as map;
@@ -116,7 +116,8 @@ impl<A: Allocator> Config<A> {
         self.table.walk_from(from)
     }
 
-    /// Gives a key a place, if it has none. Every other key keeps its place, and no record changes.
+    /// Gives a key a place, if it has none. Each other key that has a place keeps it, no other key gets one, and no record
+    /// changes.
     ///
     /// `AllocError` (M1): memory was wanted, which can't be where the key has a place already.
     pub fn room(&mut self, key: Key) -> Result<(), AllocError>
@@ -125,6 +126,7 @@ impl<A: Allocator> Config<A> {
         ensures records { self.new.records ≡ self.old.records }
         ensures ok { OnOk result (HasPlace self.new key) }
         ensures kept { (q : keys.Key) → HasPlace self.old q → HasPlace self.new q }
+        ensures no_more { (q : keys.Key) → HasPlace self.new q → HasPlace self.old q ⊎ (q ≡ key) }
         ensures succeeds { HasPlace self.old key → IsOk result }
     {
         self.table.room(key)

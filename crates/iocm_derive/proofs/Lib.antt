@@ -1,4 +1,5 @@
 pub mod Eight
 pub mod Joined
+pub mod PathKeys
 pub mod Tables
 pub mod Walks

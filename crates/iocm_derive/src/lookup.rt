@@ -104,9 +104,16 @@ pub fn find_paths<A: Allocator>(config: &Config<A>, unit: UnitNo) -> &[CssPath]
 pub fn reaches_path<A: Allocator>(config: &Config<A>, css: Css, name: Name, path: Chpid) -> bool
     ensures { result ≡ reaches (lookup_of config.now.records) css name path }
 {
-    let Some(entry) = config.get(&Key::Path(css, path)) else {
-        return false;
-    };
+    match config.get(&Key::Path(css, path)) {
+        Some(entry) => lists_image(entry, name),
+        None => false,
+    }
+}
+
+/// Whether a record is of a path that has a name in its access or its candidate list.
+pub fn lists_image<A: Allocator>(entry: &Record<A>, name: Name) -> bool
+    ensures { result ≡ record_lists name (Some entry.now) }
+{
     match entry.body() {
         RecordBody::Path(fields) => lists_name(fields, name),
         _ => false,

@@ -1,8 +1,10 @@
-use crate::{ImageSight, image_view, path_list, sees};
+use crate::{ImageSight, image_view, path_list, sees, view_at};
 use iocm_config::Config;
+use iocm_numbers::opening;
 use iocm_records::{DeviceFields, PathFields, Record, RecordBody, UnitFields};
 use iocm_types::{
-    Chpid, Css, CssPath, DevNo, Image, List, Mask, Mif, Name, PathKind, Paths, SetNo, UnitNo, View,
+    Chpid, Css, CssPath, DevNo, Image, List, Mask, Mif, Name, PathKind, Paths, SetNo, SubId,
+    UnitNo, View,
 };
 use std::alloc::{AllocError, Global};
 use std::test::Fail;
@@ -118,5 +120,16 @@ fn views_of_devices_in_any_order_are_the_same(rt: HostRuntime) -> Result<(), Fai
         sight.view(SetNo::FIRST, DevNo::new(0x1000)),
     ];
     assert!(rt; views == [Some(one_view()), None, Some(one_view())]);
+    Ok(())
+}
+
+#[test]
+fn a_subchannel_has_the_view_of_its_device(rt: HostRuntime) -> Result<(), Fail> {
+    let config = small_configuration(rt.alloc())?;
+    let numbers = opening(rt.alloc(), &config)?;
+    let image = image()?;
+    let set = SetNo::FIRST;
+    let views = [0, 1].map(|number| view_at(&config, &numbers, SubId { image, set, number }));
+    assert!(rt; views == [Some(one_view()), None]);
     Ok(())
 }

@@ -18,7 +18,8 @@ use Rattle.iocm_table.specs.Slots.{Stored, rows}
 use Rattle.iocm_model.specs.Machine.Numbering.{Numbering, cells_of}
 use Rattle.iocm_model.proofs.Numbers.Cells.{IsApart, place, has_number, has_device}
 use Rattle.iocm_numbers.specs.Bits.{is_bit_set}
-use Rattle.iocm_numbers.specs.Numbered.{cell_at, cells_in, bit_of, all_words, AreTied, AreNotedToo}
+use Rattle.iocm_numbers.specs.Numbered.{cell_at}
+use Rattle.iocm_numbers.specs.TiedTables.{cells_in, bit_of, all_words, AreTied, AreNotedToo}
 use Rattle.iocm_numbers.proofs.OneLess.{same_answer}
 use Rattle.iocm_numbers.proofs.Tied.{IsWritten, one_bit, none_set}
 

@@ -6,6 +6,7 @@ pub mod FirstRows
 pub mod Gathering
 pub mod InPlaces
 pub mod Lowest
+pub mod OneCarried
 pub mod OneLess
 pub mod OneMore
 pub mod PathsThere

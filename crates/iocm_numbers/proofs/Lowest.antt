@@ -16,7 +16,8 @@ use Rattle.iocm_model.proofs.Numbers.Cells.{place, has_number}
 use Rattle.iocm_model.proofs.Numbers.Apart.{any_kept, is_used_there}
 use Rattle.iocm_model.proofs.Numbers.Lowest.{lowest_free_is_free, lowest_free_is_found}
 use Rattle.iocm_numbers.specs.Bits.{is_bit_set, AreAllSet, IsLowestClear}
-use Rattle.iocm_numbers.specs.Numbered.{bit_of, cell_at, AreTied}
+use Rattle.iocm_numbers.specs.Numbered.{cell_at}
+use Rattle.iocm_numbers.specs.TiedTables.{bit_of, AreTied}
 
 module _ (n : Numbering) (css set : ℕ) where
   abbrev cell : ℕ → NumberCell

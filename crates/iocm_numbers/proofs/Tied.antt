@@ -17,7 +17,8 @@ use Rattle.iocm_model.specs.Machine.Numbering.{Numbering, cells_of, device_at}
 use Rattle.iocm_model.proofs.Numbers.Cells.{IsApart, has_device}
 use Rattle.iocm_model.proofs.Numbers.Apart.{insert_apart}
 use Rattle.iocm_numbers.specs.Bits.{is_bit_set}
-use Rattle.iocm_numbers.specs.Numbered.{cell_at, bit_of, all_words, AreTied}
+use Rattle.iocm_numbers.specs.Numbered.{cell_at}
+use Rattle.iocm_numbers.specs.TiedTables.{bit_of, all_words, AreTied}
 use Rattle.iocm_numbers.proofs.OneMore.{no_cells, cells_insert}
 use Rattle.iocm_numbers.proofs.OneLess.{remove_apart, cells_remove}
 

@@ -3,3 +3,4 @@ pub mod Numbered
 pub mod Opening
 pub mod PutBack
 pub mod Renumbering
+pub mod TiedTables

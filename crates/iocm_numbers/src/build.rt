@@ -4,7 +4,8 @@ ghost use Rattle.std.specs.Map.{keys_of};
 ghost use Rattle.std.specs.Ordering.{eq_by_cmp};
 ghost use Rattle.std.specs.FinMap.{from_entries};
 ghost use Rattle.iocm_types.specs.Place.{place_cmp};
-ghost use Rattle.iocm_numbers.specs.Numbered.{cells_in, all_words, AreNotedToo, HasNoNumberTwice};
+ghost use Rattle.iocm_numbers.specs.Numbered.{HasNoNumberTwice};
+ghost use Rattle.iocm_numbers.specs.TiedTables.{cells_in, all_words, AreNotedToo};
 
 use crate::Numbers;
 use crate::bits::{clear_words, set_bit};

@@ -1,10 +1,11 @@
-ghost use Rattle.std.specs.Prelude.{◌≡◌, ◌<◌, ◌≤◌, [], ℕ, None, IsSome, IsNone, IfSome, Some, IfOk, OnOk, IsOk, length};
+ghost use Rattle.std.specs.Prelude.{◌≡◌, ◌⊎◌, ◌<◌, ◌≤◌, [], ℕ, None, IsSome, IsNone, IfSome, Some, IfOk, OnOk, IsOk, length};
 ghost use Rattle.std.specs.FinMap as map;
+ghost use Rattle.iocm_types.specs.declared.place.NumberCell as cell_type;
 ghost use Rattle.iocm_types.specs.declared.place.Place as place_type;
 ghost use Rattle.iocm_model.specs.Machine.Numbering.{cells_of, device_at};
 ghost use Rattle.iocm_model.specs.Change.Renumbering as renumbering;
-ghost use Rattle.iocm_numbers.specs.Numbered as numbered;
-ghost use Rattle.iocm_numbers.specs.Numbered.{cell_at, HasNoNumberTwice, HasRoom, HasSameRoom, HasSmallDevices, KeepsRoom};
+ghost use Rattle.iocm_numbers.specs.Numbered.{cell_at, HasCellRoom, HasNoNumberTwice, HasPlaceRoom, HasRoom, HasSameRoom, HasSmallDevices, KeepsRoom};
+ghost use Rattle.iocm_numbers.specs.TiedTables as tied;
 
 use crate::bits::{clear_bit, clear_words, lowest_clear, set_bit};
 use iocm_table::{Rows, Table};
@@ -33,7 +34,8 @@ impl<A: Allocator> Model for Numbers<A> {
     ghost use Rattle.iocm_types.specs.Place.{place_cmp};
     ghost use Rattle.iocm_table.specs.Slots.{rows};
     ghost use Rattle.iocm_model.specs.Machine.Numbering.{Numbering};
-    ghost use Rattle.iocm_numbers.specs.Numbered.{Numbered, AreTied};
+    ghost use Rattle.iocm_numbers.specs.Numbered.{Numbered};
+    ghost use Rattle.iocm_numbers.specs.TiedTables.{AreTied};
 
     ghost Value = { Numbered };
 
@@ -113,7 +115,7 @@ impl<A: Allocator> Numbers<A> {
         self.cells.has_places();
     }
 
-    /// Makes room for a number at a place. What had room has it still, and no number changes.
+    /// Makes room for a number at a place. What had room has it still, nothing else gets room, and no number changes.
     ///
     /// `AllocError` (M1): memory was wanted, which can't be where there is room already.
     pub fn room(&mut self, place: Place, number: u16) -> Result<(), AllocError>
@@ -122,6 +124,8 @@ impl<A: Allocator> Numbers<A> {
         ensures numbers { self.new.numbers ≡ self.old.numbers }
         ensures ok { OnOk result (HasRoom self.new place number) }
         ensures kept { KeepsRoom self.old self.new }
+        ensures no_more_places { (p : place_type.Place) → HasPlaceRoom self.new p → HasPlaceRoom self.old p ⊎ (p ≡ place) }
+        ensures no_more_cells { (c : cell_type.NumberCell) → HasCellRoom self.new c → HasCellRoom self.old c ⊎ (c ≡ cell_at place number) }
         ensures succeeds { HasRoom self.old place number → IsOk result }
     {
         let cell = cell_of(&place, number);
@@ -173,7 +177,7 @@ pub fn cell_of(place: &Place, number: u16) -> NumberCell
 
 /// Which bit notes that a number is given away.
 pub fn bit_of(cell: NumberCell) -> usize
-    ensures value { result ≡ numbered.bit_of cell.css cell.set cell.number }
+    ensures value { result ≡ tied.bit_of cell.css cell.set cell.number }
     ensures css { cell.css < 6 }
     ensures set { cell.set < 4 }
     ensures number { cell.number < 65536 }

@@ -1,3 +1,8 @@
+ghost use Rattle.std.specs.Prelude.{◌≡◌, None, OnOk};
+ghost use Rattle.std.specs.FinMap as map;
+ghost use Rattle.iocm_model.specs.Machine.Numbering.{device_at};
+ghost use Rattle.iocm_numbers.specs.Numbered.{cell_at};
+
 use crate::{Numbers, is_place_reached, is_reached, opening};
 use iocm_config::Config;
 use iocm_records::{DeviceFields, Record, RecordBody, UnitFields};
@@ -172,6 +177,57 @@ fn a_device_that_comes_in_gets_the_lowest_free_number(rt: HostRuntime) -> Result
     let _ = numbers.free(touched[0]);
     numbers.renumber(rt.alloc(), &config, &touched, &[])?;
     assert_eq!(rt; numbers.number_of(touched[0]), Some(1));
+    Ok(())
+}
+
+/// Sees that no device has a number in the channel subsystem and set of a place.
+fn see_free(numbers: &Numbers, place: &Place, number: u16) -> Result<(), Fail>
+    ensures { OnOk result (device_at numbers.now.numbers (cell_at place.now number) ≡ None) }
+{
+    let cell = NumberCell {
+        css: place.css,
+        set: place.set,
+        number,
+    };
+    match numbers.device_at(cell) {
+        Some(_) => Err("a number that is free")?,
+        None => Ok(()),
+    }
+}
+
+/// Gives a place that has no number one that is free.
+fn give(numbers: &mut Numbers, place: &Place, number: u16) -> Result<(), Fail>
+    ensures { OnOk result (numbers.new.numbers ≡ map.insert numbers.old.numbers place.now number) }
+{
+    see_free(numbers, place, number)?;
+    numbers.room(*place, number)?;
+    match numbers.number_of(*place) {
+        Some(_) => Err("a place without a number")?,
+        None => numbers.place(*place, number),
+    }
+    Ok(())
+}
+
+#[test]
+fn a_device_that_is_not_reached_lets_its_number_go(rt: HostRuntime) -> Result<(), Fail> {
+    let config = three_units(rt.alloc())?;
+    let mut numbers = opening(rt.alloc(), &config)?;
+    let touched = [place(1, 0, 0x1003)?];
+    give(&mut numbers, &touched[0], 9)?;
+    numbers.renumber(rt.alloc(), &config, &touched, &[])?;
+    assert_eq!(rt; numbers.number_of(touched[0]), None);
+    Ok(())
+}
+
+#[test]
+fn a_number_that_was_carried_along_is_given_again(rt: HostRuntime) -> Result<(), Fail> {
+    let config = three_units(rt.alloc())?;
+    let mut numbers = opening(rt.alloc(), &config)?;
+    let touched = [place(1, 0, 0x1001)?];
+    let _ = numbers.free(touched[0]);
+    see_free(&numbers, &touched[0], 9)?;
+    numbers.renumber(rt.alloc(), &config, &touched, &[(touched[0], 9)])?;
+    assert_eq!(rt; numbers.number_of(touched[0]), Some(9));
     Ok(())
 }
 

@@ -1,7 +1,7 @@
 -- A number, its cell and its bit go together; where there is none nothing changes.
 use Rattle.std.proofs.Common.{false, sym, subst, ◌∙◌, List, ℕ}
 use Rattle.std.proofs.lemmas.List.{take_at}
-use Rattle.iocm_numbers.specs.Numbered.{AreTied}
+use Rattle.iocm_numbers.specs.TiedTables.{AreTied}
 use Rattle.iocm_numbers.proofs.Tied.{IsWritten, tied_same, tied_without, remove_none}
 use Rattle.iocm_numbers.proofs.numbers.Numbers.free.Goals as goal
 

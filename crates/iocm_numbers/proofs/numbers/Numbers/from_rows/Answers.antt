@@ -8,7 +8,7 @@ use Rattle.std.specs.FinMap.{from_entries}
 use Rattle.iocm_types.specs.declared.place.Place.{Place}
 use Rattle.iocm_types.specs.declared.place.NumberCell.{NumberCell}
 use Rattle.iocm_types.specs.Place.{cell_cmp}
-use Rattle.iocm_numbers.specs.Numbered.{cells_in, AreTied, AreNotedToo}
+use Rattle.iocm_numbers.specs.TiedTables.{cells_in, AreTied, AreNotedToo}
 use Rattle.iocm_numbers.proofs.Built.{cells_distinct, apart_in, tied_rows}
 use Rattle.iocm_numbers.proofs.numbers.Numbers.from_rows.Goals as goal
 

@@ -2,7 +2,8 @@
 use Rattle.std.proofs.Common.{ℕ, ◌+◌, ◌*◌, ◌<◌, ◌≤◌, ◌≡◌, arith, subst, List, IfSome}
 use Rattle.iocm_model.specs.Change.Renumbering.{lowest_free}
 use Rattle.iocm_numbers.specs.Bits.{AreAllSet, IsLowestClear}
-use Rattle.iocm_numbers.specs.Numbered.{Numbered, bit_of}
+use Rattle.iocm_numbers.specs.Numbered.{Numbered}
+use Rattle.iocm_numbers.specs.TiedTables.{bit_of}
 use Rattle.iocm_numbers.proofs.Lowest.{some_is_lowest, none_is_free, notes_of, found_by}
 use Rattle.iocm_numbers.proofs.numbers.Numbers.lowest_free.Goals as goal
 

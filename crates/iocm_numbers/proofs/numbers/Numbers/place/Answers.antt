@@ -3,7 +3,8 @@ use Rattle.std.proofs.Common.{arith, true, sym, ap, subst, ◌∙◌, List, ℕ}
 use Rattle.std.proofs.lemmas.List.{take_at}
 use Rattle.std.specs.FinMap.{get}
 use Rattle.iocm_model.specs.Machine.Numbering.{device_at}
-use Rattle.iocm_numbers.specs.Numbered.{Numbered, AreTied, cell_at}
+use Rattle.iocm_numbers.specs.Numbered.{Numbered, cell_at}
+use Rattle.iocm_numbers.specs.TiedTables.{AreTied}
 use Rattle.iocm_numbers.proofs.Tied.{IsWritten, tied_with}
 use Rattle.iocm_numbers.proofs.numbers.Numbers.place.Goals as goal
 
