@@ -1,2 +1,3 @@
-pub mod Filtering
-pub mod Images
+mod Filtering
+mod Images
+mod Rows

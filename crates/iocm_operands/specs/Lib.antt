@@ -1,5 +1,6 @@
-pub mod Chpid
-pub mod Cntlunit
-pub mod Iodevice
-pub mod LeftOut
+pub mod ChpidPartition
+pub mod ChpidPath
+pub mod Device
+pub mod Limits
 pub mod Resource
+pub mod Unit

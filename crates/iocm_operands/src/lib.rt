@@ -1,22 +1,22 @@
 //! The operands of each statement: what a value is under its keyword.
 //!
-//! A file for each statement: `resource.rt`, `chpid.rt`, `cntlunit.rt` and `iodevice.rt`. A reader takes the text
-//! of an operand, or that it is not there, and answers its value, the fault that its caller gives it where the
-//! text has another form, or M1 without memory. The forms and defaults of each stand in `specs/`, in the file of
-//! the same name.
+//! A file for each operand or statement: `resource.rt`, `limits.rt`, `chpid_path.rt`, `chpid_partition.rt`, `unit.rt` and
+//! `device.rt`. A reader takes the value of an operand and answers what it writes; where it has none of the operand's forms it is
+//! malformed. The forms of each stand in `specs/`, one line each, in the file of the same name.
 //!
-//! `left_out.rt` knows which keywords each statement has, and the forms that this product leaves out.
-//! Begin with `cntlunit.rt`.
+//! Begin with `specs/Unit.antt`, then `unit.rt`. Which operands a statement knows is said in `iocm_keywords`.
 #![tactic(auto)]
 
-mod chpid;
-mod cntlunit;
-mod iodevice;
-mod left_out;
+mod chpid_partition;
+mod chpid_path;
+mod device;
+mod limits;
 mod resource;
+mod unit;
 
-pub use chpid::{Lists, chpid_path, lists_of};
-pub use cntlunit::{cuadd_of, paths_of_value, ranges_of};
-pub use iodevice::{Devices, devices_of, first_address, units_of};
-pub use left_out::{has_left_out, has_other_form};
-pub use resource::{ImageEntry, names_in, partition_images};
+pub use chpid_partition::{Partition, partition_of};
+pub use chpid_path::path_of;
+pub use device::{Devices, candidates_of, devices_of, first_address, set_of, units_of};
+pub use limits::{LimitEntry, limits_of};
+pub use resource::{ImageEntry, images_of, names_in};
+pub use unit::{all_addresses, cuadd_of, links_of, number_of, paths_of, ranges_of};

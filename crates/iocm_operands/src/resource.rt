@@ -1,16 +1,14 @@
-ghost use Rattle.std.specs.Prelude.{◌≡◌, IfOk, OnOk, map, filter, fold, ◌==◌, [], ◌∷◌};
+ghost use Rattle.std.specs.Prelude.{◌≡◌, ◌==◌, ◌++◌, IfOk, OnOk, [], ◌∷◌, map, filter, fold};
 ghost use Rattle.std.specs.List.{filter_map};
-ghost use Rattle.std.specs.Option.{option_copied};
-ghost use Rattle.iocm_types.specs.Each.{each};
-ghost use Rattle.iocm_types.specs.Fault.{Gives};
 ghost use Rattle.iocm_model.specs.Machine.Record.{ImageRecord};
-ghost use Rattle.iocm_values.specs.Groups.{in_css_order};
+ghost use Rattle.iocm_statements.specs.Unread.{Reads};
 ghost use Rattle.iocm_values.specs.NameSet.{with_name};
+ghost use Rattle.iocm_values.specs.Value.{seen};
 ghost use Rattle.iocm_operands.specs.Resource as meaning;
 
-use iocm_statements::{hex, items};
-use iocm_types::{Css, Fault, Mif, Name, Text};
-use iocm_values::{add_name, by_css, in_css_order};
+use iocm_statements::Unread;
+use iocm_types::{Css, Mif, Name};
+use iocm_values::{CssItem, Value, add_name, by_css, hex};
 use std::alloc::{AllocError, Global};
 use std::marker::Model;
 
@@ -35,8 +33,16 @@ impl Model for ImageEntry {
     ghost inverse = { λ r. record { css = r.css; mif = r.mif; name = r.name } };
 }
 
-/// An image as a RESOURCE statement lists it: its ID, and its name where it has one.
-type Pair = Option<(Mif, Name)>;
+/// A place of PARTITION: an image ID of a channel subsystem, and the image's name, if it has one.
+#[derive(Clone, Copy, Debug)]
+pub struct ImagePlace {
+    /// The channel subsystem.
+    pub css: Css,
+    /// The MIF image ID.
+    pub mif: Mif,
+    /// The image's name; `*` stands for none.
+    pub name: Option<Name>,
+}
 
 // A MIF image ID, one digit 1 to F.
 fn mif_of(text: &[u8]) -> Option<Mif>
@@ -46,59 +52,82 @@ fn mif_of(text: &[u8]) -> Option<Mif>
     Mif::new(mif as u8)
 }
 
-// An image's ID and name; `(*,digit)` stands for no image.
-fn pair_of(items: &[Text], fault: Fault) -> Result<Pair, Fault>
-    ensures { Gives (λ pair. pair) result (meaning.pair_of fault items.now) }
+// The name of an image; `*` stands for none.
+fn image_name(text: &[u8]) -> Option<Option<Name>>
+    ensures { result ≡ meaning.image_name text.now }
+{
+    if text == b"*".as_slice() {
+        return Some(None);
+    }
+    let name = Name::new(text)?;
+    Some(Some(name))
+}
+
+fn image_listed(css: Css, items: &[Value]) -> Option<ImagePlace>
+    ensures { result ≡ meaning.image_listed css (map seen items.now) }
 {
     match items {
-        [name, digit] => {
-            let mif = mif_of(digit.as_slice()).ok_or(fault)?;
-            if name.as_slice() == b"*".as_slice() {
-                return Ok(None);
-            }
-            let name = Name::new(name.as_slice()).ok_or(fault)?;
-            Ok(Some((mif, name)))
+        [Value::Word(name), Value::Word(digit)] => {
+            let mif = mif_of(digit)?;
+            let name = image_name(name)?;
+            Some(ImagePlace { css, mif, name })
         }
-        _ => Err(fault),
+        _ => None,
     }
 }
 
-fn image_item(alloc: Global, item: &(Css, Text), fault: Fault) -> Result<(Css, Pair), Fault>
-    ensures { Gives (λ pair. pair) result (meaning.image_item fault 0 item.now) }
+fn image_item(alloc: Global, css: Css, value: Value) -> Result<ImagePlace, Unread>
+    ensures { Reads (λ p. p) result (meaning.image_item css (seen value.entry)) }
 {
-    let (css, text) = item;
-    let items = items(alloc, text.as_slice(), fault)?;
-    let pair = pair_of(&items, fault)?;
-    Ok((*css, pair))
+    let items = value.items(alloc)?;
+    match image_listed(css, &items) {
+        Some(place) => Ok(place),
+        None => Err(Unread::Malformed),
+    }
 }
 
-#[tactic(auto, using(iocm_types::proofs::Each::each_steps))]
-fn read_pairs(alloc: Global, items: &[(Css, Text)], fault: Fault) -> Result<Vec<(Css, Pair)>, Fault>
-    ensures { Gives (λ v. v.items) result (each (meaning.image_item fault) 0 items.now) }
-{
-    let mut pairs = Vec::new(alloc);
-    for item in items {
-        pairs.push(image_item(alloc, item, fault)?)?;
+impl CssItem for ImagePlace {
+    ghost use Rattle.std.specs.Prelude.{false};
+    ghost use Rattle.iocm_operands.specs.declared.resource.ImagePlace.{ImagePlace};
+    ghost use Rattle.iocm_operands.specs.Resource as meaning;
+
+    ghost item = { meaning.image_item };
+
+    ghost subsystem = { λ (p : ImagePlace). p.css };
+
+    ghost may_lack = { false };
+
+    fn read(alloc: Global, css: Css, value: Value) -> Result<Self, Unread> {
+        image_item(alloc, css, value)
     }
-    Ok(pairs)
+
+    fn css(&self) -> Css {
+        self.css
+    }
+
+    fn may_lack_items() -> bool {
+        false
+    }
 }
 
-fn image_there(pair: (Css, Pair)) -> Option<ImageEntry>
-    ensures { result ≡ meaning.image_there pair }
+fn image_at(place: ImagePlace) -> Option<ImageEntry>
+    ensures { result ≡ meaning.image_at place }
 {
-    match pair {
-        (css, Some((mif, name))) => Some(ImageEntry { css, mif, name }),
-        (_, None) => None,
-    }
+    let name = place.name?;
+    Some(ImageEntry {
+        css: place.css,
+        mif: place.mif,
+        name,
+    })
 }
 
 #[tactic(auto, using(crate::proofs::Filtering::filter_maps))]
-fn images_there(alloc: Global, pairs: &[(Css, Pair)]) -> Result<Vec<ImageEntry>, AllocError>
-    ensures { IfOk result (λ images. images.items ≡ filter_map meaning.image_there pairs.now) }
+fn images_at(alloc: Global, places: &[ImagePlace]) -> Result<Vec<ImageEntry>, AllocError>
+    ensures { IfOk result (λ images. images.items ≡ filter_map meaning.image_at places.now) }
 {
     let mut images = Vec::new(alloc);
-    for pair in pairs {
-        match image_there(*pair) {
+    for place in places {
+        match image_at(*place) {
             Some(image) => images.push(image)?,
             None => continue,
         }
@@ -106,35 +135,13 @@ fn images_there(alloc: Global, pairs: &[(Css, Pair)]) -> Result<Vec<ImageEntry>,
     Ok(images)
 }
 
-fn images_in_order(alloc: Global, pairs: &[(Css, Pair)]) -> Result<Vec<ImageEntry>, AllocError>
-    ensures { IfOk result (λ images. images.items ≡ filter_map meaning.image_there (in_css_order pairs.now)) }
+/// The images of PARTITION of RESOURCE, a list by channel subsystem of pairs `(NAME,digit)`, with channel subsystems ascending;
+/// `(*,digit)` stands for no image.
+pub fn images_of(alloc: Global, value: Value) -> Result<Vec<ImageEntry>, Unread>
+    ensures { Reads (λ v. v.items) result (meaning.images_of (seen value.entry)) }
 {
-    let ordered = in_css_order(alloc, pairs)?;
-    images_there(alloc, &ordered)
-}
-
-fn images_of(alloc: Global, text: &[u8], fault: Fault) -> Result<Vec<ImageEntry>, Fault>
-    ensures { Gives (λ v. v.items) result (meaning.images_of fault text.now) }
-{
-    let items = by_css(alloc, text, fault)?;
-    let pairs = read_pairs(alloc, &items, fault)?;
-    Ok(images_in_order(alloc, &pairs)?)
-}
-
-/// The images of the value of PARTITION, with channel subsystems ascending; without it there are none.
-///
-/// Answers `fault` where the value is malformed, and M1 without memory.
-pub fn partition_images(
-    alloc: Global,
-    text: Option<&[u8]>,
-    fault: Fault,
-) -> Result<Vec<ImageEntry>, Fault>
-    ensures { Gives (λ v. v.items) result (meaning.partition_images fault (option_copied text.entry)) }
-{
-    match text {
-        Some(text) => images_of(alloc, text, fault),
-        None => Ok(Vec::new(alloc)),
-    }
+    let places: Vec<ImagePlace> = by_css(alloc, value)?;
+    Ok(images_at(alloc, &places)?)
 }
 
 fn add_image(names: &mut Vec<Name>, css: Css, image: ImageEntry) -> Result<(), AllocError>

@@ -1,3 +1,4 @@
+pub mod Carrying
 pub mod Claiming
 pub mod Machine
 pub mod Places

@@ -7,9 +7,10 @@ use Rattle.iocm_types.specs.Key.{key_cmp}
 use Rattle.iocm_model.specs.Machine.Record.{Rec}
 use Rattle.iocm_model.specs.Machine.Configuration.{with_keys, HasNoKeyTwice}
 
--- whether there was a RESOURCE statement, and the records
+-- whether there was an ID and a RESOURCE statement, and the records
 pub record Progress : Type 0 where
-  pub seen : Bool
+  pub has_id : Bool
+  pub has_resource : Bool
   pub records : List Rec
 
 -- whether a key is in a set of keys

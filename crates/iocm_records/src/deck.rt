@@ -4,11 +4,13 @@ ghost use Rattle.iocm_model.specs.Machine.Configuration.{HasNoKeyTwice};
 ghost use Rattle.iocm_records.specs.Deck as deck;
 
 use crate::Record;
-use crate::progress::Progress;
-use crate::statements::{resource_images, statement_records};
-use iocm_operands::{ImageEntry, has_left_out, has_other_form};
-use iocm_statements::{Operands, Operation, Statement};
+use crate::progress::{Progress, is_resource};
+use crate::statements::statement_records;
+use iocm_keywords::{has_left_out, has_other_form, lacks_required};
+use iocm_operands::{ImageEntry, images_of};
+use iocm_statements::{Operation, Statement, Unread};
 use iocm_types::{Fault, Rule};
+use iocm_values::Value;
 use std::alloc::{AllocError, Global};
 
 fn is_of_changes(operation: Operation) -> bool
@@ -24,72 +26,43 @@ fn is_of_changes(operation: Operation) -> bool
     }
 }
 
-fn is_resource(operation: Operation) -> bool
-    ensures { result ≡ deck.is_resource operation }
+// A statement of which one stands in the deck already.
+fn is_repeated(progress: &Progress, operation: Operation) -> bool
+    ensures { result ≡ deck.is_repeated progress.now operation }
 {
     match operation {
-        Operation::Resource => true,
+        Operation::Id => progress.has_id(),
+        Operation::Resource => progress.has_resource(),
         _ => false,
     }
-}
-
-// A statement of which one stands in a deck already; seen says whether a RESOURCE statement does.
-fn is_repeated(seen: bool, operation: Operation) -> bool
-    ensures { result ≡ deck.is_repeated seen operation }
-{
-    match operation {
-        Operation::Resource => seen,
-        _ => false,
-    }
-}
-
-fn lacks_required(operation: Operation, operands: &Operands) -> bool
-    ensures { result ≡ deck.lacks_required (deck.required_of operation) operands.now }
-{
-    match operation {
-        Operation::Chpid => operands.get(b"PATH").is_none(),
-        Operation::Cntlunit => operands.get(b"CUNUMBR").is_none(),
-        Operation::Iodevice => operands.get(b"ADDRESS").is_none(),
-        _ => false,
-    }
-}
-
-fn is_statement_left_out(operation: Operation) -> bool
-    ensures { result ≡ deck.is_statement_left_out operation }
-{
-    match operation {
-        Operation::Id => true,
-        _ => false,
-    }
-}
-
-// Whether the statement or one of its operands is left out.
-fn is_left_out(alloc: Global, statement: &Statement) -> Result<bool, AllocError>
-    ensures { IfOk result (λ answer. answer ≡ deck.is_left_out_statement statement.now) }
-{
-    if is_statement_left_out(statement.operation) {
-        return Ok(true);
-    }
-    has_left_out(alloc, statement.operation, &statement.operands)
 }
 
 // What is wrong with a statement before its values are read: S1, S7, S3, S5 or S4.
-fn first_fault(alloc: Global, seen: bool, statement: &Statement) -> Result<Option<Rule>, AllocError>
-    ensures { IfOk result (λ rule. rule ≡ deck.first_fault seen statement.now) }
+fn first_fault(
+    alloc: Global,
+    progress: &Progress,
+    statement: &Statement,
+) -> Result<Option<Rule>, AllocError>
+    ensures { IfOk result (λ rule. rule ≡ deck.first_fault progress.now statement.now) }
 {
-    if is_of_changes(statement.operation) {
+    let Statement {
+        operation,
+        operands,
+        ..
+    } = statement;
+    if is_of_changes(*operation) {
         return Ok(Some(Rule::S1));
     }
-    if is_repeated(seen, statement.operation) {
+    if is_repeated(progress, *operation) {
         return Ok(Some(Rule::S7));
     }
-    if lacks_required(statement.operation, &statement.operands) {
+    if lacks_required(*operation, operands) {
         return Ok(Some(Rule::S3));
     }
-    if is_left_out(alloc, statement)? {
+    if has_left_out(alloc, *operation, operands)? {
         return Ok(Some(Rule::S5));
     }
-    if has_other_form(statement.operation, &statement.operands) {
+    if has_other_form(*operation, operands) {
         return Ok(Some(Rule::S4));
     }
     Ok(None)
@@ -99,13 +72,13 @@ fn first_fault(alloc: Global, seen: bool, statement: &Statement) -> Result<Optio
 pub fn read_statement(
     alloc: Global,
     images: &[ImageEntry],
-    seen: bool,
+    progress: &Progress,
     statement: &Statement,
 ) -> Result<Vec<Record>, Fault>
-    ensures { Gives (λ v. v.items) result (deck.read_statement images.now seen statement.now) }
+    ensures { Gives (λ v. v.items) result (deck.read_statement images.now progress.now statement.now) }
 {
     let line = statement.line;
-    match first_fault(alloc, seen, statement)? {
+    match first_fault(alloc, progress, statement)? {
         Some(rule) => Err(Fault { rule, line }),
         None => {
             let malformed = Fault {
@@ -131,28 +104,25 @@ fn read_next(
 ) -> Result<Progress, Fault>
     ensures { Gives (λ p. p) result (deck.progress_after images.now progress statement.now) }
 {
-    let found = read_statement(alloc, images, progress.has_resource(), statement)?;
+    let found = read_statement(alloc, images, &progress, statement)?;
     let twice = Fault {
         rule: Rule::S8,
         line: statement.line,
     };
-    progress.with(found, is_resource(statement.operation), twice)
+    progress.with(found, statement.operation, twice)
 }
 
 // The images that a RESOURCE statement gives, or none where it has a fault.
 fn images_or_none(alloc: Global, statement: &Statement) -> Result<Vec<ImageEntry>, AllocError>
     ensures { IfOk result (λ v. v.items ≡ deck.images_or_none statement.now) }
 {
-    let malformed = Fault {
-        rule: Rule::S4,
-        line: statement.line,
-    };
-    match resource_images(alloc, &statement.operands, malformed) {
-        Ok(images) => Ok(images),
-        Err(fault) => match fault.rule {
-            Rule::M1 => Err(AllocError),
-            _ => Ok(Vec::new(alloc)),
+    match statement.operands.get(b"PARTITION") {
+        Some(text) => match images_of(alloc, Value::new(text)) {
+            Ok(images) => Ok(images),
+            Err(Unread::Malformed) => Ok(Vec::new(alloc)),
+            Err(Unread::Memory) => Err(AllocError),
         },
+        None => Ok(Vec::new(alloc)),
     }
 }
 
@@ -187,8 +157,8 @@ fn read_all(
 /// The records of a configuration deck, no two of one key.
 ///
 /// The statements are taken in order, and the first that has a fault refuses the deck with its line. Per
-/// statement the first of these counts: S1, an operation of change decks; S7, a second RESOURCE statement;
-/// S3, a required keyword that is missing; S5, an operand or a form that this product leaves out; S4, a
+/// statement the first of these counts: S1, an operation of change decks; S7, a second ID or RESOURCE statement;
+/// S3, a required keyword that is missing; S5, a form that this product leaves out; S4, a
 /// malformed value; S8, a key that the deck has already. M1 comes without memory. (IOCP User's Guide, the
 /// statements; the numbers and the order of the faults are own.)
 pub fn from_statements(alloc: Global, statements: &[Statement]) -> Result<Vec<Record>, Fault>

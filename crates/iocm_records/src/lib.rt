@@ -10,12 +10,17 @@
 #![tactic(auto)]
 
 mod carried;
+mod chpid;
 mod copies;
 mod deck;
+mod device;
 mod names;
+mod operands;
 mod progress;
 mod record;
+mod resource;
 mod statements;
+mod unit;
 
 pub use carried::Carried;
 pub use deck::from_statements;

@@ -5,10 +5,12 @@ ghost use Rattle.iocm_types.specs.Key.{key_cmp};
 ghost use Rattle.iocm_types.specs.declared.key.Key.{Key};
 ghost use Rattle.iocm_model.specs.Machine.Record.{Rec};
 ghost use Rattle.iocm_model.specs.Machine.Configuration.{HasNoKeyTwice};
-ghost use Rattle.iocm_records.specs.Deck.{with_records, with_statement};
+ghost use Rattle.iocm_records.specs.Deck as deck;
+ghost use Rattle.iocm_records.specs.Deck.{with_records, with_statement, nothing_read};
 ghost use Rattle.iocm_records.specs.Progress.{has_claimed, IsKept};
 
 use crate::Record;
+use iocm_statements::Operation;
 use iocm_types::{Fault, Key};
 use std::alloc::{AllocError, Global};
 use std::collections::BTreeSet;
@@ -38,11 +40,32 @@ pub fn claim_keys(keys: &mut BTreeSet<Key>, found: &[Record], fault: Fault) -> R
     Ok(())
 }
 
-/// What was read of a deck so far: whether there was a RESOURCE statement, and the records, no two of
+/// Whether a statement is ID.
+pub fn is_id(operation: Operation) -> bool
+    ensures { result ≡ deck.is_id operation }
+{
+    match operation {
+        Operation::Id => true,
+        _ => false,
+    }
+}
+
+/// Whether a statement is RESOURCE.
+pub fn is_resource(operation: Operation) -> bool
+    ensures { result ≡ deck.is_resource operation }
+{
+    match operation {
+        Operation::Resource => true,
+        _ => false,
+    }
+}
+
+/// What was read of a deck so far: whether there was an ID and a RESOURCE statement, and the records, no two of
 /// one key.
 #[derive(Debug, Drop)]
 pub struct Progress {
-    seen: bool,
+    has_id: bool,
+    has_resource: bool,
     records: Vec<Record>,
     keys: BTreeSet<Key>,
 }
@@ -52,7 +75,7 @@ impl Model for Progress {
 
     ghost Value = { words.Progress };
 
-    ghost view = { λ p. record { seen = p.seen; records = p.records.items } };
+    ghost view = { λ p. record { has_id = p.has_id; has_resource = p.has_resource; records = p.records.items } };
 
     ghost invariant = { λ p. words.IsKept p.keys p.records.items };
 }
@@ -60,35 +83,44 @@ impl Model for Progress {
 impl Progress {
     /// Nothing was read yet.
     pub fn new(alloc: Global) -> Self
-        ensures { result ≡ record { seen = false; records = [] } }
+        ensures { result ≡ nothing_read }
     {
         Progress {
-            seen: false,
+            has_id: false,
+            has_resource: false,
             records: Vec::new(alloc),
             keys: BTreeSet::new(alloc),
         }
     }
 
-    /// Whether there was a RESOURCE statement.
-    pub fn has_resource(&self) -> bool
-        ensures { result ≡ self.now.seen }
+    /// Whether there was an ID statement.
+    pub fn has_id(&self) -> bool
+        ensures { result ≡ self.now.has_id }
     {
-        self.seen
+        self.has_id
     }
 
-    /// The records of a further statement behind the others, and whether it is a RESOURCE statement.
+    /// Whether there was a RESOURCE statement.
+    pub fn has_resource(&self) -> bool
+        ensures { result ≡ self.now.has_resource }
+    {
+        self.has_resource
+    }
+
+    /// The records of a further statement behind the others, and whether it is an ID or a RESOURCE statement.
     ///
     /// Answers `fault` at a key that is there already, and M1 without memory.
     pub fn with(
         self,
         found: Vec<Record>,
-        is_resource: bool,
+        operation: Operation,
         fault: Fault,
     ) -> Result<Progress, Fault>
-        ensures { Gives (λ p. p) result (with_statement fault self is_resource found.items) }
+        ensures { Gives (λ p. p) result (with_statement fault self operation found.items) }
     {
         let Progress {
-            seen,
+            has_id,
+            has_resource,
             mut records,
             mut keys,
         } = self;
@@ -96,7 +128,8 @@ impl Progress {
         claim_keys(&mut keys, &found, fault)?;
         records.append(&mut found)?;
         Ok(Progress {
-            seen: seen || is_resource,
+            has_id: has_id || is_id(operation),
+            has_resource: has_resource || is_resource(operation),
             records,
             keys,
         })
@@ -108,7 +141,8 @@ impl Progress {
         ensures apart { HasNoKeyTwice self.records }
     {
         let Progress {
-            seen: _,
+            has_id: _,
+            has_resource: _,
             records,
             keys: _,
         } = self;

@@ -1,17 +1,16 @@
 -- The steps of the loop that cuts a text.
-use Rattle.std.proofs.Common.{◌≡◌, ℕ, ◌+◌, ◌<◌, ◌≤◌, true, false, None, Some, List, [], ◌∷◌, ◌++◌, length, get_or, drop, Result, Ok, Err, refl, sym, ap, append_assoc}
+use Rattle.std.proofs.Common.{◌≡◌, ℕ, suc, ◌+◌, ◌-◌, ◌<◌, ◌≤◌, true, false, Option, None, Some, List, [], ◌∷◌, ◌++◌, length, get_or, take, drop, slice_range, refl, sym, ap, ◌∙◌, append_assoc, subst, arith}
 use Rattle.std.proofs.Math.ListN.{drop_of_length-le}
-use Rattle.std.proofs.lemmas.List.{append-nil}
-use Rattle.iocm_types.specs.declared.fault.Fault.{Fault}
-use Rattle.iocm_types.specs.Fault.{◌>>=◌}
-use Rattle.iocm_types.proofs.Lists.{drop-item}
+use Rattle.std.proofs.lemmas.List.{append-nil, drop_more}
+use Rattle.std.specs.Option.{option_map}
 use Rattle.iocm_statements.specs.declared.nesting.Nesting.{Nesting}
 use Rattle.iocm_statements.specs.Nesting.{is_outside, step, cuts}
 use Rattle.iocm_statements.specs.Pieces.{onto_first, pieces_from}
+use Rattle.iocm_statements.proofs.Runs.{run_grows, run_begins}
 
 -- the pieces that are cut, and the one at hand, in front of those of the rest
-abbrev pub with_front : List (List ℕ) → List ℕ → Result (List (List ℕ)) Fault → Result (List (List ℕ)) Fault
-with_front pieces piece rest = rest >>= λ more. Ok (pieces ++ onto_first piece more)
+abbrev pub with_front : List (List ℕ) → List ℕ → Option (List (List ℕ)) → Option (List (List ℕ))
+with_front pieces piece rest = option_map (λ more. pieces ++ onto_first piece more) rest
 
 none_in_front : (more : List (List ℕ)) → onto_first [] more ≡ more
 none_in_front [] = refl
@@ -21,56 +20,60 @@ in_front_twice : (a b : List ℕ) (more : List (List ℕ)) → onto_first a (ont
 in_front_twice a b [] = refl
 in_front_twice a b (p ∷ ps) = ap (λ x. x ∷ ps) (sym (append_assoc a b p))
 
-cut_grows : (pieces : List (List ℕ)) (piece : List ℕ) (rest : Result (List (List ℕ)) Fault)
-    → with_front pieces piece (rest >>= λ more. Ok ([] ∷ more)) ≡ with_front (pieces ++ piece ∷ []) [] rest
-cut_grows pieces piece (Err e) = refl
-cut_grows pieces piece (Ok more) =
-    ap Ok (rw (append-nil piece, none_in_front more) (sym (append_assoc pieces (piece ∷ []) more)))
+cut_grows : (pieces : List (List ℕ)) (piece : List ℕ) (rest : Option (List (List ℕ)))
+    → with_front pieces piece (option_map (λ more. [] ∷ more) rest) ≡ with_front (pieces ++ piece ∷ []) [] rest
+cut_grows pieces piece None = refl
+cut_grows pieces piece (Some more) =
+    ap Some (rw (append-nil piece, none_in_front more) (sym (append_assoc pieces (piece ∷ []) more)))
 
-piece_grows : (pieces : List (List ℕ)) (piece : List ℕ) (b : ℕ) (rest : Result (List (List ℕ)) Fault)
-    → with_front pieces piece (rest >>= λ more. Ok (onto_first (b ∷ []) more)) ≡ with_front pieces (piece ++ b ∷ []) rest
-piece_grows pieces piece b (Err e) = refl
-piece_grows pieces piece b (Ok more) = ap (λ x. Ok (pieces ++ x)) (in_front_twice piece (b ∷ []) more)
+piece_grows : (pieces : List (List ℕ)) (piece : List ℕ) (b : ℕ) (rest : Option (List (List ℕ)))
+    → with_front pieces piece (option_map (onto_first (b ∷ [])) rest) ≡ with_front pieces (piece ++ b ∷ []) rest
+piece_grows pieces piece b None = refl
+piece_grows pieces piece b (Some more) = ap (λ x. Some (pieces ++ x)) (in_front_twice piece (b ∷ []) more)
 
 -- a comma that cuts ends the piece at hand
-pub cut_ends_piece : (fault : Fault) (pieces : List (List ℕ)) (piece : List ℕ) (p : Nesting) (text : List ℕ) (i b : ℕ)
-    → i < length text → b ≡ get_or text i b → cuts p b ≡ true
-    → with_front pieces piece (pieces_from fault p (drop i text)) ≡ with_front (pieces ++ piece ∷ []) [] (pieces_from fault p (drop (i + 1) text))
+pub cut_ends_piece : (pieces more : List (List ℕ)) (p : Nesting) (text : List ℕ) (from next i : ℕ)
+    → i < length text → cuts p (get_or text i 0) ≡ true → more ≡ pieces ++ slice_range text from i ∷ [] → next ≡ i + 1
+    → with_front pieces (slice_range text from i) (pieces_from p (drop i text))
+    ≡ with_front more (slice_range text next (i + 1)) (pieces_from p (drop (i + 1) text))
 unfolding pieces_from
-cut_ends_piece fault pieces piece p text i b within item cut =
-    rw (drop-item text i b within item, cut) (cut_grows pieces piece (pieces_from fault p (drop (i + 1) text)))
+cut_ends_piece pieces more p text from next i within cut is begins =
+    rw (drop_more text i 0 within, cut, is, begins, run_begins text (i + 1)) (cut_grows pieces (slice_range text from i) (pieces_from p (drop (i + 1) text)))
 
 -- another byte goes to the piece at hand
-pub byte_joins_piece : (fault : Fault) (pieces : List (List ℕ)) (piece : List ℕ) (p q : Nesting) (text : List ℕ) (i b : ℕ)
-    → i < length text → b ≡ get_or text i b → cuts p b ≡ false → step p b ≡ Some q
-    → with_front pieces piece (pieces_from fault p (drop i text)) ≡ with_front pieces (piece ++ b ∷ []) (pieces_from fault q (drop (i + 1) text))
+pub byte_joins_piece : (pieces : List (List ℕ)) (p q : Nesting) (text : List ℕ) (from i : ℕ)
+    → from ≤ i → i < length text → cuts p (get_or text i 0) ≡ false → step p (get_or text i 0) ≡ Some q
+    → with_front pieces (slice_range text from i) (pieces_from p (drop i text))
+    ≡ with_front pieces (slice_range text from (i + 1)) (pieces_from q (drop (i + 1) text))
 unfolding pieces_from
-byte_joins_piece fault pieces piece p q text i b within item kept next =
-    rw (drop-item text i b within item, kept, next) (piece_grows pieces piece b (pieces_from fault q (drop (i + 1) text)))
+byte_joins_piece pieces p q text from i begun within kept next =
+    rw (drop_more text i 0 within, kept, next)
+    (piece_grows pieces (slice_range text from i) (get_or text i 0) (pieces_from q (drop (i + 1) text))
+    ∙ ap (λ piece. with_front pieces piece (pieces_from q (drop (i + 1) text))) (run_grows text from i begun within))
 
--- a parenthesis that closes nothing is the fault
-pub closing_fails : (fault : Fault) (pieces : List (List ℕ)) (piece : List ℕ) (p : Nesting) (text : List ℕ) (i b : ℕ)
-    → i < length text → b ≡ get_or text i b → cuts p b ≡ false → step p b ≡ None
-    → with_front pieces piece (pieces_from fault p (drop i text)) ≡ Err fault
+-- behind a parenthesis that closes nothing there are no pieces
+pub closing_fails : (pieces : List (List ℕ)) (piece : List ℕ) (p : Nesting) (text : List ℕ) (i : ℕ)
+    → i < length text → cuts p (get_or text i 0) ≡ false → step p (get_or text i 0) ≡ None
+    → with_front pieces piece (pieces_from p (drop i text)) ≡ None
 unfolding pieces_from
-closing_fails fault pieces piece p text i b within item kept next = rw (drop-item text i b within item, kept, next) refl
+closing_fails pieces piece p text i within kept next = rw (drop_more text i 0 within, kept, next) refl
 
--- at the end, outside, the piece at hand is the last
-pub end_ends_piece : (fault : Fault) (pieces : List (List ℕ)) (piece : List ℕ) (p : Nesting) (text : List ℕ) (i : ℕ)
+-- at the end, outside, the piece at hand is the last one
+pub end_ends_piece : (pieces : List (List ℕ)) (piece : List ℕ) (p : Nesting) (text : List ℕ) (i : ℕ)
     → length text ≤ i → is_outside p ≡ true
-    → with_front pieces piece (pieces_from fault p (drop i text)) ≡ Ok (pieces ++ piece ∷ [])
+    → with_front pieces piece (pieces_from p (drop i text)) ≡ Some (pieces ++ piece ∷ [])
 unfolding pieces_from
-end_ends_piece fault pieces piece p text i past out = rw (drop_of_length-le text past, out, append-nil piece) refl
+end_ends_piece pieces piece p text i past out = rw (drop_of_length-le text past, out, append-nil piece) refl
 
--- at the end, inside, it is the fault
-pub end_fails : (fault : Fault) (pieces : List (List ℕ)) (piece : List ℕ) (p : Nesting) (text : List ℕ) (i : ℕ)
+-- at the end, inside, there are none
+pub end_fails : (pieces : List (List ℕ)) (piece : List ℕ) (p : Nesting) (text : List ℕ) (i : ℕ)
     → length text ≤ i → is_outside p ≡ false
-    → with_front pieces piece (pieces_from fault p (drop i text)) ≡ Err fault
+    → with_front pieces piece (pieces_from p (drop i text)) ≡ None
 unfolding pieces_from
-end_fails fault pieces piece p text i past inside = rw (drop_of_length-le text past, inside) refl
+end_fails pieces piece p text i past inside = rw (drop_of_length-le text past, inside) refl
 
-pub nothing_in_front : (rest : Result (List (List ℕ)) Fault) → with_front [] [] rest ≡ rest
-nothing_in_front (Err e) = refl
-nothing_in_front (Ok more) = ap Ok (none_in_front more)
+pub nothing_in_front : (rest : Option (List (List ℕ))) → with_front [] [] rest ≡ rest
+nothing_in_front None = refl
+nothing_in_front (Some more) = ap Some (none_in_front more)
 
-pub ruleset cutting = (cut_ends_piece, byte_joins_piece, closing_fails, end_ends_piece, end_fails, nothing_in_front)
+pub ruleset cutting = (cut_ends_piece, byte_joins_piece, closing_fails, end_ends_piece, end_fails, nothing_in_front, run_begins)

@@ -5,8 +5,7 @@ use Rattle.std.proofs.lemmas.List.{append-nil}
 use Rattle.std.proofs.lemmas.List.Elements.{All-nil, All-cons, All-head, All-tail}
 use Rattle.std.specs.List.{join_with_byte}
 use Rattle.std.specs.Option.{option_and_then}
-use Rattle.iocm_types.specs.declared.fault.Fault.{Fault}
-use Rattle.iocm_types.specs.Fault.{◌>>=◌, or_fault}
+use Rattle.std.specs.Option.{option_map}
 use Rattle.iocm_statements.specs.declared.nesting.Nesting.{Nesting}
 use Rattle.iocm_statements.specs.Nesting.{start, is_outside, step, cuts}
 use Rattle.iocm_statements.proofs.Nestings.{start_is_outside, comma_cuts, outside_is_start, cuts_at_start, cuts_at_comma, step_over_cut}
@@ -54,92 +53,90 @@ shorter_piece p q b piece next at = record {
 
 -- ---- what is found
 
-abbrev Found : Fault → Nesting → List ℕ → Result (List (List ℕ)) Fault → Type 0
-Found fault p text (Ok pieces) = (join_with_byte 44 pieces ≡ text) × IsCutFrom p pieces × (nesting_behind p text ≡ Some start)
-Found fault p text (Err e) = (e ≡ fault) × (nesting_behind p text ≢ Some start)
+abbrev Found : Nesting → List ℕ → Option (List (List ℕ)) → Type 0
+Found p text (Some pieces) = (join_with_byte 44 pieces ≡ text) × IsCutFrom p pieces × (nesting_behind p text ≡ Some start)
+Found p text None = nesting_behind p text ≢ Some start
 
-found_end : (fault : Fault) (p : Nesting) (out : Bool) → is_outside p ≡ out → Found fault p [] (cond out (Ok ([] ∷ [])) (Err fault))
-found_end fault p true out =
+found_end : (p : Nesting) (out : Bool) → is_outside p ≡ out → Found p [] (cond out (Some ([] ∷ [])) None)
+found_end p true out =
     let at : p ≡ start = outside_is_start p out in
     (refl, (subst (λ q. IsPieceFrom q []) (sym at) empty_piece, All-nil (IsPieceFrom start)), ap Some at)
-found_end fault p false inside =
-    (refl, λ e. let at : p ≡ start = cc in false≢true (sym inside ∙ ap is_outside at ∙ start_is_outside))
+found_end p false inside = λ e. let at : p ≡ start = cc in false≢true (sym inside ∙ ap is_outside at ∙ start_is_outside)
 
-found_cut : (fault : Fault) (p : Nesting) (b : ℕ) (bs : List ℕ) (rest : Result (List (List ℕ)) Fault)
-    → cuts p b ≡ true → Found fault p bs rest → Found fault p (b ∷ bs) (rest >>= λ pieces. Ok ([] ∷ pieces))
-found_cut fault p b bs (Err e) cut at = (at.0, rw (step_over_cut p b cut) at.1)
-found_cut fault p b bs (Ok []) cut at = absurd at.1
-found_cut fault p b bs (Ok (r ∷ rs)) cut at =
+found_cut : (p : Nesting) (b : ℕ) (bs : List ℕ) (rest : Option (List (List ℕ)))
+    → cuts p b ≡ true → Found p bs rest → Found p (b ∷ bs) (option_map (λ pieces. [] ∷ pieces) rest)
+found_cut p b bs None cut at = rw (step_over_cut p b cut) at
+found_cut p b bs (Some []) cut at = absurd at.1
+found_cut p b bs (Some (r ∷ rs)) cut at =
     let begun = cuts_at_start p b cut in
     let comma = cuts_at_comma p b cut in
     let first : IsPieceFrom p [] = subst (λ q. IsPieceFrom q []) (sym begun) empty_piece in
     let second : IsPieceFrom start r = subst (λ q. IsPieceFrom q r) begun at.1.0 in
     (ap (λ c. c ∷ join_with_byte 44 (r ∷ rs)) (sym comma) ∙ ap (λ xs. b ∷ xs) at.0, (first, All-cons (IsPieceFrom start) r rs second at.1.1), rw (step_over_cut p b cut) at.2)
 
-found_byte : (fault : Fault) (p q : Nesting) (b : ℕ) (bs : List ℕ) (rest : Result (List (List ℕ)) Fault)
-    → cuts p b ≡ false → step p b ≡ Some q → Found fault q bs rest
-    → Found fault p (b ∷ bs) (rest >>= λ pieces. Ok (onto_first (b ∷ []) pieces))
-found_byte fault p q b bs (Err e) kept next at = (at.0, rw next at.1)
-found_byte fault p q b bs (Ok []) kept next at = absurd at.1
-found_byte fault p q b bs (Ok (r ∷ [])) kept next at =
+found_byte : (p q : Nesting) (b : ℕ) (bs : List ℕ) (rest : Option (List (List ℕ)))
+    → cuts p b ≡ false → step p b ≡ Some q → Found q bs rest → Found p (b ∷ bs) (option_map (onto_first (b ∷ [])) rest)
+found_byte p q b bs None kept next at = rw next at
+found_byte p q b bs (Some []) kept next at = absurd at.1
+found_byte p q b bs (Some (r ∷ [])) kept next at =
     (ap (λ xs. b ∷ xs) at.0, (longer_piece p q b r kept next at.1.0, at.1.1), rw next at.2)
-found_byte fault p q b bs (Ok (r ∷ s ∷ ss)) kept next at =
+found_byte p q b bs (Some (r ∷ s ∷ ss)) kept next at =
     (ap (λ xs. b ∷ xs) at.0, (longer_piece p q b r kept next at.1.0, at.1.1), rw next at.2)
 
-found_step : (fault : Fault) (p : Nesting) (b : ℕ) (bs : List ℕ) (next : Option Nesting) → cuts p b ≡ false → step p b ≡ next
-    → ((q : Nesting) → Found fault q bs (pieces_from fault q bs))
-    → Found fault p (b ∷ bs) (or_fault fault next >>= λ q. pieces_from fault q bs >>= λ pieces. Ok (onto_first (b ∷ []) pieces))
-found_step fault p b bs None kept next rest = (refl, λ e. let none : None ≡ Some start = sym (ap (option_and_then (λ q. nesting_behind q bs)) next) ∙ e in cc)
-found_step fault p b bs (Some q) kept next rest = found_byte fault p q b bs (pieces_from fault q bs) kept next (rest q)
+found_step : (p : Nesting) (b : ℕ) (bs : List ℕ) (next : Option Nesting) → cuts p b ≡ false → step p b ≡ next
+    → ((q : Nesting) → Found q bs (pieces_from q bs))
+    → Found p (b ∷ bs) (option_and_then (λ q. option_map (onto_first (b ∷ [])) (pieces_from q bs)) next)
+found_step p b bs None kept next rest = λ e. let none : None ≡ Some start = sym (ap (option_and_then (λ q. nesting_behind q bs)) next) ∙ e in cc
+found_step p b bs (Some q) kept next rest = found_byte p q b bs (pieces_from q bs) kept next (rest q)
 
-pub found_from : (fault : Fault) (p : Nesting) (text : List ℕ) → Found fault p text (pieces_from fault p text)
+pub found_from : (p : Nesting) (text : List ℕ) → Found p text (pieces_from p text)
 unfolding pieces_from
-found_from fault p [] = found_end fault p (is_outside p) refl
-found_from fault p (b ∷ bs) = by (cuts p b) refl (λ q. found_from fault q bs)
+found_from p [] = found_end p (is_outside p) refl
+found_from p (b ∷ bs) = by (cuts p b) refl (λ q. found_from q bs)
   where
-    by : (cut : Bool) → cuts p b ≡ cut → ((q : Nesting) → Found fault q bs (pieces_from fault q bs))
-        → Found fault p (b ∷ bs) (cond cut (pieces_from fault p bs >>= λ pieces. Ok ([] ∷ pieces))
-        (or_fault fault (step p b) >>= λ q. pieces_from fault q bs >>= λ pieces. Ok (onto_first (b ∷ []) pieces)))
-    by true cut rest = found_cut fault p b bs (pieces_from fault p bs) cut (rest p)
-    by false kept rest = found_step fault p b bs (step p b) kept refl rest
+    by : (cut : Bool) → cuts p b ≡ cut → ((q : Nesting) → Found q bs (pieces_from q bs))
+        → Found p (b ∷ bs) (cond cut (option_map (λ pieces. [] ∷ pieces) (pieces_from p bs))
+        (option_and_then (λ q. option_map (onto_first (b ∷ [])) (pieces_from q bs)) (step p b)))
+    by true cut rest = found_cut p b bs (pieces_from p bs) cut (rest p)
+    by false kept rest = found_step p b bs (step p b) kept refl rest
 
 -- ---- what is a piece is found
 
-only_piece : (fault : Fault) (more : List ℕ) (pieces : List (List ℕ)) → pieces_from fault start more ≡ Ok ([] ∷ pieces)
-    → (piece : List ℕ) (p : Nesting) → IsPieceFrom p piece → pieces_from fault p (piece ++ more) ≡ Ok (piece ∷ pieces)
+only_piece : (more : List ℕ) (pieces : List (List ℕ)) → pieces_from start more ≡ Some ([] ∷ pieces)
+    → (piece : List ℕ) (p : Nesting) → IsPieceFrom p piece → pieces_from p (piece ++ more) ≡ Some (piece ∷ pieces)
 unfolding pieces_from
-only_piece fault more pieces rest [] p at =
+only_piece more pieces rest [] p at =
     let begun : p ≡ start = let e = at.ends in cc in
-    ap (λ q. pieces_from fault q more) begun ∙ rest
-only_piece fault more pieces rest (b ∷ piece) p at = by (cuts p b) refl (step p b) refl (only_piece fault more pieces rest piece)
+    ap (λ q. pieces_from q more) begun ∙ rest
+only_piece more pieces rest (b ∷ piece) p at = by (cuts p b) refl (step p b) refl (only_piece more pieces rest piece)
   where
     by : (cut : Bool) → cuts p b ≡ cut → (next : Option Nesting) → step p b ≡ next
-        → ((q : Nesting) → IsPieceFrom q piece → pieces_from fault q (piece ++ more) ≡ Ok (piece ∷ pieces))
-        → cond cut (pieces_from fault p (piece ++ more) >>= λ found. Ok ([] ∷ found))
-        (or_fault fault next >>= λ q. pieces_from fault q (piece ++ more) >>= λ found. Ok (onto_first (b ∷ []) found)) ≡ Ok ((b ∷ piece) ∷ pieces)
+        → ((q : Nesting) → IsPieceFrom q piece → pieces_from q (piece ++ more) ≡ Some (piece ∷ pieces))
+        → cond cut (option_map (λ found. [] ∷ found) (pieces_from p (piece ++ more)))
+        (option_and_then (λ q. option_map (onto_first (b ∷ [])) (pieces_from q (piece ++ more))) next) ≡ Some ((b ∷ piece) ∷ pieces)
     by true cut next is found =
         absurd (at.uncut [] piece (ap (λ c. c ∷ piece) (cuts_at_comma p b cut)) (ap Some (cuts_at_start p b cut)))
     by false kept None is found =
         let none : None ≡ Some start = sym (ap (option_and_then (λ q. nesting_behind q piece)) is) ∙ at.ends in cc
     by false kept (Some q) is found = rw (found q (shorter_piece p q b piece is at)) refl
 
-only_from : (fault : Fault) (pieces : List (List ℕ)) (p : Nesting) (piece : List ℕ)
-    → IsCutFrom p (piece ∷ pieces) → pieces_from fault p (join_with_byte 44 (piece ∷ pieces)) ≡ Ok (piece ∷ pieces)
+only_from : (pieces : List (List ℕ)) (p : Nesting) (piece : List ℕ)
+    → IsCutFrom p (piece ∷ pieces) → pieces_from p (join_with_byte 44 (piece ∷ pieces)) ≡ Some (piece ∷ pieces)
 unfolding pieces_from
-only_from fault [] p piece at =
-    let ended : pieces_from fault start [] ≡ Ok ([] ∷ []) = rw start_is_outside refl in
-    ap (pieces_from fault p) (sym (append-nil piece)) ∙ only_piece fault [] [] ended piece p at.0
-only_from fault (next ∷ pieces) p piece at =
-    let rest = only_from fault pieces start next
+only_from [] p piece at =
+    let ended : pieces_from start [] ≡ Some ([] ∷ []) = rw start_is_outside refl in
+    ap (pieces_from p) (sym (append-nil piece)) ∙ only_piece [] [] ended piece p at.0
+only_from (next ∷ pieces) p piece at =
+    let rest = only_from pieces start next
     (All-head (IsPieceFrom start) next pieces at.1, All-tail (IsPieceFrom start) next pieces at.1) in
-    let cut : pieces_from fault start (44 ∷ join_with_byte 44 (next ∷ pieces)) ≡ Ok ([] ∷ next ∷ pieces) = rw (comma_cuts, rest) refl in
-    only_piece fault (44 ∷ join_with_byte 44 (next ∷ pieces)) (next ∷ pieces) cut piece p at.0
+    let cut : pieces_from start (44 ∷ join_with_byte 44 (next ∷ pieces)) ≡ Some ([] ∷ next ∷ pieces) = rw (comma_cuts, rest) refl in
+    only_piece (44 ∷ join_with_byte 44 (next ∷ pieces)) (next ∷ pieces) cut piece p at.0
 
 -- ---- the law
 
-found_at : (fault : Fault) (text : List ℕ) (pieces : List (List ℕ)) → pieces_of fault text ≡ Ok pieces
+found_at : (text : List ℕ) (pieces : List (List ℕ)) → pieces_of text ≡ Some pieces
     → (join_with_byte 44 pieces ≡ text) × IsCutFrom start pieces × IsBalanced text
-found_at fault text pieces is = subst (Found fault start text) is (found_from fault start text)
+found_at text pieces is = subst (Found start text) is (found_from start text)
 
 all_balanced : (pieces : List (List ℕ)) → All (IsPieceFrom start) pieces → All IsBalanced pieces
 all_balanced pieces at = λ k d h. (at k d h).ends
@@ -148,9 +145,9 @@ all_uncut : (pieces : List (List ℕ)) → All (IsPieceFrom start) pieces → Al
 all_uncut pieces at = λ k d h. (at k d h).uncut
 
 pub finds_pieces : FindsPieces
-finds_pieces fault text [] is = absurd (found_at fault text [] is).1
-finds_pieces fault text (piece ∷ pieces) is =
-    let found = found_at fault text (piece ∷ pieces) is in
+finds_pieces text [] is = absurd (found_at text [] is).1
+finds_pieces text (piece ∷ pieces) is =
+    let found = found_at text (piece ∷ pieces) is in
     let all = All-cons (IsPieceFrom start) piece pieces found.1.0 found.1.1 in
     record {
       some = λ e. cc;
@@ -160,14 +157,14 @@ finds_pieces fault text (piece ∷ pieces) is =
     }
 
 pub finds_no_others : FindsNoOthers
-finds_no_others fault text [] at = absurd (at.some refl)
-finds_no_others fault text (piece ∷ pieces) at =
+finds_no_others text [] at = absurd (at.some refl)
+finds_no_others text (piece ∷ pieces) at =
     let each : All (IsPieceFrom start) (piece ∷ pieces) = λ k d h. record { ends = at.balanced k d h; uncut = at.uncut k d h } in
-    ap (pieces_of fault) (sym at.joined)
-    ∙ only_from fault pieces start piece (All-head (IsPieceFrom start) piece pieces each, All-tail (IsPieceFrom start) piece pieces each)
+    ap pieces_of (sym at.joined)
+    ∙ only_from pieces start piece (All-head (IsPieceFrom start) piece pieces each, All-tail (IsPieceFrom start) piece pieces each)
 
 pub cuts_balanced : CutsBalanced
-cuts_balanced fault text e is = subst (Found fault start text) is (found_from fault start text)
+cuts_balanced text is = subst (Found start text) is (found_from start text)
 
 pub cuts_no_others : CutsNoOthers
-cuts_no_others fault text pieces is = (found_at fault text pieces is).2
+cuts_no_others text pieces is = (found_at text pieces is).2

@@ -1,8 +1,7 @@
 -- What it is to cut a text at its commas, as a relation between the text and its pieces.
-use Rattle.std.specs.Prelude.{◌≡◌, ◌≢◌, ℕ, Option, Some, List, [], ◌∷◌, ◌++◌, All, Ok, Err}
+use Rattle.std.specs.Prelude.{◌≡◌, ◌≢◌, ℕ, Option, None, Some, List, [], ◌∷◌, ◌++◌, All}
 use Rattle.std.specs.Option.{option_and_then}
 use Rattle.std.specs.List.{join_with_byte}
-use Rattle.iocm_types.specs.declared.fault.Fault.{Fault}
 use Rattle.iocm_statements.specs.declared.nesting.Nesting.{Nesting}
 use Rattle.iocm_statements.specs.Nesting.{start, step}
 use Rattle.iocm_statements.specs.Pieces.{pieces_of}
@@ -29,20 +28,16 @@ pub record IsCutInto (text : List ℕ) (pieces : List (List ℕ)) : Type 0 where
 
 -- pieces that are found are pieces of the text
 abbrev pub FindsPieces : Type 0
-FindsPieces = (fault : Fault) (text : List ℕ) (pieces : List (List ℕ))
-    → pieces_of fault text ≡ Ok pieces → IsCutInto text pieces
+FindsPieces = (text : List ℕ) (pieces : List (List ℕ)) → pieces_of text ≡ Some pieces → IsCutInto text pieces
 
 -- no other pieces than these are pieces of the text
 abbrev pub FindsNoOthers : Type 0
-FindsNoOthers = (fault : Fault) (text : List ℕ) (pieces : List (List ℕ))
-    → IsCutInto text pieces → pieces_of fault text ≡ Ok pieces
+FindsNoOthers = (text : List ℕ) (pieces : List (List ℕ)) → IsCutInto text pieces → pieces_of text ≡ Some pieces
 
 -- a balanced text is cut
 abbrev pub CutsBalanced : Type 0
-CutsBalanced = (fault : Fault) (text : List ℕ) (e : Fault)
-    → pieces_of fault text ≡ Err e → (e ≡ fault) × ¬ IsBalanced text
+CutsBalanced = (text : List ℕ) → pieces_of text ≡ None → ¬ IsBalanced text
 
 -- no other text is cut
 abbrev pub CutsNoOthers : Type 0
-CutsNoOthers = (fault : Fault) (text : List ℕ) (pieces : List (List ℕ))
-    → pieces_of fault text ≡ Ok pieces → IsBalanced text
+CutsNoOthers = (text : List ℕ) (pieces : List (List ℕ)) → pieces_of text ≡ Some pieces → IsBalanced text

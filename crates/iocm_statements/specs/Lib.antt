@@ -1,9 +1,8 @@
 pub mod Cutting
-pub mod Items
 pub mod Nesting
-pub mod Numbers
 pub mod Operands
 pub mod Operation
 pub mod Pieces
 pub mod Splitting
 pub mod Statement
+pub mod Unread

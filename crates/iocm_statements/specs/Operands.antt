@@ -6,7 +6,7 @@ use Rattle.std.specs.Map.{lookup}
 use Rattle.std.specs.Str.{bytes_eq}
 use Rattle.iocm_types.specs.declared.fault.Fault.{Fault}
 use Rattle.iocm_types.specs.declared.rule.Rule.TheVariants.{S2, S4, S6}
-use Rattle.iocm_types.specs.Fault.{◌>>=◌, at}
+use Rattle.iocm_types.specs.Fault.{◌>>=◌, or_fault, at}
 use Rattle.iocm_types.specs.Each.{each}
 use Rattle.iocm_statements.specs.declared.nesting.Nesting.{Nesting}
 use Rattle.iocm_statements.specs.declared.operands.OperandKey.{OperandKey}
@@ -65,7 +65,7 @@ without_twins fault operands = if has_twins operands then Err fault else Ok oper
 
 -- the texts of a statement's operands: none in an empty part
 abbrev pub operand_texts : Fault → List ℕ → Result (List (List ℕ)) Fault
-operand_texts fault text = if length text == 0 then Ok [] else pieces_of fault text
+operand_texts fault text = if length text == 0 then Ok [] else or_fault fault (pieces_of text)
 
 -- the operands of a statement at this line
 abbrev pub operands_of : ℕ → List ℕ → Result (List Operand) Fault

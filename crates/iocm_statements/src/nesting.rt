@@ -3,14 +3,16 @@ ghost use Rattle.iocm_statements.specs.Nesting as nesting;
 
 /// Nesting: inside how many parentheses a byte of a text stands, and whether inside quotes.
 #[derive(Clone, Copy)]
-pub(crate) struct Nesting {
-    pub(crate) depth: usize,
-    pub(crate) quoted: bool,
+pub struct Nesting {
+    /// Inside how many parentheses.
+    pub depth: usize,
+    /// Whether inside quotes.
+    pub quoted: bool,
 }
 
 impl Nesting {
     /// The nesting at the beginning of a text.
-    pub(crate) fn start() -> Self
+    pub fn start() -> Self
         ensures { result ≡ nesting.start }
     {
         Nesting {
@@ -21,7 +23,7 @@ impl Nesting {
 
     /// Whether it is outside parentheses and quotes.
     #[tactic(auto, unfolding(crate::specs::Nesting::is_outside))]
-    pub(crate) fn is_outside(self) -> bool
+    pub fn is_outside(self) -> bool
         ensures { result ≡ nesting.is_outside self }
     {
         !self.quoted && self.depth == 0
@@ -29,7 +31,7 @@ impl Nesting {
 
     /// Whether `byte` is a comma that separates here.
     #[tactic(auto, unfolding(crate::specs::Nesting::cuts))]
-    pub(crate) fn cuts(self, byte: u8) -> bool
+    pub fn cuts(self, byte: u8) -> bool
         ensures { result ≡ nesting.cuts self byte }
     {
         self.is_outside() && byte == b','
@@ -37,7 +39,7 @@ impl Nesting {
 
     /// Whether `byte` is an equal sign that ends a keyword here.
     #[tactic(auto, unfolding(crate::specs::Nesting::sets))]
-    pub(crate) fn sets(self, byte: u8) -> bool
+    pub fn sets(self, byte: u8) -> bool
         ensures { result ≡ nesting.sets self byte }
     {
         self.is_outside() && byte == b'='
@@ -45,7 +47,7 @@ impl Nesting {
 
     /// The nesting behind `byte`; `None` behind a parenthesis that closes nothing.
     #[tactic(auto, unfolding(crate::specs::Nesting::step))]
-    pub(crate) fn after(self, byte: u8) -> Option<Self>
+    pub fn after(self, byte: u8) -> Option<Self>
         requires { self.depth + 1 < 2 ^ 64 }
         ensures next { result ≡ nesting.step self byte }
         ensures depth { IfSome result (λ next. next.depth ≤ self.depth + 1) }

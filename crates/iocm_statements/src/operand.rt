@@ -1,4 +1,4 @@
-ghost use Rattle.std.specs.Prelude.{◌≡◌, ◌+◌, ◌≤◌, length, IfSome};
+ghost use Rattle.std.specs.Prelude.{◌≡◌, ◌+◌, ◌≤◌, length, map, IfSome};
 ghost use Rattle.std.specs.List.{list_all};
 ghost use Rattle.iocm_types.specs.Fault.{Gives};
 ghost use Rattle.iocm_types.specs.Each.{each};
@@ -78,31 +78,31 @@ fn make_operand(
 }
 
 /// All operands of these texts, in order.
-#[tactic(auto, using(iocm_types::proofs::Each::each_steps))]
+#[tactic(auto, using(crate::proofs::Looked::each_steps))]
 pub(crate) fn make_operands(
     alloc: Global,
-    texts: &[Text],
+    texts: &[&[u8]],
     malformed: Fault,
 ) -> Result<Vec<(OperandKey, Text)>, Fault>
-    ensures { Gives (λ v. v.items) result (each (operand_of malformed) 0 texts.now) }
+    ensures { Gives (λ v. v.items) result (each (operand_of malformed) 0 (map (λ k. k.now) texts.now)) }
 {
     let mut operands = Vec::new(alloc);
     for (place, text) in texts.iter().enumerate() {
-        operands.push(make_operand(alloc, place, text.as_slice(), malformed)?)?;
+        operands.push(make_operand(alloc, place, text, malformed)?)?;
     }
     Ok(operands)
 }
 
 /// The texts of the operands of an operand part; an empty part has none.
-pub(crate) fn operand_texts(
+pub(crate) fn operand_texts<'a>(
     alloc: Global,
-    text: &[u8],
+    text: &'a [u8],
     unmatched: Fault,
-) -> Result<Vec<Text>, Fault>
-    ensures { Gives (λ v. v.items) result (operand_texts unmatched text.now) }
+) -> Result<Vec<&'a [u8]>, Fault>
+    ensures { Gives (λ v. map (λ k. k.now) v.items) result (operand_texts unmatched text.now) }
 {
     if text.is_empty() {
         return Ok(Vec::new(alloc));
     }
-    pieces(alloc, text, unmatched)
+    pieces(alloc, text).map_err(|unread| unread.fault(unmatched))
 }

@@ -1,37 +1,34 @@
-ghost use Rattle.std.specs.Prelude.{◌≡◌};
-ghost use Rattle.iocm_types.specs.Fault.{Gives};
+ghost use Rattle.std.specs.Prelude.{◌≡◌, map};
+ghost use Rattle.iocm_statements.specs.Unread.{Reads};
 ghost use Rattle.iocm_statements.specs.Pieces.{pieces_of};
-ghost use Rattle.iocm_statements.specs.Operands.{equals_from};
-ghost use Rattle.iocm_statements.specs.Nesting.{start};
 
+use crate::Unread;
 use crate::nesting::Nesting;
-use iocm_types::{Fault, Text};
 use std::alloc::Global;
-use std::mem;
 
 /// Cuts `text` at its commas outside parentheses and quotes: `A,(B,C)` gives `A` and `(B,C)`, and the
 /// empty text gives one empty piece.
 ///
-/// Answers `fault` if the parentheses do not match or a quote does not end, and M1 without memory.
+/// Malformed where the parentheses do not match or a quote does not end.
 /// (IOCP User's Guide, coding of operands.)
 #[tactic(auto, using(crate::proofs::Cutting::cutting), unfolding(crate::specs::Pieces::pieces_from))]
-pub fn pieces(alloc: Global, text: &[u8], fault: Fault) -> Result<Vec<Text>, Fault>
-    ensures { Gives (λ v. v.items) result (pieces_of fault text.now) }
+pub fn pieces<'a>(alloc: Global, text: &'a [u8]) -> Result<Vec<&'a [u8]>, Unread>
+    ensures { Reads (λ v. map (λ k. k.now) v.items) result (pieces_of text.now) }
 {
     let mut pieces = Vec::new(alloc);
-    let mut piece = Text::new(alloc);
+    let mut from = 0;
     let mut nesting = Nesting::start();
-    for byte in text {
+    for (index, byte) in text.iter().enumerate() {
         if nesting.cuts(*byte) {
-            pieces.push(mem::replace(&mut piece, Text::new(alloc)))?;
+            pieces.push(&text[from..index])?;
+            from = index + 1;
         } else {
-            nesting = nesting.after(*byte).ok_or(fault)?;
-            piece.push(*byte)?;
+            nesting = nesting.after(*byte).ok_or(Unread::Malformed)?;
         }
     }
     if !nesting.is_outside() {
-        return Err(fault);
+        return Err(Unread::Malformed);
     }
-    pieces.push(piece)?;
+    pieces.push(&text[from..])?;
     Ok(pieces)
 }

@@ -1,12 +1,7 @@
-use crate::{Operation, Statement, css, decimal, hex, items, items_or_one, parse, pieces};
+use crate::{Operation, Statement, Unread, parse, pieces};
 use iocm_columns::Joined;
 use iocm_types::{Fault, Rule, Text};
 use std::alloc::Global;
-
-const OTHER: Fault = Fault {
-    rule: Rule::S5,
-    line: 77,
-};
 
 fn joined(alloc: Global, line: usize, operation: &[u8], text: &[u8]) -> Result<Joined, Fault> {
     Ok(Joined {
@@ -95,42 +90,17 @@ fn keeps_operands_in_order(rt: HostRuntime) -> Result<(), Fault> {
 }
 
 #[test]
-fn reads_numbers(rt: HostRuntime) {
-    assert_eq!(rt; hex(65534, 4, b"FFFE"), Some(65534));
-    assert_eq!(rt; hex(65534, 4, b"FFFF"), None);
-    assert_eq!(rt; hex(65535, 4, b"00ff"), None);
-    assert_eq!(rt; hex(65535, 4, b"01000"), None);
-    assert_eq!(rt; hex(255, 2, b"5"), Some(5));
-    assert_eq!(rt; hex(255, 2, b""), None);
-    assert_eq!(rt;
-        decimal(4096, b"00000000000000000000000000004096"),
-        Some(4096)
-    );
-    assert_eq!(rt; decimal(4096, b"4097"), None);
-    assert_eq!(rt; decimal(4096, b"18446744073709551617"), None);
-    assert_eq!(rt; decimal(4096, b"+1"), None);
-    assert_eq!(rt; css(5, b"CSS(005)"), Some(5));
-    assert_eq!(rt; css(5, b"CSS(6)"), None);
-    assert_eq!(rt; css(5, b"CSS(0,1)"), None);
-    assert_eq!(rt; css(5, b"CSS(0)X"), None);
-}
-
-#[test]
-fn opens_one_level(rt: HostRuntime) -> Result<(), Fault> {
-    let list = items(rt.alloc(), b"(A,(B,C),)", OTHER)?;
-    let wanted: [&[u8]; 3] = [b"A", b"(B,C)", b""];
-    assert_eq!(rt; list.len(), 3);
-    for (item, text) in list.iter().zip(wanted) {
-        assert_eq!(rt; item.as_slice(), text);
+fn cuts_at_outer_commas(rt: HostRuntime) -> Result<(), Unread> {
+    let pieces_found = pieces(rt.alloc(), b"A,(B,C),',',")?;
+    let wanted: [&[u8]; 4] = [b"A", b"(B,C)", b"','", b""];
+    assert_eq!(rt; pieces_found.len(), 4);
+    for (piece, text) in pieces_found.iter().zip(wanted) {
+        assert_eq!(rt; *piece, text);
     }
-    assert_eq!(rt; items(rt.alloc(), b"()", OTHER)?.len(), 1);
-    assert_eq!(rt; items_or_one(rt.alloc(), b"50", OTHER)?.len(), 1);
-    assert_eq!(rt; items_or_one(rt.alloc(), b"(50,51)", OTHER)?.len(), 2);
-    assert_eq!(rt; items(rt.alloc(), b"50", OTHER).err(), Some(OTHER));
-    assert_eq!(rt;
-        items_or_one(rt.alloc(), b"(A)(B)", OTHER).err(),
-        Some(OTHER)
-    );
+    assert_eq!(rt; pieces(rt.alloc(), b"")?.len(), 1);
+    for text in [b"(A".as_slice(), b"A)(B", b"'A", b"'(')"] {
+        assert_eq!(rt; pieces(rt.alloc(), text).err(), Some(Unread::Malformed));
+    }
     Ok(())
 }
 
@@ -146,7 +116,12 @@ fn bears_deep_and_long_parts(rt: HostRuntime) -> Result<(), Fault> {
         deep.push(b')')?;
     }
     long.push(b'B')?;
-    assert_eq!(rt; pieces(rt.alloc(), deep.as_slice(), OTHER)?.len(), 1);
+    assert_eq!(rt;
+        pieces(rt.alloc(), deep.as_slice())
+            .map(|found| found.len())
+            .ok(),
+        Some(1)
+    );
     for statement in parse_one(rt.alloc(), b"ID", long.as_slice())? {
         assert_eq!(rt; statement.operands.len(), 20001);
     }

@@ -1,3 +1,3 @@
-pub mod Gathering
-pub mod Levels
 pub mod Naming
+pub mod Passing
+pub mod Reading

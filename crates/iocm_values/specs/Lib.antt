@@ -1,4 +1,7 @@
-pub mod Groups
-pub mod Leaves
+pub mod CssLists
+pub mod Digits
 pub mod NameSet
 pub mod Numbers
+pub mod Reading
+pub mod Value
+pub mod Words

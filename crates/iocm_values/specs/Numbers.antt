@@ -2,7 +2,7 @@
 -- IOCP User's Guide, CHPID, CNTLUNIT and IODEVICE statements.
 use Rattle.std.specs.Prelude.{ℕ, ◌==◌, if◌then◌else◌, Option, None, Some, List}
 use Rattle.std.specs.Option.{option_and_then}
-use Rattle.iocm_statements.specs.Numbers.{hex_of, decimal_of}
+use Rattle.iocm_values.specs.Digits.{hex_of, decimal_of}
 
 -- a path number, one or two digits
 abbrev pub path_number : List ℕ → Option ℕ

@@ -1,19 +1,27 @@
-//! The values of operands: lists by channel subsystem, the items of a value at every depth, sets of names,
-//! numbers. No keyword is named here.
+//! The values of operands: words and lists, lists by channel subsystem, sets of names, numbers. No keyword is named here.
 //!
-//! `by_css` reads a list whose items stand under channel subsystems, and `in_css_order` puts such items in
-//! their order; `find_leaves` opens a value to its last parentheses; `names_of` reads a set of names. Each has
-//! one exact clause, by the definition of its name in `specs/`. A reader answers the fault that its caller
-//! gives it, and M1 without memory.
-//! Begin with `groups.rt`.
+//! A `Value` is a word or a list. A list is opened a level at a time: `items` gives its items, as values that lie where the
+//! text lies, so nothing is copied, and a reader says its forms as patterns of items. A reader answers `Unread` where a value
+//! has none of its forms, and the statement says at which line that is. `words` finds the words of a value at every depth in
+//! one pass. Each call has one exact clause, by the definition of its name in `specs/`.
+//!
+//! Begin with `specs/Value.antt` and `specs/Reading.antt`, then `css_lists.rt`.
 #![tactic(auto)]
 
-mod groups;
-mod leaves;
+mod css_lists;
+mod digits;
 mod name_set;
 mod numbers;
+#[cfg(test)]
+mod tests;
+mod value;
+mod word_list;
 
-pub use groups::{begins_with_css, by_css, css_item, in_css_order, is_css_word, is_group};
-pub use leaves::{find_items, find_leaves, find_pieces};
-pub use name_set::{add_name, names_of};
+pub use css_lists::{
+    CssItem, begins_with_css, begins_with_group, by_css, css_number, inside_css, is_css,
+};
+pub use digits::{decimal, hex, is_decimal_number, is_hex_number};
+pub use name_set::{add_name, names_of, set_of_names};
 pub use numbers::{count_of, path_number, unit_address, unit_number};
+pub use value::{Value, values};
+pub use word_list::words;

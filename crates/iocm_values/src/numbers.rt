@@ -1,7 +1,7 @@
 ghost use Rattle.std.specs.Prelude.{◌≡◌, ◌≤◌, IfSome};
 ghost use Rattle.iocm_values.specs.Numbers as numbers;
 
-use iocm_statements::{decimal, hex};
+use crate::digits::{decimal, hex};
 use iocm_types::{Chpid, UnitNo};
 
 /// A path number, one or two hexadecimal digits.

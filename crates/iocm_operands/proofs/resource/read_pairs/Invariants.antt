@@ -1,7 +1,0 @@
-use Rattle.std.proofs.Common.{◌≡◌, drop}
-use Rattle.iocm_types.specs.Each.{each, after_front}
-use Rattle.iocm_operands.specs.Resource.{image_item}
-use Rattle.iocm_operands.proofs.resource.read_pairs.Given as goal
-
-abbrev pub invariant-loop-item : goal.invariant-loop-item
-invariant-loop-item l = after_front l.pairs.items (each (image_item l.fault) l.item-index (drop l.item-index l.items)) ≡ each (image_item l.fault) 0 l.items

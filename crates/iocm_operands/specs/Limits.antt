@@ -1,0 +1,31 @@
+-- MAXDEV of RESOURCE: the limits of the subchannel sets.
+-- IOCP User's Guide, RESOURCE statement; that empty and absent places give no record is own.
+use Rattle.std.specs.Prelude.{ℕ, ◌==◌, nat_lt, true, if◌then◌else◌, Option, None, Some, List, filter, length}
+use Rattle.std.specs.List.{filter_map}
+use Rattle.std.specs.Option.{option_map}
+use Rattle.iocm_model.specs.Machine.Record.{LimitRecord}
+use Rattle.iocm_model.specs.Machine.Numbering.{subsystems}
+use Rattle.iocm_operands.specs.declared.limits.LimitPlace.{LimitPlace}
+use Rattle.iocm_values.specs.CssLists.{by_css}
+use Rattle.iocm_values.specs.Digits.{decimal_of}
+use Rattle.iocm_values.specs.Reading.{◌>>=◌, every_at, gathered}
+use Rattle.iocm_values.specs.Value.{Value, word_text}
+
+-- a limit, or an empty place
+abbrev pub limit_of : List ℕ → Option (Option ℕ)
+limit_of text = if length text == 0 then Some None else option_map Some (decimal_of 65535 text)
+
+abbrev pub limit_item : ℕ → Value → Option LimitPlace
+limit_item css v = word_text v >>= limit_of >>= λ l. Some (record { css = css; limit = l })
+
+-- the limit of a subchannel set, 0 to 3, if its place has one
+abbrev pub limit_at : ℕ → LimitPlace → Option (Option LimitRecord)
+limit_at set p = if nat_lt set 4 then Some (option_map (λ l. record { css = p.css; set = set; limit = l }) p.limit) else None
+
+-- of the places of a channel subsystem the first is that of set 0, and so on
+abbrev pub limits_in : List LimitPlace → ℕ → Option (List LimitRecord)
+limits_in places css = option_map (filter_map (λ l. l)) (every_at limit_at 0 (filter (λ (p : LimitPlace). p.css == css) places))
+
+-- the limits of MAXDEV, a list by channel subsystem whose groups may lack items
+abbrev pub limits_of : Value → Option (List LimitRecord)
+limits_of v = by_css true limit_item (λ (p : LimitPlace). p.css) v >>= λ places. gathered (limits_in places) subsystems
