@@ -1,0 +1,13 @@
+use Rattle.std.proofs.Common.{sym, ◌∙◌}
+use Rattle.iocm_types.specs.declared.rule.Rule.TheVariants.{V10}
+use Rattle.iocm_model.specs.Machine.Configuration.{records_of}
+use Rattle.iocm_model.specs.Rules.EachRule.{breaks_v10}
+use Rattle.iocm_rules.specs.Check.{from_v11}
+use Rattle.iocm_rules.proofs.FirstBreaches.{breach_here, breach_later}
+use Rattle.iocm_rules.proofs.first_breach.from_v10.Goals as goal
+
+pub returns-in-Some : goal.returns-in-Some
+returns-in-Some g c = sym (breach_here V10 (breaks_v10 c.args.config.now.records) (from_v11 c.args.config.now.records c.args.numbers.now.numbers) (records_of c.args.config.now.records) c.in-Some.key (sym c.first_address_twice.ensures ∙ c.in-Some.is))
+
+pub returns-in-None : goal.returns-in-None
+returns-in-None g c = c.from_v11.ensures ∙ sym (breach_later V10 (breaks_v10 c.args.config.now.records) (from_v11 c.args.config.now.records c.args.numbers.now.numbers) (records_of c.args.config.now.records) (sym c.first_address_twice.ensures ∙ c.in-None.is))

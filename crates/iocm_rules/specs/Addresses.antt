@@ -1,0 +1,46 @@
+-- Devices with one unit address on a unit, and the least that has that of another before it.
+use Rattle.std.specs.Prelude.{ℕ, ◌==◌, ◌||◌, Bool, false, if◌then◌else◌, Option, None, Some, List, [], ◌∷◌}
+use Rattle.std.specs.Ordering.{is_lt}
+use Rattle.iocm_types.specs.declared.key.Key.{Key}
+use Rattle.iocm_types.specs.declared.key.Key.TheVariants as key
+use Rattle.iocm_types.specs.declared.named.Named.TheVariants as thing
+use Rattle.iocm_types.specs.Key.{key_cmp}
+use Rattle.iocm_model.specs.Machine.Record.{Rec, unit, device}
+use Rattle.iocm_model.specs.Machine.Configuration.{Lookup}
+use Rattle.iocm_index.specs.Namings.{Namings, users_in}
+
+-- the unit address of a device that is there
+abbrev pub address_in : Option Rec → Option ℕ
+address_in (Some (device d)) = Some d.unit_address
+address_in _ = None
+
+-- an address is one of those met
+abbrev pub is_met : (ℕ → Bool) → Option ℕ → Bool
+is_met met None = false
+is_met met (Some a) = met a
+
+-- those met, and one more
+abbrev pub met_with : Option ℕ → (ℕ → Bool) → (ℕ → Bool)
+met_with None met b = met b
+met_with (Some a) met b = (b == a) || met b
+
+-- of some keys the first whose address was met, or is that of a key before it
+abbrev pub first_clash : (Key → Option ℕ) → (ℕ → Bool) → List Key → Option Key
+first_clash address met [] = None
+first_clash address met (k ∷ ks) = if is_met met (address k) then Some k else first_clash address (met_with (address k) met) ks
+
+-- of a unit's users the first with the address of one before it
+abbrev pub clash_of : Lookup → Namings → Rec → Option Key
+clash_of c index (unit u) = first_clash (λ k. address_in (c k)) (λ a. false) (users_in (thing.Record (key.Unit u.number)) index)
+clash_of c index _ = None
+
+-- the lesser of two keys
+abbrev pub lesser : Option Key → Option Key → Option Key
+lesser None b = b
+lesser (Some a) None = Some a
+lesser (Some a) (Some b) = if is_lt (key_cmp b a) then Some b else Some a
+
+-- the least of what records give, and of a key
+abbrev pub least_of : (Rec → Option Key) → Option Key → List Rec → Option Key
+least_of gives least [] = least
+least_of gives least (r ∷ rs) = least_of gives (lesser least (gives r)) rs

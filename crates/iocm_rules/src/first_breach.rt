@@ -1,0 +1,295 @@
+ghost use Rattle.std.specs.Prelude.{◌≡◌, None};
+ghost use Rattle.std.specs.Result.{result_err};
+ghost use Rattle.iocm_model.specs.Machine.Configuration.{records_of};
+ghost use Rattle.iocm_model.specs.Rules.EachRule.{breaks_v8};
+ghost use Rattle.iocm_model.specs.Rules.FirstBreach.{first_record, first_breach, first_breach_of};
+ghost use Rattle.iocm_rules.specs.Check as laws;
+ghost use Rattle.iocm_rules.specs.Indexed.{IsIndexOf};
+
+use crate::Breach;
+use crate::addresses::first_address_twice;
+use crate::devices::{AddressNotHeld, CandidateOfNoImage, WrongUnits};
+use crate::images::NameTwice;
+use crate::joined::WrongPathList;
+use crate::limits::first_past_limit;
+use crate::names::{NameOfNoImage, TooManyNames};
+use crate::online::WrongOnline;
+use crate::ranges::WrongRanges;
+use crate::sharing::SharedAddress;
+use crate::units::{WrongLinks, WrongPaths};
+use crate::wanted::first_wanted;
+use iocm_config::Config;
+use iocm_index::Index;
+use iocm_numbers::Numbers;
+use iocm_types::Rule;
+use std::alloc::Allocator;
+
+/// The first breach of the rules V1 to V14: by rule, then by key. The index is that of the configuration. It takes no memory,
+/// and its time is about in proportion to the records and to what they name.
+pub fn check<A: Allocator, N: Allocator, I: Allocator>(
+    config: &Config<A>,
+    numbers: &Numbers<N>,
+    index: &Index<I>,
+) -> Result<(), Breach>
+    requires { IsIndexOf config.now.records index.now }
+    ensures { result_err result ≡ first_breach config.now.records numbers.now.numbers }
+{
+    match from_v1(config, numbers, index) {
+        Some(breach) => Err(breach),
+        None => Ok(()),
+    }
+}
+
+/// The first breach of V1 and the rules behind it.
+fn from_v1<A: Allocator, N: Allocator, I: Allocator>(
+    config: &Config<A>,
+    numbers: &Numbers<N>,
+    index: &Index<I>,
+) -> Option<Breach>
+    requires index { IsIndexOf config.now.records index.now }
+    ensures { result ≡ first_breach_of (laws.from_v1 config.now.records numbers.now.numbers) (records_of config.now.records) }
+{
+    match first_wanted(config, &NameTwice) {
+        Some(key) => Some(Breach {
+            rule: Rule::V1,
+            key,
+        }),
+        None => from_v2(config, numbers, index),
+    }
+}
+
+/// The first breach of V2 and the rules behind it.
+fn from_v2<A: Allocator, N: Allocator, I: Allocator>(
+    config: &Config<A>,
+    numbers: &Numbers<N>,
+    index: &Index<I>,
+) -> Option<Breach>
+    requires index { IsIndexOf config.now.records index.now }
+    ensures { result ≡ first_breach_of (laws.from_v2 config.now.records numbers.now.numbers) (records_of config.now.records) }
+{
+    match first_wanted(config, &NameOfNoImage) {
+        Some(key) => Some(Breach {
+            rule: Rule::V2,
+            key,
+        }),
+        None => from_v3(config, numbers, index),
+    }
+}
+
+/// The first breach of V3 and the rules behind it.
+fn from_v3<A: Allocator, N: Allocator, I: Allocator>(
+    config: &Config<A>,
+    numbers: &Numbers<N>,
+    index: &Index<I>,
+) -> Option<Breach>
+    requires index { IsIndexOf config.now.records index.now }
+    ensures { result ≡ first_breach_of (laws.from_v3 config.now.records numbers.now.numbers) (records_of config.now.records) }
+{
+    match first_wanted(config, &TooManyNames) {
+        Some(key) => Some(Breach {
+            rule: Rule::V3,
+            key,
+        }),
+        None => from_v4(config, numbers, index),
+    }
+}
+
+/// The first breach of V4 and the rules behind it.
+fn from_v4<A: Allocator, N: Allocator, I: Allocator>(
+    config: &Config<A>,
+    numbers: &Numbers<N>,
+    index: &Index<I>,
+) -> Option<Breach>
+    requires index { IsIndexOf config.now.records index.now }
+    ensures { result ≡ first_breach_of (laws.from_v4 config.now.records numbers.now.numbers) (records_of config.now.records) }
+{
+    match first_wanted(config, &WrongOnline { index }) {
+        Some(key) => Some(Breach {
+            rule: Rule::V4,
+            key,
+        }),
+        None => from_v5(config, numbers, index),
+    }
+}
+
+/// The first breach of V5 and the rules behind it.
+fn from_v5<A: Allocator, N: Allocator, I: Allocator>(
+    config: &Config<A>,
+    numbers: &Numbers<N>,
+    index: &Index<I>,
+) -> Option<Breach>
+    requires index { IsIndexOf config.now.records index.now }
+    ensures { result ≡ first_breach_of (laws.from_v5 config.now.records numbers.now.numbers) (records_of config.now.records) }
+{
+    match first_wanted(config, &WrongPaths) {
+        Some(key) => Some(Breach {
+            rule: Rule::V5,
+            key,
+        }),
+        None => from_v6(config, numbers, index),
+    }
+}
+
+/// The first breach of V6 and the rules behind it.
+fn from_v6<A: Allocator, N: Allocator, I: Allocator>(
+    config: &Config<A>,
+    numbers: &Numbers<N>,
+    index: &Index<I>,
+) -> Option<Breach>
+    requires index { IsIndexOf config.now.records index.now }
+    ensures { result ≡ first_breach_of (laws.from_v6 config.now.records numbers.now.numbers) (records_of config.now.records) }
+{
+    match first_wanted(config, &WrongLinks) {
+        Some(key) => Some(Breach {
+            rule: Rule::V6,
+            key,
+        }),
+        None => from_v7(config, numbers, index),
+    }
+}
+
+/// The first breach of V7 and the rules behind it.
+fn from_v7<A: Allocator, N: Allocator, I: Allocator>(
+    config: &Config<A>,
+    numbers: &Numbers<N>,
+    index: &Index<I>,
+) -> Option<Breach>
+    requires index { IsIndexOf config.now.records index.now }
+    ensures { result ≡ first_breach_of (laws.from_v7 config.now.records numbers.now.numbers) (records_of config.now.records) }
+{
+    match first_wanted(config, &WrongRanges) {
+        Some(key) => Some(Breach {
+            rule: Rule::V7,
+            key,
+        }),
+        None => from_v8(config, numbers, index),
+    }
+}
+
+/// The first breach of V8 and the rules behind it.
+fn from_v8<A: Allocator, N: Allocator, I: Allocator>(
+    config: &Config<A>,
+    numbers: &Numbers<N>,
+    index: &Index<I>,
+) -> Option<Breach>
+    requires index { IsIndexOf config.now.records index.now }
+    ensures { result ≡ first_breach_of (laws.from_v8 config.now.records numbers.now.numbers) (records_of config.now.records) }
+{
+    match first_wanted(config, &WrongUnits) {
+        Some(key) => Some(Breach {
+            rule: Rule::V8,
+            key,
+        }),
+        None => from_v9(config, numbers, index),
+    }
+}
+
+/// The first breach of V9 and the rules behind it.
+fn from_v9<A: Allocator, N: Allocator, I: Allocator>(
+    config: &Config<A>,
+    numbers: &Numbers<N>,
+    index: &Index<I>,
+) -> Option<Breach>
+    requires index { IsIndexOf config.now.records index.now }
+    requires units { first_record (breaks_v8 config.now.records) (records_of config.now.records) ≡ None }
+    ensures { result ≡ first_breach_of (laws.from_v9 config.now.records numbers.now.numbers) (records_of config.now.records) }
+{
+    match first_wanted(config, &AddressNotHeld) {
+        Some(key) => Some(Breach {
+            rule: Rule::V9,
+            key,
+        }),
+        None => from_v10(config, numbers, index),
+    }
+}
+
+/// The first breach of V10 and the rules behind it.
+fn from_v10<A: Allocator, N: Allocator, I: Allocator>(
+    config: &Config<A>,
+    numbers: &Numbers<N>,
+    index: &Index<I>,
+) -> Option<Breach>
+    requires index { IsIndexOf config.now.records index.now }
+    requires units { first_record (breaks_v8 config.now.records) (records_of config.now.records) ≡ None }
+    ensures { result ≡ first_breach_of (laws.from_v10 config.now.records numbers.now.numbers) (records_of config.now.records) }
+{
+    match first_address_twice(config, index) {
+        Some(key) => Some(Breach {
+            rule: Rule::V10,
+            key,
+        }),
+        None => from_v11(config, numbers, index),
+    }
+}
+
+/// The first breach of V11 and the rules behind it.
+fn from_v11<A: Allocator, N: Allocator, I: Allocator>(
+    config: &Config<A>,
+    numbers: &Numbers<N>,
+    index: &Index<I>,
+) -> Option<Breach>
+    requires index { IsIndexOf config.now.records index.now }
+    ensures { result ≡ first_breach_of (laws.from_v11 config.now.records numbers.now.numbers) (records_of config.now.records) }
+{
+    match first_wanted(config, &WrongPathList) {
+        Some(key) => Some(Breach {
+            rule: Rule::V11,
+            key,
+        }),
+        None => from_v12(config, numbers, index),
+    }
+}
+
+/// The first breach of V12 and the rules behind it.
+fn from_v12<A: Allocator, N: Allocator, I: Allocator>(
+    config: &Config<A>,
+    numbers: &Numbers<N>,
+    index: &Index<I>,
+) -> Option<Breach>
+    requires index { IsIndexOf config.now.records index.now }
+    ensures { result ≡ first_breach_of (laws.from_v12 config.now.records numbers.now.numbers) (records_of config.now.records) }
+{
+    match first_wanted(config, &CandidateOfNoImage) {
+        Some(key) => Some(Breach {
+            rule: Rule::V12,
+            key,
+        }),
+        None => from_v13(config, numbers, index),
+    }
+}
+
+/// The first breach of V13 and the rules behind it.
+fn from_v13<A: Allocator, N: Allocator, I: Allocator>(
+    config: &Config<A>,
+    numbers: &Numbers<N>,
+    index: &Index<I>,
+) -> Option<Breach>
+    requires index { IsIndexOf config.now.records index.now }
+    ensures { result ≡ first_breach_of (laws.from_v13 config.now.records numbers.now.numbers) (records_of config.now.records) }
+{
+    match first_past_limit(config, numbers) {
+        Some(key) => Some(Breach {
+            rule: Rule::V13,
+            key,
+        }),
+        None => from_v14(config, numbers, index),
+    }
+}
+
+/// The first breach of V14.
+fn from_v14<A: Allocator, N: Allocator, I: Allocator>(
+    config: &Config<A>,
+    _numbers: &Numbers<N>,
+    index: &Index<I>,
+) -> Option<Breach>
+    requires index { IsIndexOf config.now.records index.now }
+    ensures { result ≡ first_breach_of (laws.from_v14 config.now.records _numbers.now.numbers) (records_of config.now.records) }
+{
+    match first_wanted(config, &SharedAddress { index }) {
+        Some(key) => Some(Breach {
+            rule: Rule::V14,
+            key,
+        }),
+        None => None,
+    }
+}
