@@ -9,5 +9,8 @@ pub mod Paths
 pub mod Refusals
 pub mod RuleClauses
 pub mod Rules
+pub mod Runs
+pub mod SelectiveUndo
+pub mod Stages
 pub mod Trees
 pub mod Views

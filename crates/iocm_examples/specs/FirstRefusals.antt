@@ -1,5 +1,5 @@
 -- Which refusal comes first where two would be right, and one number carried by two devices, as it is stated by hand.
-use Rattle.std.specs.Prelude.{◌≡◌, ℕ, List, [], ◌∷◌, None, Some, Err}
+use Rattle.std.specs.Prelude.{◌≡◌, ℕ, List, [], ◌∷◌, None, Err}
 use Rattle.std.specs.FinMap.{empty}
 use Rattle.iocm_types.specs.declared.place.Place.{Place}
 use Rattle.iocm_types.specs.declared.key.Key.TheVariants.{Unit}

@@ -21,8 +21,8 @@ use Rattle.iocm_model.specs.Change.Meaning.{at_node}
 use Rattle.iocm_model.specs.Change.Tree.{leaf, group, choose, none}
 use Rattle.iocm_model.specs.Operation.Step.{order, device_end}
 use Rattle.iocm_history.specs.Entry.{Call, at, activate, undo, redo, show, History}
-use Rattle.iocm_history.specs.MarkedEntry.{Mark, kept, undone_with, lost, MarkedEntry, marked_entries}
-use Rattle.iocm_history.specs.Replay.{state_at}
+use Rattle.iocm_history.specs.MarkedEntry.{Mark, kept, undone_with, lost, MarkedEntry}
+use Rattle.iocm_history.specs.Account.{marked_entries, state_at}
 use Rattle.iocm_history.specs.Run.{run, answers_of}
 use Rattle.iocm_examples.specs.Edits.{base_opened, added, deleted, online_51, enabled_with}
 use Rattle.iocm_examples.specs.BaseDeck.{device_on_1000, device_key, subchannel}
@@ -48,7 +48,7 @@ after n script = state_at base_opened (history_of (take n script))
 
 -- the marks of the entries after the first calls of a script, in order
 abbrev pub marks_after : ℕ → Script → List Mark
-marks_after n script = reverse (map (λ (l : MarkedEntry). l.mark) (marked_entries (history_of (take n script))))
+marks_after n script = reverse (map (λ (l : MarkedEntry). l.mark) (marked_entries base_opened (history_of (take n script))))
 
 -- the number of a device of set 0 in channel subsystem 0
 abbrev pub number_of : ℕ → State → Option ℕ
@@ -168,13 +168,13 @@ pub record PendingStatus : Type 0 where
   pub refused : number_of 0x1001 (after 4 pending_status) ≡ Some 1
   pub deleted : number_of 0x1001 (after 6 pending_status) ≡ None
 
--- three changes of nothing, undone and redone: refusals name the greatest change that stands on another, and tell a change that
+-- three changes of one device, undone and redone: refusals name the greatest change that stands on another, and tell a change that
 -- can't be undone or redone now from one that was never there
 abbrev pub three_changes : Script
 three_changes =
-    (activate (group none), Changed 1)
-    ∷ (activate (group none), Changed 2)
-    ∷ (activate (group none), Changed 3)
+    (change_by (deleted (device_key 0x1003)), Changed 1)
+    ∷ (change_by (added (device_on_1000 0x1003 0x03)), Changed 2)
+    ∷ (change_by (deleted (device_key 0x1003)), Changed 3)
     ∷ (undo 1, refused J2 (Change 3))
     ∷ (undo 2, refused J2 (Change 3))
     ∷ (redo 3, refused J1 Nothing)
@@ -185,7 +185,7 @@ three_changes =
     ∷ (redo 2, Redone 2)
     ∷ (undo 1, refused J2 (Change 2))
     ∷ (redo 3, Redone 3)
-    ∷ (show, Shown (record { records = 12; subchannels = 8; standing = 3; undone = 0 }))
+    ∷ (show, Shown (record { records = 11; subchannels = 6; standing = 3; undone = 0 }))
     ∷ []
 
 -- changes of nothing, and undo and redo of changes that aren't there; a change makes those that are undone past
@@ -229,6 +229,19 @@ pub record APathUndone : Type 0 where
   pub back : marks_after 6 a_path_undone ≡ kept ∷ kept ∷ kept ∷ kept ∷ lost ∷ kept ∷ []
   pub undone : get (after 4 a_path_undone).lives (subchannel 2 0) ≡ Some (enabled_with 0x40)
   pub redone : get (after 6 a_path_undone).lives (subchannel 2 0) ≡ Some (record (enabled_with 0xC0) { parm = 9 })
+
+-- a path comes online to LPB, which then uses it alone: its subchannel is fresh after the undo, and in use again after the redo
+abbrev pub a_path_in_use : Script
+a_path_in_use =
+    (change_by online_51, Changed 1)
+    ∷ (enables (subchannel 2 0) 0x40 9, code 0)
+    ∷ (undo 1, Undone 1)
+    ∷ (orders (subchannel 2 0) Store, stored 0x1000 0x80 0xC0 false 0)
+    ∷ (redo 1, Redone 1)
+    ∷ (orders (subchannel 2 0) Store, stored 0x1000 0xC0 0x40 true 9)
+    ∷ (orders (subchannel 2 0) Start, code 0)
+    ∷ (undo 1, refused B1 (Subchannel (subchannel 2 0)))
+    ∷ []
 
 -- LPA starts its subchannel of a device that came in: the device goes with the undo once the subchannel is quiet
 abbrev pub a_busy_undo : Script

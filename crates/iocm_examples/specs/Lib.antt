@@ -12,5 +12,7 @@ pub mod Paths
 pub mod Refusals
 pub mod RuleClauses
 pub mod Rules
+pub mod SelectiveUndo
+pub mod Stages
 pub mod Trees
 pub mod Views

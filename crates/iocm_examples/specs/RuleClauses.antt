@@ -4,7 +4,7 @@ use Rattle.iocm_types.specs.declared.css_path.CssPath.{CssPath}
 use Rattle.iocm_types.specs.declared.key.Key.TheVariants.{Unit, Device, Online}
 use Rattle.iocm_types.specs.declared.path_kind.PathKind.{PathKind}
 use Rattle.iocm_types.specs.declared.path_kind.PathKind.TheVariants.{Dedicated, Shared}
-use Rattle.iocm_types.specs.declared.rule.Rule.TheVariants.{V4, V5, V7, V8, V11, V14}
+use Rattle.iocm_types.specs.declared.rule.Rule.TheVariants.{V4, V7, V8, V11, V14}
 use Rattle.iocm_types.specs.declared.unit_range.UnitRange.{UnitRange}
 use Rattle.iocm_model.specs.Machine.Record.{Rec, image, path, unit, device}
 use Rattle.iocm_model.specs.Machine.Configuration.{configuration_of}

@@ -8,9 +8,28 @@ ghost use Rattle.iocm_examples.specs.Histories.{
   PendingStatus,
   a_path_comes_online,
   APathUndone,
+  a_path_in_use,
   ABusyUndo,
   ABusyRedo,
   UndoneInTurn,
+};
+ghost use Rattle.iocm_examples.specs.SelectiveUndo.{
+  CellsApart,
+  paths_turned,
+  an_address_taken,
+  an_earlier_undone,
+  stood_on_and_busy,
+  not_last_and_busy,
+  nothing_in_common,
+};
+ghost use Rattle.iocm_examples.specs.Stages.{
+  held_and_aborted,
+  decided_at_begin,
+  CountedDown,
+  LeftStaged,
+  held_before_they_are_there,
+  AbortedAtEachStage,
+  PastByACommit,
 };
 
 /// Undo and redo of changes that stand on each other, that aren't there or that are past, and what the refusals name:
@@ -34,7 +53,31 @@ pub fn steps_elsewhere_are_as_worked()
 pub fn steps_on_altered_subchannels_are_as_worked()
     ensures online { Answers a_path_comes_online }
     ensures undone { APathUndone }
+    ensures in_use { Answers a_path_in_use }
     ensures busy { ABusyUndo }
     ensures busy_redo { ABusyRedo }
     ensures in_turn { UndoneInTurn }
+{}
+
+/// Changes that are undone under later ones, and those that are not: because a later change has a cell in common, because the
+/// undo would not take back what the change did, or because an earlier one is undone; and which refusal comes first: computed.
+pub fn undo_under_later_changes_is_as_worked()
+    ensures apart { CellsApart }
+    ensures turned { Answers paths_turned }
+    ensures address { Answers an_address_taken }
+    ensures earlier { Answers an_earlier_undone }
+    ensures stood_on { Answers stood_on_and_busy }
+    ensures not_last { Answers not_last_and_busy }
+    ensures nothing { Answers nothing_in_common }
+{}
+
+/// Changes in stages: what is held, what is left, what a Commit and an Abort do, and what waits for them: computed.
+pub fn stages_are_as_worked()
+    ensures aborted { Answers held_and_aborted }
+    ensures decided { Answers decided_at_begin }
+    ensures counted { CountedDown }
+    ensures left_staged { LeftStaged }
+    ensures to_come { Answers held_before_they_are_there }
+    ensures each_stage { AbortedAtEachStage }
+    ensures past { PastByACommit }
 {}

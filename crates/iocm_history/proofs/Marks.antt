@@ -4,7 +4,7 @@ use Rattle.std.proofs.lemmas.Bool.{eq-eqb, ne_eqb}
 use Rattle.std.specs.Prelude.{◌≢◌}
 use Rattle.iocm_types.specs.declared.sub_id.SubId.{SubId}
 use Rattle.iocm_history.specs.MarkedEntry.{Mark, kept, undone_with, lost, MarkedEntry, is_change, is_step_on, struck_mark, struck, struck_if, strike, unstruck_mark, unstruck, taken_back}
-use Rattle.iocm_history.specs.HistoryLaws.{IsUnmarked, RestoringUndoesStriking}
+use Rattle.iocm_history.specs.MarkLaws.{IsUnmarked, RestoringUndoesStriking}
 
 -- ---- taking back
 
@@ -20,11 +20,11 @@ unstruck_struck n kept other = let same : eqb n n ≡ true = eq-eqb n n refl in 
 unstruck_struck n (undone_with m) other = unstruck_other n (undone_with m) other
 unstruck_struck n lost other = refl
 
--- a line with this mark
+-- an entry with this mark
 abbrev pub marked : MarkedEntry → Mark → MarkedEntry
 marked l m = record { act = l.act; mark = m }
 
--- where no line is struck by the undo of a change, nothing is taken back
+-- where no entry is struck by the undo of a change, nothing is taken back
 pub taken_back_unmarked : (n : ℕ) (ls : List MarkedEntry) → IsUnmarked n ls → taken_back n ls ≡ ls
 taken_back_unmarked n [] none = refl
 taken_back_unmarked n (l ∷ ls) none = λ i. marked l (unstruck_other n l.mark none.0 i) ∷ taken_back_unmarked n ls none.1 i

@@ -1,9 +1,8 @@
--- Lists of lines of which the later has other marks, and what carries over from one to the other.
-use Rattle.std.proofs.Common.{◌≡◌, ◌≢◌, ◌⊎◌, ℕ, Bool, true, false, cond, eqb, List, [], ◌∷◌, refl, sym, ap, subst, ◌∙◌}
-use Rattle.std.proofs.lemmas.Bool.{eq-eqb}
+-- Lists of entries of which the later has other marks, and what carries over from one to the other.
+use Rattle.std.proofs.Common.{◌≡◌, ◌≢◌, ℕ, Bool, true, false, cond, eqb, List, [], ◌∷◌, refl, ◌∙◌}
 use Rattle.iocm_types.specs.declared.sub_id.SubId.{SubId}
-use Rattle.iocm_history.specs.MarkedEntry.{Act, Mark, kept, undone_with, lost, MarkedEntry, is_change, is_step_on, is_undo, effect_or, change_effect, struck_mark, struck, struck_if, strike, unstruck_mark, taken_back, restore}
-use Rattle.iocm_history.specs.HistoryLaws.{IsUnmarked, AreItsOwn}
+use Rattle.iocm_history.specs.MarkedEntry.{Mark, kept, undone_with, lost, MarkedEntry, is_change, is_step_on, is_undo, change_or, change_at, struck_mark, struck, struck_if, strike, unstruck_mark, taken_back, restore}
+use Rattle.iocm_history.specs.MarkLaws.{IsUnmarked}
 
 -- the same acts, with marks that are related
 unfoldable pub AreRemarked : (Mark → Mark → Type 0) → List MarkedEntry → List MarkedEntry → Type 0
@@ -71,25 +70,31 @@ module _ (R : Mark → Mark → Type 0) (itself : (m : Mark) → R m m) where
   remarked_restore xs n new back (l ∷ ls) =
       restored_at (is_undo n l.act) xs n l ls (new l.mark) (remarked_back n back ls) (remarked_restore xs n new back ls)
 
--- ---- the effect of a change is the same
+-- ---- a change is the same
 
 abbrev pub AnyMarks : Mark → Mark → Type 0
 AnyMarks l m = Unit {0}
 
-same_effect : (R : Mark → Mark → Type 0) (n : ℕ) (ls ms : List MarkedEntry) → AreRemarked R ls ms → change_effect n ms ≡ change_effect n ls
+pub same_change : (R : Mark → Mark → Type 0) (n : ℕ) (ls ms : List MarkedEntry) → AreRemarked R ls ms → change_at n ms ≡ change_at n ls
 unfolding AreRemarked
-same_effect R n [] [] r = refl
-same_effect R n [] (m ∷ ms) r = absurd r
-same_effect R n (l ∷ ls) [] r = absurd r
-same_effect R n (l ∷ ls) (m ∷ ms) r = λ i. effect_or n (r.0 i) (same_effect R n ls ms r.2 i)
+same_change R n [] [] r = refl
+same_change R n [] (m ∷ ms) r = absurd r
+same_change R n (l ∷ ls) [] r = absurd r
+same_change R n (l ∷ ls) (m ∷ ms) r = λ i. change_or n (r.0 i) (same_change R n ls ms r.2 i)
+
+pub any_struck : (xs : List SubId) (k : ℕ) (ls : List MarkedEntry) → AreRemarked AnyMarks ls (strike xs k ls)
+any_struck xs k ls = remarked_strike AnyMarks (λ m. tt) xs k (λ m. tt) ls
+
+pub any_restored : (xs : List SubId) (k : ℕ) (ls : List MarkedEntry) → AreRemarked AnyMarks ls (restore xs k ls)
+any_restored xs k ls = remarked_restore AnyMarks (λ m. tt) xs k (λ m. tt) (λ m. tt) ls
 
 -- after an undo
-pub effect_strike : (xs : List SubId) (k n : ℕ) (ls : List MarkedEntry) → change_effect n (strike xs k ls) ≡ change_effect n ls
-effect_strike xs k n ls = same_effect AnyMarks n ls _ (remarked_strike AnyMarks (λ m. tt) xs k (λ m. tt) ls)
+pub change_strike : (xs : List SubId) (k n : ℕ) (ls : List MarkedEntry) → change_at n (strike xs k ls) ≡ change_at n ls
+change_strike xs k n ls = same_change AnyMarks n ls _ (any_struck xs k ls)
 
 -- after a redo
-pub effect_restore : (xs : List SubId) (k n : ℕ) (ls : List MarkedEntry) → change_effect n (restore xs k ls) ≡ change_effect n ls
-effect_restore xs k n ls = same_effect AnyMarks n ls _ (remarked_restore AnyMarks (λ m. tt) xs k (λ m. tt) (λ m. tt) ls)
+pub change_restore : (xs : List SubId) (k n : ℕ) (ls : List MarkedEntry) → change_at n (restore xs k ls) ≡ change_at n ls
+change_restore xs k n ls = same_change AnyMarks n ls _ (any_restored xs k ls)
 
 -- ---- nothing is newly struck by the undo of a change
 
@@ -134,58 +139,3 @@ unmarked_then n [] [] r none = tt
 unmarked_then n [] (m ∷ ms) r none = absurd r
 unmarked_then n (l ∷ ls) [] r none = absurd r
 unmarked_then n (l ∷ ls) (m ∷ ms) r none = (λ is. none.0 (r.1 is), unmarked_then n ls ms r.2 none.1)
-
--- and what has its marks rightly has them rightly
-pub own_then : (n : ℕ) (xs : List SubId) (ls ms : List MarkedEntry) → AreRemarked (NotNew n) ls ms → AreItsOwn n xs ls → AreItsOwn n xs ms
-unfolding AreRemarked
-own_then n xs [] [] r own = tt
-own_then n xs [] (m ∷ ms) r own = absurd r
-own_then n xs (l ∷ ls) [] r own = absurd r
-own_then n xs (l ∷ ls) (m ∷ ms) r own =
-    (λ is. subst (λ (a : Act). (is_change n a ≡ true) ⊎ (is_step_on xs a ≡ true)) (sym r.0) (own.0 (r.1 is)), own_then n xs ls ms r.2 own.1)
-
--- ---- marks since the last undo of a change
-
--- no line since the last undo of this change is struck by it
-unfoldable pub IsFresh : ℕ → List MarkedEntry → Type 0
-IsFresh n [] = Unit {0}
-IsFresh n (l ∷ ls) = (l.mark ≢ undone_with n) × (is_undo n l.act ≡ false → IsFresh n ls)
-
--- where nothing is newly struck by it, none is then either
-pub fresh_then : (n : ℕ) (ls ms : List MarkedEntry) → AreRemarked (NotNew n) ls ms → IsFresh n ls → IsFresh n ms
-unfolding AreRemarked IsFresh
-fresh_then n [] [] r new = tt
-fresh_then n [] (m ∷ ms) r new = absurd r
-fresh_then n (l ∷ ls) [] r new = absurd r
-fresh_then n (l ∷ ls) (m ∷ ms) r new =
-    (λ is. new.0 (r.1 is), λ later. fresh_then n ls ms r.2 (new.1 (ap (is_undo n) (sym r.0) ∙ later)))
-
-back_mark : (b : Bool) (n j : ℕ) → eqb n j ≡ b → cond b kept (undone_with j) ≢ undone_with n
-back_mark true n j is e = cc
-back_mark false n j is e = let same : n ≡ j = cc in let alike : eqb n j ≡ true = eq-eqb n j same in cc
-
-back_unmarked : (n : ℕ) (m : Mark) → unstruck_mark n m ≢ undone_with n
-back_unmarked n kept e = cc
-back_unmarked n (undone_with j) e = back_mark (eqb n j) n j refl e
-back_unmarked n lost e = cc
-
--- what is taken back is struck by its undo no more
-pub taken_back_clears : (n : ℕ) (ls : List MarkedEntry) → IsUnmarked n (taken_back n ls)
-taken_back_clears n [] = tt
-taken_back_clears n (l ∷ ls) = (back_unmarked n l.mark, taken_back_clears n ls)
-
-lost_if : (b : Bool) (n : ℕ) (l : MarkedEntry) → l.mark ≢ undone_with n → (struck_if b lost l).mark ≢ undone_with n
-lost_if true n l other is = other (not_new_struck n lost l.mark (lost_mark n) is)
-lost_if false n l other is = other is
-
-clears_at : (b : Bool) (xs : List SubId) (n : ℕ) (l : MarkedEntry) (ls : List MarkedEntry) → is_undo n l.act ≡ b → l.mark ≢ undone_with n
-    → (is_undo n l.act ≡ false → IsUnmarked n (restore xs n ls))
-    → IsUnmarked n (cond b (l ∷ taken_back n ls) (struck_if (is_step_on xs l.act) lost l ∷ restore xs n ls))
-clears_at true xs n l ls is other rest = (other, taken_back_clears n ls)
-clears_at false xs n l ls is other rest = (lost_if (is_step_on xs l.act) n l other, rest is)
-
--- after the redo of a change no line is struck by its undo
-pub restore_clears : (xs : List SubId) (n : ℕ) (ls : List MarkedEntry) → IsFresh n ls → IsUnmarked n (restore xs n ls)
-unfolding IsFresh restore
-restore_clears xs n [] new = tt
-restore_clears xs n (l ∷ ls) new = clears_at (is_undo n l.act) xs n l ls refl new.0 (λ later. restore_clears xs n ls (new.1 later))

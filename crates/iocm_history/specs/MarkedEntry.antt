@@ -1,18 +1,21 @@
 -- Which entries of a history are struck, and by which undo. Own.
-use Rattle.std.specs.Prelude.{ℕ, ◌==◌, Bool, true, false, if◌then◌else◌, List, [], ◌∷◌, map}
-use Rattle.std.specs.FinMap.{keys}
+use Rattle.std.specs.Prelude.{ℕ, ◌==◌, Bool, true, false, if◌then◌else◌, Option, None, Some, List, [], ◌∷◌, map}
+use Rattle.std.specs.FinMap.{empty, insert}
 use Rattle.iocm_types.specs.declared.answer.Answer.{Answer}
 use Rattle.iocm_types.specs.declared.answer.Answer.TheVariants as answers
+use Rattle.iocm_types.specs.declared.live.Live.{Live}
 use Rattle.iocm_types.specs.declared.sub_id.SubId.{SubId}
 use Rattle.iocm_model.specs.Operation.State.{is_among}
 use Rattle.iocm_model.specs.Change.Effect.{Effect}
 use Rattle.iocm_model.specs.Operation.Step.{Step}
-use Rattle.iocm_history.specs.Entry.{Call, at, activate, undo, Entry, History, no_effect}
+use Rattle.iocm_history.specs.Entry.{no_effect}
+use Rattle.iocm_history.specs.Change.{Change, effect_of_change, altered}
 
--- what an entry did: a step, an accepted change with its number and effect, an accepted undo, or nothing that counts here
+-- what an entry did: a step with the live record that it left, or none; an accepted change with its number; an accepted undo; or nothing
+-- that counts here
 pub data Act : Type 0 where
-  step : SubId → Step → Act
-  change : ℕ → Effect → Act
+  step : SubId → Step → Option Live → Act
+  change : ℕ → Change → Act
   undoing : ℕ → Act
   nothing : Act
 
@@ -27,15 +30,23 @@ pub record MarkedEntry : Type 0 where
   pub act : Act
   pub mark : Mark
 
--- what an entry did, by its call and its answer
-abbrev pub act_of : Call → Answer → Effect → Act
-act_of (at x s) answer f = step x s
-act_of (activate p) (answers.Changed n) f = change n f
-act_of (undo m) (answers.Undone n) f = undoing n
-act_of _ _ f = nothing
+-- the cells that an act overwrites: a step the live record of its subchannel, a change what it wrote
+abbrev pub effect_of_act : Act → Effect
+effect_of_act (step x made l) = record no_effect { lives = insert empty x l }
+effect_of_act (change n c) = effect_of_change c
+effect_of_act (undoing n) = no_effect
+effect_of_act nothing = no_effect
+
+-- unless it is struck
+abbrev pub effect_if_kept : Mark → Effect → Effect
+effect_if_kept kept f = f
+effect_if_kept _ f = no_effect
+
+abbrev pub effect_of_entry : MarkedEntry → Effect
+effect_of_entry l = effect_if_kept l.mark (effect_of_act l.act)
 
 abbrev pub is_change : ℕ → Act → Bool
-is_change n (change m f) = n == m
+is_change n (change m c) = n == m
 is_change n _ = false
 
 abbrev pub is_undo : ℕ → Act → Bool
@@ -44,21 +55,25 @@ is_undo n _ = false
 
 -- a step on one of these subchannels
 abbrev pub is_step_on : List SubId → Act → Bool
-is_step_on xs (step x s) = is_among x xs
+is_step_on xs (step x made l) = is_among x xs
 is_step_on xs _ = false
 
--- the effect of the change of a number
-abbrev pub effect_or : ℕ → Act → Effect → Effect
-effect_or n (change m f) further = if n == m then f else further
-effect_or n _ further = further
+-- the change of a number, if it is there
+abbrev pub change_or : ℕ → Act → Option Change → Option Change
+change_or n (change m c) further = if n == m then Some c else further
+change_or n _ further = further
 
-abbrev pub change_effect : ℕ → List MarkedEntry → Effect
-change_effect n [] = no_effect
-change_effect n (l ∷ ls) = effect_or n l.act (change_effect n ls)
+abbrev pub change_at : ℕ → List MarkedEntry → Option Change
+change_at n [] = None
+change_at n (l ∷ ls) = change_or n l.act (change_at n ls)
 
 -- the subchannels that it altered
+abbrev pub altered_if : Option Change → List SubId
+altered_if (Some c) = altered c
+altered_if None = []
+
 abbrev pub altered_by_change : ℕ → List MarkedEntry → List SubId
-altered_by_change n ls = keys (change_effect n ls).lives
+altered_by_change n ls = altered_if (change_at n ls)
 
 -- what already is struck stays as it is
 abbrev pub struck_mark : Mark → Mark → Mark
@@ -104,16 +119,7 @@ abbrev pub with_change : ℕ → List MarkedEntry → List MarkedEntry
 with_change n ls = restore (altered_by_change n ls) n ls
 
 -- the earlier entries after an answer
-abbrev pub marks_after : Answer → List MarkedEntry → List MarkedEntry
-marks_after (answers.Undone n) ls = without_change n ls
-marks_after (answers.Redone n) ls = with_change n ls
-marks_after _ ls = ls
-
--- an entry as it is made: it counts
-abbrev pub marked_entry : Entry → MarkedEntry
-marked_entry e = record { act = act_of e.call e.answer e.effect; mark = kept }
-
--- each entry of a history with its mark
-unfoldable pub marked_entries : History → List MarkedEntry
-marked_entries [] = []
-marked_entries (e ∷ h) = marked_entry e ∷ marks_after e.answer (marked_entries h)
+abbrev pub entries_after : Answer → List MarkedEntry → List MarkedEntry
+entries_after (answers.Undone n) ls = without_change n ls
+entries_after (answers.Redone n) ls = with_change n ls
+entries_after _ ls = ls

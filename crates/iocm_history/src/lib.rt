@@ -1,18 +1,34 @@
-//! What a run of calls means, and no code that runs: histories, which of their entries are struck by undo and redo, the
-//! state that what is left gives, which changes stand, and which histories are legal.
+//! What a run of calls means, and no code that runs: histories, which of their entries are struck by undo and redo, changes in
+//! stages, the state that what is left gives, which changes stand on which, and which histories are legal.
 //!
-//! Each subject has one file in `specs/`; `docs/DEFINITIONS.md` goes through them. The functions here have empty bodies:
-//! their contracts are laws of the definitions. Runs of calls that were worked by hand stand in `iocm_examples`. Stages (a change
-//! that is tried first and committed later) and undo of a change under later independent ones are to be added: the first in
-//! `act_of` and `entry_in`, the second in `stands_on`.
+//! Each subject has one file in `specs/`; `docs/DEFINITIONS.md` goes through them, and `docs/UNDO.md` tells a system programmer
+//! what undo does. Each entry that is not struck overwrites cells, and what is left is read as a state. The functions here have
+//! empty bodies: their contracts are laws of the definitions, and the layers above rely on these alone. Begin reading at
+//! `specs/Legal.antt`, which has the answer to each call. Runs of calls that were worked by hand stand in `iocm_examples`.
 #![tactic(auto)]
 
-mod laws;
+mod history_laws;
+mod latest_first_laws;
+mod mark_laws;
+mod redo_laws;
+mod stage_laws;
 mod undo_laws;
 
-pub use laws::{
-    changes_count_while_they_stand, redo_takes_undo_back, restoring_undoes_striking,
-    runs_are_legal, standing_changes_mark_nothing, undo_goes_back_to_the_state_before,
-    undo_leaves_the_run_without, undos_strike_their_own,
+pub use history_laws::{
+    activations_do_what_they_mean, other_calls_leave_the_state, runs_are_legal, states_stay_in_use,
+    steps_step,
 };
-pub use undo_laws::{states_stay_in_use, undo_does_what_the_inverse_tree_does};
+pub use latest_first_laws::steps_may_be_decided_anew;
+pub use mark_laws::{
+    changes_count_while_they_stand, restoring_undoes_striking, standing_changes_mark_nothing,
+    undos_strike_their_own,
+};
+pub use redo_laws::{
+    redo_finds_what_the_undo_left, redo_puts_the_cells_forward, redo_takes_undo_back,
+};
+pub use stage_laws::{abort_leaves_the_other_steps, commit_does_the_edits};
+pub use undo_laws::{
+    standing_changes_are_there, standing_changes_fit, undo_does_what_the_inverse_tree_does,
+    undo_does_what_the_inverses_do, undo_is_refused_only_for, undo_leaves_the_run_without,
+    undo_puts_the_cells_back,
+};

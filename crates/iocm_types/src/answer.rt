@@ -16,8 +16,16 @@ pub enum Answer {
     Io(Io),
     /// To a device end: whether a function was in progress, which it ended.
     Ended(bool),
+    /// To an order or a device end at a subchannel that the change being tried alters: it was not performed.
+    Held,
     /// A change was accepted, with this number.
     Changed(u64),
+    /// A change is being tried, with so many edits.
+    Staged(u64),
+    /// So many edits of the change that is being tried are left.
+    Left(u64),
+    /// The change that was being tried is given up.
+    Aborted,
     /// The change of this number was undone.
     Undone(u64),
     /// The change of this number was redone.

@@ -1,11 +1,11 @@
 -- The limits of sets, computed.
-use Rattle.std.proofs.Common.{◌≡◌, ◌∙◌, ℕ, List, ◌∷◌, ap, refl}
+use Rattle.std.proofs.Common.{◌≡◌, ◌∙◌, ℕ, List, ◌∷◌}
 use Rattle.iocm_types.specs.Key.{key_cmp}
 use Rattle.iocm_types.specs.Place.{place_cmp}
 use Rattle.iocm_types.specs.KeyOrder.{places_total, places_exact}
 use Rattle.iocm_model.specs.Machine.Record.{Rec, limit}
 use Rattle.iocm_model.specs.Machine.Configuration.{configuration_of, with_keys}
-use Rattle.iocm_examples.specs.DefaultLimits.{deck_of_set, number_of_2000, numbering_of_2000, breach_with, Holds, LimitsOfSets}
+use Rattle.iocm_examples.specs.DefaultLimits.{deck_of_set, number_of_2000, numbering_of_2000, breach_with, LimitsOfSets}
 use Rattle.iocm_examples.proofs.OnLists.{states_on_lists}
 use Rattle.iocm_examples.proofs.Listed.Maps.{put_all, entries-from_entries}
 use Rattle.iocm_examples.proofs.Listed.Rules.{first_breach_listed, first_breach_seen}

@@ -1,5 +1,5 @@
 -- Which refusal comes first, computed on states as lists.
-use Rattle.std.proofs.Common.{◌≡◌, ℕ, List, [], ◌∷◌, refl}
+use Rattle.std.proofs.Common.{◌≡◌, ℕ, List, [], refl}
 use Rattle.iocm_types.specs.declared.place.Place.{Place}
 use Rattle.iocm_model.specs.Change.Edit.{modify}
 use Rattle.iocm_examples.specs.BaseDeck.{subchannel}

@@ -1,103 +1,12 @@
 -- Runs of calls on the example deck, computed on histories as lists.
-use Rattle.std.proofs.Common.{◌≡◌, ℕ, true, List, [], ◌∷◌, map, reverse, take, refl, ap, ◌∙◌}
-use Rattle.std.specs.FinMap.{get, find, get-entries}
-use Rattle.iocm_types.specs.declared.key.Key.{Key}
-use Rattle.iocm_types.specs.declared.order.Order.{Order}
-use Rattle.iocm_types.specs.declared.order.Order.TheVariants.{Start, Clear, Test, Store, Modify}
-use Rattle.iocm_types.specs.declared.sub_id.SubId.{SubId}
-use Rattle.iocm_types.specs.Key.{key_cmp}
-use Rattle.iocm_types.specs.Place.{place_cmp}
-use Rattle.iocm_types.specs.SubId.{sub_id_cmp}
-use Rattle.iocm_model.specs.Operation.Step.{order, device_end}
-use Rattle.iocm_model.specs.Change.Renumbering.{gap_from}
-use Rattle.iocm_model.specs.Rules.FirstBreach.{first_record, first_breach_of}
-use Rattle.iocm_history.specs.MarkedEntry.{MarkedEntry, marked_entries}
-use Rattle.iocm_history.specs.Replay.{state_at}
-use Rattle.iocm_history.specs.Run.{run, answers_of}
+use Rattle.std.proofs.Common.{List, [], ◌∷◌, refl}
+use Rattle.iocm_types.specs.declared.order.Order.TheVariants.{Start, Clear, Test, Store}
 use Rattle.iocm_examples.specs.BaseDeck.{lpb, online_record, device_on_1000, device_key, subchannel}
-use Rattle.iocm_examples.specs.Edits.{base_opened}
-use Rattle.iocm_examples.specs.Histories.{Answers, number_of, LatestFirst, AChooseUndone, StepsElsewhere, PendingStatus, three_changes, empty_changes, a_path_comes_online, APathUndone, ABusyUndo, ABusyRedo, UndoneInTurn}
-use Rattle.iocm_examples.proofs.Listed.Views.{numbers_after_listed}
-use Rattle.iocm_examples.proofs.Listed.States.{ListedState, listing, record_at_is, live_at_is, ListedEdit, state_after_listed, refusal_listed, after_step_listed, answer_listed}
-use Rattle.iocm_examples.proofs.Listed.Rules.{first_breach_listed}
-use Rattle.iocm_examples.proofs.Listed.Effects.{state_after_all_listed, edits_cells_listed, edit_cells_listed, values_listed, with_effect_listed}
-use Rattle.iocm_examples.proofs.Listed.Trees.{one, in_group, in_choose, no_parts, parts_listed, mean_listed, meaning_listed}
-use Rattle.iocm_examples.proofs.Computed.Edits.{base_listing, base_is, plain_add, plain_delete}
-use Rattle.iocm_examples.proofs.Listed.Histories.{ListedLine, lines_listing, ListedCall, stepping, activating, undoes, redoes, shows, calls_from, ListedHistory, strike_lines, restore_lines, replay_lines, call_listed, calls_listed, ComeRight, uncalled, run_is, last_state_is, first_come_right}
-
--- a change of one edit
-abbrev changes : ListedEdit → ListedCall
-changes e = activating (one e) (e ∷ [])
-
--- an order
-abbrev ordered : SubId → Order → ListedCall
-ordered x o = stepping x (order o)
-
--- a device end
-abbrev ended : SubId → ListedCall
-ended x = stepping x device_end
-
--- MODIFY with this mask and parameter, that enables
-abbrev enabled : SubId → ℕ → ℕ → ListedCall
-enabled x lpm parm = ordered x (Modify (record { enabled = true; lpm = lpm; parm = parm }))
-
--- the history that calls make on the example deck, with all that computes it unfolded
-unfoldable made_by : List ListedCall → ListedHistory
-unfolding base_listing meaning_listed mean_listed state_after_all_listed state_after_listed refusal_listed first_breach_listed numbers_after_listed gap_from
-    first_record first_breach_of edits_cells_listed edit_cells_listed values_listed with_effect_listed after_step_listed answer_listed
-    strike_lines restore_lines replay_lines call_listed calls_listed ComeRight
-made_by cs = calls_listed base_listing cs uncalled
-
--- its last state
-abbrev left_by : List ListedCall → ListedState
-left_by cs = replay_lines base_listing (made_by cs).marked
-
--- each call comes with the edits that it performs
-abbrev AreRight : List ListedCall → Type 0
-AreRight cs = ComeRight base_listing cs uncalled
-
--- the answers of a run are those of its listing
-answers_are : (cs : List ListedCall) → AreRight cs → reverse (answers_of (run base_opened (calls_from cs))) ≡ reverse (made_by cs).answers
-unfolding made_by
-answers_are cs right = ap (λ (m : ListedHistory). reverse m.answers) (run_is base_opened base_listing base_is cs right)
-
--- the state after the first calls of a run is that of its listing
-state_is : (n : ℕ) (cs : List ListedCall) → AreRight cs
-    → listing (state_at base_opened (run base_opened (calls_from (take n cs)))) ≡ left_by (take n cs)
-unfolding made_by
-state_is n cs right = last_state_is base_opened base_listing base_is (take n cs) (first_come_right base_listing n cs uncalled right)
-
--- a listing has the marks of its lines
-marks_seen : (ls : List MarkedEntry) → map (λ (l : MarkedEntry). l.mark) ls ≡ map (λ (l : ListedLine). l.mark) (lines_listing ls)
-marks_seen [] = refl
-marks_seen (l ∷ ls) = ap (λ ms. l.mark ∷ ms) (marks_seen ls)
-
--- the marks after the first calls of a run are those of its listing
-marks_are : (n : ℕ) (cs : List ListedCall) → AreRight cs
-    → reverse (map (λ (l : MarkedEntry). l.mark) (marked_entries (run base_opened (calls_from (take n cs)))))
-    ≡ reverse (map (λ (l : ListedLine). l.mark) (made_by (take n cs)).marked)
-unfolding made_by
-marks_are n cs right = ap reverse (marks_seen (marked_entries (run base_opened (calls_from (take n cs))))
-    ∙ ap (λ (m : ListedHistory). map (λ (l : ListedLine). l.mark) m.marked)
-    (run_is base_opened base_listing base_is (take n cs) (first_come_right base_listing n cs uncalled right)))
-
--- the number of a device there
-number_is : (n : ℕ) (cs : List ListedCall) → AreRight cs → (d : ℕ)
-    → number_of d (state_at base_opened (run base_opened (calls_from (take n cs))))
-    ≡ find place_cmp (record { css = 0; set = 0; device = d }) (left_by (take n cs)).numbers
-number_is n cs right d = let s = state_at base_opened (run base_opened (calls_from (take n cs))) in
-    get-entries s.numbers (record { css = 0; set = 0; device = d })
-    ∙ ap (λ (y : ListedState). find place_cmp (record { css = 0; set = 0; device = d }) y.numbers) (state_is n cs right)
-
--- the record of a key there
-record_is : (n : ℕ) (cs : List ListedCall) → AreRight cs → (key : Key)
-    → get (state_at base_opened (run base_opened (calls_from (take n cs)))).config key ≡ find key_cmp key (left_by (take n cs)).records
-record_is n cs right key = record_at_is _ _ key (state_is n cs right)
-
--- the live record of a subchannel there
-live_is : (n : ℕ) (cs : List ListedCall) → AreRight cs → (x : SubId)
-    → get (state_at base_opened (run base_opened (calls_from (take n cs)))).lives x ≡ find sub_id_cmp x (left_by (take n cs)).lives
-live_is n cs right x = live_at_is _ _ x (state_is n cs right)
+use Rattle.iocm_examples.proofs.Listed.Trees.{in_group, in_choose, no_parts, parts_listed}
+use Rattle.iocm_examples.proofs.Listed.Histories.{ListedCall, activating, undoes, redoes, shows}
+use Rattle.iocm_examples.proofs.Computed.Edits.{plain_add, plain_delete}
+use Rattle.iocm_examples.proofs.Computed.Runs.{changes, ordered, ended, enabled, made_by, AreRight, answers_are, marks_are, number_is, record_is, live_is}
+use Rattle.iocm_examples.specs.Histories.{Answers, LatestFirst, AChooseUndone, StepsElsewhere, PendingStatus, three_changes, empty_changes, a_path_comes_online, APathUndone, a_path_in_use, ABusyUndo, ABusyRedo, UndoneInTurn}
 
 abbrev latest_first_calls : List ListedCall
 latest_first_calls =
@@ -190,9 +99,9 @@ pending_status_is =
 
 abbrev three_changes_calls : List ListedCall
 three_changes_calls =
-    activating (in_group no_parts) []
-    ∷ activating (in_group no_parts) []
-    ∷ activating (in_group no_parts) []
+    changes (plain_delete (device_key 0x1003))
+    ∷ changes (plain_add (device_on_1000 0x1003 0x03))
+    ∷ changes (plain_delete (device_key 0x1003))
     ∷ undoes 1
     ∷ undoes 2
     ∷ redoes 3
@@ -260,6 +169,22 @@ a_path_undone_is =
       undone = live_is 4 a_path_undone_calls right (subchannel 2 0);
       redone = live_is 6 a_path_undone_calls right (subchannel 2 0);
     }
+
+abbrev a_path_in_use_calls : List ListedCall
+a_path_in_use_calls =
+    changes (plain_add (online_record 0x51 lpb))
+    ∷ enabled (subchannel 2 0) 0x40 9
+    ∷ undoes 1
+    ∷ ordered (subchannel 2 0) Store
+    ∷ redoes 1
+    ∷ ordered (subchannel 2 0) Store
+    ∷ ordered (subchannel 2 0) Start
+    ∷ undoes 1
+    ∷ []
+
+pub a_path_in_use_answers : Answers a_path_in_use
+unfolding made_by
+a_path_in_use_answers = answers_are a_path_in_use_calls (refl, tt)
 
 abbrev a_busy_undo_calls : List ListedCall
 a_busy_undo_calls =

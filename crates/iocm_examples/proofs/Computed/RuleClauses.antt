@@ -1,9 +1,9 @@
 -- The first breaches of decks that break one clause of a rule, and of decks at the bounds, computed.
-use Rattle.std.proofs.Common.{◌≡◌, ◌∙◌, List, Bool, [], ◌∷◌, None, Some, ap, refl, map}
+use Rattle.std.proofs.Common.{◌≡◌, ◌∙◌, List, Bool, [], ◌∷◌, None, Some, map}
 use Rattle.iocm_types.specs.declared.path_kind.PathKind.TheVariants.{Dedicated, Shared}
 use Rattle.iocm_types.specs.Key.{key_cmp}
 use Rattle.iocm_model.specs.Machine.Record.{Rec}
-use Rattle.iocm_model.specs.Machine.Configuration.{configuration_of, with_keys, lookup_of, records_of}
+use Rattle.iocm_model.specs.Machine.Configuration.{configuration_of, with_keys, records_of}
 use Rattle.iocm_model.specs.Rules.EachRule.{breaks_v4}
 use Rattle.iocm_examples.specs.BaseDeck.{lpa, lpb, online_record}
 use Rattle.iocm_examples.specs.Rules.{unit_with}

@@ -13,7 +13,7 @@ use Rattle.iocm_examples.proofs.Listed.Trees.{ListedPlan, ListedPlans, one, in_r
 use Rattle.iocm_examples.proofs.Computed.Edits.{base_listing, base_is, plain_add, plain_delete, plain_modify, the_0fff, add_0fff_listed, one_for_another_listed, started_listed, started_is, started_listing, base_started_is}
 
 -- two devices exchange their unit addresses
-abbrev exchange_listed : List ListedEdit
+abbrev pub exchange_listed : List ListedEdit
 exchange_listed =
     plain_modify (device_on_1000 0x1002 0x05) ∷ plain_modify (device_on_1000 0x1003 0x02) ∷ plain_modify (device_on_1000 0x1002 0x03) ∷ []
 

@@ -100,7 +100,7 @@ lives_seen old new carried lives = entries-from_entries sub_ids_total sub_ids_ex
     ∙ (λ i. lives_by (λ x. get-entries old x i) (entries new) (λ x. get-entries carried x i) (λ x. get-entries lives x i))
 
 -- the records after an action, and the state after an edit
-abbrev records_after_listed : Action → Records → Records
+abbrev pub records_after_listed : Action → Records → Records
 records_after_listed a es = put_or_without key_cmp (action_key a) (record_after a) es
 
 -- a state after an edit, with these records and numbers
@@ -116,7 +116,7 @@ unfoldable pub state_after_listed : ListedEdit → ListedState → ListedState
 state_after_listed e x = state_after_from e x (records_after_listed e.action x.records)
 
 -- an action does to a configuration what it does to its entries
-records_seen : (a : Action) (c : Configuration) → entries (config_after a c) ≡ records_after_listed a (entries c)
+pub records_seen : (a : Action) (c : Configuration) → entries (config_after a c) ≡ records_after_listed a (entries c)
 records_seen a c = entries-with_value keys_total keys_exact c (action_key a) (record_after a)
 
 -- an edit does to the numbers of a state what it does to their entries
@@ -215,7 +215,7 @@ abbrev kept_listed : ViewList → ViewList → LiveList → LiveList
 kept_listed v w lives = kept_by (λ x. find sub_id_cmp x v) (λ x. find sub_id_cmp x w) lives
 
 -- the inverse of an edit, between two states
-abbrev inverse_to : ListedEdit → ListedState → ListedState → ListedEdit
+abbrev pub inverse_to : ListedEdit → ListedState → ListedState → ListedEdit
 inverse_to e x y = record {
   action = action_back (action_key e.action) (find key_cmp (action_key e.action) x.records) (record_after e.action);
   places = filter (λ (p : Place × ℕ). not (is_some (find place_cmp p.0 y.numbers))) x.numbers;

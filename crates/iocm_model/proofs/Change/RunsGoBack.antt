@@ -241,7 +241,7 @@ altered_were_quiet (e ∷ es) s x lived accepted h =
     (later_by _ _ (sym (list_any-append (eq_by_cmp sub_id_cmp x) (altered_by e s) (cells_written_by_all es t).subchannels) ∙ h) off))
 
 -- an action that was accepted can be taken back
-back_passes : (key : Key) (old : Option Rec) (a : Action) → refusal_by_key a (is_some old) ≡ None
+pub back_passes : (key : Key) (old : Option Rec) (a : Action) → refusal_by_key a (is_some old) ≡ None
     → refusal_by_key (action_back key old (record_after a)) (is_some (record_after a)) ≡ None
 back_passes key None (add r) h = refl
 back_passes key (Some old) (add r) h = cc
@@ -250,7 +250,7 @@ back_passes key (Some old) (delete k) h = refl
 back_passes key None (modify r) h = cc
 back_passes key (Some old) (modify r) h = refl
 
-key_there : (a : Action) (c : Configuration) → get (config_after a c) (action_key a) ≡ record_after a
+pub key_there : (a : Action) (c : Configuration) → get (config_after a c) (action_key a) ≡ record_after a
 key_there a c = get_with_value keys_total keys_exact c (action_key a) (record_after a) (action_key a)
     ∙ ap (λ r. cond (is_eq r) (record_after a) (get c (action_key a))) (tied_itself keys_total (action_key a))
 

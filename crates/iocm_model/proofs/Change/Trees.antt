@@ -10,7 +10,7 @@ use Rattle.iocm_model.specs.Change.Refusal.{refusal_of}
 use Rattle.iocm_model.specs.Change.Runs.{state_after_all, AreAccepted, inverses}
 use Rattle.iocm_model.specs.Change.Tree.{ChangeTree, Parts, leaf, row, group, choose, none, part, or_one, leaves_of, leaves_in, depth_of, depth_in, nodes_of, most_depth, most_leaves}
 use Rattle.iocm_model.specs.Change.Meaning.{Performed, Outcome, unless_refused, after_run, and_then, or_else, unless_broken, if_rules_hold, without_parts, node_meaning, parts_meaning, choice_meaning, meaning, state_reached}
-use Rattle.iocm_model.specs.Laws.Trees.{AcceptedTreesAreRuns, InverseTreesTakeBack}
+use Rattle.iocm_model.specs.Laws.Trees.{KeepsTheRules, AcceptedTreesAreRuns, InverseTreesTakeBack}
 use Rattle.iocm_model.specs.Change.Inverse.{inverse_of}
 use Rattle.iocm_model.specs.Change.InverseTree.{parts_of, inverse_tree}
 use Rattle.iocm_model.proofs.Change.RunsGoBack.{accepted_append, all_append, accepted_carry, inverses_accepted, run_back, run_goes_back}
@@ -152,25 +152,34 @@ one_or : (b : Bool) (k : ℕ) → k ≤ 4096 → cond b 1 k ≤ 4096
 one_or true k le = omega arith
 one_or false k le = le
 
-few_leaves : (k m : ℕ) → nat_lt most_leaves m ≡ false → k ≤ m → nat_lt most_leaves (or_one k) ≡ false
-few_leaves k m h le = let bound = at_most m h in not_over (or_one k) (one_or (nat_eq k 0) k (omega (arith, bound, le)))
-
 unless_nothing : (a b : Bool) (x y z : Outcome) → a ≡ false → b ≡ false → cond a x (cond b y z) ≡ z
 unless_nothing a b x y z p q = rw (p, q) refl
+
+-- an accepted tree performs no more edits than a tree may have leaves
+pub few_performed : (p : ChangeTree) (s : State) (w : Performed) → meaning p s ≡ Ok w → length w.edits ≤ most_leaves
+few_performed p s w h =
+    let within = meaning_within p s w h in
+    let bound = at_most (leaves_of p) within.leaves in
+    let few = within.run.few in omega (arith, bound, few)
+
+-- where the inverses of so many edits are accepted and the rules hold after them, the inverse tree means what they do
+pub inverse_tree_means : (es : List Edit) (s u : State) → length es ≤ most_leaves → AreAccepted (inverses es s) u
+    → KeepsTheRules (state_after_all (inverses es s) u) → state_reached (meaning (inverse_tree es s) u) ≡ Some (state_after_all (inverses es s) u)
+inverse_tree_means es s u few accepted rules =
+    let t = inverse_tree es s in
+    let deep : nat_lt most_depth (depth_of t) ≡ false = let d = parts_depth (inverses es s) in grind arith in
+    let many : nat_lt most_leaves (leaves_of t) ≡ false = not_over (leaves_of t) (one_or (nat_eq (leaves_in (parts_of (inverses es s))) 0) (leaves_in (parts_of (inverses es s)))
+    (let k = parts_leaves (inverses es s) in let l = inverses_length es s in omega (arith, few, k, l))) in
+    let there = parts_mean (inverses es s) 1 u accepted in
+    ap state_reached (unless_nothing _ _ _ _ _ deep many ∙ ap (if_rules_hold 0) there
+    ∙ ap (λ b. unless_broken b 0 (record { state = state_after_all (inverses es s) u; edits = inverses es s })) rules)
 
 pub inverse_trees_take_back : InverseTreesTakeBack
 inverse_trees_take_back p s w sound kept h u like quiet =
     let within = meaning_within p s w h in
-    let es = w.edits in let t = inverse_tree es s in
+    let es = w.edits in
     let free = accepted_carry es s within.run.accepted in
-    let back = run_goes_back es s u sound free like in
     let accepted = inverses_accepted es s u sound within.run.accepted like quiet in
-    let deep : nat_lt most_depth (depth_of t) ≡ false = let d = parts_depth (inverses es s) in grind arith in
-    let many : nat_lt most_leaves (leaves_of t) ≡ false = few_leaves (leaves_in (parts_of (inverses es s))) (leaves_of p) within.leaves
-    (let f = within.run.few in let k = parts_leaves (inverses es s) in let l = inverses_length es s in omega (arith, f, k, l)) in
-    let there : parts_meaning (parts_of (inverses es s)) 1 u ≡ Ok (record { state = state_after_all (inverses es s) u; edits = inverses es s }) = parts_mean (inverses es s) 1 u accepted in
-    let rules : first_breach (state_after_all (inverses es s) u).config (state_after_all (inverses es s) u).numbers ≡ None =
+    let rules : KeepsTheRules (state_after_all (inverses es s) u) =
     ap (λ (z : State). first_breach z.config z.numbers) (run_back es s u sound free like) ∙ kept in
-    ap state_reached (unless_nothing _ _ _ _ _ deep many ∙ ap (if_rules_hold 0) there
-    ∙ ap (λ b. unless_broken b 0 (record { state = state_after_all (inverses es s) u; edits = inverses es s })) rules)
-    ∙ ap Some back
+    inverse_tree_means es s u (few_performed p s w h) accepted rules ∙ ap Some (run_goes_back es s u sound free like)

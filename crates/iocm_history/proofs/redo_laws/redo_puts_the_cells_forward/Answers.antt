@@ -1,0 +1,6 @@
+-- The law is proved of the definitions.
+use Rattle.iocm_history.proofs.Redoing as proof
+use Rattle.iocm_history.proofs.redo_laws.redo_puts_the_cells_forward.Goals as goal
+
+pub returns : goal.returns
+returns c = proof.redo_puts_the_cells_forward

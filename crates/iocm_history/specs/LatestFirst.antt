@@ -1,0 +1,41 @@
+-- Histories in which each undo is of the latest standing change: there every step that counts may be decided anew.
+use Rattle.std.specs.Prelude.{◌≡◌, ℕ, List, [], ◌∷◌, Some}
+use Rattle.iocm_types.specs.declared.answer.Answer.TheVariants.{Undone}
+use Rattle.iocm_model.specs.Operation.State.{State}
+use Rattle.iocm_model.specs.Operation.Step.{after_step}
+use Rattle.iocm_model.specs.Change.Effect.{with_effect}
+use Rattle.iocm_history.specs.Entry.{History}
+use Rattle.iocm_history.specs.Change.{effect_of_change}
+use Rattle.iocm_history.specs.MarkedEntry.{Act, step, change, undoing, nothing, Mark, kept, MarkedEntry}
+use Rattle.iocm_history.specs.Account.{marked_entries, state_at}
+use Rattle.iocm_history.specs.StandsOn.{greatest}
+use Rattle.iocm_history.specs.Journal.{journal_of}
+use Rattle.iocm_history.specs.Legal.{IsLegal}
+use Rattle.iocm_history.specs.InUse.{IsInUse}
+
+-- what an act does to a state if it is decided there: a step steps, a change writes its cells
+abbrev pub done_anew : Act → State → State
+done_anew (step x made l) s = after_step x made s
+done_anew (change n c) s = with_effect (effect_of_change c) s
+done_anew (undoing n) s = s
+done_anew nothing s = s
+
+-- unless it is struck
+abbrev pub done_anew_if_kept : Mark → Act → State → State
+done_anew_if_kept kept a s = done_anew a s
+done_anew_if_kept _ a s = s
+
+-- marked entries, the latest first, each decided anew in the state that the older ones leave
+abbrev pub replay_anew : State → List MarkedEntry → State
+replay_anew s [] = s
+replay_anew s (l ∷ ls) = done_anew_if_kept l.mark l.act (replay_anew s ls)
+
+-- each accepted undo is of the latest change that stands
+abbrev pub UndoesTheLatest : History → Type 0
+UndoesTheLatest [] = Unit {0}
+UndoesTheLatest (e ∷ h) = ((n : ℕ) → e.answer ≡ Undone n → greatest (journal_of h).standing ≡ Some n) × UndoesTheLatest h
+
+-- then the state is that of the entries decided anew
+abbrev pub StepsMayBeDecidedAnew : Type 0
+StepsMayBeDecidedAnew = (opening : State) (h : History) → IsInUse opening → IsLegal opening h → UndoesTheLatest h
+    → state_at opening h ≡ replay_anew opening (marked_entries opening h)

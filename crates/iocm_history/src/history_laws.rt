@@ -1,0 +1,34 @@
+ghost use Rattle.iocm_history.specs.HistoryLaws.{
+  RunsAreLegal,
+  StatesStayInUse,
+  StepsStep,
+  ActivationsDoWhatTheyMean,
+  OtherCallsLeaveTheState,
+};
+
+/// Runs of calls are legal histories.
+pub fn runs_are_legal()
+    ensures { RunsAreLegal }
+{}
+
+/// From a state in use, one that is sound and in which the rules hold, every legal history leads to one, also while a change
+/// is staged.
+pub fn states_stay_in_use()
+    ensures { StatesStayInUse }
+{}
+
+/// An order or a device end that is not held is done in the state now.
+pub fn steps_step()
+    ensures { StepsStep }
+{}
+
+/// An accepted activation leaves what its change tree means in the state now.
+pub fn activations_do_what_they_mean()
+    ensures { ActivationsDoWhatTheyMean }
+{}
+
+/// Every call that is refused or held leaves the state, and so do those that begin, advance or abort a change in stages, and
+/// the call that shows counts.
+pub fn other_calls_leave_the_state()
+    ensures { OtherCallsLeaveTheState }
+{}
