@@ -1,5 +1,6 @@
 pub mod Hexadecimal
 pub mod Line
+pub mod Opened
 pub mod Printing
 pub mod Rows
 pub mod Showing

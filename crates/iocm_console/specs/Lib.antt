@@ -1,5 +1,7 @@
+pub mod Check
 pub mod Lines
+pub mod Opening
 pub mod Output
 pub mod Refusal
-pub mod Status
 pub mod Show
+pub mod Status

@@ -4,7 +4,9 @@ use Rattle.std.specs.Fmt.{digits}
 use Rattle.iocm_types.specs.declared.fault.Fault.{Fault}
 use Rattle.iocm_types.specs.declared.rule.Rule.{Rule}
 use Rattle.iocm_types.specs.declared.rule.Rule.TheVariants.{M1}
+use Rattle.iocm_types.specs.Key.{key_text}
 use Rattle.iocm_types.specs.Rule.{rule_text}
+use Rattle.iocm_model.specs.Rules.FirstBreach.{Breach}
 
 -- want of memory, which stands at no line
 abbrev pub is_memory : Rule → Bool
@@ -22,3 +24,11 @@ refusal_text fault = codes "refused " ++ (rule_text fault.rule ++ place_text fau
 -- the line of a refusal, with its end
 abbrev pub refusal_line : Fault → List ℕ
 refusal_line fault = refusal_text fault ++ 10 ∷ []
+
+-- a breach: the number of the rule, and the key of the record that breaks it
+abbrev pub breach_text : Breach → List ℕ
+breach_text b = codes "refused " ++ (rule_text b.rule ++ (codes " " ++ key_text b.key))
+
+-- its line, with its end
+abbrev pub breach_line : Breach → List ℕ
+breach_line b = breach_text b ++ 10 ∷ []

@@ -2,10 +2,12 @@ ghost use Rattle.std.specs.Prelude.{◌≡◌, false, ◌++◌, ◌∷◌, [], I
 ghost use Rattle.std.specs.Io.KnownBytes.{Keeps};
 ghost use Rattle.iocm_model.specs.Machine.Table.{line_of, heading};
 ghost use Rattle.iocm_console.specs.Output.{writer_of, has_failed, Prints, FailedToWrite};
-ghost use Rattle.iocm_console.specs.Refusal.{refusal_line};
+ghost use Rattle.iocm_console.specs.Check.{accepted_text};
+ghost use Rattle.iocm_console.specs.Refusal.{refusal_line, breach_line};
 
 use crate::row::{write_heading, write_row};
-use crate::{ConsoleError, Refusal};
+use crate::{BreachRefusal, ConsoleError, Refusal};
+use iocm_rules::Breach;
 use iocm_types::{Fault, SubId, View};
 use std::io;
 use std::io::Write;
@@ -83,6 +85,27 @@ impl<W: Write> Output<W> {
     {
         let refusal = Refusal(fault);
         let written = writeln!(self.writer, "{refusal}");
+        self.note(written)
+    }
+
+    /// Writes that a configuration breaks a rule. Can't answer want of memory.
+    pub(crate) fn breach(&mut self, breach: Breach) -> Result<(), ConsoleError>
+        ensures text { OnOk result (Prints W.contents self.old self.new (breach_line breach)) }
+        ensures works { OnOk result (has_failed self.new ≡ has_failed self.old) }
+        ensures fault { IfErr result (FailedToWrite self.new) }
+    {
+        let refusal = BreachRefusal(breach);
+        let written = writeln!(self.writer, "{refusal}");
+        self.note(written)
+    }
+
+    /// Writes that a configuration of so many records is accepted. Can't answer want of memory.
+    pub(crate) fn accepted(&mut self, count: usize) -> Result<(), ConsoleError>
+        ensures text { OnOk result (Prints W.contents self.old self.new (accepted_text count ++ 10 ∷ [])) }
+        ensures works { OnOk result (has_failed self.new ≡ has_failed self.old) }
+        ensures fault { IfErr result (FailedToWrite self.new) }
+    {
+        let written = writeln!(self.writer, "accepted {count}");
         self.note(written)
     }
 

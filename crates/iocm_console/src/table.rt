@@ -2,10 +2,11 @@ ghost use Rattle.std.specs.Prelude.{◌≡◌, [], ◌∷◌, OnOk, IfOk, IfErr}
 ghost use Rattle.iocm_model.specs.Machine.Configuration.{lookup_of, records_of};
 ghost use Rattle.iocm_console.specs.Lines.{celled, image_lines, record_lines, image_record};
 ghost use Rattle.iocm_console.specs.Output.{has_failed, Prints, FailedToWrite};
-ghost use Rattle.iocm_console.specs.Show.{table_at, table_done, Says, SaysIfMemory};
+ghost use Rattle.iocm_console.specs.Opening.{Says, SaysIfMemory};
+ghost use Rattle.iocm_console.specs.Show.{table_at, table_done};
 
 use crate::cells::{CellDevice, gather_cells};
-use crate::show::refuse;
+use crate::opening::refuse;
 use crate::{ConsoleError, Output, Status};
 use iocm_config::Config;
 use iocm_derive::ImageSight;

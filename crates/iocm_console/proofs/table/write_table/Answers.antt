@@ -1,7 +1,8 @@
 use Rattle.std.proofs.Common.{List, ℕ, ap, ◌∙◌}
 use Rattle.iocm_console.specs.declared.status.Status.TheVariants.{Done}
 use Rattle.iocm_console.specs.Lines.{celled}
-use Rattle.iocm_console.specs.Show.{Shown, table_at, table_done}
+use Rattle.iocm_console.specs.Opening.{Shown}
+use Rattle.iocm_console.specs.Show.{table_at, table_done}
 use Rattle.iocm_console.proofs.Rows.{table_lines}
 use Rattle.iocm_console.proofs.Showing.{says_as, says_memory}
 use Rattle.iocm_console.proofs.table.write_table.Goals as goal

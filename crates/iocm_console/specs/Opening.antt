@@ -1,0 +1,55 @@
+-- A deck that is opened: what it describes is a configuration that keeps the rules, or it is refused.
+use Rattle.std.specs.Prelude.{◌≡◌, ◌⊎◌, ℕ, List, ◌∷◌, [], ◌++◌, codes, Option, None, Some, Result, Ok, Err}
+use Rattle.iocm_types.specs.declared.fault.Fault.{Fault}
+use Rattle.iocm_types.specs.Fault.{◌>>=◌, memory}
+use Rattle.iocm_types.specs.Key.{key_text}
+use Rattle.iocm_types.specs.Rule.{rule_text}
+use Rattle.iocm_columns.specs.declared.card.Card.{Card}
+use Rattle.iocm_columns.specs.Statements.{statements_of}
+use Rattle.iocm_statements.specs.Statement.{parsed}
+use Rattle.iocm_records.specs.Deck.{deck_records}
+use Rattle.iocm_model.specs.Machine.Configuration.{Configuration, configuration_of}
+use Rattle.iocm_model.specs.Machine.Numbering.{Numbering, opening}
+use Rattle.iocm_model.specs.Rules.FirstBreach.{Breach, first_breach}
+use Rattle.iocm_console.specs.declared.status.Status.{Status}
+use Rattle.iocm_console.specs.declared.status.Status.TheVariants.{Refused}
+use Rattle.iocm_console.specs.declared.output.Output.{Output}
+use Rattle.iocm_console.specs.Output.{Prints}
+use Rattle.iocm_console.specs.Refusal.{refusal_line, breach_line}
+
+-- what a command prints, and how it ends
+pub record Shown : Type 0 where
+  pub text : List ℕ
+  pub status : Status
+
+-- the configuration of the lines of a deck, or the first fault: of the records, of the operands, of the statements
+abbrev pub configuration_in : List Card → Result Configuration Fault
+configuration_in cards = statements_of cards >>= parsed >>= deck_records >>= λ records. Ok (configuration_of records)
+
+-- a refusal, on a line of its own; of a configuration, by the rule that it breaks first
+abbrev pub refused : Fault → Shown
+refused fault = record { text = refusal_line fault; status = Refused }
+
+abbrev pub breached : Breach → Shown
+breached b = record { text = breach_line b; status = Refused }
+
+abbrev pub unless_breached : Option Breach → Shown → Shown
+unless_breached (Some b) shown = breached b
+unless_breached None shown = shown
+
+-- what is shown of a configuration as it is opened, if it keeps the rules
+abbrev pub opened : (Configuration → Numbering → Shown) → Configuration → Shown
+opened show c = unless_breached (first_breach c (opening c)) (show c (opening c))
+
+-- what is shown of a configuration that is read, or the refusal
+abbrev pub opened_or_refused : (Configuration → Numbering → Shown) → Result Configuration Fault → Shown
+opened_or_refused show (Ok c) = opened show c
+opened_or_refused show (Err fault) = refused fault
+
+-- a command printed this, and ended so
+abbrev pub Says : {W : Type 0} → (W → Option (List ℕ)) → Output W → Output W → Shown → Status → Type 0
+Says contents old new what status = Prints contents old new what.text × (status ≡ what.status)
+
+-- so it did, or it printed only that memory is wanted
+abbrev pub SaysIfMemory : {W : Type 0} → (W → Option (List ℕ)) → Output W → Output W → Shown → Status → Type 0
+SaysIfMemory contents old new what status = Says contents old new what status ⊎ Says contents old new (refused memory) status

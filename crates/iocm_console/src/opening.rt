@@ -1,0 +1,94 @@
+ghost use Rattle.std.specs.Prelude.{◌≡◌, ◌≢◌, true, Err, IfOk, IfErr, OnOk};
+ghost use Rattle.iocm_types.specs.Fault.{Gives};
+ghost use Rattle.iocm_model.specs.Machine.Numbering as model;
+ghost use Rattle.iocm_model.specs.Rules.FirstBreach.{first_breach};
+ghost use Rattle.iocm_columns.specs.Device.{unreadable};
+ghost use Rattle.iocm_console.specs.Output.{has_failed, FailedToWrite};
+ghost use Rattle.iocm_console.specs.Opening.{configuration_in, refused, breached, Says};
+
+use crate::{ConsoleError, Output, Status};
+use iocm_columns::{Card, join};
+use iocm_config::Config;
+use iocm_numbers::{Numbers, opening};
+use iocm_records::from_statements;
+use iocm_rules::{Breach, check, index_of};
+use iocm_statements::parse;
+use iocm_types::{Fault, Rule};
+use std::alloc::{AllocError, Global};
+use std::io::Write;
+
+/// A deck that cannot be read to its end.
+const UNREADABLE: Fault = Fault {
+    rule: Rule::L5,
+    line: 0,
+};
+
+/// The configuration of a deck, and the numbers that its devices have at opening.
+#[derive(Drop)]
+pub struct Opened {
+    /// The configuration.
+    pub config: Config,
+    /// The numbers of its devices.
+    pub numbers: Numbers,
+}
+
+/// The configuration of the lines of a deck with its numbers at opening, or its first fault.
+pub fn open_cards(alloc: Global, cards: &[Card]) -> Result<Opened, Fault>
+    ensures configuration { Gives (λ o. o.config.records) result (configuration_in cards.now) }
+    ensures numbers { IfOk result (λ o. o.numbers.numbers ≡ model.opening o.config.records) }
+{
+    let joined = join(alloc, cards)?;
+    let statements = parse(alloc, &joined)?;
+    let records = from_statements(alloc, &statements)?;
+    let config = Config::from_records(alloc, records)?;
+    let numbers = opening(alloc, &config)?;
+    Ok(Opened { config, numbers })
+}
+
+/// The first breach of the rules, if there is one. Answers the want of memory alone.
+pub fn breach_of(alloc: Global, opened: &Opened) -> Result<Option<Breach>, AllocError>
+    ensures { IfOk result (λ breach. breach ≡ first_breach opened.now.config.records opened.now.numbers.numbers) }
+{
+    let index = index_of(alloc, &opened.config)?;
+    Ok(check(&opened.config, &opened.numbers, &index).err())
+}
+
+/// Answers where the lines of a deck are not there: it cannot be read, or a line is refused.
+pub fn answer_unread<W: Write>(fault: Fault, output: &mut Output<W>) -> Result<Status, ConsoleError>
+    ensures text { IfOk result (Says W.contents output.old output.new (refused fault)) }
+    ensures unreadable { result ≡ Err ConsoleError.Read → fault ≡ unreadable }
+    ensures untouched { result ≡ Err ConsoleError.Read → output.new ≡ output.old }
+    ensures readable { OnOk result (fault ≢ unreadable) }
+    ensures works { OnOk result (has_failed output.new ≡ has_failed output.old) }
+    ensures unwritable { result ≡ Err ConsoleError.Write → has_failed output.new ≡ true }
+{
+    if fault == UNREADABLE {
+        return Err(ConsoleError::Read);
+    }
+    refuse(fault, output)
+}
+
+/// Prints a refusal. Can't answer want of memory.
+pub fn refuse<W: Write>(fault: Fault, output: &mut Output<W>) -> Result<Status, ConsoleError>
+    ensures text { IfOk result (Says W.contents output.old output.new (refused fault)) }
+    ensures works { OnOk result (has_failed output.new ≡ has_failed output.old) }
+    ensures fault { IfErr result (FailedToWrite output.new) }
+{
+    output.refusal(fault)?;
+    output.flush()?;
+    Ok(Status::Refused)
+}
+
+/// Prints that a configuration breaks a rule. Can't answer want of memory.
+pub fn refuse_breach<W: Write>(
+    breach: Breach,
+    output: &mut Output<W>,
+) -> Result<Status, ConsoleError>
+    ensures text { IfOk result (Says W.contents output.old output.new (breached breach)) }
+    ensures works { OnOk result (has_failed output.new ≡ has_failed output.old) }
+    ensures fault { IfErr result (FailedToWrite output.new) }
+{
+    output.breach(breach)?;
+    output.flush()?;
+    Ok(Status::Refused)
+}
