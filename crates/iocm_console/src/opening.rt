@@ -9,9 +9,10 @@ ghost use Rattle.iocm_console.specs.Opening.{configuration_in, refused, breached
 use crate::{ConsoleError, Output, Status};
 use iocm_columns::{Card, join};
 use iocm_config::Config;
+use iocm_lookup::index_of;
 use iocm_numbers::{Numbers, opening};
 use iocm_records::from_statements;
-use iocm_rules::{Breach, check, index_of};
+use iocm_rules::{Breach, check};
 use iocm_statements::parse;
 use iocm_types::{Fault, Rule};
 use std::alloc::{AllocError, Global};

@@ -1,10 +1,10 @@
 -- The first breach of some rules, by what the first of them answers.
-use Rattle.std.proofs.Common.{◌≡◌, Bool, Option, None, Some, List, [], ◌∷◌, refl, sym, ap, ◌∙◌}
+use Rattle.std.proofs.Common.{◌≡◌, Bool, Option, None, Some, List, [], ◌∷◌, refl, sym, ap}
 use Rattle.std.specs.Option.{option_map}
 use Rattle.iocm_types.specs.declared.rule.Rule.{Rule}
 use Rattle.iocm_types.specs.declared.key.Key.{Key}
 use Rattle.iocm_model.specs.Machine.Record.{Rec, key_of}
-use Rattle.iocm_model.specs.Rules.FirstBreach.{Breach, first_record, first_breach_of, breach_or}
+use Rattle.iocm_model.specs.Rules.FirstBreach.{first_record, first_breach_of, breach_or}
 
 module _ (rule : Rule) (breaks : Rec → Bool) (rules : List (Rule × (Rec → Bool))) (records : List Rec) where
   here_by : (o : Option Rec) (key : Key) → option_map key_of o ≡ Some key → breach_or rule o (first_breach_of rules records) ≡ Some (record { rule = rule; key = key })
@@ -31,11 +31,3 @@ pub breach_none : (rule : Rule) (breaks : Rec → Bool) (records : List Rec) →
     → None ≡ first_breach_of ((rule, breaks) ∷ []) records
 unfolding first_breach_of
 breach_none rule breaks records is = sym (later_by rule breaks [] records (first_record breaks records) is)
-
--- no record that breaks a rule, by its key
-pub none_first : (breaks : Rec → Bool) (records : List Rec) → option_map key_of (first_record breaks records) ≡ None → first_record breaks records ≡ None
-none_first breaks records is = by (first_record breaks records) is
-  where
-    by : (o : Option Rec) → option_map key_of o ≡ None → o ≡ None
-    by (Some r) is = cc
-    by None is = refl

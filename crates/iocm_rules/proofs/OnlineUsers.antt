@@ -1,27 +1,23 @@
 -- The online records of a path are among those that name it.
-use Rattle.std.proofs.Common.{◌≡◌, ℕ, Bool, true, false, ◌&&◌, ◌||◌, nat_eq, List, [], ◌∷◌, map, ◌++◌, Option, Some, refl, sym, ap, ◌∙◌, arith}
+use Rattle.std.proofs.Common.{◌≡◌, ℕ, Bool, true, false, ◌&&◌, ◌||◌, nat_eq, List, Some, refl, sym, ap}
 use Rattle.std.proofs.lemmas.Bool.{eq-eqb, false≢true}
-use Rattle.std.proofs.lemmas.Bool.Decides.{nat_tests}
 use Rattle.std.specs.List.{list_any}
-use Rattle.std.specs.Ordering.{is_lt, eq_by_cmp}
-use Rattle.std.specs.FinMap.{get}
+use Rattle.std.specs.Ordering.{eq_by_cmp}
 use Rattle.iocm_types.specs.declared.key.Key.{Key}
 use Rattle.iocm_types.specs.declared.key.Key.TheVariants as key
 use Rattle.iocm_types.specs.declared.named.Named.{Named}
 use Rattle.iocm_types.specs.declared.named.Named.TheVariants as thing
 use Rattle.iocm_types.specs.declared.naming.Naming.{Naming}
-use Rattle.iocm_types.specs.Key.{key_cmp}
 use Rattle.iocm_types.specs.KeyOrder.{named_exact}
 use Rattle.iocm_types.specs.Naming.{named_cmp}
-use Rattle.iocm_types.proofs.Found.{same_key, ties_itself}
+use Rattle.iocm_types.proofs.Found.{same_key}
 use Rattle.iocm_table.specs.Slots.{Stored}
-use Rattle.iocm_index.proofs.Front.{named_total}
 use Rattle.iocm_model.specs.Machine.Record.{Rec, OnlineRecord, id, resource, image, limit, path, unit, device, online, key_of}
-use Rattle.iocm_model.specs.Machine.Configuration.{Configuration, IsKeyed, records_of}
+use Rattle.iocm_model.specs.Machine.Configuration.{Configuration, IsKeyed}
 use Rattle.iocm_model.specs.Rules.EachRule.{stands_before, some_before, is_online_at}
-use Rattle.iocm_rules.specs.Indexed.{names, IsIndexOf}
+use Rattle.iocm_lookup.specs.Indexed.{names, IsIndexOf}
+use Rattle.iocm_lookup.proofs.Members.{own_path, same_tests, record_found, record_there, user_found, user_there, AreUsersOf}
 use Rattle.iocm_rules.specs.Onlines.{is_online_before}
-use Rattle.iocm_rules.proofs.Members.{same_tests, record_found, record_there, user_found, user_there, AreUsersOf}
 
 path_css : Named → ℕ
 path_css (thing.Record (key.Path css number)) = css
@@ -38,13 +34,6 @@ same_paths a b c d e =
     let css : c ≡ a = sym (ap path_css same) in
     let number : d ≡ b = sym (ap path_number same) in
     (λ i. eq-eqb c a css i && eq-eqb d b number i)
-
--- paths with the same numbers are one
-pub own_path : (a b c d : ℕ) → (nat_eq c a && nat_eq d b) ≡ true → eq_by_cmp named_cmp (thing.Record (key.Path a b)) (thing.Record (key.Path c d)) ≡ true
-own_path a b c d e =
-    let css : c ≡ a = grind (arith, nat_tests) in
-    let number : d ≡ b = grind (arith, nat_tests) in
-    (λ i. eq_by_cmp named_cmp (thing.Record (key.Path a b)) (thing.Record (key.Path (css i) (number i)))) ∙ ties_itself named_cmp named_total (thing.Record (key.Path a b))
 
 or_false : (a : Bool) → (a || false) ≡ true → a ≡ true
 or_false true h = refl

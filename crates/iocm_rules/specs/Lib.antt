@@ -1,10 +1,3 @@
-pub mod Addresses
 pub mod Check
-pub mod Images
-pub mod Indexed
-pub mod Joining
-pub mod Kinds
-pub mod OfKind
+pub mod ImageNames
 pub mod Onlines
-pub mod Past
-pub mod Sharing

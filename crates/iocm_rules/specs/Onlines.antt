@@ -1,5 +1,5 @@
 -- Online records that are looked for among the users of a path.
-use Rattle.std.specs.Prelude.{ℕ, ◌&&◌, Bool, true, false}
+use Rattle.std.specs.Prelude.{◌&&◌, Bool, true, false}
 use Rattle.std.specs.Ordering.{is_lt}
 use Rattle.iocm_types.specs.declared.key.Key.{Key}
 use Rattle.iocm_types.specs.declared.key.Key.TheVariants.{Online}

@@ -3,25 +3,23 @@ ghost use Rattle.std.specs.Result.{result_err};
 ghost use Rattle.iocm_model.specs.Machine.Configuration.{records_of};
 ghost use Rattle.iocm_model.specs.Rules.EachRule.{breaks_v8};
 ghost use Rattle.iocm_model.specs.Rules.FirstBreach.{first_record, first_breach, first_breach_of};
+ghost use Rattle.iocm_lookup.specs.Indexed.{IsIndexOf};
 ghost use Rattle.iocm_rules.specs.Check as laws;
-ghost use Rattle.iocm_rules.specs.Indexed.{IsIndexOf};
 
 use crate::Breach;
-use crate::addresses::first_address_twice;
-use crate::devices::{AddressNotHeld, CandidateOfNoImage, WrongUnits};
-use crate::images::NameTwice;
-use crate::joined::WrongPathList;
-use crate::limits::first_past_limit;
+use crate::image_names::NameTwice;
 use crate::names::{NameOfNoImage, TooManyNames};
 use crate::online::WrongOnline;
-use crate::ranges::WrongRanges;
-use crate::sharing::SharedAddress;
-use crate::units::{WrongLinks, WrongPaths};
-use crate::wanted::first_wanted;
 use iocm_config::Config;
+use iocm_device_rules::{
+    AddressNotHeld, CandidateOfNoImage, WrongPathList, WrongUnits, first_address_twice,
+    first_past_limit,
+};
 use iocm_index::Index;
+use iocm_lookup::first_wanted;
 use iocm_numbers::Numbers;
 use iocm_types::Rule;
+use iocm_unit_rules::{SharedAddress, WrongLinks, WrongPaths, WrongRanges};
 use std::alloc::Allocator;
 
 /// The first breach of the rules V1 to V14: by rule, then by key. The index is that of the configuration. It takes no memory,

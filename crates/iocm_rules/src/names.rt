@@ -2,10 +2,8 @@ ghost use Rattle.std.specs.Prelude.{◌≡◌, not, ◌||◌, ◌++◌};
 ghost use Rattle.std.specs.List.{list_any};
 ghost use Rattle.iocm_model.specs.Rules.EachRule as model;
 
-use crate::images::is_image_in;
-use crate::kind::Kind;
-use crate::wanted::Wanted;
 use iocm_config::Config;
+use iocm_lookup::{Kind, Wanted, is_image_in};
 use iocm_records::{Record, RecordBody};
 use iocm_types::{Css, Name, PathKind};
 use std::alloc::Allocator;
@@ -17,7 +15,7 @@ pub struct NameOfNoImage;
 impl<A: Allocator> Wanted<A> for NameOfNoImage {
     ghost use Rattle.std.specs.Prelude.{refl};
     ghost use Rattle.iocm_model.specs.Rules.EachRule.{breaks_v2};
-    ghost use Rattle.iocm_rules.specs.OfKind.{only_paths};
+    ghost use Rattle.iocm_lookup.specs.OfKind.{only_paths};
 
     ghost wants = { λ s c r. breaks_v2 c r };
 
@@ -77,7 +75,7 @@ pub struct TooManyNames;
 impl<A: Allocator> Wanted<A> for TooManyNames {
     ghost use Rattle.std.specs.Prelude.{refl};
     ghost use Rattle.iocm_model.specs.Rules.EachRule.{breaks_v3};
-    ghost use Rattle.iocm_rules.specs.OfKind.{only_paths};
+    ghost use Rattle.iocm_lookup.specs.OfKind.{only_paths};
 
     ghost wants = { λ s c r. breaks_v3 c r };
 

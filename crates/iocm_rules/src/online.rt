@@ -8,13 +8,12 @@ ghost use Rattle.iocm_index.specs.Namings.{users_in};
 ghost use Rattle.iocm_model.specs.Machine.Record.{online};
 ghost use Rattle.iocm_model.specs.Machine.Sight as sight;
 ghost use Rattle.iocm_model.specs.Rules.EachRule as model;
-ghost use Rattle.iocm_rules.specs.Indexed.{IsIndexOf};
+ghost use Rattle.iocm_lookup.specs.Indexed.{IsIndexOf};
 ghost use Rattle.iocm_rules.specs.Onlines as onlines;
 
-use crate::kind::Kind;
-use crate::wanted::Wanted;
 use iocm_config::Config;
 use iocm_index::Index;
+use iocm_lookup::{Kind, Wanted};
 use iocm_records::{PathFields, Record, RecordBody};
 use iocm_types::{Chpid, Css, Key, Name, Named, PathKind};
 use std::alloc::Allocator;
@@ -29,8 +28,8 @@ pub struct WrongOnline<'a, I: Allocator> {
 impl<'a, A: Allocator, I: Allocator> Wanted<A> for WrongOnline<'a, I> {
     ghost use Rattle.std.specs.Prelude.{refl};
     ghost use Rattle.iocm_model.specs.Rules.EachRule.{breaks_v4};
-    ghost use Rattle.iocm_rules.specs.Indexed.{IsIndexOf};
-    ghost use Rattle.iocm_rules.specs.OfKind.{only_online};
+    ghost use Rattle.iocm_lookup.specs.Indexed.{IsIndexOf};
+    ghost use Rattle.iocm_lookup.specs.OfKind.{only_online};
 
     ghost wants = { λ s c r. breaks_v4 c r };
 

@@ -1,7 +1,8 @@
 ghost use Rattle.std.specs.Prelude.{◌<◌};
 
-use crate::{Breach, check, index_of};
+use crate::{Breach, check};
 use iocm_config::Config;
+use iocm_lookup::index_of;
 use iocm_numbers::opening;
 use iocm_records::{DeviceFields, PathFields, Record, RecordBody, UnitFields};
 use iocm_types::{

@@ -3,7 +3,7 @@ use Rattle.iocm_types.specs.declared.rule.Rule.TheVariants.{V8}
 use Rattle.iocm_model.specs.Machine.Configuration.{records_of}
 use Rattle.iocm_model.specs.Rules.EachRule.{breaks_v8}
 use Rattle.iocm_rules.specs.Check.{from_v9}
-use Rattle.iocm_rules.proofs.FirstBreaches.{breach_here, breach_later, none_first}
+use Rattle.iocm_rules.proofs.FirstBreaches.{breach_here, breach_later}
 use Rattle.iocm_rules.proofs.first_breach.from_v8.Goals as goal
 
 pub returns-in-Some : goal.returns-in-Some

@@ -2,8 +2,8 @@
 use Rattle.std.proofs.Common.{sym, ap, ◌∙◌}
 use Rattle.std.specs.List.{list_any}
 use Rattle.iocm_types.specs.declared.key.Key.TheVariants.{Online}
+use Rattle.iocm_lookup.proofs.UserWalks.{any_more, any_here, any_none}
 use Rattle.iocm_rules.specs.Onlines.{is_online_before}
-use Rattle.iocm_rules.proofs.UserWalks.{any_more, any_here, any_none}
 use Rattle.iocm_rules.proofs.online.is_online_before.Goals as goal
 
 pub loop-user-init : goal.loop-user-init

@@ -1,0 +1,275 @@
+-- Of keys in order the first whose address was met or is that of a key before it, and the least of what records give.
+use Rattle.std.proofs.Common.{◌≡◌, ◌⊎◌, inl, inr, ℕ, zero, suc, Bool, true, false, cond, ◌||◌, nat_eq, Option, None, Some, List, [], ◌∷◌, get_or, replicate, refl, sym, ap, subst, ◌∙◌, arith}
+use Rattle.std.proofs.lemmas.Bool.{false≢true}
+use Rattle.std.proofs.lemmas.Bool.Decides.{nat_tests}
+use Rattle.std.specs.List.{list_any, AllByRecursion}
+use Rattle.std.specs.List.Sorted.{IsStrictlySortedBy}
+use Rattle.std.specs.Ordering.{is_lt, eq_by_cmp, ordering_reverse}
+use Rattle.std.specs.declared.cmp.Ordering.{Ordering}
+use Rattle.std.specs.declared.cmp.Ordering.TheVariants.{Less, Equal, Greater}
+use Rattle.std.specs.Cmp.{tied_itself}
+use Rattle.iocm_types.specs.declared.key.Key.{Key}
+use Rattle.iocm_types.specs.Key.{key_cmp}
+use Rattle.iocm_types.specs.KeyOrder.{keys_total, keys_exact}
+use Rattle.iocm_types.proofs.Found.{same_key, ties_itself}
+use Rattle.iocm_model.specs.Machine.Record.{Rec}
+use Rattle.iocm_lookup.proofs.Anys.{or_later}
+use Rattle.iocm_device_rules.specs.Addresses.{is_met, met_with, first_clash, lesser, least_of}
+
+-- nothing is met at first
+pub none_met : (n a : ℕ) → get_or (replicate n false) a false ≡ false
+none_met zero a = refl
+none_met (suc n) zero = refl
+none_met (suc n) (suc a) = none_met n a
+
+-- ---- keys in order
+
+not_itself : {P : Type 0} (k : Key) → key_cmp k k ≡ Less → P
+not_itself k less = let tie = tied_itself keys_total k in cc
+
+not_both : {P : Type 0} (k q : Key) → key_cmp k q ≡ Less → key_cmp q k ≡ Less → P
+not_both k q h g = let turned : Greater ≡ Less = sym (keys_total.antisymm k q ∙ ap ordering_reverse g) ∙ h in cc
+
+pub less_key : (r : Ordering) → is_lt r ≡ true → r ≡ Less
+less_key Less h = refl
+less_key Equal h = cc
+less_key Greater h = cc
+
+-- a key is not behind another
+abbrev pub IsNotBehind : Key → Key → Type 0
+IsNotBehind f k = is_lt (key_cmp k f) ≡ false
+
+-- what is less than all of some keys is less than each
+less_than_each : (k : Key) (qs : List Key) → AllByRecursion (λ q. key_cmp k q ≡ Less) qs → (q : Key) → list_any (eq_by_cmp key_cmp q) qs ≡ true → key_cmp k q ≡ Less
+less_than_each k [] all q there = cc
+less_than_each k (p ∷ qs) all q there = by (eq_by_cmp key_cmp q p) refl there (less_than_each k qs all.1 q)
+  where
+    by : (b : Bool) → eq_by_cmp key_cmp q p ≡ b → (b || list_any (eq_by_cmp key_cmp q) qs) ≡ true → (list_any (eq_by_cmp key_cmp q) qs ≡ true → key_cmp k q ≡ Less) → key_cmp k q ≡ Less
+    by true is h more = ap (key_cmp k) (same_key key_cmp keys_exact q p is) ∙ all.0
+    by false is h more = more h
+
+here : (k : Key) (ks : List Key) → list_any (eq_by_cmp key_cmp k) (k ∷ ks) ≡ true
+here k ks = ap (λ b. b || list_any (eq_by_cmp key_cmp k) ks) (ties_itself key_cmp keys_total k)
+
+-- ---- the first clash
+
+module _ (address : Key → Option ℕ) where
+  -- a key before another in a list, with this address
+  pub record IsBefore (ks : List Key) (k : Key) (at : ℕ) : Type 0 where
+    pub other : Key
+    pub there : list_any (eq_by_cmp key_cmp other) ks ≡ true
+    pub has : address other ≡ Some at
+    pub less : key_cmp other k ≡ Less
+
+  -- a key whose address was met or is that of a key before it
+  pub record IsClash (met : ℕ → Bool) (ks : List Key) (k : Key) : Type 0 where
+    pub there : list_any (eq_by_cmp key_cmp k) ks ≡ true
+    pub at : ℕ
+    pub has : address k ≡ Some at
+    pub before : (met at ≡ true) ⊎ IsBefore ks k at
+
+  at_once : (met : ℕ → Bool) (q k : Key) (qs : List Key) (o : Option ℕ) → address q ≡ o → is_met met o ≡ true → q ≡ k → IsClash met (q ∷ qs) k
+  at_once met q k qs None is m same = cc
+  at_once met q k qs (Some a) is m same = record {
+    there = ap (λ b. b || list_any (eq_by_cmp key_cmp k) qs) (ap (eq_by_cmp key_cmp k) same ∙ ties_itself key_cmp keys_total k);
+    at = a;
+    has = ap address (sym same) ∙ is;
+    before = inl m;
+  }
+
+  met_before : (met : ℕ → Bool) (q k : Key) (qs : List Key) (o : Option ℕ) → address q ≡ o → (at : ℕ) → AllByRecursion (λ p. key_cmp q p ≡ Less) qs
+      → list_any (eq_by_cmp key_cmp k) qs ≡ true → met_with o met at ≡ true → (met at ≡ true) ⊎ IsBefore (q ∷ qs) k at
+  met_before met q k qs None is at all there m = inl m
+  met_before met q k qs (Some a) is at all there m = by (nat_eq at a) refl m
+    where
+      by : (b : Bool) → nat_eq at a ≡ b → (b || met at) ≡ true → (met at ≡ true) ⊎ IsBefore (q ∷ qs) k at
+      by true e h = let same : a ≡ at = grind (arith, nat_tests) in
+          inr (record { other = q; there = here q qs; has = is ∙ ap Some same; less = less_than_each q qs all k there })
+      by false e h = inl h
+
+  later_clash : (met : ℕ → Bool) (q k : Key) (qs : List Key) → AllByRecursion (λ p. key_cmp q p ≡ Less) qs → IsClash (met_with (address q) met) qs k → IsClash met (q ∷ qs) k
+  later_clash met q k qs all c = record {
+    there = or_later (eq_by_cmp key_cmp k q) _ c.there;
+    at = c.at;
+    has = c.has;
+    before = by c.before;
+  }
+    where
+      by : (met_with (address q) met c.at ≡ true) ⊎ IsBefore qs k c.at → (met c.at ≡ true) ⊎ IsBefore (q ∷ qs) k c.at
+      by (inl m) = met_before met q k qs (address q) refl c.at all c.there m
+      by (inr b) = inr (record { other = b.other; there = or_later (eq_by_cmp key_cmp b.other q) _ b.there; has = b.has; less = b.less })
+
+  -- the first clash is one
+  pub first_is_clash : (met : ℕ → Bool) (ks : List Key) → IsStrictlySortedBy key_cmp ks → (k : Key) → first_clash address met ks ≡ Some k → IsClash met ks k
+  unfolding IsStrictlySortedBy
+  first_is_clash met [] up k is = cc
+  first_is_clash met (q ∷ qs) up k is = by (is_met met (address q)) refl is (first_is_clash (met_with (address q) met) qs up.1 k)
+    where
+      by : (b : Bool) → is_met met (address q) ≡ b → cond b (Some q) (first_clash address (met_with (address q) met) qs) ≡ Some k
+          → (first_clash address (met_with (address q) met) qs ≡ Some k → IsClash (met_with (address q) met) qs k) → IsClash met (q ∷ qs) k
+      by true m h more = let same : q ≡ k = cc in at_once met q k qs (address q) refl m same
+      by false m h more = later_clash met q k qs up.0 (more h)
+
+  -- the first clash, not behind a key
+  pub record IsFirstBy (met : ℕ → Bool) (ks : List Key) (k : Key) : Type 0 where
+    pub found : Key
+    pub is : first_clash address met ks ≡ Some found
+    pub not_behind : IsNotBehind found k
+
+  first_not_behind : (q k : Key) (qs : List Key) → AllByRecursion (λ p. key_cmp q p ≡ Less) qs → list_any (eq_by_cmp key_cmp k) (q ∷ qs) ≡ true → IsNotBehind q k
+  first_not_behind q k qs all there = by (eq_by_cmp key_cmp k q) refl there
+    where
+      by : (b : Bool) → eq_by_cmp key_cmp k q ≡ b → (b || list_any (eq_by_cmp key_cmp k) qs) ≡ true → is_lt (key_cmp k q) ≡ false
+      by true e h = ap (λ (p : Key). is_lt (key_cmp k p)) (sym (same_key key_cmp keys_exact k q e)) ∙ ap is_lt (tied_itself keys_total k)
+      by false e h = ap is_lt (keys_total.antisymm k q ∙ ap ordering_reverse (less_than_each q qs all k h))
+
+  met_still : (o : Option ℕ) (met : ℕ → Bool) (at : ℕ) → met at ≡ true → met_with o met at ≡ true
+  met_still None met at m = m
+  met_still (Some a) met at m = or_later (nat_eq at a) _ m
+
+  met_now : (o : Option ℕ) (met : ℕ → Bool) (at : ℕ) → o ≡ Some at → met_with o met at ≡ true
+  met_now None met at is = cc
+  met_now (Some a) met at is =
+      let same : a ≡ at = cc in
+      let e : nat_eq at a ≡ true = grind (arith, nat_tests) in
+      ap (λ b. b || met at) e
+
+  -- a clash behind a key whose address wasn't met
+  clash_behind : (met : ℕ → Bool) (q k : Key) (qs : List Key) → is_met met (address q) ≡ false → AllByRecursion (λ p. key_cmp q p ≡ Less) qs
+      → IsClash met (q ∷ qs) k → IsClash (met_with (address q) met) qs k
+  clash_behind met q k qs fresh all c = record {
+    there = there_by (eq_by_cmp key_cmp k q) refl c.there;
+    at = c.at;
+    has = c.has;
+    before = before_by c.before;
+  }
+    where
+      other_than : (b : IsBefore (q ∷ qs) k c.at) → k ≡ q → (e : Bool) → eq_by_cmp key_cmp b.other q ≡ e → (e || list_any (eq_by_cmp key_cmp b.other) qs) ≡ true → ⊥
+      other_than b same true e h = not_itself q (ap (λ (p : Key). key_cmp p q) (sym (same_key key_cmp keys_exact b.other q e)) ∙ ap (key_cmp b.other) (sym same) ∙ b.less)
+      other_than b same false e h = not_both q b.other (less_than_each q qs all b.other h) (ap (key_cmp b.other) (sym same) ∙ b.less)
+
+      not_first : k ≡ q → (met c.at ≡ true) ⊎ IsBefore (q ∷ qs) k c.at → ⊥
+      not_first same (inl m) = false≢true (sym fresh ∙ ap (is_met met) (ap address (sym same) ∙ c.has) ∙ m)
+      not_first same (inr b) = other_than b same (eq_by_cmp key_cmp b.other q) refl b.there
+
+      there_by : (e : Bool) → eq_by_cmp key_cmp k q ≡ e → (e || list_any (eq_by_cmp key_cmp k) qs) ≡ true → list_any (eq_by_cmp key_cmp k) qs ≡ true
+      there_by true e h = absurd (not_first (same_key key_cmp keys_exact k q e) c.before)
+      there_by false e h = h
+
+      other_by : (b : IsBefore (q ∷ qs) k c.at) → (e : Bool) → eq_by_cmp key_cmp b.other q ≡ e → (e || list_any (eq_by_cmp key_cmp b.other) qs) ≡ true
+          → (met_with (address q) met c.at ≡ true) ⊎ IsBefore qs k c.at
+      other_by b true e h = inl (met_now (address q) met c.at (ap address (sym (same_key key_cmp keys_exact b.other q e)) ∙ b.has))
+      other_by b false e h = inr (record { other = b.other; there = h; has = b.has; less = b.less })
+
+      before_by : (met c.at ≡ true) ⊎ IsBefore (q ∷ qs) k c.at → (met_with (address q) met c.at ≡ true) ⊎ IsBefore qs k c.at
+      before_by (inl m) = inl (met_still (address q) met c.at m)
+      before_by (inr b) = other_by b (eq_by_cmp key_cmp b.other q) refl b.there
+
+  -- where a key is a clash, the first is not behind it
+  pub clash_has_first : (met : ℕ → Bool) (ks : List Key) → IsStrictlySortedBy key_cmp ks → (k : Key) → IsClash met ks k → IsFirstBy met ks k
+  unfolding IsStrictlySortedBy
+  clash_has_first met [] up k c = absurd (false≢true c.there)
+  clash_has_first met (q ∷ qs) up k c = by (is_met met (address q)) refl (clash_has_first (met_with (address q) met) qs up.1 k)
+    where
+      by : (b : Bool) → is_met met (address q) ≡ b → (IsClash (met_with (address q) met) qs k → IsFirstBy (met_with (address q) met) qs k) → IsFirstBy met (q ∷ qs) k
+      by true m more = record {
+        found = q;
+        is = ap (λ b. cond b (Some q) (first_clash address (met_with (address q) met) qs)) m;
+        not_behind = first_not_behind q k qs up.0 c.there;
+      }
+      by false m more = let f = more (clash_behind met q k qs m up.0 c) in record {
+        found = f.found;
+        is = ap (λ b. cond b (Some q) (first_clash address (met_with (address q) met) qs)) m ∙ f.is;
+        not_behind = f.not_behind;
+      }
+
+-- ---- the least
+
+-- a key is there that is not behind another
+pub record IsAtMost (o : Option Key) (k : Key) : Type 0 where
+  pub found : Key
+  pub is : o ≡ Some found
+  pub not_behind : IsNotBehind found k
+
+not_behind_either : (f g k : Key) → IsNotBehind f g → IsNotBehind g k → IsNotBehind f k
+not_behind_either f g k h i = by (key_cmp k f) refl
+  where
+    at : (r : Ordering) → key_cmp f g ≡ r → key_cmp k f ≡ Less → is_lt (key_cmp k g) ≡ true
+    at Less e less = ap is_lt (keys_total.trans k f g less e)
+    at Equal e less = ap (λ (p : Key). is_lt (key_cmp k p)) (sym (keys_exact f g e)) ∙ ap is_lt less
+    at Greater e less = let turned : is_lt (key_cmp g f) ≡ true = ap is_lt (keys_total.antisymm g f ∙ ap ordering_reverse e) in absurd (false≢true (sym h ∙ turned))
+
+    by : (r : Ordering) → key_cmp k f ≡ r → is_lt (key_cmp k f) ≡ false
+    by Less e = absurd (false≢true (sym i ∙ at (key_cmp f g) refl e))
+    by Equal e = ap is_lt e
+    by Greater e = ap is_lt e
+
+-- of two keys the lesser is not behind either
+lesser_of_two : (a b : Key) (t : Bool) → is_lt (key_cmp b a) ≡ t → (k : Key) → (IsNotBehind a k ⊎ IsNotBehind b k) → IsAtMost (cond t (Some b) (Some a)) k
+lesser_of_two a b true e k (inl h) = record { found = b; is = refl; not_behind = not_behind_either b a k (turned (key_cmp b a) refl e) h }
+  where
+    turned : (r : Ordering) → key_cmp b a ≡ r → is_lt r ≡ true → is_lt (key_cmp a b) ≡ false
+    turned Less is l = ap is_lt (keys_total.antisymm a b ∙ ap ordering_reverse is)
+    turned Equal is l = cc
+    turned Greater is l = cc
+lesser_of_two a b true e k (inr h) = record { found = b; is = refl; not_behind = h }
+lesser_of_two a b false e k (inl h) = record { found = a; is = refl; not_behind = h }
+lesser_of_two a b false e k (inr h) = record { found = a; is = refl; not_behind = not_behind_either a b k e h }
+
+first_kept : (o p : Option Key) (k : Key) → IsAtMost o k → IsAtMost (lesser o p) k
+first_kept None p k m = let no = m.is in cc
+first_kept (Some a) None k m = m
+first_kept (Some a) (Some b) k m =
+    let same : a ≡ m.found = let e = m.is in cc in
+    lesser_of_two a b (is_lt (key_cmp b a)) refl k (inl (subst (λ (q : Key). IsNotBehind q k) (sym same) m.not_behind))
+
+second_kept : (o p : Option Key) (k : Key) → IsAtMost p k → IsAtMost (lesser o p) k
+second_kept None p k m = m
+second_kept (Some a) None k m = let no = m.is in cc
+second_kept (Some a) (Some b) k m =
+    let same : b ≡ m.found = let e = m.is in cc in
+    lesser_of_two a b (is_lt (key_cmp b a)) refl k (inr (subst (λ (q : Key). IsNotBehind q k) (sym same) m.not_behind))
+
+module _ (gives : Rec → Option Key) where
+  least_kept : (rs : List Rec) (o : Option Key) (k : Key) → IsAtMost o k → IsAtMost (least_of gives o rs) k
+  least_kept [] o k m = m
+  least_kept (r ∷ rs) o k m = least_kept rs (lesser o (gives r)) k (first_kept o (gives r) k m)
+
+  -- where a record gives a key that is not behind another, the least is there and not behind it
+  pub least_at_most : (test : Rec → Bool) (k : Key) → ((r : Rec) → test r ≡ true → IsAtMost (gives r) k) → (rs : List Rec) (o : Option Key)
+      → list_any test rs ≡ true → IsAtMost (least_of gives o rs) k
+  least_at_most test k given [] o any = cc
+  least_at_most test k given (r ∷ rs) o any = by (test r) refl any (least_at_most test k given rs (lesser o (gives r)))
+    where
+      by : (b : Bool) → test r ≡ b → (b || list_any test rs) ≡ true → (list_any test rs ≡ true → IsAtMost (least_of gives (lesser o (gives r)) rs) k)
+          → IsAtMost (least_of gives (lesser o (gives r)) rs) k
+      by true is h more = least_kept rs (lesser o (gives r)) k (second_kept o (gives r) k (given r is))
+      by false is h more = more h
+
+  -- a record of some, that gives a key
+  pub record IsGiver (P : Rec → Type 0) (k : Key) : Type 0 where
+    pub giver : Rec
+    pub holds : P giver
+    pub given : gives giver ≡ Some k
+
+  lesser_is_one : (o p : Option Key) (k : Key) → lesser o p ≡ Some k → (o ≡ Some k) ⊎ (p ≡ Some k)
+  lesser_is_one None p k is = inr is
+  lesser_is_one (Some a) None k is = inl is
+  lesser_is_one (Some a) (Some b) k is = by (is_lt (key_cmp b a)) is
+    where
+      by : (t : Bool) → cond t (Some b) (Some a) ≡ Some k → (Some a ≡ Some k) ⊎ (Some b ≡ Some k)
+      by true is = inr is
+      by false is = inl is
+
+  -- the least is what was there first, or what a record gives
+  pub least_is_given : (P : Rec → Type 0) (rs : List Rec) → AllByRecursion P rs → (o : Option Key) (k : Key) → least_of gives o rs ≡ Some k → (o ≡ Some k) ⊎ IsGiver P k
+  least_is_given P [] all o k is = inl is
+  least_is_given P (r ∷ rs) all o k is = by (least_is_given P rs all.1 (lesser o (gives r)) k is)
+    where
+      one : (o ≡ Some k) ⊎ (gives r ≡ Some k) → (o ≡ Some k) ⊎ IsGiver P k
+      one (inl h) = inl h
+      one (inr h) = inr (record { giver = r; holds = all.0; given = h })
+
+      by : (lesser o (gives r) ≡ Some k) ⊎ IsGiver P k → (o ≡ Some k) ⊎ IsGiver P k
+      by (inl h) = one (lesser_is_one o (gives r) k h)
+      by (inr g) = inr g

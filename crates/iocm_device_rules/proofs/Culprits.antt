@@ -1,0 +1,293 @@
+-- The least device that has the address of another before it on one of its units is the first that breaks the rule.
+use Rattle.std.proofs.Common.{◌≡◌, ◌⊎◌, inl, inr, ℕ, Bool, true, false, ◌&&◌, ◌||◌, ◌==◌, nat_eq, nat_lt, length, is_none, unwrap_or, Option, None, Some, List, [], ◌∷◌, map, refl, sym, ap, subst, ◌∙◌, arith}
+use Rattle.std.proofs.lemmas.Bool.{false≢true}
+use Rattle.std.proofs.lemmas.Bool.Decides.{nat_tests}
+use Rattle.std.proofs.lemmas.List.Folds.{list_any-append}
+use Rattle.std.specs.List.{list_any}
+use Rattle.std.specs.Option.{option_map}
+use Rattle.std.specs.Ordering.{is_lt, eq_by_cmp}
+use Rattle.std.specs.FinMap.{get}
+use Rattle.iocm_types.specs.declared.key.Key.{Key}
+use Rattle.iocm_types.specs.declared.key.Key.TheVariants as key
+use Rattle.iocm_types.specs.declared.named.Named.{Named}
+use Rattle.iocm_types.specs.declared.named.Named.TheVariants as thing
+use Rattle.iocm_types.specs.declared.naming.Naming.{Naming}
+use Rattle.iocm_types.specs.Key.{key_cmp}
+use Rattle.iocm_types.specs.KeyOrder.{named_exact}
+use Rattle.iocm_types.specs.Naming.{named_cmp, naming_cmp}
+use Rattle.iocm_types.proofs.Found.{same_key, ties_itself}
+use Rattle.iocm_table.specs.Slots.{Stored, rows}
+use Rattle.iocm_index.specs.Namings.{naming, users_in}
+use Rattle.iocm_index.proofs.Front.{named_total}
+use Rattle.iocm_index.proofs.Members.{users_name_it, users_in_order}
+use Rattle.iocm_model.specs.Machine.Record.{Rec, DeviceRecord, id, resource, image, limit, path, unit, device, online, key_of}
+use Rattle.iocm_model.specs.Machine.Configuration.{Configuration, IsKeyed, lookup_of, records_of}
+use Rattle.iocm_model.specs.Machine.Naming.{unit_named, image_named}
+use Rattle.iocm_model.specs.Rules.EachRule.{has_twice, breaks_v8, breaks_v10, answers_on, stands_before}
+use Rattle.iocm_model.specs.Rules.FirstBreach.{first_record}
+use Rattle.iocm_model.proofs.Machine.OwnKeys.{keyed_own}
+use Rattle.iocm_lookup.specs.Indexed.{names, IsIndexOf}
+use Rattle.iocm_lookup.proofs.Anys.{or_later}
+use Rattle.iocm_lookup.proofs.Members.{record_found, record_there}
+use Rattle.iocm_lookup.proofs.Walks.{first_of_any}
+use Rattle.iocm_device_rules.specs.Addresses.{address_in, clash_of, least_of}
+use Rattle.iocm_device_rules.proofs.Clashes.{IsAtMost, IsClash, IsBefore, less_key, first_is_clash, clash_has_first, least_at_most, least_is_given, IsGiver}
+use Rattle.iocm_device_rules.proofs.Firsts.{IsSoAt, least_so_is_first, records_are_there}
+
+-- ---- tests
+
+first_of : (a b : Bool) → (a && b) ≡ true → a ≡ true
+first_of true b h = refl
+first_of false b h = cc
+
+second_of : (a b : Bool) → (a && b) ≡ true → b ≡ true
+second_of true b h = h
+second_of false b h = cc
+
+both_of : (a b : Bool) → a ≡ true → b ≡ true → (a && b) ≡ true
+both_of a b h i = ap (λ c. c && b) h ∙ i
+
+last_fails : (a b c d : Bool) → (a || b || c || d) ≡ false → d ≡ false
+last_fails true b c d h = absurd (false≢true (sym h))
+last_fails false true c d h = absurd (false≢true (sym h))
+last_fails false false true d h = absurd (false≢true (sym h))
+last_fails false false false d h = h
+
+same_number : (a b : ℕ) → nat_eq a b ≡ true → a ≡ b
+same_number a b h = grind (arith, nat_tests)
+
+equal_numbers : (a b : ℕ) → a ≡ b → nat_eq a b ≡ true
+equal_numbers a b h = grind (arith, nat_tests)
+
+-- a number in a list that passes a test
+record IsNumberAmong (test : ℕ → Bool) (xs : List ℕ) : Type 0 where
+  number : ℕ
+  there : list_any (nat_eq number) xs ≡ true
+  passes : test number ≡ true
+
+number_found : (test : ℕ → Bool) (xs : List ℕ) → list_any test xs ≡ true → IsNumberAmong test xs
+number_found test [] any = cc
+number_found test (x ∷ xs) any = by (test x) refl any (number_found test xs)
+  where
+    by : (b : Bool) → test x ≡ b → (b || list_any test xs) ≡ true → (list_any test xs ≡ true → IsNumberAmong test xs) → IsNumberAmong test (x ∷ xs)
+    by true is h more = record { number = x; there = ap (λ b. b || list_any (nat_eq x) xs) (equal_numbers x x refl); passes = is }
+    by false is h more = let later = more h in record { number = later.number; there = or_later (nat_eq later.number x) _ later.there; passes = later.passes }
+
+number_there : (test : ℕ → Bool) (xs : List ℕ) (n : ℕ) → list_any (nat_eq n) xs ≡ true → test n ≡ true → list_any test xs ≡ true
+number_there test [] n any passes = cc
+number_there test (x ∷ xs) n any passes = by (nat_eq n x) refl any (λ h. number_there test xs n h passes)
+  where
+    by : (b : Bool) → nat_eq n x ≡ b → (b || list_any (nat_eq n) xs) ≡ true → (list_any (nat_eq n) xs ≡ true → list_any test xs ≡ true) → (test x || list_any test xs) ≡ true
+    by true is h more = ap (λ b. b || list_any test xs) (ap test (sym (same_number n x is)) ∙ passes)
+    by false is h more = or_later (test x) _ (more h)
+
+-- ---- devices and the units that they name
+
+unit_thing : ℕ → Named
+unit_thing n = thing.Record (key.Unit n)
+
+unit_of_thing : Named → ℕ
+unit_of_thing (thing.Record (key.Unit n)) = n
+unit_of_thing _ = 0
+
+same_unit : (a b : ℕ) → eq_by_cmp named_cmp (thing.Record (key.Unit a)) (thing.Record (key.Unit b)) ≡ nat_eq a b
+unfolding unit_of_thing
+same_unit a b = by (eq_by_cmp named_cmp (thing.Record (key.Unit a)) (thing.Record (key.Unit b))) (nat_eq a b) refl refl
+  where
+    by : (s t : Bool) → eq_by_cmp named_cmp (thing.Record (key.Unit a)) (thing.Record (key.Unit b)) ≡ s → nat_eq a b ≡ t → s ≡ t
+    by true true e f = refl
+    by false false e f = refl
+    by true false e f = absurd (false≢true (sym f ∙ equal_numbers a b (ap unit_of_thing (same_key named_cmp named_exact (thing.Record (key.Unit a)) (thing.Record (key.Unit b)) e))))
+    by false true e f = absurd (false≢true (sym e ∙ ap (λ n. eq_by_cmp named_cmp (thing.Record (key.Unit a)) (thing.Record (key.Unit n))) (sym (same_number a b f))
+        ∙ ties_itself named_cmp named_total (thing.Record (key.Unit a))))
+
+no_image : (n : ℕ) (ns : List (List ℕ)) → list_any (eq_by_cmp named_cmp (thing.Record (key.Unit n))) (map image_named ns) ≡ false
+no_image n [] = refl
+no_image n (x ∷ xs) = no_image n xs
+
+units_named : (n : ℕ) (us : List ℕ) → list_any (eq_by_cmp named_cmp (thing.Record (key.Unit n))) (map unit_named us) ≡ list_any (nat_eq n) us
+units_named n [] = refl
+units_named n (u ∷ us) = λ i. same_unit n u i || units_named n us i
+
+or_false : (a b : Bool) → b ≡ false → (a || b) ≡ a
+or_false true b h = refl
+or_false false b h = h
+
+-- a device names the units of its list
+device_names : (n : ℕ) (d : DeviceRecord) → names (thing.Record (key.Unit n)) (Some (device d)) ≡ list_any (nat_eq n) d.units
+device_names n d =
+    list_any-append (eq_by_cmp named_cmp (thing.Record (key.Unit n))) (map unit_named d.units) (map image_named (unwrap_or d.candidates []))
+    ∙ or_false _ _ (no_image n (unwrap_or d.candidates [])) ∙ units_named n d.units
+
+-- a device at an address
+record IsDeviceAt (o : Option Rec) (at : ℕ) : Type 0 where
+  one : DeviceRecord
+  is : o ≡ Some (device one)
+  has : one.unit_address ≡ at
+
+device_at : (o : Option Rec) (at : ℕ) → address_in o ≡ Some at → IsDeviceAt o at
+device_at None at h = cc
+device_at (Some (device d)) at h = let same : d.unit_address ≡ at = cc in record { one = d; is = refl; has = same }
+device_at (Some (id x)) at h = cc
+device_at (Some (resource x)) at h = cc
+device_at (Some (image x)) at h = cc
+device_at (Some (limit x)) at h = cc
+device_at (Some (path x)) at h = cc
+device_at (Some (unit x)) at h = cc
+device_at (Some (online x)) at h = cc
+
+-- a unit of a number
+abbrev is_unit : ℕ → Rec → Bool
+is_unit n (unit u) = nat_eq u.number n
+is_unit n _ = false
+
+own_unit : (n : ℕ) (r : Rec) → key_of r ≡ key.Unit n → is_unit n r ≡ true
+own_unit n (unit u) own = let same : u.number ≡ n = cc in equal_numbers u.number n same
+own_unit n (id x) own = cc
+own_unit n (resource x) own = cc
+own_unit n (image x) own = cc
+own_unit n (limit x) own = cc
+own_unit n (path x) own = cc
+own_unit n (device x) own = cc
+own_unit n (online x) own = cc
+
+module _ (c : Configuration) (t : Stored Naming (Unit {0})) (keyed : IsKeyed c) (of : IsIndexOf c t) where
+  -- the users of a unit, and their addresses
+  abbrev users : ℕ → List Key
+  users n = users_in (thing.Record (key.Unit n)) (rows naming_cmp t)
+
+  abbrev address : Key → Option ℕ
+  address k = address_in (lookup_of c k)
+
+  abbrev no_address : ℕ → Bool
+  no_address a = false
+
+  is_user : (n : ℕ) (k : Key) (d : DeviceRecord) → get c k ≡ Some (device d) → list_any (eq_by_cmp key_cmp k) (users n) ≡ list_any (nat_eq n) d.units
+  is_user n k d here = users_name_it (thing.Record (key.Unit n)) (rows naming_cmp t) k ∙ of (naming k (thing.Record (key.Unit n)))
+      ∙ ap (names (thing.Record (key.Unit n))) here ∙ device_names n d
+
+  -- ---- a clash is a device that breaks the rule
+
+  clash_breaks : (n : ℕ) (k : Key) → IsClash address no_address (users n) k → IsSoAt (breaks_v10 c) (get c) k
+  clash_breaks n k clash = by clash.before
+    where
+      with_both : (b : IsBefore address (users n) k clash.at) → IsDeviceAt (get c k) clash.at → IsDeviceAt (get c b.other) clash.at → IsSoAt (breaks_v10 c) (get c) k
+      with_both b d e = record {
+        one = device d.one;
+        there = d.is;
+        so = record_there c (λ r. stands_before r (device d.one) && answers_on d.one.unit_address d.one.units r) b.other (device e.one) e.is
+            (both_of _ _ (ap is_lt ((λ i. key_cmp (keyed_own c keyed b.other (device e.one) e.is i) (keyed_own c keyed k (device d.one) d.is i)) ∙ b.less))
+            (both_of _ _ (equal_numbers e.one.unit_address d.one.unit_address (e.has ∙ sym d.has))
+            (number_there (λ number. list_any (nat_eq number) d.one.units) e.one.units n (sym (is_user n b.other e.one e.is) ∙ b.there)
+            (sym (is_user n k d.one d.is) ∙ clash.there))));
+      }
+
+      by : (no_address clash.at ≡ true) ⊎ IsBefore address (users n) k clash.at → IsSoAt (breaks_v10 c) (get c) k
+      by (inl m) = absurd (false≢true m)
+      by (inr b) = with_both b (device_at (get c k) clash.at clash.has) (device_at (get c b.other) clash.at b.has)
+
+  giver_breaks : (r : Rec) (k : Key) → clash_of (lookup_of c) (rows naming_cmp t) r ≡ Some k → IsSoAt (breaks_v10 c) (get c) k
+  giver_breaks (unit u) k is = clash_breaks u.number k
+      (first_is_clash address no_address (users u.number) (users_in_order (thing.Record (key.Unit u.number)) (rows naming_cmp t)) k is)
+  giver_breaks (id x) k is = cc
+  giver_breaks (resource x) k is = cc
+  giver_breaks (image x) k is = cc
+  giver_breaks (limit x) k is = cc
+  giver_breaks (path x) k is = cc
+  giver_breaks (device x) k is = cc
+  giver_breaks (online x) k is = cc
+
+  sound : (k : Key) → least_of (clash_of (lookup_of c) (rows naming_cmp t)) None (records_of c) ≡ Some k → IsSoAt (breaks_v10 c) (get c) k
+  sound k is = by (least_is_given (clash_of (lookup_of c) (rows naming_cmp t)) (λ r. get c (key_of r) ≡ Some r) (records_of c) (records_are_there c keyed) None k is)
+    where
+      by : (None ≡ Some k) ⊎ IsGiver (clash_of (lookup_of c) (rows naming_cmp t)) (λ r. get c (key_of r) ≡ Some r) k → IsSoAt (breaks_v10 c) (get c) k
+      by (inl h) = cc
+      by (inr g) = giver_breaks g.giver k g.given
+
+  -- ---- a device that breaks the rule is a clash on a unit
+
+  module _ (kept : first_record (breaks_v8 c) (records_of c) ≡ None) where
+    keeps : (k : Key) (r : Rec) → get c k ≡ Some r → (b : Bool) → breaks_v8 c r ≡ b → breaks_v8 c r ≡ false
+    keeps k r here true is = absurd (false≢true (sym (sym (first_of_any (breaks_v8 c) (records_of c)) ∙ ap (λ o. is_there (option_map key_of o)) kept)
+        ∙ record_there c (breaks_v8 c) k r here is))
+      where
+        is_there : Option Key → Bool
+        is_there None = false
+        is_there (Some q) = true
+    keeps k r here false is = is
+
+    -- the clash on a common unit
+    clash_on : (k : Key) (d e : DeviceRecord) (n : ℕ) → get c k ≡ Some (device d) → get c (key_of (device e)) ≡ Some (device e)
+        → is_lt (key_cmp (key_of (device e)) (key_of (device d))) ≡ true → nat_eq e.unit_address d.unit_address ≡ true
+        → list_any (nat_eq n) e.units ≡ true → list_any (nat_eq n) d.units ≡ true → IsClash address no_address (users n) k
+    clash_on k d e n here there less same in_other in_own = record {
+      there = is_user n k d here ∙ in_own;
+      at = d.unit_address;
+      has = ap address_in here;
+      before = inr (record {
+        other = key_of (device e);
+        there = is_user n (key_of (device e)) e there ∙ in_other;
+        has = ap address_in there ∙ ap Some (same_number e.unit_address d.unit_address same);
+        less = less_key (key_cmp (key_of (device e)) k) (ap (λ (q : Key). is_lt (key_cmp (key_of (device e)) q)) (sym (keyed_own c keyed k (device d) here)) ∙ less);
+      });
+    }
+
+    -- a unit that is there gives a key that is not behind a clash on it
+    given : (k : Key) (n : ℕ) → IsClash address no_address (users n) k → (r : Rec) → is_unit n r ≡ true → IsAtMost (clash_of (lookup_of c) (rows naming_cmp t) r) k
+    given k n clash (unit u) same =
+        let f = clash_has_first address no_address (users u.number) (users_in_order (thing.Record (key.Unit u.number)) (rows naming_cmp t)) k
+        (subst (λ (m : ℕ). IsClash address no_address (users m) k) (sym (same_number u.number n same)) clash) in
+        record { found = f.found; is = f.is; not_behind = f.not_behind }
+    given k n clash (id x) same = absurd (false≢true same)
+    given k n clash (resource x) same = absurd (false≢true same)
+    given k n clash (image x) same = absurd (false≢true same)
+    given k n clash (limit x) same = absurd (false≢true same)
+    given k n clash (path x) same = absurd (false≢true same)
+    given k n clash (device x) same = absurd (false≢true same)
+    given k n clash (online x) same = absurd (false≢true same)
+
+    -- each unit of a device that is there is there
+    unit_there : (k : Key) (d : DeviceRecord) (n : ℕ) → get c k ≡ Some (device d) → list_any (nat_eq n) d.units ≡ true → list_any (is_unit n) (records_of c) ≡ true
+    unit_there k d n here in_own = by (get c (key.Unit n)) refl
+      where
+        none_missing : list_any (λ number. is_none (lookup_of c (key.Unit number))) d.units ≡ false
+        none_missing = last_fails (length d.units == 0) (nat_lt 8 (length d.units)) (has_twice d.units)
+            (list_any (λ number. is_none (lookup_of c (key.Unit number))) d.units) (keeps k (device d) here (breaks_v8 c (device d)) refl)
+
+        by : (o : Option Rec) → get c (key.Unit n) ≡ o → list_any (is_unit n) (records_of c) ≡ true
+        by None is = absurd (false≢true (sym none_missing ∙ number_there (λ number. is_none (lookup_of c (key.Unit number))) d.units n in_own (ap is_none is)))
+        by (Some r) is = record_there c (is_unit n) (key.Unit n) r is (own_unit n r (keyed_own c keyed (key.Unit n) r is))
+
+    with_other : (k : Key) (d : DeviceRecord) → get c k ≡ Some (device d) → (r : Rec) → get c (key_of r) ≡ Some r
+        → (stands_before r (device d) && answers_on d.unit_address d.units r) ≡ true → IsAtMost (least_of (clash_of (lookup_of c) (rows naming_cmp t)) None (records_of c)) k
+    with_other k d here (device e) there so =
+        let less = first_of (stands_before (device e) (device d)) _ so in
+        let answers = second_of (stands_before (device e) (device d)) _ so in
+        let n = number_found (λ number. list_any (nat_eq number) d.units) e.units (second_of (nat_eq e.unit_address d.unit_address) _ answers) in
+        least_at_most (clash_of (lookup_of c) (rows naming_cmp t)) (is_unit n.number) k
+        (given k n.number (clash_on k d e n.number here there less (first_of (nat_eq e.unit_address d.unit_address) _ answers) n.there n.passes))
+        (records_of c) None (unit_there k d n.number here n.passes)
+    with_other k d here (id x) there so = absurd (false≢true (second_of (stands_before (id x) (device d)) false so))
+    with_other k d here (resource x) there so = absurd (false≢true (second_of (stands_before (resource x) (device d)) false so))
+    with_other k d here (image x) there so = absurd (false≢true (second_of (stands_before (image x) (device d)) false so))
+    with_other k d here (limit x) there so = absurd (false≢true (second_of (stands_before (limit x) (device d)) false so))
+    with_other k d here (path x) there so = absurd (false≢true (second_of (stands_before (path x) (device d)) false so))
+    with_other k d here (unit x) there so = absurd (false≢true (second_of (stands_before (unit x) (device d)) false so))
+    with_other k d here (online x) there so = absurd (false≢true (second_of (stands_before (online x) (device d)) false so))
+
+    least_at : (k : Key) (r : Rec) → get c k ≡ Some r → breaks_v10 c r ≡ true
+        → IsAtMost (least_of (clash_of (lookup_of c) (rows naming_cmp t)) None (records_of c)) k
+    least_at k (device d) here so =
+        let m = record_found c (λ r. stands_before r (device d) && answers_on d.unit_address d.units r) keyed so in
+        with_other k d here m.member m.there m.passes
+    least_at k (id x) here so = absurd (false≢true so)
+    least_at k (resource x) here so = absurd (false≢true so)
+    least_at k (image x) here so = absurd (false≢true so)
+    least_at k (limit x) here so = absurd (false≢true so)
+    least_at k (path x) here so = absurd (false≢true so)
+    least_at k (unit x) here so = absurd (false≢true so)
+    least_at k (online x) here so = absurd (false≢true so)
+
+    -- the least of all units' first clashes is the first device that breaks the rule
+    pub least_is_first : least_of (clash_of (lookup_of c) (rows naming_cmp t)) None (records_of c) ≡ option_map key_of (first_record (breaks_v10 c) (records_of c))
+    least_is_first = least_so_is_first (breaks_v10 c) c keyed (least_of (clash_of (lookup_of c) (rows naming_cmp t)) None (records_of c)) sound least_at

@@ -1,0 +1,6 @@
+pub mod Clashes
+pub mod Culprits
+pub mod Firsts
+pub mod JoinedPaths
+pub mod PastLimits
+pub mod UnitNumbers

@@ -1,0 +1,135 @@
+ghost use Rattle.std.specs.Prelude.{◌≡◌, ℕ, false, None, Some, get_or};
+ghost use Rattle.std.specs.Option.{option_map};
+ghost use Rattle.std.specs.Ordering.{is_lt};
+ghost use Rattle.iocm_types.specs.declared.key.Key.TheVariants as key;
+ghost use Rattle.iocm_types.specs.declared.named.Named.TheVariants as thing;
+ghost use Rattle.iocm_types.specs.Key.{key_cmp};
+ghost use Rattle.iocm_types.specs.Naming.{naming_cmp};
+ghost use Rattle.iocm_table.specs.Slots.{rows};
+ghost use Rattle.iocm_index.specs.Namings.{users_in};
+ghost use Rattle.iocm_model.specs.Machine.Record.{key_of};
+ghost use Rattle.iocm_model.specs.Machine.Configuration.{lookup_of, records_of};
+ghost use Rattle.iocm_model.specs.Rules.EachRule.{breaks_v8, breaks_v10};
+ghost use Rattle.iocm_model.specs.Rules.FirstBreach.{first_record};
+ghost use Rattle.iocm_lookup.specs.Indexed.{IsIndexOf};
+ghost use Rattle.iocm_device_rules.specs.Addresses as addresses;
+
+use iocm_config::Config;
+use iocm_index::Index;
+use iocm_records::{Record, RecordBody};
+use iocm_types::{Key, Named, UnitNo};
+use std::alloc::Allocator;
+
+/// V10: a device with a smaller key has the same unit address and a common unit. So no unit address of a unit is that of two
+/// devices. Own.
+///
+/// The key of the first device that breaks it, if one does; V8 is kept, so each unit that a device names is there. It goes unit
+/// by unit: of a unit's devices in order the first whose address was met is the least that breaks the rule there, and the answer
+/// is the least of all units'. So each device is looked at once for each of its units.
+pub fn first_address_twice<A: Allocator, I: Allocator>(
+    config: &Config<A>,
+    index: &Index<I>,
+) -> Option<Key>
+    requires index { IsIndexOf config.now.records index.now }
+    requires units { first_record (breaks_v8 config.now.records) (records_of config.now.records) ≡ None }
+    ensures { result ≡ option_map key_of (first_record (breaks_v10 config.now.records) (records_of config.now.records)) }
+{
+    config.has_own_keys();
+    least_clash(config, index)
+}
+
+/// The least of the devices that have, on one of their units, the address of one before them.
+fn least_clash<A: Allocator, I: Allocator>(config: &Config<A>, index: &Index<I>) -> Option<Key>
+    ensures { result ≡ addresses.least_of (addresses.clash_of (lookup_of config.now.records) (rows naming_cmp index.now)) None (records_of config.now.records) }
+{
+    let mut least = None;
+    for (_, entry) in config.walk() {
+        least = lesser(least, clash_of(config, index, entry));
+    }
+    least
+}
+
+/// The lesser of two keys, where both are there.
+fn lesser(least: Option<Key>, other: Option<Key>) -> Option<Key>
+    ensures { result ≡ addresses.lesser least other }
+{
+    let Some(key) = least else {
+        return other;
+    };
+    let Some(found) = other else {
+        return Some(key);
+    };
+    if is_before(&found, &key) {
+        Some(found)
+    } else {
+        Some(key)
+    }
+}
+
+fn is_before(key: &Key, other: &Key) -> bool
+    ensures { result ≡ is_lt (key_cmp key.now other.now) }
+{
+    key.order(*other).is_lt()
+}
+
+/// Of a unit's devices the first with the address of one before it; of other records none.
+fn clash_of<A: Allocator, I: Allocator>(
+    config: &Config<A>,
+    index: &Index<I>,
+    entry: &Record<A>,
+) -> Option<Key>
+    ensures { result ≡ addresses.clash_of (lookup_of config.now.records) (rows naming_cmp index.now) entry.now }
+{
+    match entry.body() {
+        RecordBody::Unit(fields) => first_clash(config, index, fields.number),
+        _ => None,
+    }
+}
+
+/// Of the devices on a unit, in order, the first with the address of one before it.
+fn first_clash<A: Allocator, I: Allocator>(
+    config: &Config<A>,
+    index: &Index<I>,
+    unit: UnitNo,
+) -> Option<Key>
+    ensures { result ≡ addresses.first_clash (λ k. addresses.address_in (lookup_of config.now.records k)) (λ a. false) (users_in (thing.Record (key.Unit unit)) (rows naming_cmp index.now)) }
+{
+    let mut met = [false; 256];
+    for user in index.users_of(Named::Record(Key::Unit(unit))) {
+        if meets(&mut met, address_of(config, &user)) {
+            return Some(user);
+        }
+    }
+    None
+}
+
+/// The unit address of a device that is there.
+fn address_of<A: Allocator>(config: &Config<A>, key: &Key) -> Option<u8>
+    ensures { result ≡ addresses.address_in (lookup_of config.now.records key.now) }
+{
+    record_address(config.get(key)?)
+}
+
+/// The unit address of a record, if it is that of a device.
+fn record_address<A: Allocator>(entry: &Record<A>) -> Option<u8>
+    ensures { result ≡ addresses.address_in (Some entry.now) }
+{
+    match entry.body() {
+        RecordBody::Device(fields) => Some(fields.unit_address),
+        _ => None,
+    }
+}
+
+/// Notes that an address was met, and answers whether it was before.
+fn meets(met: &mut [bool; 256], address: Option<u8>) -> bool
+    ensures met { result ≡ addresses.is_met (λ a. get_or met.old a false) address }
+    ensures noted { (b : ℕ) → get_or met.new b false ≡ addresses.met_with address (λ a. get_or met.old a false) b }
+{
+    let Some(address) = address else {
+        return false;
+    };
+    let place = usize::from(address);
+    let was_met = met[place];
+    met[place] = true;
+    was_met
+}

@@ -1,0 +1,20 @@
+//! The rules of devices: their units (V8), their unit addresses on these (V9, V10), their path lists (V11), their
+//! candidates (V12) and their subchannel numbers (V13).
+//!
+//! V8, V9, V11 and V12 are `Wanted`s, which `first_wanted` of `iocm_lookup` looks for among the device records.
+//! `first_address_twice` (V10) and `first_past_limit` (V13) answer the first device that breaks their rule themselves:
+//! the one goes unit by unit, the other over the numbers first, so that no device is compared with all others. What each
+//! answers is exactly what the model's predicate says, and none takes memory.
+//!
+//! Begin with `devices.rt`, then `addresses.rt`.
+#![tactic(auto)]
+
+mod addresses;
+mod devices;
+mod joined;
+mod limits;
+
+pub use addresses::first_address_twice;
+pub use devices::{AddressNotHeld, CandidateOfNoImage, WrongUnits};
+pub use joined::WrongPathList;
+pub use limits::first_past_limit;

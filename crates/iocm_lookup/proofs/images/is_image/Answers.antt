@@ -1,0 +1,7 @@
+use Rattle.std.proofs.Common.{◌∙◌}
+use Rattle.iocm_model.specs.Machine.Configuration.{records_of}
+use Rattle.iocm_lookup.proofs.NamedImages.{image_of_name}
+use Rattle.iocm_lookup.proofs.images.is_image.Goals as goal
+
+pub returns : goal.returns
+returns g c = c.is_any_wanted.ensures ∙ image_of_name c.args.name (records_of c.args.config.now.records)

@@ -1,0 +1,31 @@
+-- The kinds of records, in the order of keys.
+use Rattle.std.specs.Prelude.{◌≡◌, ℕ, true}
+use Rattle.std.specs.Ordering.{is_le}
+use Rattle.iocm_types.specs.declared.key.Key.{Key}
+use Rattle.iocm_types.specs.declared.key.Key.TheVariants as key
+use Rattle.iocm_types.specs.Key.{key_cmp}
+use Rattle.iocm_lookup.specs.declared.kind.Kind.{Kind}
+use Rattle.iocm_lookup.specs.declared.kind.Kind.TheVariants.{Image, Path, Unit, Device, Online}
+
+-- the place of a key's kind
+abbrev pub kind_of : Key → ℕ
+kind_of key.Id = 0
+kind_of key.Resource = 1
+kind_of (key.Image css mif) = 2
+kind_of (key.Limit css set) = 3
+kind_of (key.Path css number) = 4
+kind_of (key.Unit number) = 5
+kind_of (key.Device set number) = 6
+kind_of (key.Online css path name) = 7
+
+-- the place of a kind that is looked for
+abbrev pub place_of : Kind → ℕ
+place_of Image = 2
+place_of Path = 4
+place_of Unit = 5
+place_of Device = 6
+place_of Online = 7
+
+-- no key of a kind stands before this one
+abbrev pub IsBeforeKind : Key → ℕ → Type 0
+IsBeforeKind first place = (k : Key) → kind_of k ≡ place → is_le (key_cmp first k) ≡ true

@@ -1,0 +1,4 @@
+pub mod Images
+pub mod Indexed
+pub mod Kinds
+pub mod OfKind

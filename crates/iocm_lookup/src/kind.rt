@@ -1,0 +1,90 @@
+ghost use Rattle.std.specs.Prelude.{◌≡◌, nat_lt};
+ghost use Rattle.iocm_lookup.specs.Kinds as kinds;
+ghost use Rattle.iocm_lookup.specs.Kinds.{IsBeforeKind};
+
+use iocm_types::{Chpid, Css, DevNo, Key, SetNo, UnitNo};
+
+/// The kinds of records that are looked for, in the order of keys. Own.
+#[derive(Clone, Copy, Debug, PartialEq, Eq)]
+pub enum Kind {
+    /// Image records.
+    Image,
+    /// Path records.
+    Path,
+    /// Unit records.
+    Unit,
+    /// Device records.
+    Device,
+    /// Online records.
+    Online,
+}
+
+impl Kind {
+    /// A key that none of this kind stands before, and few others behind.
+    pub(crate) fn first(self) -> Key
+        ensures { IsBeforeKind result (kinds.place_of self) }
+    {
+        match self {
+            Kind::Image => Key::Resource,
+            Kind::Path => Key::Path(Css::FIRST, Chpid::new(0)),
+            Kind::Unit => first_unit(),
+            Kind::Device => Key::Device(SetNo::FIRST, DevNo::new(0)),
+            Kind::Online => last_device(),
+        }
+    }
+
+    /// Whether a key stands behind all of this kind.
+    pub(crate) fn is_past(self, key: &Key) -> bool
+        ensures { result ≡ nat_lt (kinds.place_of self) (kinds.kind_of key.now) }
+    {
+        self.place() < place_of_key(key)
+    }
+
+    /// The place of the kind in the order of keys, counted from 0.
+    fn place(self) -> u8
+        ensures { result ≡ kinds.place_of self }
+    {
+        match self {
+            Kind::Image => 2,
+            Kind::Path => 4,
+            Kind::Unit => 5,
+            Kind::Device => 6,
+            Kind::Online => 7,
+        }
+    }
+}
+
+fn first_unit() -> Key
+    ensures { IsBeforeKind result 5 }
+{
+    match UnitNo::new(0) {
+        Some(unit) => Key::Unit(unit),
+        None => unreachable!(),
+    }
+}
+
+// No device has a greater key.
+fn last_device() -> Key
+    ensures { IsBeforeKind result 7 }
+{
+    match SetNo::new(3) {
+        Some(set) => Key::Device(set, DevNo::new(0xFFFF)),
+        None => unreachable!(),
+    }
+}
+
+/// The place of a key's kind in the order of keys, counted from 0.
+fn place_of_key(key: &Key) -> u8
+    ensures { result ≡ kinds.kind_of key.now }
+{
+    match key {
+        Key::Id => 0,
+        Key::Resource => 1,
+        Key::Image(_, _) => 2,
+        Key::Limit(_, _) => 3,
+        Key::Path(_, _) => 4,
+        Key::Unit(_) => 5,
+        Key::Device(_, _) => 6,
+        Key::Online(_, _, _) => 7,
+    }
+}

@@ -1,7 +1,0 @@
-use Rattle.std.proofs.Common.{◌∙◌}
-use Rattle.iocm_model.specs.Machine.Configuration.{records_of}
-use Rattle.iocm_rules.proofs.NamedImages.{image_of_name}
-use Rattle.iocm_rules.proofs.images.is_image.Goals as goal
-
-pub returns : goal.returns
-returns g c = c.is_any_wanted.ensures ∙ image_of_name c.args.name (records_of c.args.config.now.records)

@@ -1,0 +1,4 @@
+pub mod Linked
+pub mod Overlaps
+pub mod PathNumbers
+pub mod Sharers

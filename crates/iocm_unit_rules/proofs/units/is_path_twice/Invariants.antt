@@ -1,0 +1,10 @@
+-- None of the channel subsystems so far has a path twice.
+use Rattle.std.proofs.Common.{◌≡◌, drop}
+use Rattle.std.specs.List.{list_any}
+use Rattle.iocm_model.specs.Machine.Numbering.{subsystems}
+use Rattle.iocm_model.specs.Machine.PathList.{paths_in}
+use Rattle.iocm_model.specs.Rules.EachRule.{has_twice}
+use Rattle.iocm_unit_rules.proofs.units.is_path_twice.Given as goal
+
+abbrev pub invariant-loop-css : goal.invariant-loop-css
+invariant-loop-css l = list_any (λ css. has_twice (paths_in css l.paths)) (drop l.css-index l.css-items) ≡ list_any (λ css. has_twice (paths_in css l.paths)) subsystems
