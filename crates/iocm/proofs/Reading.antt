@@ -1,9 +1,10 @@
 -- What clap's clauses say of the command line.
-use Rattle.std.proofs.Common.{Result, Ok, Err, IfErr, IsErr, subst, ◌≡◌, List, [], ◌∷◌, Option, None, Some, option_map, codes, refl, inl, inr, sym, ap, ◌∙◌, true}
+use Rattle.std.proofs.Common.{Result, Ok, Err, IfErr, IsErr, IfSome, IsSome, subst, ◌≡◌, List, [], ◌∷◌, Option, None, Some, is_some, option_map, option_and_then, codes, refl, inl, inr, sym, ap, ◌∙◌, true, false}
 use Rattle.std.specs.Prelude.{Box}
 use Rattle.std.specs.Result.{IsErrAnd}
+use Rattle.std.specs.Borrow.{Bor}
 use Rattle.std.specs.Box.{box_value}
-use Rattle.clap.specs.Words.{HasKind, Kinds, Row, Text, first_of, first_value, rows_of, subcommand_of, subcommand_rows, subcommand_rows_of, subcommand_name_of, is_simple, is_simple_and_free}
+use Rattle.clap.specs.Words.{App, HasKind, HasMatchesOf, Kinds, Row, Text, fault_of, first_value, rows_of, subcommand_of, subcommand_rows, subcommand_rows_of, subcommand_name_of, is_simple, is_simple_and_free}
 use Rattle.clap.specs.declared.parser.matches.ArgMatches.{ArgMatches}
 use Rattle.clap.specs.declared.parser.matches.ArgMatches.TheViews.{out-ArgMatches, out-SubCommand}
 use Rattle.clap.specs.declared.parser.matches.SubCommand.{SubCommand}
@@ -12,7 +13,7 @@ use Rattle.clap.proofs.WalkLemmas.{first_value-rows}
 use Rattle.clap.specs.Kinds.{or_else}
 use Rattle.clap.specs.declared.error.Error.{Error}
 use Rattle.clap.proofs.OnLiterals.{clap_on_literals}
-use Rattle.iocm.specs.CommandLine.{iocm_app, stated}
+use Rattle.iocm.specs.CommandLine.{argument_of, iocm_app, mistakes, stated}
 
 -- one of these kinds is one of these or, where there is none, of others
 pub has_kind_or : (kinds more : Kinds) (e : Error) → HasKind kinds e → HasKind (or_else kinds more) e
@@ -21,9 +22,31 @@ has_kind_or [] more e (inr among) = elim among [ ]
 has_kind_or (k ∷ ks) more e h = h
 
 -- clap states the mistakes of this program exactly
-pub is_stated : is_simple_and_free iocm_app ≡ true
+is_stated : is_simple_and_free iocm_app ≡ true
 unfolding clap_on_literals
 is_stated = refl
+
+-- so an error of its call is of a kind that is stated for the words
+pub is_mistaken : (app : App) (words : List Text) (e : Error) → app ≡ iocm_app
+    → (is_simple_and_free app ≡ true → HasKind (fault_of app words) e) → HasKind (mistakes words) e
+is_mistaken app words e same kinds =
+    subst (λ (a : App). HasKind (fault_of a words) e) same (kinds (ap is_simple_and_free same ∙ is_stated))
+
+-- and words that it takes have no mistake
+pub is_accepted : (app : App) (words : List Text) → app ≡ iocm_app
+    → (is_simple_and_free app ≡ true → fault_of app words ≡ []) → mistakes words ≡ []
+is_accepted app words same kinds = ap (λ (a : App). fault_of a words) (sym same) ∙ kinds (ap is_simple_and_free same ∙ is_stated)
+
+-- the program's command is simple
+is_plain : is_simple iocm_app ≡ true
+unfolding clap_on_literals
+is_plain = refl
+
+-- so what the words state is the subcommand that clap entered, and its argument
+pub is_entered : (app : App) (words : List Text) (m : ArgMatches) → app ≡ iocm_app → HasMatchesOf app words m
+    → argument_of (subcommand_rows_of m) ≡ stated words
+is_entered app words m same has =
+    ap argument_of ((has (ap is_simple same ∙ is_plain)).1 ∙ ap (λ (a : App). subcommand_of a words) same)
 
 -- the name and the rows of the subcommand that was used
 used : {Z : Type 0} (o : Option (Box SubCommand Z)) (name : Text) (rows : List Row)
@@ -32,23 +55,32 @@ used : {Z : Type 0} (o : Option (Box SubCommand Z)) (name : Text) (rows : List R
 used None name rows named has = cc
 used (Some b) name rows named has = cc
 
--- the subcommand show was used, and its argument has a value
-pub stated_by : (words : List Text) (m : ArgMatches) (f : Found) (deck : Text) → subcommand_rows_of m ≡ subcommand_of iocm_app words
-    → subcommand_name_of m ≡ Some (codes "show") → option_map (λ (p : Text × List Row). p.1) (subcommand_rows_of m) ≡ Some (rows_of f)
-    → Some deck ≡ first_value f (codes "DECK") → stated words ≡ Some (codes "show", Some deck)
-stated_by words m f deck same named rows value =
-    let found : subcommand_of iocm_app words ≡ Some (codes "show", rows_of f) =
-    sym same ∙ used (out-ArgMatches m).subcommand (codes "show") (rows_of f) named rows in
-    ap (option_map (λ (p : Text × List Row). (p.0, first_of (codes "DECK") p.1))) found
-    ∙ ap (λ (o : Option Text). Some (codes "show", o)) (sym (value ∙ first_value-rows f (codes "DECK")))
+-- the subcommand that was used has this name, and its argument this value
+pub argument_is : (m : ArgMatches) (f : Found) (name : Text) (value : Option Text) → subcommand_name_of m ≡ Some name
+    → option_map (λ (p : Text × List Row). p.1) (subcommand_rows_of m) ≡ Some (rows_of f) → value ≡ first_value f (codes "DECK")
+    → argument_of (subcommand_rows_of m) ≡ Some (name, value)
+argument_is m f name value named rows found = ap argument_of (used (out-ArgMatches m).subcommand name (rows_of f) named rows)
+    ∙ ap (λ (o : Option Text). Some (name, o)) (sym (found ∙ first_value-rows f (codes "DECK")))
 
--- the program's command is simple
-pub is_plain : is_simple iocm_app ≡ true
-unfolding clap_on_literals
-is_plain = refl
+-- where that value is that of a deck, a deck has it
+pub has_deck : (stated : Option (Text × Option Text)) (name : Text) (deck : Option (Bor Text))
+    → stated ≡ Some (name, option_map (λ (d : Bor Text). d.now) deck) → IfSome deck (λ d. stated ≡ Some (name, Some d.now))
+has_deck stated name None is = tt
+has_deck stated name (Some d) is = is
+
+-- and where it is a text, there is a deck
+pub is_deck : (stated : Option (Text × Option Text)) (name : Text) (deck : Option (Bor Text))
+    → stated ≡ Some (name, option_map (λ (d : Bor Text). d.now) deck) → (text : Text) → stated ≡ Some (name, Some text) → IsSome deck
+is_deck stated name None is text same = ap (λ (o : Option (Text × Option Text)). is_some (option_and_then (λ (p : Text × Option Text). p.1) o)) (sym is ∙ same)
+is_deck stated name (Some d) is text same = refl
 
 -- an error that a call passes on has what it had
 pub passed_on : {X : Type 0} (result : Result X Error) (given : Error) (P : Error → Type 0) → P given
     → IsErr result × IsErrAnd result (λ e. e ≡ given) → IfErr result P
 passed_on (Ok x) given P has is = tt
 passed_on (Err e) given P has is = subst P (sym is.1) has
+
+-- what is not some is not
+pub not_some : {X : Type 0} (o : Option X) → ((x : X) → o ≡ Some x → ⊥) → IsSome o → ⊥
+not_some None never some = let bad : false ≡ true = some in cc
+not_some (Some x) never some = never x refl

@@ -1,19 +1,21 @@
 //! `iocm`, a dynamic I/O reconfiguration manager for a channel subsystem.
 //!
-//! `iocm show DECK` reads a configuration deck and prints the table of its subchannels. The exit status is
-//! 0 where a command did what it was asked to do, 1 where a text was refused (one line on standard output
-//! says why), 2 where the command line is not understood, and 3 where a file cannot be read or the output
-//! cannot be written (`fault L5` or `fault L6` on standard error).
+//! `iocm check DECK` reads a configuration deck, checks its rules and says how many records it has; `iocm show DECK`
+//! prints the table of its subchannels. The exit status is 0 where a command did what it was asked to do, 1 where
+//! a text was refused (one line on standard output says why), 2 where the command line is not understood, and 3
+//! where a file cannot be read or the output cannot be written (`fault L5` or `fault L6` on standard error).
 //!
-//! Begin with `command.rt`, the command line; all else is in `iocm_console`.
+//! Begin with `command.rt`, the command line, and `answer.rt`, which call is whose; all else is in `iocm_console`.
 #![tactic(auto)]
 
+mod answer;
 mod command;
 
+use answer::print_answer;
 use clap::error::ErrorKind;
 use command::{Command, command_of};
 use iocm_columns::Device;
-use iocm_console::{ConsoleError, Output, refuse, show_deck};
+use iocm_console::{ConsoleError, Output, refuse};
 use iocm_types::Fault;
 use std::alloc::AllocError;
 use std::io::BufWriter;
@@ -48,7 +50,7 @@ fn run<R: Env + Files + Print + Eprint + AllocGlobal>(rt: &R) -> Result<ExitCode
         Err(_) => return explain_words(rt),
     };
     match command_of(rt.alloc(), words.as_slice()) {
-        Ok(Command::Show { deck }) => show(rt, deck),
+        Ok(command) => perform(rt, command),
         Err(error) => explain(rt, &error),
     }
 }
@@ -58,17 +60,20 @@ fn words<R: Env + AllocGlobal>(rt: &R) -> io::Result<Vec<String>> {
     Ok(env::args(rt)?.collect(rt.alloc())?)
 }
 
-/// Prints the table of the deck in a file.
-fn show<R: Files + Print + AllocGlobal>(rt: &R, path: &str) -> Result<ExitCode, ConsoleError> {
-    let Ok(file) = fs::open(rt, path) else {
+/// Does a command on the deck in its file.
+fn perform<R: Files + Print + AllocGlobal>(
+    rt: &R,
+    command: Command<'_>,
+) -> Result<ExitCode, ConsoleError> {
+    let Ok(file) = fs::open(rt, command.deck()) else {
         return Err(ConsoleError::Read);
     };
     let Ok(writer) = BufWriter::new(rt.alloc(), io::writer(rt)) else {
         return refuse_memory(rt);
     };
-    let mut device = Device::new(file);
+    let mut deck = Device::new(file);
     let mut output = Output::new(writer);
-    let status = show_deck(rt.alloc(), &mut device, MOST_READS, &mut output)?;
+    let status = print_answer(rt.alloc(), command, &mut deck, MOST_READS, &mut output)?;
     Ok(ExitCode::from(status.code()))
 }
 
