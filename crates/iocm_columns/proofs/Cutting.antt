@@ -14,7 +14,7 @@ one_part line some = grind (arith, nat_tests)
 pub lines_of_one : (text : List ℕ) → 0 < length text → All (λ b. eqb b 10 ≡ false) text → lines text ≡ text ∷ []
 lines_of_one text some none = ap lines_of_parts (slice_split_none (λ b. eqb b 10) text none) ∙ one_part text some
 
-first_part : (line : List ℕ) (parts : List (List ℕ)) → 0 < length parts → lines_of_parts (line ∷ parts) ≡ strip_carriage_return line ∷ lines_of_parts parts
+pub first_part : (line : List ℕ) (parts : List (List ℕ)) → 0 < length parts → lines_of_parts (line ∷ parts) ≡ strip_carriage_return line ∷ lines_of_parts parts
 first_part line [] some = absurd (omega arith)
 first_part line (part ∷ parts) some = refl
 

@@ -1,4 +1,5 @@
 pub mod Consuming
+pub mod Cut
 pub mod Cutting
 pub mod Finding
 pub mod Gathering
@@ -9,3 +10,12 @@ pub mod Walking
 pub mod Scanning
 pub mod Slicing
 pub mod Relating
+pub mod Pieces
+pub mod WrittenCards
+pub mod WrittenColumns
+pub mod WrittenContinuations
+pub mod WrittenLines
+pub mod WrittenStatements
+pub mod WrittenTexts
+pub mod WrittenWords
+pub mod Rereading

@@ -6,3 +6,4 @@ pub mod Part
 pub mod StatementCards
 pub mod Slices
 pub mod Statements
+pub mod Written

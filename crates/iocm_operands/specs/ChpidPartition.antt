@@ -6,8 +6,9 @@ use Rattle.std.specs.Option.{option_map, option_map_or}
 use Rattle.std.specs.Str.{bytes_eq}
 use Rattle.iocm_operands.specs.declared.chpid_partition.Partition.{Partition}
 use Rattle.iocm_values.specs.CssLists.{begins_with_css, css_number}
-use Rattle.iocm_values.specs.NameSet.{names_of}
+use Rattle.iocm_values.specs.NameSet.{names_of, names_text}
 use Rattle.iocm_values.specs.Reading.{◌>>=◌}
+use Rattle.iocm_values.specs.Texts.{list_text}
 use Rattle.iocm_values.specs.Value.{Value, word, list, values, items}
 
 -- the word CSS(n) of a channel subsystem
@@ -80,3 +81,11 @@ with_rec items = if ends_with_rec items then lists true (take (length items - 1)
 -- the lists of a path of a channel subsystem; a word is none
 abbrev pub partition_of : ℕ → Value → Option Partition
 partition_of css v = items v >>= without_groups css >>= with_rec
+
+-- the word REC of a reconfigurable path, as an item
+abbrev pub rec_texts : Bool → List (List ℕ)
+rec_texts is_reconfigurable = if is_reconfigurable then codes "REC" ∷ [] else []
+
+-- the lists as they are written, always both: (access,candidates), or (access,candidates,REC)
+abbrev pub partition_text : List (List ℕ) → List (List ℕ) → Bool → List ℕ
+partition_text access candidates is_reconfigurable = list_text (names_text access ∷ names_text candidates ∷ rec_texts is_reconfigurable)

@@ -3,9 +3,11 @@
 use Rattle.std.specs.Prelude.{ℕ, Option, None, Some, List, [], ◌∷◌}
 use Rattle.std.specs.Option.{option_map}
 use Rattle.iocm_types.specs.declared.css_path.CssPath.{CssPath}
+use Rattle.iocm_types.specs.Print.{hex2}
 use Rattle.iocm_values.specs.CssLists.{css_number}
 use Rattle.iocm_values.specs.Numbers.{path_number}
 use Rattle.iocm_values.specs.Reading.{◌>>=◌}
+use Rattle.iocm_values.specs.Texts.{list_text, css_text}
 use Rattle.iocm_values.specs.Value.{Value, word, list, values, items_or_one}
 
 -- the path of this number in a channel subsystem
@@ -26,3 +28,7 @@ path_of_items items = path_listed items
 -- or cc alone
 abbrev pub path_of : Value → Option CssPath
 path_of v = items_or_one v >>= path_of_items
+
+-- a path as it is written: (CSS(n),cc)
+abbrev pub path_text : CssPath → List ℕ
+path_text p = list_text (css_text p.css ∷ hex2 p.path ∷ [])

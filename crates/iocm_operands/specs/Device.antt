@@ -1,16 +1,19 @@
 -- The values of IODEVICE: addresses, units, the first unit address, subchannel set, candidates.
 -- IOCP User's Guide, IODEVICE statement; the forms and the most devices of a statement are own.
-use Rattle.std.specs.Prelude.{ℕ, ◌+◌, ◌||◌, nat_le, Bool, is_some, if◌then◌else◌, Option, None, Some, List, [], ◌∷◌, codes}
+use Rattle.std.specs.Prelude.{ℕ, ◌+◌, ◌||◌, nat_le, Bool, is_some, if◌then◌else◌, Option, None, Some, List, [], ◌∷◌, map, codes}
+use Rattle.std.specs.Fmt.{decimal}
 use Rattle.std.specs.List.{filter_map}
 use Rattle.std.specs.Option.{option_map}
 use Rattle.std.specs.Str.{bytes_eq}
 use Rattle.iocm_types.specs.Name.{name_of}
+use Rattle.iocm_types.specs.Print.{hex4}
 use Rattle.iocm_operands.specs.declared.device.Devices.{Devices}
 use Rattle.iocm_values.specs.CssLists.{css_number}
 use Rattle.iocm_values.specs.Digits.{hex_of, decimal_of}
 use Rattle.iocm_values.specs.NameSet.{name_set}
 use Rattle.iocm_values.specs.Numbers.{unit_number, count_of}
 use Rattle.iocm_values.specs.Reading.{◌>>=◌, every}
+use Rattle.iocm_values.specs.Texts.{list_text}
 use Rattle.iocm_values.specs.Value.{Value, word, list, items_or_one, word_text}
 use Rattle.iocm_values.specs.Words.{words}
 
@@ -63,3 +66,11 @@ candidate_alone text = if bytes_eq text (codes "0") then Some [] else option_map
 abbrev pub candidates_of : Value → Option (List (List ℕ))
 candidates_of (word text) = candidate_alone text
 candidates_of (list inner) = candidates_listed inner
+
+-- devices as they are written: (1000,4)
+abbrev pub devices_text : Devices → List ℕ
+devices_text d = list_text (hex4 d.first ∷ decimal d.count ∷ [])
+
+-- units as they are written: (1000,1001)
+abbrev pub units_text : List ℕ → List ℕ
+units_text units = list_text (map hex4 units)

@@ -1,14 +1,17 @@
 -- MAXDEV of RESOURCE: the limits of the subchannel sets.
 -- IOCP User's Guide, RESOURCE statement; that empty and absent places give no record is own.
-use Rattle.std.specs.Prelude.{ℕ, ◌==◌, nat_lt, true, if◌then◌else◌, Option, None, Some, List, filter, length}
-use Rattle.std.specs.List.{filter_map}
-use Rattle.std.specs.Option.{option_map}
+use Rattle.std.specs.Prelude.{ℕ, suc, ◌==◌, ◌&&◌, nat_lt, Bool, true, max, if◌then◌else◌, Option, None, Some, List, [], map, filter, fold, length}
+use Rattle.std.specs.Fmt.{decimal}
+use Rattle.std.specs.List.{filter_map, find, flat_map, range_with_len}
+use Rattle.std.specs.Option.{option_map, option_map_or}
 use Rattle.iocm_model.specs.Machine.Record.{LimitRecord}
 use Rattle.iocm_model.specs.Machine.Numbering.{subsystems}
 use Rattle.iocm_operands.specs.declared.limits.LimitPlace.{LimitPlace}
+use Rattle.iocm_values.specs.declared.texts.CssText.{CssText}
 use Rattle.iocm_values.specs.CssLists.{by_css}
 use Rattle.iocm_values.specs.Digits.{decimal_of}
 use Rattle.iocm_values.specs.Reading.{◌>>=◌, every_at, gathered}
+use Rattle.iocm_values.specs.Texts.{by_css_text}
 use Rattle.iocm_values.specs.Value.{Value, word_text}
 
 -- a limit, or an empty place
@@ -29,3 +32,22 @@ limits_in places css = option_map (filter_map (λ l. l)) (every_at limit_at 0 (f
 -- the limits of MAXDEV, a list by channel subsystem whose groups may lack items
 abbrev pub limits_of : Value → Option (List LimitRecord)
 limits_of v = by_css true limit_item (λ (p : LimitPlace). p.css) v >>= λ places. gathered (limits_in places) subsystems
+
+-- a limit is that of a set of a channel subsystem
+abbrev pub is_limit_at : ℕ → ℕ → LimitRecord → Bool
+is_limit_at css set l = (l.css == css) && (l.set == set)
+
+-- the place of a set, empty where it has no limit
+abbrev pub place_text : List LimitRecord → ℕ → ℕ → CssText
+place_text limits css set = record { css = css; text = option_map_or (λ (l : LimitRecord). decimal l.limit) (find (is_limit_at css set) limits) [] }
+
+-- how many places a channel subsystem has: up to its last limit
+abbrev pub count_places : List LimitRecord → ℕ → ℕ
+count_places limits css = fold max 0 (map (λ (l : LimitRecord). suc l.set) (filter (λ (l : LimitRecord). l.css == css) limits))
+
+abbrev pub places_in : List LimitRecord → ℕ → List CssText
+places_in limits css = map (place_text limits css) (range_with_len 0 (count_places limits css))
+
+-- limits as they are written: ((CSS(0),,5))
+abbrev pub limits_text : List LimitRecord → List ℕ
+limits_text limits = by_css_text (flat_map (places_in limits) subsystems)

@@ -5,12 +5,15 @@ use Rattle.std.specs.List.{filter_map}
 use Rattle.std.specs.Option.{option_and_then, option_map}
 use Rattle.std.specs.Str.{bytes_eq}
 use Rattle.iocm_types.specs.Name.{name_of}
+use Rattle.iocm_types.specs.Print.{hex1}
 use Rattle.iocm_model.specs.Machine.Record.{ImageRecord}
 use Rattle.iocm_operands.specs.declared.resource.ImagePlace.{ImagePlace}
+use Rattle.iocm_values.specs.declared.texts.CssText.{CssText}
 use Rattle.iocm_values.specs.CssLists.{by_css}
 use Rattle.iocm_values.specs.Digits.{hex_of}
 use Rattle.iocm_values.specs.NameSet.{name_set}
 use Rattle.iocm_values.specs.Reading.{◌>>=◌}
+use Rattle.iocm_values.specs.Texts.{list_text, by_css_text}
 use Rattle.iocm_values.specs.Value.{Value, word, items}
 
 -- a MIF image ID, one digit 1 to F
@@ -41,3 +44,11 @@ images_of v = option_map (filter_map image_at) (by_css false image_item (λ (p :
 -- the names of the images of a channel subsystem
 abbrev pub names_in : ℕ → List ImageRecord → List (List ℕ)
 names_in css images = name_set (map (λ (i : ImageRecord). i.name) (filter (λ (i : ImageRecord). i.css == css) images))
+
+-- an image as it is written, in the group of its channel subsystem: (LPA,1)
+abbrev pub image_text : ImageRecord → CssText
+image_text i = record { css = i.css; text = list_text (i.name ∷ hex1 i.mif ∷ []) }
+
+-- images as they are written: ((CSS(0),(LPA,1),(LPB,2)))
+abbrev pub images_text : List ImageRecord → List ℕ
+images_text images = by_css_text (map image_text images)

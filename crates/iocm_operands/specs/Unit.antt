@@ -1,17 +1,21 @@
 -- The values of CNTLUNIT: number, paths, ranges of unit addresses, links, control unit address.
 -- IOCP User's Guide, CNTLUNIT statement; the forms are own.
-use Rattle.std.specs.Prelude.{ℕ, ◌==◌, false, if◌then◌else◌, Option, None, Some, List, [], ◌∷◌, length, codes}
+use Rattle.std.specs.Prelude.{ℕ, ◌==◌, false, if◌then◌else◌, Option, None, Some, List, [], ◌∷◌, map, length, codes}
 use Rattle.std.specs.Option.{option_map, option_and_then}
+use Rattle.std.specs.Fmt.{decimal}
 use Rattle.std.specs.Str.{bytes_eq}
+use Rattle.iocm_types.specs.Print.{hex2, hex4}
 use Rattle.iocm_types.specs.declared.css_path.CssPath.{CssPath}
 use Rattle.iocm_types.specs.declared.link.CssLink.{CssLink}
 use Rattle.iocm_types.specs.declared.link.Link.{Link}
 use Rattle.iocm_types.specs.declared.link.Link.TheVariants as link
 use Rattle.iocm_types.specs.declared.unit_range.UnitRange.{UnitRange}
+use Rattle.iocm_values.specs.declared.texts.CssText.{CssText}
 use Rattle.iocm_values.specs.CssLists.{by_css}
 use Rattle.iocm_values.specs.Digits.{hex_of}
 use Rattle.iocm_values.specs.Numbers.{unit_number, path_number, unit_address, count_of}
 use Rattle.iocm_values.specs.Reading.{◌>>=◌, every}
+use Rattle.iocm_values.specs.Texts.{list_text, by_css_text}
 use Rattle.iocm_values.specs.Value.{Value, word, list, items_or_one, word_text}
 
 -- a unit's number, which stands alone
@@ -72,3 +76,32 @@ all_addresses = record { start = 0; count = 256 } ∷ []
 -- the control unit address, one or two digits
 abbrev pub cuadd_of : Value → Option ℕ
 cuadd_of v = word_text v >>= unit_address
+
+-- As they are written. A path in the group of its channel subsystem
+abbrev pub path_item_text : CssPath → CssText
+path_item_text p = record { css = p.css; text = hex2 p.path }
+
+-- paths: ((CSS(0),50,51))
+abbrev pub paths_text : List CssPath → List ℕ
+paths_text paths = by_css_text (map path_item_text paths)
+
+-- a range: (00,16)
+abbrev pub range_text : UnitRange → List ℕ
+range_text r = list_text (hex2 r.start ∷ decimal r.count ∷ [])
+
+-- ranges: ((00,16),(20,8))
+abbrev pub ranges_text : List UnitRange → List ℕ
+ranges_text ranges = list_text (map range_text ranges)
+
+-- a link: two digits, four digits, or ** for none
+abbrev pub link_text : Link → List ℕ
+link_text link.None = codes "**"
+link_text (link.Short n) = hex2 n
+link_text (link.Long n) = hex4 n
+
+abbrev pub link_item_text : CssLink → CssText
+link_item_text l = record { css = l.css; text = link_text l.link }
+
+-- links: ((CSS(0),1A,**))
+abbrev pub links_text : List CssLink → List ℕ
+links_text links = by_css_text (map link_item_text links)

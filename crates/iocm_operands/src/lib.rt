@@ -10,6 +10,7 @@
 mod chpid_partition;
 mod chpid_path;
 mod device;
+mod laws;
 mod limits;
 mod resource;
 mod unit;
@@ -17,6 +18,12 @@ mod unit;
 pub use chpid_partition::{Partition, partition_of};
 pub use chpid_path::path_of;
 pub use device::{Devices, candidates_of, devices_of, first_address, set_of, units_of};
+pub use laws::{
+    candidates_are_read_again, devices_are_read_again, images_are_read_again,
+    limits_are_read_again, links_are_read_again, numbers_are_read_again, operands_are_written,
+    partition_is_read_again, path_is_read_again, paths_are_read_again, ranges_are_read_again,
+    units_are_read_again, what_is_read_can_be_written,
+};
 pub use limits::{LimitEntry, limits_of};
 pub use resource::{ImageEntry, images_of, names_in};
 pub use unit::{all_addresses, cuadd_of, links_of, number_of, paths_of, ranges_of};

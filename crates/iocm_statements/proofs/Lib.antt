@@ -1,8 +1,8 @@
 mod Cutting
 mod Looked
-mod Nestings
-mod Relation
+pub mod Nestings
+pub mod Relation
 pub mod Runs
-mod Saying
+pub mod Saying
 mod Splitting
 mod Twins

@@ -1,5 +1,5 @@
 -- The operations by their names.
-use Rattle.std.specs.Prelude.{ℕ, List, if◌then◌else◌, Option, None, Some, codes}
+use Rattle.std.specs.Prelude.{◌≡◌, ℕ, List, if◌then◌else◌, Option, None, Some, codes}
 use Rattle.std.specs.Str.{bytes_eq}
 use Rattle.iocm_statements.specs.declared.operation.Operation.{Operation}
 use Rattle.iocm_statements.specs.declared.operation.Operation.TheVariants.{Id, Resource, Chpid, Cntlunit, Iodevice, Online, Row, Group, Choose, End}
@@ -18,3 +18,20 @@ operation_named name =
     else if bytes_eq name (codes "CHOOSE") then Some Choose
     else if bytes_eq name (codes "END") then Some End
     else None
+
+-- the name of an operation
+abbrev pub operation_name : Operation → List ℕ
+operation_name Id = codes "ID"
+operation_name Resource = codes "RESOURCE"
+operation_name Chpid = codes "CHPID"
+operation_name Cntlunit = codes "CNTLUNIT"
+operation_name Iodevice = codes "IODEVICE"
+operation_name Online = codes "ONLINE"
+operation_name Row = codes "ROW"
+operation_name Group = codes "GROUP"
+operation_name Choose = codes "CHOOSE"
+operation_name End = codes "END"
+
+-- an operation is found by its name
+abbrev pub IsNamedByItsName : Type 0
+IsNamedByItsName = (operation : Operation) → operation_named (operation_name operation) ≡ Some operation

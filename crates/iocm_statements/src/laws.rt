@@ -1,3 +1,4 @@
+ghost use Rattle.iocm_statements.specs.Operation.{IsNamedByItsName};
 ghost use Rattle.iocm_statements.specs.Splitting.{FindsOperand, FindsNoOtherOperand};
 ghost use Rattle.iocm_statements.specs.Cutting.{FindsPieces, FindsNoOthers, CutsBalanced, CutsNoOthers};
 
@@ -16,4 +17,9 @@ pub fn pieces_are_those_of_the_text()
 pub fn operands_are_what_their_texts_say()
     ensures found { FindsOperand }
     ensures only { FindsNoOtherOperand }
+{}
+
+/// The name of an operation is that of no other.
+pub fn operations_are_named()
+    ensures { IsNamedByItsName }
 {}

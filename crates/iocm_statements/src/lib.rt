@@ -23,7 +23,9 @@ mod statement;
 mod tests;
 mod unread;
 
-pub use laws::{operands_are_what_their_texts_say, pieces_are_those_of_the_text};
+pub use laws::{
+    operands_are_what_their_texts_say, operations_are_named, pieces_are_those_of_the_text,
+};
 pub use nesting::Nesting;
 pub use operands::{OperandKey, Operands};
 pub use operation::Operation;

@@ -1,5 +1,5 @@
 ghost use Rattle.std.specs.Prelude.{◌≡◌};
-ghost use Rattle.iocm_statements.specs.Operation.{operation_named};
+ghost use Rattle.iocm_statements.specs.Operation.{operation_name, operation_named};
 
 /// What a statement does: the five of configuration decks, and those of change decks.
 #[derive(Clone, Copy, Debug, PartialEq, Eq)]
@@ -34,6 +34,24 @@ impl Operation {
             b"CHOOSE" => Some(Operation::Choose),
             b"END" => Some(Operation::End),
             _ => None,
+        }
+    }
+
+    /// The name of the operation, in upper case.
+    pub fn name(self) -> &'static [u8]
+        ensures { result.now ≡ operation_name self }
+    {
+        match self {
+            Operation::Id => b"ID",
+            Operation::Resource => b"RESOURCE",
+            Operation::Chpid => b"CHPID",
+            Operation::Cntlunit => b"CNTLUNIT",
+            Operation::Iodevice => b"IODEVICE",
+            Operation::Online => b"ONLINE",
+            Operation::Row => b"ROW",
+            Operation::Group => b"GROUP",
+            Operation::Choose => b"CHOOSE",
+            Operation::End => b"END",
         }
     }
 }

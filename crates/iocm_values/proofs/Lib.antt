@@ -1,3 +1,7 @@
+pub mod Joined
+pub mod Levels
 pub mod Naming
+pub mod Numerals
 pub mod Passing
+pub mod Pieces
 pub mod Reading

@@ -14,6 +14,7 @@ mod name_set;
 mod numbers;
 #[cfg(test)]
 mod tests;
+mod texts;
 mod value;
 mod word_list;
 
@@ -21,7 +22,8 @@ pub use css_lists::{
     CssItem, begins_with_css, begins_with_group, by_css, css_number, inside_css, is_css,
 };
 pub use digits::{decimal, hex, is_decimal_number, is_hex_number};
-pub use name_set::{add_name, names_of, set_of_names};
+pub use name_set::{add_name, names_of, names_text, set_of_names};
 pub use numbers::{count_of, path_number, unit_address, unit_number};
+pub use texts::{CssText, by_css_text, comma_text, css_text, list_text, printed, subsystem};
 pub use value::{Value, values};
 pub use word_list::words;
