@@ -19,9 +19,14 @@ show_is_read : IsReadPlainly (codes "show")
 unfolding clap_on_literals
 show_is_read program b bs h = (simp h, simp h)
 
+write_is_read : IsReadPlainly (codes "write")
+unfolding clap_on_literals
+write_is_read program b bs h = (simp h, simp h)
+
 each_is_read : (name : Text) → IsDeckCommand name → IsReadPlainly name
 each_is_read name (inl check) = subst IsReadPlainly (sym check) check_is_read
-each_is_read name (inr show) = subst IsReadPlainly (sym show) show_is_read
+each_is_read name (inr (inl show)) = subst IsReadPlainly (sym show) show_is_read
+each_is_read name (inr (inr write)) = subst IsReadPlainly (sym write) write_is_read
 
 -- so these words state a deck
 pub states_deck : (words : List Text) → NamesDeck words → StatesDeck words

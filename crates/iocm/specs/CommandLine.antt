@@ -6,7 +6,7 @@ use Rattle.clap.specs.declared.builder.command.Command as clap
 use Rattle.clap.specs.declared.builder.command.Command.TheViews.{out-Command}
 use Rattle.clap.specs.declared.error.kind.ErrorKind.TheVariants.{MissingRequiredArgument}
 use Rattle.iocm.specs.declared.command.Command.{Command}
-use Rattle.iocm.specs.declared.command.Command.TheVariants.{Check, Show}
+use Rattle.iocm.specs.declared.command.Command.TheVariants.{Check, Show, Write}
 
 -- the deck, which is required
 abbrev pub deck_rule : Rule
@@ -30,7 +30,7 @@ with_deck_command app name = with_subcommand app (deck_app name).top
 
 -- the program, with its commands
 abbrev pub iocm_app : App
-iocm_app = with_deck_command (with_deck_command bare_app (codes "check")) (codes "show")
+iocm_app = with_deck_command (with_deck_command (with_deck_command bare_app (codes "check")) (codes "show")) (codes "write")
 
 -- a command's name, and the value of its argument
 abbrev pub argument_of : Option (Text × List Row) → Option (Text × Option Text)
@@ -44,10 +44,11 @@ stated words = argument_of (subcommand_of iocm_app words)
 abbrev pub words_of : Command → Text × Option Text
 words_of (Check deck) = (codes "check", Some deck.now)
 words_of (Show deck) = (codes "show", Some deck.now)
+words_of (Write deck) = (codes "write", Some deck.now)
 
 -- the commands whose one argument is a deck
 abbrev pub IsDeckCommand : Text → Type 0
-IsDeckCommand name = (name ≡ codes "check") ⊎ (name ≡ codes "show")
+IsDeckCommand name = (name ≡ codes "check") ⊎ ((name ≡ codes "show") ⊎ (name ≡ codes "write"))
 
 -- the kinds of mistakes in the words
 abbrev pub mistakes : List Text → Kinds
@@ -61,7 +62,7 @@ mistakes_or_missing words = or_else (mistakes words) (MissingRequiredArgument �
 abbrev pub StatesDeck : List Text → Type 0
 StatesDeck words = (name deck : Text) × IsDeckCommand name × (mistakes words ≡ []) × (stated words ≡ Some (name, Some deck))
 
--- the program's name, `check` or `show`, and the name of a deck that doesn't begin with a hyphen
+-- the program's name, `check`, `show` or `write`, and the name of a deck that doesn't begin with a hyphen
 abbrev pub NamesDeck : List Text → Type 0
 NamesDeck words = (program name : Text) × (first : ℕ) × (rest : List ℕ) × IsDeckCommand name
     × (words ≡ program ∷ name ∷ (first ∷ rest) ∷ []) × ((first == 45) ≡ false)

@@ -6,7 +6,7 @@ ghost use Rattle.iocm.specs.Answer.{printed};
 
 use crate::command::Command;
 use iocm_columns::Device;
-use iocm_console::{ConsoleError, Output, Status, check_deck, show_deck};
+use iocm_console::{ConsoleError, Output, Status, answer_deck};
 use std::alloc::Global;
 use std::io::{Read, Write};
 
@@ -29,8 +29,5 @@ pub fn print_answer<R: Read, W: Write>(
     ensures unreadable { result ≡ Err ConsoleError.Read → StopsShort deck.new (reads_of deck.old + limit) }
     ensures unwritable { result ≡ Err ConsoleError.Write → has_failed output.new ≡ true }
 {
-    match command {
-        Command::Check { .. } => check_deck(alloc, deck, limit, output),
-        Command::Show { .. } => show_deck(alloc, deck, limit, output),
-    }
+    answer_deck(alloc, command.deck_command(), deck, limit, output)
 }

@@ -1,7 +1,7 @@
 //! `iocm`, a dynamic I/O reconfiguration manager for a channel subsystem.
 //!
 //! `iocm check DECK` reads a configuration deck, checks its rules and says how many records it has; `iocm show DECK`
-//! prints the table of its subchannels. The exit status is 0 where a command did what it was asked to do, 1 where
+//! prints the table of its subchannels, `iocm write DECK` the deck in its canonical order and forms. The exit status is 0 where a command did what it was asked to do, 1 where
 //! a text was refused (one line on standard output says why), 2 where the command line is not understood, and 3
 //! where a file cannot be read or the output cannot be written (`fault L5` or `fault L6` on standard error).
 //!

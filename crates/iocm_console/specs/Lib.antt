@@ -1,7 +1,9 @@
 pub mod Check
+pub mod Command
 pub mod Lines
 pub mod Opening
 pub mod Output
 pub mod Refusal
 pub mod Show
 pub mod Status
+pub mod Write

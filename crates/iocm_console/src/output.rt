@@ -109,6 +109,16 @@ impl<W: Write> Output<W> {
         self.note(written)
     }
 
+    /// Writes these bytes. Can't answer want of memory.
+    pub(crate) fn bytes(&mut self, bytes: &[u8]) -> Result<(), ConsoleError>
+        ensures text { OnOk result (Prints W.contents self.old self.new bytes.now) }
+        ensures works { OnOk result (has_failed self.new ≡ has_failed self.old) }
+        ensures fault { IfErr result (FailedToWrite self.new) }
+    {
+        let written = self.writer.write_all(bytes);
+        self.note(written)
+    }
+
     /// Hands on what the writer still keeps to itself.
     pub(crate) fn flush(&mut self) -> Result<(), ConsoleError>
         ensures text { Keeps (W.contents (writer_of self.old)) (W.contents (writer_of self.new)) }

@@ -1,4 +1,4 @@
-use crate::{ConsoleError, Output, Status, show_deck};
+use crate::{ConsoleError, DeckCommand, Output, Status, answer_deck};
 use iocm_columns::Device;
 use std::alloc::{AllocError, Global};
 use std::io;
@@ -74,7 +74,7 @@ impl Write for Sheet<'_> {
     }
 }
 
-/// What `show_deck` answers of the base deck, read 100 bytes at a time, the read behind `good` failing.
+/// What `answer_deck` answers of the base deck, read 100 bytes at a time, the read behind `good` failing.
 fn show_base(alloc: Global, good: u64, limit: u64, sheet: Sheet) -> Result<Status, ConsoleError> {
     let mut device = Device::new(Halting {
         bytes: BASE,
@@ -82,10 +82,10 @@ fn show_base(alloc: Global, good: u64, limit: u64, sheet: Sheet) -> Result<Statu
         good,
     });
     let mut output = Output::new(sheet);
-    show_deck(alloc, &mut device, limit, &mut output)
+    answer_deck(alloc, DeckCommand::Show, &mut device, limit, &mut output)
 }
 
-/// What `show_deck` prints of a deck, and how it ends; a device's fault is shown by its text.
+/// What `answer_deck` prints of a deck, and how it ends; a device's fault is shown by its text.
 fn printed(alloc: Global, deck: &[u8]) -> Result<Vec<u8>, AllocError> {
     let mut bytes = Vec::with_capacity(alloc, 1024)?;
     let mut device = Device::new(deck);
@@ -94,7 +94,7 @@ fn printed(alloc: Global, deck: &[u8]) -> Result<Vec<u8>, AllocError> {
         room: 1024,
         is_flushed: true,
     });
-    let ended = show_deck(alloc, &mut device, 10, &mut output);
+    let ended = answer_deck(alloc, DeckCommand::Show, &mut device, 10, &mut output);
     let end = match ended {
         Ok(status) => format!(in alloc; "{}", status.code())?,
         Err(fault) => format!(in alloc; "{fault}")?,
@@ -193,7 +193,7 @@ fn a_writer_that_keeps_the_table_to_itself_is_flushed(rt: HostRuntime) -> Result
     };
     let mut device = Device::new(BASE);
     let mut output = Output::new(BufWriter::new(rt.alloc(), sheet)?);
-    let ended = show_deck(rt.alloc(), &mut device, 10, &mut output);
+    let ended = answer_deck(rt.alloc(), DeckCommand::Show, &mut device, 10, &mut output);
     assert!(rt; matches!(ended, Err(ConsoleError::Write)));
     assert!(rt; output.has_failed());
     Ok(())

@@ -1,0 +1,5 @@
+mod Again
+mod Apart
+mod Given
+pub mod Rest
+pub mod Runs

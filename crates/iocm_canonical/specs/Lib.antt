@@ -1,0 +1,5 @@
+pub mod Again
+pub mod Canonical
+pub mod Device
+pub mod Resource
+pub mod Statement

@@ -1,8 +1,0 @@
-use Rattle.iocm_console.specs.Opening.{configuration_in}
-use Rattle.iocm_console.specs.Check.{accepted}
-use Rattle.iocm_console.proofs.Showing.{refuses}
-use Rattle.iocm_console.proofs.check.check_cards.Goals as goal
-
-pub returns-in-Err-clause-text : goal.returns-in-Err-clause-text
-returns-in-Err-clause-text g c = refuses g.W.Write.contents c.args.output.now c.refuse.new.output accepted c.refuse.result
-    (configuration_in c.args.cards.now) c.in-Err.fault c.in-Err.ensures.configuration c.refuse.ensures.text

@@ -1,8 +1,0 @@
-use Rattle.iocm_console.specs.Opening.{configuration_in}
-use Rattle.iocm_console.specs.Show.{table_done}
-use Rattle.iocm_console.proofs.Showing.{refuses}
-use Rattle.iocm_console.proofs.show.show_cards.Goals as goal
-
-pub returns-in-Err-clause-text : goal.returns-in-Err-clause-text
-returns-in-Err-clause-text g c = refuses g.W.Write.contents c.args.output.now c.refuse.new.output table_done c.refuse.result
-    (configuration_in c.args.cards.now) c.in-Err.fault c.in-Err.ensures.configuration c.refuse.ensures.text

@@ -1,0 +1,42 @@
+ghost use Rattle.std.specs.Prelude.{◌≡◌, IfOk, IfErr, OnOk};
+ghost use Rattle.iocm_console.specs.Opening.{Says, SaysIfMemory};
+ghost use Rattle.iocm_console.specs.Output.{has_failed, FailedToWrite};
+ghost use Rattle.iocm_console.specs.declared.status.Status.TheVariants.{Done};
+ghost use Rattle.iocm_console.specs.Write.{canonical_done};
+
+use crate::opening::refuse;
+use crate::{ConsoleError, Output, Status};
+use iocm_canonical::canonical_deck;
+use iocm_config::Config;
+use iocm_types::Fault;
+use std::alloc::Global;
+use std::io::Write;
+
+/// Prints the canonical deck of a configuration. All memory is taken before the first byte is written.
+///
+/// M1, a refusal, which is printed: memory was wanted.
+pub fn write_canonical<W: Write>(
+    alloc: Global,
+    output: &mut Output<W>,
+    config: &Config,
+) -> Result<Status, ConsoleError>
+    ensures text { IfOk result (SaysIfMemory W.contents output.old output.new (canonical_done config.now.records)) }
+    ensures works { OnOk result (has_failed output.new ≡ has_failed output.old) }
+    ensures fault { IfErr result (FailedToWrite output.new) }
+{
+    match canonical_deck(alloc, config) {
+        Ok(bytes) => write_deck(output, &bytes),
+        Err(error) => refuse(Fault::from(error), output),
+    }
+}
+
+/// Prints the bytes of a deck. Can't answer want of memory.
+fn write_deck<W: Write>(output: &mut Output<W>, bytes: &[u8]) -> Result<Status, ConsoleError>
+    ensures text { IfOk result (Says W.contents output.old output.new (record { text = bytes.now; status = Done })) }
+    ensures works { OnOk result (has_failed output.new ≡ has_failed output.old) }
+    ensures fault { IfErr result (FailedToWrite output.new) }
+{
+    output.bytes(bytes)?;
+    output.flush()?;
+    Ok(Status::Done)
+}

@@ -1,0 +1,114 @@
+ghost use Rattle.std.specs.Prelude.{◌≡◌, ◌+◌, ◌^◌, ◌<◌, ◌≤◌, ◌⊎◌, ℕ, List, Ok, Err, false, true, IfOk, IfErr, OnOk, IfSome};
+ghost use Rattle.iocm_types.specs.Fault.{memory};
+ghost use Rattle.iocm_model.specs.Machine.Numbering as model;
+ghost use Rattle.iocm_columns.specs.Device.{reader_of, reads_of, IsOpen, IsWhole, StopsShort};
+ghost use Rattle.iocm_console.specs.Output.{has_failed, FailedToWrite};
+ghost use Rattle.iocm_console.specs.Opening.{configuration_in, opened, opened_or_refused, refused, Says, SaysIfMemory};
+ghost use Rattle.iocm_console.specs.Command.{answered, shown_by};
+
+use crate::accepted::accept;
+use crate::canonical::write_canonical;
+use crate::opening::{Opened, answer_unread, breach_of, open_cards, refuse, refuse_breach};
+use crate::table::write_table;
+use crate::{ConsoleError, Output, Status};
+use iocm_columns::{Card, Device, read_cards};
+use iocm_types::Fault;
+use std::alloc::Global;
+use std::io::{Read, Write};
+
+/// A command whose one argument is a configuration deck.
+#[derive(Clone, Copy, Debug, PartialEq, Eq)]
+pub enum DeckCommand {
+    /// Print how many records its configuration has.
+    Check,
+    /// Print the table of its subchannels.
+    Show,
+    /// Print its canonical deck.
+    Write,
+}
+
+/// Prints what a command prints of the configuration that a deck describes, as it is opened, or the refusal of its first
+/// fault, or of the first rule that it breaks. The deck is read to its end by at most `limit` reads, and all memory is taken before the first byte
+/// is written.
+///
+/// L5 (`ConsoleError::Read`): a read failed, or none of `limit` reads gave the end; nothing is written then.
+/// L6 (`ConsoleError::Write`): a write failed; what is written up to there is not said. All other faults, want
+/// of memory (M1) too, are refusals, which are printed.
+pub fn answer_deck<R: Read, W: Write>(
+    alloc: Global,
+    command: DeckCommand,
+    device: &mut Device<R>,
+    limit: u64,
+    output: &mut Output<W>,
+) -> Result<Status, ConsoleError>
+    requires open { IsOpen device.old }
+    requires room { reads_of device.old + limit < 2 ^ 64 }
+    requires works { has_failed output.old ≡ false }
+    ensures reads { reads_of device.new ≤ reads_of device.old + limit }
+    ensures known_bytes { IfSome (R.remaining (reader_of device.old)) (λ bytes. IfOk result (SaysIfMemory W.contents output.old output.new (answered command bytes))) }
+    ensures some_bytes { (bytes : List ℕ) × IfOk result (SaysIfMemory W.contents output.old output.new (answered command bytes)) }
+    ensures whole { IfOk result (λ status. IsWhole device.new ⊎ Says W.contents output.old output.new (refused memory) status) }
+    ensures written { OnOk result (has_failed output.new ≡ false) }
+    ensures unreadable { result ≡ Err ConsoleError.Read → StopsShort device.new (reads_of device.old + limit) }
+    ensures untouched { result ≡ Err ConsoleError.Read → output.new ≡ output.old }
+    ensures unwritable { result ≡ Err ConsoleError.Write → has_failed output.new ≡ true }
+{
+    match read_cards(alloc, device, limit) {
+        Ok(cards) => answer_cards(alloc, command, &cards, output),
+        Err(fault) => answer_unread(fault, output),
+    }
+}
+
+/// Prints what a command prints of the lines of a deck, or their refusal.
+fn answer_cards<W: Write>(
+    alloc: Global,
+    command: DeckCommand,
+    cards: &[Card],
+    output: &mut Output<W>,
+) -> Result<Status, ConsoleError>
+    ensures text { IfOk result (SaysIfMemory W.contents output.old output.new (opened_or_refused (shown_by command) (configuration_in cards.now))) }
+    ensures works { OnOk result (has_failed output.new ≡ has_failed output.old) }
+    ensures fault { IfErr result (FailedToWrite output.new) }
+{
+    match open_cards(alloc, cards) {
+        Ok(opened) => answer_opened(alloc, command, &opened, output),
+        Err(fault) => refuse(fault, output),
+    }
+}
+
+/// Prints what a command prints of an opened deck, or which rule it breaks, or that memory is wanted.
+fn answer_opened<W: Write>(
+    alloc: Global,
+    command: DeckCommand,
+    deck: &Opened,
+    output: &mut Output<W>,
+) -> Result<Status, ConsoleError>
+    requires { deck.now.numbers.numbers ≡ model.opening deck.now.config.records }
+    ensures text { IfOk result (SaysIfMemory W.contents output.old output.new (opened (shown_by command) deck.now.config.records)) }
+    ensures works { OnOk result (has_failed output.new ≡ has_failed output.old) }
+    ensures fault { IfErr result (FailedToWrite output.new) }
+{
+    match breach_of(alloc, deck) {
+        Ok(None) => answer_kept(alloc, command, deck, output),
+        Ok(Some(breach)) => refuse_breach(breach, output),
+        Err(error) => refuse(Fault::from(error), output),
+    }
+}
+
+/// Prints what a command prints of an opened deck that keeps the rules, or that memory is wanted.
+fn answer_kept<W: Write>(
+    alloc: Global,
+    command: DeckCommand,
+    deck: &Opened,
+    output: &mut Output<W>,
+) -> Result<Status, ConsoleError>
+    ensures text { IfOk result (SaysIfMemory W.contents output.old output.new (shown_by command deck.now.config.records deck.now.numbers.numbers)) }
+    ensures works { OnOk result (has_failed output.new ≡ has_failed output.old) }
+    ensures fault { IfErr result (FailedToWrite output.new) }
+{
+    match command {
+        DeckCommand::Check => accept(&deck.config, output),
+        DeckCommand::Show => write_table(alloc, output, &deck.config, &deck.numbers),
+        DeckCommand::Write => write_canonical(alloc, output, &deck.config),
+    }
+}
