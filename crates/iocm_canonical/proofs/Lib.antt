@@ -1,5 +1,5 @@
-mod Again
-mod Apart
-mod Given
+pub mod Again
+pub mod Apart
+pub mod Given
 pub mod Rest
 pub mod Runs

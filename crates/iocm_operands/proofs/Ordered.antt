@@ -20,7 +20,7 @@ use Rattle.iocm_operands.proofs.Grouped.{all_css}
 
 -- ---- sets of names
 
-abbrev AreSorted : List (List ℕ) → Type 0
+abbrev pub AreSorted : List (List ℕ) → Type 0
 AreSorted names = IsStrictlySortedBy name_cmp names
 
 abbrev AllBehind : List ℕ → List (List ℕ) → Type 0
@@ -80,9 +80,13 @@ fold_again (name ∷ names) front sorted =
     ap (λ set. fold with_name set names) (goes_last front name names sorted)
     ∙ fold_again names (front ++ name ∷ []) (subst AreSorted moved sorted) ∙ sym moved
 
+-- the names of a set rise
+pub set_is_sorted : (names : List (List ℕ)) → AreSorted (name_set names)
+set_is_sorted names = sorted_fold names [] none_sorted
+
 -- a set of names is that of its names
 pub set_of_set : (names : List (List ℕ)) → name_set (name_set names) ≡ name_set names
-set_of_set names = fold_again (name_set names) [] (sorted_fold names [] none_sorted)
+set_of_set names = fold_again (name_set names) [] (set_is_sorted names)
 
 all_with : (P : List ℕ → Type 0) (names : List (List ℕ)) (name : List ℕ) → All P names → P name → All P (with_name names name)
 all_with P [] name all is = All-cons P name [] is (All-nil P)

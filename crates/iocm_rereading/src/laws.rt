@@ -1,0 +1,24 @@
+//! What holds of the definitions themselves. Each law is the contract of a function that does nothing.
+ghost use Rattle.iocm_rereading.specs.Running.{AreGivenRuns, AreMaximal, AreRunsOfDevices};
+ghost use Rattle.iocm_rereading.specs.Stating.{ReadsChpidAgain, ReadsCntlunitAgain, ReadsIdAgain, ReadsIodeviceAgain, ReadsResourceAgain, ReadsStatementsAgain};
+
+/// Runs of devices stand for the devices, in their order, and no two neighbours could be one. Runs of devices that decks give are such.
+pub fn runs_are_the_devices()
+    ensures devices { AreRunsOfDevices }
+    ensures maximal { AreMaximal }
+    ensures given { AreGivenRuns }
+{}
+
+/// Canonical statements that can be written are read from their bytes as these statements.
+pub fn statements_are_read_again()
+    ensures { ReadsStatementsAgain }
+{}
+
+/// Each statement of the canonical deck can be written, has no fault, and is read as the records that it was written of.
+pub fn statements_are_read_as_records()
+    ensures id { ReadsIdAgain }
+    ensures resource { ReadsResourceAgain }
+    ensures chpid { ReadsChpidAgain }
+    ensures cntlunit { ReadsCntlunitAgain }
+    ensures iodevice { ReadsIodeviceAgain }
+{}
