@@ -8,6 +8,7 @@ pub mod Listing
 pub mod Refusing
 pub mod Walking
 pub mod Scanning
+pub mod Showing
 pub mod Slicing
 pub mod Relating
 pub mod Pieces

@@ -1,3 +1,4 @@
+pub mod Again
 pub mod Hexadecimal
 pub mod Line
 pub mod Opened

@@ -1,3 +1,4 @@
+pub mod Again
 pub mod Check
 pub mod Command
 pub mod Lines

@@ -19,6 +19,7 @@ mod cells;
 mod command;
 mod digits;
 mod error;
+mod laws;
 mod opening;
 mod output;
 mod refusal;
@@ -30,6 +31,7 @@ mod tests;
 
 pub use command::{DeckCommand, answer_deck};
 pub use error::ConsoleError;
+pub use laws::what_is_written_is_read_again;
 pub use opening::refuse;
 pub use output::Output;
 pub use refusal::{BreachRefusal, Refusal};

@@ -23,6 +23,13 @@ const BASE_TABLE: &[u8] = b"CSS IM SET SUBC DEVN PIM PAM CHPIDS
 0   2  0   0003 1003 C0  80  50 51
 ";
 
+const BASE_WRITTEN: &[u8] = b"         RESOURCE PARTITION=((CSS(0),(LPA,1),(LPB,2)))
+         CHPID PATH=(CSS(0),50),SHARED,PARTITION=((LPA,LPB),(LPA,LPB))
+         CHPID PATH=(CSS(0),51),SHARED,PARTITION=((LPA),(LPA,LPB))
+         CNTLUNIT CUNUMBR=1000,PATH=((CSS(0),50,51)),UNITADD=((00,16))
+         IODEVICE ADDRESS=(1000,4),CUNUMBR=(1000),UNITADD=00
+";
+
 const WANT_OF_MEMORY: &[u8] = b"refused M1\n";
 
 /// A reader that gives at most `step` bytes at each read, and fails at the read behind `good`.
@@ -199,19 +206,37 @@ fn a_writer_that_keeps_the_table_to_itself_is_flushed(rt: HostRuntime) -> Result
     Ok(())
 }
 
-#[test]
-fn want_of_memory_is_refused_alone(rt: HostRuntime) -> Result<(), Fail> {
-    let Ok(mut bytes) = Vec::with_capacity(rt.alloc(), 1024) else {
-        return Ok(());
+/// Whether a command prints this of the base deck, or only that memory is wanted.
+fn is_whole_or_refused(alloc: Global, command: DeckCommand, wanted: &[u8]) -> bool {
+    let Ok(mut bytes) = Vec::with_capacity(alloc, 1024) else {
+        return true;
     };
-    let sheet = Sheet {
+    let mut device = Device::new(BASE);
+    let mut output = Output::new(Sheet {
         bytes: &mut bytes,
         room: 1024,
         is_flushed: true,
-    };
-    let ended = show_base(rt.alloc(), 100, 100, sheet);
-    let is_shown = matches!(ended, Ok(Status::Done)) && bytes.as_slice() == BASE_TABLE;
+    });
+    let ended = answer_deck(alloc, command, &mut device, 100, &mut output);
+    let is_whole = matches!(ended, Ok(Status::Done)) && bytes.as_slice() == wanted;
     let is_refused = matches!(ended, Ok(Status::Refused)) && bytes.as_slice() == WANT_OF_MEMORY;
-    assert!(rt; is_shown || is_refused);
+    is_whole || is_refused
+}
+
+#[test]
+fn a_check_without_memory_is_refused_alone(rt: HostRuntime) -> Result<(), Fail> {
+    assert!(rt; is_whole_or_refused(rt.alloc(), DeckCommand::Check, b"accepted 12\n"));
+    Ok(())
+}
+
+#[test]
+fn a_table_without_memory_is_refused_alone(rt: HostRuntime) -> Result<(), Fail> {
+    assert!(rt; is_whole_or_refused(rt.alloc(), DeckCommand::Show, BASE_TABLE));
+    Ok(())
+}
+
+#[test]
+fn a_deck_without_memory_is_refused_alone(rt: HostRuntime) -> Result<(), Fail> {
+    assert!(rt; is_whole_or_refused(rt.alloc(), DeckCommand::Write, BASE_WRITTEN));
     Ok(())
 }

@@ -14,6 +14,7 @@ use Rattle.iocm_columns.specs.Cards.{is_printable}
 use Rattle.iocm_columns.specs.Part.{switched, is_quoting}
 use Rattle.iocm_columns.specs.Written.{IsWritable, is_graphic, without_line}
 use Rattle.iocm_columns.proofs.Rereading.{deck_is_read_again}
+use Rattle.iocm_columns.proofs.Showing.{IsInside, no_blank, inside_both}
 use Rattle.iocm_columns.proofs.WrittenTexts.{AreInside}
 use Rattle.iocm_model.specs.Machine.Record.{CarriedOperand}
 use Rattle.iocm_statements.specs.declared.nesting.Nesting.{Nesting}
@@ -54,38 +55,16 @@ quoted_behind p q (b ∷ bs) is = by (step p b) refl (λ r. quoted_behind r q bs
     by (Some r) next rest is =
         ap (λ inside. fold switched inside bs) (sym (byte_switches p b) ∙ ap (quoted_or (switched p.quoted b)) next) ∙ rest r is
 
-balanced_is_closed : (text : List ℕ) → IsBalanced text → is_quoting text ≡ false
+pub balanced_is_closed : (text : List ℕ) → IsBalanced text → is_quoting text ≡ false
 balanced_is_closed text balanced = quoted_behind start start text balanced
 
 -- ---- texts that can stand in an operand part
-
--- each blank is inside quotes, in a text that begins inside or outside
-abbrev IsInside : Bool → List ℕ → Type 0
-IsInside inside text = (before after : List ℕ) → text ≡ before ++ 32 ∷ after → fold switched inside before ≡ true
 
 -- a text that can stand there: printable, its blanks inside quotes, which are closed
 record IsPart (text : List ℕ) : Type 0 where
   pub printable : list_all is_printable text ≡ true
   pub inside : AreInside text
   pub closed : is_quoting text ≡ false
-
-no_blank : (before after : List ℕ) → [] ≢ before ++ 32 ∷ after
-no_blank [] after = λ e. cc
-no_blank (y ∷ before) after = λ e. cc
-
--- blanks of a text behind another are inside quotes where they are so behind the quotes of the first
-inside_both : (inside : Bool) (a b : List ℕ) → IsInside inside a → IsInside (fold switched inside a) b → IsInside inside (a ++ b)
-inside_both inside [] b first second = second
-inside_both inside (x ∷ a) b first second = by (inside_both (switched inside x) a b (λ c d h. first (x ∷ c) d (ap (λ t. x ∷ t) h)) second)
-  where
-    by : IsInside (switched inside x) (a ++ b) → IsInside inside (x ∷ (a ++ b))
-    by rest [] after e =
-        let blank : x ≡ 32 = cc in
-        first [] a (ap (λ y. y ∷ a) blank)
-    by rest (y ∷ before) after e =
-        let same : x ≡ y = cc in
-        let more : a ++ b ≡ before ++ 32 ∷ after = cc in
-        ap (λ z. fold switched (switched inside z) before) (sym same) ∙ rest before after more
 
 no_part : IsPart []
 no_part = record { printable = refl; inside = λ before after e. absurd (no_blank before after e); closed = refl }

@@ -4,8 +4,10 @@ pub mod ByKind
 pub mod BySubsystem
 pub mod Columns
 pub mod Deck
+pub mod Fields
 pub mod Following
 pub mod Forms
+pub mod GivenRecords
 pub mod InOrder
 pub mod Keys
 pub mod Known
@@ -20,6 +22,7 @@ pub mod Records
 pub mod Rows
 pub mod Running
 pub mod Same
+pub mod Shown
 pub mod Stated
 pub mod Texts
 pub mod Whole

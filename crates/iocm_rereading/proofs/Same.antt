@@ -7,10 +7,11 @@ use Rattle.iocm_model.specs.Machine.Record.{Rec}
 use Rattle.iocm_model.specs.Machine.Configuration.{configuration_of, records_of}
 use Rattle.iocm_config.proofs.Keyed.{keyed_made}
 use Rattle.iocm_canonical.specs.Canonical.{canonical_deck}
-use Rattle.iocm_rereading.specs.Again.{records_in, configuration_in, GivesRecords, ReadsConfigurationAgain}
+use Rattle.iocm_rereading.specs.Again.{records_in, configuration_in, ReadsConfigurationAgain}
 use Rattle.iocm_rereading.specs.Given.{IsGiven}
 use Rattle.iocm_rereading.proofs.Among.{IsAmong}
 use Rattle.iocm_rereading.proofs.Deck.{deck_is_read_again}
+use Rattle.iocm_rereading.proofs.GivenRecords.{gives_records}
 use Rattle.iocm_rereading.proofs.Keys.{is_of_its_deck}
 use Rattle.iocm_rereading.proofs.Members.{was_among}
 
@@ -27,19 +28,18 @@ of_all P (x ∷ xs) each = All-cons P x xs (each x (inl refl)) (of_all P xs (λ 
 all_given : (records : List Rec) → All IsGiven records → All IsGiven (records_of (configuration_of records))
 all_given records are = of_all IsGiven (records_of (configuration_of records)) (λ r is. of_one IsGiven r records are (was_among r records is))
 
-module _ (gives_records : GivesRecords) where
-  same_again : (bytes : List ℕ) (records : List Rec) → records_in bytes ≡ Ok records
-      → configuration_in (canonical_deck (configuration_of records)) ≡ Ok (configuration_of records)
-  same_again bytes records is =
-      let c = configuration_of records in
-      ap (λ read. read >>= λ rs. Ok (configuration_of rs)) (deck_is_read_again c (keyed_made records) (all_given records (gives_records bytes records is)))
-      ∙ ap Ok (is_of_its_deck bytes records is)
+same_again : (bytes : List ℕ) (records : List Rec) → records_in bytes ≡ Ok records
+    → configuration_in (canonical_deck (configuration_of records)) ≡ Ok (configuration_of records)
+same_again bytes records is =
+    let c = configuration_of records in
+    ap (λ read. read >>= λ rs. Ok (configuration_of rs)) (deck_is_read_again c (keyed_made records) (all_given records (gives_records bytes records is)))
+    ∙ ap Ok (is_of_its_deck bytes records is)
 
-  pub configuration_is_read_again : ReadsConfigurationAgain
-  configuration_is_read_again bytes c is = by (records_in bytes) refl is
-    where
-      by : (read : Result (List Rec) Fault) → records_in bytes ≡ read → (read >>= λ records. Ok (configuration_of records)) ≡ Ok c → configuration_in (canonical_deck c) ≡ Ok c
-      by (Err fault) same none = cc
-      by (Ok records) same some =
-          let own : configuration_of records ≡ c = cc in
-          subst (λ d. configuration_in (canonical_deck d) ≡ Ok d) own (same_again bytes records same)
+pub configuration_is_read_again : ReadsConfigurationAgain
+configuration_is_read_again bytes c is = by (records_in bytes) refl is
+  where
+    by : (read : Result (List Rec) Fault) → records_in bytes ≡ read → (read >>= λ records. Ok (configuration_of records)) ≡ Ok c → configuration_in (canonical_deck c) ≡ Ok c
+    by (Err fault) same none = cc
+    by (Ok records) same some =
+        let own : configuration_of records ≡ c = cc in
+        subst (λ d. configuration_in (canonical_deck d) ≡ Ok d) own (same_again bytes records same)

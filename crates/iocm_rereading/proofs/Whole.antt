@@ -1,5 +1,5 @@
 -- The records that a deck describes are their own deck, and no key stands twice among them.
-use Rattle.std.proofs.Common.{◌≡◌, ℕ, Bool, true, false, cond, Option, None, Some, List, [], ◌∷◌, ◌++◌, map, Result, Ok, Err, refl, sym, ap, ◌∙◌, append_assoc}
+use Rattle.std.proofs.Common.{◌≡◌, ℕ, Bool, true, false, cond, Option, None, Some, List, [], ◌∷◌, ◌++◌, map, Err, refl, sym, ap, ◌∙◌, append_assoc}
 use Rattle.std.proofs.lemmas.List.{append-nil}
 use Rattle.std.proofs.lemmas.List.Concat.{flat_map-append}
 use Rattle.std.proofs.lemmas.Result.{IfOk-weaker}
@@ -11,6 +11,7 @@ use Rattle.iocm_types.specs.declared.path_kind.PathKind.{PathKind}
 use Rattle.iocm_types.specs.declared.rule.Rule.{Rule}
 use Rattle.iocm_types.specs.declared.rule.Rule.TheVariants.{S8}
 use Rattle.iocm_types.specs.Fault.{◌>>=◌, or_fault, at}
+use Rattle.iocm_types.proofs.Giving.{whichever, in_turn}
 use Rattle.iocm_columns.specs.Statements.{joined_of}
 use Rattle.iocm_model.specs.Machine.Record.{Rec, CarriedOperand, ImageRecord, LimitRecord, DeviceRecord, image, limit, key_of}
 use Rattle.iocm_model.specs.Machine.Configuration.{HasNoKeyTwice}
@@ -35,20 +36,6 @@ use Rattle.iocm_rereading.specs.Again.{records_in, expanded, deck_of}
 -- they are their own deck: each path has its online records behind it
 abbrev pub AreWhole : List Rec → Type 0
 AreWhole records = deck_of records ≡ records
-
--- ---- what a reader gives in steps
-
--- whatever the first step gives
-pub whichever : {A B : Type 0} (P : B → Type 0) (read : Result A Fault) (next : A → Result B Fault)
-    → ((x : A) → IfOk (next x) P) → IfOk (read >>= next) P
-whichever P (Err e) next each = tt
-whichever P (Ok x) next each = each x
-
--- what the first step gives is such that the next one gives it
-pub in_turn : {A B : Type 0} (P : A → Type 0) (Q : B → Type 0) (read : Result A Fault) (next : A → Result B Fault)
-    → IfOk read P → ((x : A) → P x → IfOk (next x) Q) → IfOk (read >>= next) Q
-in_turn P Q (Err e) next first each = tt
-in_turn P Q (Ok x) next first each = each x first
 
 -- ---- records that are their own deck
 

@@ -1,4 +1,5 @@
 //! What holds of the definitions themselves. Each law is the contract of a function that does nothing.
+ghost use Rattle.iocm_rereading.specs.Again.{GivesRecords, IsOfItsDeck, ReadsConfigurationAgain, ReadsDeckAgain};
 ghost use Rattle.iocm_rereading.specs.Running.{AreGivenRuns, AreMaximal, AreRunsOfDevices};
 ghost use Rattle.iocm_rereading.specs.Stating.{ReadsChpidAgain, ReadsCntlunitAgain, ReadsIdAgain, ReadsIodeviceAgain, ReadsResourceAgain, ReadsStatementsAgain};
 
@@ -21,4 +22,14 @@ pub fn statements_are_read_as_records()
     ensures chpid { ReadsChpidAgain }
     ensures cntlunit { ReadsCntlunitAgain }
     ensures iodevice { ReadsIodeviceAgain }
+{}
+
+/// What is written of a configuration is read as its deck, if its records are such as decks give; each record that is read from a
+/// deck is such; and a configuration that was read from a deck is that of its deck. So what is written of it is read as the
+/// same configuration.
+pub fn decks_are_read_again()
+    ensures given { GivesRecords }
+    ensures deck { ReadsDeckAgain }
+    ensures own { IsOfItsDeck }
+    ensures same { ReadsConfigurationAgain }
 {}

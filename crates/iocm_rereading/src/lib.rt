@@ -10,4 +10,7 @@
 
 mod laws;
 
-pub use laws::{runs_are_the_devices, statements_are_read_again, statements_are_read_as_records};
+pub use laws::{
+    decks_are_read_again, runs_are_the_devices, statements_are_read_again,
+    statements_are_read_as_records,
+};

@@ -2,6 +2,7 @@ pub mod Any
 pub mod Each
 pub mod Entries
 pub mod Found
+pub mod Giving
 pub mod Lists
 pub mod Mapped
 pub mod Orderings
