@@ -12,5 +12,6 @@ pub mod Rules
 pub mod Runs
 pub mod SelectiveUndo
 pub mod Stages
+pub mod Starts
 pub mod Trees
 pub mod Views

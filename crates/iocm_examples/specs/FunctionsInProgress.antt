@@ -2,7 +2,8 @@
 -- start 1, halt 2, clear 4, and 8 more while status is pending.
 use Rattle.std.specs.Prelude.{ℕ, true}
 use Rattle.iocm_types.specs.declared.live.Phase.{Phase}
-use Rattle.iocm_types.specs.declared.live.Phase.TheVariants.{Idle, Busy, Pending}
+use Rattle.iocm_types.specs.declared.live.Phase.TheVariants.{Idle, StartPending, StartActive, Pending}
+use Rattle.iocm_types.specs.declared.live.Phase.TheVariants as phase
 use Rattle.iocm_types.specs.declared.order.Order.TheVariants.{Halt, Clear, Test, Store}
 use Rattle.iocm_types.specs.declared.order.Io.TheVariants.{Code, Status, Stored}
 use Rattle.iocm_types.specs.declared.live.Function.TheVariants as function
@@ -21,9 +22,10 @@ Tests phase bits = Does seen_by_lpa (enabled_in phase) Test (Status (record { 0 
 -- the bits of each phase
 pub record BitsOfPhases : Type 0 where
   pub idle : Stores Idle 0
-  pub start : Stores (Busy function.Start) 1
-  pub halt : Stores (Busy function.Halt) 2
-  pub clear : Stores (Busy function.Clear) 4
+  pub start_accepted : Stores StartPending 1
+  pub start : Stores StartActive 1
+  pub halt : Stores phase.Halt 2
+  pub clear : Stores phase.Clear 4
   pub start_pending : Stores (Pending function.Start) 9
   pub halt_pending : Stores (Pending function.Halt) 10
   pub clear_pending : Stores (Pending function.Clear) 12
@@ -32,5 +34,5 @@ pub record BitsOfPhases : Type 0 where
 
 -- HALT finds a clear in progress, and gives way; CLEAR doesn't give way to a halt
 pub record HaltAndClear : Type 0 where
-  pub halt : Refuses seen_by_lpa (enabled_in (Busy function.Clear)) Halt 2
-  pub clear : Does seen_by_lpa (enabled_in (Busy function.Halt)) Clear (Code 0) (enabled_in (Busy function.Clear))
+  pub halt : Refuses seen_by_lpa (enabled_in phase.Clear) Halt 2
+  pub clear : Does seen_by_lpa (enabled_in phase.Halt) Clear (Code 0) (enabled_in phase.Clear)

@@ -14,5 +14,6 @@ pub mod RuleClauses
 pub mod Rules
 pub mod SelectiveUndo
 pub mod Stages
+pub mod Starts
 pub mod Trees
 pub mod Views

@@ -31,6 +31,7 @@ ghost use Rattle.iocm_examples.specs.Stages.{
   AbortedAtEachStage,
   PastByACommit,
 };
+ghost use Rattle.iocm_examples.specs.Starts.{taken_back, ended_before_it_began, in_the_way, held_when_staged};
 
 /// Undo and redo of changes that stand on each other, that aren't there or that are past, and what the refusals name:
 /// runs on the example deck, computed from the definitions.
@@ -80,4 +81,13 @@ pub fn stages_are_as_worked()
     ensures to_come { Answers held_before_they_are_there }
     ensures each_stage { AbortedAtEachStage }
     ensures past { PastByACommit }
+{}
+
+/// Starts that are pending: CANCEL takes them back, a device begin makes them active, and until then they stand in the way of
+/// changes: computed.
+pub fn pending_starts_are_as_worked()
+    ensures taken_back { Answers taken_back }
+    ensures ended { Answers ended_before_it_began }
+    ensures in_the_way { Answers in_the_way }
+    ensures staged { Answers held_when_staged }
 {}

@@ -19,7 +19,7 @@ mod views;
 
 pub use effects::effects_are_as_worked;
 pub use histories::{
-    stages_are_as_worked, steps_elsewhere_are_as_worked,
+    pending_starts_are_as_worked, stages_are_as_worked, steps_elsewhere_are_as_worked,
     steps_on_altered_subchannels_are_as_worked, undo_and_redo_are_as_worked,
     undo_under_later_changes_is_as_worked,
 };

@@ -1,4 +1,4 @@
-ghost use Rattle.iocm_examples.specs.Orders.{AnOperation, NotOperational, StatusInTheWay, BusyWithAnother};
+ghost use Rattle.iocm_examples.specs.Orders.{AnOperation, NotOperational, StatusInTheWay, BusyWithAnother, APendingStart};
 ghost use Rattle.iocm_examples.specs.FunctionsInProgress.{BitsOfPhases, HaltAndClear};
 
 /// Orders and their condition codes on one subchannel, computed.
@@ -7,6 +7,7 @@ pub fn orders_are_as_worked()
     ensures not_operational { NotOperational }
     ensures status { StatusInTheWay }
     ensures busy { BusyWithAnother }
+    ensures start_pending { APendingStart }
 {}
 
 /// The status bits of each phase, and HALT and CLEAR while the other is in progress, computed.

@@ -6,7 +6,7 @@ use Rattle.iocm_types.specs.declared.answer.Answer.TheVariants as answers
 use Rattle.iocm_types.specs.declared.refused.Refused.{Refused}
 use Rattle.iocm_types.specs.declared.sub_id.SubId.{SubId}
 use Rattle.iocm_model.specs.Operation.State.{State}
-use Rattle.iocm_model.specs.Operation.Step.{Step, order, device_end, after_step, answer_in}
+use Rattle.iocm_model.specs.Operation.Step.{Step, order, device_begin, device_end, after_step, answer_in}
 use Rattle.iocm_model.specs.Change.Tree.{ChangeTree}
 use Rattle.iocm_model.specs.Change.Meaning.{Outcome, meaning}
 use Rattle.iocm_history.specs.Entry.{Call, at, activate, begin, advance, commit, abort, undo, redo, show, Entry, History, plain_entry}
@@ -86,6 +86,7 @@ module _ (m : Store) (b : Journal) (a : Account) (i : IsSettled m b a) where
   step_next : (x : SubId) (done : Step) (held : Bool) → is_held x a.stage ≡ held → IsEventNow (plain_entry (at x done) (unless_held held (answer_in now x done)))
   step_next x done true is = idles a.stage i.stage refl refl
   step_next x (order o) false is = steps x (order o) is refl refl
+  step_next x device_begin false is = steps x device_begin is refl refl
   step_next x device_end false is = steps x device_end is refl refl
 
   -- ---- changes

@@ -12,7 +12,7 @@ use Rattle.iocm_types.specs.SubId.{sub_id_cmp}
 use Rattle.iocm_types.specs.KeyOrder.{sub_ids_total, sub_ids_exact}
 use Rattle.iocm_types.proofs.Found.{same_key}
 use Rattle.iocm_model.specs.Operation.State.{State, Lives}
-use Rattle.iocm_model.specs.Operation.Step.{Step, order, device_end, subchannel_in, live_after_step, lives_after_step, after_step, answer_in}
+use Rattle.iocm_model.specs.Operation.Step.{Step, order, device_begin, device_end, subchannel_in, live_after_step, lives_after_step, after_step, answer_in}
 use Rattle.iocm_model.specs.Change.Maps.{with_value}
 use Rattle.iocm_model.specs.Laws.Trees.{IsRunFrom}
 use Rattle.iocm_model.proofs.Maps.Cells.{get_with_value}
@@ -71,6 +71,7 @@ stepped opening h x made used legal =
 pub steps_step : StepsStep
 unfolding account
 steps_step opening h x (order o) used legal = stepped opening h x (order o) used legal
+steps_step opening h x device_begin used legal = stepped opening h x device_begin used legal
 steps_step opening h x device_end used legal = stepped opening h x device_end used legal
 
 -- ---- activations
@@ -104,6 +105,7 @@ idle_act (activate p) Aborted s g none stays = refl
 idle_act (activate p) (Shown counts) s g none stays = refl
 idle_act (activate p) (answers.Refused why) s g none stays = refl
 idle_act (activate p) (answers.Io io) s g none stays = absurd stays
+idle_act (activate p) (answers.Begun was) s g none stays = absurd stays
 idle_act (activate p) (answers.Ended was) s g none stays = absurd stays
 idle_act (activate p) (answers.Changed m) s g none stays = absurd stays
 idle_act (activate p) (answers.Undone m) s g none stays = absurd stays
@@ -115,6 +117,7 @@ idle_act commit Aborted s g none stays = refl
 idle_act commit (Shown counts) s g none stays = refl
 idle_act commit (answers.Refused why) s g none stays = refl
 idle_act commit (answers.Io io) s g none stays = absurd stays
+idle_act commit (answers.Begun was) s g none stays = absurd stays
 idle_act commit (answers.Ended was) s g none stays = absurd stays
 idle_act commit (answers.Changed m) s g none stays = absurd stays
 idle_act commit (answers.Undone m) s g none stays = absurd stays
@@ -126,6 +129,7 @@ idle_act (undo n) Aborted s g none stays = refl
 idle_act (undo n) (Shown counts) s g none stays = refl
 idle_act (undo n) (answers.Refused why) s g none stays = refl
 idle_act (undo n) (answers.Io io) s g none stays = absurd stays
+idle_act (undo n) (answers.Begun was) s g none stays = absurd stays
 idle_act (undo n) (answers.Ended was) s g none stays = absurd stays
 idle_act (undo n) (answers.Changed m) s g none stays = absurd stays
 idle_act (undo n) (answers.Undone m) s g none stays = absurd stays
@@ -145,6 +149,7 @@ same_entries Aborted ls stays = refl
 same_entries (Shown counts) ls stays = refl
 same_entries (answers.Refused why) ls stays = refl
 same_entries (answers.Io io) ls stays = absurd stays
+same_entries (answers.Begun was) ls stays = absurd stays
 same_entries (answers.Ended was) ls stays = absurd stays
 same_entries (answers.Changed m) ls stays = absurd stays
 same_entries (answers.Undone m) ls stays = absurd stays
@@ -166,6 +171,7 @@ module _ (opening : State) (h : History) where
   held_act : (x : SubId) (made : Step) (held : Bool) → LeavesTheState (unless_held held (answer_in s x made)) → act_of (at x made) (unless_held held (answer_in s x made)) s a.stage ≡ nothing
   held_act x made true stays = refl
   held_act x (order o) false stays = absurd stays
+  held_act x device_begin false stays = absurd stays
   held_act x device_end false stays = absurd stays
 
   -- by whether the call is a step

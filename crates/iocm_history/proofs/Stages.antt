@@ -10,7 +10,7 @@ use Rattle.iocm_types.specs.declared.refused.Refused.{Refused}
 use Rattle.iocm_types.specs.declared.rule.Rule.TheVariants.{M1, O1}
 use Rattle.iocm_types.specs.declared.sub_id.SubId.{SubId}
 use Rattle.iocm_model.specs.Operation.State.{State}
-use Rattle.iocm_model.specs.Operation.Step.{Step, order, device_end, after_step, answer_in}
+use Rattle.iocm_model.specs.Operation.Step.{Step, order, device_begin, device_end, after_step, answer_in}
 use Rattle.iocm_model.specs.Change.Refusal.{refusal_at}
 use Rattle.iocm_model.specs.Change.Runs.{state_after_all}
 use Rattle.iocm_model.specs.Change.Tree.{ChangeTree}
@@ -224,6 +224,7 @@ module _ (opening : State) (h : History) (p : ChangeTree) (k : ℕ) where
     beside_any_step : (done : Step) → IsBeside opening h (step_here done ∷ between) p k
     unfolding account step_here
     beside_any_step (order o) = beside_step (order o) refl (λ l. refl)
+    beside_any_step device_begin = beside_step device_begin refl (λ l. refl)
     beside_any_step device_end = beside_step device_end refl (λ l. refl)
 
     step_beside : (done : Step) (e : Entry) → e ≡ plain_entry (at x done) (answer_in (state_at opening (with_begin between)) x done) → IsBeside opening h (e ∷ between) p k

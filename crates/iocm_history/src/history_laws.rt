@@ -17,7 +17,7 @@ pub fn states_stay_in_use()
     ensures { StatesStayInUse }
 {}
 
-/// An order or a device end that is not held is done in the state now.
+/// An order, a device begin or a device end that is not held is done in the state now.
 pub fn steps_step()
     ensures { StepsStep }
 {}

@@ -14,9 +14,11 @@ pub struct Counts {
 pub enum Answer {
     /// To an order.
     Io(Io),
+    /// To a device begin: whether a start was pending, which is active now.
+    Begun(bool),
     /// To a device end: whether a function was in progress, which it ended.
     Ended(bool),
-    /// To an order or a device end at a subchannel that the change being tried alters: it was not performed.
+    /// To an order, a device begin or a device end at a subchannel that the change being tried alters: it was not performed.
     Held,
     /// A change was accepted, with this number.
     Changed(u64),

@@ -9,13 +9,19 @@ pub enum Function {
 }
 
 /// Where a subchannel is in its work. The phases are own; the Principles of Operation have function,
-/// activity and status control bits for them.
+/// activity and status control bits for them. In the four between `Idle` and `Pending` the subchannel is busy.
 #[derive(Clone, Copy, Debug, PartialEq, Eq)]
 pub enum Phase {
     /// Nothing is in progress or pending.
     Idle,
-    /// The function is in progress.
-    Busy(Function),
+    /// The start function is accepted, and the device hasn't begun yet.
+    StartPending,
+    /// The start function is in progress at the device.
+    StartActive,
+    /// The halt function is in progress.
+    Halt,
+    /// The clear function is in progress.
+    Clear,
     /// The function has ended, and its status is pending.
     Pending(Function),
 }

@@ -9,6 +9,8 @@ pub enum Order {
     Halt,
     /// CLEAR SUBCHANNEL.
     Clear,
+    /// CANCEL SUBCHANNEL: takes back a start that is still pending.
+    Cancel,
     /// TEST SUBCHANNEL.
     Test,
     /// STORE SUBCHANNEL.

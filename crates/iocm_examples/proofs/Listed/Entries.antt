@@ -3,7 +3,7 @@ use Rattle.std.proofs.Common.{◌≡◌, ℕ, ◌==◌, Bool, true, false, Optio
 use Rattle.std.specs.Option.{option_map}
 use Rattle.std.specs.FinMap.{put, entries, empty, entries-insert}
 use Rattle.iocm_types.specs.declared.answer.Answer.{Answer}
-use Rattle.iocm_types.specs.declared.answer.Answer.TheVariants.{Changed, Undone, Redone, Shown, Refused, Io, Ended, Held, Staged, Left, Aborted}
+use Rattle.iocm_types.specs.declared.answer.Answer.TheVariants.{Changed, Undone, Redone, Shown, Refused, Io, Begun, Ended, Held, Staged, Left, Aborted}
 use Rattle.iocm_types.specs.declared.live.Live.{Live}
 use Rattle.iocm_types.specs.declared.sub_id.SubId.{SubId}
 use Rattle.iocm_types.specs.Key.{key_cmp}
@@ -208,6 +208,7 @@ pub remarked_seen : (a : Answer) (ls : List MarkedEntry) → lines_listing (entr
 remarked_seen (Undone n) ls = strike_seen (altered_by_change n ls) n ls ∙ ap (λ xs. strike_lines xs n (lines_listing ls)) (altered_seen n ls)
 remarked_seen (Redone n) ls = restore_seen (altered_by_change n ls) n ls ∙ ap (λ xs. restore_lines xs n (lines_listing ls)) (altered_seen n ls)
 remarked_seen (Io a) ls = refl
+remarked_seen (Begun a) ls = refl
 remarked_seen (Ended a) ls = refl
 remarked_seen (Changed n) ls = refl
 remarked_seen (Shown a) ls = refl

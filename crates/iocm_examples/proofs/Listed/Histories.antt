@@ -4,7 +4,7 @@ use Rattle.std.specs.List.{fold}
 use Rattle.std.specs.Option.{option_map}
 use Rattle.std.specs.FinMap.{find, get-entries, len-entries}
 use Rattle.iocm_types.specs.declared.answer.Answer.{Answer}
-use Rattle.iocm_types.specs.declared.answer.Answer.TheVariants.{Changed, Undone, Redone, Shown, Refused, Io, Ended, Held, Staged, Left, Aborted}
+use Rattle.iocm_types.specs.declared.answer.Answer.TheVariants.{Changed, Undone, Redone, Shown, Refused, Io, Begun, Ended, Held, Staged, Left, Aborted}
 use Rattle.iocm_types.specs.declared.refused.At.TheVariants.{Nothing}
 use Rattle.iocm_types.specs.declared.rule.Rule.{Rule}
 use Rattle.iocm_types.specs.declared.rule.Rule.TheVariants.{O1, O2}
@@ -13,7 +13,7 @@ use Rattle.iocm_types.specs.SubId.{sub_id_cmp}
 use Rattle.iocm_model.specs.Operation.State.{State, views_in, is_among}
 use Rattle.iocm_model.specs.Change.Refusal.{refusal_at, first_not_quiet}
 use Rattle.iocm_model.specs.Change.Meaning.{Outcome, meaning}
-use Rattle.iocm_model.specs.Operation.Step.{Step, order, device_end, after_step, answer_in}
+use Rattle.iocm_model.specs.Operation.Step.{Step, order, device_begin, device_end, after_step, answer_in}
 use Rattle.iocm_history.specs.Entry.{Call, at, activate, begin, advance, commit, abort, undo, redo, show, Entry, History, plain_entry}
 use Rattle.iocm_history.specs.Change.{change_of}
 use Rattle.iocm_history.specs.MarkedEntry.{kept, MarkedEntry, altered_by_change}
@@ -324,6 +324,10 @@ module _ (opening : State) (h : History) where
       (a_step x (order o) (find sub_id_cmp x (after_step_listed x (order o) y).lives)) m.stage
       (ap (a_step x (order o)) (get-entries (after_step x (order o) s).lives x ∙ ap (λ (z : ListedState). find sub_id_cmp x z.lives) (after_step_seen x (order o) s))) refl
       ∙ ap (λ r. made r (a_step x (order o) (find sub_id_cmp x (after_step_listed x (order o) y).lives)) m.stage m) (answer_seen s x (order o))
+  step_is x device_begin false = made_seen opening (plain_entry (at x device_begin) (answer_in s x device_begin)) h
+      (a_step x device_begin (find sub_id_cmp x (after_step_listed x device_begin y).lives)) m.stage
+      (ap (a_step x device_begin) (get-entries (after_step x device_begin s).lives x ∙ ap (λ (z : ListedState). find sub_id_cmp x z.lives) (after_step_seen x device_begin s))) refl
+      ∙ ap (λ r. made r (a_step x device_begin (find sub_id_cmp x (after_step_listed x device_begin y).lives)) m.stage m) (answer_seen s x device_begin)
   step_is x device_end false = made_seen opening (plain_entry (at x device_end) (answer_in s x device_end)) h
       (a_step x device_end (find sub_id_cmp x (after_step_listed x device_end y).lives)) m.stage
       (ap (a_step x device_end) (get-entries (after_step x device_end s).lives x ∙ ap (λ (z : ListedState). find sub_id_cmp x z.lives) (after_step_seen x device_end s))) refl
@@ -373,6 +377,7 @@ module _ (opening : State) (h : History) where
   undone_is k (Undone j) = made_seen opening (plain_entry (undo k) (Undone j)) h (an_undo j) m.stage refl refl
   undone_is k (Redone j) = made_seen opening (plain_entry (undo k) (Redone j)) h no_act m.stage refl refl
   undone_is k (Io r) = made_seen opening (plain_entry (undo k) (Io r)) h no_act m.stage refl refl
+  undone_is k (Begun r) = made_seen opening (plain_entry (undo k) (Begun r)) h no_act m.stage refl refl
   undone_is k (Ended r) = made_seen opening (plain_entry (undo k) (Ended r)) h no_act m.stage refl refl
   undone_is k Held = made_seen opening (plain_entry (undo k) Held) h no_act m.stage refl refl
   undone_is k (Changed j) = made_seen opening (plain_entry (undo k) (Changed j)) h no_act m.stage refl refl
