@@ -1,3 +1,4 @@
 pub mod Front
 pub mod Loops
 pub mod Members
+pub mod Sorting

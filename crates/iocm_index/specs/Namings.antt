@@ -23,6 +23,10 @@ namings_of r = map (naming (key_of r)) (named_by r)
 abbrev pub is_naming_of : Rec → Naming → Bool
 is_naming_of r n = list_any (eq_by_cmp naming_cmp n) (namings_of r)
 
+-- a naming as a row of a table
+abbrev pub as_row : Naming → Naming × Unit {0}
+as_row n = (n, tt)
+
 -- a set of namings
 abbrev pub Namings : Type 0
 Namings = FinMap naming_cmp (Unit {0})

@@ -80,7 +80,7 @@ impl<A: Allocator> Index<A> {
 }
 
 /// The naming at a place, counted from 0, of those of a record.
-fn naming_at<B: Allocator>(entry: &Record<B>, place: usize) -> Naming
+pub(crate) fn naming_at<B: Allocator>(entry: &Record<B>, place: usize) -> Naming
     requires { place < length (named_by entry.now) }
     ensures { slice_get (namings_of entry.now) place ≡ Some result }
 {

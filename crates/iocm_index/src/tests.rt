@@ -1,7 +1,7 @@
 ghost use Rattle.std.specs.Prelude.{OnOk};
 ghost use Rattle.iocm_index.specs.Namings.{namings_of, HavePlaces};
 
-use crate::Index;
+use crate::{Index, list_namings};
 use iocm_records::{DeviceFields, Record, RecordBody};
 use iocm_types::{Chpid, Css, DevNo, Key, List, Name, Named, SetNo, UnitNo};
 use std::alloc::{AllocError, Global};
@@ -67,6 +67,23 @@ fn first_users(index: &Index, named: Named) -> [Option<Key>; 3] {
 fn nobody_names_anything_in_a_new_index(rt: HostRuntime) -> Result<(), Fail> {
     let index = Index::new(rt.alloc());
     assert_eq!(rt; first_users(&index, unit(0x1000)?), [None, None, None]);
+    Ok(())
+}
+
+#[test]
+fn an_index_is_built_of_namings_in_any_order_and_each_any_number_of_times(
+    rt: HostRuntime,
+) -> Result<(), Fail> {
+    let alloc = rt.alloc();
+    let mut namings = Vec::new(alloc);
+    list_namings(
+        &mut namings,
+        &device_of(alloc, 0x4001, &[0x2000, 0x1000, 0x1000])?,
+    )?;
+    list_namings(&mut namings, &device_of(alloc, 0x4000, &[0x1000])?)?;
+    let index = Index::from_namings(alloc, namings)?;
+    let both = [Some(device(0x4000)), Some(device(0x4001)), None];
+    assert_eq!(rt; first_users(&index, unit(0x1000)?), both);
     Ok(())
 }
 

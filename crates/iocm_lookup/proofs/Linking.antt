@@ -75,13 +75,15 @@ module _ (c : Configuration) (keyed : IsKeyed c) (n : Naming) where
   of_some_record = same_tests _ _ (λ any. of_member (record_found c (λ r. is_naming_of r n) keyed any)) (λ h. named_there (get c n.user) refl h)
 
 -- one record more
-pub more_linked : (is rest was now all : Bool) → now ≡ (is || was) → ((is || rest) || was) ≡ all → (rest || now) ≡ all
-more_linked true true was now all e f = f
-more_linked true false was now all e f = e ∙ f
-more_linked false true was now all e f = f
-more_linked false false was now all e f = e ∙ f
+pub more_listed : (is rest was now all : Bool) → now ≡ (was || is) → ((is || rest) || was) ≡ all → (rest || now) ≡ all
+more_listed true true was now all e f = f
+more_listed false true was now all e f = f
+more_listed true false true now all e f = e ∙ f
+more_listed true false false now all e f = e ∙ f
+more_listed false false true now all e f = e ∙ f
+more_listed false false false now all e f = e ∙ f
 
 -- none at first
-pub none_linked : (all now : Bool) → now ≡ false → (all || now) ≡ all
-none_linked true now e = refl
-none_linked false now e = e
+pub none_listed : (all : Bool) → (all || false) ≡ all
+none_listed true = refl
+none_listed false = refl

@@ -2,10 +2,11 @@ ghost use Rattle.std.specs.Prelude.{IfOk};
 ghost use Rattle.iocm_lookup.specs.Indexed.{IsIndexOf};
 
 use iocm_config::Config;
-use iocm_index::Index;
+use iocm_index::{Index, list_namings};
 use std::alloc::{AllocError, Allocator};
 
-/// The index of a configuration: who names whom in it. Each naming is searched for as it is put in.
+/// The index of a configuration: who names whom in it. All namings are listed first and the index is built of them at once, in
+/// the time of sorting them, or in proportion to their number where they stand in order already.
 ///
 /// `AllocError` (M1): memory was wanted.
 pub fn index_of<A: Allocator, B: Allocator + Clone>(
@@ -15,10 +16,9 @@ pub fn index_of<A: Allocator, B: Allocator + Clone>(
     ensures { IfOk result (λ index. IsIndexOf config.now.records index) }
 {
     config.has_own_keys();
-    let mut index = Index::new(alloc);
+    let mut namings = Vec::new(alloc.clone()?);
     for (_, entry) in config.walk() {
-        index.room(entry)?;
-        index.link(entry);
+        list_namings(&mut namings, entry)?;
     }
-    Ok(index)
+    Index::from_namings(alloc, namings)
 }
