@@ -1,3 +1,4 @@
 pub mod Addresses
 pub mod Joining
 pub mod Past
+pub mod SameUnits

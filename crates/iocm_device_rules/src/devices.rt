@@ -6,6 +6,7 @@ ghost use Rattle.iocm_model.specs.Machine.Record.{device};
 ghost use Rattle.iocm_model.specs.Rules.EachRule as model;
 ghost use Rattle.iocm_records.specs.Meaning.{device_of};
 
+use crate::alike::are_on_same_units;
 use iocm_config::Config;
 use iocm_lookup::{Kind, Wanted, is_image};
 use iocm_records::{DeviceFields, Record, RecordBody};
@@ -40,6 +41,10 @@ impl<A: Allocator> Wanted<A> for WrongUnits {
             RecordBody::Device(fields) => has_wrong_units(config, fields),
             _ => false,
         }
+    }
+
+    fn is_like(&self, entry: &Record<A>, other: &Record<A>) -> bool {
+        are_on_same_units(entry, other)
     }
 }
 

@@ -6,6 +6,7 @@ ghost use Rattle.iocm_model.specs.Machine.Numbering as numbering;
 ghost use Rattle.iocm_model.specs.Machine.PathList.{paths_in, path_list};
 ghost use Rattle.iocm_device_rules.specs.Joining.{AreRight, AreJoined, IsWrongWith, is_wrong_list, all_paths};
 
+use crate::alike::are_on_same_units;
 use iocm_config::Config;
 use iocm_lookup::{Kind, Wanted};
 use iocm_records::{Record, RecordBody};
@@ -39,6 +40,10 @@ impl<A: Allocator> Wanted<A> for WrongPathList {
             RecordBody::Device(fields) => is_list_wrong(config, fields.units.as_slice()),
             _ => false,
         }
+    }
+
+    fn is_like(&self, entry: &Record<A>, other: &Record<A>) -> bool {
+        are_on_same_units(entry, other)
     }
 }
 

@@ -10,6 +10,7 @@
 #![tactic(auto)]
 
 mod addresses;
+mod alike;
 mod devices;
 mod joined;
 mod limits;

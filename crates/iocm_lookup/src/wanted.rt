@@ -1,6 +1,6 @@
-ghost use Rattle.std.specs.Prelude.{◌≡◌, ℕ, true, Bool};
+ghost use Rattle.std.specs.Prelude.{◌≡◌, ℕ, true, false, Bool};
 ghost use Rattle.std.specs.List.{list_any};
-ghost use Rattle.std.specs.Option.{option_map};
+ghost use Rattle.std.specs.Option.{option_map, ForSome};
 ghost use Rattle.iocm_model.specs.Machine.Record.{Rec, key_of};
 ghost use Rattle.iocm_model.specs.Machine.Configuration.{Configuration, records_of};
 ghost use Rattle.iocm_model.specs.Rules.FirstBreach.{first_record};
@@ -32,26 +32,56 @@ pub trait Wanted<A: Allocator> {
         requires { fits self.now config.now.records }
         ensures { result ≡ wants self.now config.now.records entry.now };
 
+    /// Whether a record is known to be looked for exactly where another is, without a look into the configuration. Where it is
+    /// not known the answer is no.
+    fn is_like(&self, entry: &Record<A>, other: &Record<A>) -> bool
+        ensures { (c : Configuration) → result ≡ true → wants self.now c entry.now ≡ wants self.now c other.now }
+    {
+        false
+    }
+
     /// No record of another kind is looked for.
     ghost of_kind: { (s : Self) (c : Configuration) (r : Rec) → wants s c r ≡ true → kinds.kind_of (key_of r) ≡ place };
 }
 
-/// The key of the first record that is looked for, if there is one. The time is that of a walk over the records of its kind.
+/// The key of the first record that is looked for, if there is one. The time is that of a walk over the records of its kind; one
+/// that is known to be like the one before it isn't looked at again.
 pub fn first_wanted<A: Allocator, W: Wanted<A>>(config: &Config<A>, wanted: &W) -> Option<Key>
     requires { W.fits wanted.now config.now.records }
     ensures { result ≡ option_map key_of (first_record (W.wants wanted.now config.now.records) (records_of config.now.records)) }
 {
     config.has_own_keys();
     let kind = wanted.kind();
+    let mut last = None;
     for (key, entry) in config.walk_from(&kind.first()) {
         if kind.is_past(key) {
             return None;
         }
-        if wanted.is_wanted(config, entry) {
+        if is_wanted_after(config, wanted, last, entry) {
             return Some(*key);
         }
+        last = Some(entry);
     }
     None
+}
+
+/// Whether a record is looked for, where the last one, if there was one, is not.
+fn is_wanted_after<A: Allocator, W: Wanted<A>>(
+    config: &Config<A>,
+    wanted: &W,
+    last: Option<&Record<A>>,
+    entry: &Record<A>,
+) -> bool
+    requires fits { W.fits wanted.now config.now.records }
+    requires last { ForSome last (λ other. W.wants wanted.now config.now.records other.now ≡ false) }
+    ensures { result ≡ W.wants wanted.now config.now.records entry.now }
+{
+    if let Some(other) = last {
+        if wanted.is_like(entry, other) {
+            return false;
+        }
+    }
+    wanted.is_wanted(config, entry)
 }
 
 /// Whether there is a record that is looked for.
