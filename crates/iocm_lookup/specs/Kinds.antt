@@ -1,11 +1,11 @@
 -- The kinds of records, in the order of keys.
-use Rattle.std.specs.Prelude.{◌≡◌, ℕ, true}
+use Rattle.std.specs.Prelude.{◌≡◌, ◌<◌, ℕ, true}
 use Rattle.std.specs.Ordering.{is_le}
 use Rattle.iocm_types.specs.declared.key.Key.{Key}
 use Rattle.iocm_types.specs.declared.key.Key.TheVariants as key
 use Rattle.iocm_types.specs.Key.{key_cmp}
 use Rattle.iocm_lookup.specs.declared.kind.Kind.{Kind}
-use Rattle.iocm_lookup.specs.declared.kind.Kind.TheVariants.{Image, Path, Unit, Device, Online}
+use Rattle.iocm_lookup.specs.declared.kind.Kind.TheVariants as kind
 
 -- the place of a key's kind
 abbrev pub kind_of : Key → ℕ
@@ -20,12 +20,21 @@ kind_of (key.Online css path name) = 7
 
 -- the place of a kind that is looked for
 abbrev pub place_of : Kind → ℕ
-place_of Image = 2
-place_of Path = 4
-place_of Unit = 5
-place_of Device = 6
-place_of Online = 7
+place_of kind.Image = 2
+place_of kind.Path = 4
+place_of kind.Unit = 5
+place_of kind.Device = 6
+place_of kind.Online = 7
 
 -- no key of a kind stands before this one
 abbrev pub IsBeforeKind : Key → ℕ → Type 0
 IsBeforeKind first place = (k : Key) → kind_of k ≡ place → is_le (key_cmp first k) ≡ true
+
+-- the numbers of a key are those of a machine: it has four subchannel sets, and device numbers have 16 bits
+abbrev pub IsInMachine : Key → Type 0
+IsInMachine (key.Device set number) = (set < 4) × (number < 65536)
+IsInMachine _ = Unit {0}
+
+-- no key of a machine that is of an earlier kind stands behind this one
+abbrev pub IsBehindEarlier : Key → ℕ → Type 0
+IsBehindEarlier first place = (k : Key) → IsInMachine k → kind_of k < place → is_le (key_cmp k first) ≡ true

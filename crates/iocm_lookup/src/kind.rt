@@ -1,6 +1,6 @@
 ghost use Rattle.std.specs.Prelude.{◌≡◌, nat_lt};
 ghost use Rattle.iocm_lookup.specs.Kinds as kinds;
-ghost use Rattle.iocm_lookup.specs.Kinds.{IsBeforeKind};
+ghost use Rattle.iocm_lookup.specs.Kinds.{IsBeforeKind, IsBehindEarlier};
 
 use iocm_types::{Chpid, Css, DevNo, Key, SetNo, UnitNo};
 
@@ -20,9 +20,10 @@ pub enum Kind {
 }
 
 impl Kind {
-    /// A key that none of this kind stands before, and few others behind.
+    /// A key that none of this kind stands before, and none of an earlier kind behind.
     pub(crate) fn first(self) -> Key
-        ensures { IsBeforeKind result (kinds.place_of self) }
+        ensures first { IsBeforeKind result (kinds.place_of self) }
+        ensures near { IsBehindEarlier result (kinds.place_of self) }
     {
         match self {
             Kind::Image => Key::Resource,
@@ -55,7 +56,8 @@ impl Kind {
 }
 
 fn first_unit() -> Key
-    ensures { IsBeforeKind result 5 }
+    ensures first { IsBeforeKind result 5 }
+    ensures near { IsBehindEarlier result 5 }
 {
     match UnitNo::new(0) {
         Some(unit) => Key::Unit(unit),
@@ -65,7 +67,8 @@ fn first_unit() -> Key
 
 // No device has a greater key.
 fn last_device() -> Key
-    ensures { IsBeforeKind result 7 }
+    ensures first { IsBeforeKind result 7 }
+    ensures near { IsBehindEarlier result 7 }
 {
     match SetNo::new(3) {
         Some(set) => Key::Device(set, DevNo::new(0xFFFF)),

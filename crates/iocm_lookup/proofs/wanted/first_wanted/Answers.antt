@@ -10,7 +10,7 @@ use Rattle.iocm_lookup.proofs.wanted.first_wanted.Goals as goal
 pub loop-key-init : goal.loop-key-init
 loop-key-init g c = let wants = g.W.Wanted.wants c.args.wanted.now c.args.config.now.records in
     (subst (IsLeft wants (records_of c.args.config.now.records)) (sym (c.into_iter-key-iterator.ensures.into_iter_gives ∙ c.walk_from-key-items.ensures.entries))
-    (left_at_first wants g.W.Wanted.place c.first.result (subst (IsBeforeKind c.first.result) c.kind-kind.ensures c.first.ensures)
+    (left_at_first wants g.W.Wanted.place c.first.result (subst (IsBeforeKind c.first.result) c.kind-kind.ensures c.first.ensures.first)
     (g.met.W.Wanted.of_kind c.args.wanted.now c.args.config.now.records) c.args.config.now.records c.has_own_keys.ensures), λ other is. cc)
 
 pub returns-then-is_past : goal.returns-then-is_past
