@@ -1,17 +1,17 @@
 -- The three tables of numbers say the same: at first, with one number more, and with one less.
-use Rattle.std.proofs.Common.{◌≡◌, ◌≢◌, ℕ, ◌<◌, Bool, true, false, cond, List, length, Option, Some, None, is_some, get_or, nat_lt, subst, nat_eq, replicate, refl, sym, ap, ◌∙◌, arith, ◌/◌, ◌%◌}
+use Rattle.std.proofs.Common.{◌≡◌, ◌≢◌, ℕ, ◌<◌, Bool, true, false, cond, List, [], length, Option, Some, None, is_some, get_or, nat_lt, subst, nat_eq, replicate, refl, sym, ap, ◌∙◌, arith, ◌/◌, ◌%◌}
 use Rattle.std.specs.Int.{bit_at}
 use Rattle.std.proofs.lemmas.Nat.Bits.{bit_at-zero}
 use Rattle.std.proofs.lemmas.List.{get_or-replicate, get_or_past, length-replicate}
 use Rattle.std.proofs.lemmas.Bool.{ltb-true, ltb-false}
+use Rattle.std.specs.Cmp.{Equal-is}
 use Rattle.std.specs.Ordering.{eq_by_cmp}
-use Rattle.std.specs.FinMap.{FinMap, get, insert, remove, empty, contains_key, get-insert, get-remove, get-empty}
+use Rattle.std.specs.FinMap.{FinMap, get, insert, remove, empty, contains_key, from_sorted, get-insert, get-remove, get-empty, get_tied, len-entries, empty_of_len, entries-from_sorted, same_map}
 use Rattle.iocm_types.specs.declared.place.Place.{Place}
 use Rattle.iocm_types.specs.declared.place.NumberCell.{NumberCell}
 use Rattle.iocm_types.specs.Place.{place_cmp, cell_cmp}
 use Rattle.iocm_types.specs.KeyOrder.{places_total, places_exact, cells_total, cells_exact}
 use Rattle.iocm_types.proofs.Found.{same_key, ties_itself}
-use Rattle.iocm_types.proofs.Sorted.{map-empty, remove-absent}
 use Rattle.iocm_table.specs.Slots.{Stored, rows}
 use Rattle.iocm_model.specs.Machine.Numbering.{Numbering, cells_of, device_at}
 use Rattle.iocm_model.proofs.Numbers.Cells.{IsApart, has_device}
@@ -55,8 +55,11 @@ tied_new places cells words n none none_too all zeros = record {
       ∙ ap is_some (get-empty {X = ℕ} cell_cmp (record { css = css; set = set; number = number })));
 }
   where
+    none_made : from_sorted {X = ℕ} {R = place_cmp} [] ≡ empty
+    none_made = empty_of_len _ (len-entries _ ∙ ap length (entries-from_sorted place_cmp [] tt))
+
     empty_cells : cells_of empty ≡ empty
-    empty_cells = ap cells_of (sym (map-empty place_cmp (λ (e : Place × ℕ). e.0) (λ (e : Place × ℕ). e.1))) ∙ no_cells
+    empty_cells = ap cells_of (sym none_made) ∙ no_cells
 
 -- a bit was set or cleared, and no other
 pub record IsWritten (old new : List ℕ) (bit : ℕ) (b : Bool) : Type 0 where
@@ -181,4 +184,8 @@ tied_same places new_places cells words same tied = record {
 
 -- to take back what isn't there changes nothing
 pub remove_none : (n : Numbering) (p : Place) → get n p ≡ None → remove n p ≡ n
-remove_none n p none = remove-absent place_cmp (λ (e : Place × ℕ). e.0) (λ (e : Place × ℕ). e.1) places_total places_exact n p none
+remove_none n p none = same_map places_total places_exact (remove n p) n (λ q. get-remove places_total n p q ∙ kept q (eq_by_cmp place_cmp q p) refl)
+  where
+    kept : (q : Place) (b : Bool) → eq_by_cmp place_cmp q p ≡ b → cond b None (get n q) ≡ get n q
+    kept q true tied = sym none ∙ get_tied places_total n q p ((Equal-is _).0 tied)
+    kept q false other = refl

@@ -8,7 +8,4 @@ pub mod Mapped
 pub mod Orderings
 pub mod Padding
 pub mod Parts
-pub mod Permuted
-pub mod Searched
-pub mod Sorted
 pub mod Tests
