@@ -6,8 +6,10 @@ use Rattle.iocm_types.specs.Key.{key_text}
 use Rattle.iocm_types.specs.Rule.{rule_text}
 use Rattle.iocm_columns.specs.declared.card.Card.{Card}
 use Rattle.iocm_columns.specs.Statements.{statements_of}
+use Rattle.iocm_statements.specs.declared.statement.Statement.{Statement}
 use Rattle.iocm_statements.specs.Statement.{parsed}
 use Rattle.iocm_records.specs.Deck.{deck_records}
+use Rattle.iocm_model.specs.Machine.Record.{Rec}
 use Rattle.iocm_model.specs.Machine.Configuration.{Configuration, configuration_of}
 use Rattle.iocm_model.specs.Machine.Numbering.{Numbering, opening}
 use Rattle.iocm_model.specs.Rules.FirstBreach.{Breach, first_breach}
@@ -22,9 +24,17 @@ pub record Shown : Type 0 where
   pub text : List ℕ
   pub status : Status
 
--- the configuration of the lines of a deck, or the first fault: of the records, of the operands, of the statements
+-- the statements of the lines of a deck, or the first fault: of the statements, of the operands
+abbrev pub statements_in : List Card → Result (List Statement) Fault
+statements_in cards = statements_of cards >>= parsed
+
+-- their records, or the first fault, of the statements first
+abbrev pub records_in : List Card → Result (List Rec) Fault
+records_in cards = statements_in cards >>= deck_records
+
+-- the configuration of the lines of a deck, or the first fault
 abbrev pub configuration_in : List Card → Result Configuration Fault
-configuration_in cards = statements_of cards >>= parsed >>= deck_records >>= λ records. Ok (configuration_of records)
+configuration_in cards = records_in cards >>= λ records. Ok (configuration_of records)
 
 -- a refusal, on a line of its own; of a configuration, by the rule that it breaks first
 abbrev pub refused : Fault → Shown

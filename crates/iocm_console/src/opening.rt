@@ -1,19 +1,20 @@
 ghost use Rattle.std.specs.Prelude.{◌≡◌, ◌≢◌, true, Err, IfOk, IfErr, OnOk};
 ghost use Rattle.iocm_types.specs.Fault.{Gives};
+ghost use Rattle.iocm_model.specs.Machine.Configuration.{HasNoKeyTwice};
 ghost use Rattle.iocm_model.specs.Machine.Numbering as model;
 ghost use Rattle.iocm_model.specs.Rules.FirstBreach.{first_breach};
 ghost use Rattle.iocm_columns.specs.Device.{unreadable};
 ghost use Rattle.iocm_console.specs.Output.{has_failed, FailedToWrite};
-ghost use Rattle.iocm_console.specs.Opening.{configuration_in, refused, breached, Says};
+ghost use Rattle.iocm_console.specs.Opening.{configuration_in, records_in, statements_in, refused, breached, Says};
 
 use crate::{ConsoleError, Output, Status};
 use iocm_columns::{Card, join};
 use iocm_config::Config;
 use iocm_lookup::index_of;
 use iocm_numbers::{Numbers, opening};
-use iocm_records::from_statements;
+use iocm_records::{Record, from_statements};
 use iocm_rules::{Breach, check};
-use iocm_statements::parse;
+use iocm_statements::{Statement, parse};
 use iocm_types::{Fault, Rule};
 use std::alloc::{AllocError, Global};
 use std::io::Write;
@@ -38,12 +39,27 @@ pub fn open_cards(alloc: Global, cards: &[Card]) -> Result<Opened, Fault>
     ensures configuration { Gives (λ o. o.config.records) result (configuration_in cards.now) }
     ensures numbers { IfOk result (λ o. o.numbers.numbers ≡ model.opening o.config.records) }
 {
-    let joined = join(alloc, cards)?;
-    let statements = parse(alloc, &joined)?;
-    let records = from_statements(alloc, &statements)?;
+    let records = read_records(alloc, cards)?;
     let config = Config::from_records(alloc, records)?;
     let numbers = opening(alloc, &config)?;
     Ok(Opened { config, numbers })
+}
+
+/// The records of the lines of a deck, no two of one key, or its first fault. The statements are let go.
+fn read_records(alloc: Global, cards: &[Card]) -> Result<Vec<Record>, Fault>
+    ensures records { Gives (λ v. v.items) result (records_in cards.now) }
+    ensures apart { IfOk result (λ v. HasNoKeyTwice v.items) }
+{
+    let statements = read_statements(alloc, cards)?;
+    from_statements(alloc, &statements)
+}
+
+/// The statements of the lines of a deck, or its first fault. The lines as they were joined are let go.
+fn read_statements(alloc: Global, cards: &[Card]) -> Result<Vec<Statement>, Fault>
+    ensures { Gives (λ v. v.items) result (statements_in cards.now) }
+{
+    let joined = join(alloc, cards)?;
+    parse(alloc, &joined)
 }
 
 /// The first breach of the rules, if there is one. Answers the want of memory alone.

@@ -48,7 +48,7 @@ module _ {A : Type 0} (same : A → A → Bool) (test : A → Bool) (alike : (x 
 equal_ties : (x y : Naming) → partial_eq.ghosts.eq x y ≡ eq_by_cmp naming_cmp x y
 equal_ties x y = matches_eq-law x y ∙ (λ i. is_eq (derived_naming_cmp i x y))
 
-module _ (xs sorted distinct : List Naming) (moved : IsPermutation xs sorted) (left : IsFiltered (DiffersFromLast partial_eq.ghosts.eq) [] sorted distinct) where
+module _ (sorted distinct : List Naming) (left : IsFiltered (DiffersFromLast partial_eq.ghosts.eq) [] sorted distinct) where
   once : distinct ≡ dedup partial_eq.ghosts.eq sorted
   once = dedup_is partial_eq.ghosts.eq sorted distinct left
 
@@ -56,10 +56,16 @@ module _ (xs sorted distinct : List Naming) (moved : IsPermutation xs sorted) (l
   in_order rise = subst (IsStrictlySortedBy naming_cmp) (sym once)
       (IsStrictlySortedBy-dedup namings_total equal_ties sorted (subst (λ r. IsSorted r sorted) derived_naming_cmp rise))
 
-  pub same_ones : (n : Naming) → list_any (eq_by_cmp naming_cmp n) distinct ≡ list_any (eq_by_cmp naming_cmp n) xs
-  same_ones n = ap (list_any (eq_by_cmp naming_cmp n)) once
+  still_there : (n : Naming) → list_any (eq_by_cmp naming_cmp n) distinct ≡ list_any (eq_by_cmp naming_cmp n) sorted
+  still_there n = ap (list_any (eq_by_cmp naming_cmp n)) once
       ∙ any_once partial_eq.ghosts.eq (eq_by_cmp naming_cmp n) (λ x y e. ap (eq_by_cmp naming_cmp n) (same_key naming_cmp namings_exact x y (sym (equal_ties x y) ∙ e))) sorted
-      ∙ sym (list_any-IsPermutation (eq_by_cmp naming_cmp n) xs sorted moved)
+
+-- namings that were sorted twice, and each kept once, are the same
+pub same_ones : (xs first second distinct : List Naming) → IsPermutation xs first → IsPermutation first second
+    → IsFiltered (DiffersFromLast partial_eq.ghosts.eq) [] second distinct → (n : Naming)
+    → list_any (eq_by_cmp naming_cmp n) distinct ≡ list_any (eq_by_cmp naming_cmp n) xs
+same_ones xs first second distinct moved again left n = still_there second distinct left n
+    ∙ sym (list_any-IsPermutation (eq_by_cmp naming_cmp n) xs first moved ∙ list_any-IsPermutation (eq_by_cmp naming_cmp n) first second again)
 
 -- ---- one by one
 

@@ -47,11 +47,13 @@ pub fn list_namings<B: Allocator, C: Allocator>(
     Ok(())
 }
 
-/// The same namings in order, each once.
+/// The same namings in order, each once. Records are mostly listed in the order of keys, and then the first sort, which looks at what
+/// is named alone and keeps equals in their order, leaves nothing to the second; it compares far less where a thing has many users.
 fn sort_apart<B: Allocator>(mut namings: Vec<Naming, B>) -> Result<Vec<Naming, B>, AllocError>
     ensures order { IfOk result (λ distinct. IsStrictlySortedBy naming_cmp distinct.items) }
     ensures same { IfOk result (λ distinct. (n : naming.Naming) → list_any (eq_by_cmp naming_cmp n) distinct.items ≡ list_any (eq_by_cmp naming_cmp n) namings.items) }
 {
+    namings.sort_by(|naming, other| naming.named.order(other.named))?;
     namings.sort()?;
     namings.dedup();
     Ok(namings)

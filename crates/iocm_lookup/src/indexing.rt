@@ -16,7 +16,8 @@ pub fn index_of<A: Allocator, B: Allocator + Clone>(
     ensures { IfOk result (λ index. IsIndexOf config.now.records index) }
 {
     config.has_own_keys();
-    let mut namings = Vec::new(alloc.clone()?);
+    // Most records name one thing.
+    let mut namings = Vec::with_capacity(alloc.clone()?, config.len())?;
     for (_, entry) in config.walk() {
         list_namings(&mut namings, entry)?;
     }

@@ -16,7 +16,7 @@ use Rattle.iocm_lookup.proofs.indexing.index_of.Goals as goal
 pub loop-entry-init : goal.loop-entry-init
 loop-entry-init g c n =
     (λ i. list_any (λ r. is_naming_of r n) (in_entries ((c.into_iter-entry-iterator.ensures.into_iter_gives ∙ c.walk-entry-items.ensures.entries) i))
-    || list_any (eq_by_cmp naming_cmp n) (c.new-namings.ensures.items i))
+    || list_any (eq_by_cmp naming_cmp n) (c.in_ok-namings.ensures.items i))
     ∙ none_listed (list_any (λ r. is_naming_of r n) (records_of c.args.config.now.records))
 
 pub loop-entry-preserved : goal.loop-entry-preserved
