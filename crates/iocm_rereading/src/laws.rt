@@ -24,7 +24,7 @@ pub fn statements_are_read_as_records()
     ensures iodevice { ReadsIodeviceAgain }
 {}
 
-/// What is written of a configuration is read as its deck, if its records are such as decks give; each record that is read from a
+/// What is written of a configuration is read as its deck, if its records, each under its own key, are such as decks give; each record that is read from a
 /// deck is such; and a configuration that was read from a deck is that of its deck. So what is written of it is read as the
 /// same configuration.
 pub fn decks_are_read_again()
