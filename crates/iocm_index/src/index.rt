@@ -1,7 +1,7 @@
 ghost use Rattle.std.specs.Prelude.{◌≡◌, ◌<◌, ◌⊎◌, ◌||◌, ◌&&◌, not, [], Some, IsOk, IsTrue, OnOk, length, slice_get};
 ghost use Rattle.std.specs.FinMap.{empty};
 ghost use Rattle.iocm_types.specs.Naming.{naming_cmp};
-ghost use Rattle.iocm_table.specs.Slots.{rows, HasPlace};
+ghost use Rattle.iocm_table.specs.Slots.{rows, HasPlace, RowsHavePlaces};
 ghost use Rattle.iocm_types.specs.declared.naming.Naming as naming;
 ghost use Rattle.iocm_model.specs.Machine.Naming.{named_by};
 ghost use Rattle.iocm_index.specs.Namings.{namings_of, is_naming_of, is_linked, HavePlaces};
@@ -36,6 +36,14 @@ impl<A: Allocator> Index<A> {
         Index {
             namings: Table::new(alloc),
         }
+    }
+
+    /// A naming that is in the index has a place. It reads nothing, and is there for callers' proofs: what is unlinked can be
+    /// linked again.
+    pub fn has_places(&self)
+        ensures { RowsHavePlaces naming_cmp self.now }
+    {
+        self.namings.has_places();
     }
 
     /// Gives each naming of a record a place, if it has none. Each other naming that has a place keeps it, no other naming
