@@ -1,6 +1,11 @@
 pub mod BitWords
 pub mod Built
+pub mod CellsThere
+pub mod ChangedCells
 pub mod Counting
+pub mod Differing
+pub mod EachOnce
+pub mod Exchanging
 pub mod FirstPlaces
 pub mod FirstRows
 pub mod Gathering
@@ -10,7 +15,8 @@ pub mod OneCarried
 pub mod OneLess
 pub mod OneMore
 pub mod PathsThere
-pub mod Renumbered
 pub mod Restored
 pub mod Steps
+pub mod StepsTogether
+pub mod Taking
 pub mod Tied

@@ -36,7 +36,8 @@ module _ (c : Configuration) (n : Numbering) (p : Place) (number : ℕ) (free : 
           let cell : contains_key (cells_of n) (cell_at p number) ≡ true = ap (contains_key (cells_of n)) same ∙ has_cell n q k there in
           cc
 
-  no_row : list_any (same_cell (p, number)) (entries (without_leavers c n)) ≡ false
+  -- no device that stays has the number
+  pub no_row : list_any (same_cell (p, number)) (entries (without_leavers c n)) ≡ false
   no_row = none_passes place_cmp places_total places_exact (same_cell (p, number)) (entries (without_leavers c n)) (entries_sorted (without_leavers c n))
       (λ q k is. has_another q k (get-entries (without_leavers c n) q ∙ is))
 

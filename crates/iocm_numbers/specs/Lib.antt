@@ -1,6 +1,10 @@
 pub mod Bits
+pub mod Exchange
+pub mod LookedAt
+pub mod NumberChanges
 pub mod Numbered
 pub mod Opening
 pub mod PutBack
 pub mod Renumbering
+pub mod Taken
 pub mod TiedTables

@@ -7,21 +7,35 @@
 //! the two directions, `cells` walks over all number cells by channel subsystem, set and number, and `lowest_free` is
 //! the least number that no device has.
 //!
-//! Begin with `numbers.rt`; `bits.rt` has the bits, `first_numbers.rt` the numbers at opening, `renumber.rt` those after a change.
+//! Begin with `numbers.rt`; `bits.rt` has the bits, `first_numbers.rt` the numbers at opening, `taken.rt` which carried numbers are
+//! taken, `renumber.rt` the numbers after a change, `changes.rt` what it did to them, and `exchange.rt` how a change is taken back.
 #![tactic(auto)]
 
 mod bits;
 mod build;
+mod changes;
 mod device_reach;
+mod exchange;
 mod first_numbers;
 mod gathered;
+mod laws;
+mod looked_at;
+mod number_change;
+mod number_laws;
 mod numbers;
 mod put_back;
 mod reached;
 mod renumber;
+mod renumbered;
+mod taken;
 #[cfg(test)]
 mod tests;
 
 pub use first_numbers::opening;
+pub use laws::exchanges_lead_from_one_to_the_other;
+pub use looked_at::sort_apart;
+pub use number_change::NumberChange;
+pub use number_laws::numbers_at_places_are_listed;
 pub use numbers::Numbers;
 pub use reached::{is_place_reached, is_reached};
+pub use renumbered::Renumbered;

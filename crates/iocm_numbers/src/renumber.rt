@@ -1,13 +1,15 @@
-ghost use Rattle.std.specs.Prelude.{◌≡◌, true, false, not, ◌&&◌, None, fold, OnOk, OnErr};
+ghost use Rattle.std.specs.Prelude.{◌≡◌, true, false, not, ◌&&◌, None, fold, IfOk, OnOk, OnErr};
 ghost use Rattle.std.specs.FinMap as map;
 ghost use Rattle.iocm_model.specs.Machine.Numbering.{is_reached_at, device_at};
 ghost use Rattle.iocm_model.specs.Change.Renumbering.{without_leavers, with_carried, numbers_after};
 ghost use Rattle.iocm_model.specs.Change.Refusal.{is_number_taken};
+ghost use Rattle.iocm_model.specs.Change.Inverse.{freed_numbers};
 ghost use Rattle.iocm_numbers.specs.Numbered.{cell_at, HasSameRoom, KeepsRoom};
+ghost use Rattle.iocm_numbers.specs.PutBack.{numbers_at};
 ghost use Rattle.iocm_numbers.specs.Renumbering.{left_by, filled_by, AreAllTouched, ChangesComersAlone, Rise};
 
-use crate::Numbers;
 use crate::reached::is_place_reached;
+use crate::{Numbers, Renumbered};
 use iocm_config::Config;
 use iocm_types::Place;
 use std::alloc::{AllocError, Allocator};
@@ -16,15 +18,16 @@ impl<A: Allocator> Numbers<A> {
     /// Numbers the devices of a configuration that has changed, in three steps: those that leave lose their numbers; those that come in and have
     /// one carried along get it; the rest of those that come in get the lowest free ones, in order of device number. All places that
     /// the change may touch are given, rising, and no others are looked at. No carried number is held by a device that stays, or carried twice.
+    /// Gives the numbers that were freed, and those that were given.
     ///
     /// `AllocError` (M1): memory was wanted. The numbers are as before then; room that was made stays.
-    pub fn renumber<B: Allocator, C: Allocator>(
+    pub fn renumber<B: Allocator, C: Allocator + Copy>(
         &mut self,
         alloc: C,
         config: &Config<B>,
         touched: &[Place],
         carried: &[(Place, u16)],
-    ) -> Result<(), AllocError>
+    ) -> Result<Renumbered<C>, AllocError>
     where
         A: Clone,
         requires rise { Rise touched.now }
@@ -33,21 +36,49 @@ impl<A: Allocator> Numbers<A> {
         ensures numbers { OnOk result (self.new.numbers ≡ numbers_after config.now.records carried.now self.old.numbers) }
         ensures same { OnErr result (self.new.numbers ≡ self.old.numbers) }
         ensures room { KeepsRoom self.old self.new }
+        ensures freed { IfOk result (λ r. r.freed.items ≡ freed_numbers self.old.numbers self.new.numbers) }
+        ensures given { IfOk result (λ r. r.given.items ≡ freed_numbers self.new.numbers self.old.numbers) }
     {
         // For the proof alone: what always holds of a configuration and of numbers.
         config.has_own_keys();
         self.are_apart();
         self.have_room();
         let before = self.numbers_at(alloc, touched)?;
+        let without = self.unnumbered_at(alloc, touched)?;
         self.leave(config, touched);
-        match self.give(config, touched, carried) {
-            Ok(()) => Ok(()),
+        match self.give_listed(alloc, config, touched, carried, without.as_slice()) {
+            Ok(given) => Ok(Renumbered {
+                freed: self.unnumbered_of(before),
+                given,
+            }),
             Err(error) => {
                 self.free_all(touched);
                 self.place_all(before.as_slice());
                 Err(error)
             }
         }
+    }
+
+    /// The second and the third step, and the numbers that some places have then.
+    fn give_listed<B: Allocator, C: Allocator>(
+        &mut self,
+        alloc: C,
+        config: &Config<B>,
+        touched: &[Place],
+        carried: &[(Place, u16)],
+        listed: &[Place],
+    ) -> Result<Vec<(Place, u16), C>, AllocError>
+    where
+        A: Clone,
+        requires stay { without_leavers config.now.records self.old.numbers ≡ self.old.numbers }
+        requires free { is_number_taken config.now.records self.old.numbers carried.now ≡ false }
+        ensures numbers { OnOk result (self.new.numbers ≡ fold (filled_by config.now.records) (fold (with_carried config.now.records) self.old.numbers carried.now) touched.now) }
+        ensures others { ChangesComersAlone config.now.records self.old.numbers self.new.numbers }
+        ensures room { KeepsRoom self.old self.new }
+        ensures listed { IfOk result (λ rows. rows.items ≡ numbers_at self.new.numbers listed.now) }
+    {
+        self.give(config, touched, carried)?;
+        self.numbers_at(alloc, listed)
     }
 
     /// The second and the third step.
@@ -177,7 +208,7 @@ impl<A: Allocator> Numbers<A> {
     }
 
     /// Whether a device comes in at a place: it is reached there and has no number yet.
-    fn comes_in<B: Allocator>(&self, config: &Config<B>, place: &Place) -> bool
+    pub(crate) fn comes_in<B: Allocator>(&self, config: &Config<B>, place: &Place) -> bool
         ensures { result ≡ (is_reached_at config.now.records place.now && not (map.contains_key self.now.numbers place.now)) }
     {
         is_place_reached(config, *place) && self.number_of(*place).is_none()

@@ -1,9 +1,10 @@
 ghost use Rattle.std.specs.Prelude.{◌≡◌, None, OnOk};
 ghost use Rattle.std.specs.FinMap as map;
 ghost use Rattle.iocm_model.specs.Machine.Numbering.{device_at};
+ghost use Rattle.iocm_numbers.specs.Exchange.{without_rows};
 ghost use Rattle.iocm_numbers.specs.Numbered.{cell_at};
 
-use crate::{Numbers, is_place_reached, is_reached, opening};
+use crate::{NumberChange, Numbers, is_place_reached, is_reached, opening, sort_apart};
 use iocm_config::Config;
 use iocm_records::{DeviceFields, Record, RecordBody, UnitFields};
 use iocm_types::{Chpid, Css, CssPath, DevNo, List, NumberCell, Place, SetNo, UnitNo};
@@ -175,8 +176,12 @@ fn a_device_that_comes_in_gets_the_lowest_free_number(rt: HostRuntime) -> Result
     let mut numbers = opening(rt.alloc(), &config)?;
     let touched = [place(1, 0, 0x1001)?];
     let _ = numbers.free(touched[0]);
-    numbers.renumber(rt.alloc(), &config, &touched, &[])?;
+    let done = numbers.renumber(rt.alloc(), &config, &touched, &[])?;
     assert_eq!(rt; numbers.number_of(touched[0]), Some(1));
+    assert_eq!(rt;
+        (done.freed.as_slice(), done.given.as_slice()),
+        (&[][..], &[(touched[0], 1)][..])
+    );
     Ok(())
 }
 
@@ -214,8 +219,12 @@ fn a_device_that_is_not_reached_lets_its_number_go(rt: HostRuntime) -> Result<()
     let mut numbers = opening(rt.alloc(), &config)?;
     let touched = [place(1, 0, 0x1003)?];
     give(&mut numbers, &touched[0], 9)?;
-    numbers.renumber(rt.alloc(), &config, &touched, &[])?;
+    let done = numbers.renumber(rt.alloc(), &config, &touched, &[])?;
     assert_eq!(rt; numbers.number_of(touched[0]), None);
+    assert_eq!(rt;
+        (done.freed.as_slice(), done.given.as_slice()),
+        (&[(touched[0], 9)][..], &[][..])
+    );
     Ok(())
 }
 
@@ -236,5 +245,140 @@ fn room_is_made_among_no_numbers(rt: HostRuntime) -> Result<(), Fail> {
     let mut numbers = Numbers::new(rt.alloc())?;
     numbers.room(place(1, 0, 0x1001)?, 7)?;
     assert_eq!(rt; numbers.number_of(place(1, 0, 0x1001)?), None);
+    Ok(())
+}
+
+/// Takes the numbers of some rows back, and gives a place that has no number one that is free.
+fn exchange(
+    numbers: &mut Numbers,
+    out: &[(Place, u16)],
+    place: &Place,
+    number: u16,
+) -> Result<(), Fail>
+    ensures { OnOk result (numbers.new.numbers ≡ map.insert (without_rows numbers.old.numbers out.now) place.now number) }
+{
+    numbers.exchange(out, &[]);
+    see_free(numbers, place, number)?;
+    numbers.room(*place, number)?;
+    match numbers.number_of(*place) {
+        Some(_) => Err("a place without a number")?,
+        None => numbers.exchange(&[], &[(*place, number)]),
+    }
+    Ok(())
+}
+
+#[test]
+fn a_number_is_exchanged_for_another(rt: HostRuntime) -> Result<(), Fail> {
+    let config = three_units(rt.alloc())?;
+    let mut numbers = opening(rt.alloc(), &config)?;
+    let there = place(1, 0, 0x1001)?;
+    exchange(&mut numbers, &[(there, 1)], &there, 9)?;
+    let set = SetNo::new(0).ok_or("a set")?;
+    assert_eq!(rt;
+        (numbers.number_of(there), numbers.lowest_free(css(1)?, set)),
+        (Some(9), Some(1))
+    );
+    Ok(())
+}
+
+#[test]
+fn a_number_is_taken_where_a_device_that_stays_has_it(rt: HostRuntime) -> Result<(), Fail> {
+    let config = three_units(rt.alloc())?;
+    let mut numbers = opening(rt.alloc(), &config)?;
+    let held = [(place(1, 0, 0x1001)?, 2)];
+    let freed = [(place(1, 0, 0x1001)?, 1)];
+    let _ = numbers.free(held[0].0);
+    let answers = [
+        numbers.is_taken(rt.alloc(), &config, &held)?,
+        numbers.is_taken(rt.alloc(), &config, &freed)?,
+    ];
+    assert_eq!(rt; answers, [true, false]);
+    Ok(())
+}
+
+#[test]
+fn a_number_of_a_device_that_leaves_is_free(rt: HostRuntime) -> Result<(), Fail> {
+    let config = three_units(rt.alloc())?;
+    let mut numbers = Numbers::new(rt.alloc())?;
+    give(&mut numbers, &place(1, 0, 0x1003)?, 9)?;
+    let coming = [(place(1, 0, 0x1001)?, 9)];
+    assert_eq!(rt; numbers.is_taken(rt.alloc(), &config, &coming)?, false);
+    Ok(())
+}
+
+#[test]
+fn a_number_is_taken_where_two_devices_come_in_with_it(rt: HostRuntime) -> Result<(), Fail> {
+    let config = three_units(rt.alloc())?;
+    let numbers = Numbers::new(rt.alloc())?;
+    let rows = [(place(1, 0, 0x1001)?, 7), (place(1, 0, 0x1002)?, 7)];
+    let twice = numbers.is_taken(rt.alloc(), &config, &rows)?;
+    let once = numbers.is_taken(rt.alloc(), &config, &rows[..1])?;
+    assert_eq!(rt; (twice, once), (true, false));
+    Ok(())
+}
+
+/// The number cell of a number of set 0.
+fn cell(in_css: u8, number: u16) -> Result<NumberCell, Fail> {
+    Ok(NumberCell {
+        css: css(in_css)?,
+        set: SetNo::new(0).ok_or("a set")?,
+        number,
+    })
+}
+
+#[test]
+fn number_cells_are_listed_as_their_places_stand(rt: HostRuntime) -> Result<(), Fail> {
+    let config = three_units(rt.alloc())?;
+    let numbers = opening(rt.alloc(), &config)?;
+    let places = [
+        place(1, 0, 0x1002)?,
+        place(1, 0, 0x1003)?,
+        place(0, 0, 0x1000)?,
+        place(1, 0, 0x1002)?,
+    ];
+    let mut cells = vec![in rt.alloc(); cell(1, 1)?]?;
+    numbers.list_cells(&mut cells, &places)?;
+    assert_eq!(rt;
+        cells.as_slice(),
+        &[cell(1, 1)?, cell(1, 2)?, cell(0, 0)?, cell(1, 2)?][..]
+    );
+    Ok(())
+}
+
+#[test]
+fn number_cells_that_are_sorted_stand_once(rt: HostRuntime) -> Result<(), Fail> {
+    let cells = vec![in rt.alloc(); cell(1, 2)?, cell(0, 7)?, cell(1, 2)?, cell(1, 1)?]?;
+    let sorted = sort_apart(cells)?;
+    assert_eq!(rt;
+        sorted.as_slice(),
+        &[cell(0, 7)?, cell(1, 1)?, cell(1, 2)?][..]
+    );
+    Ok(())
+}
+
+/// That a number changed hands.
+fn change(number: u16, before: Option<u16>, after: Option<u16>) -> Result<NumberChange, Fail> {
+    Ok(NumberChange {
+        cell: cell(1, number)?,
+        before: before.map(DevNo::new),
+        after: after.map(DevNo::new),
+    })
+}
+
+#[test]
+fn numbers_that_changed_are_listed_in_order(rt: HostRuntime) -> Result<(), Fail> {
+    let config = three_units(rt.alloc())?;
+    let numbers = opening(rt.alloc(), &config)?;
+    let freed = [(place(1, 0, 0x1003)?, 5), (place(1, 0, 0x1004)?, 1)];
+    let given = [(place(1, 0, 0x1001)?, 1), (place(1, 0, 0x1002)?, 2)];
+    let changes = numbers.list_changes(rt.alloc(), &freed, &given)?;
+    assert_eq!(rt;
+        changes.as_slice(),
+        &[
+            change(1, Some(0x1004), Some(0x1001))?,
+            change(2, None, Some(0x1002))?,
+            change(5, Some(0x1003), None)?,
+        ][..]
+    );
     Ok(())
 }
