@@ -1,0 +1,2 @@
+pub mod Affected
+pub mod Listing

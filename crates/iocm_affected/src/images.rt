@@ -1,0 +1,119 @@
+ghost use Rattle.std.specs.Prelude.{◌≡◌, ◌++◌, ◌∷◌, [], nat_lt, IfOk, OnOk};
+ghost use Rattle.std.specs.List.Sorted.{IsStrictlySortedBy};
+ghost use Rattle.iocm_types.specs.SubId.{image_cmp};
+ghost use Rattle.iocm_lookup.specs.Kinds.{kind_of};
+ghost use Rattle.iocm_affected.specs.Listing as listing;
+
+use iocm_config::Config;
+use iocm_records::{Record, RecordBody};
+use iocm_types::{Css, Image, Key, Name};
+use std::alloc::{AllocError, Allocator};
+
+/// Some images of a configuration.
+#[derive(Clone, Copy, Debug)]
+enum Group {
+    /// All of them.
+    All,
+    /// Those of a channel subsystem.
+    In(Css),
+    /// Those of a name in a channel subsystem.
+    Named(Css, Name),
+}
+
+/// The images that look at the record of a key, in order. An image looks at its own record; at the paths of its channel subsystem; at
+/// what is said to be online to its name there; and at all units and devices. The time is that of one search, and of a walk over the
+/// images, 90 at the most.
+///
+/// `AllocError` (M1): memory was wanted.
+pub(crate) fn led_images<A: Allocator, B: Allocator>(
+    alloc: B,
+    config: &Config<A>,
+    key: &Key,
+) -> Result<Vec<Image, B>, AllocError>
+    ensures images { IfOk result (λ images. images.items ≡ listing.led_images config.now.records key.now) }
+    ensures rise { IfOk result (λ images. IsStrictlySortedBy image_cmp images.items) }
+{
+    config.has_own_keys();
+    match key {
+        Key::Image(css, mif) => one_image(
+            alloc,
+            Image {
+                css: *css,
+                mif: *mif,
+            },
+        ),
+        Key::Path(css, _) => images_in(alloc, config, &Group::In(*css)),
+        Key::Online(css, _, name) => images_in(alloc, config, &Group::Named(*css, *name)),
+        Key::Unit(_) | Key::Device(_, _) => images_in(alloc, config, &Group::All),
+        Key::Id | Key::Resource | Key::Limit(_, _) => Ok(Vec::new(alloc)),
+    }
+}
+
+/// This image alone.
+fn one_image<B: Allocator>(alloc: B, image: Image) -> Result<Vec<Image, B>, AllocError>
+    ensures images { IfOk result (λ images. images.items ≡ image ∷ []) }
+    ensures rise { IfOk result (λ images. IsStrictlySortedBy image_cmp images.items) }
+{
+    let mut images = Vec::new(alloc);
+    images.push(image)?;
+    Ok(images)
+}
+
+/// The images of a group, in order. The walk ends where the images do.
+fn images_in<A: Allocator, B: Allocator>(
+    alloc: B,
+    config: &Config<A>,
+    group: &Group,
+) -> Result<Vec<Image, B>, AllocError>
+    ensures images { IfOk result (λ images. images.items ≡ listing.images_in group.now config.now.records) }
+    ensures rise { IfOk result (λ images. IsStrictlySortedBy image_cmp images.items) }
+{
+    config.has_own_keys();
+    let mut images = Vec::new(alloc);
+    for (key, entry) in config.walk_from(&Key::Resource) {
+        if is_past_images(key) {
+            return Ok(images);
+        }
+        list_if_in(&mut images, group, entry)?;
+    }
+    Ok(images)
+}
+
+/// Whether a key stands behind all images.
+fn is_past_images(key: &Key) -> bool
+    ensures { result ≡ nat_lt 2 (kind_of key.now) }
+{
+    !matches!(key, Key::Id | Key::Resource | Key::Image(_, _))
+}
+
+/// Puts the image of a record behind those that are listed, if it is that of one of a group.
+fn list_if_in<A: Allocator, B: Allocator>(
+    images: &mut Vec<Image, B>,
+    group: &Group,
+    entry: &Record<A>,
+) -> Result<(), AllocError>
+    ensures { OnOk result (images.new.items ≡ images.old.items ++ listing.images_at group.now entry.now) }
+{
+    let RecordBody::Image(css, mif, name) = entry.body() else {
+        return Ok(());
+    };
+    if !is_of(group, *css, *name) {
+        return Ok(());
+    }
+    images.push(Image {
+        css: *css,
+        mif: *mif,
+    })?;
+    Ok(())
+}
+
+/// Whether an image of a channel subsystem and a name is of a group.
+fn is_of(group: &Group, css: Css, name: Name) -> bool
+    ensures { result ≡ listing.is_of group.now css name }
+{
+    match group {
+        Group::All => true,
+        Group::In(within) => css == *within,
+        Group::Named(within, of) => css == *within && *of == name,
+    }
+}
