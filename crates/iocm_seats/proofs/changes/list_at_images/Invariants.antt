@@ -1,0 +1,15 @@
+-- The changes so far and those of the images that are left.
+use Rattle.std.proofs.Common.{◌≡◌, ◌++◌, drop}
+use Rattle.std.specs.List.{filter_map}
+use Rattle.std.specs.FinMap.{get}
+use Rattle.iocm_types.specs.SubId.{sub_id_cmp}
+use Rattle.iocm_table.specs.Slots.{rows}
+use Rattle.iocm_model.specs.Machine.View.{view_at}
+use Rattle.iocm_seats.specs.Seated.{views_seated}
+use Rattle.iocm_seats.specs.Changes.{change_at, candidates}
+use Rattle.iocm_seats.proofs.changes.list_at_images.Given as goal
+
+abbrev pub invariant-loop-image : goal.invariant-loop-image
+invariant-loop-image g l =
+    let change = change_at (get (views_seated (rows sub_id_cmp l.tried.seats.now))) (view_at l.tried.config.now.records l.tried.numbers.now.numbers) in
+    l.changes.items ++ filter_map change (candidates (drop l.image-index l.images) l.cells) ≡ filter_map change (candidates l.images l.cells)

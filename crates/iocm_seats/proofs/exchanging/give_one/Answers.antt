@@ -1,0 +1,14 @@
+use Rattle.std.proofs.Common.{sym, ap, ◌∙◌}
+use Rattle.iocm_types.specs.SubId.{sub_id_cmp}
+use Rattle.iocm_table.specs.Slots.{rows}
+use Rattle.iocm_seats.specs.Exchange.{seat_given}
+use Rattle.iocm_seats.proofs.Ordered.{seen_is}
+use Rattle.iocm_seats.proofs.exchanging.give_one.Goals as goal
+
+pub returns-in_default-clause-seats : goal.returns-in_default-clause-seats
+returns-in_default-clause-seats g c = sym (ap (seat_given (rows sub_id_cmp c.args.seats.now) c.args.row.now.0 c.args.row.now.1)
+    (seen_is c.args.config.now.records c.args.numbers.now.numbers c.has_own_keys.ensures c.args.row.now.0 ∙ sym c.view_at.ensures ∙ c.in_default.is))
+
+pub returns-clause-seats : goal.returns-clause-seats
+returns-clause-seats g c = c.put.ensures.rows ∙ sym (ap (seat_given (rows sub_id_cmp c.args.seats.now) c.args.row.now.0 c.args.row.now.1)
+    (seen_is c.args.config.now.records c.args.numbers.now.numbers c.has_own_keys.ensures c.args.row.now.0 ∙ sym c.view_at.ensures ∙ c.in-Some.is))

@@ -1,0 +1,5 @@
+pub mod Changes
+pub mod Exchange
+pub mod Listing
+pub mod Seated
+pub mod Settling

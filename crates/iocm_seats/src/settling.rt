@@ -1,0 +1,93 @@
+ghost use Rattle.std.specs.Prelude.{◌≡◌, OnOk, Some, None};
+ghost use Rattle.std.specs.Option.{option_copied, option_map};
+ghost use Rattle.std.specs.FinMap.{get};
+ghost use Rattle.iocm_types.specs.SubId.{sub_id_cmp};
+ghost use Rattle.iocm_types.specs.declared.sub_id.SubId as sub_id;
+ghost use Rattle.iocm_table.specs.Slots.{rows, HasPlace};
+ghost use Rattle.iocm_model.specs.Change.Edit.{live_of_altered};
+ghost use Rattle.iocm_model.specs.Change.Maps.{with_value};
+ghost use Rattle.iocm_seats.specs.Settling.{seat_after, settled_all, HavePlaces};
+
+use crate::{Seat, ViewChange};
+use iocm_derive::copy_view;
+use iocm_live::fresh;
+use iocm_table::Table;
+use iocm_types::{Live, SubId, View};
+use std::alloc::{AllocError, Allocator};
+
+/// Gives each subchannel of these changes a place, if it has none. No seat changes, and no place is lost.
+///
+/// `AllocError` (M1): memory was wanted.
+pub fn make_places<A: Allocator + Clone>(
+    seats: &mut Table<SubId, Seat, A>,
+    changes: &[ViewChange],
+) -> Result<(), AllocError>
+    ensures seats { rows sub_id_cmp seats.new ≡ rows sub_id_cmp seats.old }
+    ensures ok { OnOk result (HavePlaces seats.new changes.now) }
+    ensures kept { (x : sub_id.SubId) → HasPlace sub_id_cmp seats.old x → HasPlace sub_id_cmp seats.new x }
+{
+    for change in changes {
+        seats.room(change.subchannel)?;
+    }
+    Ok(())
+}
+
+/// Gives each subchannel of these changes the seat that it has afterwards: none where nothing is seen any more, else the view
+/// with the live record that comes along for it, or with a fresh one where it is new, or with its own. Can't answer want of memory.
+pub fn settle_all<A: Allocator, B: Allocator>(
+    seats: &mut Table<SubId, Seat, A>,
+    changes: &[ViewChange],
+    kept: &Table<SubId, Live, B>,
+)
+    requires { HavePlaces seats.old changes.now }
+    ensures seats { rows sub_id_cmp seats.new ≡ settled_all (rows sub_id_cmp kept.now) (rows sub_id_cmp seats.old) changes.now }
+    ensures places { seats.new.places ≡ seats.old.places }
+{
+    for change in changes {
+        settle(seats, change, kept.get(&change.subchannel).copied());
+    }
+}
+
+/// Gives the subchannel of a change the seat that it has afterwards.
+fn settle<A: Allocator>(seats: &mut Table<SubId, Seat, A>, change: &ViewChange, own: Option<Live>)
+    requires { HasPlace sub_id_cmp seats.old change.now.subchannel }
+    ensures seats { rows sub_id_cmp seats.new ≡ with_value (rows sub_id_cmp seats.old) change.now.subchannel (seat_after (get (rows sub_id_cmp seats.old) change.now.subchannel) change.now.after own) }
+    ensures places { seats.new.places ≡ seats.old.places }
+{
+    let old = seats.take(&change.subchannel);
+    let Some(view) = &change.after else {
+        return;
+    };
+    let live = live_after(old.as_ref(), view, own);
+    let seat = Seat {
+        view: copy_view(view),
+        live,
+    };
+    let _ = seats.put(&change.subchannel, seat);
+}
+
+/// The live record of an altered subchannel at which something is seen afterwards.
+fn live_after(old: Option<&Seat>, new: &View, own: Option<Live>) -> Live
+    ensures { result ≡ live_of_altered (option_map (λ s. s.view) (option_copied old.entry)) new.now own (option_map (λ s. s.live) (option_copied old.entry)) }
+{
+    if let Some(live) = own {
+        return live;
+    }
+    match old {
+        Some(seat) => own_live(seat, new),
+        None => fresh(new.pim),
+    }
+}
+
+/// An altered subchannel's own live record: with LPM equal to PIM where its path list changed.
+fn own_live(old: &Seat, new: &View) -> Live
+    ensures { result ≡ live_of_altered (Some old.now.view) new.now None (Some old.now.live) }
+{
+    if old.view.paths == new.paths {
+        return old.live;
+    }
+    Live {
+        lpm: new.pim,
+        ..old.live
+    }
+}
