@@ -1,0 +1,6 @@
+pub mod Following
+pub mod Operating
+pub mod Performing
+pub mod Refusing
+pub mod Seating
+pub mod TakingBack

@@ -1,0 +1,208 @@
+ghost use Rattle.std.specs.Prelude.{◌≡◌, None, IfOk, IfErr, OnOk, OnErr};
+ghost use Rattle.std.specs.FinMap.{from_sorted};
+ghost use Rattle.std.specs.List.Sorted.{IsStrictlySortedBy};
+ghost use Rattle.std.specs.Map.{keys_of};
+ghost use Rattle.iocm_types.specs.Place.{place_cmp};
+ghost use Rattle.iocm_types.specs.SubId.{sub_id_cmp, image_cmp};
+ghost use Rattle.iocm_types.specs.declared.sub_id.SubId as sub_id;
+ghost use Rattle.iocm_types.specs.declared.refused.At.TheVariants as at;
+ghost use Rattle.iocm_types.specs.declared.rule.Rule.TheVariants as rule;
+ghost use Rattle.iocm_table.specs.Slots.{rows, HasPlace};
+ghost use Rattle.iocm_model.specs.Machine.Numbering.{Numbering};
+ghost use Rattle.iocm_model.specs.Change.Inverse.{freed_numbers};
+ghost use Rattle.iocm_model.specs.Change.Renumbering.{numbers_after};
+ghost use Rattle.iocm_model.specs.Change.Refusal.{refusal_at};
+ghost use Rattle.iocm_numbers.specs.Numbered.{KeepsRoom};
+ghost use Rattle.iocm_numbers.specs.NumberChanges as number_changes;
+ghost use Rattle.iocm_numbers.specs.NumberChanges.{WereBefore};
+ghost use Rattle.iocm_seats.specs.Seated.{lives_seated};
+ghost use Rattle.iocm_seats.specs.Settling.{settled_all, lives_met, subchannels_left};
+ghost use Rattle.iocm_tree.specs.Carried.{AreInOrder};
+ghost use Rattle.iocm_plant.specs.Following.{WasChanged, WasRenumbered, seen_changes, seating_refusal, following_refusal};
+ghost use Rattle.iocm_plant.specs.Refusing.{Hinders};
+
+use crate::obstacle::Obstacle;
+use crate::quiet::Quiet;
+use crate::seating::seat;
+use crate::touched::Touched;
+use iocm_affected::Affected;
+use iocm_config::Config;
+use iocm_numbers::{Numbers, Renumbered, sort_apart};
+use iocm_seats::{Seat, Tried, ViewChange, list_changes};
+use iocm_table::Table;
+use iocm_types::{At, Key, Live, NumberCell, Place, Refused, Rule, SubId};
+use std::alloc::{AllocError, Global};
+
+/// Where a change of the configuration is looked for: at the places and images that it may affect, and the number cells of these
+/// places.
+#[derive(Drop)]
+pub struct LookedAt {
+    pub affected: Affected<Global>,
+    pub cells: Vec<NumberCell>,
+}
+
+/// What comes along with an edit beside its record, and whether the altered subchannels are wanted quiet.
+#[derive(Drop)]
+pub struct Brought {
+    pub key: Key,
+    pub places: Vec<(Place, u16)>,
+    pub kept: Vec<(SubId, Live)>,
+    pub quiet: Quiet,
+}
+
+/// What a change of the configuration did to the seats, and what is told of it.
+#[derive(Drop)]
+pub struct Told {
+    /// The live records that altered subchannels had.
+    pub kept: Vec<(SubId, Live)>,
+    /// A row for each altered subchannel that is left.
+    pub meets: Vec<(SubId, Live)>,
+    pub touched: Touched,
+}
+
+/// What a change of the configuration did to the numbers and to the seats.
+#[derive(Drop)]
+pub struct Followed {
+    pub renumbered: Renumbered<Global>,
+    pub told: Told,
+}
+
+/// Lets the numbers and the seats follow a change of the configuration, with what comes along.
+///
+/// E4: a number that comes along is taken. B1, where altered subchannels are wanted quiet: the first that isn't. M1: memory was wanted. Then
+/// numbers and seats are as before, but some may have got places.
+pub fn follow(
+    alloc: Global,
+    numbers: &mut Numbers,
+    seats: &mut Table<SubId, Seat>,
+    config: &Config,
+    at: LookedAt,
+    brought: Brought,
+) -> Result<Followed, Obstacle>
+    requires changed { WasChanged config.now.records numbers.old.numbers (rows sub_id_cmp seats.old) at.affected.places.items at.affected.images.items at.cells.items }
+    requires places { IsStrictlySortedBy place_cmp at.affected.places.items }
+    requires images { IsStrictlySortedBy image_cmp at.affected.images.items }
+    requires kept { AreInOrder brought.kept.items }
+    ensures numbers { OnOk result (numbers.new.numbers ≡ numbers_after config.now.records brought.places.items numbers.old.numbers) }
+    ensures freed { IfOk result (λ f. f.renumbered.freed.items ≡ freed_numbers numbers.old.numbers numbers.new.numbers) }
+    ensures given { IfOk result (λ f. f.renumbered.given.items ≡ freed_numbers numbers.new.numbers numbers.old.numbers) }
+    ensures seats { OnOk result (rows sub_id_cmp seats.new ≡ settled_all (from_sorted brought.kept.items) (rows sub_id_cmp seats.old) (seen_changes config.now.records numbers.new.numbers (rows sub_id_cmp seats.old))) }
+    ensures kept { IfOk result (λ f. f.told.kept.items ≡ lives_met (lives_seated (rows sub_id_cmp seats.old)) (seen_changes config.now.records numbers.new.numbers (rows sub_id_cmp seats.old))) }
+    ensures meets { IfOk result (λ f. keys_of f.told.meets.items ≡ subchannels_left (seen_changes config.now.records numbers.new.numbers (rows sub_id_cmp seats.old))) }
+    ensures told_subchannels { IfOk result (λ f. f.told.touched.subchannels.items ≡ seen_changes config.now.records numbers.new.numbers (rows sub_id_cmp seats.old)) }
+    ensures told_numbers { IfOk result (λ f. f.told.touched.numbers.items ≡ number_changes.changes_between numbers.old.numbers numbers.new.numbers) }
+    ensures clear { OnOk result (following_refusal config.now.records numbers.old.numbers (rows sub_id_cmp seats.old) brought.key brought.places.items brought.quiet ≡ None) }
+    ensures refused { IfErr result (Hinders (following_refusal config.now.records numbers.old.numbers (rows sub_id_cmp seats.old) brought.key brought.places.items brought.quiet)) }
+    ensures same_numbers { OnErr result (numbers.new.numbers ≡ numbers.old.numbers) }
+    ensures same_seats { OnErr result (rows sub_id_cmp seats.new ≡ rows sub_id_cmp seats.old) }
+    ensures room { KeepsRoom numbers.old numbers.new }
+    ensures subchannels_placed { (x : sub_id.SubId) → HasPlace sub_id_cmp seats.old x → HasPlace sub_id_cmp seats.new x }
+{
+    // For the proof alone: what always holds of a configuration and of numbers.
+    config.has_own_keys();
+    numbers.are_apart();
+    numbers.have_room();
+    if numbers.is_taken(alloc, config, brought.places.as_slice())? {
+        return Err(Obstacle::Refused(number_refusal(brought.key)));
+    }
+    let renumbered = numbers.renumber(
+        alloc,
+        config,
+        at.affected.places.as_slice(),
+        brought.places.as_slice(),
+    )?;
+    match follow_numbers(alloc, numbers, seats, config, at, brought, &renumbered) {
+        Ok(told) => Ok(Followed { renumbered, told }),
+        Err(obstacle) => {
+            numbers.exchange(renumbered.given.as_slice(), renumbered.freed.as_slice());
+            Err(obstacle)
+        }
+    }
+}
+
+/// E4 for a key.
+fn number_refusal(key: Key) -> Refused
+    ensures { result ≡ refusal_at rule.E4 (at.Key key) }
+{
+    Refused {
+        rule: Rule::E4,
+        node: None,
+        at: At::Key(key),
+    }
+}
+
+/// Lets the seats follow numbers that have followed a change of the configuration.
+fn follow_numbers(
+    alloc: Global,
+    numbers: &Numbers,
+    seats: &mut Table<SubId, Seat>,
+    config: &Config,
+    at: LookedAt,
+    brought: Brought,
+    renumbered: &Renumbered<Global>,
+) -> Result<Told, Obstacle>
+    requires changed { WasRenumbered config.now.records numbers.now.numbers (rows sub_id_cmp seats.old) at.affected.places.items at.affected.images.items at.cells.items }
+    requires images { IsStrictlySortedBy image_cmp at.affected.images.items }
+    requires kept { AreInOrder brought.kept.items }
+    ensures seats { OnOk result (rows sub_id_cmp seats.new ≡ settled_all (from_sorted brought.kept.items) (rows sub_id_cmp seats.old) (seen_changes config.now.records numbers.now.numbers (rows sub_id_cmp seats.old))) }
+    ensures kept { IfOk result (λ t. t.kept.items ≡ lives_met (lives_seated (rows sub_id_cmp seats.old)) (seen_changes config.now.records numbers.now.numbers (rows sub_id_cmp seats.old))) }
+    ensures meets { IfOk result (λ t. keys_of t.meets.items ≡ subchannels_left (seen_changes config.now.records numbers.now.numbers (rows sub_id_cmp seats.old))) }
+    ensures subchannels { IfOk result (λ t. t.touched.subchannels.items ≡ seen_changes config.now.records numbers.now.numbers (rows sub_id_cmp seats.old)) }
+    ensures numbers { IfOk result (λ t. (n : Numbering) → WereBefore n numbers.now.numbers renumbered.now.freed.items renumbered.now.given.items → t.touched.numbers.items ≡ number_changes.changes_between n numbers.now.numbers) }
+    ensures clear { OnOk result (seating_refusal config.now.records numbers.now.numbers (rows sub_id_cmp seats.old) brought.quiet ≡ None) }
+    ensures refused { IfErr result (Hinders (seating_refusal config.now.records numbers.now.numbers (rows sub_id_cmp seats.old) brought.quiet)) }
+    ensures same { OnErr result (rows sub_id_cmp seats.new ≡ rows sub_id_cmp seats.old) }
+    ensures places { (x : sub_id.SubId) → HasPlace sub_id_cmp seats.old x → HasPlace sub_id_cmp seats.new x }
+{
+    let altered = list_altered(alloc, numbers, seats, config, at)?;
+    let changed = numbers.list_changes(
+        alloc,
+        renumbered.freed.as_slice(),
+        renumbered.given.as_slice(),
+    )?;
+    match seat(
+        alloc,
+        seats,
+        altered.as_slice(),
+        brought.kept,
+        brought.quiet,
+    ) {
+        Ok(seated) => Ok(Told {
+            kept: seated.kept,
+            meets: seated.meets,
+            touched: Touched {
+                numbers: changed,
+                subchannels: altered,
+            },
+        }),
+        Err(obstacle) => Err(obstacle),
+    }
+}
+
+/// The subchannels at which another view is seen, where the configuration and the numbers are those after a change.
+fn list_altered(
+    alloc: Global,
+    numbers: &Numbers,
+    seats: &Table<SubId, Seat>,
+    config: &Config,
+    at: LookedAt,
+) -> Result<Vec<ViewChange>, AllocError>
+    requires changed { WasRenumbered config.now.records numbers.now.numbers (rows sub_id_cmp seats.now) at.affected.places.items at.affected.images.items at.cells.items }
+    requires images { IsStrictlySortedBy image_cmp at.affected.images.items }
+    ensures { IfOk result (λ changes. changes.items ≡ seen_changes config.now.records numbers.now.numbers (rows sub_id_cmp seats.now)) }
+{
+    let mut cells = at.cells;
+    numbers.list_cells(&mut cells, at.affected.places.as_slice())?;
+    let cells = sort_apart(cells)?;
+    let tried = Tried {
+        seats,
+        config,
+        numbers,
+    };
+    list_changes(
+        alloc,
+        &tried,
+        at.affected.images.as_slice(),
+        cells.as_slice(),
+    )
+}

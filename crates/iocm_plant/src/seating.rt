@@ -1,0 +1,88 @@
+ghost use Rattle.std.specs.Prelude.{◌≡◌, None, map, IfOk, IfErr, OnOk, OnErr};
+ghost use Rattle.std.specs.FinMap.{from_sorted};
+ghost use Rattle.std.specs.Map.{keys_of};
+ghost use Rattle.iocm_types.specs.SubId.{sub_id_cmp};
+ghost use Rattle.iocm_types.specs.declared.sub_id.SubId as sub_id;
+ghost use Rattle.iocm_types.specs.declared.refused.At.TheVariants as at;
+ghost use Rattle.iocm_types.specs.declared.rule.Rule.TheVariants as rule;
+ghost use Rattle.iocm_table.specs.Slots.{rows, HasPlace};
+ghost use Rattle.iocm_model.specs.Change.Refusal.{refusal_at};
+ghost use Rattle.iocm_model.specs.Change.Refusal as refusal;
+ghost use Rattle.iocm_seats.specs.Seated.{lives_seated};
+ghost use Rattle.iocm_seats.specs.Settling.{settled_all, lives_met, subchannels_left};
+ghost use Rattle.iocm_tree.specs.Carried.{AreInOrder};
+ghost use Rattle.iocm_plant.specs.Refusing.{refusal_by_quiet, Hinders};
+ghost use Rattle.iocm_plant.specs.Seating.{first_in_the_way};
+
+use crate::obstacle::Obstacle;
+use crate::quiet::Quiet;
+use iocm_seats::{Seat, ViewChange, first_not_quiet, list_left, list_met, make_places, settle_all};
+use iocm_table::Table;
+use iocm_types::{At, Live, Refused, Rule, SubId};
+use std::alloc::Global;
+
+/// The live records that altered subchannels had, and a row for each of those that are left.
+#[derive(Drop)]
+pub struct Seated {
+    pub kept: Vec<(SubId, Live)>,
+    pub meets: Vec<(SubId, Live)>,
+}
+
+/// Gives the subchannels of these changes the seats that they have afterwards, with the live records that come along.
+///
+/// B1, where altered subchannels are wanted quiet: the first that isn't. M1: memory was wanted. Then no seat has changed, but some
+/// subchannels may have got places.
+pub fn seat(
+    alloc: Global,
+    seats: &mut Table<SubId, Seat>,
+    changes: &[ViewChange],
+    kept: Vec<(SubId, Live)>,
+    quiet: Quiet,
+) -> Result<Seated, Obstacle>
+    requires { AreInOrder kept.items }
+    ensures seats { OnOk result (rows sub_id_cmp seats.new ≡ settled_all (from_sorted kept.items) (rows sub_id_cmp seats.old) changes.now) }
+    ensures kept { IfOk result (λ s. s.kept.items ≡ lives_met (lives_seated (rows sub_id_cmp seats.old)) changes.now) }
+    ensures meets { IfOk result (λ s. keys_of s.meets.items ≡ subchannels_left changes.now) }
+    ensures quiet { OnOk result (refusal_by_quiet quiet (refusal.first_not_quiet (lives_seated (rows sub_id_cmp seats.old)) (map (λ ch. ch.subchannel) changes.now)) ≡ None) }
+    ensures refused { IfErr result (Hinders (refusal_by_quiet quiet (refusal.first_not_quiet (lives_seated (rows sub_id_cmp seats.old)) (map (λ ch. ch.subchannel) changes.now)))) }
+    ensures same { OnErr result (rows sub_id_cmp seats.new ≡ rows sub_id_cmp seats.old) }
+    ensures places { (x : sub_id.SubId) → HasPlace sub_id_cmp seats.old x → HasPlace sub_id_cmp seats.new x }
+{
+    if let Some(subchannel) = first_in_the_way(seats, changes, quiet) {
+        return Err(Obstacle::Refused(subchannel_refusal(subchannel)));
+    }
+    make_places(seats, changes)?;
+    let own = Table::from_rows(alloc, kept)?;
+    let met = list_met(alloc, seats, changes)?;
+    let left = list_left(alloc, changes)?;
+    settle_all(seats, changes, &own);
+    Ok(Seated {
+        kept: met,
+        meets: left,
+    })
+}
+
+/// The first subchannel of these changes that isn't quiet, where they are wanted quiet.
+fn first_in_the_way(
+    seats: &Table<SubId, Seat>,
+    changes: &[ViewChange],
+    quiet: Quiet,
+) -> Option<SubId>
+    ensures { result ≡ first_in_the_way quiet (refusal.first_not_quiet (lives_seated (rows sub_id_cmp seats.now)) (map (λ ch. ch.subchannel) changes.now)) }
+{
+    match quiet {
+        Quiet::Wanted => first_not_quiet(seats, changes),
+        Quiet::Whatever => None,
+    }
+}
+
+/// B1 for a subchannel.
+fn subchannel_refusal(subchannel: SubId) -> Refused
+    ensures { result ≡ refusal_at rule.B1 (at.Subchannel subchannel) }
+{
+    Refused {
+        rule: Rule::B1,
+        node: None,
+        at: At::Subchannel(subchannel),
+    }
+}
