@@ -29,7 +29,7 @@ settled kept seats ch = with_value seats ch.subchannel (seat_after (get seats ch
 abbrev pub settled_all : Lives → Seats → List ViewChange → Seats
 settled_all kept seats changes = fold (settled kept) seats changes
 
--- each subchannel at which something is seen afterwards has a place
+-- each subchannel of these changes has a place
 abbrev pub HavePlaces : Stored SubId Seat → List ViewChange → Type 0
 HavePlaces t changes = AllByRecursion (λ ch. HasPlace sub_id_cmp t ch.subchannel) changes
 
