@@ -1,3 +1,4 @@
+pub mod Between
 pub mod Candidates
 pub mod Follows
 pub mod Opening

@@ -50,6 +50,7 @@ use Rattle.iocm_seats.proofs.Ordered.{keys_rise}
 use Rattle.iocm_seats.proofs.Settled.{live_in, live_seated, settled_seats_show, settled_seats_live}
 use Rattle.iocm_plant.specs.declared.quiet.Quiet.{Quiet}
 use Rattle.iocm_plant.specs.Following.{seen_changes, seating_refusal, following_refusal}
+use Rattle.iocm_plant.proofs.Between.{naming_room_kept}
 use Rattle.iocm_plant.specs.Operating.{HasPlaceIn, HasNamingRoom, KeepsPlaces, IsOperating, state_of}
 use Rattle.iocm_plant.specs.Refusing.{refusal_by_number, refusal_by_quiet, refusal_when}
 use Rattle.iocm_plant.specs.TakingBack.{TakesBack}
@@ -276,14 +277,6 @@ left_are v w (x ∷ xs) = by (is_some (w x)) (left_are v w xs)
 pub left_sorted : (v w : Views) (meets : List (SubId × Live)) → keys_of meets ≡ subchannels_left (changes_between v w) → T (is_sorted sub_id_cmp meets)
 left_sorted v w meets is = rows_up meets (subst (IsStrictlySortedBy sub_id_cmp) (sym (is ∙ left_are (get v) (get w) (differing same_view v w)))
     (IsStrictlySortedBy-filter sub_id_cmp (λ x. is_some (get w x)) (differing same_view v w) (differing_rise v w)))
-
-namings_kept : (ps qs : List Naming) → KeepsPlaces naming_cmp ps qs → (ns : List Naming) → AllByRecursion (HasPlaceIn naming_cmp ps) ns → AllByRecursion (HasPlaceIn naming_cmp qs) ns
-namings_kept ps qs keeps [] all = tt
-namings_kept ps qs keeps (n ∷ ns) all = (keeps n all.0, namings_kept ps qs keeps ns all.1)
-
-naming_room_kept : (ps qs : List Naming) → KeepsPlaces naming_cmp ps qs → (o : Option Rec) → HasNamingRoom ps o → HasNamingRoom qs o
-naming_room_kept ps qs keeps None room = tt
-naming_room_kept ps qs keeps (Some r) room = namings_kept ps qs keeps (namings_of r) room
 
 -- the action that takes an action back: its key, and room for it
 module _ (c : Configuration) (index : Stored Naming (Unit {0})) (keyed : IsKeyed c) (indexed : IsIndexOf c index) (have : RowsHavePlaces naming_cmp index) (a again : Action)

@@ -1,3 +1,4 @@
+pub mod Between
 pub mod Following
 pub mod Operating
 pub mod Performing

@@ -7,10 +7,12 @@
 //! `force` does so where subchannels are busy or status pending, too. `unapply` takes an edit back without memory.
 //!
 //! What the layer above may rely on: each call leaves the state that the model's definition gives, a refused edit leaves the state as it
-//! was, and no call loses a place. Begin with `specs/Operating.antt`, then `plant.rt`, `performing.rt` and `unapply.rt`.
+//! was, no call loses a place, and what can be taken back can be so still after orders, events, and edits that were taken back
+//! (`laws.rt`). Begin with `specs/Operating.antt`, then `plant.rt`, `performing.rt` and `unapply.rt`.
 #![tactic(auto)]
 
 mod following;
+mod laws;
 mod obstacle;
 mod open;
 mod performing;
@@ -22,6 +24,7 @@ mod steps;
 mod touched;
 mod unapply;
 
+pub use laws::what_happens_between;
 pub use open::Unopened;
 pub use plant::Plant;
 pub use touched::{Applied, Touched};
