@@ -1,7 +1,7 @@
 -- What may happen between an edit and the edit that takes it back: whatever leaves the configuration, the numbers and the places as they are. Own.
 use Rattle.std.specs.Prelude.{◌≡◌}
 use Rattle.iocm_types.specs.declared.sub_id.SubId.{SubId}
-use Rattle.iocm_model.specs.Operation.State.{State, Lives, IsSound, HasConfigAndNumbersOf}
+use Rattle.iocm_model.specs.Operation.State.{IsSound, HasConfigAndNumbersOf}
 use Rattle.iocm_model.specs.Operation.Step.{Step, after_step}
 use Rattle.iocm_model.specs.Change.Edit.{Edit, state_after}
 use Rattle.iocm_model.specs.Change.Inverse.{inverse_of}
@@ -22,16 +22,26 @@ StandsAsItDoes = (p : Operating) → IsSound p.state → StandsAsBefore p p
 abbrev pub StandsOn : Type 0
 StandsOn = (p q r : Operating) → StandsAsBefore p q → StandsAsBefore q r → StandsAsBefore p r
 
--- orders and events leave configuration and numbers
+-- orders and events leave it standing
 abbrev pub StepsLeaveItStanding : Type 0
-StepsLeaveItStanding = (x : SubId) (step : Step) (s : State) → IsSound s → HasConfigAndNumbersOf (after_step x step s) s
+StepsLeaveItStanding = (x : SubId) (step : Step) (p q : Operating) → IsSound p.state → q.state ≡ after_step x step p.state → q.room ≡ p.room → StandsAsBefore p q
 
 -- an edit that takes another one back can do so still where the machine stands as it did
 abbrev pub CanStillUnapply : Type 0
 CanStillUnapply = (i : Carried) (p q : Operating) → CanUnapply i p → StandsAsBefore p q → CanUnapply i q
 
--- an edit leaves configuration and numbers as before it once it is taken back, with the live records that are kept or any others of the same
--- subchannels, whatever the live records are by then
+-- an edit was performed, and later taken back, by its inverse with the live records that are kept or any others of the same subchannels: the
+-- machine before it, after it, when it is taken back, and then
+pub record WasTakenBack (e i : Edit) (before done standing undone : Operating) : Type 0 where
+  pub sound : IsSound before.state
+  pub performed : done.state ≡ state_after e before.state
+  pub room_kept : KeepsRoom before.room done.room
+  pub stands : StandsAsBefore done standing
+  pub inverse : i ≡ record (inverse_of e before.state) { lives = i.lives }
+  pub lives : HasSameKeys i.lives (inverse_of e before.state).lives
+  pub taken_back : undone.state ≡ state_after i standing.state
+  pub same_room : undone.room ≡ standing.room
+
+-- the machine stands as before it then
 abbrev pub TakenBackItStandsAsBefore : Type 0
-TakenBackItStandsAsBefore = (e : Edit) (s u : State) (carried : Lives) → IsSound s → HasConfigAndNumbersOf u (state_after e s)
-    → HasSameKeys carried (inverse_of e s).lives → HasConfigAndNumbersOf (state_after (record (inverse_of e s) { lives = carried }) u) s
+TakenBackItStandsAsBefore = (e i : Edit) (p q r t : Operating) → WasTakenBack e i p q r t → StandsAsBefore p t
