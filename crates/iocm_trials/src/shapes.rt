@@ -1,0 +1,218 @@
+use crate::machine::{BASE, configuration, device, image, machine, name, unit};
+use crate::rounds::{Edits, forth_and_back, look_at_last};
+use crate::sight::sees_alike;
+use iocm_config::Config;
+use iocm_plant::Plant;
+use iocm_records::Record;
+use iocm_tree::Edit;
+use iocm_types::{Chpid, Css, Key};
+use std::alloc::{AllocError, Global};
+use std::test::Fail;
+
+/// The base deck with the paths of its control unit turned.
+const TURNED: &[u8] = b"         RESOURCE PARTITION=((CSS(0),(LPA,1),(LPB,2)))
+         CHPID PATH=(CSS(0),50),SHARED,PARTITION=((LPA,LPB),(=))
+         CHPID PATH=(CSS(0),51),SHARED,PARTITION=((LPA),(LPA,LPB))
+         CNTLUNIT CUNUMBR=1000,PATH=((CSS(0),51,50)),UNITADD=((00,16))
+         IODEVICE ADDRESS=(1000,4),CUNUMBR=(1000)
+";
+
+/// One image, which sees devices of all four subchannel sets.
+const ONE_IMAGE: &[u8] = b"         RESOURCE PARTITION=((CSS(0),(LPA,1)))
+         CHPID PATH=(CSS(0),50),SHARED,PARTITION=((LPA),(=))
+         CNTLUNIT CUNUMBR=1000,PATH=((CSS(0),50)),UNITADD=((00,64))
+         IODEVICE ADDRESS=(1000,4),CUNUMBR=1000,UNITADD=00
+         IODEVICE ADDRESS=(1000,4),CUNUMBR=1000,UNITADD=10,SCHSET=1
+         IODEVICE ADDRESS=(1000,4),CUNUMBR=1000,UNITADD=20,SCHSET=2
+         IODEVICE ADDRESS=(1000,4),CUNUMBR=1000,UNITADD=30,SCHSET=3
+";
+
+/// The same with a second image, which sees them too.
+const TWO_IMAGES: &[u8] = b"         RESOURCE PARTITION=((CSS(0),(LPA,1),(LPB,2)))
+         CHPID PATH=(CSS(0),50),SHARED,PARTITION=((LPA,LPB),(=))
+         CNTLUNIT CUNUMBR=1000,PATH=((CSS(0),50)),UNITADD=((00,64))
+         IODEVICE ADDRESS=(1000,4),CUNUMBR=1000,UNITADD=00
+         IODEVICE ADDRESS=(1000,4),CUNUMBR=1000,UNITADD=10,SCHSET=1
+         IODEVICE ADDRESS=(1000,4),CUNUMBR=1000,UNITADD=20,SCHSET=2
+         IODEVICE ADDRESS=(1000,4),CUNUMBR=1000,UNITADD=30,SCHSET=3
+";
+
+/// Two channel subsystems with a control unit each; three devices are on that of the first.
+const HERE: &[u8] = b"         RESOURCE PARTITION=((CSS(0),(LPA,1)),(CSS(1),(LPB,1)))
+         CHPID PATH=(CSS(0),50),SHARED,PARTITION=((LPA),(=))
+         CHPID PATH=(CSS(1),50),SHARED,PARTITION=((LPB),(=))
+         CNTLUNIT CUNUMBR=1000,PATH=((CSS(0),50)),UNITADD=((00,16))
+         CNTLUNIT CUNUMBR=2000,PATH=((CSS(1),50)),UNITADD=((00,16))
+         IODEVICE ADDRESS=(1000,3),CUNUMBR=1000
+";
+
+/// The same with a device that is on the control unit of the second.
+const THERE: &[u8] = b"         RESOURCE PARTITION=((CSS(0),(LPA,1)),(CSS(1),(LPB,1)))
+         CHPID PATH=(CSS(0),50),SHARED,PARTITION=((LPA),(=))
+         CHPID PATH=(CSS(1),50),SHARED,PARTITION=((LPB),(=))
+         CNTLUNIT CUNUMBR=1000,PATH=((CSS(0),50)),UNITADD=((00,16))
+         CNTLUNIT CUNUMBR=2000,PATH=((CSS(1),50)),UNITADD=((00,16))
+         IODEVICE ADDRESS=1000,CUNUMBR=1000
+         IODEVICE ADDRESS=1001,CUNUMBR=2000
+         IODEVICE ADDRESS=1002,CUNUMBR=1000
+";
+
+/// The base deck with a device 2000.
+const MORE: &[u8] = b"         RESOURCE PARTITION=((CSS(0),(LPA,1),(LPB,2)))
+         CHPID PATH=(CSS(0),50),SHARED,PARTITION=((LPA,LPB),(=))
+         CHPID PATH=(CSS(0),51),SHARED,PARTITION=((LPA),(LPA,LPB))
+         CNTLUNIT CUNUMBR=1000,PATH=((CSS(0),50,51)),UNITADD=((00,16))
+         IODEVICE ADDRESS=(1000,4),CUNUMBR=(1000)
+         IODEVICE ADDRESS=2000,CUNUMBR=1000,UNITADD=04
+";
+
+/// The base deck with a path that isn't online to the first image, as it is in another list.
+const OFFLINE: &[u8] = b"         RESOURCE PARTITION=((CSS(0),(LPA,1),(LPB,2)))
+         CHPID PATH=(CSS(0),50),SHARED,PARTITION=((LPA,LPB),(=))
+         CHPID PATH=(CSS(0),51),SHARED,PARTITION=((LPB),(LPA,LPB))
+         CNTLUNIT CUNUMBR=1000,PATH=((CSS(0),50,51)),UNITADD=((00,16))
+         IODEVICE ADDRESS=(1000,4),CUNUMBR=(1000)
+";
+
+/// The edits that make the records of keys what they are in a deck.
+#[derive(Drop)]
+struct Towards<'a> {
+    keys: &'a [Key],
+    place: usize,
+    deck: &'a [u8],
+}
+
+impl Edits for Towards<'_> {
+    fn next(&mut self, alloc: Global, plant: &Plant) -> Result<Option<Edit>, Fail> {
+        let Some(key) = self.keys.get(self.place) else {
+            return Ok(None);
+        };
+        self.place += 1;
+        let target = configuration(alloc, self.deck).ok_or("the deck is not read")?;
+        Ok(Some(edit_to(alloc, plant, key, &target)?))
+    }
+
+    fn goes_on(&mut self, alloc: Global, plant: &Plant) -> Result<bool, Fail> {
+        if self.place < self.keys.len() || is_of_deck(alloc, plant, self.deck)? {
+            Ok(true)
+        } else {
+            Err(Fail::from("the machine shows something else"))
+        }
+    }
+}
+
+/// Whether a machine shows what the machine of a deck shows.
+fn is_of_deck(alloc: Global, plant: &Plant, deck: &[u8]) -> Result<bool, Fail> {
+    let other = machine(alloc, deck)?;
+    let wanted = look_at_last(alloc, &other)?;
+    let here = look_at_last(alloc, plant)?;
+    Ok(sees_alike(&wanted, &here, plant))
+}
+
+/// The edit that makes the record of a key what it is in a configuration.
+fn edit_to(alloc: Global, plant: &Plant, key: &Key, target: &Config) -> Result<Edit, AllocError> {
+    let is_there = plant.config().get(key).is_some();
+    match target.get(key) {
+        None => Ok(Edit::delete(alloc, *key)),
+        Some(entry) if is_there => Ok(Edit::modify(alloc, copy_at_last(alloc, entry)?)),
+        Some(entry) => Ok(Edit::add(alloc, copy_at_last(alloc, entry)?)),
+    }
+}
+
+/// An equal record; memory may be wanted once.
+fn copy_at_last(alloc: Global, entry: &Record) -> Result<Record, AllocError> {
+    match entry.copy_in(alloc) {
+        Ok(copy) => Ok(copy),
+        Err(_) => entry.copy_in(alloc),
+    }
+}
+
+/// Goes from one deck to another by the records of these keys, and back. The answer is how many edits stood at the end.
+fn go(alloc: Global, deck: &[u8], keys: &[Key], target: &[u8]) -> Result<u32, Fail> {
+    let mut plant = machine(alloc, deck)?;
+    let mut edits = Towards {
+        keys,
+        place: 0,
+        deck: target,
+    };
+    forth_and_back(alloc, &mut plant, &mut edits, 9)
+}
+
+/// The keys of an image LPB and of what names it.
+fn keys_of_image() -> Result<[Key; 3], Fail> {
+    let there = image(2)?;
+    let path = Chpid::new(0x50);
+    Ok([
+        Key::Image(there.css, there.mif),
+        Key::Path(there.css, path),
+        Key::Online(there.css, path, name(b"LPB")?),
+    ])
+}
+
+/// The keys of the path 51 and of its being online to either image.
+fn keys_of_paths() -> Result<[Key; 3], Fail> {
+    let path = Chpid::new(0x51);
+    Ok([
+        Key::Path(Css::FIRST, path),
+        Key::Online(Css::FIRST, path, name(b"LPA")?),
+        Key::Online(Css::FIRST, path, name(b"LPB")?),
+    ])
+}
+
+#[test]
+fn a_device_comes(rt: HostRuntime) -> Result<(), Fail> {
+    let keys = [device(0x2000)];
+    assert_eq!(rt; go(rt.alloc(), BASE, keys.as_slice(), MORE)?, 1);
+    Ok(())
+}
+
+#[test]
+fn a_device_goes(rt: HostRuntime) -> Result<(), Fail> {
+    let keys = [device(0x2000)];
+    assert_eq!(rt; go(rt.alloc(), MORE, keys.as_slice(), BASE)?, 1);
+    Ok(())
+}
+
+#[test]
+fn the_paths_of_a_control_unit_turn(rt: HostRuntime) -> Result<(), Fail> {
+    let keys = [unit(0x1000)?];
+    assert_eq!(rt; go(rt.alloc(), BASE, keys.as_slice(), TURNED)?, 1);
+    Ok(())
+}
+
+#[test]
+fn paths_come_online_and_go_offline(rt: HostRuntime) -> Result<(), Fail> {
+    let keys = keys_of_paths()?;
+    assert_eq!(rt; go(rt.alloc(), BASE, keys.as_slice(), OFFLINE)?, 3);
+    Ok(())
+}
+
+#[test]
+fn an_image_is_added(rt: HostRuntime) -> Result<(), Fail> {
+    let keys = keys_of_image()?;
+    assert_eq!(rt; go(rt.alloc(), ONE_IMAGE, keys.as_slice(), TWO_IMAGES)?, 3);
+    Ok(())
+}
+
+#[test]
+fn an_image_is_deleted(rt: HostRuntime) -> Result<(), Fail> {
+    let all = keys_of_image()?;
+    let keys = [all[2], all[1], all[0]];
+    assert_eq!(rt; go(rt.alloc(), TWO_IMAGES, keys.as_slice(), ONE_IMAGE)?, 3);
+    Ok(())
+}
+
+#[test]
+fn an_image_comes_last(rt: HostRuntime) -> Result<(), Fail> {
+    let all = keys_of_image()?;
+    let keys = [all[2], all[1], all[0]];
+    assert_eq!(rt; go(rt.alloc(), ONE_IMAGE, keys.as_slice(), TWO_IMAGES)?, 3);
+    Ok(())
+}
+
+#[test]
+fn a_device_moves_to_another_channel_subsystem(rt: HostRuntime) -> Result<(), Fail> {
+    let keys = [device(0x1001)];
+    assert_eq!(rt; go(rt.alloc(), HERE, keys.as_slice(), THERE)?, 1);
+    Ok(())
+}
