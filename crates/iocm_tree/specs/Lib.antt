@@ -1,1 +1,5 @@
 pub mod Carried
+pub mod LettingGo
+pub mod Limits
+pub mod Reversed
+pub mod Trees

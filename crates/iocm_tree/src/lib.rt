@@ -14,8 +14,10 @@ mod action;
 mod edit;
 #[cfg(test)]
 mod tests;
+mod tree;
 mod verb;
 
 pub use action::Action;
 pub use edit::{Edit, Parts};
+pub use tree::Tree;
 pub use verb::Verb;
