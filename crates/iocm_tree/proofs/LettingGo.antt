@@ -1,8 +1,8 @@
 -- The work that is left while a tree is let go gets less with each tree that is opened.
-use Rattle.std.proofs.Common.{◌≡◌, ℕ, ◌+◌, ◌*◌, ◌<◌, ◌≤◌, List, [], ◌∷◌, ◌++◌, length, take, drop, arith, sym, ap, ◌∙◌}
+use Rattle.std.proofs.Common.{Option, None, Some, ◌≡◌, ℕ, ◌+◌, ◌*◌, ◌<◌, ◌≤◌, List, [], ◌∷◌, ◌++◌, length, take, drop, arith, sym, ap, ◌∙◌}
 use Rattle.std.proofs.lemmas.List.{take_at, drop_at}
 use Rattle.iocm_model.specs.Change.Tree.{nodes_in}
-use Rattle.iocm_tree.specs.Trees.{CarriedTree, leaf, row, group, choose, plain_parts, tree_of, parts_of}
+use Rattle.iocm_tree.specs.Trees.{CarriedTree, CarriedParts, leaf, row, group, choose, none, parts_in, plain_parts, tree_of, parts_of}
 use Rattle.iocm_tree.specs.LettingGo.{work_of, work_in}
 use Rattle.iocm_tree.specs.declared.tree.Tree.{Tree}
 use Rattle.iocm_tree.proofs.Trees.{nodes}
@@ -18,6 +18,23 @@ some_work (leaf c) = omega arith
 some_work (row ps) = omega arith
 some_work (group ps) = omega arith
 some_work (choose ps) = omega arith
+
+abbrev parts_or_none : Option CarriedParts → CarriedParts
+parts_or_none None = none
+parts_or_none (Some ps) = ps
+
+-- a node has one more node than its parts, and is one more to be let go
+pub nodes_below : (p : CarriedTree) (ps : CarriedParts) → parts_in p ≡ Some ps → nodes p ≡ nodes_in (plain_parts ps) + 1
+nodes_below (leaf c) ps is = cc
+nodes_below (row qs) ps is = ap (λ o. nodes_in (plain_parts (parts_or_none o)) + 1) is
+nodes_below (group qs) ps is = ap (λ o. nodes_in (plain_parts (parts_or_none o)) + 1) is
+nodes_below (choose qs) ps is = ap (λ o. nodes_in (plain_parts (parts_or_none o)) + 1) is
+
+pub work_below : (p : CarriedTree) (ps : CarriedParts) → parts_in p ≡ Some ps → work_of p ≡ work_in ps + 1
+work_below (leaf c) ps is = cc
+work_below (row qs) ps is = ap (λ o. work_in (parts_or_none o) + 1) is
+work_below (group qs) ps is = ap (λ o. work_in (parts_or_none o) + 1) is
+work_below (choose qs) ps is = ap (λ o. work_in (parts_or_none o) + 1) is
 
 module _ {A : Type 0} where
   nodes_more : (xs : List (Tree A)) (x : Tree A) → nodes_in (plain_parts (parts_of (xs ++ x ∷ []))) ≡ nodes_in (plain_parts (parts_of xs)) + nodes (tree_of x)
@@ -36,8 +53,8 @@ module _ {A : Type 0} where
   -- a tree alone is more work than its parts
   pub work_alone : (xs inner : List (Tree A)) (x : Tree A) → length xs ≡ 0 → work_of (tree_of x) ≡ work_in (parts_of inner) + 1
       → work_in (parts_of inner) < work_in (parts_of (xs ++ x ∷ []))
-  work_alone [] inner x none opened = omega (arith, opened)
-  work_alone (y ∷ ys) inner x none opened = absurd (omega (arith, none))
+  work_alone [] inner x empty opened = omega (arith, opened)
+  work_alone (y ∷ ys) inner x empty opened = absurd (omega (arith, empty))
 
   rotated : (xs : List (Tree A)) (x : Tree A) (n : ℕ) → n ≡ length xs → drop n (xs ++ x ∷ []) ++ take n (xs ++ x ∷ []) ≡ x ∷ xs
   rotated xs x n is = ap (λ ys. ys ++ take n (xs ++ x ∷ [])) (drop_at xs (x ∷ []) n (sym is)) ∙ ap (λ ys. x ∷ ys) (take_at xs (x ∷ []) n (sym is))

@@ -1,5 +1,5 @@
 -- A change tree in memory: as edits with their room, and as the model's change tree.
-use Rattle.std.specs.Prelude.{List, [], ◌∷◌, map}
+use Rattle.std.specs.Prelude.{Option, None, Some, List, [], ◌∷◌, map}
 use Rattle.iocm_model.specs.Change.Tree as model
 use Rattle.iocm_tree.specs.Carried.{Carried}
 use Rattle.iocm_tree.specs.declared.tree.Tree.{Tree, fold-Tree}
@@ -49,3 +49,17 @@ tree_of {A} = fold-Tree A CarriedTree node_of
 -- the trees that stand in memory as the parts of a node
 abbrev pub parts_of : {A : Type 0} → List (Tree A) → CarriedParts
 parts_of trees = parts_from (map tree_of trees)
+
+-- the edit of a leaf
+abbrev pub edit_in : CarriedTree → Option Carried
+edit_in (leaf c) = Some c
+edit_in (row ps) = None
+edit_in (group ps) = None
+edit_in (choose ps) = None
+
+-- the parts of a node that is no leaf
+abbrev pub parts_in : CarriedTree → Option CarriedParts
+parts_in (leaf c) = None
+parts_in (row ps) = Some ps
+parts_in (group ps) = Some ps
+parts_in (choose ps) = Some ps

@@ -1,10 +1,10 @@
-ghost use Rattle.std.specs.Prelude.{◌≡◌, ◌+◌, ◌<◌, ◌++◌, ◌∷◌, ◌^◌, [], min, IfOk, IfSome};
+ghost use Rattle.std.specs.Prelude.{◌≡◌, ◌+◌, ◌<◌, ◌++◌, ◌∷◌, ◌^◌, [], min, IfOk, MatchOption, None, Some};
 ghost use Rattle.std.specs.Vec.{vec_len, vec_capacity};
 ghost use Rattle.iocm_model.specs.Change.Meaning.{meaning};
-ghost use Rattle.iocm_model.specs.Change.Tree.{depth_of, leaves_of, most_depth, most_leaves, nodes_of, nodes_in};
+ghost use Rattle.iocm_model.specs.Change.Tree.{depth_of, leaves_of, most_depth, most_leaves, nodes_of};
 ghost use Rattle.iocm_model.specs.Operation.State.{State};
-ghost use Rattle.iocm_tree.specs.Trees.{tree_of, parts_of, plain_tree, plain_parts};
-ghost use Rattle.iocm_tree.specs.LettingGo.{work_of, work_in};
+ghost use Rattle.iocm_tree.specs.Trees.{tree_of, parts_of, plain_tree, edit_in, parts_in};
+ghost use Rattle.iocm_tree.specs.LettingGo.{work_in};
 ghost use Rattle.iocm_tree.specs.Limits.{limit_refusal, meaning_unless};
 ghost use Rattle.iocm_tree.specs.Reversed.{reversed};
 
@@ -12,6 +12,8 @@ mod copying;
 mod limits;
 mod nodes;
 mod reversal;
+#[cfg(test)]
+mod tests;
 
 use crate::Edit;
 use iocm_types::{At, Refused, Rule};
@@ -52,10 +54,21 @@ impl<A: Allocator> Drop for Tree<A> {
 }
 
 impl<A: Allocator> Tree<A> {
-    /// The parts of a node; of a leaf none, and its edit is let go.
-    fn into_parts(self) -> Option<Vec<Tree<A>, A>>
-        ensures nodes { IfSome result (λ parts. nodes_of (plain_tree (tree_of self)) ≡ nodes_in (plain_parts (parts_of parts.items)) + 1) }
-        ensures work { IfSome result (λ parts. work_of (tree_of self) ≡ work_in (parts_of parts.items) + 1) }
+    /// The edit of a leaf; none of another node, and its parts are let go.
+    pub fn into_edit(self) -> Option<Edit<A>>
+        ensures { result ≡ edit_in (tree_of self) }
+    {
+        match self {
+            Tree::Leaf(edit) => Some(edit),
+            Tree::Row(_) => None,
+            Tree::Group(_) => None,
+            Tree::Choose(_) => None,
+        }
+    }
+
+    /// The parts of a Row, a Group or a Choose; none of a leaf, and its edit is let go.
+    pub fn into_parts(self) -> Option<Vec<Tree<A>, A>>
+        ensures { MatchOption result (parts_in (tree_of self) ≡ None) (λ parts. parts_in (tree_of self) ≡ Some (parts_of parts.items)) }
     {
         match self {
             Tree::Leaf(_) => None,
