@@ -101,6 +101,6 @@ pub taken_back_it_stands_as_before : TakenBackItStandsAsBefore
 taken_back_it_stands_as_before e i p q r t was =
     let like : HasConfigAndNumbersOf r.state (state_after e p.state) = subst (HasConfigAndNumbersOf r.state) was.performed was.stands.state in record {
       state = subst (λ (s : State). HasConfigAndNumbersOf s p.state) (sym (was.taken_back ∙ ap (λ (k : Edit). state_after k r.state) was.inverse))
-        (back_as_before e p.state r.state i.lives was.sound like was.lives);
+          (back_as_before e p.state r.state i.lives was.sound like was.lives);
       room = rooms_on p.room q.room t.room was.room_kept (rooms_on q.room r.room t.room was.stands.room (same_is_kept r.room t.room was.same_room));
     }
