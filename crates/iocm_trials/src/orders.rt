@@ -6,7 +6,7 @@ use iocm_types::Order::{Cancel, Clear, Halt, Start, Store, Test};
 use iocm_types::{Chpid, Css, Io, Key, ScswBits};
 use std::test::Fail;
 
-/// The base deck with the path 51 online to both images.
+/// The path 51 of the base deck, online to both images.
 const ONLINE: &[u8] = b"         RESOURCE PARTITION=((CSS(0),(LPA,1),(LPB,2)))
          CHPID PATH=(CSS(0),51),SHARED,PARTITION=((LPA,LPB),(LPA,LPB))
 ";

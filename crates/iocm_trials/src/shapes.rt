@@ -66,7 +66,7 @@ const MORE: &[u8] = b"         RESOURCE PARTITION=((CSS(0),(LPA,1),(LPB,2)))
          IODEVICE ADDRESS=2000,CUNUMBR=1000,UNITADD=04
 ";
 
-/// The base deck with a path that isn't online to the first image, as it is in another list.
+/// The base deck with the path 51 online to the second image alone.
 const OFFLINE: &[u8] = b"         RESOURCE PARTITION=((CSS(0),(LPA,1),(LPB,2)))
          CHPID PATH=(CSS(0),50),SHARED,PARTITION=((LPA,LPB),(=))
          CHPID PATH=(CSS(0),51),SHARED,PARTITION=((LPB),(LPA,LPB))
