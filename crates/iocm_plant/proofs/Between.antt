@@ -31,7 +31,7 @@ naming_room_kept ps qs keeps (Some r) room = all_on keeps (namings_of r) room
 
 -- ---- a machine stands as before
 
-rooms_on : (a b c : Room) → KeepsRoom a b → KeepsRoom b c → KeepsRoom a c
+pub rooms_on : (a b c : Room) → KeepsRoom a b → KeepsRoom b c → KeepsRoom a c
 rooms_on a b c before after = record {
   same_keys = λ key h. after.same_keys key (before.same_keys key h);
   same_numbers = λ row h. after.same_numbers row (before.same_numbers row h);
@@ -40,7 +40,7 @@ rooms_on a b c before after = record {
 }
 
 -- where the places are the same, none is lost
-same_is_kept : (old new : Room) → new ≡ old → KeepsRoom old new
+pub same_is_kept : (old new : Room) → new ≡ old → KeepsRoom old new
 same_is_kept old new same = subst (KeepsRoom old) (sym same) (record { same_keys = λ key h. h; same_numbers = λ row h. h; same_namings = λ key h. h; same_subchannels = λ key h. h })
 
 pub stands_as_it_does : StandsAsItDoes

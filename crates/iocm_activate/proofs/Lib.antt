@@ -1,0 +1,10 @@
+mod Activated
+mod Back
+mod Kept
+mod Leaves
+mod Parts
+mod Runs
+mod Taking
+mod Telling
+mod Values
+mod Whole

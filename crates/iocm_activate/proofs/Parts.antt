@@ -1,0 +1,159 @@
+-- The parts of a node, one after the other: what they mean follows from what each means.
+use Rattle.std.proofs.Common.{◌≡◌, ℕ, ◌+◌, ◌<◌, ◌^◌, get_or, List, [], ◌++◌, length, take, drop, Option, Some, None, refl, sym, ap, subst, ◌∙◌, arith}
+use Rattle.std.specs.Prelude.{Ok, Err}
+use Rattle.std.specs.Option.{option_map}
+use Rattle.std.proofs.lemmas.List.{append-nil, append_assoc, drop_at, take_at}
+use Rattle.iocm_types.specs.declared.refused.At.TheVariants.{Key}
+use Rattle.iocm_types.specs.declared.refused.Refused.{Refused}
+use Rattle.iocm_model.specs.Operation.State.{State, HasLives}
+use Rattle.iocm_model.specs.Rules.FirstBreach.{Breach, first_breach}
+use Rattle.iocm_model.specs.Change.Edit.{Edit}
+use Rattle.iocm_model.specs.Change.Tree.{ChangeTree, Parts, none, part, nodes_of, nodes_in}
+use Rattle.iocm_model.specs.Change.Meaning.{Outcome, after_run, and_then, or_else, unless_broken, if_rules_hold, node_meaning, parts_meaning, choice_meaning}
+use Rattle.iocm_tree.specs.Trees.{tree_of, parts_of, plain_tree, plain_parts}
+use Rattle.iocm_tree.specs.declared.tree.Tree.{Tree}
+use Rattle.iocm_tree.proofs.Trees.{rest_at}
+use Rattle.iocm_plant.specs.Operating.{Operating, KeepsRoom}
+use Rattle.iocm_activate.specs.Told.{way_back, LeadsTo, CanTakeBack}
+use Rattle.iocm_activate.specs.Walked.{Ran, Answers, outcome_of}
+use Rattle.iocm_activate.specs.Going.{GoesOn, ChoosesOn}
+use Rattle.iocm_activate.specs.declared.log.Log.{Log}
+use Rattle.iocm_activate.proofs.Runs.{ran_nothing, ran_nowhere, ran_on}
+use Rattle.iocm_plant.proofs.Between.{same_is_kept}
+
+-- ---- what was done before, too
+
+nothing_first : (s : State) (o : Outcome) → o ≡ after_run (record { state = s; edits = [] }) o
+nothing_first s (Ok r) = refl
+nothing_first s (Err why) = refl
+
+abbrev done_in : State → List Edit → Outcome
+done_in s es = Ok (record { state = s; edits = es })
+
+after_both : (s t : State) (es fs : List Edit) (o : Outcome)
+    → after_run (record { state = s; edits = es }) (after_run (record { state = t; edits = fs }) o) ≡ after_run (record { state = t; edits = es ++ fs }) o
+after_both s t es fs (Ok r) = ap (done_in r.state) (sym (append_assoc es fs r.edits))
+after_both s t es fs (Err why) = refl
+
+-- ---- a Row or a Group
+
+pub goes_first : (ps : Parts) (n : ℕ) (p : Operating) (log : Log) → GoesOn (parts_meaning ps n p.state) ps n p log p log
+goes_first ps n p log = record { ran = ran_nowhere p log; further = nothing_first p.state (parts_meaning ps n p.state) }
+
+-- one part more was performed
+pub goes_next : (m : Outcome) (t : ChangeTree) (ps : Parts) (n : ℕ) (p : Operating) (first : Log) (q : Operating) (second : Log) (r : Operating) (third : Log)
+    → GoesOn m (part t ps) n p first q second → Answers (node_meaning t n q.state) q second r third None → HasLives r.state
+    → GoesOn m ps (n + nodes_of t) p first r third
+goes_next m t ps n p first q second r third g a lived = record {
+  ran = ran_on p first q second r third g.ran a.ran lived;
+  further = g.further ∙ ap (λ o. after_run (record { state = q.state; edits = g.ran.edits }) (and_then o (parts_meaning ps (n + nodes_of t)))) a.means
+      ∙ after_both q.state r.state g.ran.edits a.ran.edits (parts_meaning ps (n + nodes_of t) r.state);
+}
+
+-- one part was refused
+pub goes_no_further : (m : Outcome) (t : ChangeTree) (ps : Parts) (n : ℕ) (p : Operating) (first : Log) (q : Operating) (second : Log) (r : Operating) (third : Log)
+    (why : Refused) → GoesOn m (part t ps) n p first q second → Answers (node_meaning t n q.state) q second r third (Some why) → HasLives r.state
+    → Answers m p first r third (Some why)
+goes_no_further m t ps n p first q second r third why g a lived = record {
+  ran = ran_on p first q second r third g.ran a.ran lived;
+  means = g.further ∙ ap (λ o. after_run (record { state = q.state; edits = g.ran.edits }) (and_then o (parts_meaning ps (n + nodes_of t)))) a.means;
+}
+
+-- all parts were performed
+pub goes_to_the_end : (m : Outcome) (n : ℕ) (p : Operating) (first : Log) (q : Operating) (second : Log) → GoesOn m none n p first q second
+    → Answers m p first q second None
+goes_to_the_end m n p first q second g = record {
+  ran = g.ran;
+  means = g.further ∙ ap (done_in q.state) (append-nil g.ran.edits);
+}
+
+-- ---- where the rules are to be kept
+
+-- a breach at a node
+abbrev pub breach_at : ℕ → Option Breach → Option Refused
+breach_at n o = option_map (λ (b : Breach). record { rule = b.rule; node = Some n; at = Key b.key }) o
+
+broken_or_not : (b : Option Breach) (n : ℕ) (s : State) (es : List Edit) → unless_broken b n (record { state = s; edits = es }) ≡ outcome_of (breach_at n b) s es
+broken_or_not (Some b) n s es = refl
+broken_or_not None n s es = refl
+
+-- a node was performed, and then the rules were looked at
+pub closed : (m : Outcome) (n : ℕ) (p : Operating) (first : Log) (q : Operating) (second third : Log) (answer : Option Refused)
+    → Answers m p first q second None → third.done.items ≡ second.done.items → third.keys.items ≡ second.keys.items → HasLives q.state
+    → answer ≡ breach_at n (first_breach q.state.config q.state.numbers) → Answers (if_rules_hold n m) p first q third answer
+closed m n p first q second third answer a done keys lived is = record {
+  ran = ran_on p first q second q third a.ran (ran_nothing q second q third refl (same_is_kept q.room q.room refl) done keys) lived;
+  means = ap (if_rules_hold n) a.means ∙ broken_or_not (first_breach q.state.config q.state.numbers) n q.state a.ran.edits
+      ∙ ap (λ o. outcome_of o q.state a.ran.edits) (sym is) ∙ ap (outcome_of answer q.state) (sym (append-nil a.ran.edits));
+}
+
+-- a node was refused
+pub closed_before : (m : Outcome) (n : ℕ) (p : Operating) (first : Log) (q : Operating) (second : Log) (why : Refused)
+    → Answers m p first q second (Some why) → Answers (if_rules_hold n m) p first q second (Some why)
+closed_before m n p first q second why a = record { ran = a.ran; means = ap (if_rules_hold n) a.means }
+
+-- ---- a Choose
+
+pub chooses_first : (ps : Parts) (n : ℕ) (last : Refused) (p : Operating) (log : Log) → ChoosesOn (choice_meaning ps n last p.state) ps n last p log p log
+chooses_first ps n last p log = record { ran = ran_nowhere p log; nothing = refl; further = refl }
+
+-- a part was accepted
+pub chosen : (m : Outcome) (t : ChangeTree) (ps : Parts) (n : ℕ) (last : Refused) (p : Operating) (first : Log) (q : Operating) (second : Log) (r : Operating) (third : Log)
+    → ChoosesOn m (part t ps) n last p first q second → Answers (if_rules_hold n (node_meaning t n q.state)) q second r third None → HasLives r.state
+    → Answers m p first r third None
+chosen m t ps n last p first q second r third g a lived = record {
+  ran = ran_on p first q second r third g.ran a.ran lived;
+  means = g.further ∙ ap (λ o. or_else o (λ why. choice_meaning ps (n + nodes_of t) why q.state)) a.means
+      ∙ ap (λ es. done_in r.state (es ++ a.ran.edits)) (sym g.nothing);
+}
+
+-- a part was refused, and is taken back
+pub chooses_next : (m : Outcome) (t : ChangeTree) (ps : Parts) (n : ℕ) (last why : Refused) (p : Operating) (first : Log) (q : Operating) (second : Log) (r : Operating) (third : Log)
+    (u : Operating) (fourth : Log) → ChoosesOn m (part t ps) n last p first q second
+    → Answers (if_rules_hold n (node_meaning t n q.state)) q second r third (Some why)
+    → u.state ≡ q.state → u.room ≡ r.room → fourth.done.items ≡ second.done.items → fourth.keys.items ≡ second.keys.items → HasLives u.state
+    → ChoosesOn m ps (n + nodes_of t) why p first u fourth
+chooses_next m t ps n last why p first q second r third u fourth g a state room done keys lived = record {
+  ran = ran_on p first q second u fourth g.ran (ran_nothing q second u fourth state (subst (KeepsRoom q.room) (sym room) a.ran.room) done keys) lived;
+  nothing = append-nil g.ran.edits ∙ g.nothing;
+  further = g.further ∙ ap (λ o. or_else o (λ w. choice_meaning ps (n + nodes_of t) w q.state)) a.means
+      ∙ ap (λ s. choice_meaning ps (n + nodes_of t) why s) (sym state);
+}
+
+-- all parts were refused
+pub none_chosen : (m : Outcome) (n : ℕ) (last : Refused) (p : Operating) (first : Log) (q : Operating) (second : Log)
+    → ChoosesOn m none n last p first q second → Answers m p first q second (Some last)
+none_chosen m n last p first q second g = record { ran = g.ran; means = g.further }
+
+-- ---- what was done since a mark
+
+pub leads_since : (p : Operating) (first : Log) (q : Operating) (second : Log) (n : ℕ) → Ran p first q second → n ≡ length first.done.items
+    → LeadsTo (way_back (drop n second.done.items)) p.state q
+leads_since p first q second n ran mark =
+    subst (λ ds. LeadsTo (way_back ds) p.state q) (sym (ap (drop n) ran.log ∙ drop_at first.done.items ran.done n (sym mark))) ran.back
+
+pub can_take_back : (p : Operating) (first : Log) (q : Operating) (second : Log) (n : ℕ) → Ran p first q second → n ≡ length first.done.items
+    → CanTakeBack (drop n second.done.items) q
+can_take_back p first q second n ran mark = record { state = p.state; leads = leads_since p first q second n ran mark }
+
+-- what was there before the mark
+pub before_mark : {X : Type 0} (old more all left : List X) (n : ℕ) → all ≡ old ++ more → n ≡ length old → left ≡ take n all → left ≡ old
+before_mark old more all left n is mark taken = taken ∙ ap (take n) is ∙ take_at old more n (sym mark)
+
+-- ---- parts in memory
+
+-- the numbers of the nodes from one part on: that part's, and those of the parts from the next on
+pub fewer : {A : Type 0} → (shown : List (Tree A)) (i : ℕ) (x : Tree A) → i < length shown → x ≡ get_or shown i x → (n : ℕ)
+    → n + nodes_in (plain_parts (parts_of (drop i shown))) < 2 ^ 64
+    → (n + nodes_of (plain_tree (tree_of x))) + nodes_in (plain_parts (parts_of (drop (i + 1) shown))) < 2 ^ 64
+fewer shown i x within is n few = let r = ap (λ ps. nodes_in (plain_parts ps)) (rest_at shown i x within is) in omega (arith, r, few)
+
+pub goes_at : {A : Type 0} (shown : List (Tree A)) (i : ℕ) (x : Tree A) → i < length shown → x ≡ get_or shown i x
+    → (m : Outcome) (n : ℕ) (p : Operating) (first : Log) (q : Operating) (second : Log) → GoesOn m (plain_parts (parts_of (drop i shown))) n p first q second
+    → GoesOn m (part (plain_tree (tree_of x)) (plain_parts (parts_of (drop (i + 1) shown)))) n p first q second
+goes_at shown i x within is m n p first q second g = subst (λ ps. GoesOn m (plain_parts ps) n p first q second) (rest_at shown i x within is) g
+
+pub chooses_at : {A : Type 0} (shown : List (Tree A)) (i : ℕ) (x : Tree A) → i < length shown → x ≡ get_or shown i x
+    → (m : Outcome) (n : ℕ) (last : Refused) (p : Operating) (first : Log) (q : Operating) (second : Log) → ChoosesOn m (plain_parts (parts_of (drop i shown))) n last p first q second
+    → ChoosesOn m (part (plain_tree (tree_of x)) (plain_parts (parts_of (drop (i + 1) shown)))) n last p first q second
+chooses_at shown i x within is m n last p first q second g = subst (λ ps. ChoosesOn m (plain_parts ps) n last p first q second) (rest_at shown i x within is) g

@@ -1,0 +1,107 @@
+ghost use Rattle.std.specs.Prelude.{◌≡◌, IfOk, IfErr, OnOk, OnErr, Ok};
+ghost use Rattle.iocm_model.specs.Change.Effect.{values_in};
+ghost use Rattle.iocm_model.specs.Change.InverseTree.{inverse_tree, TakesBack};
+ghost use Rattle.iocm_model.specs.Change.Meaning.{meaning};
+ghost use Rattle.iocm_model.specs.Change.Runs as runs;
+ghost use Rattle.iocm_model.specs.Laws.Trees.{KeepsTheRules};
+ghost use Rattle.iocm_model.specs.Operation.State.{State};
+ghost use Rattle.iocm_tree.specs.Trees.{plain_tree, row, tree_of};
+ghost use Rattle.iocm_plant.specs.Operating.{KeepsRoom};
+ghost use Rattle.iocm_plant.specs.Refusing.{IsDue, no_memory};
+ghost use Rattle.iocm_activate.specs.Done.{AreToldBy, IsWayBack, edits_of, leaves_from, refusal_in, touched_in};
+ghost use Rattle.iocm_activate.specs.Effects.{cells_told, effect_in};
+ghost use Rattle.iocm_activate.specs.Told.{CanTakeBack, LeadsTo, told_of_all, way_back};
+
+use crate::done::{Done, prepare, tell};
+use crate::log::{Log, Mark};
+use crate::taking_back::take_back;
+use crate::walk::walk_closed;
+use iocm_plant::Plant;
+use iocm_tree::Tree;
+use iocm_types::{At, Refused, Rule};
+use std::alloc::{Allocator, Global};
+
+/// M1: memory was wanted.
+const NO_MEMORY: Refused = Refused {
+    rule: Rule::M1,
+    node: None,
+    at: At::Nothing,
+};
+
+/// Activates a change tree on a machine that keeps the rules: all of its edits that it means, or none.
+///
+/// Refused by C1 or C2, if the tree is over a limit; else by the first refusal that the tree means, at its node: E1, E2, E4 or B1 of an edit, E3
+/// of a Choose without parts, V1 to V14 where the rules are broken at the end of a node. M1, which may stand in place of any
+/// other: memory was wanted. A refused change leaves the state as it was.
+pub fn activate<A: Allocator>(
+    alloc: Global,
+    plant: &mut Plant,
+    tree: &Tree<A>,
+) -> Result<Done, Refused>
+    requires kept { KeepsTheRules plant.old.state }
+    ensures means { OnOk result (meaning (plain_tree (tree_of tree.now)) plant.old.state ≡ Ok (record { state = plant.new.state; edits = edits_of (meaning (plain_tree (tree_of tree.now)) plant.old.state) })) }
+    ensures refused { IfErr result (IsDue (refusal_in (meaning (plain_tree (tree_of tree.now)) plant.old.state))) }
+    ensures same { OnErr result (plant.new.state ≡ plant.old.state) }
+    ensures kept { KeepsTheRules plant.new.state }
+    ensures room { KeepsRoom plant.old.room plant.new.room }
+    ensures inverse { IfOk result (λ d. plain_tree (tree_of d.inverse) ≡ inverse_tree (edits_of (meaning (plain_tree (tree_of tree.now)) plant.old.state)) plant.old.state) }
+    ensures takes_back { IfOk result (λ d. TakesBack (plain_tree (tree_of d.inverse)) (edits_of (meaning (plain_tree (tree_of tree.now)) plant.old.state)) plant.old.state) }
+    ensures back { IfOk result (λ d. IsWayBack (tree_of d.inverse) plant.old.state plant.new) }
+    ensures effect { IfOk result (λ d. effect_in d.effect ≡ runs.effect_of (edits_of (meaning (plain_tree (tree_of tree.now)) plant.old.state)) plant.old.state) }
+    ensures performed { IfOk result (λ d. AreToldBy d.performed.items (told_of_all (edits_of (meaning (plain_tree (tree_of tree.now)) plant.old.state)) plant.old.state)) }
+{
+    // For the proof alone: the state is sound.
+    plant.is_sound();
+    if let Some(why) = tree.refusal() {
+        return Err(why);
+    }
+    let mut log = Log::new(alloc);
+    match walk_closed(alloc, plant, &mut log, tree, 0) {
+        Ok(None) => finish(alloc, plant, log),
+        Ok(Some(why)) => Err(leave(plant, log, why)),
+        Err(_error) => Err(leave(plant, log, NO_MEMORY)),
+    }
+}
+
+/// Tells of a change that was performed.
+///
+/// M1: memory was wanted; the change is taken back.
+fn finish(alloc: Global, plant: &mut Plant, log: Log) -> Result<Done, Refused>
+    requires back { CanTakeBack log.done.items plant.old }
+    ensures inverse { IfOk result (λ d. tree_of d.inverse ≡ row (leaves_from (way_back log.done.items))) }
+    ensures effect { IfOk result (λ d. effect_in d.effect ≡ values_in plant.old.state (cells_told log)) }
+    ensures performed { IfOk result (λ d. d.performed.items ≡ touched_in log.done.items) }
+    ensures done { OnOk result (plant.new ≡ plant.old) }
+    ensures refused { IfErr result (λ why. why ≡ no_memory) }
+    ensures undone { OnErr result ((s : State) → LeadsTo (way_back log.done.items) s plant.old → plant.new.state ≡ s) }
+    ensures room { OnErr result (plant.new.room ≡ plant.old.room) }
+{
+    match prepare(alloc, plant, &log) {
+        Ok(prepared) => {
+            let Log {
+                done,
+                keys: _keys,
+                kept: _kept,
+            } = log;
+            Ok(tell(prepared, done))
+        }
+        Err(_error) => Err(leave(plant, log, NO_MEMORY)),
+    }
+}
+
+/// Takes back what was done, for this reason. Can't answer want of memory.
+fn leave(plant: &mut Plant, log: Log, why: Refused) -> Refused
+    requires back { CanTakeBack log.done.items plant.old }
+    ensures why { result ≡ why }
+    ensures undone { (s : State) → LeadsTo (way_back log.done.items) s plant.old → plant.new.state ≡ s }
+    ensures room { plant.new.room ≡ plant.old.room }
+{
+    let mut log = log;
+    let start = Mark {
+        done: 0,
+        keys: 0,
+        kept: 0,
+    };
+    take_back(plant, &mut log, start);
+    why
+}

@@ -1,0 +1,79 @@
+ghost use Rattle.std.specs.Prelude.{◌≡◌, ◌≤◌, [], length, IfOk};
+ghost use Rattle.std.specs.Vec.{vec_capacity};
+ghost use Rattle.iocm_model.specs.Change.Effect.{values_in};
+ghost use Rattle.iocm_tree.specs.Trees.{row, tree_of};
+ghost use Rattle.iocm_activate.specs.Done.{leaves_from, touched_in};
+ghost use Rattle.iocm_activate.specs.Effects.{cells_told, effect_in};
+ghost use Rattle.iocm_activate.specs.Told.{way_back};
+
+use crate::effect::{Effect, effect_of};
+use crate::log::Log;
+use iocm_plant::{Applied, Plant, Touched};
+use iocm_tree::Tree;
+use std::alloc::{AllocError, Global};
+
+/// That a change was performed. The word is own.
+#[derive(Drop)]
+pub struct Done {
+    /// The tree that takes it back: one Row of the inverses of the edits that were performed, that of the last one first.
+    pub inverse: Tree,
+    /// What it wrote, with the values after it.
+    pub effect: Effect,
+    /// What each edit did, in their order.
+    pub performed: Vec<Touched>,
+}
+
+/// What is told of a change, with memory for what stands in its log.
+#[derive(Drop)]
+pub struct Prepared {
+    effect: Effect,
+    parts: Vec<Tree>,
+    performed: Vec<Touched>,
+}
+
+/// Makes the memory for what is told of a change.
+pub fn prepare(alloc: Global, plant: &Plant, log: &Log) -> Result<Prepared, AllocError>
+    ensures effect { IfOk result (λ p. effect_in p.effect ≡ values_in plant.now.state (cells_told log.now)) }
+    ensures parts { IfOk result (λ p. p.parts.items ≡ []) }
+    ensures performed { IfOk result (λ p. p.performed.items ≡ []) }
+    ensures room { IfOk result (λ p. length log.now.done.items ≤ vec_capacity p.parts) }
+    ensures more_room { IfOk result (λ p. length log.now.done.items ≤ vec_capacity p.performed) }
+{
+    let effect = effect_of(alloc, plant, log)?;
+    let parts = Vec::with_capacity(alloc, log.done.len())?;
+    let performed = Vec::with_capacity(alloc, log.done.len())?;
+    Ok(Prepared {
+        effect,
+        parts,
+        performed,
+    })
+}
+
+/// What is told of a change. Can't answer want of memory.
+pub fn tell(prepared: Prepared, done: Vec<Applied>) -> Done
+    requires parts { prepared.parts.items ≡ [] }
+    requires performed { prepared.performed.items ≡ [] }
+    requires room { length done.items ≤ vec_capacity prepared.parts }
+    requires more_room { length done.items ≤ vec_capacity prepared.performed }
+    ensures inverse { tree_of result.inverse ≡ row (leaves_from (way_back done.items)) }
+    ensures effect { result.effect ≡ prepared.effect }
+    ensures performed { result.performed.items ≡ touched_in done.items }
+{
+    let Prepared {
+        effect,
+        mut parts,
+        mut performed,
+    } = prepared;
+    let mut done = done;
+    while let Some(applied) = done.pop() {
+        let Applied { inverse, touched } = applied;
+        parts.push_reserved(Tree::Leaf(inverse));
+        performed.push_reserved(touched);
+    }
+    performed.reverse();
+    Done {
+        inverse: Tree::Row(parts),
+        effect,
+        performed,
+    }
+}

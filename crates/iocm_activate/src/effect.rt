@@ -1,0 +1,145 @@
+ghost use Rattle.std.specs.Prelude.{◌≡◌, IfOk, OnOk};
+ghost use Rattle.std.specs.FinMap as map;
+ghost use Rattle.iocm_types.specs.Key.{key_cmp};
+ghost use Rattle.iocm_types.specs.Place.{cell_cmp};
+ghost use Rattle.iocm_types.specs.SubId.{sub_id_cmp};
+ghost use Rattle.iocm_table.specs.Slots.{rows};
+ghost use Rattle.iocm_model.specs.Machine.Numbering.{cells_of};
+ghost use Rattle.iocm_model.specs.Change.Effect.{values_in};
+ghost use Rattle.iocm_model.specs.Change.Maps.{cells_at};
+ghost use Rattle.iocm_activate.specs.Effects.{cells_changed, cells_told, effect_in, numbers_told, subchannels_changed, subchannels_told, with_values};
+ghost use Rattle.iocm_activate.specs.Told as told;
+ghost use Rattle.std.specs.Prelude.{map as map_list};
+
+use crate::log::Log;
+use iocm_config::Config;
+use iocm_numbers::{NumberChange, Numbers};
+use iocm_plant::{Applied, Plant};
+use iocm_records::Record;
+use iocm_seats::ViewChange;
+use iocm_table::Table;
+use iocm_types::{DevNo, Key, Live, NumberCell, SubId, TableKey};
+use std::alloc::{AllocError, Global};
+
+/// The effect of a change: the cells that it wrote, each with its value after the change; none where there is nothing any more. Also a
+/// cell is among them that one edit wrote and a later one put back. The word is own.
+#[derive(Drop)]
+pub struct Effect {
+    /// The records, under the keys of the edits.
+    pub records: Table<Key, Option<Record>>,
+    /// The devices that have the numbers.
+    pub numbers: Table<NumberCell, Option<DevNo>>,
+    /// The live records of the subchannels that were altered.
+    pub lives: Table<SubId, Option<Live>>,
+}
+
+/// The effect of the edits of a log.
+pub fn effect_of(alloc: Global, plant: &Plant, log: &Log) -> Result<Effect, AllocError>
+    ensures { IfOk result (λ e. effect_in e ≡ values_in plant.now.state (cells_told log.now)) }
+{
+    let records = record_cells(alloc, plant.config(), log.keys.as_slice())?;
+    let numbers = number_cells(alloc, plant.numbers(), log.done.as_slice())?;
+    let lives = live_cells(alloc, plant, log.done.as_slice())?;
+    Ok(Effect {
+        records,
+        numbers,
+        lives,
+    })
+}
+
+/// The records under these keys.
+fn record_cells(
+    alloc: Global,
+    config: &Config,
+    keys: &[Key],
+) -> Result<Table<Key, Option<Record>>, AllocError>
+    ensures { IfOk result (λ cells. rows key_cmp cells ≡ cells_at config.now.records keys.now) }
+{
+    let mut cells = Table::new(alloc);
+    for key in keys {
+        let value = record_at(alloc, config, key)?;
+        add_cell(&mut cells, *key, value)?;
+    }
+    Ok(cells)
+}
+
+/// A copy of the record under a key.
+fn record_at(alloc: Global, config: &Config, key: &Key) -> Result<Option<Record>, AllocError>
+    ensures { IfOk result (λ entry. entry ≡ map.get config.now.records key.now) }
+{
+    match config.get(key) {
+        Some(entry) => Ok(Some(entry.copy_in(alloc)?)),
+        None => Ok(None),
+    }
+}
+
+/// The number cells that edits changed, with the devices that have them now.
+fn number_cells(
+    alloc: Global,
+    numbers: &Numbers,
+    done: &[Applied],
+) -> Result<Table<NumberCell, Option<DevNo>>, AllocError>
+    ensures { IfOk result (λ cells. rows cell_cmp cells ≡ cells_at (cells_of numbers.now.numbers) (numbers_told (map_list told.told_in done.now))) }
+{
+    let mut cells = Table::new(alloc);
+    for applied in done {
+        add_numbers(&mut cells, numbers, applied.touched.numbers.as_slice())?;
+    }
+    Ok(cells)
+}
+
+/// Adds the number cells that an edit changed.
+fn add_numbers(
+    cells: &mut Table<NumberCell, Option<DevNo>>,
+    numbers: &Numbers,
+    changes: &[NumberChange],
+) -> Result<(), AllocError>
+    ensures { OnOk result (rows cell_cmp cells.new ≡ with_values (cells_of numbers.now.numbers) (cells_changed changes.now) (rows cell_cmp cells.old)) }
+{
+    for change in changes {
+        add_cell(cells, change.cell, numbers.device_at(change.cell))?;
+    }
+    Ok(())
+}
+
+/// The subchannels that edits altered, with their live records now.
+fn live_cells(
+    alloc: Global,
+    plant: &Plant,
+    done: &[Applied],
+) -> Result<Table<SubId, Option<Live>>, AllocError>
+    ensures { IfOk result (λ cells. rows sub_id_cmp cells ≡ cells_at plant.now.state.lives (subchannels_told (map_list told.told_in done.now))) }
+{
+    let mut cells = Table::new(alloc);
+    for applied in done {
+        add_lives(&mut cells, plant, applied.touched.subchannels.as_slice())?;
+    }
+    Ok(cells)
+}
+
+/// Adds the subchannels that an edit altered.
+fn add_lives(
+    cells: &mut Table<SubId, Option<Live>>,
+    plant: &Plant,
+    changes: &[ViewChange],
+) -> Result<(), AllocError>
+    ensures { OnOk result (rows sub_id_cmp cells.new ≡ with_values plant.now.state.lives (subchannels_changed changes.now) (rows sub_id_cmp cells.old)) }
+{
+    for change in changes {
+        add_cell(cells, change.subchannel, plant.live(change.subchannel))?;
+    }
+    Ok(())
+}
+
+/// Puts a cell into a table, over one with the same key.
+fn add_cell<K: TableKey + Copy + Drop, V: Drop>(
+    cells: &mut Table<K, Option<V>>,
+    key: K,
+    value: Option<V>,
+) -> Result<(), AllocError>
+    ensures { OnOk result (rows K.order cells.new ≡ map.insert (rows K.order cells.old) key value) }
+{
+    cells.room(key)?;
+    let _before = cells.put(&key, value);
+    Ok(())
+}

@@ -1,0 +1,57 @@
+ghost use Rattle.std.specs.Prelude.{◌≡◌, Option, Some, IfOk, OnErr};
+ghost use Rattle.iocm_types.specs.declared.refused.Refused as refused;
+ghost use Rattle.iocm_model.specs.Change.Meaning.{node_meaning, at_node};
+ghost use Rattle.iocm_model.specs.Change.Tree.{leaf};
+ghost use Rattle.iocm_plant.specs.Refusing.{IsDue};
+ghost use Rattle.iocm_activate.specs.Walked.{Answers, Ran, WereKept};
+
+use crate::log::Log;
+use iocm_plant::Plant;
+use iocm_tree::Edit;
+use iocm_types::{Refused, Rule};
+use std::alloc::{AllocError, Allocator, Global};
+
+/// Performs the edit of a leaf. The answer is why it is refused, if it is.
+///
+/// `AllocError` (M1): memory was wanted.
+pub fn perform<A: Allocator>(
+    alloc: Global,
+    plant: &mut Plant,
+    log: &mut Log,
+    edit: &Edit<A>,
+    node: u64,
+) -> Result<Option<Refused>, AllocError>
+    requires kept { WereKept log.old plant.old.state }
+    ensures answers { IfOk result (Answers (node_meaning (leaf edit.now.edit) node plant.old.state) plant.old log.old plant.new log.new) }
+    ensures ran { OnErr result (Ran plant.old log.old plant.new log.new) }
+    ensures kept { WereKept log.new plant.new.state }
+{
+    // For the proof alone: the state is sound.
+    plant.is_sound();
+    log.room()?;
+    let copy = edit.copy_in(alloc)?;
+    let key = copy.key();
+    match plant.apply(alloc, copy) {
+        Ok(applied) => {
+            log.note(key, applied);
+            Ok(None)
+        }
+        Err(why) => Ok(Some(unless_no_memory(why, node)?)),
+    }
+}
+
+/// The refusal of an edit, with its node.
+///
+/// `AllocError` (M1): it was refused because memory was wanted.
+fn unless_no_memory(why: Refused, node: u64) -> Result<Refused, AllocError>
+    ensures { IfOk result (λ named. (due : Option refused.Refused) → IsDue due why → (due ≡ Some why) × (named ≡ at_node node why)) }
+{
+    if why.rule == Rule::M1 {
+        return Err(AllocError);
+    }
+    Ok(Refused {
+        rule: why.rule,
+        node: Some(node),
+        at: why.at,
+    })
+}
