@@ -1,4 +1,4 @@
--- Of keys in order the first whose address was met or is that of a key before it, and the least of what records give.
+-- Of keys in order the first whose address was met or is that of a key before it, and the least of what some give.
 use Rattle.std.proofs.Common.{◌≡◌, ◌⊎◌, inl, inr, ℕ, zero, suc, Bool, true, false, cond, ◌||◌, nat_eq, Option, None, Some, List, [], ◌∷◌, get_or, replicate, refl, sym, ap, subst, ◌∙◌, arith}
 use Rattle.std.proofs.lemmas.Bool.{false≢true}
 use Rattle.std.proofs.lemmas.Bool.Decides.{nat_tests}
@@ -12,7 +12,6 @@ use Rattle.iocm_types.specs.declared.key.Key.{Key}
 use Rattle.iocm_types.specs.Key.{key_cmp}
 use Rattle.iocm_types.specs.KeyOrder.{keys_total, keys_exact}
 use Rattle.iocm_types.proofs.Found.{same_key, ties_itself}
-use Rattle.iocm_model.specs.Machine.Record.{Rec}
 use Rattle.iocm_lookup.proofs.Anys.{or_later}
 use Rattle.iocm_device_rules.specs.Addresses.{is_met, met_with, first_clash, lesser, least_of}
 
@@ -116,7 +115,8 @@ module _ (address : Key → Option ℕ) where
     pub is : first_clash address met ks ≡ Some found
     pub not_behind : IsNotBehind found k
 
-  first_not_behind : (q k : Key) (qs : List Key) → AllByRecursion (λ p. key_cmp q p ≡ Less) qs → list_any (eq_by_cmp key_cmp k) (q ∷ qs) ≡ true → IsNotBehind q k
+  -- of keys in order the first is not behind another
+  pub first_not_behind : (q k : Key) (qs : List Key) → AllByRecursion (λ p. key_cmp q p ≡ Less) qs → list_any (eq_by_cmp key_cmp k) (q ∷ qs) ≡ true → IsNotBehind q k
   first_not_behind q k qs all there = by (eq_by_cmp key_cmp k q) refl there
     where
       by : (b : Bool) → eq_by_cmp key_cmp k q ≡ b → (b || list_any (eq_by_cmp key_cmp k) qs) ≡ true → is_lt (key_cmp k q) ≡ false
@@ -230,13 +230,13 @@ second_kept (Some a) (Some b) k m =
     let same : b ≡ m.found = let e = m.is in cc in
     lesser_of_two a b (is_lt (key_cmp b a)) refl k (inr (subst (λ (q : Key). IsNotBehind q k) (sym same) m.not_behind))
 
-module _ (gives : Rec → Option Key) where
-  least_kept : (rs : List Rec) (o : Option Key) (k : Key) → IsAtMost o k → IsAtMost (least_of gives o rs) k
+module _ {A : Type 0} (gives : A → Option Key) where
+  least_kept : (rs : List A) (o : Option Key) (k : Key) → IsAtMost o k → IsAtMost (least_of gives o rs) k
   least_kept [] o k m = m
   least_kept (r ∷ rs) o k m = least_kept rs (lesser o (gives r)) k (first_kept o (gives r) k m)
 
-  -- where a record gives a key that is not behind another, the least is there and not behind it
-  pub least_at_most : (test : Rec → Bool) (k : Key) → ((r : Rec) → test r ≡ true → IsAtMost (gives r) k) → (rs : List Rec) (o : Option Key)
+  -- where one gives a key that is not behind another, the least is there and not behind it
+  pub least_at_most : (test : A → Bool) (k : Key) → ((r : A) → test r ≡ true → IsAtMost (gives r) k) → (rs : List A) (o : Option Key)
       → list_any test rs ≡ true → IsAtMost (least_of gives o rs) k
   least_at_most test k given [] o any = cc
   least_at_most test k given (r ∷ rs) o any = by (test r) refl any (least_at_most test k given rs (lesser o (gives r)))
@@ -246,9 +246,9 @@ module _ (gives : Rec → Option Key) where
       by true is h more = least_kept rs (lesser o (gives r)) k (second_kept o (gives r) k (given r is))
       by false is h more = more h
 
-  -- a record of some, that gives a key
-  pub record IsGiver (P : Rec → Type 0) (k : Key) : Type 0 where
-    pub giver : Rec
+  -- one of some, that gives a key
+  pub record IsGiver (P : A → Type 0) (k : Key) : Type 0 where
+    pub giver : A
     pub holds : P giver
     pub given : gives giver ≡ Some k
 
@@ -261,8 +261,8 @@ module _ (gives : Rec → Option Key) where
       by true is = inr is
       by false is = inl is
 
-  -- the least is what was there first, or what a record gives
-  pub least_is_given : (P : Rec → Type 0) (rs : List Rec) → AllByRecursion P rs → (o : Option Key) (k : Key) → least_of gives o rs ≡ Some k → (o ≡ Some k) ⊎ IsGiver P k
+  -- the least is what was there first, or what one gives
+  pub least_is_given : (P : A → Type 0) (rs : List A) → AllByRecursion P rs → (o : Option Key) (k : Key) → least_of gives o rs ≡ Some k → (o ≡ Some k) ⊎ IsGiver P k
   least_is_given P [] all o k is = inl is
   least_is_given P (r ∷ rs) all o k is = by (least_is_given P rs all.1 (lesser o (gives r)) k is)
     where

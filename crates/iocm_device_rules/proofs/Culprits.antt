@@ -30,7 +30,7 @@ use Rattle.iocm_lookup.specs.Indexed.{names, IsIndexOf}
 use Rattle.iocm_lookup.proofs.Anys.{or_later}
 use Rattle.iocm_lookup.proofs.Members.{record_found, record_there}
 use Rattle.iocm_lookup.proofs.Walks.{first_of_any}
-use Rattle.iocm_device_rules.specs.Addresses.{address_in, clash_of, least_of}
+use Rattle.iocm_device_rules.specs.Addresses.{address_in, clash_on, clash_of, least_of}
 use Rattle.iocm_device_rules.proofs.Clashes.{IsAtMost, IsClash, IsBefore, less_key, first_is_clash, clash_has_first, least_at_most, least_is_given, IsGiver}
 use Rattle.iocm_device_rules.proofs.Firsts.{IsSoAt, least_so_is_first, records_are_there}
 
@@ -151,6 +151,56 @@ own_unit n (path x) own = cc
 own_unit n (device x) own = cc
 own_unit n (online x) own = cc
 
+-- ---- a device that breaks the rule
+
+-- a record is that of a device
+record IsDevice (r : Rec) : Type 0 where
+  one : DeviceRecord
+  is : r ≡ device one
+
+is_device : (c : Configuration) (r : Rec) → breaks_v10 c r ≡ true → IsDevice r
+is_device c (device d) so = record { one = d; is = refl }
+is_device c (id x) so = absurd (false≢true so)
+is_device c (resource x) so = absurd (false≢true so)
+is_device c (image x) so = absurd (false≢true so)
+is_device c (limit x) so = absurd (false≢true so)
+is_device c (path x) so = absurd (false≢true so)
+is_device c (unit x) so = absurd (false≢true so)
+is_device c (online x) so = absurd (false≢true so)
+
+-- a device before another with its unit address, and a unit that both name
+pub record IsOther (c : Configuration) (d : DeviceRecord) : Type 0 where
+  pub other : DeviceRecord
+  pub there : get c (key_of (device other)) ≡ Some (device other)
+  pub so : (stands_before (device other) (device d) && answers_on d.unit_address d.units (device other)) ≡ true
+  pub unit : ℕ
+  pub in_other : list_any (nat_eq unit) other.units ≡ true
+  pub in_own : list_any (nat_eq unit) d.units ≡ true
+
+other_of : (c : Configuration) (d : DeviceRecord) (r : Rec) → get c (key_of r) ≡ Some r → (stands_before r (device d) && answers_on d.unit_address d.units r) ≡ true → IsOther c d
+other_of c d (device e) there so =
+    let n = number_found (λ number. list_any (nat_eq number) d.units) e.units (second_of (nat_eq e.unit_address d.unit_address) _ (second_of (stands_before (device e) (device d)) _ so)) in
+    record { other = e; there = there; so = so; unit = n.number; in_other = n.there; in_own = n.passes }
+other_of c d (id x) there so = absurd (false≢true (second_of (stands_before (id x) (device d)) false so))
+other_of c d (resource x) there so = absurd (false≢true (second_of (stands_before (resource x) (device d)) false so))
+other_of c d (image x) there so = absurd (false≢true (second_of (stands_before (image x) (device d)) false so))
+other_of c d (limit x) there so = absurd (false≢true (second_of (stands_before (limit x) (device d)) false so))
+other_of c d (path x) there so = absurd (false≢true (second_of (stands_before (path x) (device d)) false so))
+other_of c d (unit x) there so = absurd (false≢true (second_of (stands_before (unit x) (device d)) false so))
+other_of c d (online x) there so = absurd (false≢true (second_of (stands_before (online x) (device d)) false so))
+
+-- a record that breaks the rule: a device, and another before it
+pub record IsCulprit (c : Configuration) (k : Key) : Type 0 where
+  pub one : DeviceRecord
+  pub here : get c k ≡ Some (device one)
+  pub before : IsOther c one
+
+pub culprit_found : (c : Configuration) → IsKeyed c → (k : Key) (r : Rec) → get c k ≡ Some r → breaks_v10 c r ≡ true → IsCulprit c k
+culprit_found c keyed k r here so =
+    let d = is_device c r so in
+    let m = record_found c (λ other. stands_before other (device d.one) && answers_on d.one.unit_address d.one.units other) keyed (sym (ap (breaks_v10 c) d.is) ∙ so) in
+    record { one = d.one; here = here ∙ ap Some d.is; before = other_of c d.one m.member m.there m.passes }
+
 module _ (c : Configuration) (t : Stored Naming (Unit {0})) (keyed : IsKeyed c) (of : IsIndexOf c t) where
   -- the users of a unit, and their addresses
   abbrev users : ℕ → List Key
@@ -168,7 +218,7 @@ module _ (c : Configuration) (t : Stored Naming (Unit {0})) (keyed : IsKeyed c) 
 
   -- ---- a clash is a device that breaks the rule
 
-  clash_breaks : (n : ℕ) (k : Key) → IsClash address no_address (users n) k → IsSoAt (breaks_v10 c) (get c) k
+  pub clash_breaks : (n : ℕ) (k : Key) → IsClash address no_address (users n) k → IsSoAt (breaks_v10 c) (get c) k
   clash_breaks n k clash = by clash.before
     where
       with_both : (b : IsBefore address (users n) k clash.at) → IsDeviceAt (get c k) clash.at → IsDeviceAt (get c b.other) clash.at → IsSoAt (breaks_v10 c) (get c) k
@@ -206,6 +256,33 @@ module _ (c : Configuration) (t : Stored Naming (Unit {0})) (keyed : IsKeyed c) 
 
   -- ---- a device that breaks the rule is a clash on a unit
 
+  -- a device that breaks the rule is a clash on a common unit
+  pub clash_of_culprit : (k : Key) (culprit : IsCulprit c k) → IsClash address no_address (users culprit.before.unit) k
+  clash_of_culprit k culprit =
+      let d = culprit.one in
+      let o = culprit.before in
+      let e = o.other in
+      record {
+        there = is_user o.unit k d culprit.here ∙ o.in_own;
+        at = d.unit_address;
+        has = ap address_in culprit.here;
+        before = inr (record {
+          other = key_of (device e);
+          there = is_user o.unit (key_of (device e)) e o.there ∙ o.in_other;
+          has = ap address_in o.there
+              ∙ ap Some (same_number e.unit_address d.unit_address (first_of (nat_eq e.unit_address d.unit_address) _ (second_of (stands_before (device e) (device d)) _ o.so)));
+          less = less_key (key_cmp (key_of (device e)) k) (ap (λ (q : Key). is_lt (key_cmp (key_of (device e)) q)) (sym (keyed_own c keyed k (device d) culprit.here))
+              ∙ first_of (stands_before (device e) (device d)) _ o.so);
+        });
+      }
+
+  -- so the first clash on that unit is not behind it
+  pub clash_not_behind : (k : Key) (culprit : IsCulprit c k) → IsAtMost (clash_on (lookup_of c) (rows naming_cmp t) culprit.before.unit) k
+  clash_not_behind k culprit =
+      let n = culprit.before.unit in
+      let f = clash_has_first address no_address (users n) (users_in_order (thing.Record (key.Unit n)) (rows naming_cmp t)) k (clash_of_culprit k culprit) in
+      record { found = f.found; is = f.is; not_behind = f.not_behind }
+
   module _ (kept : first_record (breaks_v8 c) (records_of c) ≡ None) where
     keeps : (k : Key) (r : Rec) → get c k ≡ Some r → (b : Bool) → breaks_v8 c r ≡ b → breaks_v8 c r ≡ false
     keeps k r here true is = absurd (false≢true (sym (sym (first_of_any (breaks_v8 c) (records_of c)) ∙ ap (λ o. is_there (option_map key_of o)) kept)
@@ -216,35 +293,17 @@ module _ (c : Configuration) (t : Stored Naming (Unit {0})) (keyed : IsKeyed c) 
         is_there (Some q) = true
     keeps k r here false is = is
 
-    -- the clash on a common unit
-    clash_on : (k : Key) (d e : DeviceRecord) (n : ℕ) → get c k ≡ Some (device d) → get c (key_of (device e)) ≡ Some (device e)
-        → is_lt (key_cmp (key_of (device e)) (key_of (device d))) ≡ true → nat_eq e.unit_address d.unit_address ≡ true
-        → list_any (nat_eq n) e.units ≡ true → list_any (nat_eq n) d.units ≡ true → IsClash address no_address (users n) k
-    clash_on k d e n here there less same in_other in_own = record {
-      there = is_user n k d here ∙ in_own;
-      at = d.unit_address;
-      has = ap address_in here;
-      before = inr (record {
-        other = key_of (device e);
-        there = is_user n (key_of (device e)) e there ∙ in_other;
-        has = ap address_in there ∙ ap Some (same_number e.unit_address d.unit_address same);
-        less = less_key (key_cmp (key_of (device e)) k) (ap (λ (q : Key). is_lt (key_cmp (key_of (device e)) q)) (sym (keyed_own c keyed k (device d) here)) ∙ less);
-      });
-    }
-
-    -- a unit that is there gives a key that is not behind a clash on it
-    given : (k : Key) (n : ℕ) → IsClash address no_address (users n) k → (r : Rec) → is_unit n r ≡ true → IsAtMost (clash_of (lookup_of c) (rows naming_cmp t) r) k
-    given k n clash (unit u) same =
-        let f = clash_has_first address no_address (users u.number) (users_in_order (thing.Record (key.Unit u.number)) (rows naming_cmp t)) k
-        (subst (λ (m : ℕ). IsClash address no_address (users m) k) (sym (same_number u.number n same)) clash) in
-        record { found = f.found; is = f.is; not_behind = f.not_behind }
-    given k n clash (id x) same = absurd (false≢true same)
-    given k n clash (resource x) same = absurd (false≢true same)
-    given k n clash (image x) same = absurd (false≢true same)
-    given k n clash (limit x) same = absurd (false≢true same)
-    given k n clash (path x) same = absurd (false≢true same)
-    given k n clash (device x) same = absurd (false≢true same)
-    given k n clash (online x) same = absurd (false≢true same)
+    -- the unit that is there gives a key that is not behind it
+    given : (k : Key) (culprit : IsCulprit c k) (r : Rec) → is_unit culprit.before.unit r ≡ true → IsAtMost (clash_of (lookup_of c) (rows naming_cmp t) r) k
+    given k culprit (unit u) same = subst (λ (n : ℕ). IsAtMost (clash_on (lookup_of c) (rows naming_cmp t) n) k) (sym (same_number u.number culprit.before.unit same))
+        (clash_not_behind k culprit)
+    given k culprit (id x) same = absurd (false≢true same)
+    given k culprit (resource x) same = absurd (false≢true same)
+    given k culprit (image x) same = absurd (false≢true same)
+    given k culprit (limit x) same = absurd (false≢true same)
+    given k culprit (path x) same = absurd (false≢true same)
+    given k culprit (device x) same = absurd (false≢true same)
+    given k culprit (online x) same = absurd (false≢true same)
 
     -- each unit of a device that is there is there
     unit_there : (k : Key) (d : DeviceRecord) (n : ℕ) → get c k ≡ Some (device d) → list_any (nat_eq n) d.units ≡ true → list_any (is_unit n) (records_of c) ≡ true
@@ -258,35 +317,12 @@ module _ (c : Configuration) (t : Stored Naming (Unit {0})) (keyed : IsKeyed c) 
         by None is = absurd (false≢true (sym none_missing ∙ number_there (λ number. is_none (lookup_of c (key.Unit number))) d.units n in_own (ap is_none is)))
         by (Some r) is = record_there c (is_unit n) (key.Unit n) r is (own_unit n r (keyed_own c keyed (key.Unit n) r is))
 
-    with_other : (k : Key) (d : DeviceRecord) → get c k ≡ Some (device d) → (r : Rec) → get c (key_of r) ≡ Some r
-        → (stands_before r (device d) && answers_on d.unit_address d.units r) ≡ true → IsAtMost (least_of (clash_of (lookup_of c) (rows naming_cmp t)) None (records_of c)) k
-    with_other k d here (device e) there so =
-        let less = first_of (stands_before (device e) (device d)) _ so in
-        let answers = second_of (stands_before (device e) (device d)) _ so in
-        let n = number_found (λ number. list_any (nat_eq number) d.units) e.units (second_of (nat_eq e.unit_address d.unit_address) _ answers) in
-        least_at_most (clash_of (lookup_of c) (rows naming_cmp t)) (is_unit n.number) k
-        (given k n.number (clash_on k d e n.number here there less (first_of (nat_eq e.unit_address d.unit_address) _ answers) n.there n.passes))
-        (records_of c) None (unit_there k d n.number here n.passes)
-    with_other k d here (id x) there so = absurd (false≢true (second_of (stands_before (id x) (device d)) false so))
-    with_other k d here (resource x) there so = absurd (false≢true (second_of (stands_before (resource x) (device d)) false so))
-    with_other k d here (image x) there so = absurd (false≢true (second_of (stands_before (image x) (device d)) false so))
-    with_other k d here (limit x) there so = absurd (false≢true (second_of (stands_before (limit x) (device d)) false so))
-    with_other k d here (path x) there so = absurd (false≢true (second_of (stands_before (path x) (device d)) false so))
-    with_other k d here (unit x) there so = absurd (false≢true (second_of (stands_before (unit x) (device d)) false so))
-    with_other k d here (online x) there so = absurd (false≢true (second_of (stands_before (online x) (device d)) false so))
-
     least_at : (k : Key) (r : Rec) → get c k ≡ Some r → breaks_v10 c r ≡ true
         → IsAtMost (least_of (clash_of (lookup_of c) (rows naming_cmp t)) None (records_of c)) k
-    least_at k (device d) here so =
-        let m = record_found c (λ r. stands_before r (device d) && answers_on d.unit_address d.units r) keyed so in
-        with_other k d here m.member m.there m.passes
-    least_at k (id x) here so = absurd (false≢true so)
-    least_at k (resource x) here so = absurd (false≢true so)
-    least_at k (image x) here so = absurd (false≢true so)
-    least_at k (limit x) here so = absurd (false≢true so)
-    least_at k (path x) here so = absurd (false≢true so)
-    least_at k (unit x) here so = absurd (false≢true so)
-    least_at k (online x) here so = absurd (false≢true so)
+    least_at k r here so =
+        let culprit = culprit_found c keyed k r here so in
+        least_at_most (clash_of (lookup_of c) (rows naming_cmp t)) (is_unit culprit.before.unit) k (given k culprit) (records_of c) None
+        (unit_there k culprit.one culprit.before.unit culprit.here culprit.before.in_own)
 
     -- the least of all units' first clashes is the first device that breaks the rule
     pub least_is_first : least_of (clash_of (lookup_of c) (rows naming_cmp t)) None (records_of c) ≡ option_map key_of (first_record (breaks_v10 c) (records_of c))

@@ -29,9 +29,13 @@ abbrev pub first_clash : (Key → Option ℕ) → (ℕ → Bool) → List Key �
 first_clash address met [] = None
 first_clash address met (k ∷ ks) = if is_met met (address k) then Some k else first_clash address (met_with (address k) met) ks
 
--- of a unit's users the first with the address of one before it
+-- of the users of a unit the first with the address of one before it
+abbrev pub clash_on : Lookup → Namings → ℕ → Option Key
+clash_on c index number = first_clash (λ k. address_in (c k)) (λ a. false) (users_in (thing.Record (key.Unit number)) index)
+
+-- that of a unit record
 abbrev pub clash_of : Lookup → Namings → Rec → Option Key
-clash_of c index (unit u) = first_clash (λ k. address_in (c k)) (λ a. false) (users_in (thing.Record (key.Unit u.number)) index)
+clash_of c index (unit u) = clash_on c index u.number
 clash_of c index _ = None
 
 -- the lesser of two keys
@@ -40,7 +44,16 @@ lesser None b = b
 lesser (Some a) None = Some a
 lesser (Some a) (Some b) = if is_lt (key_cmp b a) then Some b else Some a
 
--- the least of what records give, and of a key
-abbrev pub least_of : (Rec → Option Key) → Option Key → List Rec → Option Key
+-- the least of what these give, and of a key
+abbrev pub least_of : {A : Type 0} → (A → Option Key) → Option Key → List A → Option Key
 least_of gives least [] = least
-least_of gives least (r ∷ rs) = least_of gives (lesser least (gives r)) rs
+least_of gives least (x ∷ xs) = least_of gives (lesser least (gives x)) xs
+
+-- the units of a device that is there
+abbrev pub units_in : Option Rec → List ℕ
+units_in (Some (device d)) = d.units
+units_in _ = []
+
+-- the least of these on the units of the device at a key
+abbrev pub clash_at : Lookup → Namings → Key → Option Key
+clash_at c index k = least_of (clash_on c index) None (units_in (c k))

@@ -1,4 +1,5 @@
 pub mod Addresses
+pub mod Among
 pub mod Joining
 pub mod Past
 pub mod SameUnits
