@@ -2,6 +2,8 @@ pub mod Clashes
 pub mod Culprits
 pub mod Firsts
 pub mod JoinedPaths
+pub mod LeastAmong
+pub mod Leasts
 pub mod LikeDevices
 pub mod PastLimits
 pub mod UnitNumbers

@@ -50,7 +50,7 @@ fn least_clash<A: Allocator, I: Allocator>(config: &Config<A>, index: &Index<I>)
 }
 
 /// The lesser of two keys, where both are there.
-fn lesser(least: Option<Key>, other: Option<Key>) -> Option<Key>
+pub fn lesser(least: Option<Key>, other: Option<Key>) -> Option<Key>
     ensures { result ≡ addresses.lesser least other }
 {
     let Some(key) = least else {
@@ -87,12 +87,12 @@ fn clash_of<A: Allocator, I: Allocator>(
 }
 
 /// Of the devices on a unit, in order, the first with the address of one before it.
-fn first_clash<A: Allocator, I: Allocator>(
+pub(crate) fn first_clash<A: Allocator, I: Allocator>(
     config: &Config<A>,
     index: &Index<I>,
     unit: UnitNo,
 ) -> Option<Key>
-    ensures { result ≡ addresses.first_clash (λ k. addresses.address_in (lookup_of config.now.records k)) (λ a. false) (users_in (thing.Record (key.Unit unit)) (rows naming_cmp index.now)) }
+    ensures { result ≡ addresses.clash_on (lookup_of config.now.records) (rows naming_cmp index.now) unit }
 {
     let mut met = [false; 256];
     for user in index.users_of(Named::Record(Key::Unit(unit))) {

@@ -6,16 +6,21 @@
 //! the one goes unit by unit, the other over the numbers first, so that no device is compared with all others. What each
 //! answers is exactly what the model's predicate says, and none takes memory.
 //!
-//! Begin with `devices.rt`, then `addresses.rt`.
+//! Where only records at some keys can break a rule, since only these were changed, `first_wanted_among` and
+//! `first_address_twice_among` answer the same, and look at these keys alone.
+//!
+//! Begin with `devices.rt`, then `addresses.rt`, then `among.rt`.
 #![tactic(auto)]
 
 mod addresses;
 mod alike;
+mod among;
 mod devices;
 mod joined;
 mod limits;
 
-pub use addresses::first_address_twice;
+pub use addresses::{first_address_twice, lesser};
+pub use among::{first_address_twice_among, first_wanted_among, is_wanted_at};
 pub use devices::{AddressNotHeld, CandidateOfNoImage, WrongUnits};
 pub use joined::WrongPathList;
-pub use limits::first_past_limit;
+pub use limits::{NumberPastLimit, first_past_limit};

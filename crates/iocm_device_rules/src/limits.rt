@@ -20,8 +20,8 @@ use std::alloc::Allocator;
 /// V13: in some channel subsystem the subchannel number of a device is at or above the limit of its set there. Without a limit
 /// that is 65,280 in set 0 and 65,535 in the others (IOCP User's Guide, MAXDEV keyword). Own.
 #[derive(Drop)]
-struct NumberPastLimit<'a, N: Allocator> {
-    numbers: &'a Numbers<N>,
+pub struct NumberPastLimit<'a, N: Allocator> {
+    pub numbers: &'a Numbers<N>,
 }
 
 impl<'a, A: Allocator, N: Allocator> Wanted<A> for NumberPastLimit<'a, N> {

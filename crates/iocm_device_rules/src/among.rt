@@ -1,0 +1,151 @@
+ghost use Rattle.std.specs.Prelude.{◌≡◌, ℕ, None, Some};
+ghost use Rattle.std.specs.Option.{option_map};
+ghost use Rattle.iocm_types.specs.Naming.{naming_cmp};
+ghost use Rattle.iocm_table.specs.Slots.{rows};
+ghost use Rattle.iocm_model.specs.Machine.Record.{key_of};
+ghost use Rattle.iocm_model.specs.Machine.Configuration.{lookup_of, records_of};
+ghost use Rattle.iocm_model.specs.Rules.EachRule.{breaks_v10};
+ghost use Rattle.iocm_model.specs.Rules.FirstBreach.{first_record};
+ghost use Rattle.iocm_lookup.specs.Indexed.{IsIndexOf};
+ghost use Rattle.iocm_device_rules.specs.Addresses as addresses;
+ghost use Rattle.iocm_device_rules.specs.Among as among;
+
+use crate::addresses::{first_clash, lesser};
+use iocm_config::Config;
+use iocm_index::Index;
+use iocm_lookup::Wanted;
+use iocm_records::{Record, RecordBody};
+use iocm_types::{Key, UnitNo};
+use std::alloc::Allocator;
+
+/// The key of the first record that is looked for, if there is one, where no record at another key than these can be. The keys
+/// come in any order, also several times, and one may have no record. The time is that of one look at the record of each.
+pub fn first_wanted_among<A: Allocator, W: Wanted<A>>(
+    config: &Config<A>,
+    wanted: &W,
+    keys: &[Key],
+) -> Option<Key>
+    requires fits { W.fits wanted.now config.now.records }
+    requires only { among.IsOnlyAt keys.now config.now.records (W.wants wanted.now config.now.records) }
+    ensures { result ≡ option_map key_of (first_record (W.wants wanted.now config.now.records) (records_of config.now.records)) }
+{
+    config.has_own_keys();
+    least_wanted(config, wanted, keys)
+}
+
+/// The least of some keys whose record is looked for.
+#[tactic(auto, using(crate::proofs::Leasts::least_steps))]
+fn least_wanted<A: Allocator, W: Wanted<A>>(
+    config: &Config<A>,
+    wanted: &W,
+    keys: &[Key],
+) -> Option<Key>
+    requires { W.fits wanted.now config.now.records }
+    ensures { result ≡ addresses.least_of (among.key_if (W.wants wanted.now config.now.records) (lookup_of config.now.records)) None keys.now }
+{
+    let mut least = None;
+    for key in keys {
+        least = lesser(least, key_if_wanted(config, wanted, key));
+    }
+    least
+}
+
+/// A key, if the record there is looked for.
+fn key_if_wanted<A: Allocator, W: Wanted<A>>(
+    config: &Config<A>,
+    wanted: &W,
+    key: &Key,
+) -> Option<Key>
+    requires { W.fits wanted.now config.now.records }
+    ensures { result ≡ among.key_if (W.wants wanted.now config.now.records) (lookup_of config.now.records) key.now }
+{
+    if is_wanted_at(config, wanted, key) {
+        Some(*key)
+    } else {
+        None
+    }
+}
+
+/// Whether the record at a key is there, and is looked for.
+pub fn is_wanted_at<A: Allocator, W: Wanted<A>>(config: &Config<A>, wanted: &W, key: &Key) -> bool
+    requires { W.fits wanted.now config.now.records }
+    ensures { result ≡ among.is_so_at (W.wants wanted.now config.now.records) (lookup_of config.now.records) key.now }
+{
+    match config.get(key) {
+        Some(entry) => wanted.is_wanted(config, entry),
+        None => false,
+    }
+}
+
+/// V10, as `first_address_twice` answers it, where of two devices with one unit address and a common unit one is at these keys.
+///
+/// Of a unit's devices in order the first whose address was met is the least that breaks the rule there, and the answer is the
+/// least of those on the units of the devices at the keys.
+pub fn first_address_twice_among<A: Allocator, I: Allocator>(
+    config: &Config<A>,
+    index: &Index<I>,
+    keys: &[Key],
+) -> Option<Key>
+    requires index { IsIndexOf config.now.records index.now }
+    requires clashes { among.AreClashesAt keys.now config.now.records }
+    ensures { result ≡ option_map key_of (first_record (breaks_v10 config.now.records) (records_of config.now.records)) }
+{
+    config.has_own_keys();
+    least_clash_among(config, index, keys)
+}
+
+/// The least device that has, on a unit of the device at one of some keys, the address of one before it.
+#[tactic(auto, using(crate::proofs::Leasts::least_steps))]
+fn least_clash_among<A: Allocator, I: Allocator>(
+    config: &Config<A>,
+    index: &Index<I>,
+    keys: &[Key],
+) -> Option<Key>
+    ensures { result ≡ addresses.least_of (addresses.clash_at (lookup_of config.now.records) (rows naming_cmp index.now)) None keys.now }
+{
+    let mut least = None;
+    for key in keys {
+        least = lesser(least, clash_at(config, index, key));
+    }
+    least
+}
+
+/// The least clash on the units of the device at a key.
+fn clash_at<A: Allocator, I: Allocator>(
+    config: &Config<A>,
+    index: &Index<I>,
+    key: &Key,
+) -> Option<Key>
+    ensures { result ≡ addresses.clash_at (lookup_of config.now.records) (rows naming_cmp index.now) key.now }
+{
+    match config.get(key) {
+        Some(entry) => clash_on_units(config, index, units_of(entry)),
+        None => None,
+    }
+}
+
+/// The units of a device; of other records none.
+fn units_of<A: Allocator>(entry: &Record<A>) -> &[UnitNo]
+    ensures { result.now ≡ addresses.units_in (Some entry.now) }
+{
+    match entry.body() {
+        RecordBody::Device(fields) => fields.units.as_slice(),
+        _ => &[],
+    }
+}
+
+/// The least clash on these units.
+#[tactic(auto, using(crate::proofs::Leasts::least_steps))]
+fn clash_on_units<A: Allocator, I: Allocator>(
+    config: &Config<A>,
+    index: &Index<I>,
+    units: &[UnitNo],
+) -> Option<Key>
+    ensures { result ≡ addresses.least_of (addresses.clash_on (lookup_of config.now.records) (rows naming_cmp index.now)) None units.now }
+{
+    let mut least = None;
+    for unit in units {
+        least = lesser(least, first_clash(config, index, *unit));
+    }
+    least
+}
