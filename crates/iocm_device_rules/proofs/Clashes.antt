@@ -50,6 +50,14 @@ less_than_each k (p ∷ qs) all q there = by (eq_by_cmp key_cmp q p) refl there 
 here : (k : Key) (ks : List Key) → list_any (eq_by_cmp key_cmp k) (k ∷ ks) ≡ true
 here k ks = ap (λ b. b || list_any (eq_by_cmp key_cmp k) ks) (ties_itself key_cmp keys_total k)
 
+-- of keys in order the first is not behind another
+pub first_not_behind : (q k : Key) (qs : List Key) → AllByRecursion (λ p. key_cmp q p ≡ Less) qs → list_any (eq_by_cmp key_cmp k) (q ∷ qs) ≡ true → IsNotBehind q k
+first_not_behind q k qs all there = by (eq_by_cmp key_cmp k q) refl there
+  where
+    by : (b : Bool) → eq_by_cmp key_cmp k q ≡ b → (b || list_any (eq_by_cmp key_cmp k) qs) ≡ true → is_lt (key_cmp k q) ≡ false
+    by true e h = ap (λ (p : Key). is_lt (key_cmp k p)) (sym (same_key key_cmp keys_exact k q e)) ∙ ap is_lt (tied_itself keys_total k)
+    by false e h = ap is_lt (keys_total.antisymm k q ∙ ap ordering_reverse (less_than_each q qs all k h))
+
 -- ---- the first clash
 
 module _ (address : Key → Option ℕ) where
@@ -114,14 +122,6 @@ module _ (address : Key → Option ℕ) where
     pub found : Key
     pub is : first_clash address met ks ≡ Some found
     pub not_behind : IsNotBehind found k
-
-  -- of keys in order the first is not behind another
-  pub first_not_behind : (q k : Key) (qs : List Key) → AllByRecursion (λ p. key_cmp q p ≡ Less) qs → list_any (eq_by_cmp key_cmp k) (q ∷ qs) ≡ true → IsNotBehind q k
-  first_not_behind q k qs all there = by (eq_by_cmp key_cmp k q) refl there
-    where
-      by : (b : Bool) → eq_by_cmp key_cmp k q ≡ b → (b || list_any (eq_by_cmp key_cmp k) qs) ≡ true → is_lt (key_cmp k q) ≡ false
-      by true e h = ap (λ (p : Key). is_lt (key_cmp k p)) (sym (same_key key_cmp keys_exact k q e)) ∙ ap is_lt (tied_itself keys_total k)
-      by false e h = ap is_lt (keys_total.antisymm k q ∙ ap ordering_reverse (less_than_each q qs all k h))
 
   met_still : (o : Option ℕ) (met : ℕ → Bool) (at : ℕ) → met at ≡ true → met_with o met at ≡ true
   met_still None met at m = m

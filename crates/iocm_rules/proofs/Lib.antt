@@ -1,3 +1,6 @@
 pub mod FirstBreaches
 pub mod NameLists
+pub mod NearEdits
+pub mod NearRules
+pub mod OnPaths
 pub mod OnlineUsers

@@ -1,3 +1,4 @@
 pub mod Check
 pub mod ImageNames
+pub mod Near
 pub mod Onlines

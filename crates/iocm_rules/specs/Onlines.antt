@@ -1,9 +1,16 @@
 -- Online records that are looked for among the users of a path.
-use Rattle.std.specs.Prelude.{◌&&◌, Bool, true, false}
+use Rattle.std.specs.Prelude.{◌≡◌, ℕ, ◌&&◌, ◌==◌, Bool, true, false, if◌then◌else◌, Option, None, Some, List, [], ◌∷◌}
+use Rattle.std.specs.List.{list_any}
 use Rattle.std.specs.Ordering.{is_lt}
 use Rattle.iocm_types.specs.declared.key.Key.{Key}
-use Rattle.iocm_types.specs.declared.key.Key.TheVariants.{Online}
+use Rattle.iocm_types.specs.declared.key.Key.TheVariants.{Online, Path}
+use Rattle.iocm_types.specs.declared.named.Named.TheVariants.{Record}
 use Rattle.iocm_types.specs.Key.{key_cmp}
+use Rattle.iocm_index.specs.Namings.{Namings, users_in}
+use Rattle.iocm_model.specs.Machine.Record.{Rec, OnlineRecord, online}
+use Rattle.iocm_model.specs.Machine.Configuration.{Configuration, Lookup, lookup_of}
+use Rattle.iocm_model.specs.Rules.EachRule.{breaks_v4}
+use Rattle.iocm_device_rules.specs.Among.{is_so_at}
 
 -- the key of an online record
 abbrev pub is_online_key : Key → Bool
@@ -13,3 +20,23 @@ is_online_key _ = false
 -- one before a key
 abbrev pub is_online_before : Key → Key → Bool
 is_online_before key user = is_lt (key_cmp user key) && is_online_key user
+
+-- the key of an online record of a path
+abbrev pub is_key_at_path : ℕ → ℕ → Key → Bool
+is_key_at_path css number (Online own_css own_path name) = own_css == css && own_path == number
+is_key_at_path css number _ = false
+
+-- no online record breaks V4 but on the path of one of these keys
+abbrev pub AreOnPathsOf : List Key → Configuration → Type 0
+AreOnPathsOf keys c = (key : Key) (o : OnlineRecord) → lookup_of c key ≡ Some (online o) → breaks_v4 c (online o) ≡ true
+    → list_any (is_key_at_path o.css o.path) keys ≡ true
+
+-- of some keys the first whose record is so
+abbrev pub first_so : (Rec → Bool) → Lookup → List Key → Option Key
+first_so is_so c [] = None
+first_so is_so c (k ∷ ks) = if is_so_at is_so c k then Some k else first_so is_so c ks
+
+-- of what names the path of an online record's key the first that is so; of other keys none
+abbrev pub first_on_path : (Rec → Bool) → Lookup → Namings → Key → Option Key
+first_on_path is_so c index (Online css path name) = first_so is_so c (users_in (Record (Path css path)) index)
+first_on_path is_so c index _ = None

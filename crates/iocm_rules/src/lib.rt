@@ -12,10 +12,15 @@
 mod breach;
 mod first_breach;
 mod image_names;
+mod laws;
 mod names;
+mod near;
 mod online;
+mod online_among;
 #[cfg(test)]
 mod tests;
 
 pub use breach::Breach;
 pub use first_breach::check;
+pub use laws::near_edits_keep_the_rest;
+pub use near::check_near;

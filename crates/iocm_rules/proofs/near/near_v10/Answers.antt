@@ -1,0 +1,17 @@
+use Rattle.std.proofs.Common.{sym, ◌∙◌}
+use Rattle.iocm_types.specs.declared.rule.Rule.TheVariants.{V10}
+use Rattle.iocm_model.specs.Machine.Configuration.{records_of}
+use Rattle.iocm_model.specs.Rules.EachRule.{breaks_v10}
+use Rattle.iocm_rules.specs.Check.{from_v11}
+use Rattle.iocm_rules.proofs.FirstBreaches.{breach_here, breach_later}
+use Rattle.iocm_rules.proofs.NearRules.{v10_only}
+use Rattle.iocm_rules.proofs.near.near_v10.Goals as goal
+
+pub first_address_twice_among-requires-clause-clashes : goal.first_address_twice_among-requires-clause-clashes
+first_address_twice_among-requires-clause-clashes g c = v10_only c.args.keys.now c.args.config.now.records c.args.numbers.now.numbers c.has_own_keys.ensures c.requires.near
+
+pub returns-in-Some : goal.returns-in-Some
+returns-in-Some g c = sym (breach_here V10 (breaks_v10 c.args.config.now.records) (from_v11 c.args.config.now.records c.args.numbers.now.numbers) (records_of c.args.config.now.records) c.in-Some.key (sym c.first_address_twice_among.ensures ∙ c.in-Some.is))
+
+pub returns-in-None : goal.returns-in-None
+returns-in-None g c = c.near_v11.ensures ∙ sym (breach_later V10 (breaks_v10 c.args.config.now.records) (from_v11 c.args.config.now.records c.args.numbers.now.numbers) (records_of c.args.config.now.records) (sym c.first_address_twice_among.ensures ∙ c.in-None.is))

@@ -1,0 +1,17 @@
+use Rattle.std.proofs.Common.{sym, ◌∙◌}
+use Rattle.iocm_types.specs.declared.rule.Rule.TheVariants.{V11}
+use Rattle.iocm_model.specs.Machine.Configuration.{records_of}
+use Rattle.iocm_model.specs.Rules.EachRule.{breaks_v11}
+use Rattle.iocm_rules.specs.Check.{from_v12}
+use Rattle.iocm_rules.proofs.FirstBreaches.{breach_here, breach_later}
+use Rattle.iocm_rules.proofs.NearRules.{v11_only}
+use Rattle.iocm_rules.proofs.near.near_v11.Goals as goal
+
+pub first_wanted_among-requires-clause-only : goal.first_wanted_among-requires-clause-only
+first_wanted_among-requires-clause-only g c = v11_only c.args.keys.now c.args.config.now.records c.args.numbers.now.numbers c.has_own_keys.ensures c.requires
+
+pub returns-in-Some : goal.returns-in-Some
+returns-in-Some g c = sym (breach_here V11 (breaks_v11 c.args.config.now.records) (from_v12 c.args.config.now.records c.args.numbers.now.numbers) (records_of c.args.config.now.records) c.in-Some.key (sym c.first_wanted_among.ensures ∙ c.in-Some.is))
+
+pub returns-in-None : goal.returns-in-None
+returns-in-None g c = c.near_v12.ensures ∙ sym (breach_later V11 (breaks_v11 c.args.config.now.records) (from_v12 c.args.config.now.records c.args.numbers.now.numbers) (records_of c.args.config.now.records) (sym c.first_wanted_among.ensures ∙ c.in-None.is))
