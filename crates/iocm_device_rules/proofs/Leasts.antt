@@ -1,7 +1,9 @@
--- The steps of a loop that takes the least of what the items of a list give.
-use Rattle.std.proofs.Common.{◌≡◌, ℕ, ◌+◌, ◌<◌, ◌≤◌, Option, List, length, get_or, drop, sym, ap}
+-- The steps of a loop that takes the least of what the items of a list give, and what need not be taken.
+use Rattle.std.proofs.Common.{◌≡◌, ℕ, ◌+◌, ◌<◌, ◌≤◌, Bool, true, false, cond, Option, None, Some, List, length, get_or, drop, refl, sym, ap}
 use Rattle.std.proofs.Math.ListN.{drop_of_length-le}
+use Rattle.std.specs.Ordering.{is_lt}
 use Rattle.iocm_types.specs.declared.key.Key.{Key}
+use Rattle.iocm_types.specs.Key.{key_cmp}
 use Rattle.iocm_types.proofs.Lists.{drop-item}
 use Rattle.iocm_device_rules.specs.Addresses.{lesser, least_of}
 
@@ -15,3 +17,22 @@ module _ {A : Type 0} (gives : A → Option Key) (xs : List A) (i : ℕ) (least 
   least_done past = ap (least_of gives least) (drop_of_length-le xs past)
 
 pub ruleset least_steps = (least_goes_on, least_done)
+
+-- to take a key again changes nothing
+pub lesser_again : (o p : Option Key) → lesser (lesser o p) p ≡ lesser o p
+lesser_again None None = refl
+lesser_again None (Some b) = by (is_lt (key_cmp b b))
+  where
+    by : (t : Bool) → cond t (Some b) (Some b) ≡ Some b
+    by true = refl
+    by false = refl
+lesser_again (Some a) None = refl
+lesser_again (Some a) (Some b) = by (is_lt (key_cmp b a)) refl (is_lt (key_cmp b b))
+  where
+    itself : (t : Bool) → cond t (Some b) (Some b) ≡ Some b
+    itself true = refl
+    itself false = refl
+
+    by : (t : Bool) → is_lt (key_cmp b a) ≡ t → (u : Bool) → lesser (cond t (Some b) (Some a)) (Some b) ≡ cond t (Some b) (Some a)
+    by true is u = itself (is_lt (key_cmp b b))
+    by false is u = ap (λ t. cond t (Some b) (Some a)) is

@@ -1,5 +1,5 @@
-ghost use Rattle.std.specs.Prelude.{◌≡◌, ℕ, None, Some};
-ghost use Rattle.std.specs.Option.{option_map};
+ghost use Rattle.std.specs.Prelude.{◌≡◌, true, None, Some};
+ghost use Rattle.std.specs.Option.{option_map, ForSome};
 ghost use Rattle.iocm_types.specs.Naming.{naming_cmp};
 ghost use Rattle.iocm_table.specs.Slots.{rows};
 ghost use Rattle.iocm_model.specs.Machine.Record.{key_of};
@@ -11,6 +11,7 @@ ghost use Rattle.iocm_device_rules.specs.Addresses as addresses;
 ghost use Rattle.iocm_device_rules.specs.Among as among;
 
 use crate::addresses::{first_clash, lesser};
+use crate::alike::are_on_same_units;
 use iocm_config::Config;
 use iocm_index::Index;
 use iocm_lookup::Wanted;
@@ -94,7 +95,8 @@ pub fn first_address_twice_among<A: Allocator, I: Allocator>(
     least_clash_among(config, index, keys)
 }
 
-/// The least device that has, on a unit of the device at one of some keys, the address of one before it.
+/// The least device that has, on a unit of the device at one of some keys, the address of one before it. A device on the same units
+/// as the one before it is not looked at again.
 #[tactic(auto, using(crate::proofs::Leasts::least_steps))]
 fn least_clash_among<A: Allocator, I: Allocator>(
     config: &Config<A>,
@@ -104,10 +106,42 @@ fn least_clash_among<A: Allocator, I: Allocator>(
     ensures { result ≡ addresses.least_of (addresses.clash_at (lookup_of config.now.records) (rows naming_cmp index.now)) None keys.now }
 {
     let mut least = None;
+    let mut last = None;
     for key in keys {
-        least = lesser(least, clash_at(config, index, key));
+        least = lesser_with(config, index, least, last, key);
+        last = Some(key);
     }
     least
+}
+
+/// The lesser of the least so far and the least clash on the units of the device at a key, where that at the last key, if there was
+/// one, is none that is less.
+fn lesser_with<A: Allocator, I: Allocator>(
+    config: &Config<A>,
+    index: &Index<I>,
+    least: Option<Key>,
+    last: Option<&Key>,
+    key: &Key,
+) -> Option<Key>
+    requires { ForSome last (λ other. addresses.lesser least (addresses.clash_at (lookup_of config.now.records) (rows naming_cmp index.now) other.now) ≡ least) }
+    ensures { result ≡ addresses.lesser least (addresses.clash_at (lookup_of config.now.records) (rows naming_cmp index.now) key.now) }
+{
+    if let Some(other) = last {
+        if is_on_its_units(config, key, other) {
+            return least;
+        }
+    }
+    lesser(least, clash_at(config, index, key))
+}
+
+/// Whether the devices at two keys are on the same units.
+fn is_on_its_units<A: Allocator>(config: &Config<A>, key: &Key, other: &Key) -> bool
+    ensures { result ≡ true → addresses.units_in (lookup_of config.now.records key.now) ≡ addresses.units_in (lookup_of config.now.records other.now) }
+{
+    match (config.get(key), config.get(other)) {
+        (Some(entry), Some(last)) => are_on_same_units(entry, last),
+        _ => false,
+    }
 }
 
 /// The least clash on the units of the device at a key.
