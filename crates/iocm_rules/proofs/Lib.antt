@@ -3,4 +3,5 @@ pub mod NameLists
 pub mod NearEdits
 pub mod NearRules
 pub mod OnPaths
+pub mod OneChange
 pub mod OnlineUsers

@@ -15,6 +15,8 @@ mod image_names;
 mod laws;
 mod names;
 mod near;
+#[cfg(test)]
+mod near_tests;
 mod online;
 mod online_among;
 #[cfg(test)]

@@ -12,11 +12,11 @@ use iocm_types::{
 use std::alloc::Global;
 use std::test::Fail;
 
-fn css(number: u8) -> Result<Css, Fail> {
+pub(crate) fn css(number: u8) -> Result<Css, Fail> {
     Ok(Css::new(number).ok_or("a channel subsystem")?)
 }
 
-fn name(bytes: &[u8]) -> Result<Name, Fail> {
+pub(crate) fn name(bytes: &[u8]) -> Result<Name, Fail> {
     Ok(Name::new(bytes).ok_or("a name")?)
 }
 
@@ -35,7 +35,7 @@ fn image(in_css: u8, mif: u8, bytes: &[u8]) -> Result<Record, Fail> {
 }
 
 /// A path of channel subsystem 0.
-fn path(
+pub(crate) fn path(
     alloc: Global,
     number: u8,
     kind: PathKind,
@@ -88,7 +88,7 @@ fn unit(alloc: Global, number: u16, paths: &[u8], ranges: &[(u8, u16)]) -> Resul
 }
 
 /// A control unit with the ranges of 16 addresses from 00, links in channel subsystem 0, and a CUADD.
-fn linked_unit(
+pub(crate) fn linked_unit(
     alloc: Global,
     number: u16,
     paths: &[u8],
@@ -114,7 +114,7 @@ fn linked_unit(
 }
 
 /// A device of subchannel set 0.
-fn device(
+pub(crate) fn device(
     alloc: Global,
     number: u16,
     units: &[u16],
@@ -140,11 +140,11 @@ fn device(
 }
 
 /// A path of channel subsystem 0 that is online to an image.
-fn online(path: u8, bytes: &[u8]) -> Result<Record, Fail> {
+pub(crate) fn online(path: u8, bytes: &[u8]) -> Result<Record, Fail> {
     Ok(Record::new(RecordBody::Online(Css::FIRST, Chpid::new(path), name(bytes)?)))
 }
 
-fn put_in(config: &mut Config, entry: Record) -> Result<(), Fail> {
+pub(crate) fn put_in(config: &mut Config, entry: Record) -> Result<(), Fail> {
     config.room(entry.key())?;
     let _ = config.put(entry);
     Ok(())
@@ -152,7 +152,7 @@ fn put_in(config: &mut Config, entry: Record) -> Result<(), Fail> {
 
 /// A configuration that keeps all rules: images LPA and LPB, a shared path 50 that both have online, a dedicated path 51 of LPA, a
 /// control unit 1000 on both paths, and two devices.
-fn base(alloc: Global) -> Result<Config, Fail> {
+pub(crate) fn base(alloc: Global) -> Result<Config, Fail> {
     let both: [&[u8]; 2] = [b"LPA", b"LPB"];
     let one: [&[u8]; 1] = [b"LPA"];
     let mut config = Config::new(alloc);
@@ -189,7 +189,7 @@ fn first(alloc: Global, records: Vec<Record>) -> Result<Option<Breach>, Fail> {
     }
 }
 
-fn at(rule: Rule, key: Key) -> Option<Breach> {
+pub(crate) fn at(rule: Rule, key: Key) -> Option<Breach> {
     Some(Breach { rule, key })
 }
 
@@ -197,7 +197,7 @@ fn unit_key(number: u16) -> Result<Key, Fail> {
     Ok(Key::Unit(UnitNo::new(number).ok_or("a control unit")?))
 }
 
-fn device_key(number: u16) -> Key {
+pub(crate) fn device_key(number: u16) -> Key {
     Key::Device(SetNo::FIRST, DevNo::new(number))
 }
 
