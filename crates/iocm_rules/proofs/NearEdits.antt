@@ -1,9 +1,8 @@
 -- Edits of devices and online records leave all other records, and the numbers of all other devices.
-use Rattle.std.proofs.Common.{◌≡◌, ◌<◌, ℕ, Bool, true, false, cond, not, nat_eq, ◌||◌, Option, None, Some, is_some, ◌⊎◌, inl, inr, List, [], ◌∷◌, map, refl, sym, ap, subst, ◌∙◌, arith}
+use Rattle.std.proofs.Common.{◌≡◌, ◌<◌, ℕ, Bool, true, false, cond, not, ◌||◌, Option, None, Some, is_some, ◌⊎◌, inl, inr, List, [], ◌∷◌, map, refl, sym, ap, subst, ◌∙◌, arith}
 use Rattle.std.proofs.lemmas.Bool.{or_cases, or_parts, or_right}
 use Rattle.std.proofs.lemmas.List.Folds.{list_any-append}
-use Rattle.std.proofs.lemmas.Bool.Decides.{nat_tests}
-use Rattle.std.specs.List.{list_any, flat_map}
+use Rattle.std.specs.List.{flat_map}
 use Rattle.std.specs.Ordering.{eq_by_cmp}
 use Rattle.std.specs.FinMap.{get, contains_key}
 use Rattle.iocm_types.specs.declared.key.Key.{Key}
@@ -14,14 +13,13 @@ use Rattle.iocm_types.specs.Place.{place_cmp}
 use Rattle.iocm_types.specs.KeyOrder.{keys_total, keys_exact}
 use Rattle.iocm_types.proofs.Found.{ties_itself}
 use Rattle.iocm_types.proofs.Parts.{untied}
-use Rattle.iocm_types.proofs.Tests.{absent, present}
+use Rattle.iocm_types.proofs.Tests.{absent}
 use Rattle.iocm_model.specs.Machine.Record.{Rec, id, resource, image, limit, path, unit, device, online}
 use Rattle.iocm_model.specs.Machine.Configuration.{Configuration, IsKeyed, Lookup, lookup_of}
-use Rattle.iocm_model.specs.Machine.Numbering.{Numbering, subsystems, sets, is_empty, is_record_reached, is_reached_at, reached_devices, reached_places}
+use Rattle.iocm_model.specs.Machine.Numbering.{Numbering, subsystems, sets, is_empty, is_record_reached, is_reached_at, reached_devices}
 use Rattle.iocm_model.specs.Machine.PathList.{unit_record_paths}
-use Rattle.iocm_model.specs.Rules.FirstBreach.{first_breach}
-use Rattle.iocm_model.specs.Operation.State.{State, IsSound}
-use Rattle.iocm_model.specs.Change.Edit.{Edit, action_key, record_after, config_after, state_after}
+use Rattle.iocm_model.specs.Operation.State.{State}
+use Rattle.iocm_model.specs.Change.Edit.{Edit, action_key, record_after, state_after}
 use Rattle.iocm_model.specs.Change.Renumbering.{numbers_after}
 use Rattle.iocm_model.specs.Change.Runs.{state_after_all}
 use Rattle.iocm_model.proofs.Change.RunsGoBack.{keyed_after}
@@ -30,7 +28,7 @@ use Rattle.iocm_model.proofs.Numbers.Changed.{numbers_after_are_exact, stayers_k
 use Rattle.iocm_model.proofs.Numbers.InOrder.{IsAt, is_at, is_one_of as is_there}
 use Rattle.iocm_model.proofs.Numbers.Opening.{reached_places_are_of_devices}
 use Rattle.iocm_device_rules.specs.Among.{is_one_of}
-use Rattle.iocm_rules.specs.Near.{is_near_key, AreNear, KeptBut, keys_edited, NearEditsKeepTheRest}
+use Rattle.iocm_rules.specs.Near.{is_near_key, AreNear, keys_edited, NearEditsKeepTheRest}
 
 -- ---- places
 

@@ -1,6 +1,6 @@
 -- Where since the rules held only devices and online records at some keys were changed, no other rule than V4 and V8 to V13 can be broken, and
 -- these only by those records, or by others that clash with them.
-use Rattle.std.proofs.Common.{◌≡◌, ℕ, ◌<◌, Bool, true, false, not, ◌&&◌, ◌||◌, ◌==◌, nat_eq, eq-eqb, nat_le, nat_lt, length, is_none, unwrap_or, Option, None, Some, List, [], ◌∷◌, ◌++◌, refl, sym, ap, ◌∙◌, arith}
+use Rattle.std.proofs.Common.{◌≡◌, ℕ, Bool, true, false, not, ◌&&◌, ◌||◌, ◌==◌, eq-eqb, nat_le, nat_lt, length, is_none, unwrap_or, None, Some, List, [], ◌++◌, refl, sym, ap, ◌∙◌}
 use Rattle.std.proofs.lemmas.Bool.{false≢true, or_right}
 use Rattle.std.specs.List.{list_any, flat_map}
 use Rattle.std.specs.Option.{option_map, option_map_or}
@@ -10,7 +10,7 @@ use Rattle.iocm_types.specs.declared.key.Key.{Key}
 use Rattle.iocm_types.specs.declared.key.Key.TheVariants as key
 use Rattle.iocm_types.specs.declared.rule.Rule.TheVariants.{V1, V2, V3, V5, V6, V7, V14}
 use Rattle.iocm_model.specs.Machine.Record.{Rec, DeviceRecord, OnlineRecord, id, resource, image, limit, path, unit, device, online, key_of}
-use Rattle.iocm_model.specs.Machine.Configuration.{Configuration, IsKeyed, lookup_of, records_of}
+use Rattle.iocm_model.specs.Machine.Configuration.{Configuration, IsKeyed, records_of}
 use Rattle.iocm_model.specs.Machine.Numbering.{Numbering, subsystems}
 use Rattle.iocm_model.specs.Machine.PathList.{paths_in, unit_record_paths}
 use Rattle.iocm_model.specs.Machine.Sight.{record_lists}

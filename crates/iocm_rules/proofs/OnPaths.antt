@@ -1,5 +1,5 @@
 -- The least of the online records that break V4 on the paths of some keys is the first of all, where none breaks it elsewhere.
-use Rattle.std.proofs.Common.{◌≡◌, ℕ, Bool, true, false, cond, ◌&&◌, ◌||◌, nat_eq, eqb-true, eq-eqb, Option, None, Some, List, [], ◌∷◌, refl, sym, ap, subst, ◌∙◌}
+use Rattle.std.proofs.Common.{◌≡◌, Bool, true, false, cond, ◌&&◌, ◌||◌, nat_eq, eqb-true, eq-eqb, Option, None, Some, List, [], ◌∷◌, refl, sym, ap, subst, ◌∙◌}
 use Rattle.std.proofs.lemmas.Bool.{false≢true, and_parts}
 use Rattle.std.proofs.lemmas.Map.Iter.{rest_more, rest_all}
 use Rattle.std.specs.List.{list_any}
@@ -24,7 +24,7 @@ use Rattle.iocm_model.specs.Machine.Configuration.{Configuration, IsKeyed, looku
 use Rattle.iocm_model.specs.Rules.EachRule.{breaks_v4}
 use Rattle.iocm_model.specs.Rules.FirstBreach.{first_record}
 use Rattle.iocm_lookup.specs.Indexed.{names, IsIndexOf}
-use Rattle.iocm_lookup.proofs.Members.{own_path, IsKeyAmong, key_found}
+use Rattle.iocm_lookup.proofs.Members.{own_path, key_found}
 use Rattle.iocm_device_rules.specs.Addresses.{least_of}
 use Rattle.iocm_device_rules.specs.Among.{is_so_at}
 use Rattle.iocm_device_rules.proofs.Clashes.{IsAtMost, first_not_behind}
