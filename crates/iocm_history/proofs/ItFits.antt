@@ -27,7 +27,7 @@ use Rattle.iocm_history.proofs.FitsAsMade.{fits_as_made}
 
 -- ---- nothing stands on it
 
-none_greatest : (ns : List ℕ) → greatest ns ≡ None → ns ≡ []
+pub none_greatest : (ns : List ℕ) → greatest ns ≡ None → ns ≡ []
 none_greatest [] is = refl
 none_greatest (n ∷ ns) is = cc
 
@@ -134,6 +134,10 @@ module _ (m : Store) (k : ℕ) (ls : List MarkedEntry) (ns : List ℕ) (v : IsLe
           lived = v.used.sound.lived;
         }
 
+  -- where no later change counts, and the earlier ones that were undone since do, it fits
+  pub fits_alone : changes_in s.newer ≡ [] → EarlierCount k s.newer ls → fits c v.state ≡ true
+  fits_alone none earlier = fits_as_made c v.state s.was_made (like_now none (s.near earlier))
+
   -- it fits, and it is apart from all later ones
   pub record IsFree : Type 0 where
     pub fit : fits c v.state ≡ true
@@ -150,7 +154,7 @@ module _ (m : Store) (k : ℕ) (ls : List MarkedEntry) (ns : List ℕ) (v : IsLe
       let newer : changes_in s.newer ≡ [] = ap changes_in (sym (standing_since m k ls s)) ∙ no_later in
       let earlier : EarlierCount k s.newer ls = λ j among low. none_undone k ls (undos_in (since k ls)) no_undone j
       (ap (λ ms. is_in j (undos_in ms)) (standing_since m k ls s) ∙ among) low in
-      let fitted = fits_as_made c v.state s.was_made (like_now newer (s.near earlier)) in
+      let fitted = fits_alone newer earlier in
       let no : true ≡ false = sym fitted ∙ is in cc
 
   -- where nothing stands on it

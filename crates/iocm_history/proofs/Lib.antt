@@ -27,4 +27,5 @@ pub mod EditsLike
 pub mod Stages
 pub mod Latest
 pub mod Anew
+pub mod Unblocked
 pub mod OwnMarks

@@ -47,7 +47,7 @@ among_greatest m (n ∷ ns) = by (first_or_rest (fold max (max m n) ns) (max m n
     by (inl is) = one (which_max m n) is
     by (inr among) = or_right (eqb k m) _ (or_right (eqb k n) _ among)
 
-greatest_among : (ns : List ℕ) (k : ℕ) → greatest ns ≡ Some k → is_in k ns ≡ true
+pub greatest_among : (ns : List ℕ) (k : ℕ) → greatest ns ≡ Some k → is_in k ns ≡ true
 greatest_among [] k is = cc
 greatest_among (m ∷ ms) k is = subst (λ j. is_in j (m ∷ ms) ≡ true) (inner is) (among_greatest m ms)
   where

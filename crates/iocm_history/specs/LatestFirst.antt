@@ -1,17 +1,23 @@
--- Histories in which each undo is of the latest standing change: there every step that counts may be decided anew.
-use Rattle.std.specs.Prelude.{◌≡◌, ℕ, List, [], ◌∷◌, Some}
-use Rattle.iocm_types.specs.declared.answer.Answer.TheVariants.{Undone}
+-- Histories in which each undo is of the latest standing change: there every step that counts may be decided anew, and nothing stands on
+-- the latest.
+use Rattle.std.specs.Prelude.{◌≡◌, ◌≢◌, ◌⊎◌, ℕ, List, [], ◌∷◌, Some, None}
+use Rattle.iocm_types.specs.declared.answer.Answer.TheVariants.{Undone, Refused}
+use Rattle.iocm_types.specs.declared.refused.At.TheVariants.{Subchannel, Nothing}
+use Rattle.iocm_types.specs.declared.rule.Rule.TheVariants.{B1, M1, O1}
+use Rattle.iocm_types.specs.declared.sub_id.SubId.{SubId}
 use Rattle.iocm_model.specs.Operation.State.{State}
 use Rattle.iocm_model.specs.Operation.Step.{after_step}
 use Rattle.iocm_model.specs.Change.Effect.{with_effect}
-use Rattle.iocm_history.specs.Entry.{History}
+use Rattle.iocm_model.specs.Change.Refusal.{refusal_at}
+use Rattle.iocm_history.specs.Entry.{undo, Entry, History}
 use Rattle.iocm_history.specs.Change.{effect_of_change}
 use Rattle.iocm_history.specs.MarkedEntry.{Act, step, change, undoing, nothing, Mark, kept, MarkedEntry}
-use Rattle.iocm_history.specs.Account.{marked_entries, state_at}
-use Rattle.iocm_history.specs.StandsOn.{greatest}
+use Rattle.iocm_history.specs.Account.{marked_entries, stage_of, state_at}
+use Rattle.iocm_history.specs.StandsOn.{greatest, stands_on}
 use Rattle.iocm_history.specs.Journal.{journal_of}
 use Rattle.iocm_history.specs.Legal.{IsLegal}
 use Rattle.iocm_history.specs.InUse.{IsInUse}
+use Rattle.iocm_history.specs.UndoLaws.{WaitsFor}
 
 -- what an act does to a state if it is decided there: a step steps, a change writes its cells
 abbrev pub done_anew : Act → State → State
@@ -39,3 +45,17 @@ UndoesTheLatest (e ∷ h) = ((n : ℕ) → e.answer ≡ Undone n → greatest (j
 abbrev pub StepsMayBeDecidedAnew : Type 0
 StepsMayBeDecidedAnew = (opening : State) (h : History) → IsInUse opening → IsLegal opening h → UndoesTheLatest h
     → state_at opening h ≡ replay_anew opening (marked_entries opening h)
+
+-- why an undo has to wait though nothing stands on its change: a change is staged; this is the least of its subchannels that isn't quiet;
+-- memory lacks
+pub data HasToWait (opening : State) (h : History) (n : ℕ) (e : Entry) : Type 0 where
+  for_the_stage : stage_of opening h ≢ None → e.answer ≡ Refused (refusal_at O1 Nothing) → HasToWait opening h n e
+  for_quiet : (x : SubId) → WaitsFor opening h n x → e.answer ≡ Refused (refusal_at B1 (Subchannel x)) → HasToWait opening h n e
+  for_memory : e.answer ≡ Refused (refusal_at M1 Nothing) → HasToWait opening h n e
+
+-- nothing stands on the latest standing change: its undo is accepted, or has to wait
+abbrev pub LatestIsNeverBlocked : Type 0
+LatestIsNeverBlocked = (opening : State) (h : History) (n : ℕ) → IsInUse opening → IsLegal opening h → UndoesTheLatest h
+    → greatest (journal_of h).standing ≡ Some n
+    → (stands_on n (marked_entries opening h) (state_at opening h) ≡ None)
+    × ((e : Entry) → IsLegal opening (e ∷ h) → e.call ≡ undo n → (e.answer ≡ Undone n) ⊎ HasToWait opening h n e)
