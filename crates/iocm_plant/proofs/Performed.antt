@@ -5,8 +5,9 @@ use Rattle.std.specs.List.Sorted.{IsStrictlySortedBy}
 use Rattle.std.specs.Map.{keys_of}
 use Rattle.std.specs.Option.{option_eq, option_map, option_or}
 use Rattle.std.specs.Ordering.{eq_by_cmp, is_eq, is_lt}
+use Rattle.std.specs.declared.cmp.Ordering.{Ordering}
 use Rattle.std.specs.declared.cmp.Ordering.TheVariants.{Less}
-use Rattle.std.specs.FinMap.{get, contains_key, find, is_sorted, entries, entries_sorted, from_entries, from_sorted, retain_keys, same_map, get-from_sorted}
+use Rattle.std.specs.FinMap.{FinMap, get, contains_key, find, is_sorted, entries, entries_sorted, from_entries, from_sorted, retain_keys, same_map, get-from_sorted}
 use Rattle.std.specs.FinMap.Entries.{below_all}
 use Rattle.std.proofs.lemmas.List.Kept.{IsStrictlySortedBy-filter}
 use Rattle.std.proofs.lemmas.Map.Keys.{sorted_head, sorted_tail}
@@ -24,8 +25,6 @@ use Rattle.iocm_types.specs.KeyOrder.{sub_ids_total, sub_ids_exact}
 use Rattle.iocm_types.proofs.Found.{same_key}
 use Rattle.iocm_types.proofs.Tests.{both_hold}
 use Rattle.iocm_table.specs.Slots.{Stored, rows, RowsHavePlaces}
-use Rattle.iocm_index.specs.Namings.{namings_of}
-use Rattle.iocm_model.specs.Machine.Record.{Rec}
 use Rattle.iocm_model.proofs.Machine.OwnKeys.{keyed_own}
 use Rattle.iocm_model.proofs.Change.EditsGoBack.{config_back, back_key, back_record}
 use Rattle.iocm_seats.specs.declared.seat.Seat.{Seat}
@@ -63,11 +62,11 @@ pub changed_subchannels : (v w : SubId → Option View) (xs : List SubId) → ma
 changed_subchannels v w [] = refl
 changed_subchannels v w (x ∷ xs) = ap (λ ys. x ∷ ys) (changed_subchannels v w xs)
 
--- the subchannels at which two tables of views differ stand in order
-pub differing_rise : (v w : Views) → IsStrictlySortedBy sub_id_cmp (differing same_view v w)
-differing_rise v w =
-    let both = from_entries {R = sub_id_cmp} (entries v ++ entries w) in
-    IsStrictlySortedBy-filter sub_id_cmp (λ x. not (option_eq same_view (get v x) (get w x))) (keys_of (entries both)) (keys_rise sub_id_cmp (entries both) (entries_sorted both))
+-- the keys at which two maps differ stand in order
+pub differing_rise : {K X : Type 0} (R : K → K → Ordering) (same : X → X → Bool) (m n : FinMap R X) → IsStrictlySortedBy R (differing same m n)
+differing_rise R same m n =
+    let both = from_entries {R = R} (entries m ++ entries n) in
+    IsStrictlySortedBy-filter R (λ key. not (option_eq same (get m key) (get n key))) (keys_of (entries both)) (keys_rise R (entries both) (entries_sorted both))
 
 module _ (lives : Lives) (v w : SubId → Option View) where
   abbrev met_at : List SubId → List (SubId × Live)
@@ -194,7 +193,7 @@ module _ (e : Edit) (c : Configuration) (n : Numbering) (index : Stored Naming (
       xs = differing same_view (views_seated seats) (views_of d m)
 
       xs_rise : IsStrictlySortedBy sub_id_cmp xs
-      xs_rise = differing_rise (views_seated seats) (views_of d m)
+      xs_rise = differing_rise sub_id_cmp same_view (views_seated seats) (views_of d m)
 
       pub kept_sorted : T (is_sorted sub_id_cmp kept)
       kept_sorted = subst (λ (rows : List (SubId × Live)). T (is_sorted sub_id_cmp rows)) (sym kept_are)
@@ -276,7 +275,7 @@ left_are v w (x ∷ xs) = by (is_some (w x)) (left_are v w xs)
 -- rows for the subchannels that are left stand in order
 pub left_sorted : (v w : Views) (meets : List (SubId × Live)) → keys_of meets ≡ subchannels_left (changes_between v w) → T (is_sorted sub_id_cmp meets)
 left_sorted v w meets is = rows_up meets (subst (IsStrictlySortedBy sub_id_cmp) (sym (is ∙ left_are (get v) (get w) (differing same_view v w)))
-    (IsStrictlySortedBy-filter sub_id_cmp (λ x. is_some (get w x)) (differing same_view v w) (differing_rise v w)))
+    (IsStrictlySortedBy-filter sub_id_cmp (λ x. is_some (get w x)) (differing same_view v w) (differing_rise sub_id_cmp same_view v w)))
 
 -- the action that takes an action back: its key, and room for it
 module _ (c : Configuration) (index : Stored Naming (Unit {0})) (keyed : IsKeyed c) (indexed : IsIndexOf c index) (have : RowsHavePlaces naming_cmp index) (a again : Action)

@@ -3,6 +3,7 @@ ghost use Rattle.iocm_types.specs.SubId.{sub_id_cmp};
 ghost use Rattle.iocm_table.specs.Slots.{rows};
 ghost use Rattle.iocm_types.specs.declared.refused.At.TheVariants as at;
 ghost use Rattle.iocm_model.specs.Change.Refusal.{refusal_at};
+ghost use Rattle.iocm_model.specs.Laws.Trees.{KeepsTheRules};
 ghost use Rattle.iocm_model.specs.Operation.State.{opening_state};
 ghost use Rattle.iocm_plant.specs.Operating.{IsOperating, state_of};
 ghost use Rattle.iocm_plant.specs.Refusing.{opening_refusal, Hinders, IsDue};
@@ -44,6 +45,7 @@ impl Plant {
     pub fn open(alloc: Global, config: Config) -> Result<Plant, Unopened>
         ensures opened { IfOk result (λ plant. plant.state ≡ opening_state config.records) }
         ensures kept { OnOk result (opening_refusal config.records ≡ None) }
+        ensures rules { IfOk result (λ plant. KeepsTheRules plant.state) }
         ensures refused { IfErr result (λ e. IsDue (opening_refusal config.records) e.why) }
         ensures config { IfErr result (λ e. e.config ≡ config) }
     {
@@ -67,6 +69,7 @@ fn make_tables(alloc: Global, config: &Config) -> Result<Tables, Obstacle>
     ensures operating { IfOk result (λ t. IsOperating config.now.records t.numbers.numbers t.index (rows sub_id_cmp t.seats)) }
     ensures state { IfOk result (λ t. state_of config.now.records t.numbers.numbers (rows sub_id_cmp t.seats) ≡ opening_state config.now.records) }
     ensures kept { OnOk result (opening_refusal config.now.records ≡ None) }
+    ensures rules { OnOk result (KeepsTheRules (opening_state config.now.records)) }
     ensures refused { IfErr result (Hinders (opening_refusal config.now.records)) }
 {
     // For the proof alone: each record stands under its own key.

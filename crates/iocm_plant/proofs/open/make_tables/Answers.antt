@@ -21,3 +21,6 @@ returns-in-Err-clause-refused c = ap refusal_by_breach (ap (first_breach c.args.
 
 pub returns-clause-kept : goal.returns-clause-kept
 returns-clause-kept c = ap refusal_by_breach (ap (first_breach c.args.config.now.records) (sym c.in_ok-numbers.ensures) ∙ sym c.check.ensures ∙ ap result_err c.in_default.is)
+
+pub returns-clause-rules : goal.returns-clause-rules
+returns-clause-rules c = ap (first_breach c.args.config.now.records) (sym c.in_ok-numbers.ensures) ∙ sym c.check.ensures ∙ ap result_err c.in_default.is
