@@ -1,5 +1,6 @@
 pub mod Adding
 pub mod Building
+pub mod Lending
 pub mod Lookups
 pub mod Presence
 pub mod Sweeping

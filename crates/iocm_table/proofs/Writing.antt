@@ -93,12 +93,12 @@ place_found {K} {X} {R} same m t is key has = is_some-lookup (is_at (R key)) m.e
 
 -- a key without a row: to take it out changes nothing
 pub rows_untaken : {K X : Type 0} {R S : K → K → Ordering} → ◌≡◌ {A = K → K → Ordering} R S → IsTotalOrder R → IsAntisymmetric R
-    → (m : BTreeMap K (Option X)) (t : Stored K X) → seen_of m ≡ t → (key : K) → IsOrdered R m → get_by (R key) m ≡ None → rows S t ≡ remove (rows S t) key
+    → (m : BTreeMap K (Option X)) (t : Stored K X) → seen_of m ≡ t → (key : K) → IsOrdered R m → option_flatten (get_by (R key) m) ≡ None → rows S t ≡ remove (rows S t) key
 rows_untaken {K} {X} {R} same o exact m t is key rise none = subst (λ (r : K → K → Ordering). rows r t ≡ remove (rows r t) key) same
     (subst (λ v. rows R v ≡ remove (rows R v) key) is (same_map o exact _ _ (λ q. stays q ∙ sym (get-remove o (rows R (seen_of m)) key q))))
   where
     absent_at : get (rows R (seen_of m)) key ≡ None
-    absent_at = row_at refl m (seen_of m) refl rise o key ∙ ap option_flatten none
+    absent_at = row_at refl m (seen_of m) refl rise o key ∙ none
 
     at_tie : (q : K) (b : Bool) → eq_by_cmp R q key ≡ b → get (rows R (seen_of m)) q ≡ cond b None (get (rows R (seen_of m)) q)
     at_tie q true tie = get_tied o (rows R (seen_of m)) key q (equal_is _ ((eq_by_cmp_equiv o).symm key q ∙ tie)) ∙ absent_at

@@ -1,7 +1,9 @@
 ghost use Rattle.std.specs.Prelude.{◌≡◌, ◌⊎◌, [], None, IsOk, IsSome, OnOk, ◌≤◌, if◌then◌else◌};
 ghost use Rattle.std.specs.BTreeMap.{get, IsOrdered};
-ghost use Rattle.std.specs.Option.{option_copied};
+ghost use Rattle.std.specs.Option.{option_copied, option_copied_mut};
+ghost use Rattle.std.specs.Borrow.{sem};
 ghost use Rattle.std.specs.FinMap as map;
+ghost use Rattle.iocm_table.specs.Lent.{lends_row};
 ghost use Rattle.iocm_table.specs.Slots.{rows, present, HasPlace, RowsHavePlaces};
 
 use iocm_types::TableKey;
@@ -58,6 +60,17 @@ impl<K: TableKey, V, A: Allocator> Table<K, V, A> {
     {
         let slot = self.slots.get(key)?;
         slot.as_ref()
+    }
+
+    /// The row under a key, to be changed in its place, by one search. Can't answer want of memory.
+    pub fn get_mut(&mut self, key: &K) -> Option<&mut V>
+        ensures* writes_back { sem 𝓛 (lends_row K.row V.row A.row K.TableKey A.Allocator self.entry key.now result) }
+        ensures value { option_copied_mut result ≡ map.get (rows K.order self.old) key.now }
+    {
+        match self.slots.get_mut(key)? {
+            Some(row) => Some(row),
+            None => None,
+        }
     }
 
     /// A key that has a row has a place, in every table. It reads nothing, and is there for proofs: a row that is replaced

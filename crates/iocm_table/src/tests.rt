@@ -42,6 +42,21 @@ fn what_was_taken_out_is_put_back(rt: HostRuntime) -> Result<(), Fail> {
 }
 
 #[test]
+fn a_row_is_changed_in_its_place(rt: HostRuntime) -> Result<(), Fail> {
+    let mut table = Table::new(rt.alloc());
+    let key = subchannel(7)?;
+    table.room(key)?;
+    assert!(rt; table.get_mut(&key).is_none());
+    let _ = table.put(&key, 70u8);
+    let row = table.get_mut(&key).ok_or("no row")?;
+    *row = 71;
+    assert_eq!(rt; table.get(&key).copied(), Some(71));
+    assert_eq!(rt; table.len(), 1);
+    assert!(rt; table.get_mut(&subchannel(8)?).is_none());
+    Ok(())
+}
+
+#[test]
 fn a_walk_passes_empty_places(rt: HostRuntime) -> Result<(), Fail> {
     let mut table = Table::new(rt.alloc());
     for number in [4u16, 1, 3, 2] {

@@ -14,7 +14,7 @@ pub returns-in_err-slot-clause-rows : goal.returns-in_err-slot-clause-rows
 returns-in_err-slot-clause-rows g c =
     ap (λ m. rows g.K.TableKey.order (seen_of m)) c.get_mut.follows.holds-at-none ∙ ap (rows g.K.TableKey.order) c.self.view_is
     ∙ rows_untaken g.met.K.TableKey.is_cmp g.met.K.Ord.total g.met.K.TableKey.exact c.self.inside.slots c.args.self.now c.self.view_is c.args.key.now
-    c.self.invariant.rise (sym c.get_mut.ensures.value ∙ ap option_copied_mut c.in_err-slot.was)
+    c.self.invariant.rise (ap option_flatten (sym c.get_mut.ensures.value ∙ ap option_copied_mut c.in_err-slot.was))
 
 pub overflow_sub-self : goal.overflow_sub-self
 overflow_sub-self g c = subst (λ n. n ≤ c.self.inside.len) (sym c.one_if.ensures.value)
