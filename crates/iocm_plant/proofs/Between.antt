@@ -5,18 +5,16 @@ use Rattle.iocm_types.specs.declared.naming.Naming.{Naming}
 use Rattle.iocm_types.specs.declared.sub_id.SubId.{SubId}
 use Rattle.iocm_types.specs.Naming.{naming_cmp}
 use Rattle.iocm_model.specs.Machine.Record.{Rec}
-use Rattle.iocm_model.specs.Operation.State.{State, Lives, HasLives, IsSound, HasConfigAndNumbersOf, views_of}
-use Rattle.iocm_model.specs.Operation.Step.{Step, subchannel_in, after_step}
+use Rattle.iocm_model.specs.Operation.State.{State, Lives, IsSound, HasConfigAndNumbersOf}
+use Rattle.iocm_model.specs.Operation.Step.{Step, after_step}
 use Rattle.iocm_model.specs.Change.Edit.{Edit, action_key, state_after, record_after}
 use Rattle.iocm_model.specs.Change.Inverse.{inverse_of, freed_numbers}
 use Rattle.iocm_model.specs.Laws.Runs.{HasSameKeys}
 use Rattle.iocm_model.proofs.Change.Steps.{steps_stay_sound}
 use Rattle.iocm_model.proofs.Change.EditsGoBack.{inverse_gives, lived_after}
 use Rattle.iocm_index.specs.Namings.{namings_of}
-use Rattle.iocm_tree.specs.Carried.{Carried}
-use Rattle.iocm_plant.specs.Operating.{Room, Operating, HasNamingRoom, KeepsPlaces, KeepsRoom}
-use Rattle.iocm_plant.specs.TakingBack.{TakesBack, HasRoomFor, CanUnapply}
-use Rattle.iocm_plant.specs.Between.{StandsAsBefore, StandsAsItDoes, StandsOn, StepsLeaveItStanding, CanStillUnapply, TakenBackItStandsAsBefore}
+use Rattle.iocm_plant.specs.Operating.{Room, HasNamingRoom, KeepsPlaces, KeepsRoom}
+use Rattle.iocm_plant.specs.Between.{StandsAsItDoes, StandsOn, StepsLeaveItStanding, CanStillUnapply, TakenBackItStandsAsBefore}
 
 -- ---- what holds of each holds on
 

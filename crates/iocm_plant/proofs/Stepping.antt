@@ -1,41 +1,38 @@
--- A step at a subchannel: its seat is taken out and put in again with the live record that the step leaves.
-use Rattle.std.proofs.Common.{◌≡◌, Bool, true, false, cond, Option, Some, None, is_some, T, List, refl, sym, ap, subst, ◌∙◌}
-use Rattle.std.specs.List.{list_any}
-use Rattle.std.specs.Option.{option_map, option_zip}
+-- A step at a subchannel: its seat has the live record that the step leaves.
+use Rattle.std.proofs.Common.{◌≡◌, Bool, true, false, cond, Option, Some, None, refl, sym, ap, subst, ◌∙◌}
+use Rattle.std.specs.Option.{option_map, option_zip, OnSome}
 use Rattle.std.specs.Ordering.{eq_by_cmp}
-use Rattle.std.specs.FinMap.{get, insert, remove, same_map, get-insert, get-remove}
+use Rattle.std.specs.FinMap.{get, insert, same_map, get-insert}
 use Rattle.iocm_types.specs.declared.live.Live.{Live}
 use Rattle.iocm_types.specs.declared.naming.Naming.{Naming}
 use Rattle.iocm_types.specs.declared.sub_id.SubId.{SubId}
 use Rattle.iocm_types.specs.SubId.{sub_id_cmp}
 use Rattle.iocm_types.specs.KeyOrder.{sub_ids_total, sub_ids_exact}
 use Rattle.iocm_types.proofs.Found.{same_key}
-use Rattle.iocm_table.specs.Slots.{Stored, rows, HasPlace, RowsHavePlaces}
+use Rattle.iocm_table.specs.Slots.{Stored}
+use Rattle.iocm_table.specs.Lent.{IsChangedAt}
+use Rattle.iocm_config.specs.Stored as config
+use Rattle.iocm_numbers.specs.Numbered.{Numbered}
 use Rattle.iocm_model.specs.Machine.Configuration.{Configuration}
 use Rattle.iocm_model.specs.Machine.Numbering.{Numbering}
 use Rattle.iocm_model.specs.Operation.Step.{Step, subchannel_in, live_after_step, lives_after_step, after_step}
 use Rattle.iocm_seats.specs.declared.seat.Seat.{Seat}
 use Rattle.iocm_seats.specs.Seated.{Seats, views_seated, lives_seated}
 use Rattle.iocm_seats.proofs.Settled.{view_in, live_in, view_seated, live_seated}
-use Rattle.iocm_seats.proofs.Taking.{insert_over}
-use Rattle.iocm_plant.specs.Operating.{IsOperating, state_of}
+use Rattle.iocm_plant.specs.Operating.{IsOperating, room_of, state_of}
+
+-- the loan of a seat that is there has ended
+pub changed_seat : {B : Type 0} (lent : Option B) (seat : B) → lent ≡ Some seat → (t : Stored SubId Seat) (x : SubId) (u : Stored SubId Seat) (s : Seat)
+    → OnSome lent (IsChangedAt sub_id_cmp t x u s) → IsChangedAt sub_id_cmp t x u s
+changed_seat lent seat is t x u s changed = subst (λ o. OnSome o (IsChangedAt sub_id_cmp t x u s)) is changed
+
+-- what has a place
+pub same_room : (c : config.Stored) (n : Numbered) (index : Stored Naming (Unit {0})) (t u : Stored SubId Seat) → u.places ≡ t.places → room_of c n index u ≡ room_of c n index t
+same_room c n index t u same = λ i. record (room_of c n index t) { subchannels = same i }
 
 zipped : (o : Option Seat) → option_zip (view_in o) (live_in o) ≡ option_map (λ (s : Seat). (s.view, s.live)) o
 zipped None = refl
 zipped (Some s) = refl
-
-remove_by : (b : Bool) (x q : SubId) (seats : Seats) → eq_by_cmp sub_id_cmp q x ≡ b → get seats x ≡ None → cond b None (get seats q) ≡ get seats q
-remove_by true x q seats tied none = sym (ap (get seats) (same_key sub_id_cmp sub_ids_exact q x tied) ∙ none)
-remove_by false x q seats tied none = refl
-
--- where nothing was, nothing is taken out
-pub none_taken : (seats : Seats) (x : SubId) → get seats x ≡ None → remove seats x ≡ seats
-none_taken seats x none = same_map sub_ids_total sub_ids_exact _ _ (λ q. get-remove sub_ids_total seats x q ∙ remove_by (eq_by_cmp sub_id_cmp q x) x q seats refl none)
-
--- the place of a subchannel that has a seat is there once the seat is taken out
-pub place_stays : (t u : Stored SubId Seat) (x : SubId) (s : Seat) → RowsHavePlaces sub_id_cmp t → get (rows sub_id_cmp t) x ≡ Some s → u.places ≡ t.places
-    → HasPlace sub_id_cmp u x
-place_stays t u x s have here places = subst (λ (ps : List SubId). T (list_any (eq_by_cmp sub_id_cmp x) ps)) (sym places) (have x (ap is_some here))
 
 module _ (seats : Seats) (x : SubId) (s : Seat) (l : Live) (here : get seats x ≡ Some s) where
   abbrev with_live : Seats
@@ -73,10 +70,7 @@ module _ (c : Configuration) (n : Numbering) (index : Stored Naming (Unit {0})) 
   one_there s here = subchannel_is ∙ ap (option_map (λ (s : Seat). (s.view, s.live))) here
 
   -- no seat: nothing changes
-  module _ (q : Seats) (goes : q ≡ remove seats x) (none : get seats x ≡ None) where
-    same_seats : q ≡ seats
-    same_seats = goes ∙ none_taken seats x none
-
+  module _ (q : Seats) (same_seats : q ≡ seats) (none : get seats x ≡ None) where
     pub same_operating : IsOperating c n index q
     same_operating = subst (IsOperating c n index) (sym same_seats) before
 
@@ -85,12 +79,7 @@ module _ (c : Configuration) (n : Numbering) (index : Stored Naming (Unit {0})) 
         ∙ sym (ap (λ p. record (state_of c n seats) { lives = lives_after_step x step p (lives_seated seats) }) (none_there none))
 
   -- a seat: it has the live record that the step leaves
-  module _ (q taken : Seats) (s : Seat) (l : Live) (here : get seats x ≡ Some s) (goes : taken ≡ remove seats x)
-      (comes : q ≡ insert taken x (record { view = s.view; live = l })) where
-    seats_are : q ≡ insert seats x (record { view = s.view; live = l })
-    seats_are = comes ∙ ap (λ (m : Seats). insert m x (record { view = s.view; live = l })) goes
-        ∙ insert_over sub_ids_total sub_ids_exact seats x (record { view = s.view; live = l })
-
+  module _ (q : Seats) (s : Seat) (l : Live) (here : get seats x ≡ Some s) (seats_are : q ≡ insert seats x (record { view = s.view; live = l })) where
     pub operating_after : IsOperating c n index q
     operating_after = record {
       keyed = before.keyed;

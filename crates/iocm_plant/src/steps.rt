@@ -14,14 +14,10 @@ impl Plant {
         ensures state { self.new.state ≡ after_step subchannel (step.order order) self.old.state }
         ensures room { self.new.room ≡ self.old.room }
     {
-        // For the proof alone: a subchannel that has a seat has a place.
-        self.seats.has_places();
-        let Some(mut seat) = self.seats.take(&subchannel) else {
+        let Some(seat) = self.seats.get_mut(&subchannel) else {
             return Io::Code(3);
         };
-        let answer = live::order(&mut seat.live, &seat.view, order);
-        let _ = self.seats.put(&subchannel, seat);
-        answer
+        live::order(&mut seat.live, &seat.view, order)
     }
 
     /// The device of a subchannel begins what it was started for: a start that is pending becomes active. Else nothing changes, as where
@@ -31,14 +27,10 @@ impl Plant {
         ensures state { self.new.state ≡ after_step subchannel step.device_begin self.old.state }
         ensures room { self.new.room ≡ self.old.room }
     {
-        // For the proof alone: a subchannel that has a seat has a place.
-        self.seats.has_places();
-        let Some(mut seat) = self.seats.take(&subchannel) else {
+        let Some(seat) = self.seats.get_mut(&subchannel) else {
             return false;
         };
-        let begins = live::device_begin(&mut seat.live);
-        let _ = self.seats.put(&subchannel, seat);
-        begins
+        live::device_begin(&mut seat.live)
     }
 
     /// The device of a subchannel ends a function that is in progress: its status is pending then. Else nothing changes, as where the
@@ -48,13 +40,9 @@ impl Plant {
         ensures state { self.new.state ≡ after_step subchannel step.device_end self.old.state }
         ensures room { self.new.room ≡ self.old.room }
     {
-        // For the proof alone: a subchannel that has a seat has a place.
-        self.seats.has_places();
-        let Some(mut seat) = self.seats.take(&subchannel) else {
+        let Some(seat) = self.seats.get_mut(&subchannel) else {
             return false;
         };
-        let ends = live::device_end(&mut seat.live);
-        let _ = self.seats.put(&subchannel, seat);
-        ends
+        live::device_end(&mut seat.live)
     }
 }
