@@ -4,7 +4,7 @@ use Rattle.iocm_types.specs.declared.refused.Refused.{Refused}
 use Rattle.iocm_model.specs.Operation.State.{State, IsSound}
 use Rattle.iocm_model.specs.Change.Edit.{Edit}
 use Rattle.iocm_model.specs.Change.Meaning.{Outcome}
-use Rattle.iocm_model.specs.Change.Runs.{state_after_all, AreAccepted}
+use Rattle.iocm_model.specs.Change.Runs.{state_after_all, AreAccepted, CarryFreeNumbers}
 use Rattle.iocm_model.specs.Laws.Trees.{KeepsTheRules}
 use Rattle.iocm_plant.specs.Operating.{Operating, KeepsRoom}
 use Rattle.iocm_plant.specs.declared.touched.Applied.{Applied}
@@ -40,7 +40,7 @@ pub record WereKept (log : Log) (s : State) : Type 0 where
   pub sound : IsSound before
   pub kept : KeepsTheRules before
   pub edits : List Edit
-  pub accepted : AreAccepted edits before
+  pub free : CarryFreeNumbers edits before
   pub now : s ≡ state_after_all edits before
   pub keys : drop log.kept log.keys.items ≡ map key_of_edit edits
   pub within : log.kept ≤ length log.keys.items

@@ -13,8 +13,8 @@ ghost use Rattle.iocm_activate.specs.Effects.{cells_told, effect_in};
 ghost use Rattle.iocm_activate.specs.Told.{CanTakeBack, LeadsTo, told_of_all, way_back};
 
 use crate::done::{Done, prepare, tell};
-use crate::log::{Log, Mark};
-use crate::taking_back::take_back;
+use crate::log::Log;
+use crate::taking_back::take_all_back;
 use crate::walk::walk_closed;
 use iocm_plant::Plant;
 use iocm_tree::Tree;
@@ -96,12 +96,6 @@ fn leave(plant: &mut Plant, log: Log, why: Refused) -> Refused
     ensures undone { (s : State) → LeadsTo (way_back log.done.items) s plant.old → plant.new.state ≡ s }
     ensures room { plant.new.room ≡ plant.old.room }
 {
-    let mut log = log;
-    let start = Mark {
-        done: 0,
-        keys: 0,
-        kept: 0,
-    };
-    take_back(plant, &mut log, start);
+    take_all_back(plant, log);
     why
 }

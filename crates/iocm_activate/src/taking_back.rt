@@ -25,6 +25,21 @@ pub fn take_back(plant: &mut Plant, log: &mut Log, mark: Mark)
     log.kept = mark.kept;
 }
 
+/// Takes all edits back that a log tells of. Can't answer want of memory.
+pub fn take_all_back(plant: &mut Plant, log: Log)
+    requires back { CanTakeBack log.done.items plant.old }
+    ensures undone { (s : State) → LeadsTo (way_back log.done.items) s plant.old → plant.new.state ≡ s }
+    ensures room { plant.new.room ≡ plant.old.room }
+{
+    let mut log = log;
+    let start = Mark {
+        done: 0,
+        keys: 0,
+        kept: 0,
+    };
+    take_back(plant, &mut log, start);
+}
+
 /// The last of these edits, where there are more than so many.
 fn pop_past(done: &mut Vec<Applied>, most: usize) -> Option<Applied>
     ensures most { MatchOption result (length done.old.items ≤ most) (λ a. most < length done.old.items) }

@@ -2,6 +2,7 @@ use Rattle.std.proofs.Common.{[], ◌∷◌, ◌++◌, Some, None, refl, ap, sub
 use Rattle.iocm_model.specs.Change.Edit.{Edit}
 use Rattle.iocm_model.specs.Change.Meaning.{unless_refused}
 use Rattle.iocm_model.specs.Change.Refusal.{refusal_of}
+use Rattle.iocm_model.proofs.Change.RunsGoBack.{accepted_carry}
 use Rattle.iocm_tree.specs.Carried.{Carried}
 use Rattle.iocm_plant.proofs.Between.{same_is_kept}
 use Rattle.iocm_activate.specs.Walked.{Answers}
@@ -46,7 +47,7 @@ returns-in-Ok-clause-answers g c =
 
 pub returns-in-Ok-clause-kept : goal.returns-in-Ok-clause-kept
 returns-in-Ok-clause-kept g c = kept_before c.args.log.now c.note.new.self c.args.plant.now.state c.apply.new.self.state c.in_ok-copy.copy.edit c.key-key.result c.requires.kept
-    c.in-Ok.ensures.accepted c.in-Ok.ensures.state (c.note.ensures.keys ∙ ap (λ ks. ks ++ c.key-key.result ∷ []) c.room.ensures.keys) c.key-key.ensures
+    (accepted_carry (c.in_ok-copy.copy.edit ∷ []) c.args.plant.now.state (c.in-Ok.ensures.accepted, tt)) c.in-Ok.ensures.state (c.note.ensures.keys ∙ ap (λ ks. ks ++ c.key-key.result ∷ []) c.room.ensures.keys) c.key-key.ensures
     (c.note.ensures.kept ∙ c.room.ensures.kept)
 
 pub returns-in_ok-unless_no_memory-in-Err-clause-answers : goal.returns-in_ok-unless_no_memory-in-Err-clause-answers
