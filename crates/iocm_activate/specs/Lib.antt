@@ -1,5 +1,6 @@
 pub mod Done
 pub mod Effects
+pub mod Fitting
 pub mod Going
 pub mod Told
 pub mod Walked

@@ -1,4 +1,4 @@
-ghost use Rattle.std.specs.Prelude.{◌≡◌, Option, Some, IfOk, OnErr};
+ghost use Rattle.std.specs.Prelude.{◌≡◌, Option, Some, IfOk, OnOk, OnErr};
 ghost use Rattle.iocm_types.specs.declared.refused.Refused as refused;
 ghost use Rattle.iocm_model.specs.Change.Meaning.{node_meaning, at_node};
 ghost use Rattle.iocm_model.specs.Change.Tree.{leaf};
@@ -46,12 +46,22 @@ pub fn perform<A: Allocator>(
 fn unless_no_memory(why: Refused, node: u64) -> Result<Refused, AllocError>
     ensures { IfOk result (λ named. (due : Option refused.Refused) → IsDue due why → (due ≡ Some why) × (named ≡ at_node node why)) }
 {
-    if why.rule == Rule::M1 {
-        return Err(AllocError);
-    }
+    unless_memory_wanted(&why)?;
     Ok(Refused {
         rule: why.rule,
         node: Some(node),
         at: why.at,
     })
+}
+
+/// That an edit is refused for another reason than want of memory.
+///
+/// `AllocError` (M1): memory was wanted.
+pub fn unless_memory_wanted(why: &Refused) -> Result<(), AllocError>
+    ensures { OnOk result ((due : Option refused.Refused) → IsDue due why.now → due ≡ Some why.now) }
+{
+    if why.rule == Rule::M1 {
+        return Err(AllocError);
+    }
+    Ok(())
 }

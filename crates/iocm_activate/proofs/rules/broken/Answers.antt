@@ -1,5 +1,5 @@
 use Rattle.std.proofs.Common.{◌≡◌, length, Some, sym, ap, ◌∙◌, arith}
-use Rattle.iocm_model.specs.Rules.FirstBreach.{Breach, first_breach}
+use Rattle.iocm_model.specs.Rules.FirstBreach.{Breach}
 use Rattle.iocm_activate.proofs.Kept.{kept_now}
 use Rattle.iocm_activate.proofs.Parts.{breach_at}
 use Rattle.iocm_activate.proofs.rules.broken.Goals as goal

@@ -1,0 +1,207 @@
+-- An edit that is tried as the way back of another one: what it leaves, and that it can be taken back itself.
+use Rattle.std.proofs.Common.{◌≡◌, ℕ, ◌+◌, ◌<◌, ◌≤◌, Bool, true, false, cond, not, ◌&&◌, ◌||◌, List, [], ◌∷◌, ◌++◌, length, get_or, drop, reverse, Option, Some, None, is_some, refl, sym, ap, subst, ◌∙◌}
+use Rattle.std.specs.Prelude.{Result, Ok, Err}
+use Rattle.std.specs.Option.{option_or, option_and_then}
+use Rattle.std.specs.Result.{result_err, is_ok}
+use Rattle.std.proofs.lemmas.Bool.{false≢true}
+use Rattle.std.proofs.lemmas.List.{reverse-append}
+use Rattle.std.specs.Cmp.Lexicographic.{pointwise}
+use Rattle.std.specs.FinMap.{contains_key}
+use Rattle.iocm_types.specs.declared.refused.Refused.{Refused}
+use Rattle.iocm_types.specs.declared.rule.Rule.TheVariants.{E4}
+use Rattle.iocm_types.specs.declared.refused.At.TheVariants.{Key}
+use Rattle.iocm_model.specs.Operation.State.{State, HasLives, IsSound, views_in}
+use Rattle.iocm_model.specs.Change.Edit.{Edit, action_key, config_after, state_after}
+use Rattle.iocm_model.specs.Change.Inverse.{inverse_of}
+use Rattle.iocm_model.specs.Change.Refusal.{refusal_at, refusal_by_key, is_number_taken}
+use Rattle.iocm_model.specs.Change.Runs.{CarryFreeNumbers}
+use Rattle.iocm_model.proofs.Change.EditsGoBack.{lived_after}
+use Rattle.iocm_model.specs.Change.InverseTree.{inverse_tree}
+use Rattle.iocm_model.specs.Change.Tree as model
+use Rattle.iocm_model.specs.Change.Tree.{ChangeTree, Parts}
+use Rattle.iocm_history.specs.Fits.{is_barred, fits, keeps_the_rules}
+use Rattle.iocm_numbers.specs.declared.number_change.NumberChange.{NumberChange}
+use Rattle.iocm_numbers.specs.NumberChanges as numbers
+use Rattle.iocm_seats.specs.declared.view_change.ViewChange.{ViewChange}
+use Rattle.iocm_seats.specs.Changes as views
+use Rattle.iocm_plant.specs.Operating.{Operating, KeepsRoom}
+use Rattle.iocm_plant.specs.Refusing.{refusal_when}
+use Rattle.iocm_plant.specs.TakingBack.{CanUnapply}
+use Rattle.iocm_plant.specs.declared.quiet.Quiet.TheVariants.{Whatever}
+use Rattle.iocm_plant.specs.declared.touched.Applied.{Applied}
+use Rattle.iocm_plant.specs.declared.touched.Touched.{Touched}
+use Rattle.iocm_activate.specs.Done.{AreToldBy}
+use Rattle.iocm_activate.specs.Told.{told_of_all, way_back, LeadsTo}
+use Rattle.iocm_activate.specs.Walked.{WereKept}
+use Rattle.iocm_activate.specs.declared.log.Log.{Log}
+use Rattle.iocm_tree.specs.Carried.{Carried}
+use Rattle.iocm_tree.specs.Trees.{CarriedTree, CarriedParts, leaf, row, group, choose, edit_in, tree_of, parts_of, plain_tree, plain_parts}
+use Rattle.iocm_tree.specs.declared.tree.Tree.{Tree}
+use Rattle.iocm_tree.proofs.Trees.{rest_at, none_left}
+use Rattle.iocm_plant.proofs.Between.{rooms_on, same_is_kept}
+use Rattle.iocm_activate.specs.Fitting.{is_turned_number, is_turned_view, gone_back, gone_back_along, part_gone_back, way_gone, IsOnTheWay}
+use Rattle.iocm_activate.proofs.GoingBack.{all_back}
+use Rattle.iocm_activate.proofs.Back.{leads_still, leads_on, way_back_append, undone}
+
+-- ---- refusals where it doesn't matter whether subchannels are quiet
+
+neither : (k : Option Refused) (taken : Bool) (r : Refused) → option_or k (option_or (cond taken (Some r) None) None) ≡ None → (is_some k || taken) ≡ false
+neither None false r h = refl
+neither None true r h = cc
+neither (Some x) taken r h = cc
+
+either : (k : Option Refused) (taken : Bool) (r why : Refused) → option_or k (option_or (cond taken (Some r) None) None) ≡ Some why → (is_some k || taken) ≡ true
+either (Some x) taken r why h = refl
+either None true r why h = refl
+either None false r why h = cc
+
+second_fails : (a b : Bool) → (a || b) ≡ false → b ≡ false
+second_fails false b h = h
+second_fails true b h = cc
+
+pub not_barred : (e : Edit) (s : State) → refusal_when Whatever e s ≡ None → is_barred e s ≡ false
+not_barred e s h = neither (refusal_by_key e.action (contains_key s.config (action_key e.action))) (is_number_taken (config_after e.action s.config) s.numbers e.places)
+    (refusal_at E4 (Key (action_key e.action))) h
+
+pub barred : (e : Edit) (s : State) (why : Refused) → refusal_when Whatever e s ≡ Some why → is_barred e s ≡ true
+barred e s why h = either (refusal_by_key e.action (contains_key s.config (action_key e.action))) (is_number_taken (config_after e.action s.config) s.numbers e.places)
+    (refusal_at E4 (Key (action_key e.action))) why h
+
+pub carries_free : (e : Edit) (s : State) → refusal_when Whatever e s ≡ None → CarryFreeNumbers (e ∷ []) s
+carries_free e s h = (second_fails _ _ (not_barred e s h), tt)
+
+-- ---- what is left
+
+-- an edit that was performed, and what it did was looked at
+pub looked_at : (e : Edit) (cells : List NumberChange) (seen : List ViewChange) (was : Touched) (s t : State) (went : Bool)
+    → refusal_when Whatever e s ≡ None → t ≡ state_after e s → cells ≡ numbers.changes_between s.numbers (state_after e s).numbers
+    → seen ≡ views.changes_between (views_in s) (views_in (state_after e s))
+    → went ≡ (pointwise is_turned_number cells was.numbers.items && pointwise is_turned_view seen was.subchannels.items)
+    → gone_back e was s ≡ way_gone went t
+looked_at e cells seen was s t went accepted state are shown is =
+    let free = not_barred e s accepted in
+    (λ i. cond (not (free i) && pointwise is_turned_number (sym are i) was.numbers.items && pointwise is_turned_view (sym shown i) was.subchannels.items) (Some (sym state i)) None)
+    ∙ ap (λ b. cond b (Some t) None) (sym is)
+
+-- an edit that was refused
+pub refused : (e : Edit) (was : Touched) (s t : State) (why : Refused) → refusal_when Whatever e s ≡ Some why → gone_back e was s ≡ way_gone false t
+refused e was s t why due =
+    let cells = pointwise is_turned_number (numbers.changes_between s.numbers (state_after e s).numbers) was.numbers.items in
+    let seen = pointwise is_turned_view (views.changes_between (views_in s) (views_in (state_after e s))) was.subchannels.items in
+    ap (λ b. cond (not b && cells && seen) (Some (state_after e s)) None) (barred e s why due)
+
+-- ---- it can be taken back
+
+pub leads_after : (p q : Operating) (e : Edit) (a : Applied) (old new : List Applied) → IsSound p.state → CarryFreeNumbers (e ∷ []) p.state
+    → q.state ≡ state_after e p.state → KeepsRoom p.room q.room → a.inverse.edit ≡ inverse_of e p.state → CanUnapply a.inverse q → new ≡ old ++ a ∷ []
+    → (s : State) → LeadsTo (way_back old) s p → LeadsTo (way_back new) s q
+leads_after p q e a old new sound free state room inverse can done s leads =
+    subst (λ is. LeadsTo is s q) (sym (ap way_back done ∙ way_back_append old (a ∷ [])))
+    (leads_on (a.inverse ∷ []) (way_back old) s p q later leads (subst HasLives (sym state) (lived_after e p.state sound.lived)) room)
+  where
+    later : LeadsTo (a.inverse ∷ []) p.state q
+    later = (
+      can,
+      λ t after places. after ∙ ap (λ (i : Edit). state_after i q.state) inverse ∙ ap (state_after (inverse_of e p.state)) state ∙ undone e p.state sound free,
+    )
+
+-- nothing was done
+pub leads_same : (p q : Operating) (old new : List Applied) → HasLives p.state → q.state ≡ p.state → KeepsRoom p.room q.room → new ≡ old
+    → (s : State) → LeadsTo (way_back old) s p → LeadsTo (way_back new) s q
+leads_same p q old new lived same room done s leads =
+    leads_still (way_back new) s p q (subst (λ ds. LeadsTo (way_back ds) s p) (sym done) leads) (subst HasLives (sym same) lived) same room
+
+-- ---- along the way
+
+on_the_last : (left rest : List Touched) (was : Touched) → left ≡ rest ++ was ∷ [] → reverse left ≡ was ∷ reverse rest
+on_the_last left rest was is = ap reverse is ∙ reverse-append rest (was ∷ [])
+
+pub sets_out : {A : Type 0} (shown xs : List (Tree A)) (ds : List Touched) (p : Operating) (log : Log) → shown ≡ xs → WereKept log p.state
+    → IsOnTheWay (gone_back_along (plain_parts (parts_of xs)) (reverse ds) p.state) (plain_parts (parts_of shown)) ds p log p log
+sets_out shown xs ds p log all kept = record {
+  further = ap (λ ps. gone_back_along (plain_parts (parts_of ps)) (reverse ds) p.state) (sym all);
+  back = λ s leads. leads;
+  room = same_is_kept p.room p.room refl;
+  kept = kept;
+}
+
+module _ {A : Type 0} (whole : Option State) (shown : List (Tree A)) (i : ℕ) (p : Operating) (first : Log) (q : Operating) (second : Log) where
+  -- one part with its own
+  at_part : (x : Tree A) → i < length shown → x ≡ get_or shown i x → (left rest : List Touched) (was : Touched) → left ≡ rest ++ was ∷ []
+      → IsOnTheWay whole (plain_parts (parts_of (drop i shown))) left p first q second
+      → whole ≡ option_and_then (gone_back_along (plain_parts (parts_of (drop (i + 1) shown))) (reverse rest)) (part_gone_back (plain_tree (tree_of x)) was q.state)
+  at_part x within is left rest was last way = way.further
+      ∙ (λ j. gone_back_along (plain_parts (rest_at shown i x within is j)) (on_the_last left rest was last j) q.state)
+
+  pub goes_on : (x : Tree A) → i < length shown → x ≡ get_or shown i x → (left rest : List Touched) (was : Touched) → left ≡ rest ++ was ∷ []
+      → IsOnTheWay whole (plain_parts (parts_of (drop i shown))) left p first q second
+      → (r : Operating) (third : Log) → part_gone_back (plain_tree (tree_of x)) was q.state ≡ Some r.state
+      → ((s : State) → LeadsTo (way_back second.done.items) s q → LeadsTo (way_back third.done.items) s r) → KeepsRoom q.room r.room → WereKept third r.state
+      → IsOnTheWay whole (plain_parts (parts_of (drop (i + 1) shown))) rest p first r third
+  goes_on x within is left rest was last way r third gone back room kept = record {
+    further = at_part x within is left rest was last way
+        ∙ ap (option_and_then (gone_back_along (plain_parts (parts_of (drop (i + 1) shown))) (reverse rest))) gone;
+    back = λ s leads. back s (way.back s leads);
+    room = rooms_on p.room q.room r.room way.room room;
+    kept = kept;
+  }
+
+  -- one that doesn't go back
+  pub stops : (x : Tree A) → i < length shown → x ≡ get_or shown i x → (left rest : List Touched) (was : Touched) → left ≡ rest ++ was ∷ []
+      → IsOnTheWay whole (plain_parts (parts_of (drop i shown))) left p first q second → part_gone_back (plain_tree (tree_of x)) was q.state ≡ None → whole ≡ None
+  stops x within is left rest was last way gone = at_part x within is left rest was last way
+      ∙ ap (option_and_then (gone_back_along (plain_parts (parts_of (drop (i + 1) shown))) (reverse rest))) gone
+
+  -- one with nothing to take back
+  pub lacks_its_own : (x : Tree A) → i < length shown → x ≡ get_or shown i x → (left : List Touched) → left ≡ []
+      → IsOnTheWay whole (plain_parts (parts_of (drop i shown))) left p first q second → whole ≡ None
+  lacks_its_own x within is left none way = way.further
+      ∙ (λ j. gone_back_along (plain_parts (rest_at shown i x within is j)) (reverse (none j)) q.state)
+
+  -- no part is left
+  pub arrives : length shown ≤ i → (left : List Touched) → IsOnTheWay whole (plain_parts (parts_of (drop i shown))) left p first q second → whole ≡ Some q.state
+  arrives past left way = way.further ∙ ap (λ ps. gone_back_along (plain_parts ps) (reverse left) q.state) (none_left shown i past)
+
+-- a part that is no edit
+pub no_edit : (t : CarriedTree) (was : Touched) (s : State) → edit_in t ≡ None → part_gone_back (plain_tree t) was s ≡ None
+no_edit (leaf c) was s h = cc
+no_edit (row ps) was s h = refl
+no_edit (group ps) was s h = refl
+no_edit (choose ps) was s h = refl
+
+-- and one that is
+pub an_edit : (t : CarriedTree) (c : Carried) (was : Touched) (s : State) (o : Option State) → t ≡ leaf c → gone_back c.edit was s ≡ o
+    → part_gone_back (plain_tree t) was s ≡ o
+an_edit t c was s o is gone = ap (λ p. part_gone_back (plain_tree p) was s) is ∙ gone
+
+-- ---- a whole change
+
+abbrev pub parts_in : ChangeTree → Parts
+parts_in (model.row ps) = ps
+parts_in _ = model.none
+
+abbrev pub is_row : ChangeTree → Bool
+is_row (model.row ps) = true
+is_row _ = false
+
+-- parts that take back what was performed, at the end of which the rules are kept, say whether a change fits
+pub fits_by : (t : CarriedTree) (ps : CarriedParts) (ds : List Touched) (u : State) (is : Bool) → t ≡ row ps
+    → is ≡ keeps_the_rules (gone_back_along (plain_parts ps) (reverse ds) u)
+    → (es : List Edit) (s : State) → plain_tree t ≡ inverse_tree es s → AreToldBy ds (told_of_all es s) → is ≡ fits (record { edits = es; from = s }) u
+fits_by t ps ds u is shape kept es s same told = kept
+    ∙ ap (λ p. keeps_the_rules (gone_back_along p (reverse ds) u)) (ap parts_in (sym (ap plain_tree shape) ∙ same))
+    ∙ ap keeps_the_rules (all_back ds es s u told)
+
+-- a tree that isn't a Row takes nothing back
+pub fits_not : (t : CarriedTree) (ds : List Touched) (u : State) (is : Bool) → is_row (plain_tree t) ≡ false
+    → (es : List Edit) (s : State) → plain_tree t ≡ inverse_tree es s → AreToldBy ds (told_of_all es s) → is ≡ fits (record { edits = es; from = s }) u
+fits_not t ds u is other es s same told = absurd (false≢true (sym other ∙ ap is_row same))
+
+-- whether there is no breach
+pub none_broken : {E : Type 0} (r : Result (Unit {0}) E) (found : Option E) → result_err r ≡ found → is_ok r ≡ not (is_some found)
+none_broken (Ok x) found h = ap (λ o. not (is_some o)) h
+none_broken (Err b) found h = ap (λ o. not (is_some o)) h
+
+-- from an empty log on nothing is to be taken back
+pub nothing_to_take_back : (p : Operating) (log : Log) → log.done.items ≡ [] → LeadsTo (way_back log.done.items) p.state p
+nothing_to_take_back p log none = subst (λ ds. LeadsTo (way_back ds) p.state p) (sym none) refl
