@@ -1,0 +1,6 @@
+pub mod Counting
+pub mod Limits
+pub mod Ordered
+pub mod Stacks
+pub mod Statements
+pub mod Yielding

@@ -1,0 +1,5 @@
+pub mod Examples
+pub mod Leaves
+pub mod Reading
+pub mod Sizes
+pub mod Views

@@ -1,0 +1,22 @@
+use crate::{Kind, Nodes};
+use std::alloc::{Allocator, Global};
+
+/// An open node: its statement has come, and its END hasn't.
+#[derive(Debug, Drop)]
+pub struct OpenNode<A: Allocator = Global> {
+    /// What it is.
+    pub kind: Kind,
+    /// The line of its statement.
+    pub line: usize,
+    /// Its parts so far.
+    pub parts: Nodes<A>,
+}
+
+/// What was read of a change deck so far.
+#[derive(Debug, Drop)]
+pub struct Reading<A: Allocator = Global> {
+    /// The nodes at the top that are closed.
+    pub top: Nodes<A>,
+    /// The open nodes, the innermost last.
+    pub stack: Vec<OpenNode<A>, A>,
+}
