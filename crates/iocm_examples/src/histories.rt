@@ -21,6 +21,11 @@ ghost use Rattle.iocm_examples.specs.SelectiveUndo.{
   stood_on_and_busy,
   not_last_and_busy,
   nothing_in_common,
+  a_past_one,
+  a_later_undone,
+  put_back_at_once,
+  a_number_in_common,
+  TwoNumbersForAWhile,
 };
 ghost use Rattle.iocm_examples.specs.Stages.{
   held_and_aborted,
@@ -70,6 +75,17 @@ pub fn undo_under_later_changes_is_as_worked()
     ensures stood_on { Answers stood_on_and_busy }
     ensures not_last { Answers not_last_and_busy }
     ensures nothing { Answers nothing_in_common }
+{}
+
+/// What is in the way of an undo: an earlier change that was undone also once it is past, a later one only while it stands,
+/// one that wrote a cell that the change put back itself, and one that has a number alone in common. And a history in which a
+/// device has two numbers for a while once a change is undone: computed.
+pub fn what_is_in_the_way_is_as_worked()
+    ensures past { Answers a_past_one }
+    ensures later { Answers a_later_undone }
+    ensures put_back { Answers put_back_at_once }
+    ensures number { Answers a_number_in_common }
+    ensures two_numbers { TwoNumbersForAWhile }
 {}
 
 /// Changes in stages: what is held, what is left, what a Commit and an Abort do, and what waits for them: computed.

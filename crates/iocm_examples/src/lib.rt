@@ -21,7 +21,7 @@ pub use effects::effects_are_as_worked;
 pub use histories::{
     pending_starts_are_as_worked, stages_are_as_worked, steps_elsewhere_are_as_worked,
     steps_on_altered_subchannels_are_as_worked, undo_and_redo_are_as_worked,
-    undo_under_later_changes_is_as_worked,
+    undo_under_later_changes_is_as_worked, what_is_in_the_way_is_as_worked,
 };
 pub use numbers::numbers_are_as_worked;
 pub use orders::{functions_in_progress_are_as_worked, orders_are_as_worked};

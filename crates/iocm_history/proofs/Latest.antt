@@ -1,4 +1,4 @@
--- The latest of the standing changes: no change that counts is newer.
+-- Changes that count among the entries newer than a standing change: they stand and are later. So none is newer than the latest.
 use Rattle.std.proofs.Common.{◌≡◌, ◌⊎◌, inl, inr, ℕ, ◌<◌, ◌≤◌, max, Bool, true, false, ◌||◌, eqb, List, [], ◌∷◌, ◌++◌, Some, refl, sym, ap, subst, ◌∙◌, arith}
 use Rattle.std.proofs.lemmas.Bool.{or_parts, or_left, or_right, eq-eqb, eqb-true, false_from_ne_true}
 use Rattle.std.specs.List.{fold}
@@ -78,30 +78,37 @@ no_or_yes : (b : Bool) (P : Type 0) → (b ≡ true → P) → (b ≡ false → 
 no_or_yes true P if_so if_not = if_so refl
 no_or_yes false P if_so if_not = if_not refl
 
-module _ (m : Store) (ls : List MarkedEntry) (ns : List ℕ) (v : IsLevel m ls ns) (n : ℕ) (here : is_in n ns ≡ true) (latest : greatest ns ≡ Some n) where
+module _ (m : Store) (ls : List MarkedEntry) (ns : List ℕ) (v : IsLevel m ls ns) (n : ℕ) (here : is_in n ns ≡ true) where
   abbrev s : IsStanding m n ls
   s = v.standing n here
 
-  -- a change that counts among the newer entries would be older
-  newer_not : (k : ℕ) → is_in k (numbers_of (changes_in s.newer)) ≡ true → has (is_change k) s.newer ≡ true → ⊥
-  newer_not k counts there =
-      let in_all : is_in k (numbers_of (changes_in ls)) ≡ true =
-      ap (λ ms. is_in k (numbers_of (changes_in ms))) s.parts ∙ ap (λ ds. is_in k (numbers_of ds)) (changes_append s.newer (made n s.change ∷ s.older))
-      ∙ number_append k (changes_in s.newer) (changes_in (made n s.change ∷ s.older)) ∙ or_left _ _ counts in
-      let among = v.only k in_all in
-      let low = greatest_bounds ns n k latest among in
+  -- a change that counts among the newer entries stands
+  newer_stands : (k : ℕ) → is_in k (numbers_of (changes_in s.newer)) ≡ true → is_in k ns ≡ true
+  newer_stands k counts = v.only k (ap (λ ms. is_in k (numbers_of (changes_in ms))) s.parts
+      ∙ ap (λ ds. is_in k (numbers_of ds)) (changes_append s.newer (made n s.change ∷ s.older))
+      ∙ number_append k (changes_in s.newer) (changes_in (made n s.change ∷ s.older)) ∙ or_left _ _ counts)
+
+  -- and is later
+  newer_follows : (k : ℕ) → is_in k ns ≡ true → has (is_change k) s.newer ≡ true → n < k
+  newer_follows k among there =
       let t = v.standing k among in
       let none_before = longer (is_change k) (is_change n) s.newer t.newer (made n s.change ∷ s.older) (made k t.change ∷ t.older) (sym s.parts ∙ t.parts) there t.others s.others in
       let all_there : (has (is_change n) t.newer || (eqb n k || has (is_change n) t.older)) ≡ true =
       sym (has_append (is_change n) t.newer (made k t.change ∷ t.older)) ∙ sym (ap (has (is_change n)) t.parts) ∙ standing_there m n ls s in
       let after : (eqb n k || has (is_change n) t.older) ≡ true = sym (ap (λ b. b || (eqb n k || has (is_change n) t.older)) none_before) ∙ all_there in
-      no_or_yes (eqb n k) ⊥
+      no_or_yes (eqb n k) (n < k)
       (λ same. let is : n ≡ k = eqb-true n k same in let none : has (is_change n) s.newer ≡ true = ap (λ j. has (is_change j) s.newer) is ∙ there in let no : true ≡ false = sym none ∙ s.others in cc)
-      (λ other. let older : has (is_change n) t.older ≡ true = sym (ap (λ b. b || has (is_change n) t.older) other) ∙ after in let less = t.first n older in let no : k < k = omega arith in omega arith)
+      (λ other. t.first n (sym (ap (λ b. b || has (is_change n) t.older) other) ∙ after))
 
-  pub no_newer : changes_in s.newer ≡ []
-  no_newer = none_at_all (changes_in s.newer) (λ k. no_or_yes (has (is_change k) s.newer) (is_in k (numbers_of (changes_in s.newer)) ≡ false)
-      (λ there. false_from_ne_true _ (λ counts. newer_not k counts there)) (λ none. not_there k s.newer none))
+  pub newer_is_later : (k : ℕ) → is_in k (numbers_of (changes_in s.newer)) ≡ true → (is_in k ns ≡ true) × (n < k)
+  newer_is_later k counts =
+      let among = newer_stands k counts in
+      (among, no_or_yes (has (is_change k) s.newer) (n < k) (newer_follows k among) (λ none. let no : true ≡ false = sym counts ∙ not_there k s.newer none in cc))
+
+  -- no change that counts is newer than the latest
+  pub no_newer : greatest ns ≡ Some n → changes_in s.newer ≡ []
+  no_newer latest = none_at_all (changes_in s.newer) (λ k. false_from_ne_true _ (λ counts.
+      let later = newer_is_later k counts in let more = later.1 in let low = greatest_bounds ns n k latest later.0 in omega arith))
 
 -- where none counts, none counts once more is struck
 pub none_struck : (xs : List SubId) (n : ℕ) (ls : List MarkedEntry) → changes_in ls ≡ [] → changes_in (strike xs n ls) ≡ []

@@ -28,4 +28,5 @@ pub mod Stages
 pub mod Latest
 pub mod Anew
 pub mod Unblocked
+pub mod OnlyLater
 pub mod OwnMarks

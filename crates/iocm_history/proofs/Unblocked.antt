@@ -28,7 +28,7 @@ use Rattle.iocm_history.proofs.Refusing.{greatest_among, undo_is_refused_only_fo
 -- ---- those that are undone are later than those that stand
 
 -- each change that is undone is later than all that stand, and then later than those that were undone after it
-abbrev AreLater : List ℕ → List ℕ → Type 0
+abbrev pub AreLater : List ℕ → List ℕ → Type 0
 AreLater ns [] = Unit {0}
 AreLater ns (u ∷ us) = ((k : ℕ) → is_in k ns ≡ true → k < u) × AreLater (u ∷ ns) us
 
@@ -64,13 +64,13 @@ same_undos n (l ∷ ls) (m ∷ ms) r =
 -- ---- along a history
 
 -- a change that isn't past: it stands, or is undone
-abbrev IsOpen : Journal → ℕ → Type 0
+abbrev pub IsOpen : Journal → ℕ → Type 0
 IsOpen b k = (is_in k b.standing ≡ true) ⊎ (is_in k b.undone ≡ true)
 
 -- those that are undone are later than those that stand; of the changes undone since one that isn't past, no earlier one is past
-record IsOrdered (b : Journal) (ls : List MarkedEntry) : Type 0 where
-  later : AreLater b.standing b.undone
-  earlier : (n j : ℕ) → IsOpen b n → is_in j (undos_in (since n ls)) ≡ true → j < n → IsOpen b j
+pub record IsOrdered (b : Journal) (ls : List MarkedEntry) : Type 0 where
+  pub later : AreLater b.standing b.undone
+  pub earlier : (n j : ℕ) → IsOpen b n → is_in j (undos_in (since n ls)) ≡ true → j < n → IsOpen b j
 
 -- a change more
 change_ordered : (b : Journal) (ls : List MarkedEntry) (c : Change) → IsOrdered b ls
@@ -186,6 +186,14 @@ module _ (m : Store) (b : Journal) (a : Account) (i : IsSettled m b a) (o : IsOr
       ordered_as _ _ _ _ (redo_ordered b a.entries (with_change n a.entries) n us (any_restored (altered_by_change n a.entries) n a.entries) undone o)
       account_is journal_is
 
+  -- of the changes undone since one that stands, the earlier ones count
+  pub earlier_counts : (n j : ℕ) → is_in n b.standing ≡ true → is_in j (undos_in (since n a.entries)) ≡ true → j < n → counts j a.entries ≡ true
+  earlier_counts n j here among low = by (o.earlier n j (inl here) among low)
+    where
+      by : IsOpen b j → counts j a.entries ≡ true
+      by (inl stands) = standing_counts m j a.entries (i.level.standing j stands)
+      by (inr undone) = let more = later_by b.standing b.undone n j o.later here undone in absurd (omega arith)
+
   -- ---- nothing stands on the latest
 
   module _ (n : ℕ) (latest : greatest b.standing ≡ Some n) where
@@ -198,16 +206,11 @@ module _ (m : Store) (b : Journal) (a : Account) (i : IsSettled m b a) (o : IsOr
     none_later : changes_in (since n a.entries) ≡ []
     none_later = ap changes_in (standing_since m n a.entries stood) ∙ no_newer m a.entries b.standing i.level n here latest
 
-    earlier_counts : (j : ℕ) → is_in j (undos_in stood.newer) ≡ true → j < n → counts j a.entries ≡ true
-    earlier_counts j among low =
-        by (o.earlier n j (inl here) (ap (λ ms. is_in j (undos_in ms)) (standing_since m n a.entries stood) ∙ among) low)
-      where
-        by : IsOpen b j → counts j a.entries ≡ true
-        by (inl stands) = standing_counts m j a.entries (i.level.standing j stands)
-        by (inr undone) = let more = later_by b.standing b.undone n j o.later here undone in absurd (omega arith)
+    earlier_count : (j : ℕ) → is_in j (undos_in stood.newer) ≡ true → j < n → counts j a.entries ≡ true
+    earlier_count j among low = earlier_counts n j here (ap (λ ms. is_in j (undos_in ms)) (standing_since m n a.entries stood) ∙ among) low
 
     it_fits : fits stood.change i.level.state ≡ true
-    it_fits = fits_alone m n a.entries b.standing i.level stood (no_newer m a.entries b.standing i.level n here latest) earlier_counts
+    it_fits = fits_alone m n a.entries b.standing i.level stood (no_newer m a.entries b.standing i.level n here latest) earlier_count
 
     free_latest : stands_on n a.entries (state_now m a) ≡ None
     free_latest =
@@ -216,7 +219,7 @@ module _ (m : Store) (b : Journal) (a : Account) (i : IsSettled m b a) (o : IsOr
         ∙ ap (λ f. greatest (standing_on n stood.change a.entries f)) it_fits
         ∙ ap (λ ds. greatest (numbers_of (filter (λ (d : Numbered). share_a_cell (effect_of_change stood.change) (effect_of_change d.1)) ds))) none_later
 
-history_ordered : (opening : State) (h : History) → IsInUse opening → IsLegal opening h → UndoesTheLatest h → IsOrdered (journal_of h) (account opening h).entries
+pub history_ordered : (opening : State) (h : History) → IsInUse opening → IsLegal opening h → UndoesTheLatest h → IsOrdered (journal_of h) (account opening h).entries
 unfolding account
 history_ordered opening [] used legal latest = record { later = tt; earlier = λ n j now among low. cc }
 history_ordered opening (e ∷ h) used legal latest =

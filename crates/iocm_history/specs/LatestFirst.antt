@@ -1,6 +1,6 @@
--- Histories in which each undo is of the latest standing change: there every step that counts may be decided anew, and nothing stands on
--- the latest.
-use Rattle.std.specs.Prelude.{◌≡◌, ◌≢◌, ◌⊎◌, ℕ, List, [], ◌∷◌, Some, None}
+-- Histories in which each undo is of the latest standing change: there every step that counts may be decided anew, nothing stands on the
+-- latest, and only later standing changes stand on a standing one.
+use Rattle.std.specs.Prelude.{◌≡◌, ◌≢◌, ◌<◌, ◌⊎◌, ℕ, true, List, [], ◌∷◌, Some, None}
 use Rattle.iocm_types.specs.declared.answer.Answer.TheVariants.{Undone, Refused}
 use Rattle.iocm_types.specs.declared.refused.At.TheVariants.{Subchannel, Nothing}
 use Rattle.iocm_types.specs.declared.rule.Rule.TheVariants.{B1, M1, O1}
@@ -10,11 +10,12 @@ use Rattle.iocm_model.specs.Operation.Step.{after_step}
 use Rattle.iocm_model.specs.Change.Effect.{with_effect}
 use Rattle.iocm_model.specs.Change.Refusal.{refusal_at}
 use Rattle.iocm_history.specs.Entry.{undo, Entry, History}
-use Rattle.iocm_history.specs.Change.{effect_of_change}
-use Rattle.iocm_history.specs.MarkedEntry.{Act, step, change, undoing, nothing, Mark, kept, MarkedEntry}
+use Rattle.iocm_history.specs.Change.{Change, effect_of_change}
+use Rattle.iocm_history.specs.Fits.{fits}
+use Rattle.iocm_history.specs.MarkedEntry.{Act, step, change, undoing, nothing, Mark, kept, MarkedEntry, change_at}
 use Rattle.iocm_history.specs.Account.{marked_entries, stage_of, state_at}
-use Rattle.iocm_history.specs.StandsOn.{greatest, stands_on}
-use Rattle.iocm_history.specs.Journal.{journal_of}
+use Rattle.iocm_history.specs.StandsOn.{greatest, standing_on, stands_on}
+use Rattle.iocm_history.specs.Journal.{is_in, journal_of}
 use Rattle.iocm_history.specs.Legal.{IsLegal}
 use Rattle.iocm_history.specs.InUse.{IsInUse}
 use Rattle.iocm_history.specs.UndoLaws.{WaitsFor}
@@ -59,3 +60,10 @@ LatestIsNeverBlocked = (opening : State) (h : History) (n : ℕ) → IsInUse ope
     → greatest (journal_of h).standing ≡ Some n
     → (stands_on n (marked_entries opening h) (state_at opening h) ≡ None)
     × ((e : Entry) → IsLegal opening (e ∷ h) → e.call ≡ undo n → (e.answer ≡ Undone n) ⊎ HasToWait opening h n e)
+
+-- what stands on a standing change stands too, and is later: nothing that was undone is in the way
+abbrev pub OnlyLaterStandingChangesStandOn : Type 0
+OnlyLaterStandingChangesStandOn = (opening : State) (h : History) (n m : ℕ) (c : Change) → IsInUse opening → IsLegal opening h → UndoesTheLatest h
+    → is_in n (journal_of h).standing ≡ true → change_at n (marked_entries opening h) ≡ Some c
+    → is_in m (standing_on n c (marked_entries opening h) (fits c (state_at opening h))) ≡ true
+    → (is_in m (journal_of h).standing ≡ true) × (n < m)

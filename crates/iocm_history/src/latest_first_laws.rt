@@ -1,4 +1,8 @@
-ghost use Rattle.iocm_history.specs.LatestFirst.{StepsMayBeDecidedAnew, LatestIsNeverBlocked};
+ghost use Rattle.iocm_history.specs.LatestFirst.{
+  StepsMayBeDecidedAnew,
+  LatestIsNeverBlocked,
+  OnlyLaterStandingChangesStandOn,
+};
 
 /// In a legal history in which each accepted undo is of the latest standing change, the state is that of its entries decided
 /// anew: each step that counts as an order, a device begin or a device end in the state that the older ones leave, and each change as its effect.
@@ -10,4 +14,10 @@ pub fn steps_may_be_decided_anew()
 /// for a staged change, for a subchannel that is not quiet, or for memory.
 pub fn latest_is_never_blocked()
     ensures { LatestIsNeverBlocked }
+{}
+
+/// In such a history each change that stands on a standing change stands too, and is later. So J2 names only later standing
+/// changes: no change that was undone is in the way, an earlier one neither.
+pub fn only_later_standing_changes_stand_on()
+    ensures { OnlyLaterStandingChangesStandOn }
 {}

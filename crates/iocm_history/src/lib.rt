@@ -18,7 +18,9 @@ pub use history_laws::{
     activations_do_what_they_mean, other_calls_leave_the_state, runs_are_legal, states_stay_in_use,
     steps_step,
 };
-pub use latest_first_laws::{latest_is_never_blocked, steps_may_be_decided_anew};
+pub use latest_first_laws::{
+    latest_is_never_blocked, only_later_standing_changes_stand_on, steps_may_be_decided_anew,
+};
 pub use mark_laws::{
     changes_count_while_they_stand, restoring_undoes_striking, standing_changes_mark_nothing,
     undos_strike_their_own,

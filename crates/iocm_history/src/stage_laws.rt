@@ -3,8 +3,9 @@ ghost use Rattle.iocm_history.specs.StageLaws.{
   CommitDoesTheEdits,
 };
 
-/// An Abort leaves the state of the run that makes the other steps alone, and these are answered as in that run; what is
-/// held is answered so, and changes nothing.
+/// Where a change was begun and later aborted, and no answer between was that a change was accepted or aborted, the state is that
+/// of the run that goes on from before the Begin with only the steps between that were done. That run is legal: these steps are
+/// answered in it as they were. The steps that were held and all other calls between are no part of it.
 pub fn abort_leaves_the_other_steps()
     ensures { AbortLeavesTheOtherSteps }
 {}

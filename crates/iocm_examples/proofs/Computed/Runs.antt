@@ -1,21 +1,24 @@
 -- How runs of calls on the example deck are computed on histories as lists.
-use Rattle.std.proofs.Common.{◌≡◌, ℕ, true, List, [], ◌∷◌, map, reverse, take, refl, ap, ◌∙◌}
+use Rattle.std.proofs.Common.{◌≡◌, ℕ, true, List, [], ◌∷◌, map, reverse, take, drop, refl, sym, ap, ◌∙◌}
+use Rattle.std.proofs.lemmas.List.{drop-map}
 use Rattle.std.specs.FinMap.{get, find, get-entries}
 use Rattle.iocm_types.specs.declared.key.Key.{Key}
 use Rattle.iocm_types.specs.declared.order.Order.{Order}
 use Rattle.iocm_types.specs.declared.order.Order.TheVariants.{Modify}
 use Rattle.iocm_types.specs.declared.sub_id.SubId.{SubId}
 use Rattle.iocm_types.specs.Key.{key_cmp}
-use Rattle.iocm_types.specs.Place.{place_cmp}
+use Rattle.iocm_types.specs.Place.{place_cmp, cell_cmp}
 use Rattle.iocm_types.specs.SubId.{sub_id_cmp}
 use Rattle.iocm_model.specs.Operation.Step.{order, device_end}
 use Rattle.iocm_model.specs.Change.Renumbering.{gap_from}
 use Rattle.iocm_model.specs.Rules.FirstBreach.{first_record, first_breach_of}
 use Rattle.iocm_history.specs.MarkedEntry.{MarkedEntry}
-use Rattle.iocm_history.specs.Account.{marked_entries, state_at}
+use Rattle.iocm_history.specs.Store.{store_of}
+use Rattle.iocm_history.specs.Account.{replay, marked_entries, state_at}
 use Rattle.iocm_history.specs.Run.{run, answers_of}
 use Rattle.iocm_examples.specs.Edits.{base_opened}
 use Rattle.iocm_examples.specs.Histories.{number_of}
+use Rattle.iocm_examples.specs.SelectiveUndo.{device_of}
 use Rattle.iocm_examples.proofs.Listed.Views.{numbers_after_listed}
 use Rattle.iocm_examples.proofs.Listed.States.{ListedState, listing, record_at_is, live_at_is, ListedEdit, state_after_listed, inverse_listed, refusal_listed, after_step_listed, answer_listed}
 use Rattle.iocm_examples.proofs.Listed.Rules.{first_breach_listed}
@@ -23,7 +26,7 @@ use Rattle.iocm_examples.proofs.Listed.Fits.{before_listed, before_all_listed, f
 use Rattle.iocm_examples.proofs.Listed.Effects.{state_after_all_listed, edits_cells_listed, edit_cells_listed, values_listed, with_effect_listed}
 use Rattle.iocm_examples.proofs.Listed.Trees.{one, mean_listed, meaning_listed}
 use Rattle.iocm_examples.proofs.Computed.Edits.{base_listing, base_is}
-use Rattle.iocm_examples.proofs.Listed.Entries.{ListedLine, lines_listing, strike_lines, restore_lines, replay_lines, state_by}
+use Rattle.iocm_examples.proofs.Listed.Entries.{ListedLine, line_listing, lines_listing, strike_lines, restore_lines, ListedStore, store_listing, store_in, replay_lines, store_by_seen, state_by}
 use Rattle.iocm_examples.proofs.Listed.Histories.{ListedCall, stepping, activating, calls_from, ListedHistory, call_listed, calls_listed, ComeRight, uncalled, run_is, last_state_is, first_come_right}
 
 -- a change of one edit
@@ -99,3 +102,23 @@ record_is n cs right key = record_at_is _ _ key (state_is n cs right)
 pub live_is : (n : ℕ) (cs : List ListedCall) → AreRight cs → (x : SubId)
     → get (state_at base_opened (run base_opened (calls_from (take n cs)))).lives x ≡ find sub_id_cmp x (left_by (take n cs)).lives
 live_is n cs right x = live_at_is _ _ x (state_is n cs right)
+
+-- the cells of the entries after the first calls of a run, but the latest of these entries, are those of its listing
+pub cells_are : (n k : ℕ) (cs : List ListedCall) → AreRight cs
+    → store_listing (replay (store_of base_opened) (drop k (marked_entries base_opened (run base_opened (calls_from (take n cs))))))
+    ≡ replay_lines (store_in base_listing) (drop k (made_by (take n cs)).marked)
+unfolding made_by
+cells_are n k cs right = let ls = marked_entries base_opened (run base_opened (calls_from (take n cs))) in
+    store_by_seen base_opened (drop k ls) ∙ ap (λ y. replay_lines (store_in y) (lines_listing (drop k ls))) base_is
+    ∙ ap (replay_lines (store_in base_listing)) (sym (drop-map line_listing k ls))
+    ∙ ap (λ (m : ListedHistory). replay_lines (store_in base_listing) (drop k m.marked))
+    (run_is base_opened base_listing base_is (take n cs) (first_come_right base_listing n cs uncalled right))
+
+-- the device of a number of channel subsystem 1 there
+pub device_is : (n k : ℕ) (cs : List ListedCall) → AreRight cs → (number : ℕ)
+    → device_of number (replay (store_of base_opened) (drop k (marked_entries base_opened (run base_opened (calls_from (take n cs)))))).numbers
+    ≡ find cell_cmp (record { css = 1; set = 0; number = number }) (replay_lines (store_in base_listing) (drop k (made_by (take n cs)).marked)).cells
+device_is n k cs right number =
+    get-entries (replay (store_of base_opened) (drop k (marked_entries base_opened (run base_opened (calls_from (take n cs)))))).numbers
+    (record { css = 1; set = 0; number = number })
+    ∙ ap (λ (m : ListedStore). find cell_cmp (record { css = 1; set = 0; number = number }) m.cells) (cells_are n k cs right)

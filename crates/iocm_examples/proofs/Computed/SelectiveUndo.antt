@@ -1,13 +1,15 @@
 -- Runs in which changes are undone under later ones, computed on histories as lists.
-use Rattle.std.proofs.Common.{None, List, [], ◌∷◌, refl}
-use Rattle.iocm_types.specs.declared.order.Order.TheVariants.{Start}
-use Rattle.iocm_examples.specs.BaseDeck.{lpb, online_record, device_on_1000, device_key, subchannel, unit_on}
-use Rattle.iocm_examples.proofs.Listed.Trees.{in_group, no_parts}
+use Rattle.std.proofs.Common.{None, List, [], ◌∷◌, map, refl}
+use Rattle.iocm_types.specs.declared.order.Order.TheVariants.{Start, Store}
+use Rattle.iocm_model.specs.Change.Edit.{modify}
+use Rattle.iocm_examples.specs.BaseDeck.{lpa, lpb, path_record, css_path, online_record, device_on_1000, device_key, subchannel, unit_on}
+use Rattle.iocm_examples.proofs.Listed.Trees.{in_group, no_parts, parts_listed}
+use Rattle.iocm_examples.proofs.Listed.States.{ListedEdit}
 use Rattle.iocm_examples.proofs.Listed.Histories.{ListedCall, activating, undoes, redoes, shows}
 use Rattle.iocm_examples.proofs.Computed.Edits.{plain_add, plain_delete, plain_modify}
-use Rattle.iocm_examples.proofs.Computed.Runs.{changes, ordered, enabled, made_by, AreRight, answers_are, marks_are, number_is}
+use Rattle.iocm_examples.proofs.Computed.Runs.{changes, ordered, enabled, made_by, AreRight, answers_are, marks_are, number_is, device_is}
 use Rattle.iocm_examples.specs.Histories.{Answers}
-use Rattle.iocm_examples.specs.SelectiveUndo.{CellsApart, paths_turned, an_address_taken, an_earlier_undone, stood_on_and_busy, not_last_and_busy, nothing_in_common}
+use Rattle.iocm_examples.specs.SelectiveUndo.{CellsApart, paths_turned, an_address_taken, an_earlier_undone, stood_on_and_busy, not_last_and_busy, nothing_in_common, a_past_one, a_later_undone, put_back_at_once, unseen_device, a_number_in_common, unit_with, path_of_css_1, device_on_two, of_lpc, TwoNumbersForAWhile}
 
 abbrev cells_apart_calls : List ListedCall
 cells_apart_calls =
@@ -116,3 +118,100 @@ nothing_in_common_calls =
 pub nothing_in_common_answers : Answers nothing_in_common
 unfolding made_by
 nothing_in_common_answers = answers_are nothing_in_common_calls (refl, (refl, (refl, tt)))
+
+abbrev a_past_one_calls : List ListedCall
+a_past_one_calls =
+    changes (plain_add (online_record 0x51 lpb))
+    ∷ changes (plain_add (device_on_1000 0x1004 0x04))
+    ∷ changes (plain_delete (device_key 0x1004))
+    ∷ undoes 1
+    ∷ activating (in_group no_parts) []
+    ∷ undoes 3
+    ∷ undoes 4
+    ∷ undoes 3
+    ∷ redoes 1
+    ∷ changes (plain_add (online_record 0x51 lpb))
+    ∷ undoes 3
+    ∷ []
+
+pub a_past_one_answers : Answers a_past_one
+unfolding made_by
+a_past_one_answers = answers_are a_past_one_calls (refl, (refl, (refl, (refl, (refl, tt)))))
+
+abbrev a_later_undone_calls : List ListedCall
+a_later_undone_calls =
+    changes (plain_modify (unit_on 0x1000 (0x51 ∷ 0x50 ∷ []) None))
+    ∷ changes (plain_add (device_on_1000 0x1004 0x04))
+    ∷ activating (in_group no_parts) []
+    ∷ undoes 1
+    ∷ undoes 3
+    ∷ undoes 1
+    ∷ []
+
+pub a_later_undone_answers : Answers a_later_undone
+unfolding made_by
+a_later_undone_answers = answers_are a_later_undone_calls (refl, (refl, (refl, tt)))
+
+-- a change of several edits, all or none
+abbrev changes_all : List ListedEdit → ListedCall
+changes_all es = activating (in_group (parts_listed es)) es
+
+abbrev put_back_at_once_calls : List ListedCall
+put_back_at_once_calls =
+    changes_all (plain_add (device_on_1000 0x1004 0x04) ∷ plain_delete (device_key 0x1004) ∷ [])
+    ∷ changes (plain_add (device_on_1000 0x1004 0x04))
+    ∷ changes (plain_delete (device_key 0x1004))
+    ∷ undoes 1
+    ∷ undoes 3
+    ∷ undoes 1
+    ∷ undoes 2
+    ∷ undoes 1
+    ∷ []
+
+pub put_back_at_once_answers : Answers put_back_at_once
+unfolding made_by
+put_back_at_once_answers = answers_are put_back_at_once_calls (refl, (refl, (refl, tt)))
+
+abbrev a_number_in_common_calls : List ListedCall
+a_number_in_common_calls =
+    changes_all (plain_add (path_record 0x52 (lpa ∷ []) []) ∷ plain_add (unit_on 0x2000 (0x52 ∷ []) None) ∷ [])
+    ∷ changes (plain_add (unseen_device 0x2000 0))
+    ∷ changes (plain_delete (device_key 0x2000))
+    ∷ changes (plain_add (unseen_device 0x2001 1))
+    ∷ changes (plain_delete (device_key 0x2001))
+    ∷ shows
+    ∷ undoes 3
+    ∷ undoes 5
+    ∷ undoes 4
+    ∷ undoes 3
+    ∷ []
+
+pub a_number_in_common_answers : Answers a_number_in_common
+unfolding made_by
+a_number_in_common_answers = answers_are a_number_in_common_calls (refl, (refl, (refl, (refl, (refl, tt)))))
+
+abbrev two_numbers_for_a_while_calls : List ListedCall
+two_numbers_for_a_while_calls =
+    changes_all (map plain_add device_on_two)
+    ∷ changes (plain_modify (unit_with 0x2000 (css_path 0x52 ∷ [])))
+    ∷ changes (record {
+      action = modify (unit_with 0x2001 (css_path 0x53 ∷ path_of_css_1 ∷ []));
+      places = (record { css = 1; set = 0; device = 0x3000 }, 7) ∷ [];
+      lives = [];
+    })
+    ∷ changes (plain_modify (unit_with 0x2001 (css_path 0x53 ∷ [])))
+    ∷ ordered (of_lpc 0) Store
+    ∷ undoes 2
+    ∷ ordered (of_lpc 0) Store
+    ∷ ordered (of_lpc 7) Store
+    ∷ undoes 4
+    ∷ []
+
+pub two_numbers_for_a_while_is : TwoNumbersForAWhile
+unfolding made_by
+two_numbers_for_a_while_is =
+    let right : AreRight two_numbers_for_a_while_calls = (refl, (refl, (refl, (refl, tt)))) in record {
+      answers = answers_are two_numbers_for_a_while_calls right;
+      keeps = device_is 6 3 two_numbers_for_a_while_calls right 0;
+      besides = device_is 6 3 two_numbers_for_a_while_calls right 7;
+    }

@@ -308,6 +308,8 @@ replay_seen m (l ∷ ls) = store_with_seen (effect_of_entry l) (replay m ls)
 abbrev pub state_by : ListedState → List ListedLine → ListedState
 state_by y ls = state_from (replay_lines (store_in y) ls)
 
+pub store_by_seen : (opening : State) (ls : List MarkedEntry) → store_listing (replay (store_of opening) ls) ≡ replay_lines (store_in (listing opening)) (lines_listing ls)
+store_by_seen opening ls = replay_seen (store_of opening) ls ∙ ap (λ m. replay_lines m (lines_listing ls)) (store_in_seen opening)
+
 pub state_by_seen : (opening : State) (ls : List MarkedEntry) → listing (state_of (replay (store_of opening) ls)) ≡ state_by (listing opening) (lines_listing ls)
-state_by_seen opening ls = state_from_seen (replay (store_of opening) ls) ∙ ap state_from (replay_seen (store_of opening) ls
-    ∙ ap (λ m. replay_lines m (lines_listing ls)) (store_in_seen opening))
+state_by_seen opening ls = state_from_seen (replay (store_of opening) ls) ∙ ap state_from (store_by_seen opening ls)
