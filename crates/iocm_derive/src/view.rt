@@ -7,6 +7,7 @@ ghost use Rattle.iocm_records.specs.Meaning.{device_of};
 use crate::lookup::{find_device, find_image};
 use crate::paths::copy_paths;
 use crate::reach::{ImageRecords, Reach};
+use crate::sight::is_candidate;
 use crate::units_view::{units_view, view_by};
 use iocm_config::Config;
 use iocm_numbers::Numbers;
@@ -64,6 +65,9 @@ fn named_view<A: Allocator>(
 fn view_if_seen<A: Allocator, R: Reach<A>>(reach: &R, device: &DeviceFields<A>) -> Option<View>
     ensures { result ≡ model.view_if_seen (lookup_of (R.records reach.now)) (R.subsystem reach.now) (R.called reach.now) (device_of device.now) }
 {
+    if !is_candidate(device.candidates.as_ref(), reach.name()) {
+        return None;
+    }
     let by = units_view(reach, device.units.as_slice());
     view_by(reach, &by, device)
 }

@@ -1,5 +1,4 @@
 ghost use Rattle.std.specs.Prelude.{◌≡◌};
-ghost use Rattle.std.specs.Option.{option_copied};
 ghost use Rattle.std.specs.FinMap as map;
 ghost use Rattle.iocm_lookup.specs.Indexed.{IsIndexOf};
 ghost use Rattle.iocm_model.specs.Operation.State.{seen_in, IsSound};
@@ -77,8 +76,8 @@ impl Plant {
     }
 
     /// What is seen at a subchannel, if it is there.
-    pub fn view(&self, subchannel: SubId) -> Option<&View>
-        ensures { option_copied result ≡ seen_in self.now.state subchannel }
+    pub fn view(&self, subchannel: SubId) -> Option<View>
+        ensures { result ≡ seen_in self.now.state subchannel }
     {
         view_of(&self.seats, subchannel)
     }

@@ -1,4 +1,4 @@
-ghost use Rattle.std.specs.Prelude.{◌≡◌, None, map, IfOk, IfErr, OnOk, OnErr};
+ghost use Rattle.std.specs.Prelude.{◌≡◌, None, List, map, IfOk, IfErr, OnOk, OnErr};
 ghost use Rattle.std.specs.FinMap.{from_sorted};
 ghost use Rattle.std.specs.Map.{keys_of};
 ghost use Rattle.iocm_types.specs.SubId.{sub_id_cmp};
@@ -8,6 +8,8 @@ ghost use Rattle.iocm_types.specs.declared.rule.Rule.TheVariants as rule;
 ghost use Rattle.iocm_table.specs.Slots.{rows, HasPlace};
 ghost use Rattle.iocm_model.specs.Change.Refusal.{refusal_at};
 ghost use Rattle.iocm_model.specs.Change.Refusal as refusal;
+ghost use Rattle.iocm_model.specs.Operation.State.{Lives};
+ghost use Rattle.iocm_seats.specs.declared.view_change.ViewChange as changed;
 ghost use Rattle.iocm_seats.specs.Seated.{lives_seated};
 ghost use Rattle.iocm_seats.specs.Settling.{settled_all, lives_met, subchannels_left};
 ghost use Rattle.iocm_tree.specs.Carried.{AreInOrder};
@@ -48,12 +50,12 @@ pub fn seat(
     ensures same { OnErr result (rows sub_id_cmp seats.new ≡ rows sub_id_cmp seats.old) }
     ensures places { (x : sub_id.SubId) → HasPlace sub_id_cmp seats.old x → HasPlace sub_id_cmp seats.new x }
 {
-    if let Some(subchannel) = first_in_the_way(seats, changes, quiet) {
+    let met = list_met(alloc, seats, changes)?;
+    if let Some(subchannel) = first_in_the_way(met.as_slice(), quiet) {
         return Err(Obstacle::Refused(subchannel_refusal(subchannel)));
     }
     make_places(seats, changes)?;
     let own = Table::from_rows(alloc, kept)?;
-    let met = list_met(alloc, seats, changes)?;
     let left = list_left(alloc, changes)?;
     settle_all(seats, changes, &own);
     Ok(Seated {
@@ -62,16 +64,12 @@ pub fn seat(
     })
 }
 
-/// The first subchannel of these changes that isn't quiet, where they are wanted quiet.
-fn first_in_the_way(
-    seats: &Table<SubId, Seat>,
-    changes: &[ViewChange],
-    quiet: Quiet,
-) -> Option<SubId>
-    ensures { result ≡ first_in_the_way quiet (refusal.first_not_quiet (lives_seated (rows sub_id_cmp seats.now)) (map (λ ch. ch.subchannel) changes.now)) }
+/// The first subchannel of some changes that isn't quiet, where they are wanted quiet, by the live records that they meet.
+fn first_in_the_way(met: &[(SubId, Live)], quiet: Quiet) -> Option<SubId>
+    ensures { (lives : Lives) (changes : List changed.ViewChange) → met.now ≡ lives_met lives changes → result ≡ first_in_the_way quiet (refusal.first_not_quiet lives (map (λ ch. ch.subchannel) changes)) }
 {
     match quiet {
-        Quiet::Wanted => first_not_quiet(seats, changes),
+        Quiet::Wanted => first_not_quiet(met),
         Quiet::Whatever => None,
     }
 }

@@ -1,3 +1,4 @@
+pub mod Busy
 pub mod Exchanged
 pub mod Loops
 pub mod Maps

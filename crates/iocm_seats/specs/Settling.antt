@@ -1,5 +1,5 @@
 -- Seats after a change of what is seen.
-use Rattle.std.specs.Prelude.{◌≡◌, Option, List, fold, map, filter, is_some}
+use Rattle.std.specs.Prelude.{◌≡◌, Option, Some, None, List, [], ◌∷◌, fold, map, filter, is_some, if◌then◌else◌}
 use Rattle.std.specs.List.{filter_map, AllByRecursion}
 use Rattle.std.specs.Option.{option_map}
 use Rattle.std.specs.FinMap.{get}
@@ -11,6 +11,7 @@ use Rattle.iocm_table.specs.Slots.{Stored, HasPlace}
 use Rattle.iocm_model.specs.Operation.State.{Lives, Views}
 use Rattle.iocm_model.specs.Change.Edit.{live_of_altered, lives_after_edit}
 use Rattle.iocm_model.specs.Change.Maps.{with_value}
+use Rattle.iocm_model.specs.Change.Refusal.{is_not_quiet}
 use Rattle.iocm_seats.specs.declared.seat.Seat.{Seat}
 use Rattle.iocm_seats.specs.declared.view_change.ViewChange.{ViewChange}
 use Rattle.iocm_seats.specs.Seated.{Seats, views_seated, lives_seated}
@@ -40,6 +41,11 @@ subchannels_left changes = map (λ (ch : ViewChange). ch.subchannel) (filter (λ
 -- the live records at the subchannels of changes, those of subchannels that have one
 abbrev pub lives_met : Lives → List ViewChange → List (SubId × Live)
 lives_met lives changes = filter_map (λ (ch : ViewChange). option_map (λ (l : Live). (ch.subchannel, l)) (get lives ch.subchannel)) changes
+
+-- the subchannel of the first of these live records that isn't quiet
+abbrev pub first_busy : List (SubId × Live) → Option SubId
+first_busy [] = None
+first_busy (row ∷ met) = if is_not_quiet (Some row.1) then Some row.0 else first_busy met
 
 -- seats that are settled by all changes between what they show and other views show these, and have the live records after an edit
 abbrev pub SettledSeatsShow : Type 0

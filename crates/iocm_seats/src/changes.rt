@@ -16,7 +16,7 @@ ghost use Rattle.iocm_seats.specs.Changes.{candidates, changes_between, AreCandi
 use crate::reading::view_of;
 use crate::{Seat, ViewChange};
 use iocm_config::Config;
-use iocm_derive::{copy_view, view_at};
+use iocm_derive::view_at;
 use iocm_numbers::Numbers;
 use iocm_table::Table;
 use iocm_types::{Image, NumberCell, SubId, View};
@@ -114,12 +114,12 @@ fn change_at<A: Allocator, B: Allocator, C: Allocator>(
 {
     let before = view_of(tried.seats, *subchannel);
     let after = view_at(tried.config, tried.numbers, *subchannel);
-    if is_same(before, after.as_ref()) {
+    if is_same(before.as_ref(), after.as_ref()) {
         return None;
     }
     Some(ViewChange {
         subchannel: *subchannel,
-        before: copy_sight(before),
+        before,
         after,
     })
 }
@@ -132,15 +132,5 @@ fn is_same(before: Option<&View>, after: Option<&View>) -> bool
         (Some(old), Some(new)) => old == new,
         (None, None) => true,
         _ => false,
-    }
-}
-
-/// The same sight once more.
-fn copy_sight(sight: Option<&View>) -> Option<View>
-    ensures { result ≡ option_copied sight.entry }
-{
-    match sight {
-        Some(view) => Some(copy_view(view)),
-        None => None,
     }
 }

@@ -10,6 +10,7 @@
 #![tactic(auto)]
 
 mod changes;
+mod compact_view;
 mod exchanging;
 mod laws;
 mod met;
@@ -22,6 +23,7 @@ mod tests;
 mod view_change;
 
 pub use changes::{Tried, list_changes};
+pub use compact_view::CompactView;
 pub use exchanging::exchange;
 pub use laws::{exchanged_seats_show, settled_seats_show};
 pub use met::{first_not_quiet, list_left, list_met};

@@ -1,11 +1,12 @@
-ghost use Rattle.std.specs.Prelude.{◌≡◌, not, map, IfOk};
+ghost use Rattle.std.specs.Prelude.{◌≡◌, List, Some, map, IfOk};
 ghost use Rattle.iocm_types.specs.SubId.{sub_id_cmp};
 ghost use Rattle.iocm_table.specs.Slots.{rows};
-ghost use Rattle.std.specs.FinMap.{get};
 ghost use Rattle.std.specs.Map.{keys_of};
 ghost use Rattle.iocm_model.specs.Change.Refusal as refusal;
 ghost use Rattle.iocm_seats.specs.Seated.{lives_seated};
-ghost use Rattle.iocm_seats.specs.Settling.{lives_met, subchannels_left};
+ghost use Rattle.iocm_model.specs.Operation.State.{Lives};
+ghost use Rattle.iocm_seats.specs.declared.view_change.ViewChange as changed;
+ghost use Rattle.iocm_seats.specs.Settling.{lives_met, first_busy, subchannels_left};
 
 use crate::reading::live_at;
 use crate::{Seat, ViewChange};
@@ -14,29 +15,30 @@ use iocm_table::Table;
 use iocm_types::{Live, Phase, SubId};
 use std::alloc::{AllocError, Allocator};
 
-/// The first subchannel of these changes whose live record isn't quiet, if there is one.
-pub fn first_not_quiet<A: Allocator>(
-    seats: &Table<SubId, Seat, A>,
-    changes: &[ViewChange],
-) -> Option<SubId>
-    ensures { result ≡ refusal.first_not_quiet (lives_seated (rows sub_id_cmp seats.now)) (map (λ ch. ch.subchannel) changes.now) }
+/// The first of the subchannels of some changes whose live record isn't quiet, if there is one, by the live records that they meet.
+pub fn first_not_quiet(met: &[(SubId, Live)]) -> Option<SubId>
+    ensures { (lives : Lives) (changes : List changed.ViewChange) → met.now ≡ lives_met lives changes → result ≡ refusal.first_not_quiet lives (map (λ ch. ch.subchannel) changes) }
 {
-    for change in changes {
-        if is_not_quiet(seats, change.subchannel) {
-            return Some(change.subchannel);
+    first_busy(met)
+}
+
+/// The subchannel of the first of these live records that isn't quiet, if there is one.
+fn first_busy(met: &[(SubId, Live)]) -> Option<SubId>
+    ensures { result ≡ first_busy met.now }
+{
+    for row in met {
+        if is_busy(&row.1) {
+            return Some(row.0);
         }
     }
     None
 }
 
-/// Whether a subchannel has a live record that isn't quiet.
-fn is_not_quiet<A: Allocator>(seats: &Table<SubId, Seat, A>, subchannel: SubId) -> bool
-    ensures { result ≡ refusal.is_not_quiet (get (lives_seated (rows sub_id_cmp seats.now)) subchannel) }
+/// Whether a live record isn't quiet.
+fn is_busy(live: &Live) -> bool
+    ensures { result ≡ refusal.is_not_quiet (Some live.now) }
 {
-    match live_at(seats, subchannel) {
-        Some(live) => !matches!(live.phase, Phase::Idle),
-        None => false,
-    }
+    !matches!(live.phase, Phase::Idle)
 }
 
 /// The live records at the subchannels of these changes, of those that have one.

@@ -8,7 +8,7 @@ ghost use Rattle.iocm_model.specs.Machine.View.{views};
 ghost use Rattle.iocm_seats.specs.Seated.{fresh_seat};
 ghost use Rattle.iocm_seats.specs.Listing.{image_seats, record_seats};
 
-use crate::Seat;
+use crate::{CompactView, Seat};
 use iocm_config::Config;
 use iocm_derive::ImageSight;
 use iocm_live::fresh;
@@ -125,6 +125,7 @@ fn list_seen<A: Allocator, C: Allocator>(
         return Ok(());
     };
     let live = fresh(view.pim);
+    let view = CompactView::new(&view);
     listed.push((subchannel, Seat { view, live }))?;
     Ok(())
 }

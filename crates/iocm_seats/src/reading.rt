@@ -1,6 +1,5 @@
 ghost use Rattle.std.specs.Prelude.{◌≡◌};
 ghost use Rattle.std.specs.FinMap.{get};
-ghost use Rattle.std.specs.Option.{option_copied};
 ghost use Rattle.iocm_types.specs.SubId.{sub_id_cmp};
 ghost use Rattle.iocm_table.specs.Slots.{rows};
 ghost use Rattle.iocm_seats.specs.Seated.{views_seated, lives_seated};
@@ -11,11 +10,11 @@ use iocm_types::{Live, SubId, View};
 use std::alloc::Allocator;
 
 /// What is seen at a subchannel, if it has a seat.
-pub fn view_of<A: Allocator>(seats: &Table<SubId, Seat, A>, subchannel: SubId) -> Option<&View>
-    ensures { option_copied result ≡ get (views_seated (rows sub_id_cmp seats.now)) subchannel }
+pub fn view_of<A: Allocator>(seats: &Table<SubId, Seat, A>, subchannel: SubId) -> Option<View>
+    ensures { result ≡ get (views_seated (rows sub_id_cmp seats.now)) subchannel }
 {
     match seats.get(&subchannel) {
-        Some(seat) => Some(&seat.view),
+        Some(seat) => Some(seat.view.to_view()),
         None => None,
     }
 }

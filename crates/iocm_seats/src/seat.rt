@@ -1,10 +1,11 @@
-use iocm_types::{Live, View};
+use crate::CompactView;
+use iocm_types::Live;
 
 /// What is kept at a subchannel that is there: what its image sees there, and its live record. The word is own.
 #[derive(Debug, Drop)]
 pub struct Seat {
     /// What the image sees.
-    pub view: View,
+    pub view: CompactView,
     /// What the subchannel remembers.
     pub live: Live,
 }

@@ -8,8 +8,7 @@ ghost use Rattle.iocm_model.specs.Change.Edit.{live_of_altered};
 ghost use Rattle.iocm_model.specs.Change.Maps.{with_value};
 ghost use Rattle.iocm_seats.specs.Settling.{seat_after, settled_all, HavePlaces};
 
-use crate::{Seat, ViewChange};
-use iocm_derive::copy_view;
+use crate::{CompactView, Seat, ViewChange};
 use iocm_live::fresh;
 use iocm_table::Table;
 use iocm_types::{Live, SubId, View};
@@ -60,7 +59,7 @@ fn settle<A: Allocator>(seats: &mut Table<SubId, Seat, A>, change: &ViewChange, 
     };
     let live = live_after(old.as_ref(), view, own);
     let seat = Seat {
-        view: copy_view(view),
+        view: CompactView::new(view),
         live,
     };
     let _ = seats.put(&change.subchannel, seat);
@@ -83,7 +82,7 @@ fn live_after(old: Option<&Seat>, new: &View, own: Option<Live>) -> Live
 fn own_live(old: &Seat, new: &View) -> Live
     ensures { result ≡ live_of_altered (Some old.now.view) new.now None (Some old.now.live) }
 {
-    if old.view.paths == new.paths {
+    if old.view.to_view().paths == new.paths {
         return old.live;
     }
     Live {

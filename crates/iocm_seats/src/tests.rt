@@ -6,8 +6,8 @@ ghost use Rattle.iocm_types.specs.declared.sub_id.SubId as sub_id;
 ghost use Rattle.iocm_table.specs.Slots.{rows};
 
 use crate::{
-    Seat, Tried, ViewChange, exchange, first_not_quiet, list_changes, list_left, list_met, live_at,
-    make_places, open_seats, settle_all, view_of,
+    CompactView, Seat, Tried, ViewChange, exchange, first_not_quiet, list_changes, list_left,
+    list_met, live_at, make_places, open_seats, settle_all, view_of,
 };
 use iocm_config::Config;
 use iocm_live::fresh;
@@ -135,7 +135,7 @@ fn seated(alloc: Global) -> Result<Table<SubId, Seat>, Fail> {
     let mut seats = Table::new(alloc);
     seats.room(there)?;
     let seat = Seat {
-        view: view(0x80),
+        view: CompactView::new(&view(0x80)),
         live: live(5),
     };
     let _ = seats.put(&there, seat);
@@ -155,7 +155,7 @@ fn gone_offline() -> Result<ViewChange, Fail> {
 /// Whether a subchannel has a seat that shows the device, with a path-available mask, and has a live record.
 fn has_seat(seats: &Table<SubId, Seat>, there: &SubId, available: u8, wanted: &Live) -> bool {
     let shown = match view_of(seats, *there) {
-        Some(seen) => *seen == view(available),
+        Some(seen) => seen == view(available),
         None => false,
     };
     shown && live_at(seats, *there).as_ref() == Some(wanted)
@@ -280,8 +280,8 @@ fn what_changes_meet_and_leave_is_listed(rt: HostRuntime) -> Result<(), Fail> {
     let change = gone_offline()?;
     let changes = [change];
     let seats = seated(rt.alloc())?;
-    assert_eq!(rt; first_not_quiet(&seats, changes.as_slice()), Some(there));
     let met = list_met(rt.alloc(), &seats, changes.as_slice())?;
+    assert_eq!(rt; first_not_quiet(met.as_slice()), Some(there));
     assert_eq!(rt; met.as_slice(), [(there, live(5))].as_slice());
     let left = list_left(rt.alloc(), changes.as_slice())?;
     assert_eq!(rt; left.len(), 1);

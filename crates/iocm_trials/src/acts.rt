@@ -1,6 +1,6 @@
-use crate::machine::{entry, machine};
 use iocm_plant::Plant;
 use iocm_tree::Edit;
+use iocm_trial_machines::{entry, machine};
 use iocm_types::{Io, Key, Order, Place, Refused, SubId};
 use std::alloc::Global;
 use std::test::Fail;

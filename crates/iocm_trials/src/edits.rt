@@ -3,13 +3,14 @@ ghost use Rattle.iocm_plant.specs.TakingBack.{CanUnapply};
 
 use crate::acts::Act::{Add, Delete, End, Modify, Number, Order, Seen};
 use crate::acts::{first_wrong, refused};
-use crate::machine::{BASE, about, busy, device, enabled, entry, machine, place, subchannel, unit};
 use crate::rounds::{force, take_back};
-use crate::sight::{is_same, look_at};
 use iocm_numbers::NumberChange;
 use iocm_plant::{Plant, Touched};
 use iocm_seats::ViewChange;
 use iocm_tree::Edit;
+use iocm_trial_machines::{
+    BASE, about, busy, device, enabled, entry, is_same, look_at, machine, place, subchannel, unit,
+};
 use iocm_types::Order::{Cancel, Start, Test};
 use iocm_types::{DevNo, Io, Refused, Rule, ScswBits, SubId};
 use std::alloc::Global;
@@ -98,21 +99,34 @@ fn delete(alloc: Global, plant: &mut Plant, number: u16) -> Result<Edit, Fail>
     }
 }
 
-/// The answer of a machine to the edit that adds the device 2000.
-fn add_2000(alloc: Global, plant: &mut Plant) -> Result<Option<Refused>, Fail> {
+/// Adds the device 2000.
+fn add_2000(alloc: Global, plant: &mut Plant) -> Result<(), Fail> {
     let other = entry(alloc, DEVICE_2000, &device(0x2000)).ok_or("no device")?;
-    Ok(refused(alloc, plant, Edit::add(alloc, other)))
+    if refused(alloc, plant, Edit::add(alloc, other)).is_some() {
+        return Err(Fail::from("the device 2000 is not added"));
+    }
+    Ok(())
+}
+
+/// Deletes the device 1001, and gives its number to 2000. The answer is the edit that takes the deletion back.
+fn give_away(alloc: Global, plant: &mut Plant) -> Result<Edit, Fail> {
+    let inverse = delete(alloc, plant, 0x1001)?;
+    add_2000(alloc, plant)?;
+    Ok(inverse)
+}
+
+/// Whether an edit brings a number along that is taken, for the device 1001.
+fn finds_it_taken(alloc: Global, plant: &mut Plant, edit: Edit) -> bool {
+    refused(alloc, plant, edit) == Some(about(Rule::E4, &device(0x1001)))
 }
 
 #[test]
 fn a_number_that_comes_along_may_be_taken(rt: HostRuntime) -> Result<(), Fail> {
     let mut plant = machine(rt.alloc(), BASE)?;
-    let inverse = delete(rt.alloc(), &mut plant, 0x1001)?;
-    assert_eq!(rt; add_2000(rt.alloc(), &mut plant)?, None);
+    let inverse = give_away(rt.alloc(), &mut plant)?;
     assert_eq!(rt; plant.numbers().number_of(place(0x2000)), Some(1));
     let before = look_at(rt.alloc(), &plant)?;
-    let why = refused(rt.alloc(), &mut plant, inverse);
-    assert_eq!(rt; why, Some(about(Rule::E4, &device(0x1001))));
+    assert!(rt; finds_it_taken(rt.alloc(), &mut plant, inverse));
     assert!(rt; is_same(&look_at(rt.alloc(), &plant)?, &before));
     Ok(())
 }

@@ -1,6 +1,6 @@
 //! The machine in operation, tried by its calls alone: there is nothing here to call.
 //!
-//! A machine is opened of a deck (`machine.rt`), and what all of it shows is a value (`sight.rt`). A trial is a list of acts with what they
+//! Machines, and all that they show as a value, are those of `iocm_trial_machines`. A trial is a list of acts with what they
 //! answer (`acts.rt`): orders and events (`orders.rt`), single edits (`edits.rt`). Or it performs edits one on the other and takes them back
 //! (`rounds.rt`), where memory may be wanted once: those that lead from one deck to another (`shapes.rt`), and those that are drawn by
 //! chance, after each of which a machine that is opened afresh of the same records must show the same (`runs.rt`).
@@ -11,8 +11,6 @@ mod acts;
 #[cfg(test)]
 mod edits;
 #[cfg(test)]
-mod machine;
-#[cfg(test)]
 mod orders;
 #[cfg(test)]
 mod rounds;
@@ -20,5 +18,3 @@ mod rounds;
 mod runs;
 #[cfg(test)]
 mod shapes;
-#[cfg(test)]
-mod sight;

@@ -1,7 +1,7 @@
 use crate::acts::Act::{Add, Begin, End, Order, Seen};
 use crate::acts::first_wrong;
-use crate::machine::{BASE, enabled, name, stored, subchannel};
 use bitflags::Flags;
+use iocm_trial_machines::{BASE, enabled, name, stored, subchannel};
 use iocm_types::Order::{Cancel, Clear, Halt, Start, Store, Test};
 use iocm_types::{Chpid, Css, Io, Key, ScswBits};
 use std::test::Fail;

@@ -1,9 +1,9 @@
 ghost use Rattle.std.specs.Prelude.{IfOk};
 ghost use Rattle.iocm_plant.specs.TakingBack.{CanUnapply};
 
-use crate::sight::{Sight, is_same, look_at};
 use iocm_plant::{Applied, Plant};
 use iocm_tree::Edit;
+use iocm_trial_machines::{Sight, is_same, look_at_last};
 use iocm_types::{At, Refused, Rule};
 use std::alloc::Global;
 use std::test::Fail;
@@ -22,14 +22,6 @@ pub trait Edits {
 
     /// Whether more edits may follow on a machine after an edit; fails where the machine isn't as it must be.
     fn goes_on(&mut self, alloc: Global, plant: &Plant) -> Result<bool, Fail>;
-}
-
-/// All that a machine shows, where memory may be wanted once.
-pub fn look_at_last(alloc: Global, plant: &Plant) -> Result<Sight, Fail> {
-    match look_at(alloc, plant) {
-        Ok(seen) => Ok(seen),
-        Err(_) => Ok(look_at(alloc, plant)?),
-    }
 }
 
 /// An equal edit, where memory may be wanted once.

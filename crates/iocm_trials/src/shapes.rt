@@ -1,10 +1,11 @@
-use crate::machine::{BASE, configuration, device, image, machine, name, unit};
-use crate::rounds::{Edits, forth_and_back, look_at_last};
-use crate::sight::sees_alike;
+use crate::rounds::{Edits, forth_and_back};
 use iocm_config::Config;
 use iocm_plant::Plant;
 use iocm_records::Record;
 use iocm_tree::Edit;
+use iocm_trial_machines::{
+    BASE, configuration, device, image, look_at_last, machine, name, sees_alike, unit,
+};
 use iocm_types::{Chpid, Css, Key};
 use std::alloc::{AllocError, Global};
 use std::test::Fail;

@@ -16,8 +16,8 @@ use Rattle.iocm_seats.proofs.settling.settle.Goals as goal
 
 pub returns-clause-seats : goal.returns-clause-seats
 returns-clause-seats g c = c.put.ensures.rows
-    ∙ ap (λ (m : Seats). insert m c.args.change.now.subchannel (record { view = c.copy_view.result; live = c.live_after-live.result })) c.take-old.ensures.rows
-    ∙ insert_over sub_ids_total sub_ids_exact (rows sub_id_cmp c.args.seats.now) c.args.change.now.subchannel (record { view = c.copy_view.result; live = c.live_after-live.result })
+    ∙ ap (λ (m : Seats). insert m c.args.change.now.subchannel (record { view = c.new.result; live = c.live_after-live.result })) c.take-old.ensures.rows
+    ∙ insert_over sub_ids_total sub_ids_exact (rows sub_id_cmp c.args.seats.now) c.args.change.now.subchannel (record { view = c.new.result; live = c.live_after-live.result })
     ∙ ap (λ (s : Seat). insert (rows sub_id_cmp c.args.seats.now) c.args.change.now.subchannel s) is
     ∙ ap (λ (o : Option View). with_value (rows sub_id_cmp c.args.seats.now) c.args.change.now.subchannel
     (seat_after (get (rows sub_id_cmp c.args.seats.now) c.args.change.now.subchannel) o c.args.own)) (sym c.in-Some.is)
@@ -28,8 +28,8 @@ returns-clause-seats g c = c.put.ensures.rows
     seat_of : View → Live → Seat
     seat_of v l = record { view = v; live = l }
 
-    is : seat_of c.copy_view.result c.live_after-live.result ≡ seat_of c.in-Some.view (live_of_altered
+    is : seat_of c.new.result c.live_after-live.result ≡ seat_of c.in-Some.view (live_of_altered
         (option_map (λ (s : Seat). s.view) (get (rows sub_id_cmp c.args.seats.now) c.args.change.now.subchannel)) c.in-Some.view c.args.own
         (option_map (λ (s : Seat). s.live) (get (rows sub_id_cmp c.args.seats.now) c.args.change.now.subchannel)))
-    is = λ i. seat_of (c.copy_view.ensures i) ((c.live_after-live.ensures
+    is = λ i. seat_of (c.new.ensures i) ((c.live_after-live.ensures
         ∙ ap (λ (o : Option Seat). live_of_altered (option_map (λ (s : Seat). s.view) o) c.in-Some.view c.args.own (option_map (λ (s : Seat). s.live) o)) old) i)

@@ -1,7 +1,9 @@
 use Rattle.std.proofs.Common.{sym, ap, ◌∙◌}
 use Rattle.std.specs.Option.{option_copied_mut}
+use Rattle.iocm_types.specs.declared.view.View.{View}
 use Rattle.iocm_types.specs.SubId.{sub_id_cmp}
 use Rattle.iocm_table.specs.Slots.{rows}
+use Rattle.iocm_model.specs.Operation.Orders.{answer_of, live_after}
 use Rattle.iocm_model.specs.Operation.Step as step
 use Rattle.iocm_model.specs.Operation.Step.{order_answer, subchannel_in, after_step}
 use Rattle.iocm_seats.specs.declared.seat.Seat.{Seat}
@@ -35,7 +37,7 @@ invariant_of-self-2 c =
     (changed_seat c.get_mut.result c.in-Some.seat c.in-Some.is c.self.inside.seats c.args.subchannel (c.get_mut.follows.lender seat) seat (c.get_mut.follows.holds seat)).rows
 
 pub returns-clause-answer : goal.returns-clause-answer
-returns-clause-answer c = c.order.ensures.answer ∙ sym (ap (λ (p : Operating). order_answer c.args.order (subchannel_in p.state c.args.subchannel)) (sym c.self.view_is)
+returns-clause-answer c = c.order.ensures.answer ∙ ap (λ (v : View). answer_of c.args.order v c.in-Some.seat.now.live) c.to_view.ensures ∙ sym (ap (λ (p : Operating). order_answer c.args.order (subchannel_in p.state c.args.subchannel)) (sym c.self.view_is)
     ∙ ap (order_answer c.args.order) (one_there c.self.inside.config.records c.self.inside.numbers.numbers c.self.inside.index (rows sub_id_cmp c.self.inside.seats) c.self.invariant
     c.args.subchannel c.in-Some.seat.now (sym c.get_mut.ensures.value ∙ ap option_copied_mut c.in-Some.is)))
 
@@ -45,7 +47,7 @@ returns-clause-state c =
     state_after_step c.self.inside.config.records c.self.inside.numbers.numbers c.self.inside.index (rows sub_id_cmp c.self.inside.seats) c.self.invariant c.args.subchannel
     (rows sub_id_cmp (c.get_mut.follows.lender seat)) c.in-Some.seat.now c.order.new.live (sym c.get_mut.ensures.value ∙ ap option_copied_mut c.in-Some.is)
     (changed_seat c.get_mut.result c.in-Some.seat c.in-Some.is c.self.inside.seats c.args.subchannel (c.get_mut.follows.lender seat) seat (c.get_mut.follows.holds seat)).rows
-    (step.order c.args.order) c.order.ensures.left
+    (step.order c.args.order) (c.order.ensures.left ∙ ap (λ (v : View). live_after c.args.order v c.in-Some.seat.now.live) c.to_view.ensures)
     ∙ ap (λ (p : Operating). after_step c.args.subchannel (step.order c.args.order) p.state) c.self.view_is
 
 pub returns-clause-room : goal.returns-clause-room

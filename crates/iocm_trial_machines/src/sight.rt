@@ -1,9 +1,9 @@
 use iocm_canonical::canonical_deck;
-use iocm_derive::copy_view;
 use iocm_plant::Plant;
 use iocm_records::RecordBody;
 use iocm_types::{DevNo, Image, Key, Live, NumberCell, Place, SubId, View};
 use std::alloc::{AllocError, Global};
+use std::test::Fail;
 
 /// A number cell and the device that has it.
 #[derive(Clone, Copy, Debug, PartialEq, Eq, Drop)]
@@ -42,6 +42,14 @@ pub fn look_at(alloc: Global, plant: &Plant) -> Result<Sight, AllocError> {
         numbers,
         subchannels,
     })
+}
+
+/// All that a machine shows, where memory may be wanted once.
+pub fn look_at_last(alloc: Global, plant: &Plant) -> Result<Sight, Fail> {
+    match look_at(alloc, plant) {
+        Ok(seen) => Ok(seen),
+        Err(_) => Ok(look_at(alloc, plant)?),
+    }
 }
 
 /// Whether two machines show the same, and whether their subchannels remember the same.
@@ -85,7 +93,7 @@ fn is_seen_alike(seen: &Seen, other: &Plant) -> bool {
         number,
     };
     match other.view(there) {
-        Some(view) => *view == seen.view,
+        Some(view) => view == seen.view,
         None => false,
     }
 }
@@ -178,7 +186,6 @@ fn note_seen(
     device: DevNo,
 ) -> Result<(), AllocError> {
     if let Some(view) = plant.view(*there) {
-        let view = copy_view(view);
         rows.push(Seen {
             subchannel: *there,
             device,

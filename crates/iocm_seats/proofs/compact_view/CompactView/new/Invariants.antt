@@ -1,0 +1,10 @@
+-- The first places have the paths so far, of at most eight.
+use Rattle.std.proofs.Common.{◌≡◌, ◌≤◌, length, take}
+use Rattle.iocm_seats.proofs.compact_view.CompactView.new.Given as goal
+
+abbrev pub invariant-loop-path : goal.invariant-loop-path
+invariant-loop-path l = record {
+  count : l.len ≡ l.path-index;
+  kept : take l.path-index l.list ≡ take l.path-index l.path-items;
+  most : length l.path-items ≤ 8;
+}
