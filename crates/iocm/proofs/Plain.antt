@@ -35,8 +35,8 @@ states_deck words s =
     (s.1, s.2 ∷ s.3, s.4, ap mistakes s.5 ∙ read.0, ap stated s.5 ∙ read.1)
 
 -- an error where there is no mistake is want of memory
-pub only_memory : (words : List Text) (e : Error) → StatesDeck words → HasKind (mistakes words) e → kind_of e ≡ OutOfMemory
-only_memory words e s h = go (subst (λ kinds. HasKind kinds e) s.3 h)
+pub only_memory : (words : List Text) (e : Error) → mistakes words ≡ [] → HasKind (mistakes words) e → kind_of e ≡ OutOfMemory
+only_memory words e none h = go (subst (λ kinds. HasKind kinds e) none h)
   where
     go : HasKind [] e → kind_of e ≡ OutOfMemory
     go (inl memory) = memory

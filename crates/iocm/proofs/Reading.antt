@@ -1,5 +1,5 @@
 -- What clap's clauses say of the command line.
-use Rattle.std.proofs.Common.{Result, Ok, Err, IfErr, IsErr, IfSome, IsSome, subst, ◌≡◌, List, [], ◌∷◌, Option, None, Some, is_some, option_map, option_and_then, codes, refl, inl, inr, sym, ap, ◌∙◌, true, false}
+use Rattle.std.proofs.Common.{Result, Ok, Err, IfErr, IsErr, IfSome, IsSome, subst, ◌≡◌, List, [], ◌∷◌, Option, None, Some, is_some, option_map, option_and_then, refl, inl, inr, sym, ap, ◌∙◌, true, false}
 use Rattle.std.specs.Prelude.{Box}
 use Rattle.std.specs.Result.{IsErrAnd}
 use Rattle.std.specs.Borrow.{Bor}
@@ -13,7 +13,7 @@ use Rattle.clap.proofs.WalkLemmas.{first_value-rows}
 use Rattle.clap.specs.Kinds.{or_else}
 use Rattle.clap.specs.declared.error.Error.{Error}
 use Rattle.clap.proofs.OnLiterals.{clap_on_literals}
-use Rattle.iocm.specs.CommandLine.{argument_of, iocm_app, mistakes, stated}
+use Rattle.iocm.specs.CommandLine.{argument_of, iocm_app, mistakes}
 
 -- one of these kinds is one of these or, where there is none, of others
 pub has_kind_or : (kinds more : Kinds) (e : Error) → HasKind kinds e → HasKind (or_else kinds more) e
@@ -42,11 +42,10 @@ is_plain : is_simple iocm_app ≡ true
 unfolding clap_on_literals
 is_plain = refl
 
--- so what the words state is the subcommand that clap entered, and its argument
+-- so the command that the words name is the one that clap entered, with its arguments
 pub is_entered : (app : App) (words : List Text) (m : ArgMatches) → app ≡ iocm_app → HasMatchesOf app words m
-    → argument_of (subcommand_rows_of m) ≡ stated words
-is_entered app words m same has =
-    ap argument_of ((has (ap is_simple same ∙ is_plain)).1 ∙ ap (λ (a : App). subcommand_of a words) same)
+    → subcommand_rows_of m ≡ subcommand_of iocm_app words
+is_entered app words m same has = (has (ap is_simple same ∙ is_plain)).1 ∙ ap (λ (a : App). subcommand_of a words) same
 
 -- the name and the rows of the subcommand that was used
 used : {Z : Type 0} (o : Option (Box SubCommand Z)) (name : Text) (rows : List Row)
@@ -55,24 +54,24 @@ used : {Z : Type 0} (o : Option (Box SubCommand Z)) (name : Text) (rows : List R
 used None name rows named has = cc
 used (Some b) name rows named has = cc
 
--- the subcommand that was used has this name, and its argument this value
-pub argument_is : (m : ArgMatches) (f : Found) (name : Text) (value : Option Text) → subcommand_name_of m ≡ Some name
-    → option_map (λ (p : Text × List Row). p.1) (subcommand_rows_of m) ≡ Some (rows_of f) → value ≡ first_value f (codes "DECK")
-    → argument_of (subcommand_rows_of m) ≡ Some (name, value)
-argument_is m f name value named rows found = ap argument_of (used (out-ArgMatches m).subcommand name (rows_of f) named rows)
-    ∙ ap (λ (o : Option Text). Some (name, o)) (sym (found ∙ first_value-rows f (codes "DECK")))
+-- the subcommand that was used has this name, and one of its arguments this value
+pub argument_is : (m : ArgMatches) (f : Found) (name id : Text) (value : Option Text) → subcommand_name_of m ≡ Some name
+    → option_map (λ (p : Text × List Row). p.1) (subcommand_rows_of m) ≡ Some (rows_of f) → value ≡ first_value f id
+    → argument_of id (subcommand_rows_of m) ≡ Some (name, value)
+argument_is m f name id value named rows found = ap (argument_of id) (used (out-ArgMatches m).subcommand name (rows_of f) named rows)
+    ∙ ap (λ (o : Option Text). Some (name, o)) (sym (found ∙ first_value-rows f id))
 
--- where that value is that of a deck, a deck has it
-pub has_deck : (stated : Option (Text × Option Text)) (name : Text) (deck : Option (Bor Text))
-    → stated ≡ Some (name, option_map (λ (d : Bor Text). d.now) deck) → IfSome deck (λ d. stated ≡ Some (name, Some d.now))
-has_deck stated name None is = tt
-has_deck stated name (Some d) is = is
+-- where that value is what was read, a text that was read has it
+pub has_value : (stated : Option (Text × Option Text)) (name : Text) (read : Option (Bor Text))
+    → stated ≡ Some (name, option_map (λ (d : Bor Text). d.now) read) → IfSome read (λ d. stated ≡ Some (name, Some d.now))
+has_value stated name None is = tt
+has_value stated name (Some d) is = is
 
--- and where it is a text, there is a deck
-pub is_deck : (stated : Option (Text × Option Text)) (name : Text) (deck : Option (Bor Text))
-    → stated ≡ Some (name, option_map (λ (d : Bor Text). d.now) deck) → (text : Text) → stated ≡ Some (name, Some text) → IsSome deck
-is_deck stated name None is text same = ap (λ (o : Option (Text × Option Text)). is_some (option_and_then (λ (p : Text × Option Text). p.1) o)) (sym is ∙ same)
-is_deck stated name (Some d) is text same = refl
+-- and where it is a text, one was read
+pub is_value : (stated : Option (Text × Option Text)) (name : Text) (read : Option (Bor Text))
+    → stated ≡ Some (name, option_map (λ (d : Bor Text). d.now) read) → (text : Text) → stated ≡ Some (name, Some text) → IsSome read
+is_value stated name None is text same = ap (λ (o : Option (Text × Option Text)). is_some (option_and_then (λ (p : Text × Option Text). p.1) o)) (sym is ∙ same)
+is_value stated name (Some d) is text same = refl
 
 -- an error that a call passes on has what it had
 pub passed_on : {X : Type 0} (result : Result X Error) (given : Error) (P : Error → Type 0) → P given

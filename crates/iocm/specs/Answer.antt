@@ -1,18 +1,15 @@
--- What a command prints of its deck.
+-- What a command prints of its deck, and of its change deck if it has one.
 use Rattle.std.specs.Prelude.{ℕ, List}
+use Rattle.iocm_apply.specs.Apply.{applied}
 use Rattle.iocm_console.specs.Command.{answered}
 use Rattle.iocm_console.specs.Opening.{Shown}
-use Rattle.iocm_console.specs.declared.command.DeckCommand.{DeckCommand}
 use Rattle.iocm_console.specs.declared.command.DeckCommand.TheVariants as deck_command
 use Rattle.iocm.specs.declared.command.Command.{Command}
-use Rattle.iocm.specs.declared.command.Command.TheVariants.{Check, Show, Write}
+use Rattle.iocm.specs.declared.command.Command.TheVariants.{Check, Show, Write, Apply}
 
--- what a command does with its deck
-abbrev pub deck_command_of : Command → DeckCommand
-deck_command_of (Check deck) = deck_command.Check
-deck_command_of (Show deck) = deck_command.Show
-deck_command_of (Write deck) = deck_command.Write
-
--- what a command prints of the bytes of its deck, and how it ends
-abbrev pub printed : Command → List ℕ → Shown
-printed command = answered (deck_command_of command)
+-- what a command prints of the bytes of its deck and of its change deck, and how it ends
+abbrev pub printed : Command → List ℕ → List ℕ → Shown
+printed (Check deck) bytes lines = answered deck_command.Check bytes
+printed (Show deck) bytes lines = answered deck_command.Show bytes
+printed (Write deck) bytes lines = answered deck_command.Write bytes
+printed (Apply deck change heap) bytes lines = applied bytes lines

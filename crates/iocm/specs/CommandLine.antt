@@ -1,20 +1,35 @@
 -- What a command line means, as `clap` reads it.
-use Rattle.std.specs.Prelude.{◌≡◌, ◌==◌, ◌⊎◌, ℕ, Bool, true, false, List, [], ◌∷◌, Option, Some, codes, option_map}
-use Rattle.clap.specs.Words.{App, Row, Rule, Text, Kinds, new_app, new_rule, with_rule, with_subcommand, subcommand_of, first_of, fault_of}
+use Rattle.std.specs.Prelude.{◌≡◌, ◌==◌, ◌⊎◌, ℕ, Bool, true, false, List, [], ◌∷◌, Option, Some, None, codes, option_map, ⊤}
+use Rattle.std.specs.Str.Parse.{digits_value, without_leading_plus}
+use Rattle.clap.specs.Words.{App, Row, Rule, Text, Kinds, IsUnsignedIn, new_app, new_rule, with_rule, with_subcommand, subcommand_of, first_of, fault_of}
 use Rattle.clap.specs.Kinds.{or_else}
 use Rattle.clap.specs.declared.builder.command.Command as clap
 use Rattle.clap.specs.declared.builder.command.Command.TheViews.{out-Command}
+use Rattle.clap.specs.declared.builder.value_parser.ValueParser.TheVariants.{Unsigned}
 use Rattle.clap.specs.declared.error.kind.ErrorKind.TheVariants.{MissingRequiredArgument}
 use Rattle.iocm.specs.declared.command.Command.{Command}
-use Rattle.iocm.specs.declared.command.Command.TheVariants.{Check, Show, Write}
+use Rattle.iocm.specs.declared.command.Command.TheVariants.{Check, Show, Write, Apply}
 
--- the deck, which is required
-abbrev pub deck_rule : Rule
-deck_rule = record (new_rule (codes "DECK")) { required = true }
+-- a file, which is required: the deck, or the change deck
+abbrev pub file_rule : Text → Rule
+file_rule name = record (new_rule name) { required = true }
+
+-- the size of a heap in bytes, by an option: 16 to 16777216, where it is not given 262144
+abbrev pub heap_rule : Rule
+heap_rule = record (new_rule (codes "heap")) {
+  long = Some (codes "heap");
+  value_names = 1;
+  defaults = codes "262144" ∷ [];
+  parser = Some (Unsigned 16 16777216);
+}
 
 -- a command of this name, with its deck
 abbrev pub deck_app : Text → App
-deck_app name = with_rule (new_app name) deck_rule
+deck_app name = with_rule (new_app name) (file_rule (codes "DECK"))
+
+-- `apply`, with its deck, its change deck and the size of its heap
+abbrev pub apply_app : App
+apply_app = with_rule (with_rule (deck_app (codes "apply")) (file_rule (codes "CHANGE"))) heap_rule
 
 -- whether an argument of the command is one of all commands below it too
 abbrev pub has_globals : clap.Command → Bool
@@ -30,21 +45,50 @@ with_deck_command app name = with_subcommand app (deck_app name).top
 
 -- the program, with its commands
 abbrev pub iocm_app : App
-iocm_app = with_deck_command (with_deck_command (with_deck_command bare_app (codes "check")) (codes "show")) (codes "write")
+iocm_app = with_subcommand (with_deck_command (with_deck_command (with_deck_command bare_app (codes "check")) (codes "show")) (codes "write")) apply_app.top
 
--- a command's name, and the value of its argument
-abbrev pub argument_of : Option (Text × List Row) → Option (Text × Option Text)
-argument_of = option_map (λ p. (p.0, first_of (codes "DECK") p.1))
+-- a command's name, and the value of one of its arguments
+abbrev pub argument_of : Text → Option (Text × List Row) → Option (Text × Option Text)
+argument_of id = option_map (λ p. (p.0, first_of id p.1))
 
--- the command that the words name, and the value of its argument
+-- the command that the words name, and the value of its deck
 abbrev pub stated : List Text → Option (Text × Option Text)
-stated words = argument_of (subcommand_of iocm_app words)
+stated words = argument_of (codes "DECK") (subcommand_of iocm_app words)
 
--- a command by its name and its argument
+-- a command by its name and its deck
 abbrev pub words_of : Command → Text × Option Text
 words_of (Check deck) = (codes "check", Some deck.now)
 words_of (Show deck) = (codes "show", Some deck.now)
 words_of (Write deck) = (codes "write", Some deck.now)
+words_of (Apply deck change heap) = (codes "apply", Some deck.now)
+
+-- the change deck of a command, if it has one
+abbrev pub change_of : Command → Option Text
+change_of (Apply deck change heap) = Some change.now
+change_of _ = None
+
+-- a text that gives the size of a heap: a decimal number of 16 to 16777216
+abbrev pub IsSizeText : Text → Type 0
+IsSizeText text = IsUnsignedIn 16 16777216 text
+
+-- the text gives this size
+abbrev pub GivesSize : Text → ℕ → Type 0
+GivesSize text size = IsSizeText text × (size ≡ digits_value 10 (without_leading_plus text))
+
+-- the command and its matches are those of `apply` with this deck, this change deck and this text of a heap's size
+abbrev pub IsApplyOf : Option (Text × List Row) → Text → Text → Text → Type 0
+IsApplyOf named deck change size = (argument_of (codes "DECK") named ≡ Some (codes "apply", Some deck))
+    × (argument_of (codes "CHANGE") named ≡ Some (codes "apply", Some change))
+    × (argument_of (codes "heap") named ≡ Some (codes "apply", Some size))
+
+-- they are so with those of `apply`; any other command has none
+abbrev pub HasChange : Option (Text × List Row) → Command → Type 0
+HasChange named (Apply deck change heap) = (size : Text) × IsApplyOf named deck.now change.now size × GivesSize size heap
+HasChange named _ = ⊤
+
+-- the words state the change deck of a command and the size of its heap, if it has them
+abbrev pub StatesChange : List Text → Command → Type 0
+StatesChange words c = HasChange (subcommand_of iocm_app words) c
 
 -- the commands whose one argument is a deck
 abbrev pub IsDeckCommand : Text → Type 0
@@ -62,7 +106,28 @@ mistakes_or_missing words = or_else (mistakes words) (MissingRequiredArgument �
 abbrev pub StatesDeck : List Text → Type 0
 StatesDeck words = (name deck : Text) × IsDeckCommand name × (mistakes words ≡ []) × (stated words ≡ Some (name, Some deck))
 
+-- they are those of `apply` with a deck, a change deck and a size
+abbrev pub IsApply : Option (Text × List Row) → Type 0
+IsApply named = (deck change size : Text) × IsApplyOf named deck change size × IsSizeText size
+
+-- the words have no mistake, and state `apply` with these
+abbrev pub StatesApply : List Text → Type 0
+StatesApply words = (mistakes words ≡ []) × IsApply (subcommand_of iocm_app words)
+
 -- the program's name, `check`, `show` or `write`, and the name of a deck that doesn't begin with a hyphen
 abbrev pub NamesDeck : List Text → Type 0
 NamesDeck words = (program name : Text) × (first : ℕ) × (rest : List ℕ) × IsDeckCommand name
     × (words ≡ program ∷ name ∷ (first ∷ rest) ∷ []) × ((first == 45) ≡ false)
+
+-- a name that doesn't begin with a hyphen
+abbrev pub IsPlainName : Text → Type 0
+IsPlainName name = (first : ℕ) × (rest : List ℕ) × (name ≡ first ∷ rest) × ((first == 45) ≡ false)
+
+-- no option, or `--heap` and a size
+abbrev pub IsHeapOption : List Text → Type 0
+IsHeapOption options = (options ≡ []) ⊎ ((size : Text) × IsSizeText size × (options ≡ codes "--heap" ∷ size ∷ []))
+
+-- the program's name, `apply`, the names of a deck and of a change deck that don't begin with a hyphen, and a heap's size or none
+abbrev pub NamesApply : List Text → Type 0
+NamesApply words = (program deck change : Text) × (options : List Text) × IsPlainName deck × IsPlainName change × IsHeapOption options
+    × (words ≡ program ∷ codes "apply" ∷ deck ∷ change ∷ options)

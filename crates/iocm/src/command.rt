@@ -1,11 +1,10 @@
-ghost use Rattle.std.specs.Prelude.{◌≡◌, [], Some, IsSome, IfOk, IfErr, IfSome, false, map};
-ghost use Rattle.clap.specs.Words.{HasKind, Text, app_of, kind_of, subcommand_rows_of};
-ghost use Rattle.iocm.specs.Answer.{deck_command_of};
-ghost use Rattle.iocm.specs.CommandLine.{iocm_app, argument_of, bare_app, deck_app, has_globals, stated, with_deck_command, words_of, mistakes, mistakes_or_missing, IsDeckCommand, NamesDeck, StatesDeck};
+ghost use Rattle.std.specs.Prelude.{◌≡◌, [], Some, IsSome, IfOk, IfErr, IfSome, codes, false, map, option_map};
+ghost use Rattle.clap.specs.Words.{HasKind, Text, app_of, kind_of, rule_of, subcommand_rows_of};
+ghost use Rattle.iocm.specs.CommandLine.{iocm_app, apply_app, argument_of, bare_app, change_of, deck_app, file_rule, has_globals, heap_rule, stated, with_deck_command, words_of, mistakes, mistakes_or_missing, GivesSize, HasChange, IsApply, IsDeckCommand, IsSizeText, NamesApply, NamesDeck, StatesApply, StatesChange, StatesDeck};
 
+use clap::builder::ValueParser;
 use clap::error::ErrorKind;
 use clap::{Arg, ArgMatches, Error};
-use iocm_console::DeckCommand;
 use std::alloc::{AllocError, Global};
 use std::convert::AsStr;
 
@@ -13,11 +12,24 @@ use std::convert::AsStr;
 #[derive(Clone, Copy, Debug, PartialEq, Eq)]
 pub enum Command<'a> {
     /// Check the rules of the deck in this file, and print how many records it has.
-    Check { deck: &'a str },
+    Check {
+        deck: &'a str,
+    },
     /// Print the table of subchannels of the deck in this file.
-    Show { deck: &'a str },
+    Show {
+        deck: &'a str,
+    },
     /// Print the canonical deck of the deck in this file.
-    Write { deck: &'a str },
+    Write {
+        deck: &'a str,
+    },
+    /// Activate the change deck in the second file on the machine of the deck in the first one; the change tree is read in a heap of
+    /// so many bytes.
+    Apply {
+        deck: &'a str,
+        change: &'a str,
+        heap: u32,
+    },
 }
 
 impl<'a> Command<'a> {
@@ -27,23 +39,51 @@ impl<'a> Command<'a> {
     {
         match self {
             Command::Check { deck } | Command::Show { deck } | Command::Write { deck } => deck,
+            Command::Apply { deck, .. } => deck,
         }
     }
 
-    /// What is to be printed of that deck.
-    pub fn deck_command(self) -> DeckCommand
-        ensures { result ≡ deck_command_of self.entry }
+    /// The name of the file that the change deck is in, of a command that has one.
+    pub fn change(self) -> Option<&'a str>
+        ensures { option_map (λ change. change.now) result ≡ change_of self.entry }
     {
         match self {
-            Command::Check { .. } => DeckCommand::Check,
-            Command::Show { .. } => DeckCommand::Show,
-            Command::Write { .. } => DeckCommand::Write,
+            Command::Check { .. } | Command::Show { .. } | Command::Write { .. } => None,
+            Command::Apply { change, .. } => Some(change),
         }
     }
 }
 
 /// The version of the program, which `--version` prints.
 const VERSION: &str = "0.2.0";
+
+/// The least heap in bytes that a change tree is read in.
+const LEAST_HEAP: u32 = 16;
+
+/// The largest.
+const LARGEST_HEAP: u32 = 16_777_216;
+
+/// An argument of this name: a file, which is required.
+fn file<'a>(alloc: Global, name: &'a str, help: &'a str) -> Arg<'a>
+    ensures rule { rule_of result ≡ file_rule name.now }
+    ensures local { result.global ≡ false }
+{
+    Arg::new(alloc, name).required(true).help(help)
+}
+
+/// The option `--heap`: the size in bytes of the heap that a change tree is read in.
+fn heap<'a>(alloc: Global) -> Arg<'a>
+    ensures rule { rule_of result ≡ heap_rule }
+    ensures local { result.global ≡ false }
+{
+    let size = ValueParser::unsigned(u64::from(LEAST_HEAP), u64::from(LARGEST_HEAP));
+    Arg::new(alloc, "heap")
+        .long("heap")
+        .value_name("BYTES")
+        .value_parser(size)
+        .default_value("262144")
+        .help("The heap that the change tree is read in: 16 to 16777216 bytes")
+}
 
 /// A command that reads a deck, which is its one argument.
 fn deck_command<'a>(
@@ -54,10 +94,23 @@ fn deck_command<'a>(
     ensures app { IfOk result (λ c. app_of c ≡ deck_app name.now) }
     ensures local { IfOk result (λ c. has_globals c ≡ false) }
 {
-    let deck = Arg::new(alloc, "DECK")
-        .required(true)
-        .help("A configuration deck: the file of its input statements");
+    let help = "A configuration deck: the file of its input statements";
+    let deck = file(alloc, "DECK", help);
     clap::Command::new(alloc, name).about(about).arg(deck)
+}
+
+/// The command that reads a deck and a change deck.
+fn apply_command<'a>(alloc: Global) -> Result<clap::Command<'a>, AllocError>
+    ensures app { IfOk result (λ c. app_of c ≡ apply_app) }
+    ensures local { IfOk result (λ c. has_globals c ≡ false) }
+{
+    let about =
+        "Activates a change deck on the machine of a configuration deck and prints the table afterwards";
+    let help = "A change deck: the file of the statements of a change";
+    let change = file(alloc, "CHANGE", help);
+    deck_command(alloc, "apply", about)?
+        .arg(change)?
+        .arg(heap(alloc))
 }
 
 /// A program with one more command that reads a deck.
@@ -96,21 +149,55 @@ fn iocm<'a>(alloc: Global) -> Result<clap::Command<'a>, AllocError>
     let program = bare_iocm(alloc)?;
     let program = with_deck_command(alloc, program, "check", check)?;
     let program = with_deck_command(alloc, program, "show", show)?;
-    with_deck_command(alloc, program, "write", write)
+    let program = with_deck_command(alloc, program, "write", write)?;
+    program.subcommand(apply_command(alloc)?)
+}
+
+/// The value of an argument of the command `name`, where the words name that command.
+fn value_of<'a>(matches: &ArgMatches<'a>, name: &str, argument: &str) -> Option<&'a str>
+    ensures some { IfSome result (λ value. argument_of argument.now (subcommand_rows_of matches.now) ≡ Some (name.now, Some value.now)) }
+    ensures only { (value : Text) → argument_of argument.now (subcommand_rows_of matches.now) ≡ Some (name.now, Some value) → IsSome result }
+{
+    matches.subcommand_matches(name)?.get_str(argument)
 }
 
 /// The deck of the command `name`, where the words name that command.
 fn deck_of<'a>(matches: &ArgMatches<'a>, name: &str) -> Option<&'a str>
-    ensures some { IfSome result (λ deck. argument_of (subcommand_rows_of matches.now) ≡ Some (name.now, Some deck.now)) }
-    ensures only { (deck : Text) → argument_of (subcommand_rows_of matches.now) ≡ Some (name.now, Some deck) → IsSome result }
+    ensures some { IfSome result (λ deck. argument_of (codes "DECK") (subcommand_rows_of matches.now) ≡ Some (name.now, Some deck.now)) }
+    ensures only { (deck : Text) → argument_of (codes "DECK") (subcommand_rows_of matches.now) ≡ Some (name.now, Some deck) → IsSome result }
 {
-    matches.subcommand_matches(name)?.get_str("DECK")
+    value_of(matches, name, "DECK")
 }
 
-/// The command that the words name, with its deck.
+/// The size of a heap that a text gives, if it gives one.
+fn heap_size(text: &str) -> Option<u32>
+    ensures some { IfSome result (GivesSize text.now) }
+    ensures only { IsSizeText text.now → IsSome result }
+{
+    match text.parse::<u32>() {
+        Ok(size) if LEAST_HEAP <= size && size <= LARGEST_HEAP => Some(size),
+        _ => None,
+    }
+}
+
+/// The command `apply`, where the words name it, with its decks and the size of its heap.
+fn apply_in<'a>(matches: &ArgMatches<'a>) -> Option<Command<'a>>
+    ensures some { IfSome result (λ c. argument_of (codes "DECK") (subcommand_rows_of matches.now) ≡ Some (words_of c)) }
+    ensures change { IfSome result (HasChange (subcommand_rows_of matches.now)) }
+    ensures only { IsApply (subcommand_rows_of matches.now) → IsSome result }
+{
+    let deck = deck_of(matches, "apply")?;
+    let change = value_of(matches, "apply", "CHANGE")?;
+    let heap = heap_size(value_of(matches, "apply", "heap")?)?;
+    Some(Command::Apply { deck, change, heap })
+}
+
+/// The command that the words name, with its deck and what else it takes.
 fn command_in<'a>(matches: &ArgMatches<'a>) -> Option<Command<'a>>
-    ensures some { IfSome result (λ c. argument_of (subcommand_rows_of matches.now) ≡ Some (words_of c)) }
-    ensures only { (name deck : Text) → IsDeckCommand name → argument_of (subcommand_rows_of matches.now) ≡ Some (name, Some deck) → IsSome result }
+    ensures some { IfSome result (λ c. argument_of (codes "DECK") (subcommand_rows_of matches.now) ≡ Some (words_of c)) }
+    ensures change { IfSome result (HasChange (subcommand_rows_of matches.now)) }
+    ensures only { (name deck : Text) → IsDeckCommand name → argument_of (codes "DECK") (subcommand_rows_of matches.now) ≡ Some (name, Some deck) → IsSome result }
+    ensures only_apply { IsApply (subcommand_rows_of matches.now) → IsSome result }
 {
     if let Some(deck) = deck_of(matches, "check") {
         return Some(Command::Check { deck });
@@ -121,19 +208,23 @@ fn command_in<'a>(matches: &ArgMatches<'a>) -> Option<Command<'a>>
     if let Some(deck) = deck_of(matches, "write") {
         return Some(Command::Write { deck });
     }
-    None
+    apply_in(matches)
 }
 
 /// The command of the words of a command line, of which the first is the program's name.
 ///
 /// Help, the version and every mistake in the words are `clap`'s errors. Want of memory is one of the kind `OutOfMemory`, and
 /// nothing else keeps words that have no mistake and state a deck from being understood: `check`, `show` or `write` and a name that
-/// doesn't begin with a hyphen are such words, and `show -- -x.deck` too.
+/// doesn't begin with a hyphen are such words, and `show -- -x.deck` too. So it is with `apply`, a deck, a change deck and the size
+/// of a heap, which `--heap` gives, or its default.
 pub fn command_of<'a, S: AsStr>(alloc: Global, words: &'a [S]) -> Result<Command<'a>, Error>
     ensures command { IfOk result (λ c. stated (map S.text words.entry.now) ≡ Some (words_of c)) }
+    ensures change { IfOk result (StatesChange (map S.text words.entry.now)) }
     ensures accepted { IfOk result (λ _. mistakes (map S.text words.entry.now) ≡ []) }
     ensures understood { IfErr result (λ e. StatesDeck (map S.text words.entry.now) → kind_of e ≡ ErrorKind.OutOfMemory) }
+    ensures understood_apply { IfErr result (λ e. StatesApply (map S.text words.entry.now) → kind_of e ≡ ErrorKind.OutOfMemory) }
     ensures named { IfErr result (λ e. NamesDeck (map S.text words.entry.now) → kind_of e ≡ ErrorKind.OutOfMemory) }
+    ensures named_apply { IfErr result (λ e. NamesApply (map S.text words.entry.now) → kind_of e ≡ ErrorKind.OutOfMemory) }
     ensures mistaken { IfErr result (HasKind (mistakes_or_missing (map S.text words.entry.now))) }
 {
     let mut iocm = iocm(alloc)?;

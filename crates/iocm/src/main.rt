@@ -1,11 +1,15 @@
 //! `iocm`, a dynamic I/O reconfiguration manager for a channel subsystem.
 //!
 //! `iocm check DECK` reads a configuration deck, checks its rules and says how many records it has; `iocm show DECK`
-//! prints the table of its subchannels, `iocm write DECK` the deck in its canonical order and forms. The exit status is 0 where a command did what it was asked to do, 1 where
+//! prints the table of its subchannels, `iocm write DECK` the deck in its canonical order and forms. `iocm apply DECK CHANGE`
+//! activates a change deck on the machine of a configuration deck, and prints how many subchannels it altered and the table
+//! afterwards; it reads the change tree in a heap of as many bytes as `--heap` gives.
+//!
+//! The exit status is 0 where a command did what it was asked to do, 1 where
 //! a text was refused (one line on standard output says why), 2 where the command line is not understood, and 3
 //! where a file cannot be read or the output cannot be written (`fault L5` or `fault L6` on standard error).
 //!
-//! Begin with `command.rt`, the command line, and `answer.rt`, which call is whose; all else is in `iocm_console`.
+//! Begin with `command.rt`, the command line, and `answer.rt`, which call is whose; all else is in `iocm_console` and `iocm_apply`.
 #![tactic(auto)]
 
 mod answer;
@@ -18,12 +22,12 @@ use iocm_columns::Device;
 use iocm_console::{ConsoleError, Output, refuse};
 use iocm_types::Fault;
 use std::alloc::AllocError;
-use std::io::BufWriter;
+use std::io::{BufWriter, Read};
 use std::process::ExitCode;
 use std::rt::{Env, Files};
 use std::{env, fs, io};
 
-/// How often a deck is read at most.
+/// How often each deck is read at most.
 const MOST_READS: u64 = 1_048_576;
 
 /// The exit status where the command line is not understood.
@@ -60,20 +64,44 @@ fn words<R: Env + AllocGlobal>(rt: &R) -> io::Result<Vec<String>> {
     Ok(env::args(rt)?.collect(rt.alloc())?)
 }
 
-/// Does a command on the deck in its file.
+/// Does a command on the decks in its files: they are opened, in the order of the words, before one of them is read.
 fn perform<R: Files + Print + AllocGlobal>(
     rt: &R,
     command: Command<'_>,
 ) -> Result<ExitCode, ConsoleError> {
-    let Ok(file) = fs::open(rt, command.deck()) else {
+    let Ok(deck) = fs::open(rt, command.deck()) else {
         return Err(ConsoleError::Read);
     };
+    let Some(name) = command.change() else {
+        return perform_on(rt, command, deck, b"".as_slice());
+    };
+    let Ok(change) = fs::open(rt, name) else {
+        return Err(ConsoleError::Read);
+    };
+    perform_on(rt, command, deck, change)
+}
+
+/// Does a command on a deck, and on a change deck if it has one.
+fn perform_on<R: Print + AllocGlobal, D: Read + Drop, C: Read + Drop>(
+    rt: &R,
+    command: Command<'_>,
+    deck: D,
+    change: C,
+) -> Result<ExitCode, ConsoleError> {
     let Ok(writer) = BufWriter::new(rt.alloc(), io::writer(rt)) else {
         return refuse_memory(rt);
     };
-    let mut deck = Device::new(file);
+    let mut deck = Device::new(deck);
+    let mut change = Device::new(change);
     let mut output = Output::new(writer);
-    let status = print_answer(rt.alloc(), command, &mut deck, MOST_READS, &mut output)?;
+    let status = print_answer(
+        rt.alloc(),
+        command,
+        &mut deck,
+        &mut change,
+        MOST_READS,
+        &mut output,
+    )?;
     Ok(ExitCode::from(status.code()))
 }
 

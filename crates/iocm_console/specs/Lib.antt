@@ -1,4 +1,5 @@
 pub mod Again
+pub mod Changed
 pub mod Check
 pub mod Command
 pub mod Lines

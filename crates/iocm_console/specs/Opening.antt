@@ -1,6 +1,7 @@
 -- A deck that is opened: what it describes is a configuration that keeps the rules, or it is refused.
 use Rattle.std.specs.Prelude.{◌≡◌, ◌⊎◌, ℕ, List, ◌∷◌, [], ◌++◌, codes, Option, None, Some, Result, Ok, Err}
 use Rattle.iocm_types.specs.declared.fault.Fault.{Fault}
+use Rattle.iocm_types.specs.declared.refused.Refused as refusal
 use Rattle.iocm_types.specs.Fault.{◌>>=◌, memory}
 use Rattle.iocm_types.specs.Key.{key_text}
 use Rattle.iocm_types.specs.Rule.{rule_text}
@@ -17,7 +18,7 @@ use Rattle.iocm_console.specs.declared.status.Status.{Status}
 use Rattle.iocm_console.specs.declared.status.Status.TheVariants.{Refused}
 use Rattle.iocm_console.specs.declared.output.Output.{Output}
 use Rattle.iocm_console.specs.Output.{Prints}
-use Rattle.iocm_console.specs.Refusal.{refusal_line, breach_line}
+use Rattle.iocm_console.specs.Refusal.{refusal_line, breach_line, change_refusal_line}
 
 -- what a command prints, and how it ends
 pub record Shown : Type 0 where
@@ -42,6 +43,10 @@ refused fault = record { text = refusal_line fault; status = Refused }
 
 abbrev pub breached : Breach → Shown
 breached b = record { text = breach_line b; status = Refused }
+
+-- of a change
+abbrev pub declined : refusal.Refused → Shown
+declined why = record { text = change_refusal_line why; status = Refused }
 
 abbrev pub unless_breached : Option Breach → Shown → Shown
 unless_breached (Some b) shown = breached b

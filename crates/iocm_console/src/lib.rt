@@ -16,6 +16,7 @@
 mod accepted;
 mod canonical;
 mod cells;
+mod change_refusal;
 mod command;
 mod digits;
 mod error;
@@ -29,12 +30,14 @@ mod table;
 #[cfg(test)]
 mod tests;
 
+pub use cells::{CellDevice, gather_cells};
+pub use change_refusal::ChangeRefusal;
 pub use command::{DeckCommand, answer_deck};
 pub use error::ConsoleError;
 pub use laws::what_is_written_is_read_again;
-pub use opening::refuse;
+pub use opening::{answer_unread, read_config, read_statements, refuse, refuse_change};
 pub use output::Output;
 pub use refusal::{BreachRefusal, Refusal};
 pub use row::{write_heading, write_row};
 pub use status::Status;
-pub use table::write_table;
+pub use table::{write_lines, write_table};

@@ -5,7 +5,7 @@ ghost use Rattle.iocm_model.specs.Machine.Numbering as model;
 ghost use Rattle.iocm_model.specs.Rules.FirstBreach.{first_breach};
 ghost use Rattle.iocm_columns.specs.Device.{unreadable};
 ghost use Rattle.iocm_console.specs.Output.{has_failed, FailedToWrite};
-ghost use Rattle.iocm_console.specs.Opening.{configuration_in, records_in, statements_in, refused, breached, Says};
+ghost use Rattle.iocm_console.specs.Opening.{configuration_in, records_in, statements_in, refused, breached, declined, Says};
 
 use crate::{ConsoleError, Output, Status};
 use iocm_columns::{Card, join};
@@ -15,7 +15,7 @@ use iocm_numbers::{Numbers, opening};
 use iocm_records::{Record, from_statements};
 use iocm_rules::{Breach, check};
 use iocm_statements::{Statement, parse};
-use iocm_types::{Fault, Rule};
+use iocm_types::{Fault, Refused, Rule};
 use std::alloc::{AllocError, Global};
 use std::io::Write;
 
@@ -39,10 +39,17 @@ pub fn open_cards(alloc: Global, cards: &[Card]) -> Result<Opened, Fault>
     ensures configuration { Gives (λ o. o.config.records) result (configuration_in cards.now) }
     ensures numbers { IfOk result (λ o. o.numbers.numbers ≡ model.opening o.config.records) }
 {
-    let records = read_records(alloc, cards)?;
-    let config = Config::from_records(alloc, records)?;
+    let config = read_config(alloc, cards)?;
     let numbers = opening(alloc, &config)?;
     Ok(Opened { config, numbers })
+}
+
+/// The configuration of the lines of a deck, or its first fault.
+pub fn read_config(alloc: Global, cards: &[Card]) -> Result<Config, Fault>
+    ensures { Gives (λ c. c.records) result (configuration_in cards.now) }
+{
+    let records = read_records(alloc, cards)?;
+    Ok(Config::from_records(alloc, records)?)
 }
 
 /// The records of the lines of a deck, no two of one key, or its first fault. The statements are let go.
@@ -55,7 +62,7 @@ fn read_records(alloc: Global, cards: &[Card]) -> Result<Vec<Record>, Fault>
 }
 
 /// The statements of the lines of a deck, or its first fault. The lines as they were joined are let go.
-fn read_statements(alloc: Global, cards: &[Card]) -> Result<Vec<Statement>, Fault>
+pub fn read_statements(alloc: Global, cards: &[Card]) -> Result<Vec<Statement>, Fault>
     ensures { Gives (λ v. v.items) result (statements_in cards.now) }
 {
     let joined = join(alloc, cards)?;
@@ -106,6 +113,17 @@ pub fn refuse_breach<W: Write>(
     ensures fault { IfErr result (FailedToWrite output.new) }
 {
     output.breach(breach)?;
+    output.flush()?;
+    Ok(Status::Refused)
+}
+
+/// Prints why a change was refused. Can't answer want of memory.
+pub fn refuse_change<W: Write>(why: Refused, output: &mut Output<W>) -> Result<Status, ConsoleError>
+    ensures text { IfOk result (Says W.contents output.old output.new (declined why)) }
+    ensures works { OnOk result (has_failed output.new ≡ has_failed output.old) }
+    ensures fault { IfErr result (FailedToWrite output.new) }
+{
+    output.change_refusal(why)?;
     output.flush()?;
     Ok(Status::Refused)
 }

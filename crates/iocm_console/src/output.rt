@@ -3,12 +3,13 @@ ghost use Rattle.std.specs.Io.KnownBytes.{Keeps};
 ghost use Rattle.iocm_model.specs.Machine.Table.{line_of, heading};
 ghost use Rattle.iocm_console.specs.Output.{writer_of, has_failed, Prints, FailedToWrite};
 ghost use Rattle.iocm_console.specs.Check.{accepted_text};
-ghost use Rattle.iocm_console.specs.Refusal.{refusal_line, breach_line};
+ghost use Rattle.iocm_console.specs.Refusal.{refusal_line, breach_line, change_refusal_line};
+ghost use Rattle.iocm_console.specs.Changed.{changed_text};
 
 use crate::row::{write_heading, write_row};
-use crate::{BreachRefusal, ConsoleError, Refusal};
+use crate::{BreachRefusal, ChangeRefusal, ConsoleError, Refusal};
 use iocm_rules::Breach;
-use iocm_types::{Fault, SubId, View};
+use iocm_types::{Fault, Refused, SubId, View};
 use std::io;
 use std::io::Write;
 
@@ -106,6 +107,27 @@ impl<W: Write> Output<W> {
         ensures fault { IfErr result (FailedToWrite self.new) }
     {
         let written = writeln!(self.writer, "accepted {count}");
+        self.note(written)
+    }
+
+    /// Writes that the first change was made, and how many subchannels it altered. Can't answer want of memory.
+    pub fn changed(&mut self, altered: usize) -> Result<(), ConsoleError>
+        ensures text { OnOk result (Prints W.contents self.old self.new (changed_text altered ++ 10 ∷ [])) }
+        ensures works { OnOk result (has_failed self.new ≡ has_failed self.old) }
+        ensures fault { IfErr result (FailedToWrite self.new) }
+    {
+        let written = writeln!(self.writer, "change 1 altered {altered}");
+        self.note(written)
+    }
+
+    /// Writes why a change was refused. Can't answer want of memory.
+    pub(crate) fn change_refusal(&mut self, why: Refused) -> Result<(), ConsoleError>
+        ensures text { OnOk result (Prints W.contents self.old self.new (change_refusal_line why)) }
+        ensures works { OnOk result (has_failed self.new ≡ has_failed self.old) }
+        ensures fault { IfErr result (FailedToWrite self.new) }
+    {
+        let refusal = ChangeRefusal(why);
+        let written = writeln!(self.writer, "{refusal}");
         self.note(written)
     }
 

@@ -43,7 +43,7 @@ pub fn write_table<A: Allocator, B: Allocator, C: Allocator + Drop, W: Write>(
 }
 
 /// Prints the heading and the lines of all images at some number cells. Can't answer want of memory.
-fn write_lines<A: Allocator, W: Write>(
+pub fn write_lines<A: Allocator, W: Write>(
     output: &mut Output<W>,
     config: &Config<A>,
     cells: &[CellDevice],

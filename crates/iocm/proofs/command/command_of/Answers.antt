@@ -1,8 +1,9 @@
-use Rattle.std.proofs.Common.{◌≡◌, ◌∙◌, ◌∷◌, [], List, map}
+use Rattle.std.proofs.Common.{◌≡◌, ◌∙◌, ◌∷◌, [], List, ap, codes, map, subst, sym}
 use Rattle.clap.specs.Words.{Text, HasKind, app_of, kind_of}
 use Rattle.clap.specs.declared.error.kind.ErrorKind.TheVariants.{MissingRequiredArgument, OutOfMemory}
-use Rattle.iocm.specs.CommandLine.{mistakes, mistakes_or_missing, NamesDeck, StatesDeck}
+use Rattle.iocm.specs.CommandLine.{argument_of, mistakes, mistakes_or_missing, IsApply, NamesApply, NamesDeck, StatesApply, StatesDeck}
 use Rattle.iocm.proofs.Plain.{only_memory, states_deck}
+use Rattle.iocm.proofs.PlainApply.{states_apply}
 use Rattle.iocm.proofs.Reading.{has_kind_or, is_accepted, is_entered, is_mistaken, not_some, passed_on}
 use Rattle.iocm.proofs.command.command_of.Goals as goal
 
@@ -11,7 +12,15 @@ returns-in_err-matches-clause-understood g c =
     let words : List Text = map g.S.AsStr.text c.args.words.now in
     let e = c.in_err-matches.field-0.0 in
     passed_on c.from_residual-in_err-matches.result e (λ e. StatesDeck words → kind_of e ≡ OutOfMemory)
-    (λ s. only_memory words e s (is_mistaken (app_of c.in_ok-iocm.iocm) words e c.in_ok-iocm.ensures c.in_err-matches.ensures.kinds))
+    (λ s. only_memory words e s.3 (is_mistaken (app_of c.in_ok-iocm.iocm) words e c.in_ok-iocm.ensures c.in_err-matches.ensures.kinds))
+    c.from_residual-in_err-matches.ensures
+
+pub returns-in_err-matches-clause-understood_apply : goal.returns-in_err-matches-clause-understood_apply
+returns-in_err-matches-clause-understood_apply g c =
+    let words : List Text = map g.S.AsStr.text c.args.words.now in
+    let e = c.in_err-matches.field-0.0 in
+    passed_on c.from_residual-in_err-matches.result e (λ e. StatesApply words → kind_of e ≡ OutOfMemory)
+    (λ s. only_memory words e s.0 (is_mistaken (app_of c.in_ok-iocm.iocm) words e c.in_ok-iocm.ensures c.in_err-matches.ensures.kinds))
     c.from_residual-in_err-matches.ensures
 
 pub returns-in_err-matches-clause-named : goal.returns-in_err-matches-clause-named
@@ -19,7 +28,16 @@ returns-in_err-matches-clause-named g c =
     let words : List Text = map g.S.AsStr.text c.args.words.now in
     let e = c.in_err-matches.field-0.0 in
     passed_on c.from_residual-in_err-matches.result e (λ e. NamesDeck words → kind_of e ≡ OutOfMemory)
-    (λ s. only_memory words e (states_deck words s)
+    (λ s. only_memory words e (states_deck words s).3
+    (is_mistaken (app_of c.in_ok-iocm.iocm) words e c.in_ok-iocm.ensures c.in_err-matches.ensures.kinds))
+    c.from_residual-in_err-matches.ensures
+
+pub returns-in_err-matches-clause-named_apply : goal.returns-in_err-matches-clause-named_apply
+returns-in_err-matches-clause-named_apply g c =
+    let words : List Text = map g.S.AsStr.text c.args.words.now in
+    let e = c.in_err-matches.field-0.0 in
+    passed_on c.from_residual-in_err-matches.result e (λ e. NamesApply words → kind_of e ≡ OutOfMemory)
+    (λ s. only_memory words e (states_apply words s).0
     (is_mistaken (app_of c.in_ok-iocm.iocm) words e c.in_ok-iocm.ensures c.in_err-matches.ensures.kinds))
     c.from_residual-in_err-matches.ensures
 
@@ -40,4 +58,18 @@ returns-clause-named g c = λ s.
     let words : List Text = map g.S.AsStr.text c.args.words.now in
     let t : StatesDeck words = states_deck words s in
     let entered = is_entered (app_of c.in_ok-iocm.iocm) words c.in_ok-matches.matches c.in_ok-iocm.ensures c.in_ok-matches.ensures.ok.2 in
-    absurd (not_some c.command_in.result c.in_default.not-Some (c.command_in.ensures.only t.0 t.1 t.2 (entered ∙ t.4)))
+    absurd (not_some c.command_in.result c.in_default.not-Some
+    (c.command_in.ensures.only t.0 t.1 t.2 (ap (argument_of (codes "DECK")) entered ∙ t.4)))
+
+pub returns-clause-understood_apply : goal.returns-clause-understood_apply
+returns-clause-understood_apply g c = λ s.
+    let words : List Text = map g.S.AsStr.text c.args.words.now in
+    let entered = is_entered (app_of c.in_ok-iocm.iocm) words c.in_ok-matches.matches c.in_ok-iocm.ensures c.in_ok-matches.ensures.ok.2 in
+    absurd (not_some c.command_in.result c.in_default.not-Some (c.command_in.ensures.only_apply (subst IsApply (sym entered) s.1)))
+
+pub returns-clause-named_apply : goal.returns-clause-named_apply
+returns-clause-named_apply g c = λ s.
+    let words : List Text = map g.S.AsStr.text c.args.words.now in
+    let t : StatesApply words = states_apply words s in
+    let entered = is_entered (app_of c.in_ok-iocm.iocm) words c.in_ok-matches.matches c.in_ok-iocm.ensures c.in_ok-matches.ensures.ok.2 in
+    absurd (not_some c.command_in.result c.in_default.not-Some (c.command_in.ensures.only_apply (subst IsApply (sym entered) t.1)))
