@@ -102,7 +102,7 @@ resources_are (unit u ∷ rs) ordered are = resources_are rs ordered.1 (All-tail
 resources_are (device d ∷ rs) ordered are = resources_are rs ordered.1 (All-tail IsGiven (device d) rs are)
 resources_are (online o ∷ rs) ordered are = resources_are rs ordered.1 (All-tail IsGiven (online o) rs are)
 
-nothing_carried : (operation : Operation) → AreCarriedBy operation []
+pub nothing_carried : (operation : Operation) → AreCarriedBy operation []
 nothing_carried operation = record {
   placeable = record { each = All-nil IsPlaceable; apart = λ i j d below within. absurd (omega arith) };
   texts = All-nil (λ (o : CarriedOperand). IsInColumns o.text);

@@ -54,11 +54,11 @@ module _ {A : Type 0} (P : A → Type 0) (fault : Fault) (read : Value → Optio
       by (Some x) is = gives (value text) x is
 
   -- what an operand says that has to be there
-  required_gives : (keyword : List ℕ) (operands : List Operand) → IfOk (required fault read keyword operands) P
+  pub required_gives : (keyword : List ℕ) (operands : List Operand) → IfOk (required fault read keyword operands) P
   required_gives keyword operands = whichever P (or_fault fault (text_under keyword operands)) (read_as fault read) read_gives
 
   -- what an operand says that need not be there, or what counts without it
-  optional_gives : (absent : A) → P absent → (keyword : List ℕ) (operands : List Operand) → IfOk (optional fault read absent keyword operands) P
+  pub optional_gives : (absent : A) → P absent → (keyword : List ℕ) (operands : List Operand) → IfOk (optional fault read absent keyword operands) P
   optional_gives absent is keyword operands = by (text_under keyword operands)
     where
       by : (text : Option (List ℕ)) → IfOk (read_if_there fault read absent text) P

@@ -38,7 +38,7 @@ images_or_none_given s = by (text_under (codes "PARTITION") s.operands)
     by (Some text) = of text (images_of (value text)) refl
 
 -- a deck's RESOURCE statement gives them, or there are none
-machine_images_given : (ss : List Statement) → All IsImage (machine_images ss)
+pub machine_images_given : (ss : List Statement) → All IsImage (machine_images ss)
 machine_images_given [] = All-nil IsImage
 machine_images_given (s ∷ ss) = by (is_resource s.operation) (images_or_none_given s) (machine_images_given ss)
   where

@@ -66,7 +66,7 @@ names_in_one (name ∷ names) are =
 -- ---- lists by channel subsystem
 
 -- items whose texts don't
-abbrev AreInOneCss : List CssText → Type 0
+abbrev pub AreInOneCss : List CssText → Type 0
 AreInOneCss items = All (λ (i : CssText). IsInOneCss i.text) items
 
 texts_in_one : (items : List CssText) → AreInOneCss items → (css : ℕ) → All IsInOneCss (texts_in items css)
@@ -88,7 +88,7 @@ groups_in_one items are (css ∷ all) small =
     (group_in_one css small.0 (texts_in items css) (texts_in_one items are css) (length (texts_in items css) == 0))
     (groups_in_one items are all small.1)
 
-by_css_in_one : (items : List CssText) → AreInOneCss items → IsInOneCss (by_css_text items)
+pub by_css_in_one : (items : List CssText) → AreInOneCss items → IsInOneCss (by_css_text items)
 by_css_in_one items are = list_in_one (flat_map (group_texts items) all_css) (groups_in_one items are all_css all_small)
 
 -- items by channel subsystem, each with a text of its own

@@ -1,0 +1,16 @@
+pub mod Behind
+pub mod Deleted
+pub mod Given
+pub mod LimitKeys
+pub mod Limits
+pub mod Nesting
+pub mod OfDecks
+pub mod Putting
+pub mod ReadKeys
+pub mod ReadRecords
+pub mod ReadTrees
+pub mod Reread
+pub mod Sizes
+pub mod Stated
+pub mod Whole
+pub mod Writable

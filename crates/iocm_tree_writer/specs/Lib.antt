@@ -1,0 +1,4 @@
+pub mod Again
+pub mod Given
+pub mod Leaves
+pub mod Written
