@@ -213,6 +213,67 @@ fn give(numbers: &mut Numbers, place: &Place, number: u16) -> Result<(), Fail>
     Ok(())
 }
 
+/// Gives the number of a device to the device, in a channel subsystem and set.
+fn give_own(numbers: &mut Numbers, in_css: u8, in_set: u8, number: u16) -> Result<(), Fail> {
+    let there = place(in_css, in_set, number)?;
+    give(numbers, &there, number)
+}
+
+/// Gives each of the 65,536 numbers of a channel subsystem and set to the device of the same number.
+fn give_all(numbers: &mut Numbers, in_css: u8, in_set: u8) -> Result<(), Fail> {
+    for number in 0..=u16::MAX {
+        give_own(numbers, in_css, in_set, number)?;
+    }
+    Ok(())
+}
+
+/// The lowest free number of a channel subsystem and set.
+fn lowest(numbers: &Numbers, in_css: u8, in_set: u8) -> Result<Option<u16>, Fail> {
+    let set = SetNo::new(in_set).ok_or("a set")?;
+    Ok(numbers.lowest_free(css(in_css)?, set))
+}
+
+/// Gives some numbers of a channel subsystem and set to the devices of the same numbers.
+fn give_some(numbers: &mut Numbers, in_css: u8, in_set: u8, some: &[u16]) -> Result<(), Fail> {
+    for number in some {
+        give_own(numbers, in_css, in_set, *number)?;
+    }
+    Ok(())
+}
+
+/// The lowest free number of a channel subsystem and set once some numbers are given there.
+fn lowest_beside(alloc: Global, some: &[u16]) -> Result<Option<u16>, Fail> {
+    let mut numbers = Numbers::new(alloc)?;
+    give_some(&mut numbers, 1, 2, some)?;
+    lowest(&numbers, 1, 2)
+}
+
+#[test]
+fn the_lowest_free_number_is_found_between_others(rt: HostRuntime) -> Result<(), Fail> {
+    let given = [0, 1, 3];
+    assert_eq!(rt; lowest_beside(rt.alloc(), given.as_slice())?, Some(2));
+    Ok(())
+}
+
+/// The lowest free number of a set of a channel subsystem once all are given in its set 1.
+fn lowest_beside_all(alloc: Global, in_set: u8) -> Result<Option<u16>, Fail> {
+    let mut numbers = Numbers::new(alloc)?;
+    give_all(&mut numbers, 0, 1)?;
+    lowest(&numbers, 0, in_set)
+}
+
+#[test]
+fn no_number_is_free_where_all_are_given(rt: HostRuntime) -> Result<(), Fail> {
+    assert_eq!(rt; lowest_beside_all(rt.alloc(), 1)?, None);
+    Ok(())
+}
+
+#[test]
+fn all_numbers_of_one_set_leave_another_free(rt: HostRuntime) -> Result<(), Fail> {
+    assert_eq!(rt; lowest_beside_all(rt.alloc(), 2)?, Some(0));
+    Ok(())
+}
+
 #[test]
 fn a_device_that_is_not_reached_lets_its_number_go(rt: HostRuntime) -> Result<(), Fail> {
     let config = three_units(rt.alloc())?;
