@@ -24,4 +24,4 @@ pub use image_sight::ImageSight;
 pub use masks::{pam, pim};
 pub use paths::path_list;
 pub use sight::sees;
-pub use view::{copy_view, image_view, view_at};
+pub use view::{image_view, view_at};

@@ -5,7 +5,6 @@ ghost use Rattle.iocm_model.specs.Machine.View as model;
 ghost use Rattle.iocm_records.specs.Meaning.{device_of};
 
 use crate::lookup::{find_device, find_image};
-use crate::paths::copy_paths;
 use crate::reach::{ImageRecords, Reach};
 use crate::sight::is_candidate;
 use crate::units_view::{units_view, view_by};
@@ -70,16 +69,4 @@ fn view_if_seen<A: Allocator, R: Reach<A>>(reach: &R, device: &DeviceFields<A>) 
     }
     let by = units_view(reach, device.units.as_slice());
     view_by(reach, &by, device)
-}
-
-/// The same view once more. Can't answer want of memory.
-pub fn copy_view(view: &View) -> View
-    ensures { result ≡ view.now }
-{
-    View {
-        device: view.device,
-        paths: copy_paths(&view.paths),
-        pim: view.pim,
-        pam: view.pam,
-    }
 }
