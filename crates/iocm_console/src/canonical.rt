@@ -25,13 +25,13 @@ pub fn write_canonical<W: Write>(
     ensures fault { IfErr result (FailedToWrite output.new) }
 {
     match canonical_deck(alloc, config) {
-        Ok(bytes) => write_deck(output, &bytes),
+        Ok(bytes) => write_text(output, &bytes),
         Err(error) => refuse(Fault::from(error), output),
     }
 }
 
-/// Prints the bytes of a deck. Can't answer want of memory.
-fn write_deck<W: Write>(output: &mut Output<W>, bytes: &[u8]) -> Result<Status, ConsoleError>
+/// Prints these bytes, and is done. Can't answer want of memory.
+pub fn write_text<W: Write>(output: &mut Output<W>, bytes: &[u8]) -> Result<Status, ConsoleError>
     ensures text { IfOk result (Says W.contents output.old output.new (record { text = bytes.now; status = Done })) }
     ensures works { OnOk result (has_failed output.new ≡ has_failed output.old) }
     ensures fault { IfErr result (FailedToWrite output.new) }

@@ -3,7 +3,7 @@ use std::fmt;
 
 /// A subchannel as it is printed: channel subsystem, image, set and number with dots between.
 #[derive(Clone, Copy, Debug)]
-struct SubchannelName(SubId);
+pub struct SubchannelName(pub SubId);
 
 impl fmt::Display for SubchannelName {
     ghost use Rattle.std.specs.Prelude.{Some};

@@ -30,8 +30,9 @@ mod table;
 #[cfg(test)]
 mod tests;
 
+pub use canonical::write_text;
 pub use cells::{CellDevice, gather_cells};
-pub use change_refusal::ChangeRefusal;
+pub use change_refusal::{ChangeRefusal, SubchannelName};
 pub use command::{DeckCommand, answer_deck};
 pub use error::ConsoleError;
 pub use laws::what_is_written_is_read_again;

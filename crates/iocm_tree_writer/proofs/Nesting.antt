@@ -6,7 +6,7 @@ use Rattle.iocm_statements.specs.declared.operation.Operation.{Operation}
 use Rattle.iocm_statements.specs.declared.operation.Operation.TheVariants as operation
 use Rattle.iocm_statements.specs.declared.statement.Statement.{Statement}
 use Rattle.iocm_tree.specs.Carried.{Carried}
-use Rattle.iocm_tree.specs.Trees.{CarriedTree, CarriedParts, leaf, row, group, choose, none, part, parts_from}
+use Rattle.iocm_tree.specs.Trees.{CarriedTree, CarriedParts, leaf, row, group, choose, none, part, parts_from, plain_parts, plain_tree}
 use Rattle.iocm_treetext.specs.declared.kind.Kind.{Kind}
 use Rattle.iocm_treetext.specs.declared.kind.Kind.TheVariants.{Row, Group, Choose}
 use Rattle.iocm_treetext.specs.Leaves.{edits_of, node_of_edits}
@@ -133,16 +133,16 @@ next_within kind before p others top os within =
 closed_are_put : (kind : Kind) (t : CarriedTree) (ps : CarriedParts) → node_of_kind kind (trees_in ps) ≡ t → (top : List CarriedTree) (os : List OpenNode)
     → IsWithin (size_of t) top os
     → (IsWithin (size_of (node_of_kind kind (trees_in ps))) top os
-    → (line : ℕ) → Puts (lines_in ps) (reading top (open_node kind line [] ∷ os)) (reading top (open_node kind line (trees_in ps) ∷ os)))
-    → Puts (enclosed (opening kind) (lines_in ps)) (reading top os) (with_node t top os)
+    → (line : ℕ) → Puts (lines_in (plain_parts ps)) (reading top (open_node kind line [] ∷ os)) (reading top (open_node kind line (trees_in ps) ∷ os)))
+    → Puts (enclosed (opening kind) (lines_in (plain_parts ps))) (reading top os) (with_node t top os)
 closed_are_put kind t ps same top os within inner =
     let here = subst (λ x. IsWithin (size_of x) top os) (sym same) within in
-    subst (λ x. Puts (enclosed (opening kind) (lines_in ps)) (reading top os) (with_node x top os)) same
-    (enclosed_are_put kind (lines_in ps) (trees_in ps) top os here (inner here))
+    subst (λ x. Puts (enclosed (opening kind) (lines_in (plain_parts ps))) (reading top os) (with_node x top os)) same
+    (enclosed_are_put kind (lines_in (plain_parts ps)) (trees_in ps) top os here (inner here))
 
 mutual
   pub tree_is_put : ReadsLeafAgain → (t : CarriedTree) → IsGivenTree t → (top : List CarriedTree) (os : List OpenNode) → IsWithin (size_of t) top os
-      → Puts (tree_lines t) (reading top os) (with_node t top os)
+      → Puts (tree_lines (plain_tree t)) (reading top os) (with_node t top os)
   tree_is_put leaf_again (leaf c) is top os within = leaf_is_put leaf_again c is top os within
   tree_is_put leaf_again (row ps) is top os within =
       closed_are_put Row (row ps) ps (ap row (parts_again ps)) top os within (λ here line. parts_are_put leaf_again ps is Row line [] top os here)
@@ -153,7 +153,7 @@ mutual
 
   parts_are_put : ReadsLeafAgain → (ps : CarriedParts) → AreGivenParts ps → (kind : Kind) (line : ℕ) (before top : List CarriedTree) (os : List OpenNode)
       → IsWithin (size_of (node_of_kind kind (before ++ trees_in ps))) top os
-      → Puts (lines_in ps) (reading top (open_node kind line before ∷ os)) (reading top (open_node kind line (before ++ trees_in ps) ∷ os))
+      → Puts (lines_in (plain_parts ps)) (reading top (open_node kind line before ∷ os)) (reading top (open_node kind line (before ++ trees_in ps) ∷ os))
   parts_are_put leaf_again none are kind line before top os within =
       subst (λ parts. Puts [] (reading top (open_node kind line before ∷ os)) (reading top (open_node kind line parts ∷ os))) (sym (append-nil before))
       (puts_none (reading top (open_node kind line before ∷ os)))
@@ -162,9 +162,9 @@ mutual
       let all = next_within kind before p others top os within in
       let here = smaller_is_within (size_of (node_of_kind kind (before ++ p ∷ []))) (size_of (node_of_kind kind ((before ++ p ∷ []) ++ others))) top os
       (front_no_more kind (before ++ p ∷ []) others) all in
-      subst (λ parts. Puts (lines_in (part p ps)) (reading top (open_node kind line before ∷ os)) (reading top (open_node kind line parts ∷ os)))
+      subst (λ parts. Puts (lines_in (plain_parts (part p ps))) (reading top (open_node kind line before ∷ os)) (reading top (open_node kind line parts ∷ os)))
       (append_assoc before (p ∷ []) others)
-      (puts_both (tree_lines p) (lines_in ps) (reading top (open_node kind line before ∷ os)) (reading top (open_node kind line (before ++ p ∷ []) ∷ os))
+      (puts_both (tree_lines (plain_tree p)) (lines_in (plain_parts ps)) (reading top (open_node kind line before ∷ os)) (reading top (open_node kind line (before ++ p ∷ []) ∷ os))
       (reading top (open_node kind line ((before ++ p ∷ []) ++ others) ∷ os))
       (tree_is_put leaf_again p are.0 top (open_node kind line before ∷ os) (part_within kind line before p top os here))
       (parts_are_put leaf_again ps are.1 kind line (before ++ p ∷ []) top os all))

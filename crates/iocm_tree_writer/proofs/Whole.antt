@@ -9,7 +9,7 @@ use Rattle.iocm_operands.specs.ChpidPath.{path_text}
 use Rattle.iocm_operands.proofs.Operands.{path_again}
 use Rattle.iocm_values.specs.NameSet.{names_text}
 use Rattle.iocm_tree.specs.Carried.{bare}
-use Rattle.iocm_tree.specs.Trees.{CarriedTree}
+use Rattle.iocm_tree.specs.Trees.{CarriedTree, plain_tree}
 use Rattle.iocm_tree.specs.declared.verb.Verb.TheVariants.{Add, Modify}
 use Rattle.iocm_treetext.specs.Reading.{with_node, read_from, read_tree}
 use Rattle.iocm_canonical.specs.Again.{placed}
@@ -75,7 +75,7 @@ one_is_the_tree t = refl
 
 pub trees_are_read_again : ReadsTreeAgain
 trees_are_read_again t is =
-    let again = lines_are_read_again (tree_lines t) (lines_can t is.given) in
+    let again = lines_are_read_again (tree_lines (plain_tree t)) (lines_can t is.given) in
     ap (λ found. found >>= read_tree) again.is_read
     ∙ ap read_tree (sym (append-nil again.read))
     ∙ tree_is_put leaves_are_read_again t is.given [] [] (tree_is_within t is.depth is.leaves) again.read [] again.same

@@ -18,7 +18,7 @@ use Rattle.iocm_operands.specs.Resource.{image_text, images_text}
 use Rattle.iocm_values.specs.declared.texts.CssText.{CssText}
 use Rattle.iocm_values.specs.NameSet.{names_text}
 use Rattle.iocm_tree.specs.Carried.{verb_of}
-use Rattle.iocm_tree.specs.Trees.{CarriedTree, CarriedParts, leaf, row, group, choose, none, part}
+use Rattle.iocm_tree.specs.Trees.{CarriedTree, CarriedParts, leaf, row, group, choose, none, part, plain_parts, plain_tree}
 use Rattle.iocm_canonical.specs.Device.{set_operand}
 use Rattle.iocm_canonical.specs.Statement.{valued}
 use Rattle.iocm_rereading.specs.Stating.{CanBeWritten}
@@ -132,12 +132,12 @@ enclosed_can operation lines can =
     (All-append CanBeLine lines (word_line End ∷ []) can (All-cons CanBeLine (word_line End) [] (word_can End) (All-nil CanBeLine)))
 
 mutual
-  pub lines_can : (t : CarriedTree) → IsGivenTree t → All CanBeLine (tree_lines t)
+  pub lines_can : (t : CarriedTree) → IsGivenTree t → All CanBeLine (tree_lines (plain_tree t))
   lines_can (leaf c) is = All-cons CanBeLine (action_line c.edit.action) [] (line_can c.edit.action is.action) (All-nil CanBeLine)
-  lines_can (row ps) is = enclosed_can Row (lines_in ps) (all_can ps is)
-  lines_can (group ps) is = enclosed_can Group (lines_in ps) (all_can ps is)
-  lines_can (choose ps) is = enclosed_can Choose (lines_in ps) (all_can ps is)
+  lines_can (row ps) is = enclosed_can Row (lines_in (plain_parts ps)) (all_can ps is)
+  lines_can (group ps) is = enclosed_can Group (lines_in (plain_parts ps)) (all_can ps is)
+  lines_can (choose ps) is = enclosed_can Choose (lines_in (plain_parts ps)) (all_can ps is)
 
-  all_can : (ps : CarriedParts) → AreGivenParts ps → All CanBeLine (lines_in ps)
+  all_can : (ps : CarriedParts) → AreGivenParts ps → All CanBeLine (lines_in (plain_parts ps))
   all_can none are = All-nil CanBeLine
-  all_can (part p ps) are = All-append CanBeLine (tree_lines p) (lines_in ps) (lines_can p are.0) (all_can ps are.1)
+  all_can (part p ps) are = All-append CanBeLine (tree_lines (plain_tree p)) (lines_in (plain_parts ps)) (lines_can p are.0) (all_can ps are.1)

@@ -9,7 +9,7 @@ use Rattle.iocm_model.specs.Machine.Record.{Rec}
 use Rattle.iocm_statements.specs.declared.statement.Statement as read
 use Rattle.iocm_statements.specs.Statement.{parsed}
 use Rattle.iocm_tree.specs.Carried.{bare}
-use Rattle.iocm_tree.specs.Trees.{CarriedTree}
+use Rattle.iocm_tree.specs.Trees.{CarriedTree, plain_tree}
 use Rattle.iocm_treetext.specs.Leaves.{edits_of}
 use Rattle.iocm_treetext.specs.Reading.{read_tree}
 use Rattle.iocm_canonical.specs.Again.{placed}
@@ -39,8 +39,8 @@ GivesTrees = (bytes : List ℕ) (t : CarriedTree) → tree_in bytes ≡ Ok t →
 
 -- what is written of such a tree is read as this tree
 abbrev pub ReadsTreeAgain : Type 0
-ReadsTreeAgain = (t : CarriedTree) → IsTreeOfDecks t → tree_in (deck_bytes (written t)) ≡ Ok t
+ReadsTreeAgain = (t : CarriedTree) → IsTreeOfDecks t → tree_in (deck_bytes (written (plain_tree t))) ≡ Ok t
 
 -- so is what is written of a tree that was read
 abbrev pub ReadsReadTreeAgain : Type 0
-ReadsReadTreeAgain = (bytes : List ℕ) (t : CarriedTree) → tree_in bytes ≡ Ok t → tree_in (deck_bytes (written t)) ≡ Ok t
+ReadsReadTreeAgain = (bytes : List ℕ) (t : CarriedTree) → tree_in bytes ≡ Ok t → tree_in (deck_bytes (written (plain_tree t))) ≡ Ok t

@@ -1,12 +1,12 @@
 -- How a change tree is written: a line for each leaf, with its verb in the name field; ROW, GROUP and CHOOSE stand before the lines of
--- their parts, and END behind them. Own.
+-- their parts, and END behind them. What comes along with an edit isn't written. Own.
 use Rattle.std.specs.Prelude.{ℕ, List, [], ◌∷◌, ◌++◌, map}
 use Rattle.iocm_columns.specs.declared.joined.Joined.{Joined}
 use Rattle.iocm_model.specs.Change.Edit.{Action}
+use Rattle.iocm_model.specs.Change.Tree.{ChangeTree, Parts, leaf, row, group, choose, none, part}
 use Rattle.iocm_statements.specs.declared.operation.Operation.{Operation}
 use Rattle.iocm_statements.specs.declared.operation.Operation.TheVariants.{Row, Group, Choose, End}
 use Rattle.iocm_tree.specs.Carried.{verb_of}
-use Rattle.iocm_tree.specs.Trees.{CarriedTree, CarriedParts, leaf, row, group, choose, none, part}
 use Rattle.iocm_canonical.specs.Canonical.{to_write}
 use Rattle.iocm_canonical.specs.Statement.{Statement}
 use Rattle.iocm_tree_writer.specs.Leaves.{action_statement, verb_name}
@@ -29,14 +29,14 @@ enclosed operation lines = word_line operation ∷ (lines ++ word_line End ∷ [
 
 abbrev mutual
   -- the lines of a tree
-  pub tree_lines : CarriedTree → List Line
-  tree_lines (leaf c) = action_line c.edit.action ∷ []
+  pub tree_lines : ChangeTree → List Line
+  tree_lines (leaf e) = action_line e.action ∷ []
   tree_lines (row ps) = enclosed Row (lines_in ps)
   tree_lines (group ps) = enclosed Group (lines_in ps)
   tree_lines (choose ps) = enclosed Choose (lines_in ps)
 
   -- the lines of the parts of a node, one part behind the other
-  pub lines_in : CarriedParts → List Line
+  pub lines_in : Parts → List Line
   lines_in none = []
   lines_in (part p ps) = tree_lines p ++ lines_in ps
 
@@ -45,8 +45,8 @@ abbrev pub line_to_write : Line → Joined
 line_to_write l = record (to_write l.statement) { name = l.name }
 
 -- the deck of a change tree
-abbrev pub written : CarriedTree → List Joined
+abbrev pub written : ChangeTree → List Joined
 written t = map line_to_write (tree_lines t)
 
-abbrev pub written_in : CarriedParts → List Joined
+abbrev pub written_in : Parts → List Joined
 written_in ps = map line_to_write (lines_in ps)

@@ -1,5 +1,5 @@
 ghost use Rattle.std.specs.Prelude.{◌≡◌, ◌++◌, map, IfOk, OnOk};
-ghost use Rattle.iocm_tree.specs.Trees.{parts_of, tree_of};
+ghost use Rattle.iocm_tree.specs.Trees.{parts_of, plain_parts, plain_tree, tree_of};
 ghost use Rattle.iocm_tree_writer.specs.Written as meaning;
 
 use crate::lines::{put_edit, put_word};
@@ -15,7 +15,7 @@ fn put_tree<A: Allocator>(
     tree: &Tree<A>,
     deck: &mut Vec<Joined>,
 ) -> Result<(), AllocError>
-    ensures { OnOk result (deck.new.items ≡ deck.old.items ++ meaning.written (tree_of tree.now)) }
+    ensures { OnOk result (deck.new.items ≡ deck.old.items ++ meaning.written (plain_tree (tree_of tree.now))) }
 {
     match tree {
         Tree::Leaf(edit) => put_edit(alloc, edit, deck),
@@ -33,7 +33,7 @@ fn put_node<A: Allocator>(
     parts: &Vec<Tree<A>, A>,
     deck: &mut Vec<Joined>,
 ) -> Result<(), AllocError>
-    ensures { OnOk result (deck.new.items ≡ deck.old.items ++ map meaning.line_to_write (meaning.enclosed operation (meaning.lines_in (parts_of parts.now.items)))) }
+    ensures { OnOk result (deck.new.items ≡ deck.old.items ++ map meaning.line_to_write (meaning.enclosed operation (meaning.lines_in (plain_parts (parts_of parts.now.items))))) }
 {
     put_word(alloc, operation, deck)?;
     put_parts(alloc, parts, deck)?;
@@ -47,7 +47,7 @@ fn put_parts<A: Allocator>(
     parts: &Vec<Tree<A>, A>,
     deck: &mut Vec<Joined>,
 ) -> Result<(), AllocError>
-    ensures { OnOk result (deck.new.items ≡ deck.old.items ++ meaning.written_in (parts_of parts.now.items)) }
+    ensures { OnOk result (deck.new.items ≡ deck.old.items ++ meaning.written_in (plain_parts (parts_of parts.now.items))) }
 {
     for part in parts {
         put_tree(alloc, part, deck)?;
@@ -62,7 +62,7 @@ fn put_parts<A: Allocator>(
 ///
 /// `AllocError` (M1): memory was wanted.
 pub fn write_tree<A: Allocator>(alloc: Global, tree: &Tree<A>) -> Result<Vec<Joined>, AllocError>
-    ensures { IfOk result (λ deck. deck.items ≡ meaning.written (tree_of tree.now)) }
+    ensures { IfOk result (λ deck. deck.items ≡ meaning.written (plain_tree (tree_of tree.now))) }
 {
     let mut deck = Vec::new(alloc);
     put_tree(alloc, tree, &mut deck)?;
