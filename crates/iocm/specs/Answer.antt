@@ -12,4 +12,4 @@ abbrev pub printed : Command → List ℕ → List ℕ → Shown
 printed (Check deck) bytes lines = answered deck_command.Check bytes
 printed (Show deck) bytes lines = answered deck_command.Show bytes
 printed (Write deck) bytes lines = answered deck_command.Write bytes
-printed (Apply deck change heap) bytes lines = applied bytes lines
+printed (Apply deck change heap report) bytes lines = applied report bytes lines

@@ -1,12 +1,15 @@
 -- What a command line means, as `clap` reads it.
-use Rattle.std.specs.Prelude.{◌≡◌, ◌==◌, ◌⊎◌, ℕ, Bool, true, false, List, [], ◌∷◌, Option, Some, None, codes, option_map, ⊤}
+use Rattle.std.specs.Prelude.{◌≡◌, ◌==◌, ◌⊎◌, ℕ, Bool, true, false, List, [], ◌∷◌, ◌++◌, Option, Some, None, codes, option_map, ⊤}
 use Rattle.std.specs.Str.Parse.{digits_value, without_leading_plus}
 use Rattle.clap.specs.Words.{App, Row, Rule, Text, Kinds, IsUnsignedIn, new_app, new_rule, with_rule, with_subcommand, subcommand_of, first_of, fault_of}
 use Rattle.clap.specs.Kinds.{or_else}
+use Rattle.clap.specs.declared.builder.action.ArgAction.TheVariants.{SetTrue}
 use Rattle.clap.specs.declared.builder.command.Command as clap
 use Rattle.clap.specs.declared.builder.command.Command.TheViews.{out-Command}
 use Rattle.clap.specs.declared.builder.value_parser.ValueParser.TheVariants.{Unsigned}
 use Rattle.clap.specs.declared.error.kind.ErrorKind.TheVariants.{MissingRequiredArgument}
+use Rattle.iocm_apply.specs.declared.report.Report.{Report}
+use Rattle.iocm_apply.specs.declared.report.Report.TheVariants.{Table, WayBack}
 use Rattle.iocm.specs.declared.command.Command.{Command}
 use Rattle.iocm.specs.declared.command.Command.TheVariants.{Check, Show, Write, Apply}
 
@@ -27,9 +30,13 @@ heap_rule = record (new_rule (codes "heap")) {
 abbrev pub deck_app : Text → App
 deck_app name = with_rule (new_app name) (file_rule (codes "DECK"))
 
--- `apply`, with its deck, its change deck and the size of its heap
+-- that the change deck that takes the change back is wanted, by a flag
+abbrev pub undo_rule : Rule
+undo_rule = record (new_rule (codes "undo")) { long = Some (codes "undo"); action = Some SetTrue }
+
+-- `apply`, with its deck, its change deck, the size of its heap and its flag
 abbrev pub apply_app : App
-apply_app = with_rule (with_rule (deck_app (codes "apply")) (file_rule (codes "CHANGE"))) heap_rule
+apply_app = with_rule (with_rule (with_rule (deck_app (codes "apply")) (file_rule (codes "CHANGE"))) heap_rule) undo_rule
 
 -- whether an argument of the command is one of all commands below it too
 abbrev pub has_globals : clap.Command → Bool
@@ -60,11 +67,11 @@ abbrev pub words_of : Command → Text × Option Text
 words_of (Check deck) = (codes "check", Some deck.now)
 words_of (Show deck) = (codes "show", Some deck.now)
 words_of (Write deck) = (codes "write", Some deck.now)
-words_of (Apply deck change heap) = (codes "apply", Some deck.now)
+words_of (Apply deck change heap report) = (codes "apply", Some deck.now)
 
 -- the change deck of a command, if it has one
 abbrev pub change_of : Command → Option Text
-change_of (Apply deck change heap) = Some change.now
+change_of (Apply deck change heap report) = Some change.now
 change_of _ = None
 
 -- a text that gives the size of a heap: a decimal number of 16 to 16777216
@@ -75,18 +82,24 @@ IsSizeText text = IsUnsignedIn 16 16777216 text
 abbrev pub GivesSize : Text → ℕ → Type 0
 GivesSize text size = IsSizeText text × (size ≡ digits_value 10 (without_leading_plus text))
 
--- the command and its matches are those of `apply` with this deck, this change deck and this text of a heap's size
-abbrev pub IsApplyOf : Option (Text × List Row) → Text → Text → Text → Type 0
-IsApplyOf named deck change size = (argument_of (codes "DECK") named ≡ Some (codes "apply", Some deck))
+-- what clap makes of the flag: "true" where it is given
+abbrev pub flag_text : Report → Text
+flag_text Table = codes "false"
+flag_text WayBack = codes "true"
+
+-- the command and its matches are those of `apply` with this deck, this change deck, this text of a heap's size and this report
+abbrev pub IsApplyOf : Option (Text × List Row) → Text → Text → Text → Report → Type 0
+IsApplyOf named deck change size report = (argument_of (codes "DECK") named ≡ Some (codes "apply", Some deck))
     × (argument_of (codes "CHANGE") named ≡ Some (codes "apply", Some change))
     × (argument_of (codes "heap") named ≡ Some (codes "apply", Some size))
+    × (argument_of (codes "undo") named ≡ Some (codes "apply", Some (flag_text report)))
 
 -- they are so with those of `apply`; any other command has none
 abbrev pub HasChange : Option (Text × List Row) → Command → Type 0
-HasChange named (Apply deck change heap) = (size : Text) × IsApplyOf named deck.now change.now size × GivesSize size heap
+HasChange named (Apply deck change heap report) = (size : Text) × IsApplyOf named deck.now change.now size report × GivesSize size heap
 HasChange named _ = ⊤
 
--- the words state the change deck of a command and the size of its heap, if it has them
+-- the words state the change deck of a command, the size of its heap and its report, if it has them
 abbrev pub StatesChange : List Text → Command → Type 0
 StatesChange words c = HasChange (subcommand_of iocm_app words) c
 
@@ -106,9 +119,9 @@ mistakes_or_missing words = or_else (mistakes words) (MissingRequiredArgument �
 abbrev pub StatesDeck : List Text → Type 0
 StatesDeck words = (name deck : Text) × IsDeckCommand name × (mistakes words ≡ []) × (stated words ≡ Some (name, Some deck))
 
--- they are those of `apply` with a deck, a change deck and a size
+-- they are those of `apply` with a deck, a change deck, a size and a report
 abbrev pub IsApply : Option (Text × List Row) → Type 0
-IsApply named = (deck change size : Text) × IsApplyOf named deck change size × IsSizeText size
+IsApply named = (deck change size : Text) × (report : Report) × IsApplyOf named deck change size report × IsSizeText size
 
 -- the words have no mistake, and state `apply` with these
 abbrev pub StatesApply : List Text → Type 0
@@ -127,7 +140,12 @@ IsPlainName name = (first : ℕ) × (rest : List ℕ) × (name ≡ first ∷ res
 abbrev pub IsHeapOption : List Text → Type 0
 IsHeapOption options = (options ≡ []) ⊎ ((size : Text) × IsSizeText size × (options ≡ codes "--heap" ∷ size ∷ []))
 
--- the program's name, `apply`, the names of a deck and of a change deck that don't begin with a hyphen, and a heap's size or none
+-- these, and the flag or not, behind the size or before it
+abbrev pub AreApplyOptions : List Text → Type 0
+AreApplyOptions options = (size : List Text) × IsHeapOption size
+    × ((options ≡ size) ⊎ ((options ≡ size ++ codes "--undo" ∷ []) ⊎ (options ≡ codes "--undo" ∷ size)))
+
+-- the program's name, `apply`, the names of a deck and of a change deck that don't begin with a hyphen, and options or none
 abbrev pub NamesApply : List Text → Type 0
-NamesApply words = (program deck change : Text) × (options : List Text) × IsPlainName deck × IsPlainName change × IsHeapOption options
+NamesApply words = (program deck change : Text) × (options : List Text) × IsPlainName deck × IsPlainName change × AreApplyOptions options
     × (words ≡ program ∷ codes "apply" ∷ deck ∷ change ∷ options)

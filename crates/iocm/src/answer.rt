@@ -41,8 +41,8 @@ pub fn print_answer<R: Read, S: Read, W: Write>(
         Command::Check { .. } => answer_deck(alloc, DeckCommand::Check, deck, limit, output),
         Command::Show { .. } => answer_deck(alloc, DeckCommand::Show, deck, limit, output),
         Command::Write { .. } => answer_deck(alloc, DeckCommand::Write, deck, limit, output),
-        Command::Apply { heap, .. } => {
-            apply_change(alloc, heap as usize, deck, change, limit, output)
+        Command::Apply { heap, report, .. } => {
+            apply_change(alloc, heap as usize, report, deck, change, limit, output)
         }
     }
 }

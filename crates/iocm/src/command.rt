@@ -1,10 +1,12 @@
 ghost use Rattle.std.specs.Prelude.{◌≡◌, [], Some, IsSome, IfOk, IfErr, IfSome, codes, false, map, option_map};
 ghost use Rattle.clap.specs.Words.{HasKind, Text, app_of, kind_of, rule_of, subcommand_rows_of};
-ghost use Rattle.iocm.specs.CommandLine.{iocm_app, apply_app, argument_of, bare_app, change_of, deck_app, file_rule, has_globals, heap_rule, stated, with_deck_command, words_of, mistakes, mistakes_or_missing, GivesSize, HasChange, IsApply, IsDeckCommand, IsSizeText, NamesApply, NamesDeck, StatesApply, StatesChange, StatesDeck};
+ghost use Rattle.iocm_apply.specs.declared.report.Report.{Report};
+ghost use Rattle.iocm.specs.CommandLine.{iocm_app, apply_app, argument_of, bare_app, change_of, deck_app, file_rule, flag_text, has_globals, heap_rule, stated, undo_rule, with_deck_command, words_of, mistakes, mistakes_or_missing, GivesSize, HasChange, IsApply, IsDeckCommand, IsSizeText, NamesApply, NamesDeck, StatesApply, StatesChange, StatesDeck};
 
 use clap::builder::ValueParser;
 use clap::error::ErrorKind;
-use clap::{Arg, ArgMatches, Error};
+use clap::{Arg, ArgAction, ArgMatches, Error};
+use iocm_apply::Report;
 use std::alloc::{AllocError, Global};
 use std::convert::AsStr;
 
@@ -23,12 +25,13 @@ pub enum Command<'a> {
     Write {
         deck: &'a str,
     },
-    /// Activate the change deck in the second file on the machine of the deck in the first one; the change tree is read in a heap of
-    /// so many bytes.
+    /// Activate the change deck in the second file on the machine of the deck in the first one, and print this report; the change tree
+    /// is read in a heap of so many bytes.
     Apply {
         deck: &'a str,
         change: &'a str,
         heap: u32,
+        report: Report,
     },
 }
 
@@ -85,6 +88,17 @@ fn heap<'a>(alloc: Global) -> Arg<'a>
         .help("The heap that the change tree is read in: 16 to 16777216 bytes")
 }
 
+/// The flag `--undo`: that the change deck that takes the change back is wanted.
+fn undo<'a>(alloc: Global) -> Arg<'a>
+    ensures rule { rule_of result ≡ undo_rule }
+    ensures local { result.global ≡ false }
+{
+    Arg::new(alloc, "undo")
+        .long("undo")
+        .action(ArgAction::SetTrue)
+        .help("Prints the change deck that takes the change back, in place of the table")
+}
+
 /// A command that reads a deck, which is its one argument.
 fn deck_command<'a>(
     alloc: Global,
@@ -105,12 +119,13 @@ fn apply_command<'a>(alloc: Global) -> Result<clap::Command<'a>, AllocError>
     ensures local { IfOk result (λ c. has_globals c ≡ false) }
 {
     let about =
-        "Activates a change deck on the machine of a configuration deck and prints the table afterwards";
+        "Activates a change deck on the machine of a configuration deck and prints the table afterwards, or how to take it back";
     let help = "A change deck: the file of the statements of a change";
     let change = file(alloc, "CHANGE", help);
     deck_command(alloc, "apply", about)?
         .arg(change)?
-        .arg(heap(alloc))
+        .arg(heap(alloc))?
+        .arg(undo(alloc))
 }
 
 /// A program with one more command that reads a deck.
@@ -180,7 +195,19 @@ fn heap_size(text: &str) -> Option<u32>
     }
 }
 
-/// The command `apply`, where the words name it, with its decks and the size of its heap.
+/// The report that a value of the flag asks for, if it is one.
+fn report_of(flag: &str) -> Option<Report>
+    ensures some { IfSome result (λ report. flag.now ≡ flag_text report) }
+    ensures only { (report : Report) → flag.now ≡ flag_text report → IsSome result }
+{
+    match flag {
+        "false" => Some(Report::Table),
+        "true" => Some(Report::WayBack),
+        _ => None,
+    }
+}
+
+/// The command `apply`, where the words name it, with its decks, the size of its heap and its report.
 fn apply_in<'a>(matches: &ArgMatches<'a>) -> Option<Command<'a>>
     ensures some { IfSome result (λ c. argument_of (codes "DECK") (subcommand_rows_of matches.now) ≡ Some (words_of c)) }
     ensures change { IfSome result (HasChange (subcommand_rows_of matches.now)) }
@@ -189,7 +216,13 @@ fn apply_in<'a>(matches: &ArgMatches<'a>) -> Option<Command<'a>>
     let deck = deck_of(matches, "apply")?;
     let change = value_of(matches, "apply", "CHANGE")?;
     let heap = heap_size(value_of(matches, "apply", "heap")?)?;
-    Some(Command::Apply { deck, change, heap })
+    let report = report_of(value_of(matches, "apply", "undo")?)?;
+    Some(Command::Apply {
+        deck,
+        change,
+        heap,
+        report,
+    })
 }
 
 /// The command that the words name, with its deck and what else it takes.
@@ -215,8 +248,8 @@ fn command_in<'a>(matches: &ArgMatches<'a>) -> Option<Command<'a>>
 ///
 /// Help, the version and every mistake in the words are `clap`'s errors. Want of memory is one of the kind `OutOfMemory`, and
 /// nothing else keeps words that have no mistake and state a deck from being understood: `check`, `show` or `write` and a name that
-/// doesn't begin with a hyphen are such words, and `show -- -x.deck` too. So it is with `apply`, a deck, a change deck and the size
-/// of a heap, which `--heap` gives, or its default.
+/// doesn't begin with a hyphen are such words, and `show -- -x.deck` too. So it is with `apply`, a deck, a change deck, the size
+/// of a heap, which `--heap` gives, or its default, and `--undo` or not.
 pub fn command_of<'a, S: AsStr>(alloc: Global, words: &'a [S]) -> Result<Command<'a>, Error>
     ensures command { IfOk result (λ c. stated (map S.text words.entry.now) ≡ Some (words_of c)) }
     ensures change { IfOk result (StatesChange (map S.text words.entry.now)) }

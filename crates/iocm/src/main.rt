@@ -3,7 +3,8 @@
 //! `iocm check DECK` reads a configuration deck, checks its rules and says how many records it has; `iocm show DECK`
 //! prints the table of its subchannels, `iocm write DECK` the deck in its canonical order and forms. `iocm apply DECK CHANGE`
 //! activates a change deck on the machine of a configuration deck, and prints how many subchannels it altered and the table
-//! afterwards; it reads the change tree in a heap of as many bytes as `--heap` gives.
+//! afterwards, with `--undo` the change deck that takes the change back; it reads the change tree in a heap of as many bytes as
+//! `--heap` gives.
 //!
 //! The exit status is 0 where a command did what it was asked to do, 1 where
 //! a text was refused (one line on standard output says why), 2 where the command line is not understood, and 3

@@ -6,29 +6,29 @@ use Rattle.iocm_types.specs.declared.refused.Refused.{Refused}
 use Rattle.iocm_types.specs.Fault.{◌>>=◌, Fails, memory}
 use Rattle.iocm_columns.specs.declared.card.Card.{Card}
 use Rattle.iocm_columns.specs.Device.{unreadable, GivesIfReadable}
-use Rattle.iocm_model.specs.Machine.Table.{table_of}
 use Rattle.iocm_model.specs.Operation.State.{State}
 use Rattle.iocm_model.specs.Rules.FirstBreach.{Breach}
 use Rattle.iocm_model.specs.Change.Edit.{Edit}
-use Rattle.iocm_model.specs.Change.Meaning.{Outcome, Performed}
+use Rattle.iocm_model.specs.Change.InverseTree.{inverse_tree}
+use Rattle.iocm_model.specs.Change.Meaning.{Outcome}
 use Rattle.iocm_model.specs.Change.Runs.{effect_of}
+use Rattle.iocm_model.specs.Change.Tree.{ChangeTree}
 use Rattle.iocm_tree.specs.Trees.{CarriedTree}
 use Rattle.iocm_plant.specs.Refusing.{IsDue, no_memory, refusal_by_breach}
 use Rattle.iocm_activate.specs.Done.{refusal_in}
 use Rattle.iocm_console.specs.declared.output.Output.{Output}
 use Rattle.iocm_console.specs.declared.status.Status.{Status}
 use Rattle.iocm_console.specs.declared.error.ConsoleError.{ConsoleError}
-use Rattle.iocm_console.specs.Changed.{changed_text}
 use Rattle.iocm_console.specs.Opening.{Shown, declined, refused, unless_breached, Says, SaysIfMemory}
 use Rattle.iocm_console.specs.Output.{Prints}
 use Rattle.iocm_console.proofs.Printing.{appends_then}
-use Rattle.iocm_apply.specs.Apply.{change_in, lines_tried, made, tried}
+use Rattle.iocm_apply.specs.declared.report.Report.{Report}
+use Rattle.iocm_apply.specs.Apply.{change_in, lines_tried, made, reported, tried}
 
--- a change that was made shows how many subchannels it altered
-pub made_is : (s : State) (o : Outcome) (r : Performed) (altered : ℕ) → o ≡ Ok r → altered ≡ len (effect_of r.edits s).lives
-    → made s o ≡ record { text = (changed_text altered ++ 10 ∷ []) ++ table_of r.state.config r.state.numbers; status = (made s (Ok r)).status }
-made_is s o r altered is count = ap (made s) is
-    ∙ ap (λ n. record { text = (changed_text n ++ 10 ∷ []) ++ table_of r.state.config r.state.numbers; status = (made s (Ok r)).status }) (sym count)
+-- the report of a change that was made
+pub made_is : (report : Report) (s t : State) (o : Outcome) (es : List Edit) (altered : ℕ) (back : ChangeTree) → o ≡ Ok (record { state = t; edits = es })
+    → altered ≡ len (effect_of es s).lives → back ≡ inverse_tree es s → made report s o ≡ reported report altered back t
+made_is report s t o es altered back is count same = ap (made report s) is ∙ (λ i. reported report (sym count i) (sym same i) t)
 
 -- what holds of anything holds of what is there
 pub if_some_any : {X : Type 0} (P : X → Type 0) (o : Option X) → ((x : X) → P x) → IfSome o P
@@ -57,12 +57,12 @@ module _ {W : Type 0} (contents : W → Option (List ℕ)) (old new : Output W) 
   says_then mid (Err e) text what first says = tt
 
   -- the refusal that is due, or want of memory
-  pub says_due : (result : Result Status ConsoleError) (s : State) (o : Outcome) (why : Refused) → IsDue (refusal_in o) why
-      → IfOk result (Says contents old new (declined why)) → IfOk result (SaysIfMemory contents old new (made s o))
-  says_due (Err e) s o why due says = tt
-  says_due (Ok status) s o why (inr none) says = inr (subst (λ w. Says contents old new (declined w) status) none says)
-  says_due (Ok status) s (Ok r) why (inl due) says = cc
-  says_due (Ok status) s (Err e) why (inl due) says =
+  pub says_due : (report : Report) (result : Result Status ConsoleError) (s : State) (o : Outcome) (why : Refused) → IsDue (refusal_in o) why
+      → IfOk result (Says contents old new (declined why)) → IfOk result (SaysIfMemory contents old new (made report s o))
+  says_due report (Err e) s o why due says = tt
+  says_due report (Ok status) s o why (inr none) says = inr (subst (λ w. Says contents old new (declined w) status) none says)
+  says_due report (Ok status) s (Ok r) why (inl due) says = cc
+  says_due report (Ok status) s (Err e) why (inl due) says =
       let same : e ≡ why = cc in inl (subst (λ w. Says contents old new (declined w) status) (sym same) says)
 
   -- the same of a configuration that isn't opened
@@ -78,18 +78,18 @@ module _ {W : Type 0} (contents : W → Option (List ℕ)) (old new : Output W) 
       refusal_of b = record { rule = b.rule; node = None; at = Rattle.iocm_types.specs.declared.refused.At.TheVariants.Key b.key }
 
   -- the first fault of a change deck, or want of memory
-  pub says_fault : (result : Result Status ConsoleError) (s : State) (read : Result CarriedTree Fault) (fault : Fault) → Fails fault read
-      → IfOk result (Says contents old new (refused fault)) → IfOk result (SaysIfMemory contents old new (tried s read))
-  says_fault (Err e) s read fault fails says = tt
-  says_fault (Ok status) s read fault (inl e) says = inr (subst (λ f. Says contents old new (refused f) status) e says)
-  says_fault (Ok status) s read fault (inr e) says = inl (subst (λ r. Says contents old new (tried s r) status) (sym e) says)
+  pub says_fault : (report : Report) (result : Result Status ConsoleError) (s : State) (read : Result CarriedTree Fault) (fault : Fault) → Fails fault read
+      → IfOk result (Says contents old new (refused fault)) → IfOk result (SaysIfMemory contents old new (tried report s read))
+  says_fault report (Err e) s read fault fails says = tt
+  says_fault report (Ok status) s read fault (inl e) says = inr (subst (λ f. Says contents old new (refused f) status) e says)
+  says_fault report (Ok status) s read fault (inr e) says = inl (subst (λ r. Says contents old new (tried report s r) status) (sym e) says)
 
   -- the same of its lines, unless they cannot be read
-  pub says_lines : {X : Type 0} (view : X → List Card) (result : Result Status ConsoleError) (s : State) (read : Result (List Card) Fault) (fault : Fault)
+  pub says_lines : {X : Type 0} (view : X → List Card) (report : Report) (result : Result Status ConsoleError) (s : State) (read : Result (List Card) Fault) (fault : Fault)
       → OnOk result (fault ≢ unreadable) → GivesIfReadable view (Err fault) read
-      → IfOk result (Says contents old new (refused fault)) → IfOk result (SaysIfMemory contents old new (lines_tried s read))
-  says_lines view (Err e) s read fault readable gives says = tt
-  says_lines view (Ok status) s read fault readable (inl e) says = let same : fault ≡ unreadable = cc in absurd (readable same)
-  says_lines view (Ok status) s read fault readable (inr (inl e)) says = inr (subst (λ f. Says contents old new (refused f) status) e says)
-  says_lines view (Ok status) s read fault readable (inr (inr e)) says =
-      inl (subst (λ (r : Result (List Card) Fault). Says contents old new (lines_tried s r) status) (sym e) says)
+      → IfOk result (Says contents old new (refused fault)) → IfOk result (SaysIfMemory contents old new (lines_tried report s read))
+  says_lines view report (Err e) s read fault readable gives says = tt
+  says_lines view report (Ok status) s read fault readable (inl e) says = let same : fault ≡ unreadable = cc in absurd (readable same)
+  says_lines view report (Ok status) s read fault readable (inr (inl e)) says = inr (subst (λ f. Says contents old new (refused f) status) e says)
+  says_lines view report (Ok status) s read fault readable (inr (inr e)) says =
+      inl (subst (λ (r : Result (List Card) Fault). Says contents old new (lines_tried report s r) status) (sym e) says)

@@ -12,7 +12,8 @@ ghost use Rattle.iocm_console.specs.Output.{has_failed, FailedToWrite};
 ghost use Rattle.iocm_apply.specs.Apply.{applied, applied_to, change_in, lines_tried, made, tried};
 
 use crate::change::read_change;
-use crate::printing::print_machine;
+use crate::printing::print_report;
+use crate::report::Report;
 use iocm_activate::activate;
 use iocm_columns::{Card, Device, read_cards};
 use iocm_config::Config;
@@ -25,8 +26,8 @@ use iocm_types::Fault;
 use std::alloc::Global;
 use std::io::{Read, Write};
 
-/// Prints what a change deck does to the machine of a deck: how many subchannels it alters, and the table afterwards; or the refusal of
-/// the deck's first fault or of the first rule that it breaks, of the change deck's first fault, or of the change. Each deck is read to
+/// Prints what a change deck does to the machine of a deck, by `report` how many subchannels it alters and the table afterwards, or the
+/// change deck that takes it back; or the refusal of the deck's first fault or of the first rule that it breaks, of the change deck's first fault, or of the change. Each deck is read to
 /// its end by at most `limit` reads, the change tree in a heap of `heap` bytes, and all memory is taken before the first byte is written.
 ///
 /// L5 (`ConsoleError::Read`): a read failed, or none of `limit` reads gave the end; nothing is written then, and a deck that is
@@ -35,6 +36,7 @@ use std::io::{Read, Write};
 pub fn apply_change<R: Read, S: Read, W: Write>(
     alloc: Global,
     heap: usize,
+    report: Report,
     deck: &mut Device<R>,
     change: &mut Device<S>,
     limit: u64,
@@ -45,8 +47,8 @@ pub fn apply_change<R: Read, S: Read, W: Write>(
     requires room { reads_of deck.old + limit < 2 ^ 64 }
     requires room_change { reads_of change.old + limit < 2 ^ 64 }
     requires works { has_failed output.old ≡ false }
-    ensures known_bytes { IfSome (R.remaining (reader_of deck.old)) (λ bytes. IfSome (S.remaining (reader_of change.old)) (λ lines. IfOk result (SaysIfMemory W.contents output.old output.new (applied bytes lines)))) }
-    ensures some_bytes { (bytes : List ℕ) × (lines : List ℕ) × IfOk result (SaysIfMemory W.contents output.old output.new (applied bytes lines)) }
+    ensures known_bytes { IfSome (R.remaining (reader_of deck.old)) (λ bytes. IfSome (S.remaining (reader_of change.old)) (λ lines. IfOk result (SaysIfMemory W.contents output.old output.new (applied report bytes lines)))) }
+    ensures some_bytes { (bytes : List ℕ) × (lines : List ℕ) × IfOk result (SaysIfMemory W.contents output.old output.new (applied report bytes lines)) }
     ensures whole { IfOk result (λ status. IsWhole deck.new ⊎ Says W.contents output.old output.new (refused memory) status) }
     ensures whole_change { IfOk result (λ status. status ≡ Done → IsWhole change.new) }
     ensures written { OnOk result (has_failed output.new ≡ false) }
@@ -57,7 +59,7 @@ pub fn apply_change<R: Read, S: Read, W: Write>(
     match read_cards(alloc, deck, limit) {
         Ok(cards) => {
             let lines = read_cards(alloc, change, limit);
-            apply_to_deck(alloc, heap, &cards, lines, output)
+            apply_to_deck(alloc, heap, report, &cards, lines, output)
         }
         Err(fault) => answer_unread(fault, output),
     }
@@ -67,12 +69,13 @@ pub fn apply_change<R: Read, S: Read, W: Write>(
 fn apply_to_deck<W: Write>(
     alloc: Global,
     heap: usize,
+    report: Report,
     deck: &[Card],
     change: Result<Vec<Card>, Fault>,
     output: &mut Output<W>,
 ) -> Result<Status, ConsoleError>
     ensures text { (read : Result (List card.Card) fault.Fault) → GivesIfReadable (λ v. v.items) change read
-        → IfOk result (SaysIfMemory W.contents output.old output.new (applied_to (configuration_in deck.now) read)) }
+        → IfOk result (SaysIfMemory W.contents output.old output.new (applied_to report (configuration_in deck.now) read)) }
     ensures done { IfOk result (λ status. status ≡ Done → IsOk change) }
     ensures works { OnOk result (has_failed output.new ≡ has_failed output.old) }
     ensures unreadable { result ≡ Err ConsoleError.Read → change ≡ Err unreadable }
@@ -80,7 +83,7 @@ fn apply_to_deck<W: Write>(
     ensures unwritable { result ≡ Err ConsoleError.Write → has_failed output.new ≡ true }
 {
     match read_config(alloc, deck) {
-        Ok(config) => apply_to_config(alloc, heap, config, change, output),
+        Ok(config) => apply_to_config(alloc, heap, report, config, change, output),
         Err(fault) => refuse(fault, output),
     }
 }
@@ -89,12 +92,13 @@ fn apply_to_deck<W: Write>(
 fn apply_to_config<W: Write>(
     alloc: Global,
     heap: usize,
+    report: Report,
     config: Config,
     change: Result<Vec<Card>, Fault>,
     output: &mut Output<W>,
 ) -> Result<Status, ConsoleError>
     ensures text { (read : Result (List card.Card) fault.Fault) → GivesIfReadable (λ v. v.items) change read
-        → IfOk result (SaysIfMemory W.contents output.old output.new (applied_to (Ok config.records) read)) }
+        → IfOk result (SaysIfMemory W.contents output.old output.new (applied_to report (Ok config.records) read)) }
     ensures done { IfOk result (λ status. status ≡ Done → IsOk change) }
     ensures works { OnOk result (has_failed output.new ≡ has_failed output.old) }
     ensures unreadable { result ≡ Err ConsoleError.Read → change ≡ Err unreadable }
@@ -102,7 +106,7 @@ fn apply_to_config<W: Write>(
     ensures unwritable { result ≡ Err ConsoleError.Write → has_failed output.new ≡ true }
 {
     match Plant::open(alloc, config) {
-        Ok(plant) => apply_to_machine(alloc, heap, plant, change, output),
+        Ok(plant) => apply_to_machine(alloc, heap, report, plant, change, output),
         Err(unopened) => refuse_change(unopened.why, output),
     }
 }
@@ -111,13 +115,14 @@ fn apply_to_config<W: Write>(
 fn apply_to_machine<W: Write>(
     alloc: Global,
     heap: usize,
+    report: Report,
     plant: Plant,
     change: Result<Vec<Card>, Fault>,
     output: &mut Output<W>,
 ) -> Result<Status, ConsoleError>
     requires kept { KeepsTheRules plant.state }
     ensures text { (read : Result (List card.Card) fault.Fault) → GivesIfReadable (λ v. v.items) change read
-        → IfOk result (SaysIfMemory W.contents output.old output.new (lines_tried plant.state read)) }
+        → IfOk result (SaysIfMemory W.contents output.old output.new (lines_tried report plant.state read)) }
     ensures done { IfOk result (λ status. status ≡ Done → IsOk change) }
     ensures works { OnOk result (has_failed output.new ≡ has_failed output.old) }
     ensures unreadable { result ≡ Err ConsoleError.Read → change ≡ Err unreadable }
@@ -125,7 +130,7 @@ fn apply_to_machine<W: Write>(
     ensures unwritable { result ≡ Err ConsoleError.Write → has_failed output.new ≡ true }
 {
     match change {
-        Ok(cards) => apply_lines(alloc, heap, plant, &cards, output),
+        Ok(cards) => apply_lines(alloc, heap, report, plant, &cards, output),
         Err(fault) => answer_unread(fault, output),
     }
 }
@@ -134,17 +139,18 @@ fn apply_to_machine<W: Write>(
 fn apply_lines<W: Write>(
     alloc: Global,
     heap: usize,
+    report: Report,
     plant: Plant,
     cards: &[Card],
     output: &mut Output<W>,
 ) -> Result<Status, ConsoleError>
     requires kept { KeepsTheRules plant.state }
-    ensures text { IfOk result (SaysIfMemory W.contents output.old output.new (tried plant.state (change_in cards.now))) }
+    ensures text { IfOk result (SaysIfMemory W.contents output.old output.new (tried report plant.state (change_in cards.now))) }
     ensures works { OnOk result (has_failed output.new ≡ has_failed output.old) }
     ensures fault { IfErr result (FailedToWrite output.new) }
 {
     match read_change(alloc, heap, cards) {
-        Ok(tree) => apply_tree(alloc, plant, &tree, output),
+        Ok(tree) => apply_tree(alloc, report, plant, &tree, output),
         Err(fault) => refuse(fault, output),
     }
 }
@@ -152,18 +158,19 @@ fn apply_lines<W: Write>(
 /// Prints what a change tree does to a machine.
 fn apply_tree<W: Write>(
     alloc: Global,
+    report: Report,
     plant: Plant,
     tree: &Tree,
     output: &mut Output<W>,
 ) -> Result<Status, ConsoleError>
     requires kept { KeepsTheRules plant.state }
-    ensures text { IfOk result (SaysIfMemory W.contents output.old output.new (made plant.state (meaning (plain_tree (tree_of tree.now)) plant.state))) }
+    ensures text { IfOk result (SaysIfMemory W.contents output.old output.new (made report plant.state (meaning (plain_tree (tree_of tree.now)) plant.state))) }
     ensures works { OnOk result (has_failed output.new ≡ has_failed output.old) }
     ensures fault { IfErr result (FailedToWrite output.new) }
 {
     let mut plant = plant;
     match activate(alloc, &mut plant, tree) {
-        Ok(done) => print_machine(alloc, done.effect.lives.len(), &plant, output),
+        Ok(done) => print_report(alloc, report, &done, &plant, output),
         Err(why) => refuse_change(why, output),
     }
 }

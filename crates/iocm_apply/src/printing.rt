@@ -1,29 +1,61 @@
 ghost use Rattle.std.specs.Prelude.{◌≡◌, ◌∷◌, ◌++◌, [], IfOk, IfErr, OnOk};
 ghost use Rattle.iocm_model.specs.Machine.Table.{table_of};
-ghost use Rattle.iocm_console.specs.declared.status.Status.TheVariants.{Done};
+ghost use Rattle.iocm_console.specs.declared.status.Status.TheVariants as status;
 ghost use Rattle.iocm_console.specs.Changed.{changed_text};
 ghost use Rattle.iocm_console.specs.Lines.{celled};
 ghost use Rattle.iocm_console.specs.Opening.{Says, SaysIfMemory};
 ghost use Rattle.iocm_console.specs.Output.{has_failed, FailedToWrite};
 ghost use Rattle.iocm_console.specs.Show.{table_at};
+ghost use Rattle.iocm_tree.specs.Trees.{plain_tree, tree_of};
+ghost use Rattle.std.specs.FinMap.{len};
+ghost use Rattle.iocm_activate.specs.Effects.{effect_in};
+ghost use Rattle.iocm_apply.specs.Apply.{reported};
+ghost use Rattle.iocm_apply.specs.WayBack.{way_back_text};
 
+use crate::back::way_back;
+use crate::report::Report;
+use iocm_activate::Done;
 use iocm_config::Config;
-use iocm_console::{CellDevice, ConsoleError, Output, Status, gather_cells, refuse, write_lines};
+use iocm_console::{
+    CellDevice, ConsoleError, Output, Status, gather_cells, refuse, write_lines, write_text,
+};
 use iocm_plant::Plant;
+use iocm_tree::Tree;
 use iocm_types::Fault;
-use std::alloc::Global;
+use std::alloc::{Allocator, Global};
 use std::io::Write;
+
+/// Prints a report of a change that was made: how many subchannels it altered and the table of the machine, or the change deck that takes
+/// it back. All memory is taken before the first byte is written.
+///
+/// M1, a refusal, which is printed: memory was wanted.
+pub fn print_report<W: Write>(
+    alloc: Global,
+    report: Report,
+    done: &Done,
+    plant: &Plant,
+    output: &mut Output<W>,
+) -> Result<Status, ConsoleError>
+    ensures text { IfOk result (SaysIfMemory W.contents output.old output.new (reported report (len (effect_in done.now.effect).lives) (plain_tree (tree_of done.now.inverse)) plant.now.state)) }
+    ensures works { OnOk result (has_failed output.new ≡ has_failed output.old) }
+    ensures fault { IfErr result (FailedToWrite output.new) }
+{
+    match report {
+        Report::Table => print_machine(alloc, done.effect.lives.len(), plant, output),
+        Report::WayBack => print_way_back(alloc, &done.inverse, output),
+    }
+}
 
 /// Prints how many subchannels a change altered, and the table of the machine. All memory is taken before the first byte is written.
 ///
 /// M1, a refusal, which is printed: memory was wanted.
-pub fn print_machine<W: Write>(
+fn print_machine<W: Write>(
     alloc: Global,
     altered: usize,
     plant: &Plant,
     output: &mut Output<W>,
 ) -> Result<Status, ConsoleError>
-    ensures text { IfOk result (SaysIfMemory W.contents output.old output.new (record { text = (changed_text altered ++ 10 ∷ []) ++ table_of plant.now.state.config plant.now.state.numbers; status = Done })) }
+    ensures text { IfOk result (SaysIfMemory W.contents output.old output.new (record { text = (changed_text altered ++ 10 ∷ []) ++ table_of plant.now.state.config plant.now.state.numbers; status = status.Done })) }
     ensures works { OnOk result (has_failed output.new ≡ has_failed output.old) }
     ensures fault { IfErr result (FailedToWrite output.new) }
 {
@@ -40,10 +72,28 @@ fn print_lines<W: Write>(
     cells: &[CellDevice],
     output: &mut Output<W>,
 ) -> Result<Status, ConsoleError>
-    ensures text { IfOk result (Says W.contents output.old output.new (record { text = (changed_text altered ++ 10 ∷ []) ++ (table_at config.now.records (celled cells.now)).text; status = Done })) }
+    ensures text { IfOk result (Says W.contents output.old output.new (record { text = (changed_text altered ++ 10 ∷ []) ++ (table_at config.now.records (celled cells.now)).text; status = status.Done })) }
     ensures works { OnOk result (has_failed output.new ≡ has_failed output.old) }
     ensures fault { IfErr result (FailedToWrite output.new) }
 {
     output.changed(altered)?;
     write_lines(output, config, cells)
+}
+
+/// Prints the change deck of a tree that takes a change back. All memory is taken before the first byte is written.
+///
+/// M1, a refusal, which is printed: memory was wanted.
+fn print_way_back<A: Allocator, W: Write>(
+    alloc: Global,
+    tree: &Tree<A>,
+    output: &mut Output<W>,
+) -> Result<Status, ConsoleError>
+    ensures text { IfOk result (SaysIfMemory W.contents output.old output.new (record { text = way_back_text (plain_tree (tree_of tree.now)); status = status.Done })) }
+    ensures works { OnOk result (has_failed output.new ≡ has_failed output.old) }
+    ensures fault { IfErr result (FailedToWrite output.new) }
+{
+    match way_back(alloc, tree) {
+        Ok(bytes) => write_text(output, &bytes),
+        Err(error) => refuse(Fault::from(error), output),
+    }
 }

@@ -1,9 +1,10 @@
-use crate::apply_change;
+use crate::{Report, apply_change};
 use iocm_columns::Device;
 use iocm_console::{ConsoleError, Output, Status};
 use std::alloc::{AllocError, Global};
 use std::io;
 use std::io::{Read, Write};
+use std::process::Abort;
 use std::test::Fail;
 
 const BASE: &[u8] = b"         RESOURCE PARTITION=((CSS(0),(LPA,1),(LPB,2)))
@@ -86,10 +87,23 @@ fn applied(
     change: &[u8],
     bytes: &mut Vec<u8>,
 ) -> Result<Status, ConsoleError> {
+    reported(alloc, heap, Report::Table, deck, change, bytes)
+}
+
+/// The same with any report.
+fn reported(
+    alloc: Global,
+    heap: usize,
+    report: Report,
+    deck: &[u8],
+    change: &[u8],
+    bytes: &mut Vec<u8>,
+) -> Result<Status, ConsoleError> {
     let mut output = Output::new(Sheet { bytes, room: 1024 });
     apply_change(
         alloc,
         heap,
+        report,
         &mut Device::new(deck),
         &mut Device::new(change),
         10,
@@ -245,47 +259,69 @@ fn a_heap_of_any_size_is_enough_or_refused(rt: HostRuntime) -> Result<(), Fail> 
     Ok(())
 }
 
-#[test]
-fn a_change_deck_that_cant_be_read_is_a_fault(rt: HostRuntime) -> Result<(), Fail> {
-    let mut bytes = Vec::with_capacity(rt.alloc(), 1024)?;
+/// Whether nothing is printed but a fault where a deck's reads, or its change deck's, fail after so many good ones.
+fn is_fault_of_reading(alloc: Global, deck: u64, change: u64) -> Result<bool, AllocError> {
+    let mut bytes = Vec::with_capacity(alloc, 1024)?;
     let mut output = Output::new(Sheet {
         bytes: &mut bytes,
         room: 1024,
     });
-    let mut change = Device::new(Halting {
-        bytes: ADD_OF_0FFF,
-        good: 1,
-    });
     let ended = apply_change(
-        rt.alloc(),
+        alloc,
         AMPLE,
-        &mut Device::new(BASE),
-        &mut change,
+        Report::Table,
+        &mut Device::new(Halting {
+            bytes: BASE,
+            good: deck,
+        }),
+        &mut Device::new(Halting {
+            bytes: ADD_OF_0FFF,
+            good: change,
+        }),
         10,
         &mut output,
     );
-    assert!(rt; matches!(ended, Err(ConsoleError::Read)));
-    assert!(rt; bytes.is_empty());
+    Ok(matches!(ended, Err(ConsoleError::Read)) && bytes.is_empty())
+}
+
+/// How many reads give a short deck, with the one that gives its end.
+const READS: u64 = 2;
+
+#[test]
+fn each_read_that_fails_is_a_fault(rt: HostRuntime) -> Result<(), Fail> {
+    for good in 0..READS {
+        assert!(rt; is_fault_of_reading(rt.alloc(), good, READS)?, "{good}");
+        assert!(rt; is_fault_of_reading(rt.alloc(), READS, good)?, "{good}");
+    }
+    assert!(rt; !is_fault_of_reading(rt.alloc(), READS, READS)?);
     Ok(())
 }
 
-#[test]
-fn a_write_that_fails_is_a_fault(rt: HostRuntime) -> Result<(), Fail> {
-    let mut bytes = Vec::with_capacity(rt.alloc(), 1024)?;
+/// Whether what can't be written whole, for want of room on the sheet, is a fault.
+fn is_fault_of_writing(alloc: Global, room: usize) -> Result<bool, AllocError> {
+    let mut bytes = Vec::with_capacity(alloc, 1024)?;
     let mut output = Output::new(Sheet {
         bytes: &mut bytes,
-        room: ADDED.len() - 1,
+        room,
     });
     let ended = apply_change(
-        rt.alloc(),
+        alloc,
         AMPLE,
+        Report::Table,
         &mut Device::new(BASE),
         &mut Device::new(ADD_OF_0FFF),
         10,
         &mut output,
     );
-    assert!(rt; matches!(ended, Err(ConsoleError::Write)));
-    assert!(rt; ADDED.starts_with(bytes.as_slice()));
+    Ok(matches!(ended, Err(ConsoleError::Write)) && ADDED.starts_with(bytes.as_slice()))
+}
+
+#[test]
+fn each_write_that_fails_is_a_fault(rt: HostRuntime) -> Result<(), Fail> {
+    for room in 0..ADDED.len() {
+        assert!(rt; is_fault_of_writing(rt.alloc(), room)?, "{room}");
+    }
+    assert!(rt; !is_fault_of_writing(rt.alloc(), ADDED.len())?);
     Ok(())
 }
 
@@ -303,5 +339,92 @@ fn is_whole_or_refused(alloc: Global) -> bool {
 #[test]
 fn a_change_without_memory_is_refused_alone(rt: HostRuntime) -> Result<(), Fail> {
     assert!(rt; is_whole_or_refused(rt.alloc()));
+    Ok(())
+}
+
+/// Tries that the way back of a change deck for the base deck is this change deck.
+fn try_way_back(
+    rt: &impl Abort,
+    alloc: Global,
+    change: &[u8],
+    wanted: &'static [u8],
+) -> Result<(), Fail> {
+    let mut bytes = Vec::with_capacity(alloc, 1024)?;
+    let ended = reported(alloc, AMPLE, Report::WayBack, BASE, change, &mut bytes);
+    assert!(rt; matches!(ended, Ok(Status::Done)));
+    assert_eq!(rt; bytes.as_slice(), wanted);
+    Ok(())
+}
+
+#[test]
+fn an_addition_is_taken_back_by_a_deletion(rt: HostRuntime) -> Result<(), Fail> {
+    let wanted = b"         ROW
+DELETE   IODEVICE ADDRESS=(0FFF,1)
+         END
+";
+    try_way_back(&rt, rt.alloc(), ADD_OF_0FFF, wanted)
+}
+
+const DELETION_TAKEN_BACK: &[u8] = b"         ROW
+ADD      IODEVICE ADDRESS=(1001,1),CUNUMBR=(1000),UNITADD=01
+         END
+* css 0 device 0.1001 had number 0001
+* subchannel 0.1.0.0001 had lpm C0 ena 0 parm 00000000 scsw 0
+* subchannel 0.2.0.0001 had lpm C0 ena 0 parm 00000000 scsw 0
+";
+
+#[test]
+fn a_deletion_is_taken_back_by_an_addition(rt: HostRuntime) -> Result<(), Fail> {
+    let deletion = b"DELETE   IODEVICE ADDRESS=1001\n";
+    try_way_back(&rt, rt.alloc(), deletion, DELETION_TAKEN_BACK)
+}
+
+#[test]
+fn edits_are_taken_back_the_last_first(rt: HostRuntime) -> Result<(), Fail> {
+    let change = b"ADD      ONLINE PATH=(CSS(0),51),PARTITION=(LPB)
+DELETE   ONLINE PATH=(CSS(0),50),PARTITION=(LPB)
+MODIFY   IODEVICE ADDRESS=1003,CUNUMBR=1000,UNITADD=05
+";
+    let mut bytes = Vec::with_capacity(rt.alloc(), 2048)?;
+    let ended = reported(rt.alloc(), AMPLE, Report::WayBack, BASE, change, &mut bytes);
+    assert!(rt; matches!(ended, Ok(Status::Done)));
+    let deck = b"         ROW
+MODIFY   IODEVICE ADDRESS=(1003,1),CUNUMBR=(1000),UNITADD=03
+ADD      ONLINE PATH=(CSS(0),50),PARTITION=(LPB)
+DELETE   ONLINE PATH=(CSS(0),51),PARTITION=(LPB)
+         END
+* subchannel 0.2.0.0000 had lpm ";
+    assert!(rt; bytes.as_slice().starts_with(deck));
+    Ok(())
+}
+
+#[test]
+fn a_refused_change_has_no_way_back(rt: HostRuntime) -> Result<(), Fail> {
+    let mut bytes = Vec::with_capacity(rt.alloc(), 1024)?;
+    let change = b"DELETE   IODEVICE ADDRESS=2000\n";
+    let ended = reported(rt.alloc(), AMPLE, Report::WayBack, BASE, change, &mut bytes);
+    assert!(rt; matches!(ended, Ok(Status::Refused)));
+    assert_eq!(rt;
+        bytes.as_slice(),
+        b"refused E2 node 0 device 0.2000\n".as_slice()
+    );
+    Ok(())
+}
+
+/// Whether the way back of a deletion is printed, or only that memory is wanted.
+fn is_way_back_or_refused(alloc: Global) -> bool {
+    let Ok(mut bytes) = Vec::with_capacity(alloc, 1024) else {
+        return true;
+    };
+    let deletion = b"DELETE   IODEVICE ADDRESS=1001\n";
+    let ended = reported(alloc, AMPLE, Report::WayBack, BASE, deletion, &mut bytes);
+    let is_whole = matches!(ended, Ok(Status::Done)) && bytes.as_slice() == DELETION_TAKEN_BACK;
+    let is_refused = matches!(ended, Ok(Status::Refused)) && bytes.as_slice() == WANT_OF_MEMORY;
+    is_whole || is_refused
+}
+
+#[test]
+fn a_way_back_without_memory_is_refused_alone(rt: HostRuntime) -> Result<(), Fail> {
+    assert!(rt; is_way_back_or_refused(rt.alloc()));
     Ok(())
 }

@@ -11,16 +11,16 @@ use Rattle.iocm_apply.proofs.apply.apply_change.Goals as goal
 
 pub returns-in-Err-clause-known_bytes : goal.returns-in-Err-clause-known_bytes
 returns-in-Err-clause-known_bytes g c = IfSome_then (g.R.Read.remaining (reader_of c.args.deck.now)) c.in-Err.ensures.known_bytes
-    (λ bytes read. if_some_any (λ lines. IfOk c.answer_unread.result (SaysIfMemory g.W.Write.contents c.args.output.now c.answer_unread.new.output (applied bytes lines)))
+    (λ bytes read. if_some_any (λ lines. IfOk c.answer_unread.result (SaysIfMemory g.W.Write.contents c.args.output.now c.answer_unread.new.output (applied c.args.report bytes lines)))
     (g.S.Read.remaining (reader_of c.args.change.now))
-    (λ lines. refuses_lines g.W.Write.contents c.args.output.now c.answer_unread.new.output (λ config numbers. lines_tried (opening_state config) (cards_of lines)) (λ v. v.items)
+    (λ lines. refuses_lines g.W.Write.contents c.args.output.now c.answer_unread.new.output (λ config numbers. lines_tried c.args.report (opening_state config) (cards_of lines)) (λ v. v.items)
     c.answer_unread.result bytes c.in-Err.fault c.answer_unread.ensures.readable read c.answer_unread.ensures.text))
 
 pub returns-in-Err-clause-some_bytes : goal.returns-in-Err-clause-some_bytes
 returns-in-Err-clause-some_bytes g c = let read = c.in-Err.ensures.some_bytes in let no_bytes : List ℕ = [] in (
   read.0,
   no_bytes,
-  refuses_lines g.W.Write.contents c.args.output.now c.answer_unread.new.output (λ config numbers. lines_tried (opening_state config) (cards_of no_bytes)) (λ v. v.items)
+  refuses_lines g.W.Write.contents c.args.output.now c.answer_unread.new.output (λ config numbers. lines_tried c.args.report (opening_state config) (cards_of no_bytes)) (λ v. v.items)
       c.answer_unread.result read.0 c.in-Err.fault c.answer_unread.ensures.readable read.1 c.answer_unread.ensures.text,
 )
 
