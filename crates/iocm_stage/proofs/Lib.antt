@@ -1,0 +1,9 @@
+mod Again
+mod Agreeing
+mod Begun
+mod Copied
+mod EditsLeft
+mod Going
+mod Like
+mod Lists
+mod Stages
