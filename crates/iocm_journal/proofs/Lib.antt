@@ -1,0 +1,16 @@
+mod Answers
+mod Taken
+mod Rows
+mod NeverUndone
+mod Few
+mod Passing
+mod Places
+mod GoingOn
+mod Refused
+mod Undoing
+mod Redoing
+mod Deciding
+mod UndoDecided
+mod RedoDecided
+mod UndoCalls
+mod RedoCalls

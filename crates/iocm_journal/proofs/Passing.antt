@@ -1,0 +1,52 @@
+-- The last place that passes a test.
+use Rattle.std.proofs.Common.{◌≡◌, ◌⊎◌, inl, inr, ℕ, zero, suc, ◌+◌, ◌<◌, Bool, true, false, cond, eqb, Option, Some, None, refl, sym, ap, ◌∙◌, arith}
+use Rattle.std.proofs.lemmas.Bool.{eqb-true, eq-eqb}
+use Rattle.iocm_journal.specs.Standing.{last_passing}
+
+-- a place passes, and no later one; or none passes
+abbrev pub IsLastPassing : (ℕ → Bool) → ℕ → Option ℕ → Type 0
+IsLastPassing passes n (Some at) = (at < n) × (passes at ≡ true) × ((k : ℕ) → at < k → k < n → passes k ≡ false)
+IsLastPassing passes n None = (k : ℕ) → k < n → passes k ≡ false
+
+below_or_last : (k n : ℕ) → k < suc n → (k < n) ⊎ (k ≡ n)
+below_or_last k n low = by (eqb k n) refl
+  where
+    by : (b : Bool) → eqb k n ≡ b → (k < n) ⊎ (k ≡ n)
+    by true is = inr (eqb-true k n is)
+    by false is = inl (let apart = (λ (same : k ≡ n). let yes : true ≡ false = sym (eq-eqb k n same) ∙ is in absurd (cc_false yes)) in less k n low apart)
+      where
+        cc_false : true ≡ false → ⊥
+        cc_false e = cc
+
+        less : (k n : ℕ) → k < suc n → (k ≡ n → ⊥) → k < n
+        less k n low apart = omega (arith, apart)
+
+one_longer : (passes : ℕ → Bool) (n : ℕ) (o : Option ℕ) → passes n ≡ false → IsLastPassing passes n o → IsLastPassing passes (suc n) o
+one_longer passes n (Some at) is rest = (omega (arith, rest.0), rest.1, λ k more less. by k more (below_or_last k n less))
+  where
+    by : (k : ℕ) → at < k → (k < n) ⊎ (k ≡ n) → passes k ≡ false
+    by k more (inl low) = rest.2 k more low
+    by k more (inr same) = ap passes same ∙ is
+one_longer passes n None is rest = λ k less. by k (below_or_last k n less)
+  where
+    by : (k : ℕ) → (k < n) ⊎ (k ≡ n) → passes k ≡ false
+    by k (inl low) = rest k low
+    by k (inr same) = ap passes same ∙ is
+
+pub last_passing_is : (passes : ℕ → Bool) (n : ℕ) → IsLastPassing passes n (last_passing passes n)
+last_passing_is passes zero = λ k low. absurd (omega (arith, low))
+last_passing_is passes (suc n) = by (passes n) refl (last_passing_is passes n)
+  where
+    by : (b : Bool) → passes n ≡ b → IsLastPassing passes n (last_passing passes n) → IsLastPassing passes (suc n) (cond b (Some n) (last_passing passes n))
+    by true is rest = (omega arith, is, λ k more less. absurd (omega (arith, more, less)))
+    by false is rest = one_longer passes n (last_passing passes n) is rest
+
+to_suc : (n k : ℕ) → n ≡ k + 1 → n ≡ suc k
+to_suc n k is = omega (arith, is)
+
+-- one place less, where the last doesn't pass; and the last, where it does
+pub passing_down : (passes : ℕ → Bool) (n k : ℕ) → n ≡ k + 1 → passes k ≡ false → last_passing passes n ≡ last_passing passes k
+passing_down passes n k is off = ap (last_passing passes) (to_suc n k is) ∙ ap (λ b. cond b (Some k) (last_passing passes k)) off
+
+pub passing_here : (passes : ℕ → Bool) (n k : ℕ) → n ≡ k + 1 → passes k ≡ true → last_passing passes n ≡ Some k
+passing_here passes n k is on = ap (last_passing passes) (to_suc n k is) ∙ ap (λ b. cond b (Some k) (last_passing passes k)) on

@@ -1,0 +1,159 @@
+-- Undos and redos as calls: what decides them, and what they leave.
+use Rattle.std.proofs.Common.{◌≡◌, inl, inr, ℕ, zero, suc, ◌+◌, Bool, true, false, Option, Some, None, Result, Ok, Err, List, ◌∷◌, length, refl, sym, ap, subst, ◌∙◌, arith}
+use Rattle.std.specs.Prelude.{OnOk, OnErr, IfErr}
+use Rattle.std.specs.Option.{option_map}
+use Rattle.std.specs.FinMap.{keys}
+use Rattle.std.specs.List.{slice_get}
+use Rattle.iocm_types.specs.declared.answer.Answer.{Answer}
+use Rattle.iocm_types.specs.declared.answer.Answer.TheVariants as answers
+use Rattle.iocm_types.specs.declared.refused.At.TheVariants.{Nothing, Change}
+use Rattle.iocm_types.specs.declared.refused.Refused.{Refused}
+use Rattle.iocm_types.specs.declared.rule.Rule.TheVariants.{J1, J2}
+use Rattle.iocm_types.specs.declared.sub_id.SubId.{SubId}
+use Rattle.iocm_model.specs.Operation.State.{State}
+use Rattle.iocm_model.specs.Change.Edit.{Edit}
+use Rattle.iocm_model.specs.Change.InverseTree.{inverse_tree}
+use Rattle.iocm_model.specs.Change.Meaning.{Outcome, meaning, state_reached}
+use Rattle.iocm_model.specs.Change.Refusal.{refusal_at, first_not_quiet}
+use Rattle.iocm_model.specs.Laws.Trees.{KeepsTheRules}
+use Rattle.iocm_history.specs.Entry.{undo, History, plain_entry}
+use Rattle.iocm_history.specs.Fits.{fits}
+use Rattle.iocm_history.specs.Account.{account, marked_entries, state_at}
+use Rattle.iocm_history.specs.Journal.{is_in, journal_of}
+use Rattle.iocm_history.specs.Legal.{not_quiet_of, unless_not_quiet, undo_answer, IsRight}
+use Rattle.iocm_history.specs.StandsOn.{stands_on}
+use Rattle.iocm_history.specs.UndoLaws.{undo_entry}
+use Rattle.iocm_history.proofs.EachCall.{states_stay_in_use}
+use Rattle.iocm_history.proofs.Undoing.{MayBeUndone, may_be_undone}
+use Rattle.iocm_reckoning.proofs.Facts.{standing_were_accepted}
+use Rattle.iocm_reckoning.proofs.UndoMeans.{undo_means_the_undo}
+use Rattle.iocm_tree.specs.Trees.{plain_tree, tree_of}
+use Rattle.iocm_activate.specs.Done.{AreToldBy, refusal_in}
+use Rattle.iocm_activate.specs.Effects.{effect_in}
+use Rattle.iocm_activate.specs.Told.{told_of_all}
+use Rattle.iocm_activate.specs.declared.effect.Effect.{Effect}
+use Rattle.iocm_plant.specs.Operating.{Operating}
+use Rattle.iocm_plant.specs.Refusing.{IsDue, no_memory}
+use Rattle.iocm_journal.specs.Answering.{IsNext, undo_made}
+use Rattle.iocm_journal.specs.Deciding.{IsUndoDecided}
+use Rattle.iocm_journal.specs.Kept.{IsKept}
+use Rattle.iocm_journal.specs.Moving.{KeepsTheSame, WasUndone}
+use Rattle.iocm_journal.specs.Now.{IsJournalOf, IsNow, BelongTogether}
+use Rattle.iocm_journal.specs.Standing.{stands_at, inverse_at, is_on, last_passing}
+use Rattle.iocm_journal.specs.declared.kept.Kept.{Kept}
+use Rattle.iocm_journal.specs.declared.journal.Journal.{Journal}
+use Rattle.iocm_journal.proofs.Deciding.{stands_is, effect_there}
+use Rattle.iocm_journal.proofs.Places.{stands_low, inverse_item}
+use Rattle.iocm_journal.proofs.Refused.{right_undo, lacking_undo, undo_refused}
+use Rattle.iocm_journal.proofs.UndoDecided.{quiet_is, stands_on_is, undo_decided, not_standing}
+use Rattle.iocm_journal.proofs.Undoing.{undone_now}
+
+-- ---- what belongs together
+
+-- the machine keeps the rules
+pub rules_now : (j : Journal) (fs : List Effect) (p : Operating) → BelongTogether j fs p → KeepsTheRules p.state
+rules_now j fs p b = subst KeepsTheRules (sym b.now.state) (states_stay_in_use b.opening b.history b.now.journal.used b.now.journal.legal).rules
+
+pub same_journal : (j : Journal) → KeepsTheSame j j
+same_journal j = record { changes = refl; standing = refl; undone = refl }
+
+differ : true ≡ false → ⊥
+differ e = cc
+
+-- ---- a change that doesn't stand
+
+pub off : (opening : State) (h : History) (j : Journal) (fs : List Effect) → IsJournalOf opening h j fs → (n : ℕ)
+    → ((at : ℕ) → n ≡ at + 1 → stands_at j.changes.items at ≡ false) → is_in n (journal_of h).standing ≡ false
+off opening h j fs i zero none = by (is_in 0 (journal_of h).standing) refl
+  where
+    by : (b : Bool) → is_in 0 (journal_of h).standing ≡ b → b ≡ false
+    by true is = let low = (standing_were_accepted opening h 0 i.used i.legal is).0 in absurd (omega (arith, low))
+    by false is = refl
+off opening h j fs i (suc at) none = subst (λ m. is_in m (journal_of h).standing ≡ false) (plus at) (stands_is opening h j fs i at ∙ none at (sym (plus at)))
+  where
+    plus : (m : ℕ) → m + 1 ≡ suc m
+    plus m = omega arith
+
+pub undo_of_none : (opening : State) (h : History) (j : Journal) (fs : List Effect) (p : Operating) (n : ℕ) (why : Refused) → IsNow opening h j fs p
+    → ((at : ℕ) → n ≡ at + 1 → stands_at j.changes.items at ≡ false) → why ≡ refusal_at J1 Nothing → IsNext opening h (undo_made n (Err why)) j fs p
+undo_of_none opening h j fs p n why now none is =
+    undo_refused opening h j fs p now j p (same_journal j) refl n why
+    (right_undo opening h n (answers.Refused why) now.idle (ap answers.Refused is ∙ not_standing opening h n (off opening h j fs now.journal n none)))
+
+-- ---- what decides an undo
+
+module _ (opening : State) (h : History) (j : Journal) (fs : List Effect) (p : Operating) (now : IsNow opening h j fs p) (place : ℕ) (k : Kept) (f : Effect)
+    (at_k : slice_get j.changes.items place ≡ Some k) (at_f : slice_get fs place ≡ Some f) (stands : k.stands ≡ true) (is_fit : Bool)
+    (fit : (es : List Edit) (s : State) → plain_tree (tree_of k.inverse) ≡ inverse_tree es s → AreToldBy k.performed.items (told_of_all es s)
+    → is_fit ≡ fits (record { edits = es; from = s }) p.state) where
+  abbrev it : IsKept opening h (place + 1) k f
+  it = now.journal.kept place k f at_k at_f
+
+  abbrev found : Option ℕ
+  found = last_passing (is_on j.changes.items fs place is_fit) (length j.changes.items)
+
+  on_is : stands_on (place + 1) (marked_entries opening h) (state_at opening h) ≡ option_map (λ at. at + 1) found
+  on_is = stands_on_is opening h j fs p now place k f at_k at_f stands is_fit (fit it.change.edits it.change.from it.inverse it.performed)
+
+  -- J2: a change stands on it
+  pub stood_on : (other : ℕ) (why : Refused) → found ≡ Some other → why ≡ refusal_at J2 (Change (other + 1)) → IsUndoDecided opening h (place + 1) (Some why)
+  stood_on other why is named =
+      ap answers.Refused named
+      ∙ undo_decided opening h j fs p now place k f at_k at_f stands (Some (other + 1)) (not_quiet_of (place + 1) (state_at opening h) (account opening h))
+      (on_is ∙ ap (option_map (λ at. at + 1)) is) refl
+
+  -- B1, or nothing
+  pub waits_for : (quiet : Option SubId) (answer : Answer) → found ≡ None → quiet ≡ first_not_quiet p.state.lives (keys (effect_in f).lives)
+      → answer ≡ unless_not_quiet quiet (answers.Undone (place + 1))
+      → answer ≡ undo_answer (place + 1) (journal_of h).standing (stands_on (place + 1) (marked_entries opening h) (state_at opening h)) (not_quiet_of (place + 1) (state_at opening h) (account opening h))
+  waits_for quiet answer none quiet_at is =
+      is ∙ undo_decided opening h j fs p now place k f at_k at_f stands None quiet (on_is ∙ ap (option_map (λ at. at + 1)) none)
+      (quiet_is opening h j fs p now (place + 1) k f it ∙ sym quiet_at)
+
+-- ---- an undo that is performed
+
+pub none_due : (o : Outcome) (t : State) (why : Refused) → state_reached o ≡ Some t → IsDue (refusal_in o) why → why ≡ no_memory
+none_due (Ok r) t why reached (inl due) = cc
+none_due (Ok r) t why reached (inr lack) = lack
+none_due (Err other) t why reached due = cc
+
+module _ (opening : State) (h : History) (i : Journal) (fs : List Effect) (p : Operating) (now : IsNow opening h i fs p) (place : ℕ)
+    (decided : IsUndoDecided opening h (place + 1) None) (stands : stands_at i.changes.items place ≡ true) (mid : State) (mid_is : mid ≡ p.state) where
+  may : MayBeUndone (state_at opening h) (journal_of h) (account opening h) (place + 1)
+  may = may_be_undone opening h (place + 1) (right_undo opening h (place + 1) (answers.Undone (place + 1)) now.idle decided)
+
+  pub undo_performed : (result : Result (Unit {0}) Refused) (j : Journal) (q : Operating) → OnOk result (WasUndone i place mid q.state j)
+      → IfErr result (IsDue (refusal_in (meaning (inverse_at i.changes.items place) mid))) → OnErr result (q.state ≡ mid) → OnErr result (KeepsTheSame i j)
+      → IsNext opening h (undo_made (place + 1) result) j fs q
+  undo_performed (Ok done) j q was due same kept =
+      let l = stands_low i.changes.items place stands in
+      let f = effect_there opening h i fs now.journal place l.0 l.1 in
+      let w : WasUndone i place p.state q.state j = subst (λ s. WasUndone i place s q.state j) mid_is was in
+      let same_kept : Some w.kept ≡ Some l.0 = sym w.there ∙ l.1 in
+      undone_now opening h i fs p now place f.0 f.1 j q w (ap (λ k. stands_of k) same_kept ∙ l.2) may.none may.quiet
+    where
+      stands_of : Option Kept → Bool
+      stands_of (Some k) = k.stands
+      stands_of None = false
+  undo_performed (Err why) j q was due same kept =
+      let l = stands_low i.changes.items place stands in
+      let f = effect_there opening h i fs now.journal place l.0 l.1 in
+      let it = now.journal.kept place l.0 f.0 l.1 f.1 in
+      let meant = (undo_means_the_undo opening h (place + 1) it.change now.journal.used now.journal.legal now.idle may.here may.none may.quiet it.there).1 in
+      let tree : inverse_at i.changes.items place ≡ inverse_tree it.change.edits it.change.from = inverse_item i.changes.items place l.0 l.1 ∙ it.inverse in
+      let reached : state_reached (meaning (inverse_at i.changes.items place) mid) ≡ Some (state_at opening (undo_entry (place + 1) ∷ h))
+      = (λ z. state_reached (meaning (tree z) ((mid_is ∙ now.state) z))) ∙ meant in
+      let lack = none_due (meaning (inverse_at i.changes.items place) mid) _ why reached due in
+      undo_refused opening h i fs p now j q kept (same ∙ mid_is) (place + 1) why
+      (subst (λ w. IsRight opening h (plain_entry (undo (place + 1)) (answers.Refused w))) (sym lack) (lacking_undo opening h (place + 1)))
+
+-- ---- an undo that is refused
+
+pub undo_stopped : (opening : State) (h : History) (i : Journal) (fs : List Effect) (p q : Operating) (n : ℕ) (why : Refused) → IsNow opening h i fs p
+    → IsUndoDecided opening h n (Some why) → q.state ≡ p.state → IsNext opening h (undo_made n (Err why)) i fs q
+undo_stopped opening h i fs p q n why now decided same =
+    undo_refused opening h i fs p now i q (same_journal i) same n why (right_undo opening h n (answers.Refused why) now.idle decided)
+
+pub undo_lacks : (opening : State) (h : History) (i : Journal) (fs : List Effect) (p q : Operating) (n : ℕ) → IsNow opening h i fs p → q.state ≡ p.state
+    → IsNext opening h (undo_made n (Err no_memory)) i fs q
+undo_lacks opening h i fs p q n now same = undo_refused opening h i fs p now i q (same_journal i) same n no_memory (lacking_undo opening h n)

@@ -1,0 +1,42 @@
+-- An undo makes the entry that is right, and leaves what it gives.
+use Rattle.std.proofs.Common.{◌+◌, Err, sym, subst}
+use Rattle.iocm_model.specs.Laws.Trees.{KeepsTheRules}
+use Rattle.iocm_journal.specs.Answering.{IsNext, undo_made}
+use Rattle.iocm_journal.specs.Deciding.{IsUndoDecided}
+use Rattle.iocm_journal.proofs.Few.{some_stand}
+use Rattle.iocm_journal.proofs.Places.{stands_within}
+use Rattle.iocm_journal.proofs.UndoCalls.{rules_now, undo_of_none, undo_performed, undo_stopped, undo_lacks}
+use Rattle.iocm_journal.proofs.journal.Journal.undo.Goals as goal
+
+pub returns-in_default-clause-next : goal.returns-in_default-clause-next
+returns-in_default-clause-next c = λ opening h now. undo_of_none opening h c.args.self.now c.args.changes.now c.args.plant.now c.args.number c.about_nothing.result now
+    c.in_default.ensures c.about_nothing.ensures
+
+pub undo_obstacle-requires-clause-place : goal.undo_obstacle-requires-clause-place
+undo_obstacle-requires-clause-place c = stands_within c.args.self.now.changes.items c.in-Some.place c.in-Some.ensures.1
+
+pub take_back-requires-clause-rules : goal.take_back-requires-clause-rules
+take_back-requires-clause-rules c = subst KeepsTheRules (sym c.in-Ok-None.ensures.same) (rules_now c.args.self.now c.args.changes.now c.args.plant.now c.requires)
+
+pub take_back-requires-clause-place : goal.take_back-requires-clause-place
+take_back-requires-clause-place c = stands_within c.args.self.now.changes.items c.in-Some.place c.in-Some.ensures.1
+
+pub take_back-requires-clause-some : goal.take_back-requires-clause-some
+take_back-requires-clause-some c = some_stand c.args.self.now c.args.changes.now c.args.plant.now c.requires c.in-Some.place c.in-Some.ensures.1
+
+pub returns-in-Ok-None-clause-next : goal.returns-in-Ok-None-clause-next
+returns-in-Ok-None-clause-next c = λ opening h now. subst (λ n. IsNext opening h (undo_made n c.take_back.result) c.take_back.new.self c.args.changes.now c.take_back.new.plant)
+    (sym c.in-Some.ensures.0)
+    (undo_performed opening h c.args.self.now c.args.changes.now c.args.plant.now now c.in-Some.place
+    (subst (IsUndoDecided opening h (c.in-Some.place + 1)) c.in-Ok-None.field-0-is (c.in-Ok-None.ensures.decided opening h now)) c.in-Some.ensures.1
+    c.undo_obstacle.new.plant.state c.in-Ok-None.ensures.same c.take_back.result c.take_back.new.self c.take_back.new.plant
+    c.take_back.ensures.done c.take_back.ensures.refused c.take_back.ensures.same c.take_back.ensures.journal)
+
+pub returns-in-Ok-Some-clause-next : goal.returns-in-Ok-Some-clause-next
+returns-in-Ok-Some-clause-next c = λ opening h now. subst (λ n. IsNext opening h (undo_made n (Err c.in-Ok-Some.why)) c.args.self.now c.args.changes.now c.undo_obstacle.new.plant)
+    (sym c.in-Some.ensures.0)
+    (undo_stopped opening h c.args.self.now c.args.changes.now c.args.plant.now c.undo_obstacle.new.plant (c.in-Some.place + 1) c.in-Ok-Some.why now
+    (subst (IsUndoDecided opening h (c.in-Some.place + 1)) c.in-Ok-Some.field-0-is (c.in-Ok-Some.ensures.decided opening h now)) c.in-Ok-Some.ensures.same)
+
+pub returns-in-Err-clause-next : goal.returns-in-Err-clause-next
+returns-in-Err-clause-next c = λ opening h now. undo_lacks opening h c.args.self.now c.args.changes.now c.args.plant.now c.undo_obstacle.new.plant c.args.number now c.undo_obstacle.ensures.same

@@ -1,0 +1,6 @@
+pub mod Standing
+pub mod Kept
+pub mod Now
+pub mod Answering
+pub mod Moving
+pub mod Deciding

@@ -1,0 +1,30 @@
+ghost use Rattle.std.specs.Prelude.{◌≡◌};
+ghost use Rattle.std.specs.FinMap as map;
+ghost use Rattle.iocm_model.specs.Change.Refusal as refusal;
+ghost use Rattle.iocm_activate.specs.Effects.{effect_in};
+
+use iocm_activate::Effect;
+use iocm_plant::Plant;
+use iocm_types::{Live, Phase, SubId};
+
+/// The least of the subchannels that a change altered that isn't quiet, if there is one.
+pub fn first_not_quiet(plant: &Plant, change: &Effect) -> Option<SubId>
+    ensures { result ≡ refusal.first_not_quiet plant.now.state.lives (map.keys (effect_in change.now).lives) }
+{
+    for (subchannel, _) in change.lives.walk() {
+        if is_not_quiet(plant.live(*subchannel)) {
+            return Some(*subchannel);
+        }
+    }
+    None
+}
+
+/// Whether a function is in progress, or status is pending; not where there is no live record.
+fn is_not_quiet(live: Option<Live>) -> bool
+    ensures { result ≡ refusal.is_not_quiet live }
+{
+    match live {
+        Some(live) => !matches!(live.phase, Phase::Idle),
+        None => false,
+    }
+}

@@ -1,0 +1,122 @@
+ghost use Rattle.std.specs.Prelude.{◌≡◌, ◌<◌, ◌+◌, ◌++◌, ◌∷◌, [], ℕ, true, length, Some, slice_set, IfOk, IfErr, OnOk, OnErr, MatchOption, ◌≤◌};
+ghost use Rattle.std.specs.Result.{result_err};
+ghost use Rattle.std.specs.List.{slice_get};
+ghost use Rattle.iocm_model.specs.Change.Meaning.{meaning};
+ghost use Rattle.iocm_model.specs.Laws.Trees.{KeepsTheRules};
+ghost use Rattle.iocm_model.specs.Operation.State.{State};
+ghost use Rattle.iocm_history.specs.Entry.{History};
+ghost use Rattle.iocm_plant.specs.Operating.{KeepsRoom};
+ghost use Rattle.iocm_plant.specs.Refusing.{IsDue};
+ghost use Rattle.iocm_activate.specs.Done.{refusal_in};
+ghost use Rattle.iocm_journal.specs.Answering.{IsNext, redo_made};
+ghost use Rattle.iocm_journal.specs.Deciding.{IsRedoDecided};
+ghost use Rattle.iocm_journal.specs.declared.kept.Kept.{Kept};
+ghost use Rattle.iocm_journal.specs.Moving.{KeepsTheSame, WasRedone, again};
+ghost use Rattle.iocm_journal.specs.Now.{BelongTogether, IsNow};
+ghost use Rattle.iocm_journal.specs.Standing.{is_last, redo_at_end};
+
+use crate::quiet::first_not_quiet;
+use crate::refusals::{NO_MEMORY, about_nothing, about_subchannel};
+use crate::{Journal, Undone};
+use iocm_activate::{Effect, activate};
+use iocm_plant::Plant;
+use iocm_types::{Refused, Rule};
+use std::alloc::Global;
+
+impl Journal {
+    /// Does a change again that was undone: the cells that it wrote get back what they had before its undo.
+    ///
+    /// J1: no such change was undone. J3: another one was undone last, or the change was undone before a new one was accepted. B1, with the least: a
+    /// subchannel that it altered is busy or status pending. M1, which may stand in place of any other: memory was wanted. A refused redo
+    /// leaves machine and journal as they were.
+    pub fn redo(
+        &mut self,
+        alloc: Global,
+        plant: &mut Plant,
+        changes: &[Effect],
+        number: u64,
+    ) -> Result<(), Refused>
+        requires { BelongTogether self.old changes.now plant.old }
+        ensures next { (opening : State) (h : History) → IsNow opening h self.old changes.now plant.old → IsNext opening h (redo_made number result) self.new changes.now plant.new }
+        ensures room { KeepsRoom plant.old.room plant.new.room }
+    {
+        match self.redo_place(plant, changes, number) {
+            Ok(place) => self.do_again(alloc, plant, place),
+            Err(why) => Err(why),
+        }
+    }
+
+    /// The place of a change that may be done again, counted from 0; or J1, J3 or B1.
+    fn redo_place(&self, plant: &Plant, changes: &[Effect], number: u64) -> Result<usize, Refused>
+        requires now { BelongTogether self.now changes.now plant.now }
+        ensures decided { (opening : State) (h : History) → IsNow opening h self.now changes.now plant.now → IsRedoDecided opening h number (result_err result) }
+        ensures number { IfOk result (λ place. number ≡ place + 1) }
+        ensures last { OnOk result (is_last self.now.undone.items number ≡ true) }
+        ensures within { IfOk result (λ place. place < length self.now.changes.items) }
+    {
+        let Some(place) = self.place(number) else {
+            return Err(about_nothing(Rule::J1));
+        };
+        if self.changes[place].stands {
+            return Err(about_nothing(Rule::J1));
+        }
+        if !self.is_last_undone(number) {
+            return Err(about_nothing(Rule::J3));
+        }
+        match first_not_quiet(plant, &changes[place]) {
+            Some(subchannel) => Err(about_subchannel(Rule::B1, subchannel)),
+            None => Ok(place),
+        }
+    }
+
+    /// Whether the change of a number is the last one undone.
+    fn is_last_undone(&self, number: u64) -> bool
+        ensures { result ≡ is_last self.now.undone.items number }
+    {
+        match self.undone.last() {
+            Some(undone) => undone.number == number,
+            None => false,
+        }
+    }
+
+    /// Does the last change undone again, by the tree that is kept for that; it stands then. It is at this place among the changes.
+    ///
+    /// The refusal that the tree means, or M1: memory was wanted.
+    fn do_again(&mut self, alloc: Global, plant: &mut Plant, place: usize) -> Result<(), Refused>
+        requires rules { KeepsTheRules plant.old.state }
+        requires place { place < length self.old.changes.items }
+        requires last { is_last self.old.undone.items (place + 1) ≡ true }
+        requires few { self.old.standing ≤ length self.old.changes.items }
+        ensures done { OnOk result (WasRedone self.old place plant.old.state plant.new.state self.new) }
+        ensures refused { IfErr result (IsDue (refusal_in (meaning (redo_at_end self.old.undone.items) plant.old.state))) }
+        ensures same { OnErr result (plant.new.state ≡ plant.old.state) }
+        ensures journal { OnErr result (KeepsTheSame self.old self.new) }
+        ensures room { KeepsRoom plant.old.room plant.new.room }
+    {
+        let Some(last) = self.undone.last() else {
+            return Err(NO_MEMORY);
+        };
+        match activate(alloc, plant, &last.redo) {
+            Ok(_done) => {
+                let _last = self.note_redone(place);
+                Ok(())
+            }
+            Err(why) => Err(why),
+        }
+    }
+
+    /// Notes that the last change undone, at this place, stands again. It gives what was kept of it while it was undone. Can't answer want of
+    /// memory.
+    fn note_redone(&mut self, place: usize) -> Option<Undone>
+        requires place { place < length self.old.changes.items }
+        requires few { self.old.standing ≤ length self.old.changes.items }
+        ensures changes { (k : Kept) → slice_get self.old.changes.items place ≡ Some k → self.new.changes.items ≡ slice_set self.old.changes.items place (again k) }
+        ensures standing { self.new.standing ≡ self.old.standing + 1 }
+        ensures undone { MatchOption result (self.old.undone.items ≡ []) (λ last. self.old.undone.items ≡ self.new.undone.items ++ last ∷ []) }
+    {
+        let kept = &mut self.changes[place];
+        kept.stands = true;
+        self.standing += 1;
+        self.undone.pop()
+    }
+}

@@ -1,0 +1,49 @@
+ghost use Rattle.std.specs.Prelude.{◌≡◌, ◌<◌, ◌+◌, length, MatchOption, not, ◌&&◌, nat_le};
+ghost use Rattle.iocm_journal.specs.Standing.{is_on, last_passing};
+
+use crate::Kept;
+use crate::sharing::share_a_cell;
+use iocm_activate::Effect;
+
+/// The place of the greatest change that stands on the one at a place, if one does. Places count from 0; `fits` tells whether the change at the
+/// place fits the machine now.
+pub fn greatest_on(kept: &[Kept], changes: &[Effect], place: usize, fits: bool) -> Option<usize>
+    requires within { place < length kept.now }
+    requires changes { length changes.now ≡ length kept.now }
+    ensures last { result ≡ last_passing (is_on kept.now changes.now place fits) (length kept.now) }
+    ensures within { MatchOption result (Unit {0}) (λ at. at < length kept.now) }
+{
+    let mut left = kept.len();
+    while left > 0 {
+        left -= 1;
+        if stands_on(kept, changes, place, fits, left) {
+            return Some(left);
+        }
+    }
+    None
+}
+
+/// Whether the change at a place `other` stands on the one at a place.
+fn stands_on(kept: &[Kept], changes: &[Effect], place: usize, fits: bool, other: usize) -> bool
+    requires within { place < length kept.now }
+    requires other { other < length kept.now }
+    requires changes { length changes.now ≡ length kept.now }
+    ensures { result ≡ is_on kept.now changes.now place fits other }
+{
+    if fits {
+        return place < other
+            && kept[other].stands
+            && share_a_cell(&changes[place], &changes[other]);
+    }
+    if place < other {
+        return kept[other].stands;
+    }
+    other < place && is_undone_since(&kept[other], place)
+}
+
+/// Whether a change doesn't stand, and was undone since the change at a place was accepted.
+fn is_undone_since(kept: &Kept, place: usize) -> bool
+    ensures { result ≡ (not kept.now.stands && nat_le (place + 1) kept.now.undone_after) }
+{
+    !kept.stands && kept.undone_after > place as u64
+}

@@ -1,0 +1,139 @@
+ghost use Rattle.std.specs.Prelude.{◌≡◌, ◌<◌, ◌+◌, ◌++◌, ◌∷◌, [], ℕ, true, false, length, Some, slice_set, IfOk, IfErr, OnOk, OnErr, MatchOption};
+ghost use Rattle.std.specs.Vec.{vec_len, vec_capacity};
+ghost use Rattle.std.specs.List.{slice_get};
+ghost use Rattle.iocm_model.specs.Change.Meaning.{meaning};
+ghost use Rattle.iocm_model.specs.Laws.Trees.{KeepsTheRules};
+ghost use Rattle.iocm_model.specs.Operation.State.{State};
+ghost use Rattle.iocm_history.specs.Entry.{History};
+ghost use Rattle.iocm_tree.specs.Trees.{plain_tree, tree_of};
+ghost use Rattle.iocm_plant.specs.Operating.{KeepsRoom};
+ghost use Rattle.iocm_plant.specs.Refusing.{IsDue};
+ghost use Rattle.iocm_activate.specs.Done.{refusal_in};
+ghost use Rattle.iocm_journal.specs.Answering.{IsNext, undo_made};
+ghost use Rattle.iocm_journal.specs.Deciding.{IsUndoDecided};
+ghost use Rattle.iocm_journal.specs.declared.kept.Kept.{Kept};
+ghost use Rattle.iocm_journal.specs.Moving.{KeepsTheSame, WasUndone, no_more};
+ghost use Rattle.iocm_journal.specs.Now.{BelongTogether, IsNow};
+ghost use Rattle.iocm_journal.specs.Standing.{inverse_at, stands_at};
+
+use crate::quiet::first_not_quiet;
+use crate::refusals::{NO_MEMORY, about_change, about_nothing, about_subchannel};
+use crate::standing_on::greatest_on;
+use crate::{Journal, Undone};
+use iocm_activate::{Effect, activate, fits};
+use iocm_plant::Plant;
+use iocm_tree::Tree;
+use iocm_types::{Refused, Rule};
+use std::alloc::{AllocError, Global};
+
+impl Journal {
+    /// Undoes a change on its machine: the cells that it wrote get back what they had before it.
+    ///
+    /// J1: no such change stands. J2, with the greatest: a change stands on it. B1, with the least: a subchannel that it altered is busy or status
+    /// pending. M1, which may stand in place of any other: memory was wanted. A refused undo leaves machine and journal as they were.
+    pub fn undo(
+        &mut self,
+        alloc: Global,
+        plant: &mut Plant,
+        changes: &[Effect],
+        number: u64,
+    ) -> Result<(), Refused>
+        requires { BelongTogether self.old changes.now plant.old }
+        ensures next { (opening : State) (h : History) → IsNow opening h self.old changes.now plant.old → IsNext opening h (undo_made number result) self.new changes.now plant.new }
+        ensures room { KeepsRoom plant.old.room plant.new.room }
+    {
+        let Some(place) = self.standing_place(number) else {
+            return Err(about_nothing(Rule::J1));
+        };
+        match self.undo_obstacle(alloc, plant, changes, place) {
+            Ok(None) => self.take_back(alloc, plant, place),
+            Ok(Some(why)) => Err(why),
+            Err(_error) => Err(NO_MEMORY),
+        }
+    }
+
+    /// The place of a change that stands, counted from 0.
+    fn standing_place(&self, number: u64) -> Option<usize>
+        ensures { MatchOption result ((at : ℕ) → number ≡ at + 1 → stands_at self.now.changes.items at ≡ false) (λ at. (number ≡ at + 1) × (stands_at self.now.changes.items at ≡ true)) }
+    {
+        let place = self.place(number)?;
+        if !self.changes[place].stands {
+            return None;
+        }
+        Some(place)
+    }
+
+    /// J2 or B1, if it is in the way of the undo of the standing change at a place.
+    ///
+    /// `AllocError` (M1): memory was wanted.
+    fn undo_obstacle(
+        &self,
+        alloc: Global,
+        plant: &mut Plant,
+        changes: &[Effect],
+        place: usize,
+    ) -> Result<Option<Refused>, AllocError>
+        requires now { BelongTogether self.now changes.now plant.old }
+        requires stands { stands_at self.now.changes.items place ≡ true }
+        requires place { place < length self.now.changes.items }
+        ensures decided { IfOk result (λ why. (opening : State) (h : History) → IsNow opening h self.now changes.now plant.old → IsUndoDecided opening h (place + 1) why) }
+        ensures same { plant.new.state ≡ plant.old.state }
+        ensures room { KeepsRoom plant.old.room plant.new.room }
+    {
+        let kept = &self.changes[place];
+        let is_fit = fits(alloc, plant, &kept.inverse, kept.performed.as_slice())?;
+        if let Some(other) = greatest_on(self.changes.as_slice(), changes, place, is_fit) {
+            return Ok(Some(about_change(Rule::J2, other as u64 + 1)));
+        }
+        match first_not_quiet(plant, &changes[place]) {
+            Some(subchannel) => Ok(Some(about_subchannel(Rule::B1, subchannel))),
+            None => Ok(None),
+        }
+    }
+
+    /// Takes the standing change at a place back, by its inverse tree; it is the last one undone then.
+    ///
+    /// The refusal that the inverse tree means, or M1: memory was wanted.
+    fn take_back(&mut self, alloc: Global, plant: &mut Plant, place: usize) -> Result<(), Refused>
+        requires rules { KeepsTheRules plant.old.state }
+        requires place { place < length self.old.changes.items }
+        requires some { 0 < self.old.standing }
+        ensures done { OnOk result (WasUndone self.old place plant.old.state plant.new.state self.new) }
+        ensures refused { IfErr result (IsDue (refusal_in (meaning (inverse_at self.old.changes.items place) plant.old.state))) }
+        ensures same { OnErr result (plant.new.state ≡ plant.old.state) }
+        ensures journal { OnErr result (KeepsTheSame self.old self.new) }
+        ensures room { KeepsRoom plant.old.room plant.new.room }
+    {
+        if self.undone.reserve(1).is_err() {
+            return Err(NO_MEMORY);
+        }
+        match activate(alloc, plant, &self.changes[place].inverse) {
+            Ok(done) => {
+                self.note_undone(place, done.inverse);
+                Ok(())
+            }
+            Err(why) => Err(why),
+        }
+    }
+
+    /// Notes that the change at a place doesn't stand any more, with the tree that does it again, for which there is room. Can't answer
+    /// want of memory.
+    fn note_undone(&mut self, place: usize, redo: Tree)
+        requires place { place < length self.old.changes.items }
+        requires some { 0 < self.old.standing }
+        requires room { vec_len self.old.undone < vec_capacity self.old.undone }
+        ensures changes { (k : Kept) → slice_get self.old.changes.items place ≡ Some k → self.new.changes.items ≡ slice_set self.old.changes.items place (no_more (length self.old.changes.items) k) }
+        ensures standing { self.new.standing + 1 ≡ self.old.standing }
+        ensures undone { self.new.undone.items ≡ self.old.undone.items ++ record { number = place + 1; redo = redo } ∷ [] }
+    {
+        let count = self.changes.len() as u64;
+        let kept = &mut self.changes[place];
+        kept.stands = false;
+        kept.undone_after = count;
+        self.standing -= 1;
+        self.undone.push_reserved(Undone {
+            number: place as u64 + 1,
+            redo,
+        });
+    }
+}
