@@ -1,5 +1,6 @@
 pub mod Between
 pub mod Candidates
+pub mod Counted
 pub mod Follows
 pub mod Opening
 pub mod Performed

@@ -1,4 +1,4 @@
--- Live records in the order of subchannels: as rows of a table.
+-- What stands in the order of subchannels: as rows of a table.
 use Rattle.std.proofs.Common.{◌≡◌, List, T, sym, ◌∙◌}
 use Rattle.std.specs.List.{IsDistinct}
 use Rattle.std.specs.Map.{keys_of}
@@ -11,7 +11,7 @@ use Rattle.iocm_types.specs.SubId.{sub_id_cmp}
 use Rattle.iocm_types.specs.KeyOrder.{sub_ids_total, sub_ids_exact}
 use Rattle.iocm_seats.proofs.Ordered.{keys_rise}
 
-pub as_rows : (rows : List (SubId × Live)) → T (is_sorted sub_id_cmp rows) → from_entries {R = sub_id_cmp} rows ≡ from_sorted rows
+pub as_rows : {X : Type 0} (rows : List (SubId × X)) → T (is_sorted sub_id_cmp rows) → from_entries {R = sub_id_cmp} rows ≡ from_sorted rows
 as_rows rows up = same_map sub_ids_total sub_ids_exact _ _ (λ x. get-from_entries sub_ids_total rows x ∙ sym (get-from_sorted sub_id_cmp rows x up))
 
 pub rows_distinct : (rows : List (SubId × Live)) → T (is_sorted sub_id_cmp rows) → IsDistinct (eq_by_cmp sub_id_cmp) (keys_of rows)

@@ -1,7 +1,7 @@
 ghost use Rattle.std.specs.Prelude.{◌≡◌};
 ghost use Rattle.std.specs.FinMap as map;
 ghost use Rattle.iocm_lookup.specs.Indexed.{IsIndexOf};
-ghost use Rattle.iocm_model.specs.Operation.State.{seen_in, IsSound};
+ghost use Rattle.iocm_model.specs.Operation.State.{seen_in, views_in, IsSound};
 
 use iocm_config::Config;
 use iocm_index::Index;
@@ -87,6 +87,13 @@ impl Plant {
         ensures { result ≡ map.get self.now.state.lives subchannel }
     {
         live_at(&self.seats, subchannel)
+    }
+
+    /// How many subchannels there are.
+    pub fn subchannels(&self) -> usize
+        ensures { result ≡ map.len (views_in self.now.state) }
+    {
+        self.seats.len()
     }
 
     /// The state is sound: each record stands under its own key, the numbers are those of the configuration, and exactly the subchannels that
