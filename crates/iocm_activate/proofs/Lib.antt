@@ -1,5 +1,5 @@
 mod Activated
-mod Back
+pub mod Back
 mod GoingBack
 mod Kept
 mod Leaves
