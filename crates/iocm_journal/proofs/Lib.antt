@@ -2,11 +2,11 @@ mod Answers
 mod Taken
 mod Rows
 mod NeverUndone
-mod Few
+pub mod Few
 mod Passing
 mod Places
-mod GoingOn
-mod Refused
+pub mod GoingOn
+pub mod Refused
 mod Undoing
 mod Redoing
 mod Deciding

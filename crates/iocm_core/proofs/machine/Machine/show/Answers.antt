@@ -1,0 +1,19 @@
+-- What is shown is counted.
+use Rattle.std.proofs.Common.{refl, ap, ◌∙◌}
+use Rattle.std.specs.FinMap.{len}
+use Rattle.iocm_history.specs.Entry as history
+use Rattle.iocm_types.specs.declared.refused.At.TheVariants.{Nothing}
+use Rattle.iocm_model.specs.Change.Refusal.{refusal_at}
+use Rattle.iocm_types.specs.declared.rule.Rule.TheVariants.{O1}
+use Rattle.iocm_core.proofs.Kept.{none_if, staged_if, refuses, shown_answered}
+use Rattle.iocm_core.proofs.Rightness.{show_o1}
+use Rattle.iocm_core.proofs.machine.Machine.show.Goals as goal
+
+pub returns-then-is_some-clause-answers : goal.returns-then-is_some-clause-answers
+returns-then-is_some-clause-answers c = λ opening h it. let g = staged_if opening h c.args.self.now it c.if-is_some.ensures in
+    refuses opening h c.args.self.now history.show (refusal_at O1 Nothing) it (show_o1 opening h g.0 g.1)
+
+pub returns-clause-answers : goal.returns-clause-answers
+returns-clause-answers c = λ opening h it. shown_answered opening h c.args.self.now
+    (record { records = c.len.result; subchannels = c.subchannels.result; standing = c.args.self.now.journal.standing; undone = c.undone.result }) it
+    (none_if c.args.self.now.stage c.if-is_some.ensures) (c.len.ensures ∙ ap len c.config.ensures) c.subchannels.ensures refl c.undone.ensures

@@ -1,0 +1,47 @@
+-- A machine beside the history that it is of. Own.
+use Rattle.std.specs.Prelude.{◌≡◌, Option, None, Some, ◌∷◌}
+use Rattle.iocm_types.specs.declared.answer.Answer.{Answer}
+use Rattle.iocm_model.specs.Operation.State.{State}
+use Rattle.iocm_history.specs.Entry as history
+use Rattle.iocm_history.specs.Account.{state_at, stage_of}
+use Rattle.iocm_history.specs.Legal.{IsRight}
+use Rattle.iocm_history.specs.Stage.{Stage}
+use Rattle.iocm_plant.specs.Operating.{Operating}
+use Rattle.iocm_stage.specs.Staged.{IsStageOf}
+use Rattle.iocm_stage.specs.declared.staged.Staged.{Staged}
+use Rattle.iocm_journal.specs.Now.{IsJournalOf}
+use Rattle.iocm_core.specs.Accepting.{HasRoom}
+use Rattle.iocm_core.specs.Told.{entry_told}
+use Rattle.iocm_core.specs.declared.machine.Machine.{Machine}
+
+-- what is staged, if anything is, on a machine that would be in a state, were it not for the edits that were advanced
+abbrev pub IsStagedAs : Option Stage → Option Staged → State → Operating → Type 0
+IsStagedAs None None s p = p.state ≡ s
+IsStagedAs (Some t) (Some g) s p = IsStageOf g t s p
+IsStagedAs _ _ s p = ⊥
+
+-- while a change is staged there is memory for its acceptance
+abbrev pub HasRoomFor : Option Staged → Machine → Type 0
+HasRoomFor None m = Unit {0}
+HasRoomFor (Some g) m = HasRoom m
+
+-- a machine after a history from an opening state: its journal, what is staged, and the state to which the history leads
+pub record IsMachineOf (opening : State) (h : history.History) (m : Machine) : Type 0 where
+  pub journal : IsJournalOf opening h m.journal m.changes.items
+  pub stage : IsStagedAs (stage_of opening h) m.stage (state_at opening h) m.plant
+  pub room : HasRoomFor m.stage m
+
+-- a machine that runs
+pub record IsRunning (m : Machine) : Type 0 where
+  pub opening : State
+  pub history : history.History
+  pub is : IsMachineOf opening history m
+
+-- a call was answered: its entry is right after the history, and the machine is then one of the history with it
+pub record IsAnswered (opening : State) (h : history.History) (call : history.Call) (answer : Answer) (m : Machine) : Type 0 where
+  pub right : IsRight opening h (entry_told m.changes.items call answer)
+  pub is : IsMachineOf opening (entry_told m.changes.items call answer ∷ h) m
+
+-- a call on a machine: whatever history it is of, it is of that with the call's entry then
+abbrev pub Answers : history.Call → Answer → Machine → Machine → Type 0
+Answers call answer old new = (opening : State) (h : history.History) → IsMachineOf opening h old → IsAnswered opening h call answer new

@@ -1,0 +1,37 @@
+ghost use Rattle.std.specs.Prelude.{◌≡◌, ◌+◌, ◌≤◌, length, OnOk};
+ghost use Rattle.iocm_core.specs.Accepting.{AcceptsOne, HasRoom, KeepsTheRest};
+
+use crate::machine::Machine;
+use iocm_activate::Done;
+use std::alloc::AllocError;
+
+impl Machine {
+    /// Makes memory for the acceptance of one more change.
+    pub fn make_room(&mut self) -> Result<(), AllocError>
+        ensures plant { self.new.plant ≡ self.old.plant }
+        ensures stage { self.new.stage ≡ self.old.stage }
+        ensures rest { KeepsTheRest self.old self.new }
+        ensures room { OnOk result (HasRoom self.new) }
+    {
+        self.changes.reserve(1)?;
+        self.journal.room()
+    }
+
+    /// Accepts a change that was done, for which there is memory. It gives the change's number. Can't answer want of memory.
+    pub fn accept(&mut self, done: Done) -> u64
+        requires room { HasRoom self.old }
+        requires few { self.old.journal.standing ≤ length self.old.journal.changes.items }
+        ensures number { result ≡ length self.old.journal.changes.items + 1 }
+        ensures accepted { AcceptsOne done self.old self.new }
+        ensures plant { self.new.plant ≡ self.old.plant }
+        ensures stage { self.new.stage ≡ self.old.stage }
+    {
+        let Done {
+            inverse,
+            effect,
+            performed,
+        } = done;
+        self.changes.push_reserved(effect);
+        self.journal.accept(inverse, performed)
+    }
+}

@@ -1,0 +1,26 @@
+//! The core: every call on a machine goes through one function, is recorded with its answer, and leaves exactly the state that the history gives.
+//!
+//! `Core::open` opens a machine, `Core::call` makes a call, `Core::close` gives the machine and its trace. A `Call` is an order of an image on its
+//! subchannel, a device begin or a device end; the activation of a change tree, at once or in stages; an undo or a redo; or a question.
+//!
+//! What the layer above may rely on: the history is legal, so each answer is the one that the definition of histories gives, or want of memory; and
+//! the machine is in the state to which its history leads. Begin with `specs/Running.antt` and `specs/Seen.antt`, then `calling.rt` and
+//! `machine.rt`.
+#![tactic(auto)]
+
+mod accepting;
+mod call;
+mod calling;
+mod changing;
+mod closing;
+mod machine;
+mod opening;
+mod refusals;
+mod steps;
+mod trace;
+mod undoing;
+
+pub use call::Call;
+pub use calling::{Core, Full};
+pub use closing::Closed;
+pub use trace::{Entry, Trace};

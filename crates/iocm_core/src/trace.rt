@@ -1,0 +1,22 @@
+use crate::Call;
+use iocm_activate::Effect;
+use iocm_config::Config;
+use iocm_types::Answer;
+
+/// A call with its answer. Own.
+#[derive(Drop)]
+pub struct Entry {
+    pub call: Call,
+    pub answer: Answer,
+}
+
+/// What was asked of a machine, and answered, in order. Own.
+#[derive(Drop)]
+pub struct Trace {
+    /// The configuration with which the machine was opened.
+    pub opening: Config,
+    /// Every call that was recorded, refused ones too.
+    pub entries: Vec<Entry>,
+    /// What each accepted change wrote, in the order of their numbers, which count from 1.
+    pub changes: Vec<Effect>,
+}
