@@ -1,8 +1,8 @@
 -- In the middle of taking the edits out of the parts of a Row, the last one first.
-use Rattle.std.proofs.Common.{◌≡◌, ◌+◌, ◌<◌, ◌≤◌, ℕ, List, [], ◌∷◌, ◌++◌, length, map, reverse, Some, None, refl, sym, ap, append_assoc, ◌∙◌, arith}
-use Rattle.std.proofs.lemmas.List.{append-nil, length-append}
+use Rattle.std.proofs.Common.{◌≡◌, ◌+◌, ◌≤◌, ℕ, List, [], ◌∷◌, ◌++◌, length, map, reverse, Some, None, refl, sym, ap, append_assoc, ◌∙◌, arith}
+use Rattle.std.proofs.lemmas.List.{length-append}
 use Rattle.iocm_tree.specs.Carried.{Carried}
-use Rattle.iocm_tree.specs.Trees.{CarriedTree, CarriedParts, leaf, row, group, choose, part, edit_in, parts_from, parts_in}
+use Rattle.iocm_tree.specs.Trees.{CarriedTree, CarriedParts, leaf, row, group, choose, part, edit_in, parts_from}
 use Rattle.iocm_activate.specs.Done.{leaves_from}
 use Rattle.iocm_stage.proofs.Lists.{same_head, same_tail, reverse_last}
 
@@ -51,16 +51,6 @@ pub record IsCopying (all left : List CarriedTree) (edits : List Carried) (room 
   pub whole : (is : List Carried) → all ≡ map leaf is → left ++ map leaf (reverse edits) ≡ all
   pub fits : length left + length edits ≤ room
 
-pub begins : (all : List CarriedTree) (edits : List Carried) (room : ℕ) → edits ≡ [] → length all ≤ room → IsCopying all all edits room
-begins all edits room empty fits = record {
-  whole = λ is h. ap (λ es. all ++ map leaf (reverse es)) empty ∙ append-nil all;
-  fits = let zero = ap length empty in omega (arith, zero, fits);
-}
-
-pub has_room : (all left new : List CarriedTree) (t : CarriedTree) (edits : List Carried) (room : ℕ) → IsCopying all left edits room → left ≡ new ++ t ∷ []
-    → length edits < room
-has_room all left new t edits room copying is = let l = ap length is ∙ length-append new (t ∷ []) in let f = copying.fits in omega (arith, l, f)
-
 -- one more is taken out
 pub one_more : (all left new : List CarriedTree) (t : CarriedTree) (i : Carried) (edits more : List Carried) (room wide : ℕ) → IsCopying all left edits room
     → left ≡ new ++ t ∷ [] → edit_in t ≡ Some i → more ≡ edits ++ i ∷ [] → wide ≡ room → IsCopying all new more wide
@@ -88,17 +78,3 @@ pub all_copied : (all left : List CarriedTree) (edits : List Carried) (room : �
 all_copied all left edits room copying empty is h =
     let each = parts_are_leaves all is h in
     same_edits (reverse edits) is (ap (λ xs. xs ++ map leaf (reverse edits)) (sym empty) ∙ copying.whole is each ∙ each)
-
--- ---- a whole tree
-
-some_parts : (a b : CarriedParts) → Some a ≡ Some b → a ≡ b
-some_parts a b h = cc
-
-not_none : (a : CarriedParts) → Some a ≡ None → ⊥
-not_none a h = cc
-
-pub copied_parts : (t u : CarriedTree) (ps : CarriedParts) (is : List Carried) → u ≡ t → parts_in u ≡ Some ps → t ≡ row (leaves_from is) → ps ≡ leaves_from is
-copied_parts t u ps is same parts shape = some_parts ps (leaves_from is) (sym parts ∙ ap parts_in (same ∙ shape))
-
-pub copied_none : (t u : CarriedTree) (is : List Carried) → u ≡ t → parts_in u ≡ None → t ≡ row (leaves_from is) → ⊥
-copied_none t u is same parts shape = not_none (leaves_from is) (sym (ap parts_in (same ∙ shape)) ∙ parts)

@@ -1,9 +1,9 @@
 -- In the middle of performing edits, or the parts of a Row, without memory.
-use Rattle.std.proofs.Common.{◌≡◌, List, [], ◌∷◌, ◌++◌, reverse, Some, None, refl, sym, ap, subst, ◌∙◌}
+use Rattle.std.proofs.Common.{◌≡◌, List, [], ◌∷◌, ◌++◌, reverse, Some, None, sym, ap, subst, ◌∙◌}
 use Rattle.iocm_model.specs.Operation.State.{State}
 use Rattle.iocm_model.specs.Change.Edit.{state_after}
 use Rattle.iocm_tree.specs.Carried.{Carried}
-use Rattle.iocm_tree.specs.Trees.{CarriedTree, CarriedParts, leaf, row, none, part, edit_in, parts_from, parts_in}
+use Rattle.iocm_tree.specs.Trees.{CarriedTree, CarriedParts, leaf, row, none, part, edit_in, parts_from}
 use Rattle.iocm_plant.specs.Operating.{Operating}
 use Rattle.iocm_plant.specs.TakingBack.{CanUnapply}
 use Rattle.iocm_activate.specs.Done.{IsWayBack, leaves_from}
@@ -17,14 +17,8 @@ pub record IsPerforming (before : Operating) (all : List Carried) (now : Operati
   pub leads : (s : State) → LeadsTo all s before → LeadsTo left s now
   pub room : now.room ≡ before.room
 
-pub begins : (p : Operating) (all : List Carried) → LeadsOn all p → IsPerforming p all p all
-begins p all can = record { can = can; leads = λ s h. h; room = refl }
-
 pub next_is : (left new : List Carried) (i : Carried) → left ≡ new ++ i ∷ [] → reverse left ≡ i ∷ reverse new
 next_is left new i is = ap reverse is ∙ reverse_last new i
-
-pub next_can : (p q : Operating) (all left rest : List Carried) (i : Carried) → IsPerforming p all q left → left ≡ i ∷ rest → CanUnapply i q
-next_can p q all left rest i doing is = (subst (λ is. LeadsTo is doing.can.state q) is doing.can.leads).0
 
 pub first_can : (i : Carried) (is rest : List Carried) (s : State) (p : Operating) → LeadsTo is s p → is ≡ i ∷ rest → CanUnapply i p
 first_can i is rest s p leads is_first = (subst (λ js. LeadsTo js s p) is_first leads).0
@@ -36,9 +30,6 @@ next_performed p q r all left rest i doing is state room = record {
   leads = λ s h. (subst (λ is. LeadsTo is s q) is (doing.leads s h)).1 r state room;
   room = room ∙ doing.room;
 }
-
-pub all_performed : (p q : Operating) (all left : List Carried) → IsPerforming p all q left → left ≡ [] → (s : State) → LeadsTo all s p → q.state ≡ s
-all_performed p q all left doing empty s h = subst (λ is. LeadsTo is s q) empty (doing.leads s h)
 
 -- ---- the parts of a Row
 
@@ -86,25 +77,6 @@ pub record IsTakingBack (before : Operating) (whole : CarriedTree) (now : Operat
   pub can : GoesBack (row (parts_from left)) now
   pub leads : (s : State) → IsWayBack whole s before → IsWayBack (row (parts_from left)) s now
   pub room : now.room ≡ before.room
-
-is_row : (t : CarriedTree) (ps : CarriedParts) (s : State) (p : Operating) → IsWayBack t s p → parts_in t ≡ Some ps → t ≡ row ps
-is_row t ps s p way h = way.shape ∙ ap row (inner (leaves_from way.edits) ps (ap parts_in (sym way.shape) ∙ h))
-  where
-    inner : (a b : CarriedParts) → Some a ≡ Some b → a ≡ b
-    inner a b e = cc
-
-pub has_parts : (t : CarriedTree) (s : State) (p : Operating) → IsWayBack t s p → parts_in t ≡ None → ⊥
-has_parts t s p way h = no (leaves_from way.edits) (ap parts_in (sym way.shape) ∙ h)
-  where
-    no : (a : CarriedParts) → Some a ≡ None → ⊥
-    no a e = cc
-
-pub begins_back : (p : Operating) (t : CarriedTree) (ts : List CarriedTree) → GoesBack t p → parts_in t ≡ Some (parts_from ts) → IsTakingBack p t p ts
-begins_back p t ts goes h = record {
-  can = record { state = goes.state; way = subst (λ x. IsWayBack x goes.state p) (is_row t (parts_from ts) goes.state p goes.way h) goes.way };
-  leads = λ s way. subst (λ x. IsWayBack x s p) (is_row t (parts_from ts) s p way h) way;
-  room = refl;
-}
 
 module _ (p q : Operating) (whole t : CarriedTree) (left ts : List CarriedTree) (taking : IsTakingBack p whole q left) (is : left ≡ t ∷ ts) where
   abbrev starts : (s : State) → IsWayBack (row (parts_from left)) s q → BeginsWith t (parts_from ts) s q

@@ -1,5 +1,5 @@
 -- Stages on a machine: an edit forth or back, steps between, and the two ends.
-use Rattle.std.proofs.Common.{◌≡◌, ℕ, suc, ◌+◌, ◌<◌, Bool, false, ◌||◌, List, [], ◌∷◌, ◌++◌, Some, length, take, drop, reverse, refl, sym, ap, subst, append_assoc, ◌∙◌, arith}
+use Rattle.std.proofs.Common.{◌≡◌, ℕ, suc, ◌+◌, Bool, false, ◌||◌, List, [], ◌∷◌, ◌++◌, Some, length, take, drop, reverse, refl, sym, ap, subst, append_assoc, ◌∙◌, arith}
 use Rattle.std.proofs.lemmas.Bool.{or_parts}
 use Rattle.std.proofs.lemmas.List.{take-append-drop, length-append, length-drop, length-map, length-reverse}
 use Rattle.std.specs.FinMap.{contains_key, contains_key-keys}
@@ -30,7 +30,6 @@ use Rattle.iocm_stage.specs.StageLaws.{PassesAStage, StepsElsewherePassAStage}
 use Rattle.iocm_stage.specs.declared.staged.Staged.{Staged}
 use Rattle.iocm_stage.proofs.Agreeing.{Agrees, agrees_first, agrees_rest, agrees_after_step, all_do_again, step_passes, same_answer, taken_back, among_all}
 use Rattle.iocm_stage.proofs.Going.{forth, back_again, free_first, free_rest, leads_elsewhere}
-use Rattle.iocm_stage.proofs.EditsLeft.{first_can}
 use Rattle.iocm_stage.proofs.Like.{like_after_all}
 use Rattle.iocm_stage.proofs.Lists.{take_more, drop_more, take_no_more, drop_no_more, has_last, HasLast, reverse_last}
 
@@ -88,10 +87,6 @@ pub record HasGone (es : List Edit) (from s : State) (back forward : List Carrie
   pub whole : first ++ rest ≡ es
   pub stands : StandsAlong first rest from s back forward p
 
-pub has_gone : (es : List Edit) (k : ℕ) (from s : State) (back forward : List Carried) (p : Operating) → StandsAlong (take k es) (drop k es) from s back forward p
-    → HasGone es from s back forward p
-has_gone es k from s back forward p stands = record { first = take k es; rest = drop k es; whole = take-append-drop k es; stands = stands }
-
 inverses_some : (e : Edit) (es : List Edit) (s : State) → [] ≡ inverses (e ∷ es) s → ⊥
 inverses_some e es s h = none (inverses es (state_after e s)) h
   where
@@ -133,12 +128,6 @@ module _ (es : List Edit) (from s : State) (made : IsSound from) (free : CarryFr
       (subst (λ f. StandsAlong f gone.rest from s [] forward p) none gone.stands)
 
 -- ---- a whole stage
-
-pub has_place : (g : Staged) (forward : List Carried) (i : Carried) → HasRoom g → g.forward.items ≡ forward ++ i ∷ [] → length g.back.items < vec_capacity g.back
-has_place g forward i room is = let l = ap length is ∙ length-append forward (i ∷ []) in let r = room.back in omega (arith, l, r)
-
-pub has_place_back : (g : Staged) (back : List Carried) (i : Carried) → HasRoom g → g.back.items ≡ back ++ i ∷ [] → length g.forward.items < vec_capacity g.forward
-has_place_back g back i room is = let l = ap length is ∙ length-append back (i ∷ []) in let r = room.forward in omega (arith, l, r)
 
 -- an edit went from one side to the other
 pub room_on : (g h : Staged) (i j : Carried) → HasRoom g → g.forward.items ≡ h.forward.items ++ i ∷ [] → h.back.items ≡ g.back.items ++ j ∷ []
@@ -213,22 +202,6 @@ pub record IsGoingBack (before : Staged) (at : Operating) (now : Staged) (here :
   pub same_room : here.room ≡ at.room
   pub room : HasRoom now
   pub staged : IsStaged before at
-
-pub goes_back_from : (g : Staged) (p : Operating) → IsStaged g p → IsGoingBack g p g p
-goes_back_from g p staged = record {
-  gone = λ t s stage. has_gone t.change.edits t.advances t.change.from s (reverse g.back.items) (reverse g.forward.items) p stage.along;
-  can = λ t s stage. stage.ready;
-  done = refl;
-  same_room = refl;
-  room = staged.is.room;
-  staged = staged;
-}
-
-pub latest_can : (before : Staged) (at : Operating) (g : Staged) (p : Operating) (back : List Carried) (i : Carried) → IsGoingBack before at g p
-    → g.back.items ≡ back ++ i ∷ [] → CanUnapply i p
-latest_can before at g p back i going out =
-    first_can i (reverse g.back.items) (reverse back) going.staged.before p
-    (going.gone going.staged.stage going.staged.before going.staged.is).stands.back (ap reverse out ∙ reverse_last back i)
 
 pub one_back : (before : Staged) (at : Operating) (g h : Staged) (i j : Carried) (p q : Operating) → IsGoingBack before at g p
     → g.back.items ≡ h.back.items ++ i ∷ [] → h.forward.items ≡ g.forward.items ++ j ∷ []

@@ -16,11 +16,11 @@ use iocm_types::SubId;
 #[derive(Drop)]
 pub struct Staged {
     /// What is told of the change.
-    pub done: Done,
+    pub(crate) done: Done,
     /// The edits that are left, the next one last.
-    pub forward: Vec<Edit>,
+    pub(crate) forward: Vec<Edit>,
     /// The edits that take back those that were advanced, the latest last.
-    pub back: Vec<Edit>,
+    pub(crate) back: Vec<Edit>,
 }
 
 impl Staged {
