@@ -1,6 +1,7 @@
-ghost use Rattle.std.specs.Prelude.{◌≡◌, Option, MatchOption};
+ghost use Rattle.std.specs.Prelude.{◌≡◌, length, Option, MatchOption};
 ghost use Rattle.iocm_history.specs.Account.{state_at};
 ghost use Rattle.iocm_history.specs.InUse.{IsInUse};
+ghost use Rattle.iocm_history.specs.Journal.{journal_of};
 ghost use Rattle.iocm_history.specs.Legal.{IsLegal};
 ghost use Rattle.iocm_history.specs.Stage.{Stage};
 ghost use Rattle.iocm_model.specs.Operation.State.{State, opening_state};
@@ -28,6 +29,7 @@ impl Core {
         ensures state { result.plant.state ≡ state_at self.opening self.history }
         ensures opening { opening_state result.trace.opening.records ≡ self.opening }
         ensures history { history_in result.trace.changes.items result.trace.entries.items ≡ self.history }
+        ensures changes { length result.trace.changes.items ≡ (journal_of self.history).count }
     {
         let Core {
             machine,
@@ -51,7 +53,8 @@ impl Core {
         }
     }
 
-    /// Its history is legal, from an opening state in use: each answer is the one that the definition of histories gives, or want of memory. It reads
+    /// Its history is legal, from an opening state in use: each answer is the one that the definition of histories gives, or want of memory, for
+    /// an activation, a Begin, an undo or a redo. It reads
     /// nothing, and is there for callers' proofs.
     pub fn is_legal(&self)
         ensures used { IsInUse self.now.opening }

@@ -14,7 +14,9 @@ use std::alloc::Global;
 /// A machine with its journal and what is staged. The word is own.
 #[derive(Drop)]
 pub struct Machine {
+    /// The machine in operation, with the edits that were advanced.
     pub plant: Plant,
+    /// Its accepted changes.
     pub journal: Journal,
     /// The change in stages, if one was begun.
     pub stage: Option<Staged>,

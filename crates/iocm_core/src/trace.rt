@@ -6,7 +6,9 @@ use iocm_types::Answer;
 /// A call with its answer. Own.
 #[derive(Drop)]
 pub struct Entry {
+    /// What was asked.
     pub call: Call,
+    /// What was answered.
     pub answer: Answer,
 }
 

@@ -42,7 +42,8 @@ impl Journal {
         self.changes.reserve(1)
     }
 
-    /// Keeps one more change, which stands, and for which there is room; those that are undone become past. It gives the change's number.
+    /// Keeps one more change, which stands, and for which there is room; those that are undone become past. It gives the change's number. The tree and what was performed
+    /// are to be those of a change that was just made on the journal's machine.
     /// Can't answer want of memory.
     pub fn accept(&mut self, inverse: Tree, performed: Vec<Touched>) -> u64
         requires room { vec_len self.old.changes < vec_capacity self.old.changes }

@@ -24,11 +24,11 @@ use iocm_types::{Refused, Rule};
 use std::alloc::Global;
 
 impl Journal {
-    /// Does a change again that was undone: the cells that it wrote get back what they had before its undo.
+    /// Does a change again that is undone: the cells that it wrote get back what they had before its undo. `changes`, and what is asked of the machine, are as for `undo`.
     ///
-    /// J1: no such change was undone. J3: another one was undone last, or the change was undone before a new one was accepted. B1, with the least: a
+    /// J1: no such change is undone. J3: another one of those that are undone now was undone last, or the change was undone before a new one was accepted. B1, with the least: a
     /// subchannel that it altered is busy or status pending. M1, which may stand in place of any other: memory was wanted. A refused redo
-    /// leaves machine and journal as they were.
+    /// leaves journal and state as they were.
     pub fn redo(
         &mut self,
         alloc: Global,
@@ -38,6 +38,7 @@ impl Journal {
     ) -> Result<(), Refused>
         requires { BelongTogether self.old changes.now plant.old }
         ensures next { (opening : State) (h : History) → IsNow opening h self.old changes.now plant.old → IsNext opening h (redo_made number result) self.new changes.now plant.new }
+        ensures same { OnErr result (KeepsTheSame self.old self.new) }
         ensures room { KeepsRoom plant.old.room plant.new.room }
     {
         match self.redo_place(plant, changes, number) {

@@ -27,10 +27,11 @@ use iocm_types::{Refused, Rule};
 use std::alloc::{AllocError, Global};
 
 impl Journal {
-    /// Undoes a change on its machine: the cells that it wrote get back what they had before it.
+    /// Undoes a change on its machine: the cells that it wrote get back what they had before it. `changes` is what each accepted change wrote, in the order of
+    /// their numbers; nothing may be staged, and no change but those of the journal may have been made on the machine since it was opened.
     ///
     /// J1: no such change stands. J2, with the greatest: a change stands on it. B1, with the least: a subchannel that it altered is busy or status
-    /// pending. M1, which may stand in place of any other: memory was wanted. A refused undo leaves machine and journal as they were.
+    /// pending. M1, which may stand in place of any other: memory was wanted. A refused undo leaves journal and state as they were.
     pub fn undo(
         &mut self,
         alloc: Global,
@@ -40,6 +41,7 @@ impl Journal {
     ) -> Result<(), Refused>
         requires { BelongTogether self.old changes.now plant.old }
         ensures next { (opening : State) (h : History) → IsNow opening h self.old changes.now plant.old → IsNext opening h (undo_made number result) self.new changes.now plant.new }
+        ensures same { OnErr result (KeepsTheSame self.old self.new) }
         ensures room { KeepsRoom plant.old.room plant.new.room }
     {
         let Some(place) = self.standing_place(number) else {

@@ -12,7 +12,8 @@ use iocm_plant::Plant;
 use iocm_tree::Edit;
 use iocm_types::SubId;
 
-/// A change that was begun. It holds the subchannels that it alters until it is committed or aborted.
+/// A change that was begun on a machine. Until it is committed or aborted there, no other change may be made on that machine, and no step on a subchannel that
+/// the change `holds`.
 #[derive(Drop)]
 pub struct Staged {
     /// What is told of the change.
