@@ -1,4 +1,4 @@
-"""What the measuring programs of `bench/tables` and `bench/edits` share: how they are built, run and read."""
+"""What the measuring programs of `bench/tables`, `bench/edits` and `bench/calls` share: how they are built, run and read."""
 import os
 import shutil
 import statistics
@@ -41,9 +41,9 @@ def copy_program(program, home):
             shutil.copy(os.path.join(folder, name), os.path.join(target, name.removesuffix(".txt")))
 
 
-def built(room, program, stands_on, words):
+def built(room, program, stands_on, words, shared=None):
     """Proves and builds a measuring program in a copy of the crates that it stands on, and runs it with these words; the path of what
-    was built."""
+    was built. It may share files with another program, which is named first."""
     below = crates_below(stands_on)
     for crate in below:
         run_rt(["lib"], os.path.join(TOP, "crates", crate))
@@ -57,6 +57,9 @@ def built(room, program, stands_on, words):
         shutil.copytree(os.path.join(TOP, "crates", crate), os.path.join(room, "crates", crate), ignore=left_out)
     home = os.path.join(room, "crates", program)
     copy_program(program, home)
+    other, files = shared or (program, ())
+    for name in files:
+        shutil.copy(os.path.join(TOP, "bench", f"{other}-program", "src", f"{name}.rt.txt"), os.path.join(home, "src", f"{name}.rt"))
     shutil.copy(os.path.join(TOP, "HANDLES"), room)
     with open(os.path.join(room, "crates.txt"), "w", encoding="utf-8") as file:
         file.writelines(below.values())
