@@ -1,7 +1,7 @@
 -- What a machine's stage says of its history, and machines that keep what they had.
-use Rattle.std.proofs.Common.{◌≡◌, ◌≤◌, suc, true, false, is_some, Option, MatchOption, Some, None, Result, Ok, Err, is_err, OnOk, List, [], ◌∷◌, length, map, refl, sym, ap, subst, ◌∙◌, arith}
+use Rattle.std.proofs.Common.{◌≡◌, ◌≤◌, true, false, is_some, Option, MatchOption, Some, None, Result, Ok, Err, is_err, OnOk, List, ◌∷◌, length, refl, sym, ap, subst, ◌∙◌, arith}
 use Rattle.std.proofs.lemmas.Bool.{false≢true}
-use Rattle.std.proofs.lemmas.List.{length-reverse}
+use Rattle.std.proofs.lemmas.List.{length-map, length-reverse}
 use Rattle.std.specs.FinMap.{len}
 use Rattle.iocm_types.specs.declared.answer.Answer.{Answer}
 use Rattle.iocm_types.specs.declared.answer.Answer.TheVariants as answers
@@ -94,12 +94,8 @@ pub few_in : (opening : State) (h : History) (m : Machine) → IsMachineOf openi
 few_in opening h m it = let few = are_few opening h it.journal.used it.journal.legal in let is = it.journal.standing in let all = it.journal.count in omega (arith, few, is, all)
 
 -- as many are undone
-mapped : {A B : Type 0} (f : A → B) (xs : List A) → length (map f xs) ≡ length xs
-mapped f [] = refl
-mapped f (x ∷ xs) = ap suc (mapped f xs)
-
 pub undone_count : (opening : State) (h : History) (j : Journal) (fs : List Effect) → IsJournalOf opening h j fs → length j.undone.items ≡ length (journal_of h).undone
-undone_count opening h j fs i = sym (mapped (λ (u : Undone). u.number) j.undone.items) ∙ ap length i.undone ∙ length-reverse (journal_of h).undone
+undone_count opening h j fs i = sym (length-map j.undone.items (λ (u : Undone). u.number)) ∙ ap length i.undone ∙ length-reverse (journal_of h).undone
 
 -- ---- a machine that keeps the rest, where nothing is staged
 

@@ -14,6 +14,7 @@ use Rattle.iocm_plant.specs.Between.{StandsAsBefore}
 use Rattle.iocm_plant.specs.TakingBack.{CanUnapply}
 use Rattle.iocm_plant.proofs.Between.{can_still_unapply, rooms_on, same_is_kept}
 use Rattle.iocm_activate.specs.Told.{LeadsTo}
+use Rattle.iocm_activate.proofs.Back.{leads_still}
 use Rattle.iocm_stage.specs.Again.{again, all_again}
 use Rattle.iocm_stage.specs.Along.{edits_in, StandsAlong}
 use Rattle.iocm_stage.proofs.Again.{does_again, taken_back_alike, again_alike}
@@ -36,20 +37,6 @@ leads_elsewhere (i ∷ is) s p q leads stands = (
         room = rooms_on p.room q.room t.room stands.room (same_is_kept q.room t.room places);
       })),
 )
-
--- they lead to what they do
-leads_is : (is : List Carried) (s : State) (p : Operating) → LeadsTo is s p → state_after_all (edits_in is) p.state ≡ s
-leads_is [] s p leads = leads
-leads_is (i ∷ is) s p leads =
-    let then : Operating = record { state = state_after i.edit p.state; room = p.room } in leads_is is s then (leads.1 then refl refl)
-
--- they lead to the same state where a machine is in the same state and has lost no place
-leads_still : (is : List Carried) (s : State) (p q : Operating) → LeadsTo is s p → HasLives q.state → q.state ≡ p.state → KeepsRoom p.room q.room → LeadsTo is s q
-leads_still is s p q leads lived same room =
-    subst (λ u. LeadsTo is u q) (ap (state_after_all (edits_in is)) same ∙ leads_is is s p leads) (leads_elsewhere is s p q leads (record {
-      state = record { config = ap (λ (u : State). u.config) same; numbers = ap (λ (u : State). u.numbers) same; lived = lived };
-      room = room;
-    }))
 
 -- one more in front, that leads to where the others begin
 pub leads_in_front : (j : Carried) (is : List Carried) (s : State) (p q : Operating) → CanUnapply j q → state_after j.edit q.state ≡ p.state → q.room ≡ p.room
