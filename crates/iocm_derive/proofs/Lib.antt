@@ -1,5 +1,6 @@
 pub mod Eight
 pub mod Joined
 pub mod PathKeys
+pub mod Reached
 pub mod Tables
 pub mod Walks

@@ -1,11 +1,11 @@
 -- What is asked of a configuration by number: the path list of a device, and whether an image sees it.
 use Rattle.std.specs.Prelude.{ℕ, Bool, false, List, [], Option, None, Some}
-use Rattle.std.specs.Option.{option_and_then}
+use Rattle.std.specs.Option.{option_and_then, option_map}
 use Rattle.iocm_types.specs.declared.css_path.CssPath.{CssPath}
 use Rattle.iocm_types.specs.declared.image.Image.{Image}
 use Rattle.iocm_types.specs.declared.key.Key.TheVariants as key
-use Rattle.iocm_model.specs.Machine.Record.{Rec, DeviceRecord, image, unit}
-use Rattle.iocm_model.specs.Machine.Configuration.{Lookup}
+use Rattle.iocm_model.specs.Machine.Record.{Rec, DeviceRecord, ImageRecord, image, unit}
+use Rattle.iocm_model.specs.Machine.Configuration.{Lookup, as_image}
 use Rattle.iocm_model.specs.Machine.PathList.{view_paths}
 use Rattle.iocm_model.specs.Machine.Sight as sight
 use Rattle.iocm_model.specs.Machine.View.{device_record}
@@ -23,6 +23,10 @@ name_in _ = None
 -- those of the image record of an image, if there is one
 abbrev pub image_name : Lookup → Image → Option (ℕ × List ℕ)
 image_name c i = option_and_then name_in (c (key.Image i.css i.mif))
+
+-- the name in the image record of an image, if there is one
+abbrev pub name_at : Lookup → Image → Option (List ℕ)
+name_at c i = option_map (λ (r : ImageRecord). r.name) (option_and_then as_image (c (key.Image i.css i.mif)))
 
 -- the first eight paths of a device that is there
 abbrev pub paths_of : Lookup → ℕ → Option DeviceRecord → List ℕ

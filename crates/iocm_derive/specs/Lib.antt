@@ -1,3 +1,4 @@
 pub mod Derived
 pub mod PathTables
 pub mod Sighted
+pub mod SightedCells

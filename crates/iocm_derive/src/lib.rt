@@ -5,12 +5,16 @@
 //! `view_at` is what an image sees at one subchannel; `path_list`, `sees`, `pim` and `pam` are its parts.
 //! `ImageSight` gives the views of one image at many devices, one after the other: it keeps tables of the image's
 //! paths, where the walk over the devices stands, and what it sees by the last device's control units.
+//! `CellSight` gives the views of many images at one number cell: what the images of its channel subsystem share there is looked up once.
 //! Begin with `view.rt`, then `reach.rt` for what both ways share.
 #![tactic(auto)]
 
+mod cell_image;
+mod cell_sight;
 mod image_sight;
 mod lookup;
 mod masks;
+mod path_records;
 mod path_tables;
 mod paths;
 mod reach;
@@ -20,7 +24,9 @@ mod tests;
 mod units_view;
 mod view;
 
+pub use cell_sight::CellSight;
 pub use image_sight::ImageSight;
+pub use lookup::name_of_image;
 pub use masks::{pam, pim};
 pub use paths::path_list;
 pub use sight::sees;

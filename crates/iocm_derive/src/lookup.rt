@@ -7,7 +7,7 @@ ghost use Rattle.iocm_model.specs.Machine.Record.{path};
 ghost use Rattle.iocm_model.specs.Machine.Sight.{reaches, record_lists};
 ghost use Rattle.iocm_model.specs.Machine.View.{device_record};
 ghost use Rattle.iocm_records.specs.Meaning as meaning;
-ghost use Rattle.iocm_derive.specs.Derived.{all_paths, image_name};
+ghost use Rattle.iocm_derive.specs.Derived.{all_paths, image_name, name_at};
 ghost use Rattle.iocm_derive.specs.Sighted.{AreOf};
 
 use crate::sight::has_name;
@@ -83,6 +83,16 @@ pub fn find_image<A: Allocator>(config: &Config<A>, image: Image) -> Option<(Css
 {
     match config.get(&Key::Image(image.css, image.mif))?.body() {
         RecordBody::Image(css, _, name) => Some((*css, *name)),
+        _ => None,
+    }
+}
+
+/// The name of an image, if it is there.
+pub fn name_of_image<A: Allocator>(config: &Config<A>, image: Image) -> Option<Name>
+    ensures { result ≡ name_at (lookup_of config.now.records) image }
+{
+    match config.get(&Key::Image(image.css, image.mif))?.body() {
+        RecordBody::Image(_, _, name) => Some(*name),
         _ => None,
     }
 }

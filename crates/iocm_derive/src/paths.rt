@@ -1,10 +1,13 @@
 ghost use Rattle.std.specs.Prelude.{◌≡◌, ◌≤◌, ◌++◌, [], ◌∷◌, length, take};
+ghost use Rattle.std.specs.Option.{option_copied, option_map};
 ghost use Rattle.iocm_model.specs.Machine.Configuration.{lookup_of};
 ghost use Rattle.iocm_model.specs.Machine.PathList.{paths_in, unit_paths, view_paths};
-ghost use Rattle.iocm_derive.specs.Derived.{paths_at};
+ghost use Rattle.iocm_records.specs.Meaning.{device_of};
+ghost use Rattle.iocm_derive.specs.Derived.{paths_at, paths_of};
 
 use crate::lookup::{find_device, find_paths};
 use iocm_config::Config;
+use iocm_records::DeviceFields;
 use iocm_types::{Css, CssPath, DevNo, Paths, SetNo, UnitNo};
 use std::alloc::Allocator;
 
@@ -13,7 +16,18 @@ use std::alloc::Allocator;
 pub fn path_list<A: Allocator>(config: &Config<A>, css: Css, set: SetNo, device: DevNo) -> Paths
     ensures { result ≡ paths_at (lookup_of config.now.records) css set device }
 {
-    match find_device(config, set, device) {
+    paths_of_device(config, css, find_device(config, set, device))
+}
+
+/// The first eight paths of a device that is there.
+pub fn paths_of_device<A: Allocator>(
+    config: &Config<A>,
+    css: Css,
+    device: Option<&DeviceFields<A>>,
+) -> Paths
+    ensures { result ≡ paths_of (lookup_of config.now.records) css (option_map device_of (option_copied device.entry)) }
+{
+    match device {
         Some(fields) => paths_of_units(config, css, fields.units.as_slice()),
         None => Paths::new(),
     }

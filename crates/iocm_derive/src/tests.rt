@@ -1,10 +1,10 @@
-use crate::{ImageSight, image_view, path_list, sees, view_at};
+use crate::{CellSight, ImageSight, image_view, name_of_image, path_list, sees, view_at};
 use iocm_config::Config;
 use iocm_numbers::opening;
 use iocm_records::{DeviceFields, PathFields, Record, RecordBody, UnitFields};
 use iocm_types::{
-    Chpid, Css, CssPath, DevNo, Image, List, Mask, Mif, Name, PathKind, Paths, SetNo, SubId,
-    UnitNo, View,
+    Chpid, Css, CssPath, DevNo, Image, List, Mask, Mif, Name, NumberCell, PathKind, Paths, SetNo,
+    SubId, UnitNo, View,
 };
 use std::alloc::{AllocError, Global};
 use std::test::Fail;
@@ -130,6 +130,23 @@ fn a_subchannel_has_the_view_of_its_device(rt: HostRuntime) -> Result<(), Fail> 
     let image = image()?;
     let set = SetNo::FIRST;
     let views = [0, 1].map(|number| view_at(&config, &numbers, SubId { image, set, number }));
+    assert!(rt; views == [Some(one_view()), None]);
+    Ok(())
+}
+
+#[test]
+fn a_number_cell_shows_its_device(rt: HostRuntime) -> Result<(), Fail> {
+    let config = small_configuration(rt.alloc())?;
+    let numbers = opening(rt.alloc(), &config)?;
+    let name = name_of_image(&config, image()?).ok_or("LPA")?;
+    let views = [0, 1].map(|number| {
+        let cell = NumberCell {
+            css: Css::FIRST,
+            set: SetNo::FIRST,
+            number,
+        };
+        CellSight::new(&config, &numbers, &cell).view(name)
+    });
     assert!(rt; views == [Some(one_view()), None]);
     Ok(())
 }

@@ -1,5 +1,5 @@
 -- The numbers and the seats follow a change of the configuration.
-use Rattle.std.proofs.Common.{◌≡◌, ℕ, Bool, true, false, ◌||◌, ◌⊎◌, inl, inr, List, [], ◌∷◌, ◌++◌, refl, sym, ap, subst, ◌∙◌}
+use Rattle.std.proofs.Common.{◌≡◌, ℕ, Bool, true, false, ◌||◌, ◌⊎◌, inl, inr, List, [], ◌∷◌, ◌++◌, map, Option, refl, sym, ap, subst, ◌∙◌}
 use Rattle.std.proofs.lemmas.Bool.{or_cases, or_right}
 use Rattle.std.proofs.lemmas.List.Folds.{list_any-append}
 use Rattle.std.specs.List.{list_any, AllByRecursion}
@@ -12,6 +12,8 @@ use Rattle.std.proofs.lemmas.Map.Keys.{sorted_head, sorted_tail}
 use Rattle.iocm_types.specs.declared.image.Image.{Image}
 use Rattle.iocm_types.specs.declared.place.Place.{Place}
 use Rattle.iocm_types.specs.declared.place.NumberCell.{NumberCell}
+use Rattle.iocm_types.specs.declared.sub_id.SubId.{SubId}
+use Rattle.iocm_types.specs.declared.view.View.{View}
 use Rattle.iocm_types.specs.Place.{place_cmp, cell_cmp}
 use Rattle.iocm_types.specs.KeyOrder.{places_exact}
 use Rattle.iocm_types.proofs.Found.{same_key}
@@ -21,13 +23,15 @@ use Rattle.iocm_model.specs.Machine.View.{view_at}
 use Rattle.iocm_model.specs.Change.Edit.{same_view}
 use Rattle.iocm_model.specs.Change.Refusal.{is_number_taken}
 use Rattle.iocm_model.specs.Change.Renumbering.{numbers_after}
+use Rattle.iocm_model.specs.Operation.State.{Views}
 use Rattle.iocm_model.proofs.Numbers.Apart.{numbers_after_are_numbers}
 use Rattle.iocm_model.proofs.Numbers.Changed.{stayers_keep_theirs}
 use Rattle.iocm_numbers.specs.LookedAt.{cells_at}
 use Rattle.iocm_numbers.specs.Renumbering.{Rise, AreAllTouched}
 use Rattle.iocm_numbers.proofs.CellsThere.{cells_are_listed}
-use Rattle.iocm_seats.specs.Changes.{candidates, AreCandidates}
+use Rattle.iocm_seats.specs.Changes.{candidates, change_of, AreCandidates}
 use Rattle.iocm_seats.specs.Seated.{Seats, views_seated}
+use Rattle.iocm_seats.specs.Settling.{AreSeen}
 use Rattle.iocm_seats.proofs.Ordered.{seen_is}
 use Rattle.iocm_plant.specs.Following.{WasChanged, WasRenumbered}
 use Rattle.iocm_plant.proofs.Candidates.{AreLookedAt, looked_for}
@@ -60,6 +64,11 @@ module _ (d : Configuration) (n : Numbering) (seats : Seats) (places : List Plac
     now_numbered = subst (AreNumbersOf d) (sym is) (numbers_after_are_numbers changed.before d carried n changed.numbered free);
     stay = λ p k reached has. ap (λ (z : Numbering). get z p) is ∙ stayers_keep_theirs d carried n p k reached has;
   }
+
+-- changes from what was seen to what is seen are of what was seen
+pub all_seen : (v : Views) (w : SubId → Option View) (xs : List SubId) → AreSeen v (map (change_of (get v) w) xs)
+all_seen v w [] = tt
+all_seen v w (x ∷ xs) = (refl, all_seen v w xs)
 
 or_left : (a b : Bool) → a ≡ true → (a || b) ≡ true
 or_left true b h = refl

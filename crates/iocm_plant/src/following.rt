@@ -28,7 +28,7 @@ use crate::touched::Touched;
 use iocm_affected::Affected;
 use iocm_config::Config;
 use iocm_numbers::{Numbers, Renumbered, sort_apart};
-use iocm_seats::{Seat, Tried, ViewChange, list_changes};
+use iocm_seats::{Altered, Seat, Tried, list_changes};
 use iocm_table::Table;
 use iocm_types::{At, Key, Live, NumberCell, Place, Refused, Rule, SubId};
 use std::alloc::{AllocError, Global};
@@ -154,7 +154,7 @@ fn follow_numbers(
     ensures same { OnErr result (rows sub_id_cmp seats.new ≡ rows sub_id_cmp seats.old) }
     ensures places { (x : sub_id.SubId) → HasPlace sub_id_cmp seats.old x → HasPlace sub_id_cmp seats.new x }
 {
-    let altered = list_altered(alloc, numbers, seats, config, at)?;
+    let Altered { changes, met } = list_altered(alloc, numbers, seats, config, at)?;
     let changed = numbers.list_changes(
         alloc,
         renumbered.freed.as_slice(),
@@ -163,7 +163,8 @@ fn follow_numbers(
     match seat(
         alloc,
         seats,
-        altered.as_slice(),
+        changes.as_slice(),
+        met,
         brought.kept,
         brought.quiet,
     ) {
@@ -172,24 +173,26 @@ fn follow_numbers(
             meets: seated.meets,
             touched: Touched {
                 numbers: changed,
-                subchannels: altered,
+                subchannels: changes,
             },
         }),
         Err(obstacle) => Err(obstacle),
     }
 }
 
-/// The subchannels at which another view is seen, where the configuration and the numbers are those after a change.
+/// The subchannels at which another view is seen, with their live records, where the configuration and the numbers are those after a
+/// change.
 fn list_altered(
     alloc: Global,
     numbers: &Numbers,
     seats: &Table<SubId, Seat>,
     config: &Config,
     at: LookedAt,
-) -> Result<Vec<ViewChange>, AllocError>
+) -> Result<Altered<Global>, AllocError>
     requires changed { WasRenumbered config.now.records numbers.now.numbers (rows sub_id_cmp seats.now) at.affected.places.items at.affected.images.items at.cells.items }
     requires images { IsStrictlySortedBy image_cmp at.affected.images.items }
-    ensures { IfOk result (λ changes. changes.items ≡ seen_changes config.now.records numbers.now.numbers (rows sub_id_cmp seats.now)) }
+    ensures changes { IfOk result (λ altered. altered.changes.items ≡ seen_changes config.now.records numbers.now.numbers (rows sub_id_cmp seats.now)) }
+    ensures met { IfOk result (λ altered. altered.met.items ≡ lives_met (lives_seated (rows sub_id_cmp seats.now)) altered.changes.items) }
 {
     let mut cells = at.cells;
     numbers.list_cells(&mut cells, at.affected.places.as_slice())?;

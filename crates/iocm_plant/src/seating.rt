@@ -10,15 +10,15 @@ ghost use Rattle.iocm_model.specs.Change.Refusal.{refusal_at};
 ghost use Rattle.iocm_model.specs.Change.Refusal as refusal;
 ghost use Rattle.iocm_model.specs.Operation.State.{Lives};
 ghost use Rattle.iocm_seats.specs.declared.view_change.ViewChange as changed;
-ghost use Rattle.iocm_seats.specs.Seated.{lives_seated};
-ghost use Rattle.iocm_seats.specs.Settling.{settled_all, lives_met, subchannels_left};
+ghost use Rattle.iocm_seats.specs.Seated.{lives_seated, views_seated};
+ghost use Rattle.iocm_seats.specs.Settling.{settled_all, lives_met, subchannels_left, AreSeen};
 ghost use Rattle.iocm_tree.specs.Carried.{AreInOrder};
 ghost use Rattle.iocm_plant.specs.Refusing.{refusal_by_quiet, Hinders};
 ghost use Rattle.iocm_plant.specs.Seating.{first_in_the_way};
 
 use crate::obstacle::Obstacle;
 use crate::quiet::Quiet;
-use iocm_seats::{Seat, ViewChange, first_not_quiet, list_left, list_met, make_places, settle_all};
+use iocm_seats::{Seat, ViewChange, first_not_quiet, list_left, make_places, settle_all};
 use iocm_table::Table;
 use iocm_types::{At, Live, Refused, Rule, SubId};
 use std::alloc::Global;
@@ -30,7 +30,8 @@ pub struct Seated {
     pub meets: Vec<(SubId, Live)>,
 }
 
-/// Gives the subchannels of these changes the seats that they have afterwards, with the live records that come along.
+/// Gives the subchannels of these changes the seats that they have afterwards, with the live records that come along. The changes are of what
+/// is seen at these seats, and come with the live records that they meet.
 ///
 /// B1, where altered subchannels are wanted quiet: the first that isn't. M1: memory was wanted. Then no seat has changed, but some
 /// subchannels may have got places.
@@ -38,10 +39,13 @@ pub fn seat(
     alloc: Global,
     seats: &mut Table<SubId, Seat>,
     changes: &[ViewChange],
+    met: Vec<(SubId, Live)>,
     kept: Vec<(SubId, Live)>,
     quiet: Quiet,
 ) -> Result<Seated, Obstacle>
-    requires { AreInOrder kept.items }
+    requires seen { AreSeen (views_seated (rows sub_id_cmp seats.old)) changes.now }
+    requires met { met.items ≡ lives_met (lives_seated (rows sub_id_cmp seats.old)) changes.now }
+    requires kept { AreInOrder kept.items }
     ensures seats { OnOk result (rows sub_id_cmp seats.new ≡ settled_all (from_sorted kept.items) (rows sub_id_cmp seats.old) changes.now) }
     ensures kept { IfOk result (λ s. s.kept.items ≡ lives_met (lives_seated (rows sub_id_cmp seats.old)) changes.now) }
     ensures meets { IfOk result (λ s. keys_of s.meets.items ≡ subchannels_left changes.now) }
@@ -50,7 +54,6 @@ pub fn seat(
     ensures same { OnErr result (rows sub_id_cmp seats.new ≡ rows sub_id_cmp seats.old) }
     ensures places { (x : sub_id.SubId) → HasPlace sub_id_cmp seats.old x → HasPlace sub_id_cmp seats.new x }
 {
-    let met = list_met(alloc, seats, changes)?;
     if let Some(subchannel) = first_in_the_way(met.as_slice(), quiet) {
         return Err(Obstacle::Refused(subchannel_refusal(subchannel)));
     }

@@ -3,6 +3,8 @@ pub mod Exchanged
 pub mod Loops
 pub mod Maps
 pub mod Ordered
+pub mod Remembered
 pub mod Seats
 pub mod Settled
+pub mod Sighted
 pub mod Taking

@@ -2,7 +2,7 @@
 use Rattle.std.proofs.Common.{◌≡◌, Bool, true, false, cond, not, List, [], ◌∷◌, ◌++◌, map, Option, Some, None, is_some, refl, sym, ap, ◌∙◌}
 use Rattle.std.specs.List.{fold}
 use Rattle.std.specs.Option.{option_map, option_eq}
-use Rattle.std.specs.FinMap.{get, entries, entries_sorted, from_entries, same_map}
+use Rattle.std.specs.FinMap.{get, contains_key, entries, entries_sorted, from_entries, same_map}
 use Rattle.iocm_types.specs.declared.live.Live.{Live}
 use Rattle.iocm_types.specs.declared.sub_id.SubId.{SubId}
 use Rattle.iocm_types.specs.declared.view.View.{View}
@@ -66,6 +66,14 @@ live_after old (Some w) kept other = rw other refl
 pub both_there : (old : Option Seat) → is_some (live_in old) ≡ is_some (view_in old)
 both_there None = refl
 both_there (Some s) = refl
+
+-- a subchannel at which something is seen has a seat
+pub seated_by_view : (seats : Seats) (x : SubId) (seen : Option View) → seen ≡ get (views_seated seats) x → is_some seen ≡ true → contains_key seats x ≡ true
+seated_by_view seats x seen is some = by (get seats x) (is ∙ view_seated seats x)
+  where
+    by : (o : Option Seat) → seen ≡ view_in o → is_some o ≡ true
+    by None h = sym (ap is_some h) ∙ some
+    by (Some s) h = refl
 
 lived_by : (b : Bool) (old : Option Seat) (new : Option View) (kept : Option Live) → option_eq same_view (view_in old) new ≡ b
     → live_in (cond (not b) (seat_after old new kept) old) ≡ left_at (view_in old) new kept (live_in old)

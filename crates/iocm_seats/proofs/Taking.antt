@@ -25,14 +25,14 @@ use Rattle.iocm_seats.specs.Exchange.{met}
 use Rattle.iocm_seats.proofs.Settled.{live_in, live_seated}
 
 module _ {K X : Type 0} {R : K → K → Ordering} (total : IsTotalOrder R) (exact : IsAntisymmetric R) where
-  over : (b : Bool) (v : X) (o : Option X) → cond b (Some v) (cond b None o) ≡ cond b (Some v) o
-  over true v o = refl
-  over false v o = refl
+  again : (b : Bool) (v w : X) (o : Option X) → cond b (Some w) (cond b (Some v) o) ≡ cond b (Some w) o
+  again true v w o = refl
+  again false v w o = refl
 
-  -- what is put where something was taken out
-  pub insert_over : (m : FinMap R X) (k : K) (v : X) → insert (remove m k) k v ≡ insert m k v
-  insert_over m k v = same_map total exact _ _ (λ q. get-insert total (remove m k) k v q ∙ ap (cond (eq_by_cmp R q k) (Some v)) (get-remove total m k q)
-      ∙ over (eq_by_cmp R q k) v (get m q) ∙ sym (get-insert total m k v q))
+  -- what is put where something was put
+  pub insert_again : (m : FinMap R X) (k : K) (v w : X) → insert (insert m k v) k w ≡ insert m k w
+  insert_again m k v w = same_map total exact _ _ (λ q. get-insert total (insert m k v) k w q ∙ ap (cond (eq_by_cmp R q k) (Some w)) (get-insert total m k v q)
+      ∙ again (eq_by_cmp R q k) v w (get m q) ∙ sym (get-insert total m k w q))
 
 -- a row whose subchannel has a seat, or none
 pub met_seat : (seats : Seats) (row : SubId × Live) (seat : Seat) → get seats row.0 ≡ Some seat → met (lives_seated seats) row ≡ (row.0, seat.live)

@@ -16,9 +16,13 @@ use Rattle.iocm_seats.specs.declared.view_change.ViewChange.{ViewChange}
 abbrev pub change_of : (SubId → Option View) → (SubId → Option View) → SubId → ViewChange
 change_of v w x = record { subchannel = x; before = v x; after = w x }
 
--- the same, where these differ
+-- a change from one view to another at a subchannel, if they differ
+abbrev pub change_from : Option View → Option View → SubId → Option ViewChange
+change_from v w x = if option_eq same_view v w then None else Some (record { subchannel = x; before = v; after = w })
+
+-- the change at a subchannel between what was seen there and what is seen there afterwards
 abbrev pub change_at : (SubId → Option View) → (SubId → Option View) → SubId → Option ViewChange
-change_at v w x = if option_eq same_view (v x) (w x) then None else Some (change_of v w x)
+change_at v w x = change_from (v x) (w x) x
 
 -- all changes between two tables of views, in the order of subchannels
 abbrev pub changes_between : Views → Views → List ViewChange

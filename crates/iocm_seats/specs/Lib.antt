@@ -3,3 +3,4 @@ pub mod Exchange
 pub mod Listing
 pub mod Seated
 pub mod Settling
+pub mod Sights

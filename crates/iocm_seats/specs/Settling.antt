@@ -42,6 +42,14 @@ subchannels_left changes = map (λ (ch : ViewChange). ch.subchannel) (filter (λ
 abbrev pub lives_met : Lives → List ViewChange → List (SubId × Live)
 lives_met lives changes = filter_map (λ (ch : ViewChange). option_map (λ (l : Live). (ch.subchannel, l)) (get lives ch.subchannel)) changes
 
+-- this live record at the subchannels of changes
+abbrev pub met_at : Live → List ViewChange → List (SubId × Live)
+met_at live changes = map (λ (ch : ViewChange). (ch.subchannel, live)) changes
+
+-- what was seen before these changes is what was seen at their subchannels
+abbrev pub AreSeen : Views → List ViewChange → Type 0
+AreSeen v changes = AllByRecursion (λ (ch : ViewChange). ch.before ≡ get v ch.subchannel) changes
+
 -- the subchannel of the first of these live records that isn't quiet
 abbrev pub first_busy : List (SubId × Live) → Option SubId
 first_busy [] = None

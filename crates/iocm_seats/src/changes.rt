@@ -1,25 +1,29 @@
-ghost use Rattle.std.specs.Prelude.{◌≡◌, [], ◌∷◌, ◌++◌, T, map, IfOk, OnOk};
-ghost use Rattle.std.specs.List.{filter_map};
+ghost use Rattle.std.specs.Prelude.{◌≡◌, [], ◌∷◌, ◌++◌, map, None, Some, IfOk, OnOk};
+ghost use Rattle.std.specs.List.{filter_map, cons_option};
 ghost use Rattle.std.specs.List.Sorted.{IsStrictlySortedBy};
-ghost use Rattle.std.specs.Option.{option_copied, option_eq};
+ghost use Rattle.std.specs.Option.{option_copied, option_eq, option_and_then};
 ghost use Rattle.std.specs.FinMap.{get};
 ghost use Rattle.iocm_types.specs.SubId.{sub_id_cmp, image_cmp};
 ghost use Rattle.iocm_types.specs.Place.{cell_cmp};
 ghost use Rattle.iocm_table.specs.Slots.{rows};
 ghost use Rattle.iocm_model.specs.Change.Edit.{same_view};
+ghost use Rattle.iocm_model.specs.Machine.Configuration.{IsKeyed, lookup_of};
 ghost use Rattle.iocm_model.specs.Machine.View as model;
+ghost use Rattle.iocm_derive.specs.Derived.{name_at};
+ghost use Rattle.iocm_derive.specs.SightedCells.{sighted_cell, seen_there};
 ghost use Rattle.iocm_model.specs.Operation.State.{views_of};
-ghost use Rattle.iocm_seats.specs.Seated.{views_seated};
+ghost use Rattle.iocm_seats.specs.Seated.{views_seated, lives_seated};
+ghost use Rattle.iocm_seats.specs.Settling.{lives_met, met_at};
 ghost use Rattle.iocm_seats.specs.Changes as spec;
-ghost use Rattle.iocm_seats.specs.Changes.{candidates, changes_between, AreCandidates};
+ghost use Rattle.iocm_seats.specs.Changes.{candidates, change_from, changes_between, AreCandidates};
+ghost use Rattle.iocm_seats.specs.Sights.{AreSights, cells_of_sights};
 
-use crate::reading::view_of;
 use crate::{Seat, ViewChange};
 use iocm_config::Config;
-use iocm_derive::view_at;
+use iocm_derive::{CellSight, name_of_image};
 use iocm_numbers::Numbers;
 use iocm_table::Table;
-use iocm_types::{Image, NumberCell, SubId, View};
+use iocm_types::{Image, Live, Name, NumberCell, SubId, View};
 use std::alloc::{AllocError, Allocator};
 
 /// A change that is tried: the seats as they were before it, the configuration and the numbers as they are after it.
@@ -30,53 +34,102 @@ pub struct Tried<'a, A: Allocator, B: Allocator, C: Allocator> {
     pub numbers: &'a Numbers<C>,
 }
 
+/// What a change alters: the changes of what is seen, in the order of subchannels, and the live records that these have, of those that have
+/// a seat. The word is own.
+#[derive(Drop)]
+pub struct Altered<D: Allocator> {
+    pub changes: Vec<ViewChange, D>,
+    pub met: Vec<(SubId, Live), D>,
+}
+
+/// An image, and its name if it is there.
+#[derive(Drop)]
+struct NamedImage {
+    image: Image,
+    name: Option<Name>,
+}
+
 /// All changes of what is seen, in the order of subchannels. They are looked for at the subchannels of some images and number cells
-/// alone, each given once and in order, and are among these. The time is that of one view for each of these subchannels.
+/// alone, each given once and in order, and are among these. What the images of a channel subsystem share at a number cell is looked up
+/// once; beside that the time is that of one view for each of these subchannels, by its seat and by the paths that are online. The
+/// live records are those of the same seats.
 ///
 /// `AllocError` (M1): memory was wanted.
-pub fn list_changes<A: Allocator, B: Allocator, C: Allocator, D: Allocator>(
+pub fn list_changes<A: Allocator, B: Allocator, C: Allocator, D: Allocator + Clone>(
     alloc: D,
     tried: &Tried<'_, A, B, C>,
     images: &[Image],
     cells: &[NumberCell],
-) -> Result<Vec<ViewChange, D>, AllocError>
+) -> Result<Altered<D>, AllocError>
     requires images { IsStrictlySortedBy image_cmp images.now }
     requires cells { IsStrictlySortedBy cell_cmp cells.now }
     requires all { AreCandidates (get (views_seated (rows sub_id_cmp tried.now.seats.now))) (model.view_at tried.now.config.now.records tried.now.numbers.now.numbers) (candidates images.now cells.now) }
-    ensures { IfOk result (λ changes. changes.items ≡ changes_between (views_seated (rows sub_id_cmp tried.now.seats.now)) (views_of tried.now.config.now.records tried.now.numbers.now.numbers)) }
+    ensures changes { IfOk result (λ altered. altered.changes.items ≡ changes_between (views_seated (rows sub_id_cmp tried.now.seats.now)) (views_of tried.now.config.now.records tried.now.numbers.now.numbers)) }
+    ensures met { IfOk result (λ altered. altered.met.items ≡ lives_met (lives_seated (rows sub_id_cmp tried.now.seats.now)) altered.changes.items) }
 {
     // For the proof alone: each record stands under its own key.
     tried.config.has_own_keys();
-    list_at_images(alloc, tried, images, cells)
+    let sights = sight_cells(alloc.clone()?, tried.config, tried.numbers, cells)?;
+    list_at_images(alloc, tried, images, sights.as_slice())
+}
+
+/// What the images of a channel subsystem share at each of some number cells.
+fn sight_cells<'a, A: Allocator, B: Allocator, D: Allocator>(
+    alloc: D,
+    config: &'a Config<A>,
+    numbers: &Numbers<B>,
+    cells: &[NumberCell],
+) -> Result<Vec<CellSight<'a, A>, D>, AllocError>
+    ensures { IfOk result (λ sights. sights.items ≡ map (sighted_cell config.entry.now.records numbers.now.numbers) cells.now) }
+{
+    let mut sights = Vec::new(alloc);
+    for cell in cells {
+        sights.push(CellSight::new(config, numbers, cell))?;
+    }
+    Ok(sights)
 }
 
 /// The changes at the subchannels of some images and number cells.
-fn list_at_images<A: Allocator, B: Allocator, C: Allocator, D: Allocator>(
+fn list_at_images<A: Allocator, B: Allocator, C: Allocator, D: Allocator + Clone>(
     alloc: D,
     tried: &Tried<'_, A, B, C>,
     images: &[Image],
-    cells: &[NumberCell],
-) -> Result<Vec<ViewChange, D>, AllocError>
-    ensures { IfOk result (λ changes. changes.items ≡ filter_map (spec.change_at (get (views_seated (rows sub_id_cmp tried.now.seats.now))) (model.view_at tried.now.config.now.records tried.now.numbers.now.numbers)) (candidates images.now cells.now)) }
+    sights: &[CellSight<'_, B>],
+) -> Result<Altered<D>, AllocError>
+    requires keyed { IsKeyed tried.now.config.now.records }
+    requires sights { AreSights tried.now.config.now.records tried.now.numbers.now.numbers sights.now }
+    ensures changes { IfOk result (λ altered. altered.changes.items ≡ filter_map (spec.change_at (get (views_seated (rows sub_id_cmp tried.now.seats.now))) (model.view_at tried.now.config.now.records tried.now.numbers.now.numbers)) (candidates images.now (cells_of_sights sights.now))) }
+    ensures met { IfOk result (λ altered. altered.met.items ≡ lives_met (lives_seated (rows sub_id_cmp tried.now.seats.now)) altered.changes.items) }
 {
-    let mut changes = Vec::new(alloc);
+    let mut altered = Altered {
+        changes: Vec::new(alloc.clone()?),
+        met: Vec::new(alloc),
+    };
     for image in images {
-        list_at_cells(&mut changes, tried, image, cells)?;
+        list_at_cells(&mut altered, tried, image, sights)?;
     }
-    Ok(changes)
+    Ok(altered)
 }
 
 /// Puts the changes of an image at some number cells behind those that are listed.
 fn list_at_cells<A: Allocator, B: Allocator, C: Allocator, D: Allocator>(
-    changes: &mut Vec<ViewChange, D>,
+    altered: &mut Altered<D>,
     tried: &Tried<'_, A, B, C>,
     image: &Image,
-    cells: &[NumberCell],
+    sights: &[CellSight<'_, B>],
 ) -> Result<(), AllocError>
-    ensures { OnOk result (changes.new.items ≡ changes.old.items ++ filter_map (spec.change_at (get (views_seated (rows sub_id_cmp tried.now.seats.now))) (model.view_at tried.now.config.now.records tried.now.numbers.now.numbers)) (candidates (image.now ∷ []) cells.now)) }
+    requires met { altered.old.met.items ≡ lives_met (lives_seated (rows sub_id_cmp tried.now.seats.now)) altered.old.changes.items }
+    requires keyed { IsKeyed tried.now.config.now.records }
+    requires sights { AreSights tried.now.config.now.records tried.now.numbers.now.numbers sights.now }
+    ensures changes { OnOk result (altered.new.changes.items ≡ altered.old.changes.items ++ filter_map (spec.change_at (get (views_seated (rows sub_id_cmp tried.now.seats.now))) (model.view_at tried.now.config.now.records tried.now.numbers.now.numbers)) (candidates (image.now ∷ []) (cells_of_sights sights.now))) }
+    ensures met { OnOk result (altered.new.met.items ≡ lives_met (lives_seated (rows sub_id_cmp tried.now.seats.now)) altered.new.changes.items) }
 {
-    for cell in cells {
-        list_at_cell(changes, tried, image, cell)?;
+    let named = NamedImage {
+        image: *image,
+        name: name_of_image(tried.config, *image),
+    };
+    for sight in sights {
+        list_at_cell(altered, tried, &named, sight)?;
     }
     Ok(())
 }
@@ -84,44 +137,87 @@ fn list_at_cells<A: Allocator, B: Allocator, C: Allocator, D: Allocator>(
 /// Puts the change of an image at a number cell behind those that are listed, if the cell is of its channel subsystem and something else
 /// is seen there.
 fn list_at_cell<A: Allocator, B: Allocator, C: Allocator, D: Allocator>(
-    changes: &mut Vec<ViewChange, D>,
+    altered: &mut Altered<D>,
     tried: &Tried<'_, A, B, C>,
-    image: &Image,
-    cell: &NumberCell,
+    named: &NamedImage,
+    sight: &CellSight<'_, B>,
 ) -> Result<(), AllocError>
-    ensures { OnOk result (changes.new.items ≡ changes.old.items ++ filter_map (spec.change_at (get (views_seated (rows sub_id_cmp tried.now.seats.now))) (model.view_at tried.now.config.now.records tried.now.numbers.now.numbers)) (candidates (image.now ∷ []) (cell.now ∷ []))) }
+    requires met { altered.old.met.items ≡ lives_met (lives_seated (rows sub_id_cmp tried.now.seats.now)) altered.old.changes.items }
+    requires keyed { IsKeyed tried.now.config.now.records }
+    requires name { named.now.name ≡ name_at (lookup_of tried.now.config.now.records) named.now.image }
+    requires sight { sight.now ≡ sighted_cell tried.now.config.now.records tried.now.numbers.now.numbers sight.now.cell }
+    ensures changes { OnOk result (altered.new.changes.items ≡ altered.old.changes.items ++ filter_map (spec.change_at (get (views_seated (rows sub_id_cmp tried.now.seats.now))) (model.view_at tried.now.config.now.records tried.now.numbers.now.numbers)) (candidates (named.now.image ∷ []) (sight.now.cell ∷ []))) }
+    ensures met { OnOk result (altered.new.met.items ≡ lives_met (lives_seated (rows sub_id_cmp tried.now.seats.now)) altered.new.changes.items) }
 {
-    if cell.css != image.css {
+    let cell = sight.cell();
+    if cell.css != named.image.css {
         return Ok(());
     }
     let subchannel = SubId {
-        image: *image,
+        image: named.image,
         set: cell.set,
         number: cell.number,
     };
-    if let Some(change) = change_at(tried, &subchannel) {
-        changes.push(change)?;
+    let after = view_there(named, sight);
+    match tried.seats.get(&subchannel) {
+        Some(seat) => list_seated(altered, &subchannel, seat, after)?,
+        None => list_new(altered, &subchannel, after)?,
     }
     Ok(())
 }
 
-/// The change at a subchannel, if something else is seen there.
-fn change_at<A: Allocator, B: Allocator, C: Allocator>(
-    tried: &Tried<'_, A, B, C>,
-    subchannel: &SubId,
-) -> Option<ViewChange>
-    ensures { result ≡ spec.change_at (get (views_seated (rows sub_id_cmp tried.now.seats.now))) (model.view_at tried.now.config.now.records tried.now.numbers.now.numbers) subchannel.now }
+/// What an image sees at a number cell.
+fn view_there<B: Allocator>(named: &NamedImage, sight: &CellSight<'_, B>) -> Option<View>
+    ensures { result ≡ option_and_then (seen_there sight.now) named.now.name }
 {
-    let before = view_of(tried.seats, *subchannel);
-    let after = view_at(tried.config, tried.numbers, *subchannel);
-    if is_same(before.as_ref(), after.as_ref()) {
-        return None;
+    match &named.name {
+        Some(name) => sight.view(*name),
+        None => None,
     }
-    Some(ViewChange {
+}
+
+/// Puts the change at a subchannel with this seat, and the seat's live record, behind those that are listed, if something else is seen there
+/// afterwards.
+fn list_seated<D: Allocator>(
+    altered: &mut Altered<D>,
+    subchannel: &SubId,
+    seat: &Seat,
+    after: Option<View>,
+) -> Result<(), AllocError>
+    ensures changes { OnOk result (altered.new.changes.items ≡ altered.old.changes.items ++ cons_option (change_from (Some seat.now.view) after subchannel.now) []) }
+    ensures met { OnOk result (altered.new.met.items ≡ altered.old.met.items ++ met_at seat.now.live (cons_option (change_from (Some seat.now.view) after subchannel.now) [])) }
+{
+    let before = Some(seat.view.to_view());
+    if is_same(before.as_ref(), after.as_ref()) {
+        return Ok(());
+    }
+    altered.met.push((*subchannel, seat.live))?;
+    altered.changes.push(ViewChange {
         subchannel: *subchannel,
         before,
         after,
-    })
+    })?;
+    Ok(())
+}
+
+/// Puts the change at a subchannel without a seat behind those that are listed, if something is seen there afterwards.
+fn list_new<D: Allocator>(
+    altered: &mut Altered<D>,
+    subchannel: &SubId,
+    after: Option<View>,
+) -> Result<(), AllocError>
+    ensures changes { OnOk result (altered.new.changes.items ≡ altered.old.changes.items ++ cons_option (change_from None after subchannel.now) []) }
+    ensures met { altered.new.met.items ≡ altered.old.met.items }
+{
+    if after.is_none() {
+        return Ok(());
+    }
+    altered.changes.push(ViewChange {
+        subchannel: *subchannel,
+        before: None,
+        after,
+    })?;
+    Ok(())
 }
 
 /// Whether two sights are one.

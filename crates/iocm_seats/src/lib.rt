@@ -22,11 +22,11 @@ mod settling;
 mod tests;
 mod view_change;
 
-pub use changes::{Tried, list_changes};
+pub use changes::{Altered, Tried, list_changes};
 pub use compact_view::CompactView;
 pub use exchanging::exchange;
 pub use laws::{exchanged_seats_show, settled_seats_show};
-pub use met::{first_not_quiet, list_left, list_met};
+pub use met::{first_not_quiet, list_left};
 pub use opening::open_seats;
 pub use reading::{live_at, view_of};
 pub use seat::Seat;

@@ -1,17 +1,12 @@
 ghost use Rattle.std.specs.Prelude.{◌≡◌, List, Some, map, IfOk};
-ghost use Rattle.iocm_types.specs.SubId.{sub_id_cmp};
-ghost use Rattle.iocm_table.specs.Slots.{rows};
 ghost use Rattle.std.specs.Map.{keys_of};
 ghost use Rattle.iocm_model.specs.Change.Refusal as refusal;
-ghost use Rattle.iocm_seats.specs.Seated.{lives_seated};
 ghost use Rattle.iocm_model.specs.Operation.State.{Lives};
 ghost use Rattle.iocm_seats.specs.declared.view_change.ViewChange as changed;
 ghost use Rattle.iocm_seats.specs.Settling.{lives_met, first_busy, subchannels_left};
 
-use crate::reading::live_at;
-use crate::{Seat, ViewChange};
+use crate::ViewChange;
 use iocm_live::fresh;
-use iocm_table::Table;
 use iocm_types::{Live, Phase, SubId};
 use std::alloc::{AllocError, Allocator};
 
@@ -39,25 +34,6 @@ fn is_busy(live: &Live) -> bool
     ensures { result ≡ refusal.is_not_quiet (Some live.now) }
 {
     !matches!(live.phase, Phase::Idle)
-}
-
-/// The live records at the subchannels of these changes, of those that have one.
-///
-/// `AllocError` (M1): memory was wanted.
-pub fn list_met<A: Allocator, B: Allocator>(
-    alloc: B,
-    seats: &Table<SubId, Seat, A>,
-    changes: &[ViewChange],
-) -> Result<Vec<(SubId, Live), B>, AllocError>
-    ensures { IfOk result (λ listed. listed.items ≡ lives_met (lives_seated (rows sub_id_cmp seats.now)) changes.now) }
-{
-    let mut listed = Vec::new(alloc);
-    for change in changes {
-        if let Some(live) = live_at(seats, change.subchannel) {
-            listed.push((change.subchannel, live))?;
-        }
-    }
-    Ok(listed)
 }
 
 /// A row for each subchannel of these changes at which something is seen afterwards, with any live record.

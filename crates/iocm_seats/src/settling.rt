@@ -6,7 +6,8 @@ ghost use Rattle.iocm_types.specs.declared.sub_id.SubId as sub_id;
 ghost use Rattle.iocm_table.specs.Slots.{rows, HasPlace};
 ghost use Rattle.iocm_model.specs.Change.Edit.{live_of_altered};
 ghost use Rattle.iocm_model.specs.Change.Maps.{with_value};
-ghost use Rattle.iocm_seats.specs.Settling.{seat_after, settled_all, HavePlaces};
+ghost use Rattle.iocm_seats.specs.Seated.{views_seated};
+ghost use Rattle.iocm_seats.specs.Settling.{seat_after, settled_all, AreSeen, HavePlaces};
 
 use crate::{CompactView, Seat, ViewChange};
 use iocm_live::fresh;
@@ -14,21 +15,41 @@ use iocm_table::Table;
 use iocm_types::{Live, SubId, View};
 use std::alloc::{AllocError, Allocator};
 
-/// Gives each subchannel of these changes a place, if it has none. No seat changes, and no place is lost.
+/// Gives each subchannel of these changes a place, if it has none. One at which something is seen has a seat, so it isn't searched. No
+/// seat changes, and no place is lost.
 ///
 /// `AllocError` (M1): memory was wanted.
 pub fn make_places<A: Allocator + Clone>(
     seats: &mut Table<SubId, Seat, A>,
     changes: &[ViewChange],
 ) -> Result<(), AllocError>
+    requires { AreSeen (views_seated (rows sub_id_cmp seats.old)) changes.now }
     ensures seats { rows sub_id_cmp seats.new ≡ rows sub_id_cmp seats.old }
     ensures ok { OnOk result (HavePlaces seats.new changes.now) }
     ensures kept { (x : sub_id.SubId) → HasPlace sub_id_cmp seats.old x → HasPlace sub_id_cmp seats.new x }
 {
     for change in changes {
-        seats.room(change.subchannel)?;
+        make_place(seats, change)?;
     }
     Ok(())
+}
+
+/// Gives the subchannel of a change a place, if it has none.
+fn make_place<A: Allocator + Clone>(
+    seats: &mut Table<SubId, Seat, A>,
+    change: &ViewChange,
+) -> Result<(), AllocError>
+    requires { change.now.before ≡ get (views_seated (rows sub_id_cmp seats.old)) change.now.subchannel }
+    ensures seats { rows sub_id_cmp seats.new ≡ rows sub_id_cmp seats.old }
+    ensures ok { OnOk result (HasPlace sub_id_cmp seats.new change.now.subchannel) }
+    ensures kept { (x : sub_id.SubId) → HasPlace sub_id_cmp seats.old x → HasPlace sub_id_cmp seats.new x }
+{
+    // For the proof alone: what has a seat has a place.
+    seats.has_places();
+    if change.before.is_some() {
+        return Ok(());
+    }
+    seats.room(change.subchannel)
 }
 
 /// Gives each subchannel of these changes the seat that it has afterwards: none where nothing is seen any more, else the view
@@ -47,33 +68,40 @@ pub fn settle_all<A: Allocator, B: Allocator>(
     }
 }
 
-/// Gives the subchannel of a change the seat that it has afterwards.
+/// Gives the subchannel of a change the seat that it has afterwards. One that has no seat is searched once.
 fn settle<A: Allocator>(seats: &mut Table<SubId, Seat, A>, change: &ViewChange, own: Option<Live>)
     requires { HasPlace sub_id_cmp seats.old change.now.subchannel }
     ensures seats { rows sub_id_cmp seats.new ≡ with_value (rows sub_id_cmp seats.old) change.now.subchannel (seat_after (get (rows sub_id_cmp seats.old) change.now.subchannel) change.now.after own) }
     ensures places { seats.new.places ≡ seats.old.places }
 {
-    let old = seats.take(&change.subchannel);
     let Some(view) = &change.after else {
+        let _ = seats.take(&change.subchannel);
         return;
     };
-    let live = live_after(old.as_ref(), view, own);
+    let is_kept = own.is_some();
+    let first = Seat {
+        view: CompactView::new(view),
+        live: first_live(view, own),
+    };
+    let Some(old) = seats.put(&change.subchannel, first) else {
+        return;
+    };
+    if is_kept {
+        return;
+    }
     let seat = Seat {
         view: CompactView::new(view),
-        live,
+        live: own_live(&old, view),
     };
     let _ = seats.put(&change.subchannel, seat);
 }
 
-/// The live record of an altered subchannel at which something is seen afterwards.
-fn live_after(old: Option<&Seat>, new: &View, own: Option<Live>) -> Live
-    ensures { result ≡ live_of_altered (option_map (λ s. s.view) (option_copied old.entry)) new.now own (option_map (λ s. s.live) (option_copied old.entry)) }
+/// The live record of a subchannel that had none: the one that comes along, or else a fresh one.
+fn first_live(new: &View, own: Option<Live>) -> Live
+    ensures { result ≡ live_of_altered None new.now own None }
 {
-    if let Some(live) = own {
-        return live;
-    }
-    match old {
-        Some(seat) => own_live(seat, new),
+    match own {
+        Some(live) => live,
         None => fresh(new.pim),
     }
 }

@@ -4,10 +4,12 @@ ghost use Rattle.std.specs.FinMap.{get};
 ghost use Rattle.iocm_types.specs.SubId.{sub_id_cmp};
 ghost use Rattle.iocm_types.specs.declared.sub_id.SubId as sub_id;
 ghost use Rattle.iocm_table.specs.Slots.{rows};
+ghost use Rattle.iocm_seats.specs.Seated.{views_seated};
+ghost use Rattle.iocm_seats.specs.Settling.{AreSeen};
 
 use crate::{
-    CompactView, Seat, Tried, ViewChange, exchange, first_not_quiet, list_changes, list_left,
-    list_met, live_at, make_places, open_seats, settle_all, view_of,
+    Altered, CompactView, Seat, Tried, ViewChange, exchange, first_not_quiet, list_changes,
+    list_left, live_at, make_places, open_seats, settle_all, view_of,
 };
 use iocm_config::Config;
 use iocm_live::fresh;
@@ -175,12 +177,12 @@ fn is_alone(seats: &Table<SubId, Seat>, there: &SubId) -> bool
     seats.len() == 1 && seats.get(there).is_some()
 }
 
-/// The changes of what is seen, where one subchannel alone has a seat before and afterwards.
+/// What a change alters, where one subchannel alone has a seat before and afterwards.
 fn list_there(
     alloc: Global,
     tried: &Tried<'_, Global, Global, Global>,
     there: &SubId,
-) -> Result<Vec<ViewChange>, Fail> {
+) -> Result<Altered<Global>, Fail> {
     // For the proof alone: each record stands under its own key.
     tried.config.has_own_keys();
     let after = open_seats(alloc, tried.config, tried.numbers)?;
@@ -237,21 +239,31 @@ fn a_path_that_goes_offline_alters_a_subchannel(rt: HostRuntime) -> Result<(), F
         config: &config,
         numbers: &numbers,
     };
-    let changes = list_there(rt.alloc(), &tried, &there)?;
+    let altered = list_there(rt.alloc(), &tried, &there)?;
     let wanted = gone_offline()?;
-    assert_eq!(rt; changes.len(), 1);
-    for change in &changes {
+    assert_eq!(rt; altered.changes.len(), 1);
+    for change in &altered.changes {
         assert!(rt; is_same(change, &wanted));
     }
     Ok(())
 }
 
+/// That the device's path isn't available afterwards, by what a seat shows before.
+fn offline_after(seats: &Table<SubId, Seat>, there: &SubId) -> [ViewChange; 1]
+    ensures { AreSeen (views_seated (rows sub_id_cmp seats.now)) result }
+{
+    [ViewChange {
+        subchannel: *there,
+        before: view_of(seats, *there),
+        after: Some(view(0)),
+    }]
+}
+
 #[test]
 fn a_seat_is_settled(rt: HostRuntime) -> Result<(), Fail> {
     let there = subchannel()?;
-    let change = gone_offline()?;
-    let changes = [change];
     let mut seats = seated(rt.alloc())?;
+    let changes = offline_after(&seats, &there);
     make_places(&mut seats, changes.as_slice())?;
     let kept: Table<SubId, Live> = Table::new(rt.alloc());
     settle_all(&mut seats, changes.as_slice(), &kept);
@@ -262,9 +274,8 @@ fn a_seat_is_settled(rt: HostRuntime) -> Result<(), Fail> {
 #[test]
 fn a_new_seat_is_settled(rt: HostRuntime) -> Result<(), Fail> {
     let there = subchannel()?;
-    let change = gone_offline()?;
-    let changes = [change];
     let mut seats: Table<SubId, Seat> = Table::new(rt.alloc());
+    let changes = offline_after(&seats, &there);
     make_places(&mut seats, changes.as_slice())?;
     assert_eq!(rt; seats.len(), 0);
     let kept: Table<SubId, Live> = Table::new(rt.alloc());
@@ -274,15 +285,42 @@ fn a_new_seat_is_settled(rt: HostRuntime) -> Result<(), Fail> {
     Ok(())
 }
 
+/// What is altered at some seats when the device's path goes offline.
+fn altered_at(alloc: Global, seats: &Table<SubId, Seat>) -> Result<Altered<Global>, Fail> {
+    let there = subchannel()?;
+    let name = image_name()?;
+    let mut config = small(alloc)?;
+    let numbers = opening(alloc, &config)?;
+    let _ = config.take(&Key::Online(Css::FIRST, Chpid::new(0x50), name));
+    let tried = Tried {
+        seats,
+        config: &config,
+        numbers: &numbers,
+    };
+    list_there(alloc, &tried, &there)
+}
+
 #[test]
-fn what_changes_meet_and_leave_is_listed(rt: HostRuntime) -> Result<(), Fail> {
+fn live_records_are_listed_with_changes(rt: HostRuntime) -> Result<(), Fail> {
+    let there = subchannel()?;
+    let seats = seated(rt.alloc())?;
+    let altered = altered_at(rt.alloc(), &seats)?;
+    assert_eq!(rt; altered.met.as_slice(), [(there, live(5))].as_slice());
+    Ok(())
+}
+
+#[test]
+fn the_first_that_is_not_quiet_is_named(rt: HostRuntime) -> Result<(), Fail> {
+    let met = [(subchannel()?, live(5))];
+    assert_eq!(rt; first_not_quiet(met.as_slice()), Some(subchannel()?));
+    Ok(())
+}
+
+#[test]
+fn what_changes_leave_is_listed(rt: HostRuntime) -> Result<(), Fail> {
     let there = subchannel()?;
     let change = gone_offline()?;
     let changes = [change];
-    let seats = seated(rt.alloc())?;
-    let met = list_met(rt.alloc(), &seats, changes.as_slice())?;
-    assert_eq!(rt; first_not_quiet(met.as_slice()), Some(there));
-    assert_eq!(rt; met.as_slice(), [(there, live(5))].as_slice());
     let left = list_left(rt.alloc(), changes.as_slice())?;
     assert_eq!(rt; left.len(), 1);
     for row in &left {

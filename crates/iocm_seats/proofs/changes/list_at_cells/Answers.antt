@@ -1,20 +1,32 @@
-use Rattle.std.proofs.Common.{List, [], ◌∷◌, ap, ◌∙◌}
+use Rattle.std.proofs.Common.{rules, ◌≡◌, List, [], ◌∷◌, ap, ◌∙◌}
 use Rattle.std.specs.List.{filter_map}
 use Rattle.std.specs.FinMap.{get}
 use Rattle.std.proofs.lemmas.List.Elements.{filter_map-append}
-use Rattle.iocm_types.specs.declared.place.NumberCell.{NumberCell}
 use Rattle.iocm_types.specs.SubId.{sub_id_cmp}
 use Rattle.iocm_table.specs.Slots.{rows}
 use Rattle.iocm_model.specs.Machine.View.{view_at}
+use Rattle.iocm_derive.specs.SightedCells.{SightedCell, sighted_cell}
 use Rattle.iocm_seats.specs.Seated.{views_seated}
 use Rattle.iocm_seats.specs.Changes.{change_at, candidates}
-use Rattle.iocm_seats.proofs.Loops.{candidates_cell, listed_more}
+use Rattle.iocm_seats.specs.Sights.{cells_of_sights}
+use Rattle.iocm_seats.proofs.Loops.{candidates_cell, listed_more, opened}
 use Rattle.iocm_seats.proofs.changes.list_at_cells.Goals as goal
 
-pub loop-cell-preserved : goal.loop-cell-preserved
-loop-cell-preserved g c =
+pub list_at_cell-requires : goal.list_at_cell-requires
+list_at_cell-requires g c =
+    let sight = (opened (λ (s : SightedCell). s ≡ sighted_cell c.args.tried.now.config.now.records c.args.tried.now.numbers.now.numbers s.cell) c.args.sights.now c.loop-sight.sight-index
+    c.sight-item.result c.loop-sight-test.true c.sight-item.is c.loop-sight.invariant.sights).0 in search rules
+
+pub loop-sight-preserved : goal.loop-sight-preserved
+loop-sight-preserved g c =
     let change = change_at (get (views_seated (rows sub_id_cmp c.args.tried.now.seats.now))) (view_at c.args.tried.now.config.now.records c.args.tried.now.numbers.now.numbers) in
-    listed_more (λ (cells : List NumberCell). filter_map change (candidates (c.args.image.now ∷ []) cells))
-    (λ x xs. ap (filter_map change) (candidates_cell c.args.image.now x xs) ∙ filter_map-append change (candidates (c.args.image.now ∷ []) (x ∷ [])) (candidates (c.args.image.now ∷ []) xs))
-    c.args.cells.now c.loop-cell.cell-index c.cell-item.result c.loop-cell-test.true c.cell-item.is c.loop-cell.changes.items c.list_at_cell.new.changes.items _
-    c.in_ok-list_at_cell.ensures c.loop-cell.invariant
+    let one = c.args.image.now ∷ [] in record {
+      left = listed_more (λ (sights : List SightedCell). filter_map change (candidates one (cells_of_sights sights)))
+          (λ x xs. ap (filter_map change) (candidates_cell c.args.image.now x.cell (cells_of_sights xs))
+          ∙ filter_map-append change (candidates one (x.cell ∷ [])) (candidates one (cells_of_sights xs)))
+          c.args.sights.now c.loop-sight.sight-index c.sight-item.result c.loop-sight-test.true c.sight-item.is c.loop-sight.altered.changes.items c.list_at_cell.new.altered.changes.items _
+          c.in_ok-list_at_cell.ensures.changes c.loop-sight.invariant.left;
+      met = c.in_ok-list_at_cell.ensures.met;
+      sights = (opened (λ (s : SightedCell). s ≡ sighted_cell c.args.tried.now.config.now.records c.args.tried.now.numbers.now.numbers s.cell) c.args.sights.now
+          c.loop-sight.sight-index c.sight-item.result c.loop-sight-test.true c.sight-item.is c.loop-sight.invariant.sights).1;
+    }

@@ -5,12 +5,17 @@ use Rattle.std.specs.FinMap.{get}
 use Rattle.iocm_types.specs.SubId.{sub_id_cmp}
 use Rattle.iocm_table.specs.Slots.{rows}
 use Rattle.iocm_model.specs.Machine.View.{view_at}
-use Rattle.iocm_seats.specs.Seated.{views_seated}
+use Rattle.iocm_seats.specs.Seated.{views_seated, lives_seated}
+use Rattle.iocm_seats.specs.Settling.{lives_met}
 use Rattle.iocm_seats.specs.Changes.{change_at, candidates}
+use Rattle.iocm_seats.specs.Sights.{AreSights, cells_of_sights}
 use Rattle.iocm_seats.proofs.changes.list_at_cells.Given as goal
 
-abbrev pub invariant-loop-cell : goal.invariant-loop-cell
-invariant-loop-cell g l =
-    let change = change_at (get (views_seated (rows sub_id_cmp l.tried.seats.now))) (view_at l.tried.config.now.records l.tried.numbers.now.numbers) in
-    l.changes.items ++ filter_map change (candidates (l.image ∷ []) (drop l.cell-index l.cells))
-    ≡ l.initial.changes.items ++ filter_map change (candidates (l.image ∷ []) l.cells)
+abbrev pub invariant-loop-sight : goal.invariant-loop-sight
+invariant-loop-sight g l =
+    let change = change_at (get (views_seated (rows sub_id_cmp l.tried.seats.now))) (view_at l.tried.config.now.records l.tried.numbers.now.numbers) in record {
+      left : l.altered.changes.items ++ filter_map change (candidates (l.image ∷ []) (cells_of_sights (drop l.sight-index l.sights)))
+          ≡ l.initial.altered.changes.items ++ filter_map change (candidates (l.image ∷ []) (cells_of_sights l.sights));
+      met : l.altered.met.items ≡ lives_met (lives_seated (rows sub_id_cmp l.tried.seats.now)) l.altered.changes.items;
+      sights : AreSights l.tried.config.now.records l.tried.numbers.now.numbers (drop l.sight-index l.sights);
+    }

@@ -8,13 +8,17 @@ use Rattle.iocm_table.specs.Slots.{rows}
 use Rattle.iocm_model.specs.Machine.View.{view_at}
 use Rattle.iocm_seats.specs.Seated.{views_seated}
 use Rattle.iocm_seats.specs.Changes.{change_at, candidates}
+use Rattle.iocm_seats.specs.Sights.{cells_of_sights}
 use Rattle.iocm_seats.proofs.Loops.{candidates_image, listed_more}
 use Rattle.iocm_seats.proofs.changes.list_at_images.Goals as goal
 
 pub loop-image-preserved : goal.loop-image-preserved
 loop-image-preserved g c =
     let change = change_at (get (views_seated (rows sub_id_cmp c.args.tried.now.seats.now))) (view_at c.args.tried.now.config.now.records c.args.tried.now.numbers.now.numbers) in
-    listed_more (λ (images : List Image). filter_map change (candidates images c.args.cells.now))
-    (λ x xs. ap (filter_map change) (candidates_image x xs c.args.cells.now) ∙ filter_map-append change (candidates (x ∷ []) c.args.cells.now) (candidates xs c.args.cells.now))
-    c.args.images.now c.loop-image.image-index c.image-item.result c.loop-image-test.true c.image-item.is c.loop-image.changes.items c.list_at_cells.new.changes.items _
-    c.in_ok-list_at_cells.ensures c.loop-image.invariant
+    record {
+      left = listed_more (λ (images : List Image). filter_map change (candidates images (cells_of_sights c.args.sights.now)))
+          (λ x xs. ap (filter_map change) (candidates_image x xs (cells_of_sights c.args.sights.now)) ∙ filter_map-append change (candidates (x ∷ []) (cells_of_sights c.args.sights.now)) (candidates xs (cells_of_sights c.args.sights.now)))
+          c.args.images.now c.loop-image.image-index c.image-item.result c.loop-image-test.true c.image-item.is c.loop-image.altered.changes.items c.list_at_cells.new.altered.changes.items _
+          c.in_ok-list_at_cells.ensures.changes c.loop-image.invariant.left;
+      met = c.in_ok-list_at_cells.ensures.met;
+    }

@@ -1,6 +1,5 @@
-use Rattle.std.proofs.Common.{◌≡◌, Option, sym, ap, ◌∙◌}
-use Rattle.std.specs.Option.{option_copied, option_map}
-use Rattle.std.specs.FinMap.{get, insert}
+use Rattle.std.proofs.Common.{◌≡◌, false, Option, None, Some, is_some, refl, sym, ap, ◌∙◌}
+use Rattle.std.specs.FinMap.{insert}
 use Rattle.iocm_types.specs.declared.live.Live.{Live}
 use Rattle.iocm_types.specs.declared.view.View.{View}
 use Rattle.iocm_types.specs.SubId.{sub_id_cmp}
@@ -11,25 +10,26 @@ use Rattle.iocm_model.specs.Change.Maps.{with_value}
 use Rattle.iocm_seats.specs.declared.seat.Seat.{Seat}
 use Rattle.iocm_seats.specs.Seated.{Seats}
 use Rattle.iocm_seats.specs.Settling.{seat_after}
-use Rattle.iocm_seats.proofs.Taking.{insert_over}
+use Rattle.iocm_seats.proofs.Taking.{insert_again}
 use Rattle.iocm_seats.proofs.settling.settle.Goals as goal
 
-pub returns-clause-seats : goal.returns-clause-seats
-returns-clause-seats g c = c.put.ensures.rows
-    ∙ ap (λ (m : Seats). insert m c.args.change.now.subchannel (record { view = c.new.result; live = c.live_after-live.result })) c.take-old.ensures.rows
-    ∙ insert_over sub_ids_total sub_ids_exact (rows sub_id_cmp c.args.seats.now) c.args.change.now.subchannel (record { view = c.new.result; live = c.live_after-live.result })
-    ∙ ap (λ (s : Seat). insert (rows sub_id_cmp c.args.seats.now) c.args.change.now.subchannel s) is
-    ∙ ap (λ (o : Option View). with_value (rows sub_id_cmp c.args.seats.now) c.args.change.now.subchannel
-    (seat_after (get (rows sub_id_cmp c.args.seats.now) c.args.change.now.subchannel) o c.args.own)) (sym c.in-Some.is)
-  where
-    old : option_copied c.as_ref.result ≡ get (rows sub_id_cmp c.args.seats.now) c.args.change.now.subchannel
-    old = c.as_ref.ensures.value ∙ c.take-old.ensures.before
+-- none came along
+none_by : (own : Option Live) → is_some own ≡ false → own ≡ None
+none_by None h = refl
+none_by (Some l) h = cc
 
+pub returns-clause-seats : goal.returns-clause-seats
+returns-clause-seats g c =
+    let seats = rows sub_id_cmp c.args.seats.now in
+    let x = c.args.change.now.subchannel in
+    let old = c.in-Some-put.old in
+    let none = none_by c.args.own (sym c.is_some-is_kept.ensures ∙ c.if-is_kept.false) in
+    c.put-2.ensures.rows
+    ∙ ap (λ (m : Seats). insert m x (seat_of c.new-2.result c.own_live.result)) c.put.ensures.rows
+    ∙ insert_again sub_ids_total sub_ids_exact seats x (seat_of c.new.result c.first_live.result) (seat_of c.new-2.result c.own_live.result)
+    ∙ (λ i. insert seats x (seat_of (c.new-2.ensures i)
+    ((c.own_live.ensures ∙ ap (λ (o : Option Live). live_of_altered (Some old.view) c.in-Some.view o (Some old.live)) (sym none)) i)))
+    ∙ (λ i. with_value seats x (seat_after ((sym c.in-Some-put.is ∙ c.put.ensures.before) i) (sym c.in-Some.is i) c.args.own))
+  where
     seat_of : View → Live → Seat
     seat_of v l = record { view = v; live = l }
-
-    is : seat_of c.new.result c.live_after-live.result ≡ seat_of c.in-Some.view (live_of_altered
-        (option_map (λ (s : Seat). s.view) (get (rows sub_id_cmp c.args.seats.now) c.args.change.now.subchannel)) c.in-Some.view c.args.own
-        (option_map (λ (s : Seat). s.live) (get (rows sub_id_cmp c.args.seats.now) c.args.change.now.subchannel)))
-    is = λ i. seat_of (c.new.ensures i) ((c.live_after-live.ensures
-        ∙ ap (λ (o : Option Seat). live_of_altered (option_map (λ (s : Seat). s.view) o) c.in-Some.view c.args.own (option_map (λ (s : Seat). s.live) o)) old) i)

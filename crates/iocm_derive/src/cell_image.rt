@@ -1,0 +1,113 @@
+ghost use Rattle.std.specs.Prelude.{◌≡◌, true};
+ghost use Rattle.std.specs.List.{list_any};
+ghost use Rattle.iocm_model.specs.Machine.Configuration.{lookup_of};
+ghost use Rattle.iocm_model.specs.Machine.Mask.{installed};
+ghost use Rattle.iocm_model.specs.Machine.PathList.{path_list, view_paths};
+ghost use Rattle.iocm_model.specs.Machine.Sight as sight;
+ghost use Rattle.iocm_model.specs.Machine.View as model;
+ghost use Rattle.iocm_records.specs.Meaning.{device_of};
+
+use crate::cell_sight::CellSight;
+use crate::lookup::is_path_online;
+use crate::masks::{available_paths, installed_paths};
+use crate::paths::copy_paths;
+use crate::reach::Reach;
+use crate::sight::{is_candidate, reaches_units};
+use iocm_config::Config;
+use iocm_records::DeviceFields;
+use iocm_types::{Chpid, Css, Mask, Name, Paths, UnitNo, View};
+use std::alloc::Allocator;
+
+/// The image of a name in the channel subsystem of a number cell.
+#[derive(Drop)]
+struct CellImage<'b, 'a, A: Allocator> {
+    sight: &'b CellSight<'a, A>,
+    name: Name,
+}
+
+impl<'b, 'a, A: Allocator> Reach<A> for CellImage<'b, 'a, A> {
+    ghost records = { λ r. r.sight.now.records };
+
+    ghost subsystem = { λ r. r.sight.now.cell.css };
+
+    ghost called = { λ r. r.name };
+
+    fn config(&self) -> &Config<A> {
+        self.sight.config()
+    }
+
+    fn css(&self) -> Css {
+        self.sight.cell().css
+    }
+
+    fn name(&self) -> Name {
+        self.name
+    }
+
+    fn reaches(&self, path: Chpid) -> bool {
+        self.sight.reaches(path, self.name)
+    }
+
+    fn is_online(&self, path: Chpid) -> bool {
+        is_path_online(self.sight.config(), self.sight.cell().css, self.name, path)
+    }
+}
+
+/// What the image of a name sees of a device with these first eight paths in the channel subsystem of a number cell.
+pub fn view_in_cell<A: Allocator>(
+    sight: &CellSight<'_, A>,
+    name: Name,
+    device: &DeviceFields<A>,
+    paths: &Paths,
+) -> Option<View>
+    requires { paths.now ≡ view_paths (lookup_of sight.now.records) sight.now.cell.css device.now.units }
+    ensures { result ≡ model.view_if_seen (lookup_of sight.now.records) sight.now.cell.css name (device_of device.now) }
+{
+    if !is_candidate(device.candidates.as_ref(), name) {
+        return None;
+    }
+    view_by_paths(&CellImage { sight, name }, device, paths)
+}
+
+/// What an image that is a candidate of a device sees of it by its first eight paths.
+fn view_by_paths<A: Allocator, R: Reach<A>>(
+    reach: &R,
+    device: &DeviceFields<A>,
+    paths: &Paths,
+) -> Option<View>
+    requires paths { paths.now ≡ view_paths (lookup_of (R.records reach.now)) (R.subsystem reach.now) device.now.units }
+    requires candidate { sight.is_candidate (R.called reach.now) device.now.candidates ≡ true }
+    ensures { result ≡ model.view_if_seen (lookup_of (R.records reach.now)) (R.subsystem reach.now) (R.called reach.now) (device_of device.now) }
+{
+    let pim = installed_paths(reach, paths);
+    if !is_reached(reach, device.units.as_slice(), paths, pim) {
+        return None;
+    }
+    Some(View {
+        device: device.number,
+        paths: copy_paths(paths),
+        pim,
+        pam: available_paths(reach, paths),
+    })
+}
+
+/// Whether an image reaches one of the paths of these units, by its path-installed mask over the first eight. Only where
+/// it reaches none of eight the units are asked for further ones.
+fn is_reached<A: Allocator, R: Reach<A>>(
+    reach: &R,
+    units: &[UnitNo],
+    paths: &Paths,
+    pim: Mask,
+) -> bool
+    requires paths { paths.now ≡ view_paths (lookup_of (R.records reach.now)) (R.subsystem reach.now) units.now }
+    requires pim { pim ≡ installed (lookup_of (R.records reach.now)) (R.subsystem reach.now) (R.called reach.now) paths.now }
+    ensures { result ≡ list_any (sight.reaches (lookup_of (R.records reach.now)) (R.subsystem reach.now) (R.called reach.now)) (path_list (lookup_of (R.records reach.now)) (R.subsystem reach.now) units.now) }
+{
+    if pim.bits() != 0 {
+        return true;
+    }
+    if !paths.is_full() {
+        return false;
+    }
+    reaches_units(reach, units)
+}

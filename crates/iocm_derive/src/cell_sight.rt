@@ -1,0 +1,121 @@
+ghost use Rattle.std.specs.Prelude.{◌≡◌, IfSome};
+ghost use Rattle.std.specs.Option.{option_copied, option_map};
+ghost use Rattle.iocm_model.specs.Machine.Configuration.{lookup_of};
+ghost use Rattle.iocm_model.specs.Machine.Sight as sight;
+ghost use Rattle.iocm_records.specs.Meaning.{device_of};
+ghost use Rattle.iocm_derive.specs.SightedCells.{sighted_cell, cell_device, seen_there};
+
+use crate::cell_image::view_in_cell;
+use crate::lookup::{find_device, lists_image, reaches_path};
+use crate::path_records::{PathRecord, path_records};
+use crate::paths::paths_of_device;
+use iocm_config::Config;
+use iocm_numbers::Numbers;
+use iocm_records::DeviceFields;
+use iocm_types::{Chpid, Name, NumberCell, Paths, View};
+use std::alloc::Allocator;
+use std::marker::Model;
+
+/// A number cell of a configuration, with what all images of its channel subsystem share there looked up once: the
+/// device that has the number, its first eight paths, and their records. Contracts see the configuration, the cell
+/// and the device.
+#[derive(Drop)]
+pub struct CellSight<'a, A: Allocator> {
+    config: &'a Config<A>,
+    cell: NumberCell,
+    device: Option<&'a DeviceFields<A>>,
+    paths: Paths,
+    /// The records of the paths that are there.
+    records: [Option<PathRecord<'a, A>>; 8],
+}
+
+impl<'a, A: Allocator> Model for CellSight<'a, A> {
+    ghost use Rattle.std.specs.Prelude.{◌≡◌, IfSome, refl};
+    ghost use Rattle.std.specs.FinMap as map;
+    ghost use Rattle.std.specs.List.{AllByRecursion};
+    ghost use Rattle.std.specs.Option.{option_copied, option_map};
+    ghost use Rattle.std.specs.Coded.{code_by, coded×, codes};
+    ghost use Rattle.iocm_types.specs.declared.place.NumberCell as place;
+    ghost use Rattle.iocm_model.specs.Machine.Record.{DeviceRecord};
+    ghost use Rattle.iocm_model.specs.Machine.Configuration.{Configuration, lookup_of};
+    ghost use Rattle.iocm_records.specs.Meaning.{device_of};
+    ghost use Rattle.iocm_derive.specs.Derived.{paths_of};
+    ghost use Rattle.iocm_derive.specs.SightedCells.{SightedCell, IsRecordOf};
+    ghost use Rattle.std.specs.Prelude as std_words;
+
+    ghost Value = { SightedCell };
+
+    ghost coded = { code_by (Configuration × (place.NumberCell × std_words.Option DeviceRecord)) (coded× (map.code (Prim.hlevel codes) (Prim.hlevel codes)) (coded× (Prim.hlevel codes) (Prim.hlevel codes)))
+        (λ s. (s.records, (s.cell, s.device))) (λ p. record { records = p.0; cell = p.1.0; device = p.1.1 }) (λ _. refl) };
+
+    ghost view = { λ s. record { records = s.config.now.records; cell = s.cell; device = option_map device_of (option_copied s.device) } };
+
+    ghost invariant = { λ s. (s.paths ≡ paths_of (lookup_of s.config.now.records) s.cell.css (option_map device_of (option_copied s.device)))
+        × AllByRecursion (λ row. IfSome row (λ r. IsRecordOf s.config.now.records s.cell.css r.number r.entry.now)) s.records };
+}
+
+impl<'a, A: Allocator> CellSight<'a, A> {
+    /// A number cell by a configuration and its numbers.
+    pub fn new<B: Allocator>(config: &'a Config<A>, numbers: &Numbers<B>, cell: &NumberCell) -> Self
+        ensures { result ≡ sighted_cell config.entry.now.records numbers.now.numbers cell.now }
+    {
+        let css = cell.css;
+        let device = device_in(config, numbers, cell);
+        let paths = paths_of_device(config, css, device);
+        let records = path_records(config, css, &paths);
+        CellSight {
+            config,
+            cell: *cell,
+            device,
+            paths,
+            records,
+        }
+    }
+
+    /// The number cell.
+    pub fn cell(&self) -> NumberCell
+        ensures { result ≡ self.now.cell }
+    {
+        self.cell
+    }
+
+    /// What the image of a name in the cell's channel subsystem sees there, if there is a device and the image sees it.
+    pub fn view(&self, name: Name) -> Option<View>
+        ensures { result ≡ seen_there self.now name }
+    {
+        view_in_cell(self, name, self.device?, &self.paths)
+    }
+
+    /// The configuration.
+    pub fn config(&self) -> &Config<A>
+        ensures { result.now.records ≡ self.now.records }
+    {
+        self.config
+    }
+
+    /// Whether the image of a name reaches a path of the cell's channel subsystem.
+    pub fn reaches(&self, path: Chpid, name: Name) -> bool
+        ensures { result ≡ sight.reaches (lookup_of self.now.records) self.now.cell.css name path }
+    {
+        for row in &self.records {
+            if let Some(found) = row {
+                if found.number == path.number() {
+                    return lists_image(found.entry, name);
+                }
+            }
+        }
+        reaches_path(self.config, self.cell.css, name, path)
+    }
+}
+
+/// The device of a number cell, if the number is one's and that is there.
+fn device_in<'a, A: Allocator, B: Allocator>(
+    config: &'a Config<A>,
+    numbers: &Numbers<B>,
+    cell: &NumberCell,
+) -> Option<&'a DeviceFields<A>>
+    ensures { option_map device_of (option_copied result) ≡ cell_device config.entry.now.records numbers.now.numbers cell.now }
+{
+    let device = numbers.device_at(*cell)?;
+    find_device(config, cell.set, device)
+}

@@ -1,0 +1,8 @@
+-- The sights so far and those of the cells that are left.
+use Rattle.std.proofs.Common.{◌≡◌, ◌++◌, drop, map}
+use Rattle.iocm_derive.specs.SightedCells.{sighted_cell}
+use Rattle.iocm_seats.proofs.changes.sight_cells.Given as goal
+
+abbrev pub invariant-loop-cell : goal.invariant-loop-cell
+invariant-loop-cell g l = let sight = sighted_cell l.config.records l.numbers.numbers in
+    l.sights.items ++ map sight (drop l.cell-index l.cells) ≡ map sight l.cells
