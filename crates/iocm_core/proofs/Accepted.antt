@@ -15,15 +15,12 @@ use Rattle.iocm_activate.specs.declared.done.Done.{Done}
 use Rattle.iocm_activate.specs.declared.effect.Effect.{Effect}
 use Rattle.iocm_journal.specs.Now.{IsJournalOf}
 use Rattle.iocm_journal.proofs.GoingOn.{accepted}
+use Rattle.iocm_journal.proofs.Taken.{at_end}
 use Rattle.iocm_stage.specs.Staged.{Tells}
 use Rattle.iocm_core.specs.Accepting.{AcceptsOne}
 use Rattle.iocm_core.specs.Running.{IsStagedAs, HasRoomFor, IsMachineOf, IsAnswered}
 use Rattle.iocm_core.specs.Told.{effect_told, entry_told}
 use Rattle.iocm_core.specs.declared.machine.Machine.{Machine}
-
-at_end : {A : Type 0} (xs : List A) (x : A) → slice_get (xs ++ x ∷ []) (length xs) ≡ Some x
-at_end [] x = refl
-at_end (y ∷ xs) x = at_end xs x
 
 -- the answer with the newest change's number tells of it
 pub told_newest : (fs : List Effect) (f : Effect) (n : ℕ) → n ≡ length fs + 1 → effect_told (fs ++ f ∷ []) (answers.Changed n) ≡ effect_in f

@@ -1,5 +1,5 @@
 mod Answers
-mod Taken
+pub mod Taken
 mod Rows
 mod NeverUndone
 pub mod Few

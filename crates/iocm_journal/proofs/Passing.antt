@@ -1,7 +1,9 @@
 -- The last place that passes a test.
-use Rattle.std.proofs.Common.{◌≡◌, ◌⊎◌, inl, inr, ℕ, zero, suc, ◌+◌, ◌<◌, Bool, true, false, cond, eqb, Option, Some, None, refl, sym, ap, ◌∙◌, arith}
-use Rattle.std.proofs.lemmas.Bool.{eqb-true, eq-eqb}
-use Rattle.iocm_journal.specs.Standing.{last_passing}
+use Rattle.std.proofs.Common.{◌≡◌, ◌⊎◌, inl, inr, ℕ, zero, suc, ◌+◌, ◌<◌, ◌≤◌, Bool, true, false, ◌&&◌, cond, eqb, List, Option, Some, None, refl, sym, ap, ◌∙◌, arith}
+use Rattle.std.proofs.lemmas.Bool.{eqb-true, eq-eqb, le-ltb}
+use Rattle.iocm_activate.specs.declared.effect.Effect.{Effect}
+use Rattle.iocm_journal.specs.Standing.{is_on, last_passing, share_at, stands_at}
+use Rattle.iocm_journal.specs.declared.kept.Kept.{Kept}
 
 -- a place passes, and no later one; or none passes
 abbrev pub IsLastPassing : (ℕ → Bool) → ℕ → Option ℕ → Type 0
@@ -50,3 +52,11 @@ passing_down passes n k is off = ap (last_passing passes) (to_suc n k is) ∙ ap
 
 pub passing_here : (passes : ℕ → Bool) (n k : ℕ) → n ≡ k + 1 → passes k ≡ true → last_passing passes n ≡ Some k
 passing_here passes n k is on = ap (last_passing passes) (to_suc n k is) ∙ ap (λ b. cond b (Some k) (last_passing passes k)) on
+
+-- on a change that fits stands none of the changes up to it; on one that doesn't, none of none
+pub none_left : (ks : List Kept) (fs : List Effect) (place n : ℕ) (fits : Bool) → n ≤ cond fits (place + 1) 0 → last_passing (is_on ks fs place fits) n ≡ None
+none_left ks fs place zero fits low = refl
+none_left ks fs place (suc n) false low = absurd (omega (arith, low))
+none_left ks fs place (suc n) true low =
+    ap (λ b. cond (b && (stands_at ks n && share_at fs place n)) (Some n) (last_passing (is_on ks fs place true) n)) (le-ltb place n (omega (arith, low)))
+    ∙ none_left ks fs place n true (omega (arith, low))

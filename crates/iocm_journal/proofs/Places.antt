@@ -19,7 +19,7 @@ use Rattle.iocm_journal.specs.Standing.{stands_at, inverse_at, is_last, redo_at_
 use Rattle.iocm_journal.specs.declared.kept.Kept.{Kept}
 use Rattle.iocm_journal.specs.declared.kept.Undone.{Undone}
 use Rattle.iocm_journal.specs.declared.journal.Journal.{Journal}
-use Rattle.iocm_journal.proofs.Taken.{item_there}
+use Rattle.iocm_journal.proofs.Taken.{at_end, item_there}
 
 -- past the end none stands
 pub stands_past : (ks : List Kept) (at : ℕ) → length ks ≤ at → stands_at ks at ≡ false
@@ -64,12 +64,8 @@ was_undone old new place before after k u es there means changes standing undone
   takes_back = back;
 }
 
-at_end : {A : Type 0} (xs : List A) (x : A) → slice_get (xs ++ x ∷ []) (length (xs ++ x ∷ []) - 1) ≡ Some x
-at_end xs x = ap (slice_get (xs ++ x ∷ [])) (let long = length-append xs (x ∷ []) in omega (arith, long)) ∙ end xs x
-  where
-    end : {A : Type 0} (xs : List A) (x : A) → slice_get (xs ++ x ∷ []) (length xs) ≡ Some x
-    end [] x = refl
-    end (y ∷ xs) x = end xs x
+last_there : {A : Type 0} (xs : List A) (x : A) → slice_get (xs ++ x ∷ []) (length (xs ++ x ∷ []) - 1) ≡ Some x
+last_there xs x = ap (slice_get (xs ++ x ∷ [])) (let long = length-append xs (x ∷ []) in omega (arith, long)) ∙ at_end xs x
 
 pub was_redone : (old new : Journal) (place : ℕ) (before after : State) (last : Undone) (popped : Option Undone) (es : List Edit) → place < length old.changes.items
     → is_last old.undone.items (place + 1) ≡ true → slice_get old.undone.items (length old.undone.items - 1) ≡ Some last
@@ -99,7 +95,7 @@ was_redone old new place before after last popped es within is_it at_last means 
 
     by : (o : Option Undone) → MatchOption o (old.undone.items ≡ []) (λ u. old.undone.items ≡ new.undone.items ++ u ∷ []) → old.undone.items ≡ new.undone.items ++ last ∷ []
     by (Some u) is = is ∙ ap (λ z. new.undone.items ++ z ∷ [])
-        (same u last (sym (at_end new.undone.items u) ∙ sym (ap (λ us. slice_get us (length us - 1)) is) ∙ at_last))
+        (same u last (sym (last_there new.undone.items u) ∙ sym (ap (λ us. slice_get us (length us - 1)) is) ∙ at_last))
     by None empty = absurd (none_at old.undone.items empty at_last)
 
 -- a list of changes that are undone, of which this one is the last
@@ -123,7 +119,7 @@ pub ends_with : (us : List Undone) (n : ℕ) → is_last us n ≡ true → EndsW
 ends_with [] n is = cc
 ends_with (u ∷ us) n is =
     let r = parted u us in
-    let at_last : slice_get (u ∷ us) (length (u ∷ us) - 1) ≡ Some r.last = ap (λ vs. slice_get vs (length vs - 1)) r.split ∙ at_end r.rest r.last in
+    let at_last : slice_get (u ∷ us) (length (u ∷ us) - 1) ≡ Some r.last = ap (λ vs. slice_get vs (length vs - 1)) r.split ∙ last_there r.rest r.last in
     record {
       rest = r.rest;
       last = r.last;

@@ -18,6 +18,7 @@ use Rattle.iocm_history.specs.Legal.{is_last_undone, unless_not_quiet, redo_answ
 use Rattle.iocm_history.specs.InUse.{IsInUse}
 use Rattle.iocm_journal.specs.Standing.{is_last}
 use Rattle.iocm_journal.specs.declared.kept.Undone.{Undone}
+use Rattle.iocm_journal.proofs.Taken.{at_end}
 use Rattle.iocm_reckoning.proofs.Facts.{undone_were_accepted}
 
 differ : true ≡ false → ⊥
@@ -31,10 +32,6 @@ eqb_turned m n = by (eqb n m) refl
     by : (b : Bool) → eqb n m ≡ b → eqb m n ≡ b
     by true is = eq-eqb m n (sym (eqb-true n m is))
     by false is = ne_eqb m n (λ same. differ (sym (eq-eqb n m (sym same)) ∙ is))
-
-at_end : (xs : List ℕ) (x : ℕ) → slice_get (xs ++ x ∷ []) (length xs) ≡ Some x
-at_end [] x = refl
-at_end (y ∷ xs) x = at_end xs x
 
 get_mapped : {A : Type 0} (f : A → ℕ) (us : List A) (n : ℕ) → slice_get (map f us) n ≡ option_map f (slice_get us n)
 get_mapped f [] n = refl

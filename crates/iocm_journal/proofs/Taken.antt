@@ -12,6 +12,11 @@ item_there [] n within = absurd (omega arith)
 item_there (x ∷ xs) zero within = (x, refl)
 item_there (x ∷ xs) (suc n) within = item_there xs n (omega arith)
 
+-- one that is put behind a list is there, at the place that the list's length tells
+pub at_end : {A : Type 0} (xs : List A) (x : A) → slice_get (xs ++ x ∷ []) (length xs) ≡ Some x
+at_end [] x = refl
+at_end (y ∷ xs) x = at_end xs x
+
 -- an item of a list in which one was changed is the one, or another as it was
 pub of_set : {A : Type 0} (xs : List A) (i : ℕ) (x : A) (n : ℕ) (y : A) → slice_get (set xs i x) n ≡ Some y
     → ((n ≢ i) × (slice_get xs n ≡ Some y)) ⊎ ((n ≡ i) × (x ≡ y))

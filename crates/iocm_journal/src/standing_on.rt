@@ -14,7 +14,9 @@ pub fn greatest_on(kept: &[Kept], changes: &[Effect], place: usize, fits: bool) 
     ensures within { MatchOption result (Unit {0}) (λ at. at < length kept.now) }
 {
     let mut left = kept.len();
-    while left > 0 {
+    // On a change that fits, only later ones stand.
+    let least = if fits { place + 1 } else { 0 };
+    while left > least {
         left -= 1;
         if stands_on(kept, changes, place, fits, left) {
             return Some(left);
