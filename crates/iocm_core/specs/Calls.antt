@@ -10,8 +10,8 @@ abbrev pub call_in : Call → history.Call
 call_in (calls.Io x o) = history.at x (order o)
 call_in (calls.DeviceBegin x) = history.at x device_begin
 call_in (calls.DeviceEnd x) = history.at x device_end
-call_in (calls.Activate t) = history.activate (plain_tree (tree_of t))
-call_in (calls.Begin t) = history.begin (plain_tree (tree_of t))
+call_in (calls.Activate t) = history.activate (plain_tree (tree_of t.value))
+call_in (calls.Begin t) = history.begin (plain_tree (tree_of t.value))
 call_in calls.Advance = history.advance
 call_in calls.Commit = history.commit
 call_in calls.Abort = history.abort

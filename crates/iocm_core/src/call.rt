@@ -1,7 +1,7 @@
 use iocm_tree::Tree;
 use iocm_types::{Order, SubId};
 
-/// What is asked of a machine. Own.
+/// What is asked of a machine. A change tree stands in a box, so that a call without one is small in the trace. Own.
 #[derive(Drop)]
 pub enum Call {
     /// An order of an image on its subchannel.
@@ -11,9 +11,9 @@ pub enum Call {
     /// The device of a subchannel ends a function that is in progress.
     DeviceEnd(SubId),
     /// A change tree is activated at once, all or none.
-    Activate(Tree),
+    Activate(Box<Tree>),
     /// A change tree is begun, to be done in stages: it is tried whole, and holds the subchannels that it alters.
-    Begin(Tree),
+    Begin(Box<Tree>),
     /// The next edit of the change in stages is done.
     Advance,
     /// The edits that are left are done, and the change in stages is accepted.
