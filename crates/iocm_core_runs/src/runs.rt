@@ -1,0 +1,261 @@
+use crate::draws::{SMALL, draw_call, draw_first, draw_second, draw_subchannel};
+use crate::player::Player;
+use iocm_core::{Call, Core};
+use iocm_trial_machines::{Sight, below, configuration, is_heads, is_same, look_at};
+use iocm_types::{Answer, Rule};
+use rand_pcg::Pcg32;
+use std::alloc::{AllocError, Global};
+use std::test::Fail;
+
+/// Where a core answers otherwise than the plain reading.
+#[derive(Clone, Copy, Debug, PartialEq, Eq)]
+struct Difference {
+    turn: u32,
+    core: Answer,
+    plain: Answer,
+}
+
+/// How many calls were answered in a way.
+#[derive(Clone, Copy, Debug, PartialEq, Eq)]
+struct Tally {
+    changed: u32,
+    staged: u32,
+    held: u32,
+    undone: u32,
+    redone: u32,
+    /// Changes that others stand on.
+    stood_on: u32,
+    /// Changes of subchannels that are not quiet.
+    busy: u32,
+}
+
+/// One more.
+fn count(number: &mut u32) {
+    *number = number.saturating_add(1);
+}
+
+impl Tally {
+    /// Counts an answer.
+    fn note(&mut self, answer: &Answer) {
+        match answer {
+            Answer::Changed(_) => count(&mut self.changed),
+            Answer::Staged(_) => count(&mut self.staged),
+            Answer::Held => count(&mut self.held),
+            Answer::Undone(_) => count(&mut self.undone),
+            Answer::Redone(_) => count(&mut self.redone),
+            Answer::Refused(why) if why.rule == Rule::J2 => count(&mut self.stood_on),
+            Answer::Refused(why) if why.rule == Rule::B1 => count(&mut self.busy),
+            _ => {}
+        }
+    }
+
+    /// Whether every kind of answer was given some times.
+    fn is_rich(&self) -> bool {
+        self.changed > 40 && self.undone > 20 && self.redone > 8 && self.is_rich_elsewhere()
+    }
+
+    /// Whether changes were made in stages, and refused, some times.
+    fn is_rich_elsewhere(&self) -> bool {
+        self.staged > 10 && self.held > 10 && self.stood_on > 10 && self.busy > 20
+    }
+}
+
+/// Nothing counted.
+fn none() -> Tally {
+    Tally {
+        changed: 0,
+        staged: 0,
+        held: 0,
+        undone: 0,
+        redone: 0,
+        stood_on: 0,
+        busy: 0,
+    }
+}
+
+/// A core, the plain reading of what was asked of it, and what was counted.
+#[derive(Drop)]
+struct Run {
+    core: Core,
+    player: Player,
+    tally: Tally,
+}
+
+/// A core of a machine of the small deck.
+fn opened(alloc: Global) -> Result<Core, Fail> {
+    let config = configuration(alloc, SMALL).ok_or("the deck is not read")?;
+    Ok(
+        Core::open(alloc, config, 1000)
+            .ok()
+            .ok_or("a rule is broken")?,
+    )
+}
+
+/// The begin of a run.
+fn begin(alloc: Global, tally: Tally) -> Result<Run, Fail> {
+    Ok(Run {
+        core: opened(alloc)?,
+        player: Player::new(alloc, SMALL)?,
+        tally,
+    })
+}
+
+impl Run {
+    /// Makes a call, and compares its answers.
+    fn make(&mut self, alloc: Global, call: Call, turn: u32) -> Result<Option<Difference>, Fail> {
+        let plain = self.player.answer(alloc, &call)?;
+        let core = self.core.call(alloc, call).ok().ok_or("the trace is full")?;
+        self.tally.note(&core);
+        if core == plain {
+            Ok(None)
+        } else {
+            Ok(Some(Difference { turn, core, plain }))
+        }
+    }
+
+    /// Draws two calls on a subchannel and makes them.
+    fn step(
+        &mut self,
+        alloc: Global,
+        dice: &mut Pcg32,
+        turn: u32,
+    ) -> Result<Option<Difference>, Fail> {
+        let there = draw_subchannel(dice)?;
+        let kind = below(dice, 5);
+        let first = self.make(alloc, draw_first(dice, kind, &there), turn)?;
+        let second = self.make(alloc, draw_second(dice, kind, &there), turn)?;
+        Ok(first.or(second))
+    }
+
+    /// Draws a call of an operator and makes it.
+    fn operate(
+        &mut self,
+        alloc: Global,
+        dice: &mut Pcg32,
+        turn: u32,
+    ) -> Result<Option<Difference>, Fail> {
+        let call = draw_call(alloc, &self.player, dice)?;
+        self.make(alloc, call, turn)
+    }
+
+    /// A turn of an image or of an operator.
+    fn turn(
+        &mut self,
+        alloc: Global,
+        dice: &mut Pcg32,
+        turn: u32,
+    ) -> Result<Option<Difference>, Fail> {
+        if is_heads(dice) {
+            self.step(alloc, dice, turn)
+        } else {
+            self.operate(alloc, dice, turn)
+        }
+    }
+
+    /// Draws so many turns, until an answer differs.
+    fn turns(
+        &mut self,
+        alloc: Global,
+        dice: &mut Pcg32,
+        turns: u32,
+    ) -> Result<Option<Difference>, Fail> {
+        for turn in 0..turns {
+            let difference = self.turn(alloc, dice, turn)?;
+            if difference.is_some() {
+                return Ok(difference);
+            }
+        }
+        Ok(None)
+    }
+
+    /// Draws so many turns, until an answer differs; the plain reading's machine is then built anew.
+    fn play(
+        &mut self,
+        alloc: Global,
+        dice: &mut Pcg32,
+        turns: u32,
+    ) -> Result<Option<Difference>, Fail> {
+        let difference = self.turns(alloc, dice, turns)?;
+        self.player.rebuild(alloc)?;
+        Ok(difference)
+    }
+
+    /// Whether the machine is left as the plain reading has it.
+    fn is_left_so(self, alloc: Global) -> Result<bool, AllocError> {
+        let Run {
+            core,
+            player,
+            tally: _tally,
+        } = self;
+        is_as_plainly(alloc, core, &player)
+    }
+}
+
+/// All that a machine shows once its core is closed.
+fn sight_of(alloc: Global, core: Core) -> Result<Sight, AllocError> {
+    let closed = core.close();
+    look_at(alloc, &closed.plant)
+}
+
+/// Whether a machine is, once its core is closed, as the plain reading has it.
+fn is_as_plainly(alloc: Global, core: Core, player: &Player) -> Result<bool, AllocError> {
+    let here = sight_of(alloc, core)?;
+    let there = look_at(alloc, &player.plant)?;
+    Ok(is_same(&here, &there))
+}
+
+/// Where a run went apart.
+#[derive(Clone, Copy, Debug, PartialEq, Eq)]
+enum Apart {
+    /// At an answer.
+    Answer(Difference),
+    /// In what was left at the end.
+    Left,
+}
+
+/// Draws a run of so many turns, and goes on counting; the answers are compared, and what is left at the end.
+fn draw_run(
+    alloc: Global,
+    seed: u64,
+    turns: u32,
+    tally: &mut Tally,
+) -> Result<Option<Apart>, Fail> {
+    let mut dice = Pcg32::new(seed, seed);
+    let mut run = begin(alloc, *tally)?;
+    let difference = run.play(alloc, &mut dice, turns)?;
+    *tally = run.tally;
+    let is_left_so = run.is_left_so(alloc)?;
+    Ok(match difference {
+        Some(difference) => Some(Apart::Answer(difference)),
+        None if is_left_so => None,
+        None => Some(Apart::Left),
+    })
+}
+
+/// The first of twelve runs of 100 turns that goes apart; it goes on counting.
+fn first_apart(alloc: Global, tally: &mut Tally) -> Result<Option<Apart>, Fail> {
+    for seed in 1..13 {
+        let apart = draw_run(alloc, seed, 100, tally)?;
+        if apart.is_some() {
+            return Ok(apart);
+        }
+    }
+    Ok(None)
+}
+
+/// Whether none of the runs went apart.
+fn is_none_apart(first: Result<Option<Apart>, Fail>) -> Result<bool, Fail> {
+    match first? {
+        Some(Apart::Answer(difference)) => Ok(difference.core == difference.plain),
+        Some(Apart::Left) => Ok(false),
+        None => Ok(true),
+    }
+}
+
+#[test]
+fn runs_mean_what_they_mean_plainly(rt: HostRuntime) -> Result<(), Fail> {
+    let mut tally = none();
+    assert!(rt; is_none_apart(first_apart(rt.alloc(), &mut tally))?);
+    assert!(rt; tally.is_rich());
+    Ok(())
+}
