@@ -243,7 +243,7 @@ fn first_apart(alloc: Global, tally: &mut Tally) -> Result<Option<Apart>, Fail> 
     Ok(None)
 }
 
-/// Whether none of the runs went apart.
+/// Whether none of the runs went apart; the answers of a difference are never the same.
 fn is_none_apart(first: Result<Option<Apart>, Fail>) -> Result<bool, Fail> {
     match first? {
         Some(Apart::Answer(difference)) => Ok(difference.core == difference.plain),
