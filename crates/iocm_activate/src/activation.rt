@@ -18,15 +18,8 @@ use crate::taking_back::take_all_back;
 use crate::walk::walk_closed;
 use iocm_plant::Plant;
 use iocm_tree::Tree;
-use iocm_types::{At, Refused, Rule};
+use iocm_types::Refused;
 use std::alloc::{Allocator, Global};
-
-/// M1: memory was wanted.
-const NO_MEMORY: Refused = Refused {
-    rule: Rule::M1,
-    node: None,
-    at: At::Nothing,
-};
 
 /// Activates a change tree on a machine that keeps the rules: all of its edits that it means, or none.
 ///
@@ -59,7 +52,7 @@ pub fn activate<A: Allocator>(
     match walk_closed(alloc, plant, &mut log, tree, 0) {
         Ok(None) => finish(alloc, plant, log),
         Ok(Some(why)) => Err(leave(plant, log, why)),
-        Err(_error) => Err(leave(plant, log, NO_MEMORY)),
+        Err(_error) => Err(leave(plant, log, Refused::NO_MEMORY)),
     }
 }
 
@@ -85,7 +78,7 @@ fn finish(alloc: Global, plant: &mut Plant, log: Log) -> Result<Done, Refused>
             } = log;
             Ok(tell(prepared, done))
         }
-        Err(_error) => Err(leave(plant, log, NO_MEMORY)),
+        Err(_error) => Err(leave(plant, log, Refused::NO_MEMORY)),
     }
 }
 

@@ -9,7 +9,7 @@ ghost use Rattle.iocm_core.specs.Running.{Answers, IsRunning};
 ghost use Rattle.iocm_core.specs.Told.{GoesOnWith};
 
 use crate::machine::Machine;
-use crate::refusals::{NO_MEMORY, NOTHING_STAGED, STAGED};
+use crate::refusals::{NOTHING_STAGED, STAGED};
 use iocm_activate::activate;
 use iocm_stage::begin;
 use iocm_tree::Tree;
@@ -103,7 +103,7 @@ impl Machine {
         ensures rest { OnErr result (KeepsTheRest self.old self.new) }
     {
         if self.make_room().is_err() {
-            return Err(NO_MEMORY);
+            return Err(Refused::NO_MEMORY);
         }
         match activate(alloc, &mut self.plant, tree) {
             Ok(done) => Ok(self.accept(done)),
@@ -122,7 +122,7 @@ impl Machine {
         ensures rest { OnErr result (KeepsTheRest self.old self.new) }
     {
         if self.make_room().is_err() {
-            return Err(NO_MEMORY);
+            return Err(Refused::NO_MEMORY);
         }
         match begin(alloc, &mut self.plant, tree) {
             Ok(staged) => {

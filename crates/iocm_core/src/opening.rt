@@ -8,12 +8,12 @@ ghost use Rattle.iocm_plant.specs.Refusing.{opening_refusal, IsDue};
 ghost use Rattle.iocm_core.specs.Running.{IsMachineOf};
 
 use crate::machine::Machine;
-use crate::refusals::NO_MEMORY;
 use crate::{Core, Entry};
 use iocm_config::Config;
 use iocm_journal::Journal;
 use iocm_plant::{Plant, Unopened};
 use iocm_records::Record;
+use iocm_types::Refused;
 use std::alloc::{AllocError, Global};
 
 impl Core {
@@ -29,7 +29,7 @@ impl Core {
     {
         let Ok(prepared) = Prepared::for_trace(alloc, &config, room) else {
             return Err(Unopened {
-                why: NO_MEMORY,
+                why: Refused::NO_MEMORY,
                 config,
             });
         };

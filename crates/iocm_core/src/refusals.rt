@@ -1,12 +1,5 @@
 use iocm_types::{At, Refused, Rule};
 
-/// M1: memory was wanted.
-pub const NO_MEMORY: Refused = Refused {
-    rule: Rule::M1,
-    node: None,
-    at: At::Nothing,
-};
-
 /// O1: a change is staged.
 pub const STAGED: Refused = Refused {
     rule: Rule::O1,

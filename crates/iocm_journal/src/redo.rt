@@ -16,7 +16,7 @@ ghost use Rattle.iocm_journal.specs.Now.{BelongTogether, IsNow};
 ghost use Rattle.iocm_journal.specs.Standing.{is_last, redo_at_end};
 
 use crate::quiet::first_not_quiet;
-use crate::refusals::{NO_MEMORY, about_nothing, about_subchannel};
+use crate::refusals::{about_nothing, about_subchannel};
 use crate::{Journal, Undone};
 use iocm_activate::{Effect, activate};
 use iocm_plant::Plant;
@@ -95,7 +95,7 @@ impl Journal {
         ensures room { KeepsRoom plant.old.room plant.new.room }
     {
         let Some(last) = self.undone.last() else {
-            return Err(NO_MEMORY);
+            return Err(Refused::NO_MEMORY);
         };
         match activate(alloc, plant, &last.redo) {
             Ok(_done) => {

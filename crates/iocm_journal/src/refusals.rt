@@ -4,13 +4,6 @@ ghost use Rattle.iocm_types.specs.declared.refused.At.TheVariants as at;
 
 use iocm_types::{At, Refused, Rule, SubId};
 
-/// M1: memory was wanted.
-pub const NO_MEMORY: Refused = Refused {
-    rule: Rule::M1,
-    node: None,
-    at: At::Nothing,
-};
-
 /// A refusal that is about nothing that could be named.
 pub fn about_nothing(rule: Rule) -> Refused
     ensures { result ≡ refusal_at rule at.Nothing }

@@ -17,7 +17,7 @@ ghost use Rattle.iocm_journal.specs.Now.{BelongTogether, IsNow};
 ghost use Rattle.iocm_journal.specs.Standing.{inverse_at, stands_at};
 
 use crate::quiet::first_not_quiet;
-use crate::refusals::{NO_MEMORY, about_change, about_nothing, about_subchannel};
+use crate::refusals::{about_change, about_nothing, about_subchannel};
 use crate::standing_on::greatest_on;
 use crate::{Journal, Undone};
 use iocm_activate::{Effect, activate, fits};
@@ -50,7 +50,7 @@ impl Journal {
         match self.undo_obstacle(alloc, plant, changes, place) {
             Ok(None) => self.take_back(alloc, plant, place),
             Ok(Some(why)) => Err(why),
-            Err(_error) => Err(NO_MEMORY),
+            Err(_error) => Err(Refused::NO_MEMORY),
         }
     }
 
@@ -107,7 +107,7 @@ impl Journal {
         ensures room { KeepsRoom plant.old.room plant.new.room }
     {
         if self.undone.reserve(1).is_err() {
-            return Err(NO_MEMORY);
+            return Err(Refused::NO_MEMORY);
         }
         match activate(alloc, plant, &self.changes[place].inverse) {
             Ok(done) => {

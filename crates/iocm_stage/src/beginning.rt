@@ -17,15 +17,8 @@ use crate::staged::Staged;
 use iocm_activate::{Done, activate};
 use iocm_plant::Plant;
 use iocm_tree::{Edit, Tree};
-use iocm_types::{At, Refused, Rule};
+use iocm_types::Refused;
 use std::alloc::{AllocError, Allocator, Global};
-
-/// M1: memory was wanted.
-const NO_MEMORY: Refused = Refused {
-    rule: Rule::M1,
-    node: None,
-    at: At::Nothing,
-};
 
 /// Begins a change: it is tried whole on a machine that keeps the rules, and taken back. Then it can be advanced, committed and aborted
 /// without memory. The state stays as it is.
@@ -48,7 +41,7 @@ pub fn begin<A: Allocator>(
     let done = activate(alloc, plant, tree)?;
     let Ok(moves) = Moves::of(alloc, &done) else {
         take_back(plant, done.inverse);
-        return Err(NO_MEMORY);
+        return Err(Refused::NO_MEMORY);
     };
     let Moves { back, forward } = moves;
     let mut staged = Staged {

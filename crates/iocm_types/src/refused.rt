@@ -21,3 +21,12 @@ pub struct Refused {
     pub node: Option<u64>,
     pub at: At,
 }
+
+impl Refused {
+    /// M1: memory was wanted, for the whole of a change.
+    pub const NO_MEMORY: Refused = Refused {
+        rule: Rule::M1,
+        node: None,
+        at: At::Nothing,
+    };
+}
