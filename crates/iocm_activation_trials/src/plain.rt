@@ -2,9 +2,9 @@
 //! done once more, so that nothing is ever taken back.
 use crate::attempt::at_node;
 use iocm_plant::Plant;
-use iocm_rules::check;
+use iocm_rules::{Breach, check};
 use iocm_tree::{Edit, Tree};
-use iocm_trial_machines::machine;
+use iocm_trial_machines::{Sight, look_at_last, machine};
 use iocm_types::{At, Order, Refused, Rule, SubId};
 use std::alloc::Global;
 use std::test::Fail;
@@ -66,6 +66,11 @@ impl Past<'_> {
         }
         Ok(plant)
     }
+
+    /// All that the machine shows and remembers now.
+    pub fn sight(&self, alloc: Global) -> Result<Sight, Fail> {
+        look_at_last(alloc, &self.machine(alloc)?)
+    }
 }
 
 /// The nodes of a tree.
@@ -82,27 +87,42 @@ fn nodes(tree: &Tree) -> u64 {
     }
 }
 
+/// The first breach of a rule, if there is one.
+fn first_breach(alloc: Global, past: &Past) -> Result<Option<Breach>, Fail> {
+    let plant = past.machine(alloc)?;
+    Ok(check(plant.config(), plant.numbers(), plant.index()).err())
+}
+
 /// Whether the rules are kept where a node ends; else the breach is noted.
 fn keeps(alloc: Global, past: &mut Past, node: u64) -> Result<bool, Fail> {
-    let plant = past.machine(alloc)?;
-    match check(plant.config(), plant.numbers(), plant.index()) {
-        Ok(()) => Ok(true),
-        Err(first) => {
+    match first_breach(alloc, past)? {
+        None => Ok(true),
+        Some(first) => {
             past.answer = Some(at_node(first.rule, node, At::Key(first.key)));
             Ok(false)
         }
     }
 }
 
+/// Why a machine refuses an edit, if it does.
+fn refused(alloc: Global, plant: &mut Plant, edit: &Edit) -> Result<Option<Refused>, Fail> {
+    Ok(plant.apply(alloc, edit.copy_in(alloc)?).err())
+}
+
+/// Why an edit is refused now, if it is.
+fn refused_now(alloc: Global, past: &Past, edit: &Edit) -> Result<Option<Refused>, Fail> {
+    let mut plant = past.machine(alloc)?;
+    refused(alloc, &mut plant, edit)
+}
+
 /// Whether an edit at a node is done; else its refusal is noted.
 fn leaf(alloc: Global, past: &mut Past, edit: &Edit, node: u64) -> Result<bool, Fail> {
-    let mut plant = past.machine(alloc)?;
-    match plant.apply(alloc, edit.copy_in(alloc)?) {
-        Ok(_applied) => {
+    match refused_now(alloc, past, edit)? {
+        None => {
             past.deeds.push(Deed::Edit(edit.copy_in(alloc)?))?;
             Ok(true)
         }
-        Err(why) => {
+        Some(why) => {
             past.answer = Some(at_node(why.rule, node, why.at));
             Ok(false)
         }

@@ -1,13 +1,13 @@
 ghost use Rattle.std.specs.Prelude.{◌<◌};
 
-use crate::attempt::{accepted, answer, is_as_before, is_fitting};
-use crate::fitting::plain_fits;
+use crate::attempt::{answer, back_and_there, is_fitting};
 use crate::plain::{Deed, Past, read_plainly};
+use crate::plain_fits::plain_fits;
 use iocm_activate::Done;
 use iocm_plant::Plant;
 use iocm_tree::Tree;
 use iocm_trial_machines::{
-    LARGE, below, draw_edit, enabled, is_heads, is_same, look_at, machine, subchannel,
+    LARGE, below, draw_edit, enabled, is_as_before, is_heads, machine, subchannel,
 };
 use iocm_types::Order::{Start, Test};
 use iocm_types::{Order, SubId};
@@ -79,16 +79,6 @@ fn act(plant: &mut Plant, past: &mut Past, dice: &mut Pcg32) -> Result<(), Fail>
     }
 }
 
-/// Takes an accepted change back, and takes that back.
-fn there_and_back(alloc: Global, plant: &mut Plant, past: &Past, done: &Done) -> Result<(), Fail> {
-    let before = look_at(alloc, &past.machine(alloc)?)?;
-    let after = look_at(alloc, plant)?;
-    let again = accepted(alloc, plant, &done.inverse)?;
-    is_as_before(alloc, plant, &before)?;
-    let _ = accepted(alloc, plant, &again.inverse)?;
-    is_as_before(alloc, plant, &after)
-}
-
 /// That a change fits where it was made.
 fn fits_here(alloc: Global, plant: &mut Plant, done: &Done) -> Result<(), Fail> {
     let is_so = is_fitting(alloc, plant, &done.inverse, done.performed.as_slice())?;
@@ -97,9 +87,7 @@ fn fits_here(alloc: Global, plant: &mut Plant, done: &Done) -> Result<(), Fail> 
 
 /// That a machine is as the plain reading has it.
 fn is_as_plainly(alloc: Global, plant: &Plant, past: &Past) -> Result<(), Fail> {
-    let here = past.machine(alloc)?;
-    let seen = look_at(alloc, &here)?;
-    is_as_before(alloc, plant, &seen)
+    is_as_before(alloc, plant, &past.sight(alloc)?)
 }
 
 /// What is kept of a change that was accepted: it fits where it was made, can be taken back, and the plain reading agrees.
@@ -111,7 +99,7 @@ fn look_into(
     done: &Done,
 ) -> Result<(), Fail> {
     fits_here(alloc, plant, done)?;
-    there_and_back(alloc, plant, past, done)?;
+    back_and_there(alloc, plant, done, &past.sight(alloc)?)?;
     agree(read_plainly(alloc, past, tree)?)?;
     is_as_plainly(alloc, plant, past)
 }

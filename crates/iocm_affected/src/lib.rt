@@ -15,8 +15,6 @@ mod changed;
 mod images;
 mod order;
 mod places;
-#[cfg(test)]
-mod tests;
 mod users;
 
 pub use changed::{Affected, affected_by};

@@ -16,8 +16,6 @@ mod change;
 mod printing;
 mod remarks;
 mod report;
-#[cfg(test)]
-mod tests;
 
 pub use apply::apply_change;
 pub use back::way_back;

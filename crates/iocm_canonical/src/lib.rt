@@ -18,8 +18,6 @@ mod operands;
 mod resource;
 mod statement;
 mod statements;
-#[cfg(test)]
-mod tests;
 mod unit;
 mod writing;
 

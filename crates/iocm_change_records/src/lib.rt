@@ -17,8 +17,6 @@ mod pairs;
 mod resource;
 mod resource_keys;
 mod table;
-#[cfg(test)]
-mod tests;
 mod verbs;
 mod whole;
 

@@ -24,8 +24,6 @@ mod part;
 mod reading;
 mod statement;
 mod statement_card;
-#[cfg(test)]
-mod tests;
 mod words;
 mod written;
 

@@ -9,7 +9,5 @@
 #![tactic(auto)]
 
 mod config;
-#[cfg(test)]
-mod tests;
 
 pub use config::Config;

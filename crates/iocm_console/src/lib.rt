@@ -27,8 +27,6 @@ mod refusal;
 mod row;
 mod status;
 mod table;
-#[cfg(test)]
-mod tests;
 
 pub use canonical::write_text;
 pub use cells::{CellDevice, gather_cells};

@@ -1,16 +1,12 @@
 //! The plain reading answers calls: in each state on a machine that is built anew.
-ghost use Rattle.std.specs.Prelude.{◌≡◌, true};
-ghost use Rattle.iocm_model.specs.Laws.Trees.{KeepsTheRules};
-
 use crate::plain::{Deed, History};
 use crate::rebuilt::{images, rebuilt};
 use iocm_activate::{Done, Effect, activate, fits};
 use iocm_core::Call;
 use iocm_plant::Plant;
-use iocm_rules::check;
 use iocm_table::Table;
 use iocm_tree::Tree;
-use iocm_trial_machines::machine;
+use iocm_trial_machines::{keeps_rules, machine};
 use iocm_types::{Answer, At, Counts, Order, Phase, Refused, Rule, SubId, TableKey};
 use std::alloc::Global;
 use std::test::Fail;
@@ -61,13 +57,6 @@ fn altered(alloc: Global, done: &Done) -> Result<Vec<SubId>, Fail> {
         list.push(*there)?;
     }
     Ok(list)
-}
-
-/// Whether a machine keeps the rules.
-fn keeps_rules(plant: &Plant) -> bool
-    ensures { result ≡ true → KeepsTheRules plant.now.state }
-{
-    check(plant.config(), plant.numbers(), plant.index()).is_ok()
 }
 
 /// The greater of two numbers.

@@ -7,12 +7,11 @@ use rand_pcg::Pcg32;
 use std::alloc::{AllocError, Global};
 use std::test::Fail;
 
-/// Where a core answers otherwise than the plain reading.
+/// Where a run went apart: at a call of a turn, or behind the last turn, in what was left.
 #[derive(Clone, Copy, Debug, PartialEq, Eq)]
-struct Difference {
+struct Apart {
+    seed: u64,
     turn: u32,
-    core: Answer,
-    plain: Answer,
 }
 
 /// How many calls were answered in a way.
@@ -101,80 +100,50 @@ fn begin(alloc: Global, tally: Tally) -> Result<Run, Fail> {
 }
 
 impl Run {
-    /// Makes a call, and compares its answers.
-    fn make(&mut self, alloc: Global, call: Call, turn: u32) -> Result<Option<Difference>, Fail> {
+    /// Makes a call. Whether both answer the same.
+    fn make(&mut self, alloc: Global, call: Call) -> Result<bool, Fail> {
         let plain = self.player.answer(alloc, &call)?;
         let core = self.core.call(alloc, call).ok().ok_or("the trace is full")?;
         self.tally.note(&core);
-        if core == plain {
-            Ok(None)
-        } else {
-            Ok(Some(Difference { turn, core, plain }))
-        }
+        Ok(core == plain)
     }
 
     /// Draws two calls on a subchannel and makes them.
-    fn step(
-        &mut self,
-        alloc: Global,
-        dice: &mut Pcg32,
-        turn: u32,
-    ) -> Result<Option<Difference>, Fail> {
+    fn step(&mut self, alloc: Global, dice: &mut Pcg32) -> Result<bool, Fail> {
         let there = draw_subchannel(dice)?;
         let kind = below(dice, 5);
-        let first = self.make(alloc, draw_first(dice, kind, &there), turn)?;
-        let second = self.make(alloc, draw_second(dice, kind, &there), turn)?;
-        Ok(first.or(second))
+        let first = self.make(alloc, draw_first(dice, kind, &there))?;
+        let second = self.make(alloc, draw_second(dice, kind, &there))?;
+        Ok(first && second)
     }
 
     /// Draws a call of an operator and makes it.
-    fn operate(
-        &mut self,
-        alloc: Global,
-        dice: &mut Pcg32,
-        turn: u32,
-    ) -> Result<Option<Difference>, Fail> {
+    fn operate(&mut self, alloc: Global, dice: &mut Pcg32) -> Result<bool, Fail> {
         let call = draw_call(alloc, &self.player, dice)?;
-        self.make(alloc, call, turn)
+        self.make(alloc, call)
     }
 
-    /// A turn of an image or of an operator.
-    fn turn(
-        &mut self,
-        alloc: Global,
-        dice: &mut Pcg32,
-        turn: u32,
-    ) -> Result<Option<Difference>, Fail> {
+    /// A turn of an image or of an operator. Whether both answer the same.
+    fn turn(&mut self, alloc: Global, dice: &mut Pcg32) -> Result<bool, Fail> {
         if is_heads(dice) {
-            self.step(alloc, dice, turn)
+            self.step(alloc, dice)
         } else {
-            self.operate(alloc, dice, turn)
+            self.operate(alloc, dice)
         }
     }
 
-    /// Draws so many turns, until an answer differs.
-    fn turns(
-        &mut self,
-        alloc: Global,
-        dice: &mut Pcg32,
-        turns: u32,
-    ) -> Result<Option<Difference>, Fail> {
+    /// Draws so many turns. The first at which an answer differs, if one does.
+    fn turns(&mut self, alloc: Global, dice: &mut Pcg32, turns: u32) -> Result<Option<u32>, Fail> {
         for turn in 0..turns {
-            let difference = self.turn(alloc, dice, turn)?;
-            if difference.is_some() {
-                return Ok(difference);
+            if !self.turn(alloc, dice)? {
+                return Ok(Some(turn));
             }
         }
         Ok(None)
     }
 
     /// Draws so many turns, until an answer differs; the plain reading's machine is then built anew.
-    fn play(
-        &mut self,
-        alloc: Global,
-        dice: &mut Pcg32,
-        turns: u32,
-    ) -> Result<Option<Difference>, Fail> {
+    fn play(&mut self, alloc: Global, dice: &mut Pcg32, turns: u32) -> Result<Option<u32>, Fail> {
         let difference = self.turns(alloc, dice, turns)?;
         self.player.rebuild(alloc)?;
         Ok(difference)
@@ -204,15 +173,6 @@ fn is_as_plainly(alloc: Global, core: Core, player: &Player) -> Result<bool, All
     Ok(is_same(&here, &there))
 }
 
-/// Where a run went apart.
-#[derive(Clone, Copy, Debug, PartialEq, Eq)]
-enum Apart {
-    /// At an answer.
-    Answer(Difference),
-    /// In what was left at the end.
-    Left,
-}
-
 /// Draws a run of so many turns, and goes on counting; the answers are compared, and what is left at the end.
 fn draw_run(
     alloc: Global,
@@ -226,9 +186,9 @@ fn draw_run(
     *tally = run.tally;
     let is_left_so = run.is_left_so(alloc)?;
     Ok(match difference {
-        Some(difference) => Some(Apart::Answer(difference)),
+        Some(turn) => Some(Apart { seed, turn }),
         None if is_left_so => None,
-        None => Some(Apart::Left),
+        None => Some(Apart { seed, turn: turns }),
     })
 }
 
@@ -243,19 +203,10 @@ fn first_apart(alloc: Global, tally: &mut Tally) -> Result<Option<Apart>, Fail> 
     Ok(None)
 }
 
-/// Whether none of the runs went apart; the answers of a difference are never the same.
-fn is_none_apart(first: Result<Option<Apart>, Fail>) -> Result<bool, Fail> {
-    match first? {
-        Some(Apart::Answer(difference)) => Ok(difference.core == difference.plain),
-        Some(Apart::Left) => Ok(false),
-        None => Ok(true),
-    }
-}
-
 #[test]
 fn runs_mean_what_they_mean_plainly(rt: HostRuntime) -> Result<(), Fail> {
     let mut tally = none();
-    assert!(rt; is_none_apart(first_apart(rt.alloc(), &mut tally))?);
+    assert_eq!(rt; first_apart(rt.alloc(), &mut tally)?, None);
     assert!(rt; tally.is_rich());
     Ok(())
 }

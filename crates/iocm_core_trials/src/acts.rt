@@ -1,9 +1,7 @@
-use crate::decks::Deck;
 use bitflags::Flags;
 use iocm_core::{Call, Core};
-use iocm_tree::{Edit, Tree};
 use iocm_trial_machines::{
-    BASE, Sight, configuration, device, entry, is_same, look_at_last, machine,
+    BASE, Plan, Sight, configuration, is_same, look_at_last, machine, tree_of,
 };
 use iocm_types::{
     Answer, At, Counts, DevNo, Io, Key, Mask, Order, Refused, Rule, ScswBits, Setting, Stored,
@@ -11,32 +9,6 @@ use iocm_types::{
 };
 use std::alloc::Global;
 use std::test::Fail;
-
-/// An edit as data.
-#[derive(Clone, Copy)]
-pub enum Change {
-    /// The record of a key in a deck is added.
-    Add(Deck, Key),
-    /// The record of a key in a deck takes the place of the one that is there.
-    Modify(Deck, Key),
-    /// The record of a key is deleted.
-    Delete(Key),
-}
-
-/// A change tree as data.
-#[derive(Clone, Copy)]
-pub enum Plan {
-    /// One edit.
-    One(Change),
-    /// A Group without parts.
-    Nothing,
-    /// A Group of three edits.
-    Three(Change, Change, Change),
-    /// A Choose without parts.
-    NoChoice,
-    /// A Choose between two edits.
-    Choice(Change, Change),
-}
 
 /// A call.
 #[derive(Clone, Copy)]
@@ -82,57 +54,6 @@ pub struct Wrong {
 /// A call with the answer that is wanted.
 pub fn gives(ask: Ask, wanted: Answer) -> Act {
     Act { ask, wanted }
-}
-
-/// The edit of a change.
-fn edit_of(alloc: Global, change: &Change) -> Result<Edit, Fail> {
-    Ok(match change {
-        Change::Add(deck, key) => {
-            let new = entry(alloc, deck.text(), key).ok_or("no record of the key")?;
-            Edit::add(alloc, new)
-        }
-        Change::Modify(deck, key) => {
-            let new = entry(alloc, deck.text(), key).ok_or("no record of the key")?;
-            Edit::modify(alloc, new)
-        }
-        Change::Delete(key) => Edit::delete(alloc, *key),
-    })
-}
-
-/// A tree of one edit.
-fn leaf_of(alloc: Global, change: &Change) -> Result<Tree, Fail> {
-    Ok(Tree::Leaf(edit_of(alloc, change)?))
-}
-
-/// Two edits.
-fn two_of(alloc: Global, first: &Change, second: &Change) -> Result<Vec<Tree>, Fail> {
-    let mut parts = Vec::new(alloc);
-    parts.push(leaf_of(alloc, first)?)?;
-    parts.push(leaf_of(alloc, second)?)?;
-    Ok(parts)
-}
-
-/// Three edits.
-fn three_of(
-    alloc: Global,
-    first: &Change,
-    second: &Change,
-    third: &Change,
-) -> Result<Vec<Tree>, Fail> {
-    let mut parts = two_of(alloc, first, second)?;
-    parts.push(leaf_of(alloc, third)?)?;
-    Ok(parts)
-}
-
-/// The tree of a plan.
-fn tree_of(alloc: Global, plan: &Plan) -> Result<Tree, Fail> {
-    Ok(match plan {
-        Plan::One(change) => leaf_of(alloc, change)?,
-        Plan::Nothing => Tree::Group(Vec::new(alloc)),
-        Plan::Three(first, second, third) => { Tree::Group(three_of(alloc, first, second, third)?) }
-        Plan::NoChoice => Tree::Choose(Vec::new(alloc)),
-        Plan::Choice(first, second) => Tree::Choose(two_of(alloc, first, second)?),
-    })
 }
 
 /// The call.
@@ -229,11 +150,6 @@ pub fn base_sight(alloc: Global) -> Result<Sight, Fail> {
 /// Whether a machine shows what the base machine does when it is opened.
 pub fn is_base(alloc: Global, seen: &Sight) -> Result<bool, Fail> {
     Ok(is_same(seen, &base_sight(alloc)?))
-}
-
-/// The deletion of a device of set 0.
-pub fn gone(number: u16) -> Change {
-    Change::Delete(device(number))
 }
 
 /// A condition code.

@@ -1,9 +1,7 @@
-use crate::acts::{
-    Act, Ask, Plan, comes_back, first_wrong_of, gives, gone, is_base, opened, shown, sight_of,
-};
+use crate::acts::{Act, Ask, comes_back, first_wrong_of, gives, is_base, opened, shown, sight_of};
 use crate::histories::steps_elsewhere;
 use iocm_core::{Call, Core};
-use iocm_trial_machines::{Sight, is_same, look_at_last};
+use iocm_trial_machines::{Plan, Sight, gone, is_same, look_at_last};
 use iocm_types::Answer;
 use std::alloc::Global;
 use std::test::Fail;

@@ -1,11 +1,12 @@
 use crate::acts::{
-    Act, Ask, Change, Plan, base_sight, code, enables, first_wrong, first_wrong_of, fresh, gives,
-    gone, in_use, opened, refused, refused_at_root, shown, started_and_ended,
+    Act, Ask, base_sight, code, enables, first_wrong, first_wrong_of, fresh, gives, in_use, opened,
+    refused, refused_at_root, shown, started_and_ended,
 };
-use crate::decks::Deck;
 use iocm_core::Core;
 use iocm_plant::Plant;
-use iocm_trial_machines::{device, look_at_last, name, sees_alike, subchannel};
+use iocm_trial_machines::{
+    Change, Deck, Plan, device, gone, look_at_last, name, sees_alike, subchannel,
+};
 use iocm_types::Order::{Cancel, Start, Store, Test};
 use iocm_types::{Answer, At, Chpid, Css, Key, Rule};
 use std::alloc::Global;

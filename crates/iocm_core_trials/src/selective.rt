@@ -1,7 +1,6 @@
-use crate::acts::{Act, Ask, Change, Plan, first_wrong, fresh, gives, gone, refused, shown};
-use crate::decks::Deck;
+use crate::acts::{Act, Ask, first_wrong, fresh, gives, refused, shown};
 use crate::histories::online_51;
-use iocm_trial_machines::{device, subchannel, unit};
+use iocm_trial_machines::{Change, Deck, Plan, device, gone, subchannel, unit};
 use iocm_types::Order::Store;
 use iocm_types::{Answer, At, Rule};
 use std::test::Fail;

@@ -1,11 +1,10 @@
 use crate::acts::{
-    Act, Ask, Change, Plan, ask_of, code, enables, first_wrong, first_wrong_of, fresh, gives, gone,
-    in_use, is_base, opened, refused, refused_at_root, sight_of, started_and_ended,
+    Act, Ask, ask_of, code, enables, first_wrong, first_wrong_of, fresh, gives, in_use, is_base,
+    opened, refused, refused_at_root, sight_of, started_and_ended,
 };
-use crate::decks::Deck;
 use crate::selective::front;
 use iocm_core::Core;
-use iocm_trial_machines::{device, subchannel};
+use iocm_trial_machines::{Change, Deck, Plan, device, gone, subchannel};
 use iocm_types::Order::{Cancel, Start, Store, Test};
 use iocm_types::{Answer, At, Rule};
 use std::alloc::Global;

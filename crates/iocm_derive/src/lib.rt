@@ -19,8 +19,6 @@ mod path_tables;
 mod paths;
 mod reach;
 mod sight;
-#[cfg(test)]
-mod tests;
 mod units_view;
 mod view;
 

@@ -12,8 +12,6 @@
 mod build;
 mod index;
 mod laws;
-#[cfg(test)]
-mod tests;
 mod users;
 
 pub use build::list_namings;

@@ -10,8 +10,6 @@ mod code;
 mod events;
 mod orders;
 mod status;
-#[cfg(test)]
-mod tests;
 
 pub use events::{device_begin, device_end};
 pub use iocm_types::{Function, Io, Live, Order, Phase, ScswBits, Setting, Stored};

@@ -28,8 +28,6 @@ mod reached;
 mod renumber;
 mod renumbered;
 mod taken;
-#[cfg(test)]
-mod tests;
 
 pub use first_numbers::opening;
 pub use laws::exchanges_lead_from_one_to_the_other;

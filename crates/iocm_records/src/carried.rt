@@ -74,20 +74,3 @@ pub fn copy_carried<A: Allocator, B: Allocator + Clone>(
     }
     Ok(copies)
 }
-
-#[cfg(test)]
-mod tests {
-    use super::*;
-    use std::test::Fail;
-
-    #[test]
-    fn is_copied(rt: HostRuntime) -> Result<(), Fail> {
-        let keyword = Text::from_slice(rt.alloc(), b"DESC")?;
-        let text = Text::from_slice(rt.alloc(), b"'A B'")?;
-        let copy = Carried::new(Some(keyword), text).copy_in(rt.alloc())?;
-        let keyword = copy.keyword().ok_or("bare")?;
-        assert_eq!(rt; keyword.as_slice(), b"DESC".as_slice());
-        assert_eq!(rt; copy.text().as_slice(), b"'A B'".as_slice());
-        Ok(())
-    }
-}

@@ -169,6 +169,3 @@ pub fn from_statements(alloc: Global, statements: &[Statement]) -> Result<Vec<Re
     let progress = read_all(alloc, &images, statements)?;
     Ok(progress.into_records())
 }
-
-#[cfg(test)]
-mod tests;

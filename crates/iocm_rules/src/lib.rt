@@ -18,12 +18,8 @@ mod image_names;
 mod laws;
 mod names;
 mod near;
-#[cfg(test)]
-mod near_tests;
 mod online;
 mod online_among;
-#[cfg(test)]
-mod tests;
 
 pub use breach::Breach;
 pub use first_breach::check;

@@ -18,8 +18,6 @@ mod opening;
 mod reading;
 mod seat;
 mod settling;
-#[cfg(test)]
-mod tests;
 mod view_change;
 
 pub use changes::{Altered, Tried, list_changes};

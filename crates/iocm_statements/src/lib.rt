@@ -19,8 +19,6 @@ mod operation;
 mod parser;
 mod split;
 mod statement;
-#[cfg(test)]
-mod tests;
 mod unread;
 
 pub use laws::{

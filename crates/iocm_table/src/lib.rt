@@ -12,8 +12,6 @@
 mod build;
 mod rows;
 mod table;
-#[cfg(test)]
-mod tests;
 
 pub use rows::Rows;
 pub use table::Table;

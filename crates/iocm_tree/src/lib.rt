@@ -14,8 +14,6 @@
 
 mod action;
 mod edit;
-#[cfg(test)]
-mod tests;
 mod tree;
 mod verb;
 

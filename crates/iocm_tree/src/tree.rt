@@ -12,8 +12,6 @@ mod copying;
 mod limits;
 mod nodes;
 mod reversal;
-#[cfg(test)]
-mod tests;
 
 use crate::Edit;
 use iocm_types::{At, Refused, Rule};

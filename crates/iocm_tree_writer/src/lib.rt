@@ -13,8 +13,6 @@ mod laws;
 mod lines;
 mod operands;
 mod records;
-#[cfg(test)]
-mod tests;
 mod tree;
 
 pub use laws::{leaves_are_read_again, trees_are_read_again};

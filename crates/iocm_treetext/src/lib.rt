@@ -20,8 +20,6 @@ mod read;
 mod reading;
 mod size;
 mod stack;
-#[cfg(test)]
-mod tests;
 
 pub use examples::worked_decks_are_read;
 pub use kind::Kind;

@@ -1,9 +1,9 @@
 ghost use Rattle.std.specs.Prelude.{◌<◌};
 
-use crate::opening::name;
 use iocm_plant::Plant;
 use iocm_records::{DeviceFields, PathFields, Record, RecordBody, UnitFields};
 use iocm_tree::Edit;
+use iocm_trial_decks::name;
 use iocm_types::{Chpid, Css, CssPath, DevNo, List, Mif, PathKind, SetNo, UnitNo, UnitRange};
 use rand_core::Rng;
 use rand_pcg::Pcg32;

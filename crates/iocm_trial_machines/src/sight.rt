@@ -59,6 +59,15 @@ pub fn is_same(first: &Sight, second: &Sight) -> bool {
         && first.subchannels.as_slice() == second.subchannels.as_slice()
 }
 
+/// That a machine shows and remembers what it did; memory may be wanted once.
+pub fn is_as_before(alloc: Global, plant: &Plant, before: &Sight) -> Result<(), Fail> {
+    if is_same(&look_at_last(alloc, plant)?, before) {
+        Ok(())
+    } else {
+        Err(Fail::from("the machine is not as it was"))
+    }
+}
+
 /// Whether two machines have the same configuration, and as many numbers and subchannels.
 fn is_alike(first: &Sight, second: &Sight) -> bool {
     first.keys.as_slice() == second.keys.as_slice()

@@ -3,13 +3,13 @@ ghost use Rattle.iocm_plant.specs.TakingBack.{CanUnapply};
 
 use crate::acts::Act::{Add, Delete, End, Modify, Number, Order, Seen};
 use crate::acts::{first_wrong, refused};
-use crate::rounds::{force, take_back};
 use iocm_numbers::NumberChange;
 use iocm_plant::{Plant, Touched};
 use iocm_seats::ViewChange;
 use iocm_tree::Edit;
 use iocm_trial_machines::{
-    BASE, about, busy, device, enabled, entry, is_same, look_at, machine, place, subchannel, unit,
+    BASE, about, busy, device, enabled, entry, force, is_as_before, look_at_last, machine, place,
+    subchannel, take_back, unit,
 };
 use iocm_types::Order::{Cancel, Start, Test};
 use iocm_types::{DevNo, Io, Refused, Rule, ScswBits, SubId};
@@ -115,30 +115,50 @@ fn give_away(alloc: Global, plant: &mut Plant) -> Result<Edit, Fail> {
     Ok(inverse)
 }
 
-/// Whether an edit brings a number along that is taken, for the device 1001.
-fn finds_it_taken(alloc: Global, plant: &mut Plant, edit: Edit) -> bool {
-    refused(alloc, plant, edit) == Some(about(Rule::E4, &device(0x1001)))
+/// That an edit brings a number along that is taken, for the device 1001, and the machine is as it was.
+fn finds_it_taken(alloc: Global, plant: &mut Plant, edit: Edit) -> Result<(), Fail> {
+    let before = look_at_last(alloc, plant)?;
+    if refused(alloc, plant, edit) != Some(about(Rule::E4, &device(0x1001))) {
+        return Err(Fail::from("the number isn't taken"));
+    }
+    is_as_before(alloc, plant, &before)
+}
+
+/// That the device 2000 has the number 1.
+fn has_number_1(plant: &Plant) -> Result<(), Fail> {
+    if plant.numbers().number_of(place(0x2000)) == Some(1) {
+        Ok(())
+    } else {
+        Err(Fail::from("the device 2000 has another number"))
+    }
+}
+
+/// The number of a device that is deleted is given to another, and can't come back.
+fn come_too_late(alloc: Global, plant: &mut Plant) -> Result<(), Fail> {
+    let inverse = give_away(alloc, plant)?;
+    has_number_1(plant)?;
+    finds_it_taken(alloc, plant, inverse)
 }
 
 #[test]
 fn a_number_that_comes_along_may_be_taken(rt: HostRuntime) -> Result<(), Fail> {
     let mut plant = machine(rt.alloc(), BASE)?;
-    let inverse = give_away(rt.alloc(), &mut plant)?;
-    assert_eq!(rt; plant.numbers().number_of(place(0x2000)), Some(1));
-    let before = look_at(rt.alloc(), &plant)?;
-    assert!(rt; finds_it_taken(rt.alloc(), &mut plant, inverse));
-    assert!(rt; is_same(&look_at(rt.alloc(), &plant)?, &before));
+    come_too_late(rt.alloc(), &mut plant)
+}
+
+/// The device 1001 is deleted while its subchannel is busy, and comes back.
+fn go_and_come(alloc: Global, plant: &mut Plant) -> Result<(), Fail> {
+    start(plant, &subchannel(1, 1)?);
+    let before = look_at_last(alloc, plant)?;
+    let inverse = delete(alloc, plant, 0x1001)?;
+    let _ = take_back(alloc, plant, inverse, &before)?;
     Ok(())
 }
 
 #[test]
 fn a_busy_subchannel_comes_back_as_it_was(rt: HostRuntime) -> Result<(), Fail> {
     let mut plant = machine(rt.alloc(), BASE)?;
-    start(&mut plant, &subchannel(1, 1)?);
-    let before = look_at(rt.alloc(), &plant)?;
-    let inverse = delete(rt.alloc(), &mut plant, 0x1001)?;
-    let _ = take_back(rt.alloc(), &mut plant, inverse, &before)?;
-    Ok(())
+    go_and_come(rt.alloc(), &mut plant)
 }
 
 /// Whether a deletion of the device 1001 tells its number, and the subchannels of both images.
@@ -163,14 +183,17 @@ fn is_gone(change: &ViewChange) -> bool {
     change.before.is_some() && change.after.is_none()
 }
 
+/// That the deletion of the device 1001 tells what it did.
+fn tells_what_it_did(alloc: Global, plant: &mut Plant, there: &SubId) -> Result<(), Fail> {
+    match plant.apply(alloc, Edit::delete(alloc, device(0x1001))) {
+        Ok(applied) if is_told(&applied.touched, there) => Ok(()),
+        _ => Err(Fail::from("the deletion tells something else")),
+    }
+}
+
 #[test]
 fn an_edit_tells_what_it_did(rt: HostRuntime) -> Result<(), Fail> {
     let there = subchannel(1, 1)?;
     let mut plant = machine(rt.alloc(), BASE)?;
-    let edit = Edit::delete(rt.alloc(), device(0x1001));
-    match plant.apply(rt.alloc(), edit) {
-        Ok(applied) => assert!(rt; is_told(&applied.touched, &there)),
-        Err(_) => return Err(Fail::from("the device is not deleted")),
-    }
-    Ok(())
+    tells_what_it_did(rt.alloc(), &mut plant, &there)
 }

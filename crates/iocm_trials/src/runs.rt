@@ -3,7 +3,7 @@ use iocm_config::Config;
 use iocm_plant::Plant;
 use iocm_records::Record;
 use iocm_tree::Edit;
-use iocm_trial_machines::{LARGE, draw_edit, look_at, machine, sees_alike};
+use iocm_trial_machines::{LARGE, Sight, draw_edit, look_at, machine, sees_alike};
 use rand_pcg::Pcg32;
 use std::alloc::Global;
 use std::test::Fail;
@@ -12,27 +12,32 @@ use std::test::Fail;
 fn copy_of(alloc: Global, config: &Config) -> Result<Config, Fail> {
     let mut copy = Config::new(alloc);
     for (_, entry) in config.walk() {
-        put_in(&mut copy, entry.copy_in(alloc)?)?;
+        put_in(alloc, &mut copy, entry)?;
     }
     Ok(copy)
 }
 
-/// Puts a record in.
-fn put_in(config: &mut Config, entry: Record) -> Result<(), Fail> {
+/// Puts an equal record in.
+fn put_in(alloc: Global, config: &mut Config, entry: &Record) -> Result<(), Fail> {
     config.room(entry.key())?;
-    let _ = config.put(entry);
+    let _ = config.put(entry.copy_in(alloc)?);
     Ok(())
 }
 
+/// All that a machine shows that is opened afresh of these records; none where they break a rule.
+fn afresh(alloc: Global, config: &Config) -> Result<Option<Sight>, Fail> {
+    match Plant::open(alloc, copy_of(alloc, config)?) {
+        Ok(plant) => Ok(Some(look_at(alloc, &plant)?)),
+        Err(_unopened) => Ok(None),
+    }
+}
+
 /// Whether a machine keeps the rules; if so, one that is opened afresh of the same records shows the same.
-fn keeps_rules(alloc: Global, plant: &Plant) -> Result<bool, Fail> {
-    let config = copy_of(alloc, plant.config())?;
-    let Ok(other) = Plant::open(alloc, config) else {
+fn is_as_afresh(alloc: Global, plant: &Plant) -> Result<bool, Fail> {
+    let Some(seen) = afresh(alloc, plant.config())? else {
         return Ok(false);
     };
-    let afresh = look_at(alloc, &other)?;
-    let here = look_at(alloc, plant)?;
-    if sees_alike(&afresh, &here, plant) {
+    if sees_alike(&seen, &look_at(alloc, plant)?, plant) {
         Ok(true)
     } else {
         Err(Fail::from("a machine that is opened afresh shows something else"))
@@ -51,7 +56,7 @@ impl Edits for Draws {
     }
 
     fn goes_on(&mut self, alloc: Global, plant: &Plant) -> Result<bool, Fail> {
-        keeps_rules(alloc, plant)
+        is_as_afresh(alloc, plant)
     }
 }
 

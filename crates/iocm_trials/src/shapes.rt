@@ -4,7 +4,7 @@ use iocm_plant::Plant;
 use iocm_records::Record;
 use iocm_tree::Edit;
 use iocm_trial_machines::{
-    BASE, configuration, device, image, look_at_last, machine, name, sees_alike, unit,
+    BASE, Sight, configuration, device, image, look_at_last, machine, name, sees_alike, unit,
 };
 use iocm_types::{Chpid, Css, Key};
 use std::alloc::{AllocError, Global};
@@ -102,10 +102,14 @@ impl Edits for Towards<'_> {
     }
 }
 
+/// All that the machine of a deck shows.
+fn sight_of(alloc: Global, deck: &[u8]) -> Result<Sight, Fail> {
+    look_at_last(alloc, &machine(alloc, deck)?)
+}
+
 /// Whether a machine shows what the machine of a deck shows.
 fn is_of_deck(alloc: Global, plant: &Plant, deck: &[u8]) -> Result<bool, Fail> {
-    let other = machine(alloc, deck)?;
-    let wanted = look_at_last(alloc, &other)?;
+    let wanted = sight_of(alloc, deck)?;
     let here = look_at_last(alloc, plant)?;
     Ok(sees_alike(&wanted, &here, plant))
 }

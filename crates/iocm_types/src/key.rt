@@ -56,34 +56,3 @@ impl fmt::Display for Key {
         }
     }
 }
-
-#[cfg(test)]
-mod tests {
-    use super::*;
-    use std::test::Fail;
-
-    #[test]
-    fn prints_each_kind(rt: HostRuntime) -> Result<(), Fail> {
-        let css = Css::new(5).ok_or("5")?;
-        let mif = Mif::new(15).ok_or("F")?;
-        let set = SetNo::new(3).ok_or("3")?;
-        let unit = UnitNo::new(0xA).ok_or("000A")?;
-        let name = Name::new(b"LPB").ok_or("LPB")?;
-        let path = Chpid::new(0xA);
-        let device = DevNo::new(0xFF);
-        let printed = [
-            (Key::Id, "id"),
-            (Key::Resource, "resource"),
-            (Key::Image(css, mif), "image 5.F"),
-            (Key::Limit(css, set), "limit 5.3"),
-            (Key::Path(css, path), "path 5.0A"),
-            (Key::Unit(unit), "unit 000A"),
-            (Key::Device(set, device), "device 3.00FF"),
-            (Key::Online(css, path, name), "online 5.0A.LPB"),
-        ];
-        for (key, text) in printed {
-            assert_eq!(rt; key.to_string(rt.alloc())?.as_str(), text);
-        }
-        Ok(())
-    }
-}

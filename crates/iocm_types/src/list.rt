@@ -50,17 +50,3 @@ impl<T: Copy, A: Allocator> List<T, A> {
         })
     }
 }
-
-#[cfg(test)]
-mod tests {
-    use super::*;
-    use std::test::Fail;
-
-    #[test]
-    fn is_copied(rt: HostRuntime) -> Result<(), Fail> {
-        let list = List::from_vec(Vec::from_slice(rt.alloc(), [3u8, 1, 2].as_slice())?);
-        let copy = list.copy_in(rt.alloc())?;
-        assert_eq!(rt; copy.as_slice(), [3, 1, 2].as_slice());
-        Ok(())
-    }
-}

@@ -60,18 +60,3 @@ impl fmt::Display for Mask {
         write!(f, "{bits:02X}")
     }
 }
-
-#[cfg(test)]
-mod tests {
-    use super::*;
-    use std::test::Fail;
-
-    #[test]
-    fn prints_two_digits(rt: HostRuntime) -> Result<(), Fail> {
-        for (bits, text) in [(0, "00"), (0xA, "0A"), (0xC0, "C0")] {
-            let mask = Mask::from_bits(bits);
-            assert_eq!(rt; mask.to_string(rt.alloc())?.as_str(), text);
-        }
-        Ok(())
-    }
-}

@@ -164,30 +164,3 @@ impl fmt::Display for Name {
         }
     }
 }
-
-#[cfg(test)]
-mod tests {
-    use super::*;
-    use std::test::Fail;
-
-    #[test]
-    fn takes_one_to_eight_letters_and_digits(rt: HostRuntime) -> Result<(), Fail> {
-        let names: [&[u8]; 5] = [b"A", b"Z9", b"ABCDEFGH", b"RECA", b"RE"];
-        for bytes in names {
-            let name = Name::new(bytes).ok_or("no name")?;
-            assert_eq!(rt; name.as_bytes(), bytes);
-        }
-        let others: [&[u8]; 7] = [b"", b"ABCDEFGHI", b"REC", b"lpa", b"1A", b"A-B", b"*"];
-        for bytes in others {
-            assert!(rt; Name::new(bytes).is_none());
-        }
-        Ok(())
-    }
-
-    #[test]
-    fn prints_its_letters(rt: HostRuntime) -> Result<(), Fail> {
-        let name = Name::new(b"LPA1").ok_or("no name")?;
-        assert_eq!(rt; name.to_string(rt.alloc())?.as_str(), "LPA1");
-        Ok(())
-    }
-}

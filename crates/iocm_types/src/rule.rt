@@ -169,17 +169,3 @@ impl fmt::Display for Rule {
         })
     }
 }
-
-#[cfg(test)]
-mod tests {
-    use super::*;
-    use std::test::Fail;
-
-    #[test]
-    fn prints_its_letter_and_number(rt: HostRuntime) -> Result<(), Fail> {
-        for (rule, text) in [(Rule::L1, "L1"), (Rule::S10, "S10"), (Rule::X1, "X1")] {
-            assert_eq!(rt; rule.to_string(rt.alloc())?.as_str(), text);
-        }
-        Ok(())
-    }
-}

@@ -128,21 +128,3 @@ impl<A: Allocator> Hash for Text<A> {
         self.as_slice().hash(state);
     }
 }
-
-#[cfg(test)]
-mod tests {
-    use super::*;
-    use std::test::Fail;
-
-    #[test]
-    fn is_made_and_copied(rt: HostRuntime) -> Result<(), Fail> {
-        let mut text = Text::from_slice(rt.alloc(), b"AB")?;
-        text.push(b'C')?;
-        assert_eq!(rt; text.copy_in(rt.alloc())?.as_slice(), b"ABC".as_slice());
-        let padded = Text::padded(rt.alloc(), text.as_slice(), 5, b' ')?;
-        assert_eq!(rt; padded.as_slice(), b"ABC  ".as_slice());
-        let cut = Text::padded(rt.alloc(), text.as_slice(), 2, b' ')?;
-        assert_eq!(rt; cut.as_slice(), b"AB".as_slice());
-        Ok(())
-    }
-}

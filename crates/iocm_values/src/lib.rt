@@ -12,8 +12,6 @@ mod css_lists;
 mod digits;
 mod name_set;
 mod numbers;
-#[cfg(test)]
-mod tests;
 mod texts;
 mod value;
 mod word_list;
