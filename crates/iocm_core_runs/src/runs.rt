@@ -48,14 +48,14 @@ impl Tally {
         }
     }
 
-    /// Whether every kind of answer was given some times.
+    /// Whether every kind of answer was given often.
     fn is_rich(&self) -> bool {
-        self.changed > 40 && self.undone > 20 && self.redone > 8 && self.is_rich_elsewhere()
+        self.changed > 4000 && self.undone > 2000 && self.redone > 800 && self.is_rich_elsewhere()
     }
 
-    /// Whether changes were made in stages, and refused, some times.
+    /// Whether changes were made in stages, and refused, often.
     fn is_rich_elsewhere(&self) -> bool {
-        self.staged > 10 && self.held > 10 && self.stood_on > 10 && self.busy > 20
+        self.staged > 1000 && self.held > 1000 && self.stood_on > 1000 && self.busy > 2000
     }
 }
 
@@ -192,9 +192,9 @@ fn draw_run(
     })
 }
 
-/// The first of twelve runs of 100 turns that goes apart; it goes on counting.
+/// The first of 2,000 runs of 100 turns that goes apart; it goes on counting.
 fn first_apart(alloc: Global, tally: &mut Tally) -> Result<Option<Apart>, Fail> {
-    for seed in 1..13 {
+    for seed in 1..2001 {
         let apart = draw_run(alloc, seed, 100, tally)?;
         if apart.is_some() {
             return Ok(apart);
