@@ -15,7 +15,7 @@ use crate::log::Log;
 use iocm_config::Config;
 use iocm_numbers::{NumberChange, Numbers};
 use iocm_plant::{Applied, Plant};
-use iocm_records::Record;
+use iocm_record::Record;
 use iocm_seats::ViewChange;
 use iocm_table::Table;
 use iocm_types::{DevNo, Key, Live, NumberCell, SubId, TableKey};

@@ -17,7 +17,7 @@ pub struct Log {
 }
 
 /// A place in a log. The word is own.
-#[derive(Clone, Copy, Debug)]
+#[derive(Clone, Copy)]
 pub struct Mark {
     pub done: usize,
     pub keys: usize,

@@ -1,7 +1,7 @@
 use crate::attempt::{accepted, answer, back_and_there, is_fitting};
 use iocm_activate::Done;
 use iocm_plant::Plant;
-use iocm_records::RecordBody;
+use iocm_record::RecordBody;
 use iocm_trial_machines::{Plan, device, look_at_last, machine, place, tree_of};
 use iocm_types::{Io, Order, Refused, SubId};
 use std::alloc::Global;

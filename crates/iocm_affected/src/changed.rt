@@ -13,7 +13,7 @@ use crate::order::in_order;
 use crate::places::list_led;
 use iocm_config::Config;
 use iocm_index::Index;
-use iocm_records::Record;
+use iocm_record::Record;
 use iocm_types::{Image, Key, Place};
 use std::alloc::{AllocError, Allocator, Global};
 

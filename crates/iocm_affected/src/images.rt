@@ -5,12 +5,12 @@ ghost use Rattle.iocm_lookup.specs.Kinds.{kind_of};
 ghost use Rattle.iocm_affected.specs.Listing as listing;
 
 use iocm_config::Config;
-use iocm_records::{Record, RecordBody};
+use iocm_record::{Record, RecordBody};
 use iocm_types::{Css, Image, Key, Name};
 use std::alloc::{AllocError, Allocator};
 
 /// Some images of a configuration.
-#[derive(Clone, Copy, Debug)]
+#[derive(Clone, Copy)]
 enum Group {
     /// All of them.
     All,

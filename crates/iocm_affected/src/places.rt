@@ -5,7 +5,7 @@ ghost use Rattle.iocm_affected.specs.Listing as listing;
 use crate::users::users_of_name;
 use iocm_index::Index;
 use iocm_lookup::subsystems;
-use iocm_records::{Record, RecordBody};
+use iocm_record::{Record, RecordBody};
 use iocm_types::{Css, Key, Name, Named, Place};
 use std::alloc::{AllocError, Allocator};
 

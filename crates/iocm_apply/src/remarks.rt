@@ -11,7 +11,7 @@ use std::alloc::{AllocError, Allocator, Global};
 use std::fmt;
 
 /// A device as it is printed: set and number with a dot between.
-#[derive(Clone, Copy, Debug)]
+#[derive(Clone, Copy)]
 struct DeviceName(Place);
 
 impl fmt::Display for DeviceName {
@@ -29,7 +29,7 @@ impl fmt::Display for DeviceName {
 }
 
 /// A subchannel number as it is printed.
-#[derive(Clone, Copy, Debug)]
+#[derive(Clone, Copy)]
 struct NumberName(u16);
 
 impl fmt::Display for NumberName {
@@ -45,7 +45,7 @@ impl fmt::Display for NumberName {
 }
 
 /// The subchannel number that a device had, as a comment.
-#[derive(Clone, Copy, Debug)]
+#[derive(Clone, Copy)]
 struct NumberRemark(Place, u16);
 
 impl fmt::Display for NumberRemark {
@@ -63,7 +63,7 @@ impl fmt::Display for NumberRemark {
 }
 
 /// What a subchannel remembered, as a comment.
-#[derive(Clone, Copy, Debug)]
+#[derive(Clone, Copy)]
 struct LiveRemark((SubId, Live));
 
 impl fmt::Display for LiveRemark {

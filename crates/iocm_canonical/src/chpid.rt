@@ -2,10 +2,10 @@ ghost use Rattle.std.specs.Prelude.{◌≡◌, ◌++◌, IfOk, OnOk};
 ghost use Rattle.iocm_operands.specs.ChpidPath as path_operand;
 ghost use Rattle.iocm_operands.specs.ChpidPartition as partition_operand;
 ghost use Rattle.iocm_canonical.specs.Canonical as meaning;
-ghost use Rattle.iocm_records.specs.Meaning.{path_of};
+ghost use Rattle.iocm_record.specs.Meaning.{path_of};
 
 use crate::operands::{put_alone, put_valued};
-use iocm_records::{Carried, PathFields};
+use iocm_record::{Carried, PathFields};
 use iocm_types::{CssPath, Name, PathKind, Text};
 use iocm_values::{css_text, list_text, names_text, printed};
 use std::alloc::{AllocError, Allocator, Global};
@@ -60,6 +60,7 @@ pub fn chpid_operands<A: Allocator>(
 ) -> Result<Vec<Carried>, AllocError>
     ensures { IfOk result (λ operands. operands.items ≡ meaning.chpid_operands (path_of path.now)) }
 {
+    let mut operands = Vec::new(alloc);
     let number = path_text(
         alloc,
         CssPath {
@@ -67,11 +68,10 @@ pub fn chpid_operands<A: Allocator>(
             path: path.number,
         },
     )?;
-    let access = path.access.as_slice();
-    let lists = partition_text(alloc, access, path.candidates.as_slice(), path.kind)?;
-    let mut operands = Vec::new(alloc);
     put_valued(alloc, &mut operands, b"PATH", Some(number))?;
     put_shared(alloc, &mut operands, path.kind)?;
+    let access = path.access.as_slice();
+    let lists = partition_text(alloc, access, path.candidates.as_slice(), path.kind)?;
     put_valued(alloc, &mut operands, b"PARTITION", Some(lists))?;
     Ok(operands)
 }

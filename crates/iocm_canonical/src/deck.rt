@@ -5,7 +5,7 @@ use crate::writing::to_write;
 use crate::{CanonicalStatement, to_statements};
 use iocm_columns::{Joined, deck_bytes};
 use iocm_config::Config;
-use iocm_records::Record;
+use iocm_record::Record;
 use iocm_table::Rows;
 use iocm_types::Key;
 use std::alloc::{AllocError, Allocator, Global};

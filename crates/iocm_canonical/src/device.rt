@@ -3,7 +3,7 @@ ghost use Rattle.std.specs.Cmp.Lexicographic.{pointwise};
 ghost use Rattle.std.specs.List.{flat_map};
 ghost use Rattle.std.specs.Option.{option_map};
 ghost use Rattle.iocm_operands.specs.Device as operand;
-ghost use Rattle.iocm_records.specs.Meaning as fields;
+ghost use Rattle.iocm_record.specs.Meaning as fields;
 ghost use Rattle.iocm_values.specs.NameSet.{names_text};
 ghost use Rattle.iocm_canonical.specs.Device as meaning;
 ghost use Rattle.iocm_canonical.specs.Statement.{if_any};
@@ -11,7 +11,7 @@ ghost use Rattle.iocm_canonical.specs.Statement.{if_any};
 use crate::CanonicalStatement;
 use crate::operands::{put_carried, put_valued};
 use crate::unit::two_digits;
-use iocm_records::{Carried, DeviceFields, Record, RecordBody};
+use iocm_record::{Carried, DeviceFields, Record, RecordBody};
 use iocm_statements::Operation;
 use iocm_types::{DevNo, List, Name, SetNo, Text, UnitNo};
 use iocm_values::{list_text, names_text, printed};
@@ -138,16 +138,16 @@ fn iodevice_operands<A: Allocator>(
 ) -> Result<Vec<Carried>, AllocError>
     ensures { IfOk result (λ operands. operands.items ≡ meaning.iodevice_operands (record { first = fields.device_of first.now; count = count })) }
 {
-    let devices = devices_text(alloc, first.number, count)?;
-    let address = two_digits(alloc, first.unit_address)?;
-    let units = units_value(alloc, first.units.as_slice())?;
-    let set = set_value(alloc, first.set)?;
-    let candidates = candidates_value(alloc, &first.candidates)?;
     let mut operands = Vec::new(alloc);
+    let devices = devices_text(alloc, first.number, count)?;
     put_valued(alloc, &mut operands, b"ADDRESS", Some(devices))?;
+    let units = units_value(alloc, first.units.as_slice())?;
     put_valued(alloc, &mut operands, b"CUNUMBR", units)?;
+    let address = two_digits(alloc, first.unit_address)?;
     put_valued(alloc, &mut operands, b"UNITADD", Some(address))?;
+    let set = set_value(alloc, first.set)?;
     put_valued(alloc, &mut operands, b"SCHSET", set)?;
+    let candidates = candidates_value(alloc, &first.candidates)?;
     put_valued(alloc, &mut operands, b"PARTITION", candidates)?;
     Ok(operands)
 }

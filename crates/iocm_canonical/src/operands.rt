@@ -1,7 +1,7 @@
 ghost use Rattle.std.specs.Prelude.{◌≡◌, ◌++◌, ◌∷◌, [], IfOk, OnOk};
 ghost use Rattle.iocm_canonical.specs.Statement as meaning;
 
-use iocm_records::Carried;
+use iocm_record::Carried;
 use iocm_types::Text;
 use std::alloc::{AllocError, Allocator, Global};
 

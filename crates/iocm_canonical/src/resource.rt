@@ -10,7 +10,7 @@ ghost use Rattle.iocm_canonical.specs.Statement.{if_any};
 use crate::CanonicalStatement;
 use crate::operands::{put_carried, put_valued};
 use iocm_operands::{ImageEntry, LimitEntry};
-use iocm_records::{Carried, Record, RecordBody};
+use iocm_record::{Carried, Record, RecordBody};
 use iocm_statements::Operation;
 use iocm_types::{Css, Text};
 use iocm_values::{CssText, by_css_text, list_text, printed, subsystem};
@@ -206,6 +206,28 @@ fn limits_in<A: Allocator>(
     Ok(limits)
 }
 
+// PARTITION of the images among these records, if there are any.
+fn partition_value<A: Allocator>(
+    alloc: Global,
+    records: &[&Record<A>],
+) -> Result<Option<Text>, AllocError>
+    ensures { IfOk result (λ text. text ≡ if_any (flat_map meaning.images_of (map (λ k. k.now) records.now)) (images_operand.images_text (flat_map meaning.images_of (map (λ k. k.now) records.now)))) }
+{
+    let images = images_in(alloc, records)?;
+    images_value(alloc, &images)
+}
+
+// MAXDEV of the limits among these records, if there are any.
+fn maxdev_value<A: Allocator>(
+    alloc: Global,
+    records: &[&Record<A>],
+) -> Result<Option<Text>, AllocError>
+    ensures { IfOk result (λ text. text ≡ if_any (flat_map meaning.limits_of (map (λ k. k.now) records.now)) (limits_operand.limits_text (flat_map meaning.limits_of (map (λ k. k.now) records.now)))) }
+{
+    let limits = limits_in(alloc, records)?;
+    limits_value(alloc, &limits)
+}
+
 // What the RESOURCE statement among these records carries, behind its operands.
 fn put_resource_carried<A: Allocator>(
     alloc: Global,
@@ -241,21 +263,11 @@ fn resource_operands<A: Allocator>(
         meaning.resource_operands (flat_map meaning.images_of (map (λ k. k.now) records.now)) (flat_map meaning.limits_of (map (λ k. k.now) records.now))
         ++ flat_map meaning.resource_carried (map (λ k. k.now) records.now)) }
 {
-    let images = images_in(alloc, records)?;
-    let limits = limits_in(alloc, records)?;
     let mut operands = Vec::new(alloc);
-    put_valued(
-        alloc,
-        &mut operands,
-        b"PARTITION",
-        images_value(alloc, &images)?,
-    )?;
-    put_valued(
-        alloc,
-        &mut operands,
-        b"MAXDEV",
-        limits_value(alloc, &limits)?,
-    )?;
+    let partition = partition_value(alloc, records)?;
+    put_valued(alloc, &mut operands, b"PARTITION", partition)?;
+    let maxdev = maxdev_value(alloc, records)?;
+    put_valued(alloc, &mut operands, b"MAXDEV", maxdev)?;
     put_all_carried(alloc, &mut operands, records)?;
     Ok(operands)
 }

@@ -1,11 +1,11 @@
 ghost use Rattle.std.specs.Prelude.{◌≡◌};
 
-use iocm_records::Carried;
+use iocm_record::Carried;
 use iocm_statements::Operation;
 use std::marker::Model;
 
 /// A statement of the canonical deck. Contracts see its operation and the list of its operands.
-#[derive(Debug, Drop)]
+#[derive(Drop)]
 pub struct CanonicalStatement {
     operation: Operation,
     operands: Vec<Carried>,

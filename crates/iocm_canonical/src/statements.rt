@@ -1,7 +1,7 @@
 ghost use Rattle.std.specs.Prelude.{◌≡◌, ◌++◌, map, IfOk, OnOk};
 ghost use Rattle.std.specs.List.{flat_map};
 ghost use Rattle.iocm_canonical.specs.Canonical as meaning;
-ghost use Rattle.iocm_records.specs.Meaning as fields;
+ghost use Rattle.iocm_record.specs.Meaning as fields;
 
 use crate::CanonicalStatement;
 use crate::chpid::chpid_operands;
@@ -9,7 +9,7 @@ use crate::device::put_iodevices;
 use crate::operands::put_carried;
 use crate::resource::put_resource;
 use crate::unit::cntlunit_operands;
-use iocm_records::{PathFields, Record, RecordBody, UnitFields};
+use iocm_record::{PathFields, Record, RecordBody, UnitFields};
 use iocm_statements::Operation;
 use std::alloc::{AllocError, Allocator, Global};
 

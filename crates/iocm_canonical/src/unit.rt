@@ -4,10 +4,10 @@ ghost use Rattle.iocm_types.specs.Print.{hex2};
 ghost use Rattle.iocm_operands.specs.Unit as meaning;
 ghost use Rattle.iocm_canonical.specs.Canonical.{cntlunit_operands};
 ghost use Rattle.iocm_canonical.specs.Statement.{if_any};
-ghost use Rattle.iocm_records.specs.Meaning.{unit_of};
+ghost use Rattle.iocm_record.specs.Meaning.{unit_of};
 
 use crate::operands::put_valued;
-use iocm_records::{Carried, UnitFields};
+use iocm_record::{Carried, UnitFields};
 use iocm_types::{CssLink, CssPath, Link, Text, UnitRange};
 use iocm_values::{CssText, by_css_text, list_text, printed};
 use std::alloc::{AllocError, Allocator, Global};
@@ -125,16 +125,16 @@ pub fn cntlunit_operands<A: Allocator>(
 ) -> Result<Vec<Carried>, AllocError>
     ensures { IfOk result (λ operands. operands.items ≡ cntlunit_operands (unit_of unit.now)) }
 {
-    let number = printed(alloc, &unit.number)?;
-    let paths = paths_operand(alloc, unit.paths.as_slice())?;
-    let ranges = ranges_text(alloc, unit.ranges.as_slice())?;
-    let links = links_operand(alloc, unit.links.as_slice())?;
-    let cuadd = cuadd_operand(alloc, unit.cuadd)?;
     let mut operands = Vec::new(alloc);
+    let number = printed(alloc, &unit.number)?;
     put_valued(alloc, &mut operands, b"CUNUMBR", Some(number))?;
+    let paths = paths_operand(alloc, unit.paths.as_slice())?;
     put_valued(alloc, &mut operands, b"PATH", paths)?;
+    let ranges = ranges_text(alloc, unit.ranges.as_slice())?;
     put_valued(alloc, &mut operands, b"UNITADD", Some(ranges))?;
+    let links = links_operand(alloc, unit.links.as_slice())?;
     put_valued(alloc, &mut operands, b"LINK", links)?;
+    let cuadd = cuadd_operand(alloc, unit.cuadd)?;
     put_valued(alloc, &mut operands, b"CUADD", cuadd)?;
     Ok(operands)
 }

@@ -4,7 +4,7 @@ ghost use Rattle.iocm_canonical.specs.Canonical as meaning;
 
 use crate::CanonicalStatement;
 use iocm_columns::Joined;
-use iocm_records::Carried;
+use iocm_record::Carried;
 use iocm_types::Text;
 use iocm_values::comma_text;
 use std::alloc::{AllocError, Global};

@@ -10,7 +10,7 @@ use iocm_values::{CssItem, Value, by_css, hex};
 use std::alloc::{AllocError, Global};
 
 /// Which image a DELETE is about.
-#[derive(Clone, Copy, Debug)]
+#[derive(Clone, Copy)]
 pub struct ImageKey {
     /// Its channel subsystem.
     pub css: Css,

@@ -13,7 +13,7 @@ use iocm_values::{CssItem, Value, by_css};
 use std::alloc::{AllocError, Global};
 
 /// A place of MAXDEV in a DELETE: the first of a channel subsystem is that of subchannel set 0, and so on.
-#[derive(Clone, Copy, Debug)]
+#[derive(Clone, Copy)]
 pub struct LimitSeat {
     /// The channel subsystem.
     pub css: Css,

@@ -10,7 +10,7 @@ use iocm_values::{Value, begins_with_css, values};
 use std::alloc::{AllocError, Global};
 
 /// What the items of PARTITION show, whatever they say.
-#[derive(Clone, Copy, Debug)]
+#[derive(Clone, Copy)]
 pub struct Shape {
     /// The last item is REC.
     pub is_reconfigurable: bool,

@@ -11,7 +11,7 @@ ghost use Rattle.iocm_change_records.specs.Pairs as meaning;
 
 use crate::table::{has_key_left_out, lacks_key};
 use iocm_operands::path_of;
-use iocm_records::{Record, RecordBody};
+use iocm_record::{Record, RecordBody};
 use iocm_statements::{OperandKey, Operands, Operation, Statement, Unread, or_malformed};
 use iocm_tree::Verb;
 use iocm_types::{Chpid, Css, CssPath, Fault, List, Name, Rule};
@@ -19,7 +19,7 @@ use iocm_values::Value;
 use std::alloc::{AllocError, Global};
 
 /// What an ONLINE statement is about: a path, and names in the order of the text.
-#[derive(Debug, Drop)]
+#[derive(Drop)]
 pub struct Pairs {
     /// The path.
     pub path: CssPath,

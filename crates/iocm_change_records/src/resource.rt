@@ -8,7 +8,7 @@ ghost use Rattle.iocm_statements.specs.declared.operation.Operation.TheVariants.
 
 use iocm_keywords::{has_left_out, has_other_form, is_carried};
 use iocm_operands::{ImageEntry, LimitEntry, images_of, limits_of};
-use iocm_records::{Carried, Record, RecordBody};
+use iocm_record::{Carried, Record, RecordBody};
 use iocm_statements::{OperandKey, Operands, Operation, Statement, or_malformed};
 use iocm_types::{Fault, Rule, Text};
 use iocm_values::Value;

@@ -1,5 +1,5 @@
 /// How an operand part goes on in a continuation.
-#[derive(Clone, Copy, Debug)]
+#[derive(Clone, Copy)]
 pub(crate) enum Going {
     /// Exactly at column 16: it ran through column 71, inside quotes or without a comma there.
     Exactly,

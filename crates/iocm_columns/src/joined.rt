@@ -2,7 +2,7 @@ use iocm_types::Text;
 
 /// A statement with its continuations joined: the line of its first card, the name field, the
 /// operation and the operand part, without remarks.
-#[derive(Debug, Drop)]
+#[derive(Drop)]
 pub struct Joined {
     /// The number of the first card's line.
     pub line: usize,

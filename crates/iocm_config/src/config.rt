@@ -9,7 +9,7 @@ ghost use Rattle.iocm_model.specs.Machine.Configuration.{with_keys, configuratio
 ghost use Rattle.iocm_table.specs.Slots.{rows_from};
 ghost use Rattle.iocm_config.specs.Stored.{HasPlace, RecordsHavePlaces};
 
-use iocm_records::Record;
+use iocm_record::Record;
 use iocm_table::{Rows, Table};
 use iocm_types::Key;
 use std::alloc::{AllocError, Allocator, Global};

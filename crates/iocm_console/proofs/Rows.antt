@@ -6,9 +6,9 @@ use Rattle.std.proofs.lemmas.List.Elements.{filter-append, filter_map-append}
 use Rattle.std.proofs.lemmas.Grind.{flat_map-append}
 use Rattle.std.proofs.lemmas.Bool.Decides.{nat_tests}
 use Rattle.iocm_types.specs.declared.place.NumberCell.{NumberCell}
-use Rattle.iocm_records.specs.declared.record.RecordBody.{RecordBody}
-use Rattle.iocm_records.specs.declared.record.RecordBody.TheVariants as body
-use Rattle.iocm_records.specs.Meaning.{record_of}
+use Rattle.iocm_record.specs.declared.record.RecordBody.{RecordBody}
+use Rattle.iocm_record.specs.declared.record.RecordBody.TheVariants as body
+use Rattle.iocm_record.specs.Meaning.{record_of}
 use Rattle.iocm_model.specs.Machine.Record.{Rec, ImageRecord, image}
 use Rattle.std.specs.FinMap.{entries}
 use Rattle.iocm_types.specs.declared.key.Key.{Key}

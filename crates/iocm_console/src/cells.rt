@@ -6,7 +6,7 @@ use iocm_types::{DevNo, NumberCell};
 use std::alloc::{AllocError, Allocator};
 
 /// A number cell that is taken, and the device that has it.
-#[derive(Clone, Copy, Debug, Drop)]
+#[derive(Clone, Copy, Drop)]
 pub struct CellDevice {
     pub cell: NumberCell,
     pub device: DevNo,

@@ -2,7 +2,7 @@ use iocm_types::{At, Refused, SubId};
 use std::fmt;
 
 /// A subchannel as it is printed: channel subsystem, image, set and number with dots between.
-#[derive(Clone, Copy, Debug)]
+#[derive(Clone, Copy)]
 pub struct SubchannelName(pub SubId);
 
 impl fmt::Display for SubchannelName {
@@ -21,7 +21,7 @@ impl fmt::Display for SubchannelName {
 }
 
 /// Where in a change tree a change was refused, as it is printed: nothing where no node is named.
-#[derive(Clone, Copy, Debug)]
+#[derive(Clone, Copy)]
 struct NodeName(Option<u64>);
 
 impl fmt::Display for NodeName {
@@ -39,7 +39,7 @@ impl fmt::Display for NodeName {
 }
 
 /// What the refusal of a change is about, as it is printed.
-#[derive(Clone, Copy, Debug)]
+#[derive(Clone, Copy)]
 struct AboutName(At);
 
 impl fmt::Display for AboutName {
@@ -63,7 +63,7 @@ impl fmt::Display for AboutName {
 
 /// The refusal of a change as it is printed, without the end of its line: its number, the node of the change tree where it was
 /// refused, and what it is about, a key, a subchannel or a change, as far as it names them.
-#[derive(Clone, Copy, Debug)]
+#[derive(Clone, Copy)]
 pub struct ChangeRefusal(pub Refused);
 
 impl fmt::Display for ChangeRefusal {

@@ -4,7 +4,7 @@ use std::fmt;
 
 /// A refusal as it is printed, without the end of its line: its number and its line, and want of memory,
 /// which stands at no line, by its number alone.
-#[derive(Clone, Copy, Debug)]
+#[derive(Clone, Copy)]
 pub struct Refusal(pub Fault);
 
 impl fmt::Display for Refusal {
@@ -24,7 +24,7 @@ impl fmt::Display for Refusal {
 }
 
 /// A breach as it is printed, without the end of its line: the number of the rule, and the key of the record that breaks it.
-#[derive(Clone, Copy, Debug)]
+#[derive(Clone, Copy)]
 pub struct BreachRefusal(pub Breach);
 
 impl fmt::Display for BreachRefusal {

@@ -11,13 +11,13 @@ use crate::{ConsoleError, Output, Status};
 use iocm_config::Config;
 use iocm_derive::ImageSight;
 use iocm_numbers::Numbers;
-use iocm_records::{Record, RecordBody};
+use iocm_record::{Record, RecordBody};
 use iocm_types::{Fault, Image, Name, SubId};
 use std::alloc::Allocator;
 use std::io::Write;
 
 /// An image and its name.
-#[derive(Clone, Copy, Debug)]
+#[derive(Clone, Copy)]
 struct NamedImage {
     image: Image,
     name: Name,

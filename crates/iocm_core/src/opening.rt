@@ -12,7 +12,7 @@ use crate::{Core, Entry};
 use iocm_config::Config;
 use iocm_journal::Journal;
 use iocm_plant::{Plant, Unopened};
-use iocm_records::Record;
+use iocm_record::Record;
 use iocm_types::Refused;
 use std::alloc::{AllocError, Global};
 

@@ -2,7 +2,7 @@
 use crate::player::Player;
 use iocm_core::Call;
 use iocm_plant::Plant;
-use iocm_records::{DeviceFields, Record, RecordBody, UnitFields};
+use iocm_record::{DeviceFields, Record, RecordBody, UnitFields};
 use iocm_tree::{Edit, Tree};
 use iocm_trial_machines::{below, enabled, is_heads, name, subchannel};
 use iocm_types::Order::{Cancel, Clear, Halt, Start, Store, Test};

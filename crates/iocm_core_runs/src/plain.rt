@@ -1,7 +1,7 @@
 //! What a history means, read plainly: entries with their marks, and each value as the last entry wrote it that counts.
 use iocm_activate::{Done, Effect};
 use iocm_plant::Plant;
-use iocm_records::Record;
+use iocm_record::Record;
 use iocm_types::{DevNo, Key, Live, NumberCell, SubId};
 use std::alloc::{AllocError, Global};
 

@@ -3,7 +3,7 @@
 use crate::plain::History;
 use iocm_config::Config;
 use iocm_plant::Plant;
-use iocm_records::{Record, RecordBody};
+use iocm_record::{Record, RecordBody};
 use iocm_tree::{Action, Edit, Parts};
 use iocm_types::Order::{Clear, Halt, Modify, Start};
 use iocm_types::{

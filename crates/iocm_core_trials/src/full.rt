@@ -1,8 +1,11 @@
-use crate::acts::{Act, Ask, comes_back, first_wrong_of, gives, is_base, opened, shown, sight_of};
-use crate::histories::steps_elsewhere;
+use crate::acts::{Act, comes_back, first_wrong_of, is_base, opened, sight_of};
+use crate::asks::Ask::{Abort, Begin, Commit, Show};
+use crate::histories::STEPS_ELSEWHERE;
+use crate::plans::Edit::Goes;
+use crate::plans::Shape::One;
+use crate::wanted::Wanted::{Shown, Staged};
 use iocm_core::{Call, Core};
-use iocm_trial_machines::{Plan, Sight, gone, is_same, look_at_last};
-use iocm_types::Answer;
+use iocm_trial_machines::{Sight, is_same, look_at_last};
 use std::alloc::Global;
 use std::test::Fail;
 
@@ -11,10 +14,12 @@ fn entries_of(core: Core) -> usize {
     core.close().trace.entries.len()
 }
 
+/// A question.
+const QUESTION: &[Act] = &[(Show, Shown(12, 8, 0, 0))];
+
 /// Makes the one call for which there is room, and the next.
 fn hands_back_the_next(alloc: Global, core: &mut Core) -> Result<bool, Fail> {
-    let first = [gives(Ask::Show, shown(12, 8, 0, 0))];
-    let wrong = first_wrong_of(alloc, core, first.as_slice())?;
+    let wrong = first_wrong_of(alloc, core, QUESTION)?;
     Ok(wrong.is_none() && is_handed_back(alloc, core))
 }
 
@@ -47,15 +52,13 @@ fn is_undo_of_7(call: &Call) -> bool {
     }
 }
 
+/// The begin of a change in stages.
+const BEGIN: &[Act] = &[(Begin(One(Goes(0x1003))), Staged(1))];
+
 /// Begins a change in stages, for which alone there is room, and tries to end it.
 fn is_full_once_begun(alloc: Global, core: &mut Core) -> Result<bool, Fail> {
-    let begin = [gives(Ask::Begin(Plan::One(gone(0x1003))), Answer::Staged(1))];
-    let wrong = first_wrong_of(alloc, core, begin.as_slice())?;
-    Ok(
-        wrong.is_none()
-            && comes_back(alloc, core, &Ask::Commit)?
-            && comes_back(alloc, core, &Ask::Abort)?,
-    )
+    let wrong = first_wrong_of(alloc, core, BEGIN)?;
+    Ok(wrong.is_none() && comes_back(alloc, core, &Commit)? && comes_back(alloc, core, &Abort)?)
 }
 
 /// Whether a change in stages that can't be ended, since the trace is full, is taken back when the core is closed.
@@ -75,7 +78,7 @@ fn a_change_in_stages_that_finds_the_trace_full_is_taken_back(rt: HostRuntime) -
 /// Makes the calls of these acts up to the first that comes back, and gives how many were answered.
 fn answered(alloc: Global, core: &mut Core, acts: &[Act]) -> Result<usize, Fail> {
     for (count, act) in acts.iter().enumerate() {
-        if comes_back(alloc, core, &act.ask)? {
+        if comes_back(alloc, core, &act.0)? {
             return Ok(count);
         }
     }
@@ -114,9 +117,8 @@ fn is_full_at(alloc: Global, room: usize, acts: &[Act]) -> Result<bool, Fail> {
 
 #[test]
 fn a_trace_is_full_after_each_call(rt: HostRuntime) -> Result<(), Fail> {
-    let acts = steps_elsewhere(rt.alloc())?;
     for room in 0..8 {
-        assert!(rt; is_full_at(rt.alloc(), room, acts.as_slice())?);
+        assert!(rt; is_full_at(rt.alloc(), room, STEPS_ELSEWHERE)?);
     }
     Ok(())
 }

@@ -1,75 +1,66 @@
-use crate::acts::{
-    Act, Ask, base_sight, code, enables, first_wrong, first_wrong_of, fresh, gives, in_use, opened,
-    refused, refused_at_root, shown, started_and_ended,
+use crate::acts::{Act, base_sight, first_wrong, first_wrong_of, opened};
+use crate::asks::Ask::{Activate, DeviceEnd, Order, Redo, Show, Undo};
+use crate::asks::Order::{Cancel, Enable, Start, Store, Test};
+use crate::asks::There;
+use crate::plans::Edit::{Comes, Goes, PathComesOnline};
+use crate::plans::Shape::{Choice, NoChoice, Nothing, One};
+use crate::wanted::Wanted::{
+    Busy, BusyAtRoot, Changed, Code, Ended, Fresh, InUse, Redone, Refused, RefusedAtRoot,
+    RefusedFor, Shown, StartEnded, Undone,
 };
 use iocm_core::Core;
 use iocm_plant::Plant;
-use iocm_trial_machines::{
-    Change, Deck, Plan, device, gone, look_at_last, name, sees_alike, subchannel,
-};
-use iocm_types::Order::{Cancel, Start, Store, Test};
-use iocm_types::{Answer, At, Chpid, Css, Key, Rule};
+use iocm_trial_machines::{Deck, look_at_last, sees_alike};
+use iocm_types::Rule;
 use std::alloc::Global;
 use std::test::Fail;
 
-/// Path 51 comes online to LPB.
-pub fn online_51() -> Result<Plan, Fail> {
-    let key = Key::Online(Css::FIRST, Chpid::new(0x51), name(b"LPB")?);
-    Ok(Plan::One(Change::Add(Deck::Online, key)))
-}
+const LAST_UNDONE_IS_REDONE_FIRST: &[Act] = &[
+    (Activate(One(Goes(0x1001))), Changed(1)),
+    (Activate(One(Comes(Deck::New, 0x2000))), Changed(2)),
+    (Order(There(1, 1), Store), Fresh(0x2000, 0xC0)),
+    (Undo(1), RefusedFor(Rule::J2, 2)),
+    (Undo(2), Undone(2)),
+    (Undo(1), Undone(1)),
+    (Order(There(1, 1), Store), Fresh(0x1001, 0xC0)),
+    (Redo(2), Refused(Rule::J3)),
+    (Redo(1), Redone(1)),
+    (Redo(2), Redone(2)),
+    (Order(There(1, 1), Store), Fresh(0x2000, 0xC0)),
+];
 
 #[test]
 fn the_last_one_undone_is_redone_first(rt: HostRuntime) -> Result<(), Fail> {
-    let there = subchannel(1, 1)?;
-    let add = Plan::One(Change::Add(Deck::New, device(0x2000)));
-    let acts = [
-        gives(Ask::Activate(Plan::One(gone(0x1001))), Answer::Changed(1)),
-        gives(Ask::Activate(add), Answer::Changed(2)),
-        gives(Ask::Order(there, Store), fresh(0x2000, 0xC0)),
-        gives(Ask::Undo(1), refused(Rule::J2, At::Change(2))),
-        gives(Ask::Undo(2), Answer::Undone(2)),
-        gives(Ask::Undo(1), Answer::Undone(1)),
-        gives(Ask::Order(there, Store), fresh(0x1001, 0xC0)),
-        gives(Ask::Redo(2), refused(Rule::J3, At::Nothing)),
-        gives(Ask::Redo(1), Answer::Redone(1)),
-        gives(Ask::Redo(2), Answer::Redone(2)),
-        gives(Ask::Order(there, Store), fresh(0x2000, 0xC0)),
-    ];
-    assert_eq!(rt; first_wrong(rt.alloc(), acts.as_slice())?, None);
+    assert_eq!(rt; first_wrong(rt.alloc(), LAST_UNDONE_IS_REDONE_FIRST)?, None);
     Ok(())
 }
 
+const CHOOSE_IS_UNDONE: &[Act] = &[
+    (Order(There(1, 0), Enable(0xC0, 0)), Code(0)),
+    (Order(There(1, 0), Start), Code(0)),
+    (Activate(Choice(Goes(0x1000), Goes(0x1003))), Changed(1)),
+    (Order(There(1, 3), Store), Code(3)),
+    (Undo(1), Undone(1)),
+    (Order(There(1, 3), Store), Fresh(0x1003, 0xC0)),
+];
+
 #[test]
 fn a_choose_is_undone(rt: HostRuntime) -> Result<(), Fail> {
-    let first = subchannel(1, 0)?;
-    let last = subchannel(1, 3)?;
-    let choice = Plan::Choice(gone(0x1000), gone(0x1003));
-    let acts = [
-        gives(enables(first, 0xC0, 0), code(0)),
-        gives(Ask::Order(first, Start), code(0)),
-        gives(Ask::Activate(choice), Answer::Changed(1)),
-        gives(Ask::Order(last, Store), code(3)),
-        gives(Ask::Undo(1), Answer::Undone(1)),
-        gives(Ask::Order(last, Store), fresh(0x1003, 0xC0)),
-    ];
-    assert_eq!(rt; first_wrong(rt.alloc(), acts.as_slice())?, None);
+    assert_eq!(rt; first_wrong(rt.alloc(), CHOOSE_IS_UNDONE)?, None);
     Ok(())
 }
 
 /// LPA uses its subchannel of the device 1002 while 1003 is deleted and comes back.
-pub fn steps_elsewhere(alloc: Global) -> Result<Vec<Act>, Fail> {
-    let there = subchannel(1, 2)?;
-    Ok(vec![in alloc;
-        gives(enables(there, 0x80, 7), code(0)),
-        gives(Ask::Order(there, Start), code(0)),
-        gives(Ask::Activate(Plan::One(gone(0x1003))), Answer::Changed(1)),
-        gives(Ask::DeviceEnd(there), Answer::Ended(true)),
-        gives(Ask::Order(there, Test), started_and_ended()),
-        gives(Ask::Undo(1), Answer::Undone(1)),
-        gives(Ask::Order(there, Store), in_use(0x1002, 0xC0, 0x80, 7)),
-        gives(Ask::Show, shown(12, 8, 0, 1)),
-    ]?)
-}
+pub const STEPS_ELSEWHERE: &[Act] = &[
+    (Order(There(1, 2), Enable(0x80, 7)), Code(0)),
+    (Order(There(1, 2), Start), Code(0)),
+    (Activate(One(Goes(0x1003))), Changed(1)),
+    (DeviceEnd(There(1, 2)), Ended(true)),
+    (Order(There(1, 2), Test), StartEnded),
+    (Undo(1), Undone(1)),
+    (Order(There(1, 2), Store), InUse(0x1002, 0xC0, 0x80, 7)),
+    (Show, Shown(12, 8, 0, 1)),
+];
 
 /// Whether a machine shows what the base machine does when it is opened, live records apart.
 fn looks_like_base(alloc: Global, plant: &Plant) -> Result<bool, Fail> {
@@ -96,87 +87,82 @@ fn are_undone(alloc: Global, acts: &[Act]) -> Result<bool, Fail> {
 
 #[test]
 fn steps_elsewhere_stay_through_an_undo(rt: HostRuntime) -> Result<(), Fail> {
-    let acts = steps_elsewhere(rt.alloc())?;
-    assert!(rt; are_undone(rt.alloc(), acts.as_slice())?);
+    assert!(rt; are_undone(rt.alloc(), STEPS_ELSEWHERE)?);
     Ok(())
 }
+
+const STATUS_IS_PENDING: &[Act] = &[
+    (Order(There(1, 1), Enable(0xC0, 0)), Code(0)),
+    (Order(There(1, 1), Start), Code(0)),
+    (DeviceEnd(There(1, 1)), Ended(true)),
+    (Activate(One(Goes(0x1001))), BusyAtRoot(There(1, 1))),
+    (Order(There(1, 1), Test), StartEnded),
+    (Activate(One(Goes(0x1001))), Changed(1)),
+];
 
 #[test]
 fn a_device_with_status_pending_stays(rt: HostRuntime) -> Result<(), Fail> {
-    let there = subchannel(1, 1)?;
-    let busy = refused_at_root(Rule::B1, At::Subchannel(there));
-    let acts = [
-        gives(enables(there, 0xC0, 0), code(0)),
-        gives(Ask::Order(there, Start), code(0)),
-        gives(Ask::DeviceEnd(there), Answer::Ended(true)),
-        gives(Ask::Activate(Plan::One(gone(0x1001))), busy),
-        gives(Ask::Order(there, Test), started_and_ended()),
-        gives(Ask::Activate(Plan::One(gone(0x1001))), Answer::Changed(1)),
-    ];
-    assert_eq!(rt; first_wrong(rt.alloc(), acts.as_slice())?, None);
+    assert_eq!(rt; first_wrong(rt.alloc(), STATUS_IS_PENDING)?, None);
     Ok(())
 }
+
+const CHANGES_OF_NOTHING: &[Act] = &[
+    (Activate(Nothing), Changed(1)),
+    (Undo(1), Undone(1)),
+    (Activate(NoChoice), RefusedAtRoot(Rule::E3)),
+    (Undo(99), Refused(Rule::J1)),
+    (Activate(Nothing), Changed(2)),
+    (Redo(1), Refused(Rule::J3)),
+    (Redo(99), Refused(Rule::J1)),
+    (Show, Shown(12, 8, 1, 0)),
+];
 
 #[test]
 fn changes_of_nothing_are_undone_too(rt: HostRuntime) -> Result<(), Fail> {
-    let empty = refused_at_root(Rule::E3, At::Nothing);
-    let acts = [
-        gives(Ask::Activate(Plan::Nothing), Answer::Changed(1)),
-        gives(Ask::Undo(1), Answer::Undone(1)),
-        gives(Ask::Activate(Plan::NoChoice), empty),
-        gives(Ask::Undo(99), refused(Rule::J1, At::Nothing)),
-        gives(Ask::Activate(Plan::Nothing), Answer::Changed(2)),
-        gives(Ask::Redo(1), refused(Rule::J3, At::Nothing)),
-        gives(Ask::Redo(99), refused(Rule::J1, At::Nothing)),
-        gives(Ask::Show, shown(12, 8, 1, 0)),
-    ];
-    assert_eq!(rt; first_wrong(rt.alloc(), acts.as_slice())?, None);
+    assert_eq!(rt; first_wrong(rt.alloc(), CHANGES_OF_NOTHING)?, None);
     Ok(())
 }
+
+const PATH_COMES_ONLINE: &[Act] = &[
+    (Order(There(2, 0), Enable(0x40, 0)), Code(0)),
+    (Order(There(2, 0), Start), Code(3)),
+    (Activate(One(PathComesOnline)), Changed(1)),
+    (Order(There(2, 0), Start), Code(0)),
+];
 
 #[test]
 fn a_path_comes_online(rt: HostRuntime) -> Result<(), Fail> {
-    let there = subchannel(2, 0)?;
-    let online = online_51()?;
-    let acts = [
-        gives(enables(there, 0x40, 0), code(0)),
-        gives(Ask::Order(there, Start), code(3)),
-        gives(Ask::Activate(online), Answer::Changed(1)),
-        gives(Ask::Order(there, Start), code(0)),
-    ];
-    assert_eq!(rt; first_wrong(rt.alloc(), acts.as_slice())?, None);
+    assert_eq!(rt; first_wrong(rt.alloc(), PATH_COMES_ONLINE)?, None);
     Ok(())
 }
+
+const LIVE_RECORDS_COME_BACK: &[Act] = &[
+    (Activate(One(PathComesOnline)), Changed(1)),
+    (Order(There(2, 0), Enable(0x40, 9)), Code(0)),
+    (Undo(1), Undone(1)),
+    (Order(There(2, 0), Store), Fresh(0x1000, 0x80)),
+    (Redo(1), Redone(1)),
+    (Order(There(2, 0), Store), InUse(0x1000, 0xC0, 0x40, 9)),
+    (Order(There(2, 0), Start), Code(0)),
+    (Undo(1), Busy(There(2, 0))),
+];
 
 #[test]
 fn live_records_come_back_with_the_redo(rt: HostRuntime) -> Result<(), Fail> {
-    let there = subchannel(2, 0)?;
-    let online = online_51()?;
-    let acts = [
-        gives(Ask::Activate(online), Answer::Changed(1)),
-        gives(enables(there, 0x40, 9), code(0)),
-        gives(Ask::Undo(1), Answer::Undone(1)),
-        gives(Ask::Order(there, Store), fresh(0x1000, 0x80)),
-        gives(Ask::Redo(1), Answer::Redone(1)),
-        gives(Ask::Order(there, Store), in_use(0x1000, 0xC0, 0x40, 9)),
-        gives(Ask::Order(there, Start), code(0)),
-        gives(Ask::Undo(1), refused(Rule::B1, At::Subchannel(there))),
-    ];
-    assert_eq!(rt; first_wrong(rt.alloc(), acts.as_slice())?, None);
+    assert_eq!(rt; first_wrong(rt.alloc(), LIVE_RECORDS_COME_BACK)?, None);
     Ok(())
 }
 
+const CANCELLED_BEFORE_A_CHANGE: &[Act] = &[
+    (Order(There(1, 0), Enable(0xC0, 0)), Code(0)),
+    (Order(There(1, 0), Start), Code(0)),
+    (Activate(One(Goes(0x1000))), BusyAtRoot(There(1, 0))),
+    (Order(There(1, 0), Cancel), Code(0)),
+    (Activate(One(Goes(0x1000))), Changed(1)),
+];
+
 #[test]
 fn a_start_that_is_pending_is_cancelled_before_a_change(rt: HostRuntime) -> Result<(), Fail> {
-    let there = subchannel(1, 0)?;
-    let busy = refused_at_root(Rule::B1, At::Subchannel(there));
-    let acts = [
-        gives(enables(there, 0xC0, 0), code(0)),
-        gives(Ask::Order(there, Start), code(0)),
-        gives(Ask::Activate(Plan::One(gone(0x1000))), busy),
-        gives(Ask::Order(there, Cancel), code(0)),
-        gives(Ask::Activate(Plan::One(gone(0x1000))), Answer::Changed(1)),
-    ];
-    assert_eq!(rt; first_wrong(rt.alloc(), acts.as_slice())?, None);
+    assert_eq!(rt; first_wrong(rt.alloc(), CANCELLED_BEFORE_A_CHANGE)?, None);
     Ok(())
 }

@@ -1,6 +1,7 @@
 //! The core, tried by its calls alone: there is nothing here to call.
 //!
-//! A trial is a list of acts, each a call with the answer that is wanted (`acts.rt`). The worked runs are
+//! A trial is a table of acts, each a call with the answer that is wanted (`acts.rt`), both of plain numbers, which a constant may hold: what is asked
+//! (`asks.rt`), changes (`plans.rt`) and answers (`wanted.rt`). The worked runs are
 //! those of `docs/UNDO.md`: changes that are undone and redone (`histories.rt`), also under later ones (`selective.rt`), changes in stages
 //! (`stages.rt`), and traces that are full (`full.rt`).
 #![tactic(auto)]
@@ -8,10 +9,16 @@
 #[cfg(test)]
 mod acts;
 #[cfg(test)]
+mod asks;
+#[cfg(test)]
 mod full;
 #[cfg(test)]
 mod histories;
 #[cfg(test)]
+mod plans;
+#[cfg(test)]
 mod selective;
 #[cfg(test)]
 mod stages;
+#[cfg(test)]
+mod wanted;

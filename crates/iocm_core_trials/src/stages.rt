@@ -1,111 +1,110 @@
-use crate::acts::{
-    Act, Ask, ask_of, code, enables, first_wrong, first_wrong_of, fresh, gives, in_use, is_base,
-    opened, refused, refused_at_root, sight_of, started_and_ended,
+use crate::acts::{Act, ask_of, first_wrong, first_wrong_of, is_base, opened, sight_of};
+use crate::asks::Ask::{
+    Abort, Activate, Advance, Begin, Commit, DeviceBegin, DeviceEnd, Order, Show, Undo,
 };
-use crate::selective::front;
+use crate::asks::Order::{Cancel, Enable, Start, Store, Test};
+use crate::asks::There;
+use crate::plans::Edit::{Becomes, Goes};
+use crate::plans::Shape;
+use crate::plans::Shape::{Choice, One, Three};
+use crate::selective::FRONT;
+use crate::wanted::Wanted::{
+    Aborted, BusyAtRoot, Changed, Code, Ended, Fresh, Held, InUse, Left, Refused, Staged,
+    StartEnded,
+};
 use iocm_core::Core;
-use iocm_trial_machines::{Change, Deck, Plan, device, gone, subchannel};
-use iocm_types::Order::{Cancel, Start, Store, Test};
-use iocm_types::{Answer, At, Rule};
+use iocm_trial_machines::Deck;
+use iocm_types::{Answer, Rule};
 use std::alloc::Global;
 use std::test::Fail;
 
 /// Two devices exchange their unit addresses in three steps.
-fn exchange() -> Plan {
-    let away = Change::Modify(Deck::Away, device(0x1002));
-    let over = Change::Modify(Deck::Over, device(0x1003));
-    let back = Change::Modify(Deck::Back, device(0x1002));
-    Plan::Three(away, over, back)
-}
+const EXCHANGE: Shape = Three(
+    Becomes(Deck::Away, 0x1002),
+    Becomes(Deck::Over, 0x1003),
+    Becomes(Deck::Back, 0x1002),
+);
 
-/// The answer to a call that has to wait for the end of a change in stages.
-fn staged() -> Answer {
-    refused(Rule::O1, At::Nothing)
-}
+const HELD_UNTIL_ABORTED: &[Act] = &[
+    (Order(There(1, 0), Enable(0xC0, 0)), Code(0)),
+    (Begin(One(Goes(0x1003))), Staged(1)),
+    (Advance, Left(0)),
+    (Order(There(1, 3), Start), Held),
+    (Order(There(1, 0), Start), Code(0)),
+    (Undo(1), Refused(Rule::O1)),
+    (Abort, Aborted),
+    (Order(There(1, 3), Store), Fresh(0x1003, 0xC0)),
+    (Commit, Refused(Rule::O2)),
+];
 
 #[test]
 fn a_change_in_stages_holds_its_subchannels_until_it_is_aborted(
     rt: HostRuntime,
 ) -> Result<(), Fail> {
-    let first = subchannel(1, 0)?;
-    let last = subchannel(1, 3)?;
-    let acts = [
-        gives(enables(first, 0xC0, 0), code(0)),
-        gives(Ask::Begin(Plan::One(gone(0x1003))), Answer::Staged(1)),
-        gives(Ask::Advance, Answer::Left(0)),
-        gives(Ask::Order(last, Start), Answer::Held),
-        gives(Ask::Order(first, Start), code(0)),
-        gives(Ask::Undo(1), staged()),
-        gives(Ask::Abort, Answer::Aborted),
-        gives(Ask::Order(last, Store), fresh(0x1003, 0xC0)),
-        gives(Ask::Commit, refused(Rule::O2, At::Nothing)),
-    ];
-    assert_eq!(rt; first_wrong(rt.alloc(), acts.as_slice())?, None);
+    assert_eq!(rt; first_wrong(rt.alloc(), HELD_UNTIL_ABORTED)?, None);
     Ok(())
 }
+
+const CHOOSE_IS_DECIDED: &[Act] = &[
+    (Order(There(1, 0), Enable(0xC0, 0)), Code(0)),
+    (Order(There(1, 0), Start), Code(0)),
+    (Begin(Choice(Goes(0x1000), Goes(0x1003))), Staged(1)),
+    (DeviceEnd(There(1, 0)), Ended(true)),
+    (Order(There(1, 0), Test), StartEnded),
+    (Commit, Changed(1)),
+    (Order(There(1, 3), Store), Code(3)),
+    (Order(There(1, 0), Store), InUse(0x1000, 0xC0, 0xC0, 0)),
+];
 
 #[test]
 fn a_choose_is_decided_at_its_begin(rt: HostRuntime) -> Result<(), Fail> {
-    let first = subchannel(1, 0)?;
-    let last = subchannel(1, 3)?;
-    let choice = Plan::Choice(gone(0x1000), gone(0x1003));
-    let acts = [
-        gives(enables(first, 0xC0, 0), code(0)),
-        gives(Ask::Order(first, Start), code(0)),
-        gives(Ask::Begin(choice), Answer::Staged(1)),
-        gives(Ask::DeviceEnd(first), Answer::Ended(true)),
-        gives(Ask::Order(first, Test), started_and_ended()),
-        gives(Ask::Commit, Answer::Changed(1)),
-        gives(Ask::Order(last, Store), code(3)),
-        gives(Ask::Order(first, Store), in_use(0x1000, 0xC0, 0xC0, 0)),
-    ];
-    assert_eq!(rt; first_wrong(rt.alloc(), acts.as_slice())?, None);
+    assert_eq!(rt; first_wrong(rt.alloc(), CHOOSE_IS_DECIDED)?, None);
     Ok(())
 }
+
+const EDITS_ARE_COUNTED: &[Act] = &[
+    (Begin(EXCHANGE), Staged(3)),
+    (Advance, Left(2)),
+    (Advance, Left(1)),
+    (Advance, Left(0)),
+    (Advance, Left(0)),
+    (Show, Refused(Rule::O1)),
+    (Commit, Changed(1)),
+];
 
 #[test]
 fn edits_are_counted_down(rt: HostRuntime) -> Result<(), Fail> {
-    let acts = [
-        gives(Ask::Begin(exchange()), Answer::Staged(3)),
-        gives(Ask::Advance, Answer::Left(2)),
-        gives(Ask::Advance, Answer::Left(1)),
-        gives(Ask::Advance, Answer::Left(0)),
-        gives(Ask::Advance, Answer::Left(0)),
-        gives(Ask::Show, staged()),
-        gives(Ask::Commit, Answer::Changed(1)),
-    ];
-    assert_eq!(rt; first_wrong(rt.alloc(), acts.as_slice())?, None);
+    assert_eq!(rt; first_wrong(rt.alloc(), EDITS_ARE_COUNTED)?, None);
     Ok(())
 }
+
+const HELD_BEFORE_IT_COMES: &[Act] = &[
+    (Begin(FRONT), Staged(1)),
+    (Order(There(1, 4), Start), Held),
+    (DeviceEnd(There(1, 4)), Held),
+    (Abort, Aborted),
+    (Order(There(1, 4), Start), Code(3)),
+];
 
 #[test]
 fn a_subchannel_that_is_to_come_is_held(rt: HostRuntime) -> Result<(), Fail> {
-    let there = subchannel(1, 4)?;
-    let acts = [
-        gives(Ask::Begin(front()), Answer::Staged(1)),
-        gives(Ask::Order(there, Start), Answer::Held),
-        gives(Ask::DeviceEnd(there), Answer::Held),
-        gives(Ask::Abort, Answer::Aborted),
-        gives(Ask::Order(there, Start), code(3)),
-    ];
-    assert_eq!(rt; first_wrong(rt.alloc(), acts.as_slice())?, None);
+    assert_eq!(rt; first_wrong(rt.alloc(), HELD_BEFORE_IT_COMES)?, None);
     Ok(())
 }
 
+const CANCELLED_BEFORE_A_BEGIN: &[Act] = &[
+    (Order(There(1, 3), Enable(0xC0, 0)), Code(0)),
+    (Order(There(1, 3), Start), Code(0)),
+    (Begin(One(Goes(0x1003))), BusyAtRoot(There(1, 3))),
+    (Order(There(1, 3), Cancel), Code(0)),
+    (Begin(One(Goes(0x1003))), Staged(1)),
+    (Order(There(1, 3), Cancel), Held),
+    (DeviceBegin(There(1, 3)), Held),
+];
+
 #[test]
 fn a_start_that_is_pending_is_cancelled_before_a_begin(rt: HostRuntime) -> Result<(), Fail> {
-    let there = subchannel(1, 3)?;
-    let busy = refused_at_root(Rule::B1, At::Subchannel(there));
-    let acts = [
-        gives(enables(there, 0xC0, 0), code(0)),
-        gives(Ask::Order(there, Start), code(0)),
-        gives(Ask::Begin(Plan::One(gone(0x1003))), busy),
-        gives(Ask::Order(there, Cancel), code(0)),
-        gives(Ask::Begin(Plan::One(gone(0x1003))), Answer::Staged(1)),
-        gives(Ask::Order(there, Cancel), Answer::Held),
-        gives(Ask::DeviceBegin(there), Answer::Held),
-    ];
-    assert_eq!(rt; first_wrong(rt.alloc(), acts.as_slice())?, None);
+    assert_eq!(rt; first_wrong(rt.alloc(), CANCELLED_BEFORE_A_BEGIN)?, None);
     Ok(())
 }
 
@@ -120,14 +119,14 @@ fn are_without_trace(alloc: Global, acts: &[Act]) -> Result<bool, Fail> {
 /// Aborts a change in stages after these acts.
 fn abort_after(alloc: Global, core: &mut Core, acts: &[Act]) -> Result<bool, Fail> {
     let wrong = first_wrong_of(alloc, core, acts)?;
-    let answer = ask_of(alloc, core, &Ask::Abort)?;
+    let answer = ask_of(alloc, core, &Abort)?;
     Ok(wrong.is_none() && answer == Some(Answer::Aborted))
 }
 
 /// Aborts a change in stages after these acts, and makes a change at once.
 fn is_first_after(alloc: Global, core: &mut Core, acts: &[Act]) -> Result<bool, Fail> {
     let is_aborted = abort_after(alloc, core, acts)?;
-    let answer = ask_of(alloc, core, &Ask::Activate(exchange()))?;
+    let answer = ask_of(alloc, core, &Activate(EXCHANGE))?;
     Ok(is_aborted && answer == Some(Answer::Changed(1)))
 }
 
@@ -145,28 +144,27 @@ fn is_aborted(alloc: Global, acts: &[Act]) -> Result<bool, Fail> {
     Ok(is_aborted && is_base(alloc, &after)?)
 }
 
+const STAGES: &[Act] = &[
+    (Begin(EXCHANGE), Staged(3)),
+    (Advance, Left(2)),
+    (Advance, Left(1)),
+    (Advance, Left(0)),
+];
+
 #[test]
 fn a_change_is_aborted_at_each_stage(rt: HostRuntime) -> Result<(), Fail> {
-    let stages = [
-        gives(Ask::Begin(exchange()), Answer::Staged(3)),
-        gives(Ask::Advance, Answer::Left(2)),
-        gives(Ask::Advance, Answer::Left(1)),
-        gives(Ask::Advance, Answer::Left(0)),
-    ];
     for count in 1..5 {
-        let acts = stages.as_slice().get(..count).ok_or("no such stage")?;
+        let acts = STAGES.get(..count).ok_or("no such stage")?;
         assert!(rt; is_aborted(rt.alloc(), acts)?, "after {count} acts");
         assert!(rt; is_numbered_first(rt.alloc(), acts)?, "after {count} acts");
     }
     Ok(())
 }
 
+const LEFT_STAGED: &[Act] = &[(Begin(One(Goes(0x1003))), Staged(1)), (Advance, Left(0))];
+
 #[test]
 fn what_is_left_staged_is_taken_back_at_the_end(rt: HostRuntime) -> Result<(), Fail> {
-    let acts = [
-        gives(Ask::Begin(Plan::One(gone(0x1003))), Answer::Staged(1)),
-        gives(Ask::Advance, Answer::Left(0)),
-    ];
-    assert!(rt; are_without_trace(rt.alloc(), acts.as_slice())?);
+    assert!(rt; are_without_trace(rt.alloc(), LEFT_STAGED)?);
     Ok(())
 }

@@ -5,7 +5,6 @@ use iocm_records::from_statements;
 use iocm_statements::{Statement, parse};
 use iocm_types::{Fault, Rule};
 use std::alloc::Global;
-use std::test::Fail;
 
 const BASE: &[u8] = b"         RESOURCE PARTITION=((CSS(0),(LPA,1),(LPB,2)))
          CHPID PATH=(CSS(0),50),SHARED,PARTITION=((LPA,LPB),(=))
@@ -101,25 +100,28 @@ const ROWS: &[(&[u8], &[u8])] = &[
     (WHOLE_CANONICAL, WHOLE_CANONICAL),
 ];
 
+fn is_written_as(alloc: Global, deck: &[u8], wanted: &[u8]) -> Result<bool, Fault> {
+    let bytes = canonical(alloc, deck)?;
+    Ok(bytes.as_slice() == wanted)
+}
+
 #[test]
-fn each_deck_is_written_as_its_canonical_deck(rt: HostRuntime) -> Result<(), Fail> {
+fn each_deck_is_written_as_its_canonical_deck(rt: HostRuntime) -> Result<(), Fault> {
     for (deck, wanted) in ROWS {
-        let bytes = canonical(rt.alloc(), deck).map_err(|_| "a fault")?;
-        assert_eq!(rt; bytes.as_slice(), *wanted);
+        assert!(rt; is_written_as(rt.alloc(), deck, wanted)?);
     }
     Ok(())
 }
 
 /// Whether the deck in other forms is written as its canonical deck, or only memory is wanted.
 fn is_whole_or_refused(alloc: Global) -> bool {
-    match canonical(alloc, WHOLE) {
-        Ok(bytes) => bytes.as_slice() == WHOLE_CANONICAL,
+    match is_written_as(alloc, WHOLE, WHOLE_CANONICAL) {
+        Ok(is_whole) => is_whole,
         Err(fault) => fault.rule == Rule::M1,
     }
 }
 
 #[test]
-fn want_of_memory_is_answered_alone(rt: HostRuntime) -> Result<(), Fail> {
+fn want_of_memory_is_answered_alone(rt: HostRuntime) {
     assert!(rt; is_whole_or_refused(rt.alloc()));
-    Ok(())
 }

@@ -1,9 +1,8 @@
 use iocm_columns::Joined;
-use iocm_records::{
-    Carried, DeviceFields, PathFields, Record, RecordBody, UnitFields, from_statements,
-};
+use iocm_record::{Carried, DeviceFields, PathFields, Record, RecordBody, UnitFields};
+use iocm_records::from_statements;
 use iocm_statements::{Statement, parse};
-use iocm_types::{Fault, Link, List, Name, PathKind, Text};
+use iocm_types::{CssLink, CssPath, Fault, Link, List, Name, PathKind, Text, UnitNo, UnitRange};
 use std::alloc::Global;
 use std::process::Abort;
 use std::test::Fail;
@@ -13,19 +12,29 @@ type Line = (&'static [u8], &'static [u8]);
 
 const IMAGES: &[u8] = b"PARTITION=((CSS(0),(LPA,1),(LPB,2)),(CSS(1),(LPC,1)))";
 
-/// A deck of these statements, one a line.
-fn deck(alloc: Global, lines: &[Line]) -> Result<Vec<Statement>, Fault> {
-    let mut joined = Vec::new(alloc);
+fn joined(alloc: Global, line: usize, operation: &[u8], text: &[u8]) -> Result<Joined, Fault> {
+    Ok(Joined {
+        line,
+        name: Text::new(alloc),
+        operation: Text::from_slice(alloc, operation)?,
+        text: Text::from_slice(alloc, text)?,
+    })
+}
+
+/// These statements, one a line.
+fn joined_lines(alloc: Global, lines: &[Line]) -> Result<Vec<Joined>, Fault> {
+    let mut deck = Vec::new(alloc);
     let mut line = 0usize;
     for (operation, text) in lines {
         line = line.saturating_add(1);
-        joined.push(Joined {
-            line,
-            name: Text::new(alloc),
-            operation: Text::from_slice(alloc, operation)?,
-            text: Text::from_slice(alloc, text)?,
-        })?;
+        deck.push(joined(alloc, line, operation, text)?)?;
     }
+    Ok(deck)
+}
+
+/// A deck of these statements, one a line.
+fn deck(alloc: Global, lines: &[Line]) -> Result<Vec<Statement>, Fault> {
+    let joined = joined_lines(alloc, lines)?;
     parse(alloc, joined.as_slice())
 }
 
@@ -53,14 +62,24 @@ fn show_link(text: &mut String, link: Link) -> Result<(), Fail> {
     Ok(())
 }
 
+fn show_text(text: &mut String, part: &Text) -> Result<(), Fail> {
+    let part = str::from_utf8(part.as_slice())?;
+    Ok(write!(text, "{part}")?)
+}
+
+fn show_operand(text: &mut String, operand: &Carried) -> Result<(), Fail> {
+    if let Some(keyword) = operand.keyword() {
+        show_text(text, keyword)?;
+        write!(text, "=")?;
+    }
+    show_text(text, operand.text())
+}
+
 /// What a record carries, each operand between commas as it stands.
 fn show_carried(text: &mut String, carried: &[Carried]) -> Result<(), Fail> {
     for operand in carried {
         write!(text, ",")?;
-        if let Some(keyword) = operand.keyword() {
-            write!(text, "{}=", str::from_utf8(keyword.as_slice())?)?;
-        }
-        write!(text, "{}", str::from_utf8(operand.text().as_slice())?)?;
+        show_operand(text, operand)?;
     }
     Ok(())
 }
@@ -73,27 +92,47 @@ fn show_path(text: &mut String, path: &PathFields) -> Result<(), Fail> {
     show_carried(text, &path.carried)
 }
 
-fn show_unit(text: &mut String, unit: &UnitFields) -> Result<(), Fail> {
-    for path in unit.paths.as_slice() {
+fn show_paths(text: &mut String, paths: &[CssPath]) -> Result<(), Fail> {
+    for path in paths {
         write!(text, " {}.{}", path.css, path.path)?;
     }
-    for range in unit.ranges.as_slice() {
+    Ok(())
+}
+
+fn show_ranges(text: &mut String, ranges: &[UnitRange]) -> Result<(), Fail> {
+    for range in ranges {
         write!(text, " {:02X}+{}", range.start, range.count)?;
     }
-    for css_link in unit.links.as_slice() {
+    Ok(())
+}
+
+fn show_links(text: &mut String, links: &[CssLink]) -> Result<(), Fail> {
+    for css_link in links {
         write!(text, " {}:", css_link.css)?;
         show_link(text, css_link.link)?;
     }
+    Ok(())
+}
+
+fn show_unit(text: &mut String, unit: &UnitFields) -> Result<(), Fail> {
+    show_paths(text, unit.paths.as_slice())?;
+    show_ranges(text, unit.ranges.as_slice())?;
+    show_links(text, unit.links.as_slice())?;
     if let Some(cuadd) = unit.cuadd {
         write!(text, " cuadd {cuadd:02X}")?;
     }
     show_carried(text, &unit.carried)
 }
 
-fn show_device(text: &mut String, device: &DeviceFields) -> Result<(), Fail> {
-    for unit in device.units.as_slice() {
+fn show_units(text: &mut String, units: &[UnitNo]) -> Result<(), Fail> {
+    for unit in units {
         write!(text, " {unit}")?;
     }
+    Ok(())
+}
+
+fn show_device(text: &mut String, device: &DeviceFields) -> Result<(), Fail> {
+    show_units(text, device.units.as_slice())?;
     write!(text, " at {:02X}", device.unit_address)?;
     if let Some(candidates) = &device.candidates {
         write!(text, " for")?;
@@ -102,11 +141,8 @@ fn show_device(text: &mut String, device: &DeviceFields) -> Result<(), Fail> {
     show_carried(text, &device.carried)
 }
 
-/// A record: its key and its fields.
-fn show(text: &mut String, entry: &Record) -> Result<(), Fail> {
-    let key = entry.key();
-    write!(text, "; {key}")?;
-    match entry.body() {
+fn show_body(text: &mut String, body: &RecordBody) -> Result<(), Fail> {
+    match body {
         RecordBody::Image(_, _, name) => Ok(write!(text, " {name}")?),
         RecordBody::Path(path) => show_path(text, path),
         RecordBody::Unit(unit) => show_unit(text, unit),
@@ -118,18 +154,27 @@ fn show(text: &mut String, entry: &Record) -> Result<(), Fail> {
     }
 }
 
-/// The records of a deck behind the first few, or its first fault.
-fn shown(alloc: Global, statements: &[Statement], first: usize) -> Result<String, Fail> {
+/// A record: its key and its fields.
+fn show(text: &mut String, entry: &Record) -> Result<(), Fail> {
+    let key = entry.key();
+    write!(text, "; {key}")?;
+    show_body(text, entry.body())
+}
+
+fn shown_records(alloc: Global, records: &[Record], first: usize) -> Result<String, Fail> {
     let mut text = String::new(alloc);
-    match from_statements(alloc, statements) {
-        Ok(records) => {
-            for entry in records.iter().skip(first) {
-                show(&mut text, entry)?;
-            }
-        }
-        Err(fault) => write!(text, "{} line {}", fault.rule, fault.line)?,
+    for entry in records.iter().skip(first) {
+        show(&mut text, entry)?;
     }
     Ok(text)
+}
+
+/// The records of a deck behind the first few, or its first fault.
+fn shown(alloc: Global, statements: &[Statement], first: usize) -> Result<String, Fail> {
+    match from_statements(alloc, statements) {
+        Ok(records) => shown_records(alloc, records.as_slice(), first),
+        Err(fault) => Ok(format!(in alloc; "{} line {}", fault.rule, fault.line)?),
+    }
 }
 
 /// The same of a deck of these statements.

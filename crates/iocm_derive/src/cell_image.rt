@@ -5,7 +5,7 @@ ghost use Rattle.iocm_model.specs.Machine.Mask.{installed};
 ghost use Rattle.iocm_model.specs.Machine.PathList.{path_list, view_paths};
 ghost use Rattle.iocm_model.specs.Machine.Sight as sight;
 ghost use Rattle.iocm_model.specs.Machine.View as model;
-ghost use Rattle.iocm_records.specs.Meaning.{device_of};
+ghost use Rattle.iocm_record.specs.Meaning.{device_of};
 
 use crate::cell_sight::CellSight;
 use crate::lookup::is_path_online;
@@ -14,7 +14,7 @@ use crate::paths::copy_paths;
 use crate::reach::Reach;
 use crate::sight::{is_candidate, reaches_units};
 use iocm_config::Config;
-use iocm_records::DeviceFields;
+use iocm_record::DeviceFields;
 use iocm_types::{Chpid, Css, Mask, Name, Paths, UnitNo, View};
 use std::alloc::Allocator;
 

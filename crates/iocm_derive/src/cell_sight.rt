@@ -2,7 +2,7 @@ ghost use Rattle.std.specs.Prelude.{◌≡◌, IfSome};
 ghost use Rattle.std.specs.Option.{option_copied, option_map};
 ghost use Rattle.iocm_model.specs.Machine.Configuration.{lookup_of};
 ghost use Rattle.iocm_model.specs.Machine.Sight as sight;
-ghost use Rattle.iocm_records.specs.Meaning.{device_of};
+ghost use Rattle.iocm_record.specs.Meaning.{device_of};
 ghost use Rattle.iocm_derive.specs.SightedCells.{sighted_cell, cell_device, seen_there};
 
 use crate::cell_image::view_in_cell;
@@ -11,7 +11,7 @@ use crate::path_records::{PathRecord, path_records};
 use crate::paths::paths_of_device;
 use iocm_config::Config;
 use iocm_numbers::Numbers;
-use iocm_records::DeviceFields;
+use iocm_record::DeviceFields;
 use iocm_types::{Chpid, Name, NumberCell, Paths, View};
 use std::alloc::Allocator;
 use std::marker::Model;
@@ -38,7 +38,7 @@ impl<'a, A: Allocator> Model for CellSight<'a, A> {
     ghost use Rattle.iocm_types.specs.declared.place.NumberCell as place;
     ghost use Rattle.iocm_model.specs.Machine.Record.{DeviceRecord};
     ghost use Rattle.iocm_model.specs.Machine.Configuration.{Configuration, lookup_of};
-    ghost use Rattle.iocm_records.specs.Meaning.{device_of};
+    ghost use Rattle.iocm_record.specs.Meaning.{device_of};
     ghost use Rattle.iocm_derive.specs.Derived.{paths_of};
     ghost use Rattle.iocm_derive.specs.SightedCells.{SightedCell, IsRecordOf};
     ghost use Rattle.std.specs.Prelude as std_words;

@@ -2,14 +2,14 @@ ghost use Rattle.std.specs.Prelude.{◌≡◌};
 ghost use Rattle.std.specs.Option.{option_copied, option_map};
 ghost use Rattle.iocm_model.specs.Machine.Configuration.{lookup_of};
 ghost use Rattle.iocm_model.specs.Machine.View as model;
-ghost use Rattle.iocm_records.specs.Meaning.{device_of};
+ghost use Rattle.iocm_record.specs.Meaning.{device_of};
 
 use crate::lookup::{device_under, find_device, walk_behind, walk_devices};
 use crate::path_tables::{PathTables, path_tables};
 use crate::reach::{ImageRecords, Reach};
 use crate::units_view::{UnitsView, are_same, units_view, view_by};
 use iocm_config::Config;
-use iocm_records::{DeviceFields, Record};
+use iocm_record::{DeviceFields, Record};
 use iocm_table::Rows;
 use iocm_types::{Chpid, Css, DevNo, Image, Key, Mask, Name, Paths, SetNo, View};
 use std::alloc::Allocator;

@@ -6,13 +6,13 @@ ghost use Rattle.iocm_model.specs.Machine.Mask.{is_online};
 ghost use Rattle.iocm_model.specs.Machine.Record.{path};
 ghost use Rattle.iocm_model.specs.Machine.Sight.{reaches, record_lists};
 ghost use Rattle.iocm_model.specs.Machine.View.{device_record};
-ghost use Rattle.iocm_records.specs.Meaning as meaning;
+ghost use Rattle.iocm_record.specs.Meaning as meaning;
 ghost use Rattle.iocm_derive.specs.Derived.{all_paths, image_name, name_at};
 ghost use Rattle.iocm_derive.specs.Sighted.{AreOf};
 
 use crate::sight::has_name;
 use iocm_config::Config;
-use iocm_records::{DeviceFields, PathFields, Record, RecordBody};
+use iocm_record::{DeviceFields, PathFields, Record, RecordBody};
 use iocm_table::Rows;
 use iocm_types::{Chpid, Css, CssPath, DevNo, Image, Key, Name, SetNo, UnitNo};
 use std::alloc::Allocator;

@@ -3,7 +3,7 @@ ghost use Rattle.std.specs.List.{AllByRecursion};
 ghost use Rattle.iocm_derive.specs.SightedCells.{IsRecordOf};
 
 use iocm_config::Config;
-use iocm_records::Record;
+use iocm_record::Record;
 use iocm_types::{Chpid, Css, Key, Paths};
 use std::alloc::Allocator;
 

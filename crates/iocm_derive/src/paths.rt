@@ -2,12 +2,12 @@ ghost use Rattle.std.specs.Prelude.{◌≡◌, ◌≤◌, ◌++◌, [], ◌∷�
 ghost use Rattle.std.specs.Option.{option_copied, option_map};
 ghost use Rattle.iocm_model.specs.Machine.Configuration.{lookup_of};
 ghost use Rattle.iocm_model.specs.Machine.PathList.{paths_in, unit_paths, view_paths};
-ghost use Rattle.iocm_records.specs.Meaning.{device_of};
+ghost use Rattle.iocm_record.specs.Meaning.{device_of};
 ghost use Rattle.iocm_derive.specs.Derived.{paths_at, paths_of};
 
 use crate::lookup::{find_device, find_paths};
 use iocm_config::Config;
-use iocm_records::DeviceFields;
+use iocm_record::DeviceFields;
 use iocm_types::{Css, CssPath, DevNo, Paths, SetNo, UnitNo};
 use std::alloc::Allocator;
 

@@ -4,13 +4,13 @@ ghost use Rattle.std.specs.Option.{option_copied};
 ghost use Rattle.iocm_model.specs.Machine.Configuration.{lookup_of};
 ghost use Rattle.iocm_model.specs.Machine.PathList.{path_list, unit_paths, paths_in};
 ghost use Rattle.iocm_model.specs.Machine.Sight as model;
-ghost use Rattle.iocm_records.specs.Meaning.{device_of};
+ghost use Rattle.iocm_record.specs.Meaning.{device_of};
 ghost use Rattle.iocm_derive.specs.Derived.{sees};
 
 use crate::lookup::{find_device, find_image, find_paths};
 use crate::reach::{ImageRecords, Reach};
 use iocm_config::Config;
-use iocm_records::DeviceFields;
+use iocm_record::DeviceFields;
 use iocm_types::{CssPath, DevNo, Image, List, Name, SetNo, UnitNo};
 use std::alloc::Allocator;
 

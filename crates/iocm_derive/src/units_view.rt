@@ -1,14 +1,14 @@
 ghost use Rattle.std.specs.Prelude.{◌≡◌, ◌↔◌, IsTrue};
 ghost use Rattle.iocm_model.specs.Machine.Configuration.{lookup_of};
 ghost use Rattle.iocm_model.specs.Machine.View as model;
-ghost use Rattle.iocm_records.specs.Meaning.{device_of};
+ghost use Rattle.iocm_record.specs.Meaning.{device_of};
 ghost use Rattle.iocm_derive.specs.Sighted.{IsSeenBy};
 
 use crate::masks::{available_paths, installed_paths};
 use crate::paths::{copy_paths, paths_of_units};
 use crate::reach::Reach;
 use crate::sight::{is_candidate, reaches_units};
-use iocm_records::DeviceFields;
+use iocm_record::DeviceFields;
 use iocm_types::{Mask, Paths, UnitNo, View};
 use std::alloc::Allocator;
 

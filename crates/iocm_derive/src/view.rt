@@ -2,7 +2,7 @@ ghost use Rattle.std.specs.Prelude.{◌≡◌};
 ghost use Rattle.std.specs.Option.{option_and_then};
 ghost use Rattle.iocm_model.specs.Machine.Configuration.{lookup_of};
 ghost use Rattle.iocm_model.specs.Machine.View as model;
-ghost use Rattle.iocm_records.specs.Meaning.{device_of};
+ghost use Rattle.iocm_record.specs.Meaning.{device_of};
 
 use crate::lookup::{find_device, find_image};
 use crate::reach::{ImageRecords, Reach};
@@ -10,7 +10,7 @@ use crate::sight::is_candidate;
 use crate::units_view::{units_view, view_by};
 use iocm_config::Config;
 use iocm_numbers::Numbers;
-use iocm_records::DeviceFields;
+use iocm_record::DeviceFields;
 use iocm_types::{Css, DevNo, Image, Name, NumberCell, SetNo, SubId, View};
 use std::alloc::Allocator;
 

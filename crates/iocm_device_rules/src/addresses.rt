@@ -16,7 +16,7 @@ ghost use Rattle.iocm_device_rules.specs.Addresses as addresses;
 
 use iocm_config::Config;
 use iocm_index::Index;
-use iocm_records::{Record, RecordBody};
+use iocm_record::{Record, RecordBody};
 use iocm_types::{Key, Named, UnitNo};
 use std::alloc::Allocator;
 

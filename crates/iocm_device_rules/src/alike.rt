@@ -2,7 +2,7 @@ ghost use Rattle.std.specs.Prelude.{◌≡◌, true};
 ghost use Rattle.std.specs.Option.{option_copied};
 ghost use Rattle.iocm_device_rules.specs.SameUnits.{AreOnSameUnits, units_on};
 
-use iocm_records::{Record, RecordBody};
+use iocm_record::{Record, RecordBody};
 use iocm_types::UnitNo;
 use std::alloc::Allocator;
 

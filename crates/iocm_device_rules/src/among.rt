@@ -15,7 +15,7 @@ use crate::alike::are_on_same_units;
 use iocm_config::Config;
 use iocm_index::Index;
 use iocm_lookup::Wanted;
-use iocm_records::{Record, RecordBody};
+use iocm_record::{Record, RecordBody};
 use iocm_types::{Key, UnitNo};
 use std::alloc::Allocator;
 

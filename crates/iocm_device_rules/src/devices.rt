@@ -4,12 +4,12 @@ ghost use Rattle.iocm_types.specs.declared.key.Key.TheVariants as key;
 ghost use Rattle.iocm_model.specs.Machine.Configuration.{lookup_of};
 ghost use Rattle.iocm_model.specs.Machine.Record.{device};
 ghost use Rattle.iocm_model.specs.Rules.EachRule as model;
-ghost use Rattle.iocm_records.specs.Meaning.{device_of};
+ghost use Rattle.iocm_record.specs.Meaning.{device_of};
 
 use crate::alike::are_on_same_units;
 use iocm_config::Config;
 use iocm_lookup::{Kind, Wanted, is_image};
-use iocm_records::{DeviceFields, Record, RecordBody};
+use iocm_record::{DeviceFields, Record, RecordBody};
 use iocm_types::{Key, List, Name, UnitNo};
 use iocm_unit_rules::is_address_held;
 use std::alloc::Allocator;

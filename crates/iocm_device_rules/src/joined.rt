@@ -9,7 +9,7 @@ ghost use Rattle.iocm_device_rules.specs.Joining.{AreRight, AreJoined, IsWrongWi
 use crate::alike::are_on_same_units;
 use iocm_config::Config;
 use iocm_lookup::{Kind, Wanted};
-use iocm_records::{Record, RecordBody};
+use iocm_record::{Record, RecordBody};
 use iocm_types::{Chpid, CssPath, Key, Paths, UnitNo};
 use std::alloc::Allocator;
 

@@ -13,7 +13,7 @@ ghost use Rattle.iocm_device_rules.specs.Past as past;
 use iocm_config::Config;
 use iocm_lookup::{Kind, Wanted, first_wanted, subsystems};
 use iocm_numbers::Numbers;
-use iocm_records::{Record, RecordBody};
+use iocm_record::{Record, RecordBody};
 use iocm_types::{Css, DevNo, Key, NumberCell, Place, SetNo};
 use std::alloc::Allocator;
 

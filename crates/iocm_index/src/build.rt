@@ -10,7 +10,7 @@ ghost use Rattle.iocm_index.specs.Namings.{namings_of, is_linked, as_row};
 
 use crate::Index;
 use crate::index::naming_at;
-use iocm_records::Record;
+use iocm_record::Record;
 use iocm_table::Table;
 use iocm_types::Naming;
 use std::alloc::{AllocError, Allocator};

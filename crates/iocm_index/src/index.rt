@@ -6,7 +6,7 @@ ghost use Rattle.iocm_types.specs.declared.naming.Naming as naming;
 ghost use Rattle.iocm_model.specs.Machine.Naming.{named_by};
 ghost use Rattle.iocm_index.specs.Namings.{namings_of, is_naming_of, is_linked, HavePlaces};
 
-use iocm_records::Record;
+use iocm_record::Record;
 use iocm_table::Table;
 use iocm_types::Naming;
 use std::alloc::{AllocError, Allocator, Global};

@@ -19,7 +19,7 @@ pub enum Form {
 }
 
 /// A word that a statement knows, and the form that it stands in.
-#[derive(Clone, Copy, Debug)]
+#[derive(Clone, Copy)]
 pub struct Row<'a> {
     /// The keyword, or the bare word.
     pub word: &'a [u8],

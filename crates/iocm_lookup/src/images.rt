@@ -4,7 +4,7 @@ ghost use Rattle.iocm_model.specs.Rules.EachRule as model;
 use crate::kind::Kind;
 use crate::wanted::{Wanted, is_any_wanted};
 use iocm_config::Config;
-use iocm_records::{Record, RecordBody};
+use iocm_record::{Record, RecordBody};
 use iocm_types::{Css, Name};
 use std::alloc::Allocator;
 

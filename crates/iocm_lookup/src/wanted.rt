@@ -8,7 +8,7 @@ ghost use Rattle.iocm_lookup.specs.Kinds as kinds;
 
 use crate::kind::Kind;
 use iocm_config::Config;
-use iocm_records::Record;
+use iocm_record::Record;
 use iocm_types::Key;
 use std::alloc::Allocator;
 

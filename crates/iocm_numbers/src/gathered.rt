@@ -1,13 +1,13 @@
 ghost use Rattle.std.specs.Prelude.{◌≡◌, map, IfOk};
 ghost use Rattle.std.specs.Option.{option_copied, option_map};
 ghost use Rattle.iocm_model.specs.Machine.Configuration.{lookup_of, as_device, devices_of};
-ghost use Rattle.iocm_records.specs.Meaning.{device_of};
+ghost use Rattle.iocm_record.specs.Meaning.{device_of};
 ghost use Rattle.iocm_numbers.specs.Opening.{reach_by, reach_of};
 
 use crate::device_reach::DeviceReach;
 use crate::reached::is_reached;
 use iocm_config::Config;
-use iocm_records::{DeviceFields, Record, RecordBody};
+use iocm_record::{DeviceFields, Record, RecordBody};
 use iocm_types::{Css, UnitNo};
 use std::alloc::{AllocError, Allocator};
 

@@ -4,7 +4,7 @@ ghost use Rattle.iocm_model.specs.Machine.Numbering.{is_empty, is_record_reached
 ghost use Rattle.iocm_model.specs.Machine.PathList.{paths_in, unit_paths, path_list};
 
 use iocm_config::Config;
-use iocm_records::{Record, RecordBody};
+use iocm_record::{Record, RecordBody};
 use iocm_types::{Css, CssPath, Key, Place, UnitNo};
 use std::alloc::Allocator;
 

@@ -10,7 +10,7 @@ use iocm_values::{Value, begins_with_css, css_number, names_of, values};
 use std::alloc::{AllocError, Global};
 
 /// What PARTITION of a CHPID says.
-#[derive(Debug, Drop)]
+#[derive(Drop)]
 pub struct Partition {
     /// The names of the access list, ascending with each once.
     pub access: List<Name>,

@@ -11,7 +11,7 @@ use iocm_values::{Value, count_of, css_number, decimal, hex, set_of_names, unit_
 use std::alloc::{AllocError, Global};
 
 /// The devices of a statement: the number of the first, and how many there are.
-#[derive(Clone, Copy, Debug)]
+#[derive(Clone, Copy)]
 pub struct Devices {
     /// The number of the first, at most FFFF.
     pub first: u32,

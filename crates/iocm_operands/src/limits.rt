@@ -13,7 +13,7 @@ use std::alloc::{AllocError, Global};
 use std::marker::Model;
 
 /// Below which number the subchannels of a set stay in a channel subsystem. Contracts see the model's record.
-#[derive(Clone, Copy, Debug)]
+#[derive(Clone, Copy)]
 pub struct LimitEntry {
     /// The channel subsystem.
     pub css: Css,
@@ -34,7 +34,7 @@ impl Model for LimitEntry {
 }
 
 /// A place of MAXDEV: a limit in a channel subsystem, if one is written there.
-#[derive(Clone, Copy, Debug)]
+#[derive(Clone, Copy)]
 pub struct LimitPlace {
     /// The channel subsystem.
     pub css: Css,

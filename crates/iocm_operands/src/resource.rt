@@ -13,7 +13,7 @@ use std::alloc::{AllocError, Global};
 use std::marker::Model;
 
 /// An image of the machine. Contracts see the model's record.
-#[derive(Clone, Copy, Debug)]
+#[derive(Clone, Copy)]
 pub struct ImageEntry {
     /// Its channel subsystem.
     pub css: Css,
@@ -34,7 +34,7 @@ impl Model for ImageEntry {
 }
 
 /// A place of PARTITION: an image ID of a channel subsystem, and the image's name, if it has one.
-#[derive(Clone, Copy, Debug)]
+#[derive(Clone, Copy)]
 pub struct ImagePlace {
     /// The channel subsystem.
     pub css: Css,

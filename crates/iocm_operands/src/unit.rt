@@ -25,7 +25,7 @@ fn path_item(css: Css, value: Value) -> Option<CssPath>
 }
 
 // A path of a control unit, as an item of its list. Contracts see the path.
-#[derive(Clone, Copy, Debug)]
+#[derive(Clone, Copy)]
 struct PathItem {
     path: CssPath,
 }
@@ -119,7 +119,7 @@ fn link_item(css: Css, value: Value) -> Option<CssLink>
 }
 
 // A link of a control unit, as an item of its list. Contracts see the link.
-#[derive(Clone, Copy, Debug)]
+#[derive(Clone, Copy)]
 struct LinkItem {
     link: CssLink,
 }

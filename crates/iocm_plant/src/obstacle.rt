@@ -6,7 +6,7 @@ use iocm_types::{At, Refused, Rule};
 use std::alloc::AllocError;
 
 /// What stands in the way of a call: a refusal, or want of memory. The word is own.
-#[derive(Clone, Copy, Debug)]
+#[derive(Clone, Copy)]
 pub enum Obstacle {
     Refused(Refused),
     NoMemory,

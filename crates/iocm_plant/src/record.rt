@@ -10,7 +10,7 @@ ghost use Rattle.iocm_plant.specs.Operating.{HasPlaceIn, HasNamingRoom};
 
 use iocm_config::Config;
 use iocm_index::Index;
-use iocm_records::Record;
+use iocm_record::Record;
 use iocm_tree::Action;
 use iocm_types::Key;
 

@@ -2,4 +2,3 @@ pub mod Carrying
 pub mod Claiming
 pub mod Machine
 pub mod Places
-pub mod Rows

@@ -3,8 +3,8 @@ ghost use Rattle.iocm_types.specs.Fault.{Gives};
 ghost use Rattle.iocm_records.specs.ChpidRecords as meaning;
 
 use crate::operands::carried_by;
-use crate::{Carried, PathFields, Record, RecordBody};
 use iocm_operands::{ImageEntry, Partition, names_in, partition_of, path_of};
+use iocm_record::{Carried, PathFields, Record, RecordBody};
 use iocm_statements::{Operands, Operation, or_malformed};
 use iocm_types::{Chpid, Css, CssPath, Fault, List, Name, PathKind};
 use iocm_values::Value;

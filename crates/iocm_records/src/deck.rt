@@ -3,11 +3,11 @@ ghost use Rattle.iocm_types.specs.Fault.{Gives};
 ghost use Rattle.iocm_model.specs.Machine.Configuration.{HasNoKeyTwice};
 ghost use Rattle.iocm_records.specs.Deck as deck;
 
-use crate::Record;
 use crate::progress::{Progress, is_resource};
 use crate::statements::statement_records;
 use iocm_keywords::{has_left_out, has_other_form, lacks_required};
 use iocm_operands::{ImageEntry, images_of};
+use iocm_record::Record;
 use iocm_statements::{Operation, Statement, Unread};
 use iocm_types::{Fault, Rule};
 use iocm_values::Value;

@@ -1,12 +1,11 @@
 ghost use Rattle.std.specs.Prelude.{◌≡◌, ◌≤◌, ◌<◌, ◌+◌, map, IfOk, IfSome};
 ghost use Rattle.iocm_types.specs.Fault.{Gives};
 ghost use Rattle.iocm_records.specs.DeviceRecords as meaning;
-ghost use Rattle.iocm_records.specs.Meaning.{device_of};
+ghost use Rattle.iocm_record.specs.Meaning.{device_of};
 
-use crate::copies::copy_device;
 use crate::operands::carried_by;
-use crate::{DeviceFields, Record, RecordBody};
 use iocm_operands::{Devices, candidates_of, devices_of, first_address, set_of, units_of};
+use iocm_record::{DeviceFields, Record, RecordBody, copy_device};
 use iocm_statements::{Operands, Operation, or_malformed};
 use iocm_types::{DevNo, Fault, List, Name, SetNo, UnitNo};
 use iocm_values::Value;

@@ -1,8 +1,8 @@
 ghost use Rattle.std.specs.Prelude.{◌≡◌, IfOk, map, filter};
 ghost use Rattle.iocm_records.specs.Values.{as_carried, carried_by};
 
-use crate::Carried;
 use iocm_keywords::is_carried;
+use iocm_record::Carried;
 use iocm_statements::{OperandKey, Operands, Operation};
 use iocm_types::Text;
 use std::alloc::{AllocError, Global};

@@ -9,7 +9,7 @@ ghost use Rattle.iocm_records.specs.Deck as deck;
 ghost use Rattle.iocm_records.specs.Deck.{with_records, with_statement, nothing_read};
 ghost use Rattle.iocm_records.specs.Progress.{has_claimed, IsKept};
 
-use crate::Record;
+use iocm_record::Record;
 use iocm_statements::Operation;
 use iocm_types::{Fault, Key};
 use std::alloc::{AllocError, Global};
@@ -62,7 +62,7 @@ pub fn is_resource(operation: Operation) -> bool
 
 /// What was read of a deck so far: whether there was an ID and a RESOURCE statement, and the records, no two of
 /// one key.
-#[derive(Debug, Drop)]
+#[derive(Drop)]
 pub struct Progress {
     has_id: bool,
     has_resource: bool,

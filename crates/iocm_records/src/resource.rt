@@ -4,8 +4,8 @@ ghost use Rattle.iocm_model.specs.Machine.Record.{image, limit};
 ghost use Rattle.iocm_records.specs.ResourceRecords as meaning;
 
 use crate::operands::carried_by;
-use crate::{Carried, Record, RecordBody};
 use iocm_operands::{ImageEntry, LimitEntry, images_of, limits_of};
+use iocm_record::{Carried, Record, RecordBody};
 use iocm_statements::{Operands, Operation, or_malformed};
 use iocm_types::Fault;
 use iocm_values::Value;

@@ -1,11 +1,11 @@
 ghost use Rattle.std.specs.Prelude.{◌≡◌, [], ◌∷◌, IfOk};
 ghost use Rattle.iocm_types.specs.Fault.{Gives};
-ghost use Rattle.iocm_records.specs.Meaning.{unit_of};
+ghost use Rattle.iocm_record.specs.Meaning.{unit_of};
 ghost use Rattle.iocm_records.specs.UnitRecords as meaning;
 
 use crate::operands::carried_by;
-use crate::{Record, RecordBody, UnitFields};
 use iocm_operands::{all_addresses, cuadd_of, links_of, number_of, paths_of, ranges_of};
+use iocm_record::{Record, RecordBody, UnitFields};
 use iocm_statements::{Operands, Operation, or_malformed};
 use iocm_types::{CssLink, CssPath, Fault, List, UnitNo, UnitRange};
 use iocm_values::Value;

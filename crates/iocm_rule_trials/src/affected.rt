@@ -1,7 +1,7 @@
 use iocm_affected::{Affected, affected_by};
 use iocm_config::Config;
 use iocm_lookup::index_of;
-use iocm_records::{Record, RecordBody};
+use iocm_record::{Record, RecordBody};
 use iocm_trial_decks::{configuration, name};
 use iocm_types::{Chpid, Css, DevNo, Image, Key, Mif, Place, SetNo, UnitNo};
 use std::alloc::Global;

@@ -5,7 +5,7 @@ ghost use Rattle.iocm_rules.specs.Near.{is_near_key, KeptBut};
 use iocm_config::Config;
 use iocm_lookup::index_of;
 use iocm_numbers::{Numbers, opening};
-use iocm_records::Record;
+use iocm_record::Record;
 use iocm_rules::{Breach, check, check_near};
 use iocm_trial_decks::{configuration, device, entry, name};
 use iocm_types::{Chpid, Css, Key, Rule};

@@ -1,6 +1,6 @@
 use iocm_config::Config;
 use iocm_lookup::{Kind, Wanted, is_any_wanted};
-use iocm_records::{Record, RecordBody};
+use iocm_record::{Record, RecordBody};
 use iocm_types::{Key, Name};
 use std::alloc::Allocator;
 

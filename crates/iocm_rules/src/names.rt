@@ -4,7 +4,7 @@ ghost use Rattle.iocm_model.specs.Rules.EachRule as model;
 
 use iocm_config::Config;
 use iocm_lookup::{Kind, Wanted, is_image_in};
-use iocm_records::{Record, RecordBody};
+use iocm_record::{Record, RecordBody};
 use iocm_types::{Css, Name, PathKind};
 use std::alloc::Allocator;
 

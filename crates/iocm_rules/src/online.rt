@@ -14,7 +14,7 @@ ghost use Rattle.iocm_rules.specs.Onlines as onlines;
 use iocm_config::Config;
 use iocm_index::Index;
 use iocm_lookup::{Kind, Wanted};
-use iocm_records::{PathFields, Record, RecordBody};
+use iocm_record::{PathFields, Record, RecordBody};
 use iocm_types::{Chpid, Css, Key, Name, Named, PathKind};
 use std::alloc::Allocator;
 

@@ -10,9 +10,9 @@ use Rattle.std.specs.FinMap.{entries}
 use Rattle.iocm_types.specs.declared.place.NumberCell.{NumberCell}
 use Rattle.iocm_types.specs.declared.sub_id.SubId.{SubId}
 use Rattle.iocm_types.specs.declared.view.View.{View}
-use Rattle.iocm_records.specs.declared.record.RecordBody.{RecordBody}
-use Rattle.iocm_records.specs.declared.record.RecordBody.TheVariants as body
-use Rattle.iocm_records.specs.Meaning.{record_of}
+use Rattle.iocm_record.specs.declared.record.RecordBody.{RecordBody}
+use Rattle.iocm_record.specs.declared.record.RecordBody.TheVariants as body
+use Rattle.iocm_record.specs.Meaning.{record_of}
 use Rattle.iocm_model.specs.Machine.Record.{Rec, ImageRecord, image}
 use Rattle.iocm_model.specs.Machine.Configuration.{Configuration, Lookup, lookup_of, as_image, records_of}
 use Rattle.iocm_model.specs.Machine.Numbering.{Numbering, cells_of}

@@ -4,7 +4,7 @@ use iocm_types::{Chpid, DevNo, Mask, Paths, View};
 use std::marker::Model;
 
 /// A view in 14 bytes, as a table of millions keeps it. Contracts see the view.
-#[derive(Debug, Drop)]
+#[derive(Drop)]
 pub struct CompactView {
     device: DevNo,
     /// The paths, and 00 behind them.

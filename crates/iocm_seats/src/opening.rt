@@ -13,7 +13,7 @@ use iocm_config::Config;
 use iocm_derive::ImageSight;
 use iocm_live::fresh;
 use iocm_numbers::Numbers;
-use iocm_records::{Record, RecordBody};
+use iocm_record::{Record, RecordBody};
 use iocm_table::Table;
 use iocm_types::{DevNo, Image, NumberCell, SubId};
 use std::alloc::{AllocError, Allocator};

@@ -2,7 +2,7 @@ use crate::CompactView;
 use iocm_types::Live;
 
 /// What is kept at a subchannel that is there: what its image sees there, and its live record. The word is own.
-#[derive(Debug, Drop)]
+#[derive(Drop)]
 pub struct Seat {
     /// What the image sees.
     pub view: CompactView,

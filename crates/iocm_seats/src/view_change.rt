@@ -1,7 +1,7 @@
 use iocm_types::{SubId, View};
 
 /// That a change alters a subchannel: what its image saw there, and what it sees there afterwards. The word is own.
-#[derive(Debug, Drop)]
+#[derive(Drop)]
 pub struct ViewChange {
     /// The subchannel.
     pub subchannel: SubId,

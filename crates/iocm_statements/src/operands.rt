@@ -27,7 +27,7 @@ impl OperandKey {
 }
 
 /// The operands of a statement in their order. Contracts see the list of keys and texts.
-#[derive(Debug, Drop)]
+#[derive(Drop)]
 pub struct Operands {
     map: IndexMap<OperandKey, Text>,
 }

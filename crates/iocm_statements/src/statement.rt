@@ -2,7 +2,7 @@ use crate::{Operands, Operation};
 use iocm_types::Text;
 
 /// A statement of a deck, as `parse` gives it.
-#[derive(Debug, Drop)]
+#[derive(Drop)]
 pub struct Statement {
     /// The name field, which configuration decks ignore.
     pub name: Text,

@@ -2,7 +2,7 @@ ghost use Rattle.std.specs.Prelude.{OnOk};
 ghost use Rattle.iocm_index.specs.Namings.{namings_of, HavePlaces};
 
 use iocm_index::{Index, list_namings};
-use iocm_records::{DeviceFields, Record, RecordBody};
+use iocm_record::{DeviceFields, Record, RecordBody};
 use iocm_types::{Chpid, Css, DevNo, Key, List, Name, Named, Naming, SetNo, UnitNo};
 use std::alloc::{AllocError, Global};
 use std::test::Fail;
@@ -27,17 +27,18 @@ fn units_of(alloc: Global, numbers: &[u16]) -> Result<List<UnitNo>, Fail> {
     Ok(List::from_vec(listed))
 }
 
-/// The device of a number, with these control units.
-fn device_of(alloc: Global, number: u16, units: &[u16]) -> Result<Record, Fail> {
+/// The device of a number, with these control units. It is boxed, since whoever holds a record itself is slow to prove.
+fn device_of(alloc: Global, number: u16, units: &[u16]) -> Result<Box<Record>, Fail> {
     let units = units_of(alloc, units)?;
-    Ok(Record::new(RecordBody::Device(DeviceFields {
+    let fields = DeviceFields {
         set: SetNo::FIRST,
         number: DevNo::new(number),
         units,
         unit_address: 0,
         candidates: None,
         carried: Vec::new(alloc),
-    })))
+    };
+    Ok(Box::new(alloc, Record::new(RecordBody::Device(fields)))?)
 }
 
 /// Makes room for a record, and links it.
@@ -51,7 +52,8 @@ fn add(index: &mut Index, entry: &Record) -> Result<(), AllocError>
 
 /// Makes room for a device with these control units, and links it.
 fn add_device(alloc: Global, index: &mut Index, number: u16, units: &[u16]) -> Result<(), Fail> {
-    add(index, &device_of(alloc, number, units)?)?;
+    let entry = device_of(alloc, number, units)?;
+    add(index, &entry)?;
     Ok(())
 }
 
@@ -92,7 +94,8 @@ fn list_of(
     number: u16,
     units: &[u16],
 ) -> Result<(), Fail> {
-    list_namings(namings, &device_of(alloc, number, units)?)?;
+    let entry = device_of(alloc, number, units)?;
+    list_namings(namings, &entry)?;
     Ok(())
 }
 
@@ -135,12 +138,18 @@ fn what_nobody_names_has_no_users(rt: HostRuntime) -> Result<(), Fail> {
     Ok(())
 }
 
+/// Unlinks a device with these control units.
+fn unlink_device(alloc: Global, index: &mut Index, number: u16, units: &[u16]) -> Result<(), Fail> {
+    let entry = device_of(alloc, number, units)?;
+    index.unlink(&entry);
+    Ok(())
+}
+
 #[test]
 fn a_record_that_is_unlinked_names_nothing(rt: HostRuntime) -> Result<(), Fail> {
     let named = unit(0x1000)?;
-    let entry = device_of(rt.alloc(), 0x4000, &[0x1000])?;
     let mut index = two_devices(rt.alloc())?;
-    index.unlink(&entry);
+    unlink_device(rt.alloc(), &mut index, 0x4000, &[0x1000])?;
     assert_eq!(rt;
         first_users(&index, named),
         [Some(device(0x4001)), None, None]
@@ -169,18 +178,19 @@ fn what_was_unlinked_is_linked_again_without_room(rt: HostRuntime) -> Result<(),
     Ok(())
 }
 
-/// Makes room for a record, and links it.
-fn add_online(index: &mut Index, body: RecordBody) -> Result<(), AllocError> {
-    add(index, &Record::new(body))
+/// Makes room for the record that the path 50 is online to an image, and links it.
+fn add_online(alloc: Global, index: &mut Index, name: Name) -> Result<(), AllocError> {
+    let body = RecordBody::Online(Css::FIRST, Chpid::new(0x50), name);
+    let entry = Box::new(alloc, Record::new(body))?;
+    add(index, &entry)
 }
 
 #[test]
 fn an_image_has_users(rt: HostRuntime) -> Result<(), Fail> {
     let name = Name::new(b"LPA").ok_or("LPA")?;
-    let (css, path) = (Css::FIRST, Chpid::new(0x50));
+    let online = Key::Online(Css::FIRST, Chpid::new(0x50), name);
     let mut index = Index::new(rt.alloc());
-    add_online(&mut index, RecordBody::Online(css, path, name))?;
-    let online = Key::Online(css, path, name);
+    add_online(rt.alloc(), &mut index, name)?;
     assert_eq!(rt;
         first_users(&index, Named::Image(name)),
         [Some(online), None, None]

@@ -4,12 +4,12 @@ ghost use Rattle.iocm_model.specs.Change.Edit.{action_key, record_after};
 ghost use Rattle.iocm_tree.specs.Carried.{action_of, verb_of};
 
 use crate::Verb;
-use iocm_records::Record;
+use iocm_record::Record;
 use iocm_types::Key;
 use std::alloc::{AllocError, Allocator, Global};
 
 /// What an edit does with one record of a configuration, with the record's memory. The word is own.
-#[derive(Debug, Drop)]
+#[derive(Drop)]
 pub enum Action<A: Allocator = Global> {
     /// This record is added.
     Add(Record<A>),

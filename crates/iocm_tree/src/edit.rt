@@ -6,13 +6,13 @@ ghost use Rattle.iocm_model.specs.Change.Edit as edits;
 ghost use Rattle.iocm_tree.specs.Carried.{action_of, AreInOrder, bare, carried_of, HasOrder, verb_of};
 
 use crate::{Action, Verb};
-use iocm_records::Record;
+use iocm_record::Record;
 use iocm_types::{Key, Live, Place, SubId};
 use std::alloc::{AllocError, Allocator, Global};
 use std::marker::Model;
 
 /// What an edit is made of, with its memory.
-#[derive(Debug, Drop)]
+#[derive(Drop)]
 pub struct Parts<A: Allocator = Global> {
     /// What it does with one record.
     pub action: Action<A>,
@@ -31,7 +31,7 @@ pub struct Parts<A: Allocator = Global> {
 /// room for its way back, which is filled without memory when it is performed. An edit made by hand has no room. Contracts
 /// see it as the model's edit, with the numbers that it frees and the subchannels whose live records it has room for,
 /// whatever its allocator. The room is own.
-#[derive(Debug, Drop)]
+#[derive(Drop)]
 pub struct Edit<A: Allocator = Global> {
     parts: Parts<A>,
 }

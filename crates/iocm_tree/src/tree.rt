@@ -26,7 +26,6 @@ const MOST_LEAVES: u32 = 4096;
 /// A change tree: edits of a machine's configuration, and what is done with them together. A leaf has depth 1, as a node
 /// without parts; nodes are numbered in preorder from 0. Contracts see it by `tree_of` as a tree of edits with their room for
 /// the way back, and by `plain_tree` of that as the model's change tree, whatever its allocator. The words are own.
-#[derive(Debug)]
 pub enum Tree<A: Allocator = Global> {
     /// One edit.
     Leaf(Edit<A>),

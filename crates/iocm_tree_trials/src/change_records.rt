@@ -1,6 +1,6 @@
 use iocm_change_records::{keys_of, records_of};
 use iocm_columns::Joined;
-use iocm_records::{PathFields, Record, RecordBody};
+use iocm_record::{PathFields, Record, RecordBody};
 use iocm_statements::{Statement, parse};
 use iocm_types::{Fault, Key, List, Name, PathKind, Text};
 use std::alloc::Global;

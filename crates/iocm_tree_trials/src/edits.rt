@@ -1,7 +1,7 @@
 ghost use Rattle.std.specs.Prelude.{IfOk};
 ghost use Rattle.iocm_tree.specs.Carried.{HasOrder};
 
-use iocm_records::{Record, RecordBody};
+use iocm_record::{Record, RecordBody};
 use iocm_tree::{Action, Edit, Parts, Verb};
 use iocm_types::{Css, DevNo, Image, Key, Live, Mask, Mif, Phase, Place, SetNo, SubId};
 use std::alloc::{AllocError, Global};

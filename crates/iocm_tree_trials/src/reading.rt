@@ -1,10 +1,11 @@
+use crate::shown::{show_edit, shown};
 use iocm_columns::{Device, Joined, join, read_cards};
-use iocm_records::{Record, RecordBody};
+use iocm_record::{Record, RecordBody};
 use iocm_statements::{Statement, parse};
 use iocm_tree::{Edit, Tree};
 use iocm_treetext::read_tree;
 use iocm_types::{Chpid, Css, DevNo, Fault, Key, Name, SetNo, Text, UnitNo};
-use std::alloc::{AllocError, Global};
+use std::alloc::Global;
 use std::test::Fail;
 
 /// The name field of a statement, its operation and its operands.
@@ -27,17 +28,17 @@ fn deck(alloc: Global, lines: &[Line]) -> Result<Vec<Statement>, Fault> {
 }
 
 /// All of a tree as a text, or the fault of the deck.
-fn shown(alloc: Global, read: Result<Tree, Fault>) -> Result<String, AllocError> {
+fn told_of(alloc: Global, read: Result<Tree, Fault>) -> Result<String, Fail> {
     match read {
-        Ok(tree) => format!(in alloc; "{tree:?}"),
-        Err(Fault { rule, line }) => format!(in alloc; "{rule} line {line}"),
+        Ok(tree) => shown(alloc, &tree),
+        Err(Fault { rule, line }) => Ok(format!(in alloc; "{rule} line {line}")?),
     }
 }
 
 /// The same of a change deck of these statements.
 fn answer(alloc: Global, lines: &[Line]) -> Result<String, Fail> {
     let statements = deck(alloc, lines)?;
-    Ok(shown(alloc, read_tree(alloc, alloc, statements.as_slice()))?)
+    told_of(alloc, read_tree(alloc, alloc, statements.as_slice()))
 }
 
 /// The tree of a change deck.
@@ -49,26 +50,26 @@ pub fn read(alloc: Global, deck: &[u8]) -> Result<Tree, Fault> {
     read_tree(alloc, alloc, &statements)
 }
 
-/// A leaf that deletes the device of a number in set 0.
-fn device(alloc: Global, number: u16) -> Tree {
-    Tree::Leaf(Edit::delete(alloc, Key::Device(SetNo::FIRST, DevNo::new(number))))
+/// The edit that deletes the device of a number in set 0.
+fn device(alloc: Global, number: u16) -> Edit {
+    Edit::delete(alloc, Key::Device(SetNo::FIRST, DevNo::new(number)))
 }
 
-/// A leaf that adds the pair of path 51 and the image of a name.
-fn pair(alloc: Global, name: Name) -> Tree {
+/// The edit that adds the pair of path 51 and the image of a name.
+fn pair(alloc: Global, name: Name) -> Edit {
     let body = RecordBody::Online(Css::FIRST, Chpid::new(0x51), name);
-    Tree::Leaf(Edit::add(alloc, Record::new(body)))
+    Edit::add(alloc, Record::new(body))
 }
 
-/// The leaf that a sign stands for: 1 to 4 delete the device of that number, U deletes the control unit 1000, and A and B add the pairs of the
+/// The edit of the leaf that a sign stands for: 1 to 4 delete the device of that number, U deletes the control unit 1000, and A and B add the pairs of the
 /// images LPA and LPB.
-fn leaf(alloc: Global, sign: u8) -> Option<Tree> {
+fn leaf(alloc: Global, sign: u8) -> Option<Edit> {
     match sign {
         b'1' => Some(device(alloc, 1)),
         b'2' => Some(device(alloc, 2)),
         b'3' => Some(device(alloc, 3)),
         b'4' => Some(device(alloc, 4)),
-        b'U' => Some(Tree::Leaf(Edit::delete(alloc, Key::Unit(UnitNo::new(0x1000)?)))),
+        b'U' => Some(Edit::delete(alloc, Key::Unit(UnitNo::new(0x1000)?))),
         b'A' => Some(pair(alloc, Name::new(b"LPA")?)),
         b'B' => Some(pair(alloc, Name::new(b"LPB")?)),
         _ => None,
@@ -80,7 +81,7 @@ fn told(alloc: Global, signs: &[u8]) -> Result<String, Fail> {
     let mut text = String::new(alloc);
     for sign in signs {
         match leaf(alloc, *sign) {
-            Some(leaf) => write!(text, "{leaf:?}")?,
+            Some(edit) => show_edit(&mut text, &edit)?,
             None => text.push(char::from(*sign))?,
         }
     }

@@ -1,5 +1,6 @@
 use crate::reading::read;
-use iocm_records::{Record, RecordBody};
+use crate::shown::shown;
+use iocm_record::{Record, RecordBody};
 use iocm_tree::{Edit, Tree};
 use iocm_types::{At, Css, Key, Refused, Rule, SetNo};
 use std::alloc::{AllocError, Global};
@@ -65,11 +66,6 @@ fn empty_rows(alloc: Global, count: u32) -> Result<Tree, AllocError> {
     Ok(Tree::Row(parts))
 }
 
-/// A tree as a text that tells all of it.
-fn text(alloc: Global, tree: &Tree) -> Result<String, AllocError> {
-    format!(in alloc; "{tree:?}")
-}
-
 /// A refusal that names nothing but the rule.
 fn refused(rule: Rule) -> Option<Refused> {
     Some(Refused {
@@ -83,22 +79,22 @@ fn refused(rule: Rule) -> Option<Refused> {
 fn text_of(alloc: Global, deck: &[u8], is_copied: bool) -> Result<String, Fail> {
     let tree = read(alloc, deck)?;
     if is_copied {
-        Ok(text_of_copy(alloc, &tree)?)
+        text_of_copy(alloc, &tree)
     } else {
-        Ok(text(alloc, &tree)?)
+        shown(alloc, &tree)
     }
 }
 
 /// A tree's copy as a text.
-fn text_of_copy(alloc: Global, tree: &Tree) -> Result<String, AllocError> {
+fn text_of_copy(alloc: Global, tree: &Tree) -> Result<String, Fail> {
     let copy = tree.copy_in(alloc)?;
-    text(alloc, &copy)
+    shown(alloc, &copy)
 }
 
 /// The tree of a deck in reverse order, as a text.
 fn text_of_reversed(alloc: Global, deck: &[u8]) -> Result<String, Fail> {
     let tree = read(alloc, deck)?.reverse();
-    Ok(text(alloc, &tree)?)
+    shown(alloc, &tree)
 }
 
 #[test]

@@ -9,7 +9,7 @@ ghost use Rattle.iocm_tree_writer.specs.Leaves as meaning;
 use crate::operands::{online_statement, path_operand, valued};
 use crate::records::record_statement;
 use iocm_canonical::CanonicalStatement;
-use iocm_records::{Carried, Record, RecordBody};
+use iocm_record::{Carried, Record, RecordBody};
 use iocm_statements::Operation;
 use iocm_types::{Css, DevNo, Key, Mif, SetNo, Text, UnitNo};
 use iocm_values::{CssText, by_css_text, list_text, printed};

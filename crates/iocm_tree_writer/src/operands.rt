@@ -4,7 +4,7 @@ ghost use Rattle.iocm_values.specs.NameSet as names;
 ghost use Rattle.iocm_tree_writer.specs.Leaves as meaning;
 
 use iocm_canonical::CanonicalStatement;
-use iocm_records::Carried;
+use iocm_record::Carried;
 use iocm_statements::Operation;
 use iocm_types::{Chpid, Css, Name, Text};
 use iocm_values::{css_text, list_text, names_text, printed};

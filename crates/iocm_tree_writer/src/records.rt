@@ -3,7 +3,7 @@ ghost use Rattle.iocm_tree_writer.specs.Leaves as meaning;
 
 use crate::operands::online_statement;
 use iocm_canonical::{CanonicalStatement, to_statements};
-use iocm_records::{Record, RecordBody};
+use iocm_record::{Record, RecordBody};
 use iocm_statements::Operation;
 use std::alloc::{AllocError, Allocator, Global};
 

@@ -5,7 +5,7 @@ ghost use Rattle.iocm_tree.specs.Carried.{bare};
 ghost use Rattle.iocm_treetext.specs.Leaves as meaning;
 
 use iocm_change_records::{keys_of, records_of, verb_named};
-use iocm_records::Record;
+use iocm_record::Record;
 use iocm_statements::Statement;
 use iocm_tree::{Edit, Verb};
 use iocm_types::{Fault, Key, Rule};

@@ -7,7 +7,7 @@ use iocm_tree::Tree;
 use std::alloc::{Allocator, Global};
 
 /// A closed node, and its size.
-#[derive(Debug, Drop)]
+#[derive(Drop)]
 pub struct Node<A: Allocator = Global> {
     /// Its tree.
     pub tree: Tree<A>,

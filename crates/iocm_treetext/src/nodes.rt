@@ -7,7 +7,7 @@ use iocm_tree::Tree;
 use std::alloc::{Allocator, Global};
 
 /// Closed nodes beside each other, and their size.
-#[derive(Debug, Drop)]
+#[derive(Drop)]
 pub struct Nodes<A: Allocator = Global> {
     /// Their trees, in order.
     pub trees: Vec<Tree<A>, A>,

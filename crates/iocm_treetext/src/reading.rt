@@ -2,7 +2,7 @@ use crate::{Kind, Nodes};
 use std::alloc::{Allocator, Global};
 
 /// An open node: its statement has come, and its END hasn't.
-#[derive(Debug, Drop)]
+#[derive(Drop)]
 pub struct OpenNode<A: Allocator = Global> {
     /// What it is.
     pub kind: Kind,
@@ -13,7 +13,7 @@ pub struct OpenNode<A: Allocator = Global> {
 }
 
 /// What was read of a change deck so far.
-#[derive(Debug, Drop)]
+#[derive(Drop)]
 pub struct Reading<A: Allocator = Global> {
     /// The nodes at the top that are closed.
     pub top: Nodes<A>,

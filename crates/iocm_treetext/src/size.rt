@@ -4,7 +4,7 @@ ghost use Rattle.iocm_treetext.specs.Sizes as meaning;
 use iocm_types::Rule;
 
 /// How deep trees are and how many leaves they have, each counted up to 4294967295. The word is own.
-#[derive(Clone, Copy, Debug)]
+#[derive(Clone, Copy)]
 pub struct Size {
     /// The depth: a leaf and a node without parts have 1.
     pub depth: u32,

@@ -1,6 +1,7 @@
 use iocm_columns::{Device, join, read_cards};
 use iocm_config::Config;
-use iocm_records::{Record, from_statements};
+use iocm_record::Record;
+use iocm_records::from_statements;
 use iocm_statements::parse;
 use iocm_types::Key;
 use std::alloc::Global;

@@ -1,7 +1,7 @@
 ghost use Rattle.std.specs.Prelude.{◌<◌};
 
 use iocm_plant::Plant;
-use iocm_records::{DeviceFields, PathFields, Record, RecordBody, UnitFields};
+use iocm_record::{DeviceFields, PathFields, Record, RecordBody, UnitFields};
 use iocm_tree::Edit;
 use iocm_trial_decks::name;
 use iocm_types::{Chpid, Css, CssPath, DevNo, List, Mif, PathKind, SetNo, UnitNo, UnitRange};

@@ -1,5 +1,5 @@
 use crate::decks::Deck;
-use iocm_records::Record;
+use iocm_record::Record;
 use iocm_tree::{Edit, Tree};
 use iocm_trial_decks::{device, entry};
 use iocm_types::Key;

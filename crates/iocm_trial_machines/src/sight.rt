@@ -1,6 +1,6 @@
 use iocm_canonical::canonical_deck;
 use iocm_plant::Plant;
-use iocm_records::RecordBody;
+use iocm_record::RecordBody;
 use iocm_types::{DevNo, Image, Key, Live, NumberCell, Place, SubId, View};
 use std::alloc::{AllocError, Global};
 use std::test::Fail;

@@ -1,7 +1,7 @@
 use crate::rounds::{Edits, forth_and_back};
 use iocm_config::Config;
 use iocm_plant::Plant;
-use iocm_records::Record;
+use iocm_record::Record;
 use iocm_tree::Edit;
 use iocm_trial_machines::{LARGE, Sight, draw_edit, look_at, machine, sees_alike};
 use rand_pcg::Pcg32;

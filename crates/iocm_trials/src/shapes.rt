@@ -1,7 +1,7 @@
 use crate::rounds::{Edits, forth_and_back};
 use iocm_config::Config;
 use iocm_plant::Plant;
-use iocm_records::Record;
+use iocm_record::Record;
 use iocm_tree::Edit;
 use iocm_trial_machines::{
     BASE, Sight, configuration, device, image, look_at_last, machine, name, sees_alike, unit,

@@ -4,10 +4,10 @@ ghost use Rattle.iocm_types.specs.declared.link.Link as link_type;
 ghost use Rattle.iocm_types.specs.declared.link.Link.TheVariants as link;
 ghost use Rattle.iocm_model.specs.Rules.EachRule as model;
 ghost use Rattle.iocm_model.specs.Machine.Numbering as numbering;
-ghost use Rattle.iocm_records.specs.Meaning.{unit_of};
+ghost use Rattle.iocm_record.specs.Meaning.{unit_of};
 
 use iocm_lookup::subsystems;
-use iocm_records::UnitFields;
+use iocm_record::UnitFields;
 use iocm_types::{Chpid, Css, CssLink, CssPath, Link};
 use std::alloc::Allocator;
 

@@ -5,7 +5,7 @@ ghost use Rattle.iocm_model.specs.Rules.EachRule as model;
 
 use iocm_config::Config;
 use iocm_lookup::{Kind, Wanted};
-use iocm_records::{Record, RecordBody};
+use iocm_record::{Record, RecordBody};
 use iocm_types::UnitRange;
 use std::alloc::Allocator;
 

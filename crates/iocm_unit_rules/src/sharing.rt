@@ -9,7 +9,7 @@ ghost use Rattle.iocm_index.specs.Namings.{users_in};
 ghost use Rattle.iocm_model.specs.Machine.Configuration.{lookup_of};
 ghost use Rattle.iocm_model.specs.Machine.Record.{unit};
 ghost use Rattle.iocm_model.specs.Rules.EachRule as model;
-ghost use Rattle.iocm_records.specs.Meaning.{unit_of};
+ghost use Rattle.iocm_record.specs.Meaning.{unit_of};
 ghost use Rattle.iocm_lookup.specs.Indexed.{IsIndexOf};
 ghost use Rattle.iocm_unit_rules.specs.Sharing as sharing;
 
@@ -18,7 +18,7 @@ use crate::ranges::overlaps_any;
 use iocm_config::Config;
 use iocm_index::Index;
 use iocm_lookup::{Kind, Wanted};
-use iocm_records::{Record, RecordBody, UnitFields};
+use iocm_record::{Record, RecordBody, UnitFields};
 use iocm_types::{CssPath, Key, Named, UnitRange};
 use std::alloc::Allocator;
 

@@ -8,12 +8,12 @@ ghost use Rattle.iocm_model.specs.Machine.Numbering as numbering;
 ghost use Rattle.iocm_model.specs.Machine.PathList.{paths_in};
 ghost use Rattle.iocm_model.specs.Machine.Record.{unit};
 ghost use Rattle.iocm_model.specs.Rules.EachRule as model;
-ghost use Rattle.iocm_records.specs.Meaning.{unit_of};
+ghost use Rattle.iocm_record.specs.Meaning.{unit_of};
 
 use crate::path_lists::{count_in, has_path_twice};
 use iocm_config::Config;
 use iocm_lookup::{Kind, Wanted, subsystems};
-use iocm_records::{Record, RecordBody, UnitFields};
+use iocm_record::{Record, RecordBody, UnitFields};
 use iocm_types::{Css, CssLink, CssPath, Key};
 use std::alloc::Allocator;
 

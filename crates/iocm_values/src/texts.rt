@@ -7,7 +7,7 @@ use std::alloc::{AllocError, Global};
 use std::fmt::Display;
 
 /// An item of a list by channel subsystem, as it is written.
-#[derive(Debug, Drop)]
+#[derive(Drop)]
 pub struct CssText {
     /// The channel subsystem in whose group it stands.
     pub css: Css,

@@ -9,7 +9,7 @@ use std::alloc::Global;
 
 /// The value of an operand, or an item of a list: a word, or a list by the text between its parentheses.
 /// The bytes stay where they lie.
-#[derive(Clone, Copy, Debug)]
+#[derive(Clone, Copy)]
 pub enum Value<'a> {
     /// A text that isn't in parentheses, such as `50` or `CSS(0)`.
     Word(&'a [u8]),

@@ -1,6 +1,6 @@
 use Rattle.std.proofs.Common.{◌≡◌, map, take}
 use Rattle.std.specs.List.{flat_map}
-use Rattle.iocm_records.specs.Meaning as fields
+use Rattle.iocm_record.specs.Meaning as fields
 use Rattle.iocm_canonical.specs.Device.{devices_of}
 use Rattle.iocm_canonical.proofs.device.devices_in.Given as goal
 

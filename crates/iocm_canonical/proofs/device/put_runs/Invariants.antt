@@ -1,5 +1,5 @@
 use Rattle.std.proofs.Common.{◌≡◌, ◌+◌, ◌++◌, ◌≤◌, drop, map}
-use Rattle.iocm_records.specs.Meaning as fields
+use Rattle.iocm_record.specs.Meaning as fields
 use Rattle.iocm_canonical.specs.Device.{iodevice_statement, runs_from}
 use Rattle.iocm_canonical.proofs.device.put_runs.Given as goal
 

@@ -1,6 +1,6 @@
 use Rattle.std.proofs.Common.{refl, sym, ◌∙◌, ap}
 use Rattle.std.proofs.lemmas.Result.{on_ok_weaker}
-use Rattle.iocm_records.specs.Meaning.{record_of}
+use Rattle.iocm_record.specs.Meaning.{record_of}
 use Rattle.iocm_model.specs.Machine.Configuration.{as_image}
 use Rattle.iocm_console.proofs.Printing.{appends_as, appends_nothing}
 use Rattle.iocm_console.proofs.Rows.{record_lines-image, record_lines-other, no_image}

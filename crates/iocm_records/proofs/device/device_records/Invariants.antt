@@ -1,6 +1,6 @@
 use Rattle.std.proofs.Common.{◌≡◌}
 use Rattle.iocm_records.specs.DeviceRecords.{device_records}
-use Rattle.iocm_records.specs.Meaning.{device_of}
+use Rattle.iocm_record.specs.Meaning.{device_of}
 use Rattle.iocm_records.proofs.device.device_records.Given as goal
 
 abbrev pub invariant-loop-place : goal.invariant-loop-place

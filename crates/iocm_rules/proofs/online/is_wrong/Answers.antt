@@ -10,7 +10,7 @@ use Rattle.iocm_model.specs.Machine.Configuration.{lookup_of}
 use Rattle.iocm_model.specs.Machine.Record.{OnlineRecord, path, online}
 use Rattle.iocm_model.specs.Machine.Sight.{record_lists}
 use Rattle.iocm_model.specs.Rules.EachRule.{is_exclusive, is_online_at, some_before}
-use Rattle.iocm_records.specs.Meaning.{path_of, record_of}
+use Rattle.iocm_record.specs.Meaning.{path_of, record_of}
 use Rattle.iocm_rules.proofs.OnlineUsers.{before_among_users}
 use Rattle.iocm_rules.proofs.online.is_wrong.Goals as goal
 

@@ -1,7 +1,7 @@
 use Rattle.std.proofs.Common.{◌++◌, ap, sym, ◌∙◌}
 use Rattle.std.specs.FinMap.{entries}
 use Rattle.std.proofs.lemmas.List.{append-nil}
-use Rattle.iocm_records.specs.Meaning.{record_of}
+use Rattle.iocm_record.specs.Meaning.{record_of}
 use Rattle.iocm_model.specs.Machine.Configuration.{lookup_of, as_image}
 use Rattle.iocm_model.specs.Machine.Numbering.{cells_of}
 use Rattle.iocm_derive.specs.Sighted.{Sighted}

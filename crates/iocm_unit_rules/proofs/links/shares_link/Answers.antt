@@ -5,7 +5,7 @@ use Rattle.iocm_types.proofs.Any.{any_goes_on, any_stops}
 use Rattle.iocm_types.specs.declared.link.Link.{Link}
 use Rattle.iocm_model.specs.Machine.Record.{UnitRecord}
 use Rattle.iocm_model.specs.Rules.EachRule.{linked_paths, same_link}
-use Rattle.iocm_records.specs.Meaning.{unit_of}
+use Rattle.iocm_record.specs.Meaning.{unit_of}
 use Rattle.iocm_unit_rules.proofs.links.shares_link.Goals as goal
 
 abbrev share_in : UnitRecord → UnitRecord → ℕ → Bool

@@ -4,7 +4,7 @@ use Rattle.std.specs.List.{list_any}
 use Rattle.iocm_types.specs.declared.link.Link.{Link}
 use Rattle.iocm_model.specs.Machine.Numbering.{subsystems}
 use Rattle.iocm_model.specs.Rules.EachRule.{linked_paths, same_link}
-use Rattle.iocm_records.specs.Meaning.{unit_of}
+use Rattle.iocm_record.specs.Meaning.{unit_of}
 use Rattle.iocm_unit_rules.proofs.links.shares_link.Given as goal
 
 abbrev pub invariant-loop-css : goal.invariant-loop-css

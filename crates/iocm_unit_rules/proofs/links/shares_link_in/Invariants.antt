@@ -4,7 +4,7 @@ use Rattle.std.specs.List.{list_any}
 use Rattle.iocm_types.specs.declared.link.Link.{Link}
 use Rattle.iocm_model.specs.Machine.PathList.{paths_in}
 use Rattle.iocm_model.specs.Rules.EachRule.{linked_paths, links_in, same_link, with_links}
-use Rattle.iocm_records.specs.Meaning.{unit_of}
+use Rattle.iocm_record.specs.Meaning.{unit_of}
 use Rattle.iocm_unit_rules.proofs.links.shares_link_in.Given as goal
 
 abbrev pub invariant-loop-path : goal.invariant-loop-path

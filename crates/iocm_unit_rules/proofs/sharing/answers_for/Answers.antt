@@ -3,7 +3,7 @@ use Rattle.std.proofs.Common.{Bool, ◌==◌, sym, ◌∙◌}
 use Rattle.std.specs.List.{list_any}
 use Rattle.iocm_model.specs.Machine.Record.{UnitRecord}
 use Rattle.iocm_model.specs.Rules.EachRule.{share_link, cuadd_or_zero, overlap}
-use Rattle.iocm_records.specs.Meaning.{unit_of}
+use Rattle.iocm_record.specs.Meaning.{unit_of}
 use Rattle.iocm_unit_rules.proofs.Sharers.{all_three, not_all_three}
 use Rattle.iocm_unit_rules.proofs.sharing.answers_for.Goals as goal
 

@@ -1,5 +1,5 @@
 use Rattle.std.proofs.Common.{◌∙◌}
-use Rattle.iocm_records.specs.Meaning.{unit_of}
+use Rattle.iocm_record.specs.Meaning.{unit_of}
 use Rattle.iocm_unit_rules.proofs.Sharers.{clash_among_users}
 use Rattle.iocm_unit_rules.proofs.sharing.is_shared.Goals as goal
 

@@ -2,7 +2,7 @@
 use Rattle.std.proofs.Common.{sym, ap, ◌∙◌}
 use Rattle.std.specs.List.{list_any}
 use Rattle.iocm_model.specs.Machine.Configuration.{lookup_of}
-use Rattle.iocm_records.specs.Meaning.{unit_of}
+use Rattle.iocm_record.specs.Meaning.{unit_of}
 use Rattle.iocm_lookup.proofs.UserWalks.{any_more, any_here, any_none}
 use Rattle.iocm_unit_rules.specs.Sharing.{clashes_before}
 use Rattle.iocm_unit_rules.proofs.sharing.is_shared_on.Goals as goal

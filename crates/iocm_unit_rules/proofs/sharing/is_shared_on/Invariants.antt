@@ -7,7 +7,7 @@ use Rattle.iocm_types.specs.Naming.{naming_cmp}
 use Rattle.iocm_table.specs.Slots.{rows}
 use Rattle.iocm_index.specs.Namings.{users_in}
 use Rattle.iocm_model.specs.Machine.Configuration.{lookup_of}
-use Rattle.iocm_records.specs.Meaning.{unit_of}
+use Rattle.iocm_record.specs.Meaning.{unit_of}
 use Rattle.iocm_unit_rules.specs.Sharing.{clashes_before}
 use Rattle.iocm_unit_rules.proofs.sharing.is_shared_on.Given as goal
 

@@ -8,7 +8,7 @@ use std::marker::Model;
 
 /// An operand that is carried along as it stands: its text, under a keyword or bare. What the product
 /// does not know of a statement is carried so, and written again.
-#[derive(Debug, Drop)]
+#[derive(Drop)]
 pub struct Carried<A: Allocator = Global> {
     keyword: Option<Text<A>>,
     text: Text<A>,

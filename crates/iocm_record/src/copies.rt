@@ -1,5 +1,5 @@
 ghost use Rattle.std.specs.Prelude.{◌≡◌, IfOk};
-ghost use Rattle.iocm_records.specs.Meaning.{path_of, unit_of, device_of};
+ghost use Rattle.iocm_record.specs.Meaning.{path_of, unit_of, device_of};
 
 use crate::carried::copy_carried;
 use crate::{DeviceFields, PathFields, UnitFields};

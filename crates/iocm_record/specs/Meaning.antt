@@ -1,10 +1,10 @@
 -- What the fields of a record mean: a record of the model, with no allocator in it.
 use Rattle.iocm_model.specs.Machine.Record.{Rec, PathRecord, UnitRecord, DeviceRecord, id, resource, image, limit, path, unit, device, online}
-use Rattle.iocm_records.specs.declared.record.PathFields.{PathFields}
-use Rattle.iocm_records.specs.declared.record.UnitFields.{UnitFields}
-use Rattle.iocm_records.specs.declared.record.DeviceFields.{DeviceFields}
-use Rattle.iocm_records.specs.declared.record.RecordBody.{RecordBody}
-use Rattle.iocm_records.specs.declared.record.RecordBody.TheVariants.{Id, Resource, Image, Limit, Path, Unit, Device, Online}
+use Rattle.iocm_record.specs.declared.record.PathFields.{PathFields}
+use Rattle.iocm_record.specs.declared.record.UnitFields.{UnitFields}
+use Rattle.iocm_record.specs.declared.record.DeviceFields.{DeviceFields}
+use Rattle.iocm_record.specs.declared.record.RecordBody.{RecordBody}
+use Rattle.iocm_record.specs.declared.record.RecordBody.TheVariants.{Id, Resource, Image, Limit, Path, Unit, Device, Online}
 
 -- the path of these fields
 abbrev pub path_of : {A : Type 0} → PathFields A → PathRecord

@@ -1,5 +1,5 @@
 use Rattle.std.proofs.Common.{◌≡◌, take}
-use Rattle.iocm_records.proofs.carried.copy_carried.Given as goal
+use Rattle.iocm_record.proofs.carried.copy_carried.Given as goal
 
 -- what was copied so far are the operands so far
 abbrev pub invariant-loop-operand : goal.invariant-loop-operand

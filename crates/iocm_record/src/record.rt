@@ -15,7 +15,7 @@ use std::marker::Model;
 
 /// A channel path: how it is used, and the names of the images in its access and its candidate list,
 /// each list ascending with each name once (IOCP User's Guide, CHPID statement).
-#[derive(Debug, Drop)]
+#[derive(Drop)]
 pub struct PathFields<A: Allocator = Global> {
     /// The channel subsystem of the path.
     pub css: Css,
@@ -33,7 +33,7 @@ pub struct PathFields<A: Allocator = Global> {
 
 /// A control unit: its paths and their links in the order of the text, channel subsystems ascending,
 /// its ranges of unit addresses, and its CUADD (IOCP User's Guide, CNTLUNIT statement).
-#[derive(Debug, Drop)]
+#[derive(Drop)]
 pub struct UnitFields<A: Allocator = Global> {
     /// Its number, 0000 to FFFE.
     pub number: UnitNo,
@@ -51,7 +51,7 @@ pub struct UnitFields<A: Allocator = Global> {
 
 /// A device: its control units in their order, its unit address, and the names of its candidates,
 /// ascending with each once, where it lists them (IOCP User's Guide, IODEVICE statement).
-#[derive(Debug, Drop)]
+#[derive(Drop)]
 pub struct DeviceFields<A: Allocator = Global> {
     /// The subchannel set of its subchannels.
     pub set: SetNo,
@@ -69,7 +69,7 @@ pub struct DeviceFields<A: Allocator = Global> {
 
 /// The eight kinds of records with their fields. A `Record` has one of these inside. The kinds are own;
 /// they follow the statements of the IOCP User's Guide.
-#[derive(Debug, Drop)]
+#[derive(Drop)]
 pub enum RecordBody<A: Allocator = Global> {
     /// What an ID statement carries.
     Id(Vec<Carried<A>, A>),
@@ -90,7 +90,7 @@ pub enum RecordBody<A: Allocator = Global> {
 }
 
 /// A record of a configuration. Contracts see it as a plain value, whatever its allocator.
-#[derive(Debug, Drop)]
+#[derive(Drop)]
 pub struct Record<A: Allocator = Global> {
     body: RecordBody<A>,
 }
@@ -100,7 +100,7 @@ impl<A: Allocator> Model for Record<A> {
 
     ghost Value = { Rec };
 
-    ghost use Rattle.iocm_records.specs.Meaning.{record_of};
+    ghost use Rattle.iocm_record.specs.Meaning.{record_of};
 
     ghost view = { λ r. record_of r.body };
 }
@@ -108,7 +108,7 @@ impl<A: Allocator> Model for Record<A> {
 impl<A: Allocator> Record<A> {
     ghost use Rattle.iocm_model.specs.Machine.Record.{key_of};
     ghost use Rattle.iocm_model.specs.Machine.Naming.{named_by};
-    ghost use Rattle.iocm_records.specs.Meaning.{record_of};
+    ghost use Rattle.iocm_record.specs.Meaning.{record_of};
 
     /// The record with these fields.
     pub fn new(body: RecordBody<A>) -> Self
