@@ -11,7 +11,7 @@ use std::{fmt, str};
 #[derive(Clone, Copy, Debug)]
 pub struct Name {
     bytes: [u8; 8],
-    len: usize,
+    len: u8,
 }
 
 impl Model for Name {
@@ -49,7 +49,7 @@ impl Name {
         ];
         Some(Name {
             bytes: filled,
-            len: bytes.len(),
+            len: bytes.len() as u8,
         })
     }
 
@@ -58,7 +58,7 @@ impl Name {
         ensures bytes { result.now ≡ self.now }
         ensures name { IsTrue (is_name self.now) }
     {
-        &self.bytes[0..self.len]
+        &self.bytes[0..usize::from(self.len)]
     }
 }
 
