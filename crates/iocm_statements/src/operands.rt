@@ -1,9 +1,10 @@
-ghost use Rattle.std.specs.Prelude.{◌≡◌, ◌<◌, length, slice_index_or};
+ghost use Rattle.std.specs.Prelude.{◌≡◌, ◌<◌, length, slice_index_or, IfOk};
 ghost use Rattle.std.specs.Option.{option_copied};
 ghost use Rattle.iocm_statements.specs.Operands as operand;
 
 use indexmap::IndexMap;
 use iocm_types::Text;
+use std::alloc::{AllocError, Global};
 use std::marker::Model;
 
 /// What an operand stands under: its keyword, or, for a bare text, its place in the statement,
@@ -29,7 +30,7 @@ impl OperandKey {
 /// The operands of a statement in their order. Contracts see the list of keys and texts.
 #[derive(Drop)]
 pub struct Operands {
-    map: IndexMap<OperandKey, Text>,
+    list: Vec<(OperandKey, Text)>,
 }
 
 impl Model for Operands {
@@ -38,22 +39,28 @@ impl Model for Operands {
 
     ghost Value = { List (OperandKey × List ℕ) };
 
-    ghost view = { λ o. o.map.entries };
+    ghost view = { λ o. o.list.items };
 }
 
 impl Operands {
-    /// The operands of a map, in its order.
-    pub fn from_map(map: IndexMap<OperandKey, Text>) -> Self
-        ensures { result ≡ map.entries }
+    /// The operands of a map, in its order. A map has room for nine at the least, and a deck has a statement for each
+    /// device, so the map is let go. Answers the want of memory alone.
+    pub(crate) fn from_map(
+        alloc: Global,
+        map: IndexMap<OperandKey, Text>,
+    ) -> Result<Self, AllocError>
+        ensures { IfOk result (λ operands. operands ≡ map.entries) }
     {
-        Operands { map }
+        Ok(Operands {
+            list: map.into_iter().collect(alloc)?,
+        })
     }
 
     /// How many operands there are.
     pub fn len(&self) -> usize
         ensures { result ≡ length self.now }
     {
-        self.map.len()
+        self.list.len()
     }
 
     /// The key and the text of the operand at `index`, counted from 0 in the order of the statement.
@@ -61,9 +68,7 @@ impl Operands {
         requires { index < length self.now }
         ensures { (result.0.now, result.1.now) ≡ slice_index_or self.now index (result.0.now, result.1.now) }
     {
-        let Some((key, text)) = self.map.get_index(index) else {
-            unreachable!()
-        };
+        let (key, text) = &self.list[index];
         (key, text.as_slice())
     }
 

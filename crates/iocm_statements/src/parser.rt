@@ -20,7 +20,7 @@ fn keyed(alloc: Global, operands: Vec<(OperandKey, Text)>, twice: Fault) -> Resu
             return Err(twice);
         }
     }
-    Ok(Operands::from_map(map))
+    Ok(Operands::from_map(alloc, map)?)
 }
 
 /// The operands of the operand part `text` of a statement at `line`.
