@@ -31,9 +31,16 @@ pub struct Parts<A: Allocator = Global> {
 /// room for its way back, which is filled without memory when it is performed. An edit made by hand has no room. Contracts
 /// see it as the model's edit, with the numbers that it frees and the subchannels whose live records it has room for,
 /// whatever its allocator. The room is own.
-#[derive(Drop)]
 pub struct Edit<A: Allocator = Global> {
     parts: Parts<A>,
+}
+
+/// Written by hand, so that how its parts are let go is proved here alone, and not in each crate that lets an edit go.
+impl<A: Allocator> Drop for Edit<A> {
+    fn drop(self) {
+        let Edit { parts } = self;
+        drop(parts);
+    }
 }
 
 impl<A: Allocator> Model for Edit<A> {
@@ -103,7 +110,8 @@ impl<A: Allocator> Edit<A> {
         ensures value { carried_of result ≡ self }
         ensures order { HasOrder result }
     {
-        self.parts
+        let Edit { parts: all } = self;
+        all
     }
 
     /// The key of the record that it adds, deletes or modifies.
