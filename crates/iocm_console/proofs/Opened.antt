@@ -10,10 +10,9 @@ use Rattle.iocm_types.specs.Fault.{memory}
 use Rattle.iocm_console.specs.Opening.{Shown, breached, unless_breached, opened, refused, Says, SaysIfMemory}
 
 -- with this first breach at its numbers at opening
-pub opened_is : (show : Configuration → Numbering → Shown) (c : Configuration) (n : Numbering) (b : Option Breach) → n ≡ opening c
-    → b ≡ first_breach c n → opened show c ≡ unless_breached b (show c n)
-opened_is show c n b at is =
-    sym (ap (λ m. unless_breached (first_breach c m) (show c m)) at) ∙ ap (λ found. unless_breached found (show c n)) (sym is)
+pub opened_is : (show : Configuration → Numbering → Shown) (c : Configuration) (b : Option Breach)
+    → b ≡ first_breach c (opening c) → opened show c ≡ unless_breached b (show c (opening c))
+opened_is show c b is = ap (λ found. unless_breached found (show c (opening c))) (sym is)
 
 module _ {W : Type 0} (contents : W → Option (List ℕ)) (old new : Output W) where
   -- what was said, or that memory is wanted, under another name

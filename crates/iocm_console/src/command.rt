@@ -5,13 +5,16 @@ ghost use Rattle.iocm_columns.specs.Device.{reader_of, reads_of, IsOpen, IsWhole
 ghost use Rattle.iocm_console.specs.Output.{has_failed, FailedToWrite};
 ghost use Rattle.iocm_console.specs.Opening.{configuration_in, opened, opened_or_refused, refused, Says, SaysIfMemory};
 ghost use Rattle.iocm_console.specs.Command.{answered, shown_by};
+ghost use Rattle.iocm_console.specs.Show.{table_done};
 
 use crate::accepted::accept;
 use crate::canonical::write_canonical;
-use crate::opening::{Opened, answer_unread, breach_of, open_cards, refuse, refuse_breach};
+use crate::opening::{answer_unread, breach_of, read_config, refuse, refuse_breach};
 use crate::table::write_table;
 use crate::{ConsoleError, Output, Status};
 use iocm_columns::{Card, Device, read_cards};
+use iocm_config::Config;
+use iocm_numbers::opening;
 use iocm_types::Fault;
 use std::alloc::Global;
 use std::io::{Read, Write};
@@ -70,45 +73,60 @@ fn answer_cards<W: Write>(
     ensures works { OnOk result (has_failed output.new ≡ has_failed output.old) }
     ensures fault { IfErr result (FailedToWrite output.new) }
 {
-    match open_cards(alloc, cards) {
-        Ok(opened) => answer_opened(alloc, command, &opened, output),
+    match read_config(alloc, cards) {
+        Ok(config) => answer_opened(alloc, command, &config, output),
         Err(fault) => refuse(fault, output),
     }
 }
 
-/// Prints what a command prints of an opened deck, or which rule it breaks, or that memory is wanted.
+/// Prints what a command prints of a configuration as it is opened, or which rule it breaks, or that memory is wanted.
 fn answer_opened<W: Write>(
     alloc: Global,
     command: DeckCommand,
-    deck: &Opened,
+    config: &Config,
     output: &mut Output<W>,
 ) -> Result<Status, ConsoleError>
-    requires { deck.now.numbers.numbers ≡ model.opening deck.now.config.records }
-    ensures text { IfOk result (SaysIfMemory W.contents output.old output.new (opened (shown_by command) deck.now.config.records)) }
+    ensures text { IfOk result (SaysIfMemory W.contents output.old output.new (opened (shown_by command) config.now.records)) }
     ensures works { OnOk result (has_failed output.new ≡ has_failed output.old) }
     ensures fault { IfErr result (FailedToWrite output.new) }
 {
-    match breach_of(alloc, deck) {
-        Ok(None) => answer_kept(alloc, command, deck, output),
+    match breach_of(alloc, config) {
+        Ok(None) => answer_kept(alloc, command, config, output),
         Ok(Some(breach)) => refuse_breach(breach, output),
         Err(error) => refuse(Fault::from(error), output),
     }
 }
 
-/// Prints what a command prints of an opened deck that keeps the rules, or that memory is wanted.
+/// Prints what a command prints of a configuration that keeps the rules, as it is opened, or that memory is wanted.
 fn answer_kept<W: Write>(
     alloc: Global,
     command: DeckCommand,
-    deck: &Opened,
+    config: &Config,
     output: &mut Output<W>,
 ) -> Result<Status, ConsoleError>
-    ensures text { IfOk result (SaysIfMemory W.contents output.old output.new (shown_by command deck.now.config.records deck.now.numbers.numbers)) }
+    ensures text { IfOk result (SaysIfMemory W.contents output.old output.new (shown_by command config.now.records (model.opening config.now.records))) }
     ensures works { OnOk result (has_failed output.new ≡ has_failed output.old) }
     ensures fault { IfErr result (FailedToWrite output.new) }
 {
     match command {
-        DeckCommand::Check => accept(&deck.config, output),
-        DeckCommand::Show => write_table(alloc, output, &deck.config, &deck.numbers),
-        DeckCommand::Write => write_canonical(alloc, output, &deck.config),
+        DeckCommand::Check => accept(config, output),
+        DeckCommand::Show => show_opened(alloc, config, output),
+        DeckCommand::Write => write_canonical(alloc, output, config),
+    }
+}
+
+/// Prints the table of a configuration with the numbers at opening, or that memory is wanted.
+fn show_opened<W: Write>(
+    alloc: Global,
+    config: &Config,
+    output: &mut Output<W>,
+) -> Result<Status, ConsoleError>
+    ensures text { IfOk result (SaysIfMemory W.contents output.old output.new (table_done config.now.records (model.opening config.now.records))) }
+    ensures works { OnOk result (has_failed output.new ≡ has_failed output.old) }
+    ensures fault { IfErr result (FailedToWrite output.new) }
+{
+    match opening(alloc, config) {
+        Ok(numbers) => write_table(alloc, output, config, &numbers),
+        Err(error) => refuse(Fault::from(error), output),
     }
 }

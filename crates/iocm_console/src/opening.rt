@@ -11,10 +11,9 @@ use crate::{ConsoleError, Output, Status};
 use iocm_columns::{Card, join};
 use iocm_config::Config;
 use iocm_lookup::index_of;
-use iocm_numbers::{Numbers, opening};
 use iocm_record::Record;
 use iocm_records::from_statements;
-use iocm_rules::{Breach, check};
+use iocm_rules::{Breach, check_at_opening};
 use iocm_statements::{Statement, parse};
 use iocm_types::{Fault, Refused, Rule};
 use std::alloc::{AllocError, Global};
@@ -25,25 +24,6 @@ const UNREADABLE: Fault = Fault {
     rule: Rule::L5,
     line: 0,
 };
-
-/// The configuration of a deck, and the numbers that its devices have at opening.
-#[derive(Drop)]
-pub struct Opened {
-    /// The configuration.
-    pub config: Config,
-    /// The numbers of its devices.
-    pub numbers: Numbers,
-}
-
-/// The configuration of the lines of a deck with its numbers at opening, or its first fault.
-pub fn open_cards(alloc: Global, cards: &[Card]) -> Result<Opened, Fault>
-    ensures configuration { Gives (λ o. o.config.records) result (configuration_in cards.now) }
-    ensures numbers { IfOk result (λ o. o.numbers.numbers ≡ model.opening o.config.records) }
-{
-    let config = read_config(alloc, cards)?;
-    let numbers = opening(alloc, &config)?;
-    Ok(Opened { config, numbers })
-}
 
 /// The configuration of the lines of a deck, or its first fault.
 pub fn read_config(alloc: Global, cards: &[Card]) -> Result<Config, Fault>
@@ -70,12 +50,12 @@ pub fn read_statements(alloc: Global, cards: &[Card]) -> Result<Vec<Statement>, 
     parse(alloc, &joined)
 }
 
-/// The first breach of the rules, if there is one. Answers the want of memory alone.
-pub fn breach_of(alloc: Global, opened: &Opened) -> Result<Option<Breach>, AllocError>
-    ensures { IfOk result (λ breach. breach ≡ first_breach opened.now.config.records opened.now.numbers.numbers) }
+/// The first breach of the rules by a configuration as it is opened, if there is one. Answers the want of memory alone.
+pub fn breach_of(alloc: Global, config: &Config) -> Result<Option<Breach>, AllocError>
+    ensures { IfOk result (λ breach. breach ≡ first_breach config.now.records (model.opening config.now.records)) }
 {
-    let index = index_of(alloc, &opened.config)?;
-    Ok(check(&opened.config, &opened.numbers, &index).err())
+    let index = index_of(alloc, config)?;
+    check_at_opening(alloc, config, &index)
 }
 
 /// Answers where the lines of a deck are not there: it cannot be read, or a line is refused.

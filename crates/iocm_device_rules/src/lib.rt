@@ -4,7 +4,8 @@
 //! V8, V9, V11 and V12 are `Wanted`s, which `first_wanted` of `iocm_lookup` looks for among the device records.
 //! `first_address_twice` (V10) and `first_past_limit` (V13) answer the first device that breaks their rule themselves:
 //! the one goes unit by unit, the other over the numbers first, so that no device is compared with all others. What each
-//! answers is exactly what the model's predicate says, and none takes memory.
+//! answers is exactly what the model's predicate says, and none takes memory but `first_past_limit_at_opening`, which lists the
+//! numbers at opening, for which no table has to be made.
 //!
 //! Where only records at some keys can break a rule, since only these were changed, `first_wanted_among` and
 //! `first_address_twice_among` answer the same, and look at these keys alone.
@@ -18,9 +19,11 @@ mod among;
 mod devices;
 mod joined;
 mod limits;
+mod limits_at_opening;
 
 pub use addresses::{first_address_twice, lesser};
 pub use among::{first_address_twice_among, first_wanted_among, is_wanted_at};
 pub use devices::{AddressNotHeld, CandidateOfNoImage, WrongUnits};
 pub use joined::WrongPathList;
 pub use limits::{NumberPastLimit, first_past_limit};
+pub use limits_at_opening::first_past_limit_at_opening;

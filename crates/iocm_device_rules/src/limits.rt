@@ -69,11 +69,7 @@ pub fn first_past_limit<A: Allocator, N: Allocator>(
 fn is_any_past_limit<A: Allocator, N: Allocator>(config: &Config<A>, numbers: &Numbers<N>) -> bool
     ensures { result ≡ list_any (past.is_past (lookup_of config.now.records)) (entries (numbering.cells_of numbers.now.numbers)) }
 {
-    let mut last = SetLimit {
-        css: Css::FIRST,
-        set: SetNo::FIRST,
-        limit: limit_in(config, Css::FIRST, SetNo::FIRST),
-    };
+    let mut last = first_limit(config);
     for (cell, _) in numbers.cells() {
         last = limit_of_cell(config, &last, cell);
         if last.limit <= cell.number {
@@ -85,14 +81,29 @@ fn is_any_past_limit<A: Allocator, N: Allocator>(config: &Config<A>, numbers: &N
 
 /// The limit of a channel subsystem and set.
 #[derive(Clone, Copy, Debug, PartialEq, Eq)]
-struct SetLimit {
+pub(crate) struct SetLimit {
     css: Css,
     set: SetNo,
-    limit: u16,
+    pub(crate) limit: u16,
+}
+
+/// The limit of the first set of the first channel subsystem.
+pub(crate) fn first_limit<A: Allocator>(config: &Config<A>) -> SetLimit
+    ensures { result.limit ≡ model.limit_or_default result.set (lookup_of config.now.records (key.Limit result.css result.set)) }
+{
+    SetLimit {
+        css: Css::FIRST,
+        set: SetNo::FIRST,
+        limit: limit_in(config, Css::FIRST, SetNo::FIRST),
+    }
 }
 
 /// The limit of a number's channel subsystem and set, looked up where they are others than those of the last one.
-fn limit_of_cell<A: Allocator>(config: &Config<A>, last: &SetLimit, cell: &NumberCell) -> SetLimit
+pub(crate) fn limit_of_cell<A: Allocator>(
+    config: &Config<A>,
+    last: &SetLimit,
+    cell: &NumberCell,
+) -> SetLimit
     requires { last.now.limit ≡ model.limit_or_default last.now.set (lookup_of config.now.records (key.Limit last.now.css last.now.set)) }
     ensures css { result.css ≡ cell.now.css }
     ensures set { result.set ≡ cell.now.set }

@@ -26,8 +26,10 @@ pub fn opening<A: Allocator, B: Allocator + Copy>(
     Numbers::from_rows(alloc, rows)
 }
 
-/// The rows of the numbers at opening, by channel subsystem, set and device number.
-fn opening_rows<A: Allocator, B: Allocator + Copy>(
+/// The numbers at opening as a list: each place with its number, by channel subsystem, set and device number.
+///
+/// `AllocError` (M1): memory was wanted.
+pub fn opening_rows<A: Allocator, B: Allocator + Copy>(
     alloc: B,
     config: &Config<A>,
 ) -> Result<Vec<(Place, u16), B>, AllocError>

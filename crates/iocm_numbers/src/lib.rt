@@ -29,7 +29,7 @@ mod renumber;
 mod renumbered;
 mod taken;
 
-pub use first_numbers::opening;
+pub use first_numbers::{opening, opening_rows};
 pub use laws::exchanges_lead_from_one_to_the_other;
 pub use looked_at::sort_apart;
 pub use number_change::NumberChange;

@@ -2,7 +2,7 @@
 //!
 //! `check` answers the first breach, by rule and then by key, as the model's definitions have it, in time about in
 //! proportion to the records: it takes no memory, and compares nobody with everybody. Which records name a thing it asks
-//! an `Index` of the configuration.
+//! an `Index` of the configuration. `check_at_opening` answers it for the numbers at opening, which it lists and makes no table of.
 //!
 //! `check_near` answers the same where since the rules held only devices and online records were changed, and looks at the
 //! keys of these alone and at what shares a unit or a path with them. That edits leave it so `near_edits_keep_the_rest` says.
@@ -22,6 +22,6 @@ mod online;
 mod online_among;
 
 pub use breach::Breach;
-pub use first_breach::check;
+pub use first_breach::{check, check_at_opening};
 pub use laws::near_edits_keep_the_rest;
 pub use near::check_near;

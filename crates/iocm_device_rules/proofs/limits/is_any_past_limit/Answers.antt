@@ -18,7 +18,7 @@ is_below limit shown number is h = grind (arith, nat_tests)
 
 pub loop-cell-init : goal.loop-cell-init
 loop-cell-init g c = record {
-  known = c.limit_in.ensures;
+  known = c.first_limit-last.ensures;
   rest = ap (list_any (is_past (lookup_of c.args.config.now.records))) (c.into_iter-cell-iterator.ensures.into_iter_gives ∙ c.cells-cell-items.ensures);
 }
 

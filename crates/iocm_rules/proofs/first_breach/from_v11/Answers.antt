@@ -7,7 +7,7 @@ use Rattle.iocm_rules.proofs.FirstBreaches.{breach_here, breach_later}
 use Rattle.iocm_rules.proofs.first_breach.from_v11.Goals as goal
 
 pub returns-in-Some : goal.returns-in-Some
-returns-in-Some g c = sym (breach_here V11 (breaks_v11 c.args.config.now.records) (from_v12 c.args.config.now.records c.args.numbers.now.numbers) (records_of c.args.config.now.records) c.in-Some.key (sym c.first_wanted.ensures ∙ c.in-Some.is))
+returns-in-Some g c = λ n is. sym (breach_here V11 (breaks_v11 c.args.config.now.records) (from_v12 c.args.config.now.records n) (records_of c.args.config.now.records) c.in-Some.key (sym c.first_wanted.ensures ∙ c.in-Some.is))
 
 pub returns-in-None : goal.returns-in-None
-returns-in-None g c = c.from_v12.ensures ∙ sym (breach_later V11 (breaks_v11 c.args.config.now.records) (from_v12 c.args.config.now.records c.args.numbers.now.numbers) (records_of c.args.config.now.records) (sym c.first_wanted.ensures ∙ c.in-None.is))
+returns-in-None g c = λ n is. c.from_v12.ensures n is ∙ sym (breach_later V11 (breaks_v11 c.args.config.now.records) (from_v12 c.args.config.now.records n) (records_of c.args.config.now.records) (sym c.first_wanted.ensures ∙ c.in-None.is))
