@@ -36,16 +36,26 @@ kept_after : (first : Key) (e : Key × Rec) (es : List (Key × Rec)) (b : Bool) 
 kept_after first e es true is rest = (is, rest)
 kept_after first e es false is rest = rest
 
-all_after : (first : Key) (es : List (Key × Rec)) → AllByRecursion (λ e. is_le (key_cmp first e.0) ≡ true) (rows_from key_cmp first es)
+pub all_after : (first : Key) (es : List (Key × Rec)) → AllByRecursion (λ e. is_le (key_cmp first e.0) ≡ true) (rows_from key_cmp first es)
 all_after first [] = tt
 all_after first (e ∷ es) = kept_after first e (rows_from key_cmp first es) (is_le (key_cmp first e.0)) refl (all_after first es)
 
 -- what isn't before a key is found in the rows from it on
-found_after : (m : Configuration) (first q : Key) → is_le (key_cmp first q) ≡ true → find key_cmp q (rows_from key_cmp first (entries m)) ≡ get m q
+pub found_after : (m : Configuration) (first q : Key) → is_le (key_cmp first q) ≡ true → find key_cmp q (rows_from key_cmp first (entries m)) ≡ get m q
 found_after m first q le =
     find-where_key key_cmp (λ k. is_le (key_cmp first k)) q (λ x tie. ap (λ k. is_le (key_cmp first k)) (sym (keys_exact q x tie))) (entries m)
     ∙ ap (λ b. cond b (find key_cmp q (entries m)) None) le
     ∙ sym (get-entries m q)
+
+-- a key that is before the first row is none's
+pub none_before : (e : Key × Rec) (es : List (Key × Rec)) → T (is_sorted key_cmp (e ∷ es)) → (q : Key) → key_cmp q e.0 ≡ Less → find key_cmp q (e ∷ es) ≡ None
+none_before e es rise q less = rw less (not_found key_cmp q es (later q es less (first_holds _ _ rise)))
+  where
+    later : (q : Key) (fs : List (Key × Rec)) → key_cmp q e.0 ≡ Less → T (below_all key_cmp e.0 fs) → T (below_all key_cmp q fs)
+    later q [] less below = tt
+    later q (f ∷ fs) less below =
+        let here : key_cmp q f.0 ≡ Less = keys_total.trans q e.0 f.0 less (less_is _ (first_holds _ _ below)) in
+        rw here (later q fs less (second_holds _ _ below))
 
 module _ (first : Key) (key : ℕ → Key) (test : Option Rec → Bool) (none : test None ≡ false) where
   -- before the first row
@@ -118,13 +128,4 @@ module _ (first : Key) (key : ℕ → Key) (test : Option Rec → Bool) (none : 
       → rows ≡ e ∷ es → ((n : ℕ) → is_le (key_cmp first e.0) ≡ true → key_cmp (key n) e.0 ≡ Less) → (n : ℕ) → n < 256 → get_or table n false ≡ right n
   fill_stops right table e rows es filling walked behind n low =
       let before = subst (IsFilling first key test right table) walked filling in
-      last _ _ (find key_cmp (key n) (e ∷ es)) (passed before.rise (key n) (behind n before.after.0)) (before.sum n low)
-    where
-      later : (q : Key) (fs : List (Key × Rec)) → key_cmp q e.0 ≡ Less → T (below_all key_cmp e.0 fs) → T (below_all key_cmp q fs)
-      later q [] less below = tt
-      later q (f ∷ fs) less below =
-          let here : key_cmp q f.0 ≡ Less = keys_total.trans q e.0 f.0 less (less_is _ (first_holds _ _ below)) in
-          rw here (later q fs less (second_holds _ _ below))
-
-      passed : T (is_sorted key_cmp (e ∷ es)) → (q : Key) → key_cmp q e.0 ≡ Less → find key_cmp q (e ∷ es) ≡ None
-      passed rise q less = rw less (not_found key_cmp q es (later q es less (first_holds _ _ rise)))
+      last _ _ (find key_cmp (key n) (e ∷ es)) (none_before e es before.rise (key n) (behind n before.after.0)) (before.sum n low)

@@ -1,4 +1,4 @@
-ghost use Rattle.std.specs.Prelude.{◌≡◌, true};
+ghost use Rattle.std.specs.Prelude.{◌≡◌, true, Some};
 ghost use Rattle.std.specs.List.{list_any};
 ghost use Rattle.iocm_model.specs.Machine.Configuration.{lookup_of};
 ghost use Rattle.iocm_model.specs.Machine.Mask.{installed};
@@ -9,7 +9,7 @@ ghost use Rattle.iocm_record.specs.Meaning.{device_of};
 
 use crate::cell_sight::CellSight;
 use crate::lookup::is_path_online;
-use crate::masks::{available_paths, installed_paths};
+use crate::masks::installed_paths;
 use crate::paths::copy_paths;
 use crate::reach::Reach;
 use crate::sight::{is_candidate, reaches_units};
@@ -53,14 +53,15 @@ impl<'b, 'a, A: Allocator> Reach<A> for CellImage<'b, 'a, A> {
     }
 }
 
-/// What the image of a name sees of a device with these first eight paths in the channel subsystem of a number cell.
+/// What the image of a name sees of the device of a number cell with these first eight paths in its channel subsystem.
 pub fn view_in_cell<A: Allocator>(
     sight: &CellSight<'_, A>,
     name: Name,
     device: &DeviceFields<A>,
     paths: &Paths,
 ) -> Option<View>
-    requires { paths.now ≡ view_paths (lookup_of sight.now.records) sight.now.cell.css device.now.units }
+    requires device { sight.now.device ≡ Some (device_of device.now) }
+    requires paths { paths.now ≡ view_paths (lookup_of sight.now.records) sight.now.cell.css device.now.units }
     ensures { result ≡ model.view_if_seen (lookup_of sight.now.records) sight.now.cell.css name (device_of device.now) }
 {
     if !is_candidate(device.candidates.as_ref(), name) {
@@ -69,25 +70,26 @@ pub fn view_in_cell<A: Allocator>(
     view_by_paths(&CellImage { sight, name }, device, paths)
 }
 
-/// What an image that is a candidate of a device sees of it by its first eight paths.
-fn view_by_paths<A: Allocator, R: Reach<A>>(
-    reach: &R,
+/// What an image that is a candidate of the device sees of it by its first eight paths.
+fn view_by_paths<A: Allocator>(
+    image: &CellImage<'_, '_, A>,
     device: &DeviceFields<A>,
     paths: &Paths,
 ) -> Option<View>
-    requires paths { paths.now ≡ view_paths (lookup_of (R.records reach.now)) (R.subsystem reach.now) device.now.units }
-    requires candidate { sight.is_candidate (R.called reach.now) device.now.candidates ≡ true }
-    ensures { result ≡ model.view_if_seen (lookup_of (R.records reach.now)) (R.subsystem reach.now) (R.called reach.now) (device_of device.now) }
+    requires device { image.now.sight.now.device ≡ Some (device_of device.now) }
+    requires paths { paths.now ≡ view_paths (lookup_of image.now.sight.now.records) image.now.sight.now.cell.css device.now.units }
+    requires candidate { sight.is_candidate image.now.name device.now.candidates ≡ true }
+    ensures { result ≡ model.view_if_seen (lookup_of image.now.sight.now.records) image.now.sight.now.cell.css image.now.name (device_of device.now) }
 {
-    let pim = installed_paths(reach, paths);
-    if !is_reached(reach, device.units.as_slice(), paths, pim) {
+    let pim = installed_paths(image, paths);
+    if !is_reached(image, device.units.as_slice(), paths, pim) {
         return None;
     }
     Some(View {
         device: device.number,
         paths: copy_paths(paths),
         pim,
-        pam: available_paths(reach, paths),
+        pam: image.sight.pam(image.name),
     })
 }
 

@@ -1,18 +1,24 @@
 ghost use Rattle.std.specs.Prelude.{◌≡◌, IfSome};
 ghost use Rattle.std.specs.Option.{option_copied, option_map};
 ghost use Rattle.iocm_model.specs.Machine.Configuration.{lookup_of};
+ghost use Rattle.iocm_model.specs.Machine.Mask.{available};
 ghost use Rattle.iocm_model.specs.Machine.Sight as sight;
 ghost use Rattle.iocm_record.specs.Meaning.{device_of};
+ghost use Rattle.iocm_derive.specs.Derived.{paths_of};
+ghost use Rattle.iocm_derive.specs.OnlineMasks.{AreOnlineMasks};
 ghost use Rattle.iocm_derive.specs.SightedCells.{sighted_cell, cell_device, seen_there};
 
 use crate::cell_image::view_in_cell;
 use crate::lookup::{find_device, lists_image, reaches_path};
+use crate::masks::pam;
+use crate::named_masks::{NamedMask, mask_of};
+use crate::online_masks::online_masks;
 use crate::path_records::{PathRecord, path_records};
 use crate::paths::paths_of_device;
 use iocm_config::Config;
 use iocm_numbers::Numbers;
 use iocm_record::DeviceFields;
-use iocm_types::{Chpid, Name, NumberCell, Paths, View};
+use iocm_types::{Chpid, Css, Mask, Name, NumberCell, Paths, View};
 use std::alloc::Allocator;
 use std::marker::Model;
 
@@ -27,6 +33,8 @@ pub struct CellSight<'a, A: Allocator> {
     paths: Paths,
     /// The records of the paths that are there.
     records: [Option<PathRecord<'a, A>>; 8],
+    /// The path-available masks of all images, if they were gathered and there are few enough.
+    online: Option<[NamedMask; 16]>,
 }
 
 impl<'a, A: Allocator> Model for CellSight<'a, A> {
@@ -40,6 +48,7 @@ impl<'a, A: Allocator> Model for CellSight<'a, A> {
     ghost use Rattle.iocm_model.specs.Machine.Configuration.{Configuration, lookup_of};
     ghost use Rattle.iocm_record.specs.Meaning.{device_of};
     ghost use Rattle.iocm_derive.specs.Derived.{paths_of};
+    ghost use Rattle.iocm_derive.specs.OnlineMasks.{AreOnlineMasks};
     ghost use Rattle.iocm_derive.specs.SightedCells.{SightedCell, IsRecordOf};
     ghost use Rattle.std.specs.Prelude as std_words;
 
@@ -51,7 +60,8 @@ impl<'a, A: Allocator> Model for CellSight<'a, A> {
     ghost view = { λ s. record { records = s.config.now.records; cell = s.cell; device = option_map device_of (option_copied s.device) } };
 
     ghost invariant = { λ s. (s.paths ≡ paths_of (lookup_of s.config.now.records) s.cell.css (option_map device_of (option_copied s.device)))
-        × AllByRecursion (λ row. IfSome row (λ r. IsRecordOf s.config.now.records s.cell.css r.number r.entry.now)) s.records };
+        × AllByRecursion (λ row. IfSome row (λ r. IsRecordOf s.config.now.records s.cell.css r.number r.entry.now)) s.records
+        × IfSome s.online (λ masks. AreOnlineMasks s.config.now.records s.cell.css s.paths masks) };
 }
 
 impl<'a, A: Allocator> CellSight<'a, A> {
@@ -59,16 +69,46 @@ impl<'a, A: Allocator> CellSight<'a, A> {
     pub fn new<B: Allocator>(config: &'a Config<A>, numbers: &Numbers<B>, cell: &NumberCell) -> Self
         ensures { result ≡ sighted_cell config.entry.now.records numbers.now.numbers cell.now }
     {
-        let css = cell.css;
         let device = device_in(config, numbers, cell);
-        let paths = paths_of_device(config, css, device);
-        let records = path_records(config, css, &paths);
+        let paths = paths_of_device(config, cell.css, device);
+        CellSight::with_records(config, *cell, device, paths, None)
+    }
+
+    /// A number cell for where many images are asked: which of them have its paths online is gathered beforehand, by one walk
+    /// for each path. Where the device lists candidates few of those who are asked see it, so that nothing is gathered.
+    pub fn gathered<B: Allocator>(
+        config: &'a Config<A>,
+        numbers: &Numbers<B>,
+        cell: &NumberCell,
+    ) -> Self
+        ensures { result ≡ sighted_cell config.entry.now.records numbers.now.numbers cell.now }
+    {
+        let device = device_in(config, numbers, cell);
+        let paths = paths_of_device(config, cell.css, device);
+        let online = online_to_all(config, cell.css, device, &paths);
+        CellSight::with_records(config, *cell, device, paths, online)
+    }
+
+    /// A number cell with its device, the first eight paths of that, and what was gathered; the records of the paths are looked up.
+    fn with_records(
+        config: &'a Config<A>,
+        cell: NumberCell,
+        device: Option<&'a DeviceFields<A>>,
+        paths: Paths,
+        online: Option<[NamedMask; 16]>,
+    ) -> Self
+        requires paths { paths ≡ paths_of (lookup_of config.now.records) cell.css (option_map device_of (option_copied device)) }
+        requires online { IfSome online (λ masks. AreOnlineMasks config.now.records cell.css paths masks) }
+        ensures { result ≡ record { records = config.entry.now.records; cell = cell; device = option_map device_of (option_copied device.entry) } }
+    {
+        let records = path_records(config, cell.css, &paths);
         CellSight {
             config,
-            cell: *cell,
+            cell,
             device,
             paths,
             records,
+            online,
         }
     }
 
@@ -91,6 +131,18 @@ impl<'a, A: Allocator> CellSight<'a, A> {
         ensures { result.now.records ≡ self.now.records }
     {
         self.config
+    }
+
+    /// The path-available mask of the image of a name over the first eight paths of the device.
+    pub fn pam(&self, name: Name) -> Mask
+        ensures { result ≡ available (lookup_of self.now.records) self.now.cell.css name (paths_of (lookup_of self.now.records) self.now.cell.css self.now.device) }
+    {
+        // For the proof alone: it is a name.
+        let _ = name.as_bytes();
+        match &self.online {
+            Some(masks) => mask_of(masks, name),
+            None => pam(self.config, self.cell.css, name, &self.paths),
+        }
     }
 
     /// Whether the image of a name reaches a path of the cell's channel subsystem.
@@ -118,4 +170,19 @@ fn device_in<'a, A: Allocator, B: Allocator>(
 {
     let device = numbers.device_at(*cell)?;
     find_device(config, cell.set, device)
+}
+
+/// The path-available masks of all images over a path list of a device, if each image is a candidate of that, and they are few enough.
+fn online_to_all<A: Allocator>(
+    config: &Config<A>,
+    css: Css,
+    device: Option<&DeviceFields<A>>,
+    paths: &Paths,
+) -> Option<[NamedMask; 16]>
+    ensures { IfSome result (λ masks. AreOnlineMasks config.now.records css paths.now masks) }
+{
+    if device?.candidates.is_some() {
+        return None;
+    }
+    online_masks(config, css, paths)
 }

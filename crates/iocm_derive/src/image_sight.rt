@@ -4,7 +4,7 @@ ghost use Rattle.iocm_model.specs.Machine.Configuration.{lookup_of};
 ghost use Rattle.iocm_model.specs.Machine.View as model;
 ghost use Rattle.iocm_record.specs.Meaning.{device_of};
 
-use crate::lookup::{device_under, find_device, walk_behind, walk_devices};
+use crate::lookup::{device_under, find_device, walk_behind, walk_from};
 use crate::path_tables::{PathTables, path_tables};
 use crate::reach::{ImageRecords, Reach};
 use crate::units_view::{UnitsView, are_same, units_view, view_by};
@@ -59,7 +59,7 @@ impl<'a, A: Allocator> ImageSight<'a, A> {
             image,
             name,
             tables: path_tables(config, image.css, name),
-            walk: walk_devices(config, SetNo::FIRST, DevNo::new(0)),
+            walk: walk_from(config, &Key::Device(SetNo::FIRST, DevNo::new(0))),
             last: units_view(&records, &[]),
         }
     }
@@ -95,7 +95,7 @@ impl<'a, A: Allocator> ImageSight<'a, A> {
                 return Some(fields);
             }
         }
-        self.walk = walk_behind(self.config, set, device);
+        self.walk = walk_behind(self.config, &Key::Device(set, device));
         find_device(self.config, set, device)
     }
 }

@@ -6,14 +6,18 @@
 //! `ImageSight` gives the views of one image at many devices, one after the other: it keeps tables of the image's
 //! paths, where the walk over the devices stands, and what it sees by the last device's control units.
 //! `CellSight` gives the views of many images at one number cell: what the images of its channel subsystem share there is looked up once.
+//! `ImageNames` gives the names of many images, one after the other.
 //! Begin with `view.rt`, then `reach.rt` for what both ways share.
 #![tactic(auto)]
 
 mod cell_image;
 mod cell_sight;
+mod image_names;
 mod image_sight;
 mod lookup;
 mod masks;
+mod named_masks;
+mod online_masks;
 mod path_records;
 mod path_tables;
 mod paths;
@@ -23,6 +27,7 @@ mod units_view;
 mod view;
 
 pub use cell_sight::CellSight;
+pub use image_names::ImageNames;
 pub use image_sight::ImageSight;
 pub use lookup::name_of_image;
 pub use masks::{pam, pim};

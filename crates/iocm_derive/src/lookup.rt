@@ -53,26 +53,18 @@ pub fn device_under<'a, A: Allocator>(
     }
 }
 
-/// The rows of all records from a device on.
-pub fn walk_devices<A: Allocator>(
-    config: &Config<A>,
-    set: SetNo,
-    device: DevNo,
-) -> Rows<'_, Key, Record<A>>
-    ensures { AreOf config.now.records result }
+/// The rows of all records from a key on.
+pub fn walk_from<'a, A: Allocator>(config: &'a Config<A>, from: &Key) -> Rows<'a, Key, Record<A>>
+    ensures { AreOf config.entry.now.records result }
 {
-    config.walk_from(&Key::Device(set, device))
+    config.walk_from(from)
 }
 
-/// The rows of all records behind a device, if it is there.
-pub fn walk_behind<A: Allocator>(
-    config: &Config<A>,
-    set: SetNo,
-    device: DevNo,
-) -> Rows<'_, Key, Record<A>>
-    ensures { AreOf config.now.records result }
+/// The rows of all records behind that of a key, if it is there.
+pub fn walk_behind<'a, A: Allocator>(config: &'a Config<A>, from: &Key) -> Rows<'a, Key, Record<A>>
+    ensures { AreOf config.entry.now.records result }
 {
-    let mut rows = walk_devices(config, set, device);
+    let mut rows = walk_from(config, from);
     let _ = rows.next();
     rows
 }

@@ -1,5 +1,7 @@
 use crate::small::small;
-use iocm_derive::{CellSight, ImageSight, image_view, name_of_image, path_list, sees, view_at};
+use iocm_derive::{
+    CellSight, ImageNames, ImageSight, image_view, name_of_image, path_list, sees, view_at,
+};
 use iocm_numbers::opening;
 use iocm_trial_decks::{image, name};
 use iocm_types::{Chpid, Css, DevNo, Mask, NumberCell, Paths, SetNo, SubId, View};
@@ -85,5 +87,36 @@ fn a_number_cell_shows_its_device(rt: HostRuntime) -> Result<(), Fail> {
         CellSight::new(&config, &numbers, &cell).view(name)
     });
     assert!(rt; views == [Some(one_view()), None]);
+    Ok(())
+}
+
+#[test]
+fn a_number_cell_shows_its_device_to_many(rt: HostRuntime) -> Result<(), Fail> {
+    let names = [name(b"LPA")?, name(b"LPB")?];
+    let config = small(rt.alloc())?;
+    let numbers = opening(rt.alloc(), &config)?;
+    let cell = NumberCell {
+        css: Css::FIRST,
+        set: SetNo::FIRST,
+        number: 0,
+    };
+    let sight = CellSight::gathered(&config, &numbers, &cell);
+    let views = names.map(|name| sight.view(name));
+    assert!(rt; views == [Some(one_view()), None]);
+    Ok(())
+}
+
+#[test]
+fn images_have_their_names_in_any_order(rt: HostRuntime) -> Result<(), Fail> {
+    let first = Some(name(b"LPA")?);
+    let images = [image(1)?, image(2)?];
+    let config = small(rt.alloc())?;
+    let mut names = ImageNames::new(&config);
+    let named = [
+        names.name(&images[0]),
+        names.name(&images[1]),
+        names.name(&images[0]),
+    ];
+    assert!(rt; named == [first, None, first]);
     Ok(())
 }

@@ -20,11 +20,14 @@ ghost use Rattle.iocm_seats.specs.Sights.{AreSights, cells_of_sights};
 
 use crate::{Seat, ViewChange};
 use iocm_config::Config;
-use iocm_derive::{CellSight, name_of_image};
+use iocm_derive::{CellSight, ImageNames};
 use iocm_numbers::Numbers;
 use iocm_table::Table;
 use iocm_types::{Image, Live, Name, NumberCell, SubId, View};
 use std::alloc::{AllocError, Allocator};
+
+/// Where so many images are asked, which of them have the paths of a number cell online is gathered beforehand.
+const MANY_IMAGES: usize = 6;
 
 /// A change that is tried: the seats as they were before it, the configuration and the numbers as they are after it.
 #[derive(Drop)]
@@ -69,24 +72,38 @@ pub fn list_changes<A: Allocator, B: Allocator, C: Allocator, D: Allocator + Clo
 {
     // For the proof alone: each record stands under its own key.
     tried.config.has_own_keys();
-    let sights = sight_cells(alloc.clone()?, tried.config, tried.numbers, cells)?;
+    let sights = sight_cells(alloc.clone()?, tried, images, cells)?;
     list_at_images(alloc, tried, images, sights.as_slice())
 }
 
-/// What the images of a channel subsystem share at each of some number cells.
-fn sight_cells<'a, A: Allocator, B: Allocator, D: Allocator>(
+/// What the images of a channel subsystem share at each of some number cells, of which these images are asked.
+fn sight_cells<'a, A: Allocator, B: Allocator, C: Allocator, D: Allocator>(
     alloc: D,
-    config: &'a Config<A>,
-    numbers: &Numbers<B>,
+    tried: &Tried<'a, A, B, C>,
+    images: &[Image],
     cells: &[NumberCell],
-) -> Result<Vec<CellSight<'a, A>, D>, AllocError>
-    ensures { IfOk result (λ sights. sights.items ≡ map (sighted_cell config.entry.now.records numbers.now.numbers) cells.now) }
+) -> Result<Vec<CellSight<'a, B>, D>, AllocError>
+    ensures { IfOk result (λ sights. sights.items ≡ map (sighted_cell tried.now.config.now.records tried.now.numbers.now.numbers) cells.now) }
 {
     let mut sights = Vec::new(alloc);
     for cell in cells {
-        sights.push(CellSight::new(config, numbers, cell))?;
+        sights.push(sight_cell(tried, images, cell))?;
     }
     Ok(sights)
+}
+
+/// What the images of a channel subsystem share at a number cell, of which these images are asked.
+fn sight_cell<'a, A: Allocator, B: Allocator, C: Allocator>(
+    tried: &Tried<'a, A, B, C>,
+    images: &[Image],
+    cell: &NumberCell,
+) -> CellSight<'a, B>
+    ensures { result ≡ sighted_cell tried.now.config.now.records tried.now.numbers.now.numbers cell.now }
+{
+    if images.len() < MANY_IMAGES {
+        return CellSight::new(tried.config, tried.numbers, cell);
+    }
+    CellSight::gathered(tried.config, tried.numbers, cell)
 }
 
 /// The changes at the subchannels of some images and number cells.
@@ -105,8 +122,13 @@ fn list_at_images<A: Allocator, B: Allocator, C: Allocator, D: Allocator + Clone
         changes: Vec::new(alloc.clone()?),
         met: Vec::new(alloc),
     };
+    let mut names = ImageNames::new(tried.config);
     for image in images {
-        list_at_cells(&mut altered, tried, image, sights)?;
+        let named = NamedImage {
+            image: *image,
+            name: names.name(image),
+        };
+        list_at_cells(&mut altered, tried, &named, sights)?;
     }
     Ok(altered)
 }
@@ -115,21 +137,18 @@ fn list_at_images<A: Allocator, B: Allocator, C: Allocator, D: Allocator + Clone
 fn list_at_cells<A: Allocator, B: Allocator, C: Allocator, D: Allocator>(
     altered: &mut Altered<D>,
     tried: &Tried<'_, A, B, C>,
-    image: &Image,
+    named: &NamedImage,
     sights: &[CellSight<'_, B>],
 ) -> Result<(), AllocError>
     requires met { altered.old.met.items ≡ lives_met (lives_seated (rows sub_id_cmp tried.now.seats.now)) altered.old.changes.items }
     requires keyed { IsKeyed tried.now.config.now.records }
+    requires name { named.now.name ≡ name_at (lookup_of tried.now.config.now.records) named.now.image }
     requires sights { AreSights tried.now.config.now.records tried.now.numbers.now.numbers sights.now }
-    ensures changes { OnOk result (altered.new.changes.items ≡ altered.old.changes.items ++ filter_map (spec.change_at (get (views_seated (rows sub_id_cmp tried.now.seats.now))) (model.view_at tried.now.config.now.records tried.now.numbers.now.numbers)) (candidates (image.now ∷ []) (cells_of_sights sights.now))) }
+    ensures changes { OnOk result (altered.new.changes.items ≡ altered.old.changes.items ++ filter_map (spec.change_at (get (views_seated (rows sub_id_cmp tried.now.seats.now))) (model.view_at tried.now.config.now.records tried.now.numbers.now.numbers)) (candidates (named.now.image ∷ []) (cells_of_sights sights.now))) }
     ensures met { OnOk result (altered.new.met.items ≡ lives_met (lives_seated (rows sub_id_cmp tried.now.seats.now)) altered.new.changes.items) }
 {
-    let named = NamedImage {
-        image: *image,
-        name: name_of_image(tried.config, *image),
-    };
     for sight in sights {
-        list_at_cell(altered, tried, &named, sight)?;
+        list_at_cell(altered, tried, named, sight)?;
     }
     Ok(())
 }

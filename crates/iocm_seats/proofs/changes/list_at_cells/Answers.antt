@@ -20,9 +20,9 @@ list_at_cell-requires g c =
 pub loop-sight-preserved : goal.loop-sight-preserved
 loop-sight-preserved g c =
     let change = change_at (get (views_seated (rows sub_id_cmp c.args.tried.now.seats.now))) (view_at c.args.tried.now.config.now.records c.args.tried.now.numbers.now.numbers) in
-    let one = c.args.image.now ∷ [] in record {
+    let one = c.args.named.now.image ∷ [] in record {
       left = listed_more (λ (sights : List SightedCell). filter_map change (candidates one (cells_of_sights sights)))
-          (λ x xs. ap (filter_map change) (candidates_cell c.args.image.now x.cell (cells_of_sights xs))
+          (λ x xs. ap (filter_map change) (candidates_cell c.args.named.now.image x.cell (cells_of_sights xs))
           ∙ filter_map-append change (candidates one (x.cell ∷ [])) (candidates one (cells_of_sights xs)))
           c.args.sights.now c.loop-sight.sight-index c.sight-item.result c.loop-sight-test.true c.sight-item.is c.loop-sight.altered.changes.items c.list_at_cell.new.altered.changes.items _
           c.in_ok-list_at_cell.ensures.changes c.loop-sight.invariant.left;

@@ -14,8 +14,8 @@ use Rattle.iocm_seats.proofs.changes.list_at_cells.Given as goal
 abbrev pub invariant-loop-sight : goal.invariant-loop-sight
 invariant-loop-sight g l =
     let change = change_at (get (views_seated (rows sub_id_cmp l.tried.seats.now))) (view_at l.tried.config.now.records l.tried.numbers.now.numbers) in record {
-      left : l.altered.changes.items ++ filter_map change (candidates (l.image ∷ []) (cells_of_sights (drop l.sight-index l.sights)))
-          ≡ l.initial.altered.changes.items ++ filter_map change (candidates (l.image ∷ []) (cells_of_sights l.sights));
+      left : l.altered.changes.items ++ filter_map change (candidates (l.named.image ∷ []) (cells_of_sights (drop l.sight-index l.sights)))
+          ≡ l.initial.altered.changes.items ++ filter_map change (candidates (l.named.image ∷ []) (cells_of_sights l.sights));
       met : l.altered.met.items ≡ lives_met (lives_seated (rows sub_id_cmp l.tried.seats.now)) l.altered.changes.items;
       sights : AreSights l.tried.config.now.records l.tried.numbers.now.numbers (drop l.sight-index l.sights);
     }

@@ -20,5 +20,6 @@ loop-image-preserved g c =
           (λ x xs. ap (filter_map change) (candidates_image x xs (cells_of_sights c.args.sights.now)) ∙ filter_map-append change (candidates (x ∷ []) (cells_of_sights c.args.sights.now)) (candidates xs (cells_of_sights c.args.sights.now)))
           c.args.images.now c.loop-image.image-index c.image-item.result c.loop-image-test.true c.image-item.is c.loop-image.altered.changes.items c.list_at_cells.new.altered.changes.items _
           c.in_ok-list_at_cells.ensures.changes c.loop-image.invariant.left;
+      names = c.name.ensures.same ∙ c.loop-image.invariant.names;
       met = c.in_ok-list_at_cells.ensures.met;
     }

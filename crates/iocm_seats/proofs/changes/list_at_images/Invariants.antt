@@ -15,5 +15,6 @@ abbrev pub invariant-loop-image : goal.invariant-loop-image
 invariant-loop-image g l =
     let change = change_at (get (views_seated (rows sub_id_cmp l.tried.seats.now))) (view_at l.tried.config.now.records l.tried.numbers.now.numbers) in record {
       left : l.altered.changes.items ++ filter_map change (candidates (drop l.image-index l.images) (cells_of_sights l.sights)) ≡ filter_map change (candidates l.images (cells_of_sights l.sights));
+      names : l.names ≡ l.tried.config.now.records;
       met : l.altered.met.items ≡ lives_met (lives_seated (rows sub_id_cmp l.tried.seats.now)) l.altered.changes.items;
     }

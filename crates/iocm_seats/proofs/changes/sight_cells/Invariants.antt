@@ -4,5 +4,5 @@ use Rattle.iocm_derive.specs.SightedCells.{sighted_cell}
 use Rattle.iocm_seats.proofs.changes.sight_cells.Given as goal
 
 abbrev pub invariant-loop-cell : goal.invariant-loop-cell
-invariant-loop-cell g l = let sight = sighted_cell l.config.records l.numbers.numbers in
+invariant-loop-cell g l = let sight = sighted_cell l.tried.config.now.records l.tried.numbers.now.numbers in
     l.sights.items ++ map sight (drop l.cell-index l.cells) ≡ map sight l.cells
