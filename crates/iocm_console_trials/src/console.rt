@@ -81,45 +81,71 @@ impl Write for Sheet<'_> {
     }
 }
 
-/// How `show` is tried: after how many good reads one fails, the limit of reads, the room on the sheet, and whether that can be flushed;
-/// then how it must end.
-type Row = (u64, u64, usize, bool, &'static str);
+/// A reader that gives one blank at each read, for ever.
+#[derive(Drop)]
+struct Endless;
 
-/// The deck has 339 bytes, and is read 100 at a time: four reads give them, and the fifth the end.
-const ROWS: &[Row] = &[
-    (100, 100, 1024, true, "done"),
-    (5, 5, 1024, true, "done"),
-    (0, 100, 1024, true, "fault of reading"),
-    (2, 100, 1024, true, "fault of reading"),
-    (4, 100, 1024, true, "fault of reading"),
-    (100, 0, 1024, true, "fault of reading"),
-    (100, 4, 1024, true, "fault of reading"),
-    (100, 100, 0, true, "fault of writing"),
-    (100, 100, 20, true, "fault of writing"),
-    (100, 100, 36, true, "fault of writing"),
-    (100, 100, 37, true, "fault of writing"),
-    (100, 100, 100, true, "fault of writing"),
-    (100, 100, BASE_TABLE.len() - 1, true, "fault of writing"),
-    (100, 100, 1024, false, "fault of writing"),
+impl Read for Endless {
+    fn read(&mut self, buf: &mut [u8]) -> io::Result<usize> {
+        let mut blank: &[u8] = b" ";
+        blank.read(buf)
+    }
+}
+
+/// Each command, with what it prints of the base deck.
+const COMMANDS: &[(DeckCommand, &[u8])] = &[
+    (DeckCommand::Check, b"accepted 12\n"),
+    (DeckCommand::Show, BASE_TABLE),
+    (DeckCommand::Write, BASE_WRITTEN),
 ];
 
-/// How a command ended that has written this, none of it if a read failed; or what is wrong with it.
-fn end(ended: &Result<Status, ConsoleError>, written: &[u8]) -> &'static str {
+/// How a command is tried: how many bytes a read gives at most, after how many good reads one fails, the limit of reads, the room on the
+/// sheet, and whether that can be flushed; then how it must end.
+type Row = (usize, u64, u64, usize, bool, &'static str);
+
+/// The deck has 308 bytes: where it is read 100 at a time, four reads give them, and the fifth the end.
+const ROWS: &[Row] = &[
+    (100, 100, 100, 1024, true, "done"),
+    (100, 5, 5, 1024, true, "done"),
+    (100, 0, 100, 1024, true, "fault of reading"),
+    (100, 1, 100, 1024, true, "fault of reading"),
+    (100, 2, 100, 1024, true, "fault of reading"),
+    (100, 3, 100, 1024, true, "fault of reading"),
+    (100, 4, 100, 1024, true, "fault of reading"),
+    (100, 100, 0, 1024, true, "fault of reading"),
+    (100, 100, 1, 1024, true, "fault of reading"),
+    (100, 100, 2, 1024, true, "fault of reading"),
+    (100, 100, 3, 1024, true, "fault of reading"),
+    (100, 100, 4, 1024, true, "fault of reading"),
+    (1, 309, 309, 1024, true, "done"),
+    (1, 308, 309, 1024, true, "fault of reading"),
+    (1, 309, 308, 1024, true, "fault of reading"),
+    (100, 100, 100, 0, true, "fault of writing"),
+    (100, 100, 100, 1024, false, "fault of writing"),
+];
+
+/// How a command ended that is to print this and has written that, none of it if a read failed; or what is wrong with it.
+fn end(ended: &Result<Status, ConsoleError>, printed: &[u8], written: &[u8]) -> &'static str {
     match ended {
-        Ok(Status::Done) if written == BASE_TABLE => "done",
+        Ok(Status::Done) if written == printed => "done",
         Err(ConsoleError::Read) if written.is_empty() => "fault of reading",
-        Err(ConsoleError::Write) if BASE_TABLE.starts_with(written) => "fault of writing",
+        Err(ConsoleError::Write) if printed.starts_with(written) => "fault of writing",
         _ => "another end, or other bytes",
     }
 }
 
-/// How `show` ends on the base deck.
-fn shown(alloc: Global, row: &Row) -> Result<&'static str, AllocError> {
-    let (good, limit, room, is_flushed, _) = *row;
+/// How a command ends on the base deck, of which it is to print this.
+fn ended(
+    alloc: Global,
+    command: DeckCommand,
+    printed: &[u8],
+    row: &Row,
+) -> Result<&'static str, AllocError> {
+    let (step, good, limit, room, is_flushed, _) = *row;
     let mut bytes = Vec::with_capacity(alloc, 1024)?;
     let mut device = Device::new(Halting {
         bytes: BASE,
-        step: 100,
+        step,
         good,
     });
     let mut output = Output::new(Sheet {
@@ -127,20 +153,85 @@ fn shown(alloc: Global, row: &Row) -> Result<&'static str, AllocError> {
         room,
         is_flushed,
     });
-    let ended = answer_deck(alloc, DeckCommand::Show, &mut device, limit, &mut output);
-    Ok(end(&ended, bytes.as_slice()))
+    let ended = answer_deck(alloc, command, &mut device, limit, &mut output);
+    Ok(end(&ended, printed, bytes.as_slice()))
+}
+
+/// The place of the first row after which a command doesn't end as it must, if there is one.
+fn first_wrong(
+    alloc: Global,
+    command: DeckCommand,
+    printed: &[u8],
+) -> Result<Option<usize>, AllocError> {
+    for (place, row) in ROWS.iter().enumerate() {
+        if ended(alloc, command, printed, row)? != row.5 {
+            return Ok(Some(place));
+        }
+    }
+    Ok(None)
 }
 
 #[test]
 fn reads_and_writes_that_fail_are_faults(rt: HostRuntime) -> Result<(), Fail> {
-    for row in ROWS {
+    for (command, printed) in COMMANDS {
         assert_eq!(rt;
-            shown(rt.alloc(), row)?,
-            row.4,
-            "{0} {1} {2}",
-            row.0,
-            row.1,
-            row.2
+            first_wrong(rt.alloc(), *command, printed)?,
+            None,
+            "{command:?}"
+        );
+    }
+    Ok(())
+}
+
+/// The first room on the sheet, too little for what a command prints, with which it doesn't end with a fault of writing, if there is one.
+fn first_enough(
+    alloc: Global,
+    command: DeckCommand,
+    printed: &[u8],
+) -> Result<Option<usize>, AllocError> {
+    for room in 0..printed.len() {
+        let row: Row = (100, 100, 100, room, true, "fault of writing");
+        if ended(alloc, command, printed, &row)? != row.5 {
+            return Ok(Some(room));
+        }
+    }
+    Ok(None)
+}
+
+#[test]
+fn each_write_that_fails_is_a_fault(rt: HostRuntime) -> Result<(), Fail> {
+    for (command, printed) in COMMANDS {
+        assert_eq!(rt;
+            first_enough(rt.alloc(), *command, printed)?,
+            None,
+            "{command:?}"
+        );
+    }
+    Ok(())
+}
+
+/// How a command ends that finds no end within eight reads, and how many reads it made.
+fn ended_without_end(
+    alloc: Global,
+    command: DeckCommand,
+) -> Result<(&'static str, u64), AllocError> {
+    let mut bytes = Vec::with_capacity(alloc, 1024)?;
+    let mut device = Device::new(Endless);
+    let mut output = Output::new(Sheet {
+        bytes: &mut bytes,
+        room: 1024,
+        is_flushed: true,
+    });
+    let ended = answer_deck(alloc, command, &mut device, 8, &mut output);
+    Ok((end(&ended, b"", bytes.as_slice()), device.reads()))
+}
+
+#[test]
+fn a_reader_without_end_is_read_as_often_as_the_limit_says(rt: HostRuntime) -> Result<(), Fail> {
+    for (command, _) in COMMANDS {
+        assert_eq!(rt;
+            ended_without_end(rt.alloc(), *command)?,
+            ("fault of reading", 8)
         );
     }
     Ok(())
@@ -181,8 +272,11 @@ fn is_whole_or_refused(alloc: Global, command: DeckCommand, wanted: &[u8]) -> bo
 
 #[test]
 fn a_command_without_memory_is_refused_alone(rt: HostRuntime) -> Result<(), Fail> {
-    assert!(rt; is_whole_or_refused(rt.alloc(), DeckCommand::Check, b"accepted 12\n"));
-    assert!(rt; is_whole_or_refused(rt.alloc(), DeckCommand::Show, BASE_TABLE));
-    assert!(rt; is_whole_or_refused(rt.alloc(), DeckCommand::Write, BASE_WRITTEN));
+    for (command, printed) in COMMANDS {
+        assert!(rt;
+            is_whole_or_refused(rt.alloc(), *command, printed),
+            "{command:?}"
+        );
+    }
     Ok(())
 }

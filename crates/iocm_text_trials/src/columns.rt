@@ -175,10 +175,10 @@ fn faults_have_their_lines(rt: HostRuntime) -> Result<(), Fail> {
 }
 
 /// What reading from a reader whose first reads alone are good gives: the rule that refuses it, how many reads there were, and whether one has failed.
-fn read_halting(alloc: Global, good: u64) -> (Option<Rule>, u64, bool) {
+fn read_halting(alloc: Global, step: usize, good: u64) -> (Option<Rule>, u64, bool) {
     let mut device = Device::new(Halting {
         bytes: b"         ID\n\tBAD\n         ID\n",
-        step: 8,
+        step,
         good,
     });
     let answer = read_cards(alloc, &mut device, 100);
@@ -186,32 +186,84 @@ fn read_halting(alloc: Global, good: u64) -> (Option<Rule>, u64, bool) {
     (refused, device.reads(), device.has_failed())
 }
 
-#[test]
-fn a_reader_that_fails_in_mid_stream_is_unreadable(rt: HostRuntime) {
-    for good in 0..5 {
-        let seen = read_halting(rt.alloc(), good);
-        assert_eq!(rt; seen, (Some(Rule::L5), good + 1, true));
+/// How many bytes a read gives at most, and how many reads give 29 bytes and their end.
+const READS: &[(usize, u64)] = &[(8, 5), (1, 30)];
+
+/// After how many good reads, fewer than give all, a read that fails isn't refused by L5, if there is such a number.
+fn first_not_refused(alloc: Global, step: usize, reads: u64) -> Option<u64> {
+    for good in 0..reads {
+        if read_halting(alloc, step, good) != (Some(Rule::L5), good + 1, true) {
+            return Some(good);
+        }
     }
-    let seen = read_halting(rt.alloc(), 5);
-    assert_eq!(rt; seen, (Some(Rule::L1), 5, false));
+    None
 }
 
-/// How many cards two lines give within so many reads, and whether a read has failed.
-fn read_within(alloc: Global, limit: u8) -> (Option<usize>, bool) {
+#[test]
+fn a_reader_that_fails_in_mid_stream_is_unreadable(rt: HostRuntime) {
+    for (step, reads) in READS {
+        assert_eq!(rt; first_not_refused(rt.alloc(), *step, *reads), None);
+        let seen = read_halting(rt.alloc(), *step, *reads);
+        assert_eq!(rt; seen, (Some(Rule::L1), *reads, false));
+    }
+}
+
+/// How many bytes a read gives at most, the limit of reads, and how many cards two lines of 23 bytes give then.
+const LIMITS: &[(usize, u64, Option<usize>)] = &[
+    (8, 0, None),
+    (8, 1, None),
+    (8, 2, None),
+    (8, 3, None),
+    (8, 4, Some(2)),
+    (1, 0, None),
+    (1, 22, None),
+    (1, 23, None),
+    (1, 24, Some(2)),
+];
+
+/// How many cards two lines give so, and whether a read has failed.
+fn read_within(alloc: Global, step: usize, limit: u64) -> (Option<usize>, bool) {
     let mut device = Device::new(Halting {
         bytes: b"         ID\n         ID",
-        step: 8,
+        step,
         good: 100,
     });
-    let answer = read_cards(alloc, &mut device, u64::from(limit));
+    let answer = read_cards(alloc, &mut device, limit);
     let count = answer.ok().map(|cards| cards.len());
     (count, device.has_failed())
 }
 
 #[test]
 fn the_read_that_gives_the_end_is_one_of_the_reads(rt: HostRuntime) {
-    for limit in 0..4 {
-        assert_eq!(rt; read_within(rt.alloc(), limit), (None, false));
+    for (step, limit, wanted) in LIMITS {
+        assert_eq!(rt;
+            read_within(rt.alloc(), *step, *limit),
+            (*wanted, false),
+            "{step} {limit}"
+        );
     }
-    assert_eq!(rt; read_within(rt.alloc(), 4), (Some(2), false));
+}
+
+/// A reader that gives one blank at each read, for ever.
+#[derive(Drop)]
+struct Endless;
+
+impl Read for Endless {
+    fn read(&mut self, buf: &mut [u8]) -> io::Result<usize> {
+        let mut blank: &[u8] = b" ";
+        blank.read(buf)
+    }
+}
+
+/// The rule that refuses what has no end within eight reads, how many reads there were, and whether one has failed.
+fn read_endlessly(alloc: Global) -> (Option<Rule>, u64, bool) {
+    let mut device = Device::new(Endless);
+    let answer = read_cards(alloc, &mut device, 8);
+    let refused = answer.err().map(|fault| fault.rule);
+    (refused, device.reads(), device.has_failed())
+}
+
+#[test]
+fn a_reader_without_end_is_read_as_often_as_the_limit_says(rt: HostRuntime) {
+    assert_eq!(rt; read_endlessly(rt.alloc()), (Some(Rule::L5), 8, false));
 }
