@@ -1,8 +1,8 @@
 use crate::draws::{SMALL, draw_call, draw_first, draw_second, draw_subchannel};
 use crate::player::Player;
-use iocm_core::{Call, Core};
+use iocm_core::{Call, Core, Trace};
 use iocm_trial_machines::{Sight, below, configuration, is_heads, is_same, look_at};
-use iocm_types::{Answer, Rule};
+use iocm_types::{Answer, Rule, SubId};
 use rand_pcg::Pcg32;
 use std::alloc::{AllocError, Global};
 use std::test::Fail;
@@ -72,11 +72,38 @@ fn none() -> Tally {
     }
 }
 
-/// A core, the plain reading of what was asked of it, and what was counted.
+/// What a call names: a subchannel, or a change.
+#[derive(Clone, Copy, Debug, PartialEq, Eq)]
+struct Named {
+    subchannel: Option<SubId>,
+    change: Option<u64>,
+}
+
+/// What a call names.
+fn named_by(call: &Call) -> Named {
+    let (subchannel, change) = match call {
+        Call::Io(there, _) | Call::DeviceBegin(there) | Call::DeviceEnd(there) => {
+            (Some(*there), None)
+        }
+        Call::Undo(number) | Call::Redo(number) => (None, Some(*number)),
+        _ => (None, None),
+    };
+    Named { subchannel, change }
+}
+
+/// What is kept of a call that was made.
+#[derive(Clone, Copy, Debug, PartialEq, Eq)]
+struct Made {
+    named: Named,
+    answer: Answer,
+}
+
+/// A core, the plain reading of what was asked of it, the calls that were made, and what was counted.
 #[derive(Drop)]
 struct Run {
     core: Core,
     player: Player,
+    made: Vec<Made>,
     tally: Tally,
 }
 
@@ -95,6 +122,7 @@ fn begin(alloc: Global, tally: Tally) -> Result<Run, Fail> {
     Ok(Run {
         core: opened(alloc)?,
         player: Player::new(alloc, SMALL)?,
+        made: Vec::new(alloc),
         tally,
     })
 }
@@ -103,9 +131,11 @@ impl Run {
     /// Makes a call. Whether both answer the same.
     fn make(&mut self, alloc: Global, call: Call) -> Result<bool, Fail> {
         let plain = self.player.answer(alloc, &call)?;
-        let core = self.core.call(alloc, call).ok().ok_or("the trace is full")?;
-        self.tally.note(&core);
-        Ok(core == plain)
+        let named = named_by(&call);
+        let answer = self.core.call(alloc, call).ok().ok_or("the trace is full")?;
+        self.tally.note(&answer);
+        self.made.push(Made { named, answer })?;
+        Ok(answer == plain)
     }
 
     /// Draws two calls on a subchannel and makes them.
@@ -149,28 +179,48 @@ impl Run {
         Ok(difference)
     }
 
-    /// Whether the machine is left as the plain reading has it.
+    /// Whether the machine is left as the plain reading has it, with a trace of the calls that were made.
     fn is_left_so(self, alloc: Global) -> Result<bool, AllocError> {
         let Run {
             core,
             player,
+            made,
             tally: _tally,
         } = self;
-        is_as_plainly(alloc, core, &player)
+        is_as_plainly(alloc, core, &player, made.as_slice())
     }
 }
 
-/// All that a machine shows once its core is closed.
-fn sight_of(alloc: Global, core: Core) -> Result<Sight, AllocError> {
-    let closed = core.close();
-    look_at(alloc, &closed.plant)
+/// Whether a trace has these calls with their answers.
+fn has_made(trace: &Trace, made: &[Made]) -> bool {
+    let mut is_so = trace.entries.len() == made.len();
+    for (entry, call) in trace.entries.iter().zip(made) {
+        is_so = is_so && named_by(&entry.call) == call.named && entry.answer == call.answer;
+    }
+    is_so
 }
 
-/// Whether a machine is, once its core is closed, as the plain reading has it.
-fn is_as_plainly(alloc: Global, core: Core, player: &Player) -> Result<bool, AllocError> {
-    let here = sight_of(alloc, core)?;
-    let there = look_at(alloc, &player.plant)?;
-    Ok(is_same(&here, &there))
+/// Whether a machine shows this, once its core is closed, with a trace of these calls.
+fn is_closed_so(
+    alloc: Global,
+    core: Core,
+    wanted: &Sight,
+    made: &[Made],
+) -> Result<bool, AllocError> {
+    let closed = core.close();
+    let here = look_at(alloc, &closed.plant)?;
+    Ok(is_same(&here, wanted) && has_made(&closed.trace, made))
+}
+
+/// Whether a machine is, once its core is closed, as the plain reading has it, with a trace of these calls.
+fn is_as_plainly(
+    alloc: Global,
+    core: Core,
+    player: &Player,
+    made: &[Made],
+) -> Result<bool, AllocError> {
+    let wanted = look_at(alloc, &player.plant)?;
+    is_closed_so(alloc, core, &wanted, made)
 }
 
 /// Draws a run of so many turns, and goes on counting; the answers are compared, and what is left at the end.
@@ -201,6 +251,35 @@ fn first_apart(alloc: Global, tally: &mut Tally) -> Result<Option<Apart>, Fail> 
         }
     }
     Ok(None)
+}
+
+/// Draws a run anew up to each tenth turn. The first of these at which it goes apart, if it does.
+fn first_apart_of(alloc: Global, seed: u64, tally: &mut Tally) -> Result<Option<Apart>, Fail> {
+    for tens in 1..10 {
+        let apart = draw_run(alloc, seed, 10 * tens, tally)?;
+        if apart.is_some() {
+            return Ok(apart);
+        }
+    }
+    Ok(None)
+}
+
+/// The first of so many runs that goes apart at a tenth turn.
+fn first_apart_early(alloc: Global, count: u64, tally: &mut Tally) -> Result<Option<Apart>, Fail> {
+    for seed in 1..count {
+        let apart = first_apart_of(alloc, seed, tally)?;
+        if apart.is_some() {
+            return Ok(apart);
+        }
+    }
+    Ok(None)
+}
+
+#[test]
+fn a_run_is_left_so_at_each_tenth_turn(rt: HostRuntime) -> Result<(), Fail> {
+    let mut tally = none();
+    assert_eq!(rt; first_apart_early(rt.alloc(), 41, &mut tally)?, None);
+    Ok(())
 }
 
 #[test]

@@ -92,8 +92,8 @@ fn sight_after(alloc: Global, acts: &[Act]) -> Result<Sight, Fail> {
     sight_of(alloc, core)
 }
 
-/// Whether a core has so many entries, and its machine shows this.
-fn has_left(alloc: Global, core: Core, entries: usize, wanted: &Sight) -> Result<bool, Fail> {
+/// Whether a core, once it is closed, has so many entries, and its machine shows this.
+pub fn has_left(alloc: Global, core: Core, entries: usize, wanted: &Sight) -> Result<bool, Fail> {
     let closed = core.close();
     let is_full = closed.trace.entries.len() == entries;
     let seen = look_at_last(alloc, &closed.plant)?;

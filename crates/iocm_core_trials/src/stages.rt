@@ -1,9 +1,12 @@
-use crate::acts::{Act, ask_of, first_wrong, first_wrong_of, is_base, opened, sight_of};
+use crate::acts::{
+    Act, ask_of, base_sight, first_wrong, first_wrong_of, is_base, opened, sight_of,
+};
 use crate::asks::Ask::{
     Abort, Activate, Advance, Begin, Commit, DeviceBegin, DeviceEnd, Order, Show, Undo,
 };
 use crate::asks::Order::{Cancel, Enable, Start, Store, Test};
 use crate::asks::There;
+use crate::full::has_left;
 use crate::plans::Edit::{Becomes, Goes};
 use crate::plans::Shape;
 use crate::plans::Shape::{Choice, One, Three};
@@ -13,7 +16,7 @@ use crate::wanted::Wanted::{
     StartEnded,
 };
 use iocm_core::Core;
-use iocm_trial_machines::Deck;
+use iocm_trial_machines::{Deck, Sight};
 use iocm_types::{Answer, Rule};
 use std::alloc::Global;
 use std::test::Fail;
@@ -108,12 +111,17 @@ fn a_start_that_is_pending_is_cancelled_before_a_begin(rt: HostRuntime) -> Resul
     Ok(())
 }
 
-/// Whether the machine of these acts, once it is closed, is as the base machine is opened.
-fn are_without_trace(alloc: Global, acts: &[Act]) -> Result<bool, Fail> {
+/// Whether the machine of these acts, once it is closed, shows this, and its trace has so many entries.
+fn are_taken_back(
+    alloc: Global,
+    acts: &[Act],
+    entries: usize,
+    wanted: &Sight,
+) -> Result<bool, Fail> {
     let mut core = opened(alloc, 64)?;
     let wrong = first_wrong_of(alloc, &mut core, acts)?;
-    let after = sight_of(alloc, core)?;
-    Ok(wrong.is_none() && is_base(alloc, &after)?)
+    let is_left = has_left(alloc, core, entries, wanted)?;
+    Ok(wrong.is_none() && is_left)
 }
 
 /// Aborts a change in stages after these acts.
@@ -165,6 +173,7 @@ const LEFT_STAGED: &[Act] = &[(Begin(One(Goes(0x1003))), Staged(1)), (Advance, L
 
 #[test]
 fn what_is_left_staged_is_taken_back_at_the_end(rt: HostRuntime) -> Result<(), Fail> {
-    assert!(rt; are_without_trace(rt.alloc(), LEFT_STAGED)?);
+    let wanted = base_sight(rt.alloc())?;
+    assert!(rt; are_taken_back(rt.alloc(), LEFT_STAGED, 2, &wanted)?);
     Ok(())
 }
