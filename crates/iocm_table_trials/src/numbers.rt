@@ -227,11 +227,11 @@ fn give_some(numbers: &mut Numbers, in_css: u8, in_set: u8, some: &[u16]) -> Res
     Ok(())
 }
 
-/// The lowest free number of a channel subsystem and set once some numbers are given there.
+/// The lowest free number of set 0 of channel subsystem 0 once some numbers are given there.
 fn lowest_beside(alloc: Global, some: &[u16]) -> Result<Option<u16>, Fail> {
     let mut numbers = Numbers::new(alloc)?;
-    give_some(&mut numbers, 1, 2, some)?;
-    lowest(&numbers, 1, 2)
+    give_some(&mut numbers, 0, 0, some)?;
+    lowest(&numbers, 0, 0)
 }
 
 #[test]
@@ -241,16 +241,16 @@ fn the_lowest_free_number_is_found_between_others(rt: HostRuntime) -> Result<(),
     Ok(())
 }
 
-/// The lowest free number of a set of a channel subsystem once all are given in its set 1.
+/// The lowest free number of a set of channel subsystem 0 once all are given in its set 0.
 fn lowest_beside_all(alloc: Global, in_set: u8) -> Result<Option<u16>, Fail> {
     let mut numbers = Numbers::new(alloc)?;
-    give_all(&mut numbers, 0, 1)?;
+    give_all(&mut numbers, 0, 0)?;
     lowest(&numbers, 0, in_set)
 }
 
 #[test]
 fn no_number_is_free_where_all_are_given(rt: HostRuntime) -> Result<(), Fail> {
-    assert_eq!(rt; lowest_beside_all(rt.alloc(), 1)?, None);
+    assert_eq!(rt; lowest_beside_all(rt.alloc(), 0)?, None);
     Ok(())
 }
 
