@@ -1,164 +1,196 @@
-ghost use Rattle.std.specs.Prelude.{IfOk};
-ghost use Rattle.iocm_plant.specs.TakingBack.{CanUnapply};
-
-use crate::acts::Act::{Add, Delete, End, Modify, Number, Order, Seen};
-use crate::acts::{first_wrong, refused};
+use crate::acts::{Act, first_wrong};
+use crate::asks::Ask::{
+    Apply, ApplyAndBack, ApplyAndBackWith, ApplyKept, DeviceEnd, Force, ForceAndBack, IsAsOpened,
+    IsSeen, Memory, Number, Order, Phase,
+};
+use crate::asks::Change::{Add, Delete, Modify};
+use crate::asks::Named::{Device, Unit};
+use crate::asks::Order::{Cancel, Enable, Start, Test};
+use crate::asks::{Memory as Remembered, There};
+use crate::wanted::Wanted;
+use crate::wanted::Wanted::{Busy, Code, Done, Is, Refused, Status};
 use iocm_numbers::NumberChange;
 use iocm_plant::{Plant, Touched};
 use iocm_seats::ViewChange;
 use iocm_tree::Edit;
-use iocm_trial_machines::{
-    BASE, about, busy, device, enabled, entry, force, is_as_before, look_at_last, machine, place,
-    subchannel, take_back, unit,
-};
-use iocm_types::Order::{Cancel, Start, Test};
-use iocm_types::{DevNo, Io, Refused, Rule, ScswBits, SubId};
+use iocm_trial_machines::{BASE, Deck, device, machine, subchannel};
+use iocm_types::{DevNo, Function, Rule, SubId};
 use std::alloc::Global;
 use std::test::Fail;
 
-/// The device 2000 on the control unit of the base deck.
-const DEVICE_2000: &[u8] = b"         IODEVICE ADDRESS=2000,CUNUMBR=1000,UNITADD=04\n";
+const STATUS_IS_PENDING: &[Act] = &[
+    (Order(There(1, 1), Enable(0xC0, 0)), Code(0)),
+    (Order(There(1, 1), Start), Code(0)),
+    (DeviceEnd(There(1, 1)), Is(true)),
+    (Apply(Delete(Device(0x1001))), Busy(There(1, 1))),
+    (Order(There(1, 1), Test), Status(Function::Start)),
+    (Apply(Delete(Device(0x1001))), Done),
+    (IsSeen(There(1, 1)), Is(false)),
+];
 
 #[test]
 fn a_device_with_status_pending_is_not_deleted(rt: HostRuntime) -> Result<(), Fail> {
-    let there = subchannel(1, 1)?;
-    let ended = ScswBits::START | ScswBits::PENDING;
-    let acts = [
-        Order(there, enabled(0xC0), Io::Code(0)),
-        Order(there, Start, Io::Code(0)),
-        End(there, true),
-        Delete(device(0x1001), Some(busy(&there))),
-        Order(there, Test, Io::Status(ended)),
-        Delete(device(0x1001), None),
-        Seen(there, false),
-    ];
-    assert_eq!(rt; first_wrong(rt.alloc(), BASE, acts.as_slice())?, None);
+    assert_eq!(rt; first_wrong(rt.alloc(), BASE, STATUS_IS_PENDING)?, None);
     Ok(())
 }
+
+const START_IS_CANCELLED: &[Act] = &[
+    (Order(There(1, 0), Enable(0xC0, 0)), Code(0)),
+    (Order(There(1, 0), Start), Code(0)),
+    (Apply(Delete(Device(0x1000))), Busy(There(1, 0))),
+    (Order(There(1, 0), Cancel), Code(0)),
+    (Apply(Delete(Device(0x1000))), Done),
+];
 
 #[test]
 fn a_device_is_deleted_once_its_start_is_cancelled(rt: HostRuntime) -> Result<(), Fail> {
-    let there = subchannel(1, 0)?;
-    let acts = [
-        Order(there, enabled(0xC0), Io::Code(0)),
-        Order(there, Start, Io::Code(0)),
-        Delete(device(0x1000), Some(busy(&there))),
-        Order(there, Cancel, Io::Code(0)),
-        Delete(device(0x1000), None),
-    ];
-    assert_eq!(rt; first_wrong(rt.alloc(), BASE, acts.as_slice())?, None);
+    assert_eq!(rt; first_wrong(rt.alloc(), BASE, START_IS_CANCELLED)?, None);
     Ok(())
 }
+
+const TWO_ARE_IN_THE_WAY: &[Act] = &[
+    (Order(There(2, 3), Enable(0x80, 0)), Code(0)),
+    (Order(There(2, 3), Start), Code(0)),
+    (Apply(Delete(Device(0x1003))), Busy(There(2, 3))),
+    (Order(There(1, 3), Enable(0x80, 0)), Code(0)),
+    (Order(There(1, 3), Start), Code(0)),
+    (Apply(Delete(Device(0x1003))), Busy(There(1, 3))),
+];
 
 #[test]
 fn the_least_subchannel_in_the_way_is_named(rt: HostRuntime) -> Result<(), Fail> {
-    let first = subchannel(1, 3)?;
-    let second = subchannel(2, 3)?;
-    let acts = [
-        Order(second, enabled(0x80), Io::Code(0)),
-        Order(second, Start, Io::Code(0)),
-        Delete(device(0x1003), Some(busy(&second))),
-        Order(first, enabled(0x80), Io::Code(0)),
-        Order(first, Start, Io::Code(0)),
-        Delete(device(0x1003), Some(busy(&first))),
-    ];
-    assert_eq!(rt; first_wrong(rt.alloc(), BASE, acts.as_slice())?, None);
+    assert_eq!(rt; first_wrong(rt.alloc(), BASE, TWO_ARE_IN_THE_WAY)?, None);
     Ok(())
 }
+
+const THERE_AND_ABSENT: &[Act] = &[
+    (
+        Apply(Add(Deck::Base, Device(0x1000))),
+        Refused(Rule::E1, Device(0x1000)),
+    ),
+    (Apply(Delete(Unit(0x2000))), Refused(Rule::E2, Unit(0x2000))),
+    (
+        Apply(Modify(Deck::New, Device(0x2000))),
+        Refused(Rule::E2, Device(0x2000)),
+    ),
+    (Apply(Add(Deck::New, Device(0x2000))), Done),
+    (Number(0x2000), Wanted::Number(Some(4))),
+];
 
 #[test]
 fn what_is_there_is_not_added_and_what_is_not_is_not_changed(rt: HostRuntime) -> Result<(), Fail> {
-    let here = device(0x1000);
-    let absent = device(0x2000);
-    let gone = unit(0x2000)?;
-    let acts = [
-        Add(BASE, here, Some(about(Rule::E1, &here))),
-        Delete(gone, Some(about(Rule::E2, &gone))),
-        Modify(DEVICE_2000, absent, Some(about(Rule::E2, &absent))),
-        Add(DEVICE_2000, absent, None),
-        Number(place(0x2000), Some(4)),
-    ];
-    assert_eq!(rt; first_wrong(rt.alloc(), BASE, acts.as_slice())?, None);
+    assert_eq!(rt; first_wrong(rt.alloc(), BASE, THERE_AND_ABSENT)?, None);
     Ok(())
 }
 
-/// Enables a subchannel and starts it.
-fn start(plant: &mut Plant, there: &SubId) {
-    let _ = plant.step(*there, enabled(0xC0));
-    let _ = plant.step(*there, Start);
-}
-
-/// Deletes a device of set 0, busy or not. The answer is the edit that takes it back.
-fn delete(alloc: Global, plant: &mut Plant, number: u16) -> Result<Edit, Fail>
-    ensures { IfOk result (λ i. CanUnapply i plant.new) }
-{
-    let deleted = force(alloc, plant, Edit::delete(alloc, device(number)));
-    match deleted {
-        Ok(inverse) => Ok(inverse),
-        Err(_) => Err(Fail::from("the device is not deleted")),
-    }
-}
-
-/// Adds the device 2000.
-fn add_2000(alloc: Global, plant: &mut Plant) -> Result<(), Fail> {
-    let other = entry(alloc, DEVICE_2000, &device(0x2000)).ok_or("no device")?;
-    if refused(alloc, plant, Edit::add(alloc, other)).is_some() {
-        return Err(Fail::from("the device 2000 is not added"));
-    }
-    Ok(())
-}
-
-/// Deletes the device 1001, and gives its number to 2000. The answer is the edit that takes the deletion back.
-fn give_away(alloc: Global, plant: &mut Plant) -> Result<Edit, Fail> {
-    let inverse = delete(alloc, plant, 0x1001)?;
-    add_2000(alloc, plant)?;
-    Ok(inverse)
-}
-
-/// That an edit brings a number along that is taken, for the device 1001, and the machine is as it was.
-fn finds_it_taken(alloc: Global, plant: &mut Plant, edit: Edit) -> Result<(), Fail> {
-    let before = look_at_last(alloc, plant)?;
-    if refused(alloc, plant, edit) != Some(about(Rule::E4, &device(0x1001))) {
-        return Err(Fail::from("the number isn't taken"));
-    }
-    is_as_before(alloc, plant, &before)
-}
-
-/// That the device 2000 has the number 1.
-fn has_number_1(plant: &Plant) -> Result<(), Fail> {
-    if plant.numbers().number_of(place(0x2000)) == Some(1) {
-        Ok(())
-    } else {
-        Err(Fail::from("the device 2000 has another number"))
-    }
-}
-
-/// The number of a device that is deleted is given to another, and can't come back.
-fn come_too_late(alloc: Global, plant: &mut Plant) -> Result<(), Fail> {
-    let inverse = give_away(alloc, plant)?;
-    has_number_1(plant)?;
-    finds_it_taken(alloc, plant, inverse)
-}
+/// The number of a device that was deleted is given to another, and can't come back.
+const NUMBER_IS_GIVEN_AWAY: &[Act] = &[
+    (Apply(Delete(Device(0x1001))), Done),
+    (Number(0x1001), Wanted::Number(None)),
+    (Apply(Add(Deck::New, Device(0x2000))), Done),
+    (Number(0x2000), Wanted::Number(Some(1))),
+    (ApplyKept, Refused(Rule::E4, Device(0x1001))),
+    (Number(0x2000), Wanted::Number(Some(1))),
+    (Apply(Delete(Device(0x2000))), Done),
+    (ApplyKept, Done),
+    (IsAsOpened, Is(true)),
+];
 
 #[test]
 fn a_number_that_comes_along_may_be_taken(rt: HostRuntime) -> Result<(), Fail> {
-    let mut plant = machine(rt.alloc(), BASE)?;
-    come_too_late(rt.alloc(), &mut plant)
-}
-
-/// The device 1001 is deleted while its subchannel is busy, and comes back.
-fn go_and_come(alloc: Global, plant: &mut Plant) -> Result<(), Fail> {
-    start(plant, &subchannel(1, 1)?);
-    let before = look_at_last(alloc, plant)?;
-    let inverse = delete(alloc, plant, 0x1001)?;
-    let _ = take_back(alloc, plant, inverse, &before)?;
+    assert_eq!(rt; first_wrong(rt.alloc(), BASE, NUMBER_IS_GIVEN_AWAY)?, None);
     Ok(())
 }
 
+/// The same of one that was deleted while its subchannel was busy.
+const NUMBER_OF_A_BUSY_ONE: &[Act] = &[
+    (Order(There(1, 1), Enable(0xC0, 0)), Code(0)),
+    (Order(There(1, 1), Start), Code(0)),
+    (Force(Delete(Device(0x1001))), Done),
+    (Apply(Add(Deck::New, Device(0x2000))), Done),
+    (Number(0x2000), Wanted::Number(Some(1))),
+    (ApplyKept, Refused(Rule::E4, Device(0x1001))),
+];
+
+#[test]
+fn a_number_of_a_busy_device_may_be_taken(rt: HostRuntime) -> Result<(), Fail> {
+    assert_eq!(rt; first_wrong(rt.alloc(), BASE, NUMBER_OF_A_BUSY_ONE)?, None);
+    Ok(())
+}
+
+const QUIET_ONE_COMES_BACK: &[Act] = &[
+    (ApplyAndBack(Delete(Device(0x1001))), Done),
+    (IsAsOpened, Is(true)),
+];
+
+#[test]
+fn a_quiet_device_comes_back_as_it_was_opened(rt: HostRuntime) -> Result<(), Fail> {
+    assert_eq!(rt; first_wrong(rt.alloc(), BASE, QUIET_ONE_COMES_BACK)?, None);
+    Ok(())
+}
+
+const BUSY_ONE_COMES_BACK: &[Act] = &[
+    (Order(There(1, 1), Enable(0xC0, 0)), Code(0)),
+    (Order(There(1, 1), Start), Code(0)),
+    (ApplyAndBack(Delete(Device(0x1001))), Busy(There(1, 1))),
+    (ForceAndBack(Delete(Device(0x1001))), Done),
+    (Order(There(1, 1), Start), Code(2)),
+    (Order(There(1, 1), Cancel), Code(0)),
+];
+
 #[test]
 fn a_busy_subchannel_comes_back_as_it_was(rt: HostRuntime) -> Result<(), Fail> {
-    let mut plant = machine(rt.alloc(), BASE)?;
-    go_and_come(rt.alloc(), &mut plant)
+    assert_eq!(rt; first_wrong(rt.alloc(), BASE, BUSY_ONE_COMES_BACK)?, None);
+    Ok(())
+}
+
+/// What a subchannel remembers that nobody has touched.
+const FRESH: Remembered = Remembered {
+    enabled: false,
+    lpm: 0xC0,
+    parm: 0,
+    phase: iocm_types::Phase::Idle,
+};
+
+/// What a subchannel remembers whose start is active.
+const ACTIVE: Remembered = Remembered {
+    enabled: true,
+    lpm: 0x80,
+    parm: 9,
+    phase: iocm_types::Phase::StartActive,
+};
+
+const COMES_BACK_FRESH: &[Act] = &[
+    (Order(There(1, 1), Enable(0x80, 7)), Code(0)),
+    (Order(There(2, 1), Enable(0x80, 8)), Code(0)),
+    (IsAsOpened, Is(false)),
+    (ApplyAndBackWith(Delete(Device(0x1001)), FRESH), Done),
+    (IsAsOpened, Is(true)),
+];
+
+#[test]
+fn a_device_comes_back_with_fresh_live_records(rt: HostRuntime) -> Result<(), Fail> {
+    assert_eq!(rt; first_wrong(rt.alloc(), BASE, COMES_BACK_FRESH)?, None);
+    Ok(())
+}
+
+const COMES_BACK_ACTIVE: &[Act] = &[
+    (Memory(There(1, 1)), Wanted::Memory(FRESH)),
+    (ApplyAndBackWith(Delete(Device(0x1001)), ACTIVE), Done),
+    (Memory(There(1, 1)), Wanted::Memory(ACTIVE)),
+    (Memory(There(2, 1)), Wanted::Memory(ACTIVE)),
+    (Memory(There(1, 0)), Wanted::Memory(FRESH)),
+    (Apply(Delete(Device(0x1001))), Busy(There(1, 1))),
+    (DeviceEnd(There(1, 1)), Is(true)),
+    (Order(There(1, 1), Test), Status(Function::Start)),
+    (Phase(There(1, 1)), Wanted::Phase(iocm_types::Phase::Idle)),
+    (Apply(Delete(Device(0x1001))), Busy(There(2, 1))),
+];
+
+#[test]
+fn a_device_comes_back_with_other_live_records(rt: HostRuntime) -> Result<(), Fail> {
+    assert_eq!(rt; first_wrong(rt.alloc(), BASE, COMES_BACK_ACTIVE)?, None);
+    Ok(())
 }
 
 /// Whether a deletion of the device 1001 tells its number, and the subchannels of both images.

@@ -1,12 +1,13 @@
+use crate::acts::sight_of;
+use crate::asks::Named;
+use crate::asks::Named::{Device, Image, Online, Path, Unit};
 use crate::rounds::{Edits, forth_and_back};
 use iocm_config::Config;
 use iocm_plant::Plant;
 use iocm_record::Record;
 use iocm_tree::Edit;
-use iocm_trial_machines::{
-    BASE, Sight, configuration, device, image, look_at_last, machine, name, sees_alike, unit,
-};
-use iocm_types::{Chpid, Css, Key};
+use iocm_trial_machines::{BASE, configuration, look_at_last, machine, sees_alike};
+use iocm_types::Key;
 use std::alloc::{AllocError, Global};
 use std::test::Fail;
 
@@ -78,19 +79,20 @@ const OFFLINE: &[u8] = b"         RESOURCE PARTITION=((CSS(0),(LPA,1),(LPB,2)))
 /// The edits that make the records of keys what they are in a deck.
 #[derive(Drop)]
 struct Towards<'a> {
-    keys: &'a [Key],
+    keys: &'a [Named],
     place: usize,
     deck: &'a [u8],
 }
 
 impl Edits for Towards<'_> {
     fn next(&mut self, alloc: Global, plant: &Plant) -> Result<Option<Edit>, Fail> {
-        let Some(key) = self.keys.get(self.place) else {
+        let Some(named) = self.keys.get(self.place) else {
             return Ok(None);
         };
         self.place += 1;
+        let key = named.key()?;
         let target = configuration(alloc, self.deck).ok_or("the deck is not read")?;
-        Ok(Some(edit_to(alloc, plant, key, &target)?))
+        Ok(Some(edit_to(alloc, plant, &key, &target)?))
     }
 
     fn goes_on(&mut self, alloc: Global, plant: &Plant) -> Result<bool, Fail> {
@@ -100,11 +102,6 @@ impl Edits for Towards<'_> {
             Err(Fail::from("the machine shows something else"))
         }
     }
-}
-
-/// All that the machine of a deck shows.
-fn sight_of(alloc: Global, deck: &[u8]) -> Result<Sight, Fail> {
-    look_at_last(alloc, &machine(alloc, deck)?)
 }
 
 /// Whether a machine shows what the machine of a deck shows.
@@ -133,7 +130,7 @@ fn copy_at_last(alloc: Global, entry: &Record) -> Result<Record, AllocError> {
 }
 
 /// Goes from one deck to another by the records of these keys, and back. The answer is how many edits stood at the end.
-fn go(alloc: Global, deck: &[u8], keys: &[Key], target: &[u8]) -> Result<u32, Fail> {
+fn go(alloc: Global, deck: &[u8], keys: &[Named], target: &[u8]) -> Result<u32, Fail> {
     let mut plant = machine(alloc, deck)?;
     let mut edits = Towards {
         keys,
@@ -143,81 +140,74 @@ fn go(alloc: Global, deck: &[u8], keys: &[Key], target: &[u8]) -> Result<u32, Fa
     forth_and_back(alloc, &mut plant, &mut edits, 9)
 }
 
-/// The keys of an image LPB and of what names it.
-fn keys_of_image() -> Result<[Key; 3], Fail> {
-    let there = image(2)?;
-    let path = Chpid::new(0x50);
-    Ok([
-        Key::Image(there.css, there.mif),
-        Key::Path(there.css, path),
-        Key::Online(there.css, path, name(b"LPB")?),
-    ])
-}
+/// The name of the first image.
+const LPA: &[u8] = b"LPA";
 
-/// The keys of the path 51 and of its being online to either image.
-fn keys_of_paths() -> Result<[Key; 3], Fail> {
-    let path = Chpid::new(0x51);
-    Ok([
-        Key::Path(Css::FIRST, path),
-        Key::Online(Css::FIRST, path, name(b"LPA")?),
-        Key::Online(Css::FIRST, path, name(b"LPB")?),
-    ])
-}
+/// The name of the second.
+const LPB: &[u8] = b"LPB";
+
+/// The second image and what names it.
+const IMAGE: &[Named] = &[Image(2), Path(0x50), Online(0x50, LPB)];
+
+/// The same, the image last.
+const IMAGE_LAST: &[Named] = &[Online(0x50, LPB), Path(0x50), Image(2)];
+
+/// A device that comes or goes.
+const NEW: &[Named] = &[Device(0x2000)];
+
+/// A device that moves.
+const MOVED: &[Named] = &[Device(0x1001)];
+
+/// The control unit.
+const UNIT: &[Named] = &[Unit(0x1000)];
+
+/// The path 51 and its being online to either image.
+const PATHS: &[Named] = &[Path(0x51), Online(0x51, LPA), Online(0x51, LPB)];
 
 #[test]
 fn a_device_comes(rt: HostRuntime) -> Result<(), Fail> {
-    let keys = [device(0x2000)];
-    assert_eq!(rt; go(rt.alloc(), BASE, keys.as_slice(), MORE)?, 1);
+    assert_eq!(rt; go(rt.alloc(), BASE, NEW, MORE)?, 1);
     Ok(())
 }
 
 #[test]
 fn a_device_goes(rt: HostRuntime) -> Result<(), Fail> {
-    let keys = [device(0x2000)];
-    assert_eq!(rt; go(rt.alloc(), MORE, keys.as_slice(), BASE)?, 1);
+    assert_eq!(rt; go(rt.alloc(), MORE, NEW, BASE)?, 1);
     Ok(())
 }
 
 #[test]
 fn the_paths_of_a_control_unit_turn(rt: HostRuntime) -> Result<(), Fail> {
-    let keys = [unit(0x1000)?];
-    assert_eq!(rt; go(rt.alloc(), BASE, keys.as_slice(), TURNED)?, 1);
+    assert_eq!(rt; go(rt.alloc(), BASE, UNIT, TURNED)?, 1);
     Ok(())
 }
 
 #[test]
 fn paths_come_online_and_go_offline(rt: HostRuntime) -> Result<(), Fail> {
-    let keys = keys_of_paths()?;
-    assert_eq!(rt; go(rt.alloc(), BASE, keys.as_slice(), OFFLINE)?, 3);
+    assert_eq!(rt; go(rt.alloc(), BASE, PATHS, OFFLINE)?, 3);
     Ok(())
 }
 
 #[test]
 fn an_image_is_added(rt: HostRuntime) -> Result<(), Fail> {
-    let keys = keys_of_image()?;
-    assert_eq!(rt; go(rt.alloc(), ONE_IMAGE, keys.as_slice(), TWO_IMAGES)?, 3);
+    assert_eq!(rt; go(rt.alloc(), ONE_IMAGE, IMAGE, TWO_IMAGES)?, 3);
     Ok(())
 }
 
 #[test]
 fn an_image_is_deleted(rt: HostRuntime) -> Result<(), Fail> {
-    let all = keys_of_image()?;
-    let keys = [all[2], all[1], all[0]];
-    assert_eq!(rt; go(rt.alloc(), TWO_IMAGES, keys.as_slice(), ONE_IMAGE)?, 3);
+    assert_eq!(rt; go(rt.alloc(), TWO_IMAGES, IMAGE_LAST, ONE_IMAGE)?, 3);
     Ok(())
 }
 
 #[test]
 fn an_image_comes_last(rt: HostRuntime) -> Result<(), Fail> {
-    let all = keys_of_image()?;
-    let keys = [all[2], all[1], all[0]];
-    assert_eq!(rt; go(rt.alloc(), ONE_IMAGE, keys.as_slice(), TWO_IMAGES)?, 3);
+    assert_eq!(rt; go(rt.alloc(), ONE_IMAGE, IMAGE_LAST, TWO_IMAGES)?, 3);
     Ok(())
 }
 
 #[test]
 fn a_device_moves_to_another_channel_subsystem(rt: HostRuntime) -> Result<(), Fail> {
-    let keys = [device(0x1001)];
-    assert_eq!(rt; go(rt.alloc(), HERE, keys.as_slice(), THERE)?, 1);
+    assert_eq!(rt; go(rt.alloc(), HERE, MOVED, THERE)?, 1);
     Ok(())
 }
