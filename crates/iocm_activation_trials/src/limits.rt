@@ -6,7 +6,7 @@ use iocm_types::{At, Css, Key, Refused, Rule, SetNo};
 use std::test::Fail;
 
 /// The base deck with as many device numbers as its devices have.
-const LIMITED: &[u8] = b" RESOURCE PARTITION=((CSS(0),(LPA,1),(LPB,2))),MAXDEV=((CSS(0),4))
+pub const LIMITED: &[u8] = b" RESOURCE PARTITION=((CSS(0),(LPA,1),(LPB,2))),MAXDEV=((CSS(0),4))
          CHPID PATH=(CSS(0),50),SHARED,PARTITION=((LPA,LPB),(=))
          CHPID PATH=(CSS(0),51),SHARED,PARTITION=((LPA),(LPA,LPB))
          CNTLUNIT CUNUMBR=1000,PATH=((CSS(0),50,51)),UNITADD=((00,16))
