@@ -8,3 +8,4 @@ mod Changes
 mod Copying
 mod Recording
 mod First
+pub mod Sends

@@ -11,6 +11,7 @@ use Rattle.iocm_model.specs.Change.Tree.{ChangeTree, Parts, leaf, row, group, ch
 use Rattle.iocm_model.specs.Operation.State.{State}
 use Rattle.iocm_model.specs.Operation.Step.{Step}
 use Rattle.iocm_core.specs.Seen.{Core}
+use Rattle.iocm_core.specs.declared.trace.Entry as trace
 use Rattle.iocm_history.specs.Entry.{Call, at, activate, begin, advance, commit, abort, undo, redo, show, Entry}
 
 -- ---- trees
@@ -158,6 +159,6 @@ module _ (steps : Coded (SubId × Step)) (edits : Coded Edit) (answers : Coded A
   entry_code = code_by (Call × (Answer × Effect)) (coded× call_code (coded× answers effects))
       (λ e. (e.call, (e.answer, e.effect))) (λ p. record { call = p.0; answer = p.1.0; effect = p.1.1 }) (λ _. refl)
 
-  abbrev pub core_code : Coded Core
-  core_code = code_by (State × (List Entry × ℕ)) (coded× states (coded× (coded_list entry_code) coded_ℕ))
-      (λ c. (c.opening, (c.history, c.room))) (λ p. record { opening = p.0; history = p.1.0; room = p.1.1 }) (λ _. refl)
+  abbrev pub core_code : Coded trace.Entry → Coded Core
+  core_code told = code_by (State × (List Entry × (List trace.Entry × ℕ))) (coded× states (coded× (coded_list entry_code) (coded× (coded_list told) coded_ℕ)))
+      (λ c. (c.opening, (c.history, (c.entries, c.room)))) (λ p. record { opening = p.0; history = p.1.0; entries = p.1.1.0; room = p.1.1.1 }) (λ _. refl)

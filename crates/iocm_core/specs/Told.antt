@@ -36,3 +36,7 @@ IsWithin count _ = Unit {0}
 abbrev pub GoesOnWith : Answer → List Effect → List Effect → Type 0
 GoesOnWith (answers.Changed n) old new = (f : Effect) × ((new ≡ old ++ f ∷ []) × (n ≡ length old + 1))
 GoesOnWith _ old new = new ≡ old
+
+-- a history is what entries tell, with what some changes wrote
+abbrev pub IsTold : history.History → List Entry → Type 0
+IsTold h es = (fs : List Effect) × (h ≡ history_in fs es)

@@ -1,4 +1,4 @@
-ghost use Rattle.std.specs.Prelude.{◌≡◌, ◌<◌, ◌++◌, ◌∷◌, [], length, IfOk, IfErr, OnOk, OnErr};
+ghost use Rattle.std.specs.Prelude.{◌≡◌, ◌<◌, ◌≤◌, ◌-◌, ◌++◌, ◌∷◌, [], length, slice_get, Some, IfOk, IfErr, OnOk, OnErr};
 ghost use Rattle.std.specs.Vec.{vec_capacity, vec_len};
 ghost use Rattle.iocm_core.specs.Calls.{call_in};
 ghost use Rattle.iocm_core.specs.Recorded.{IsRecorded};
@@ -31,6 +31,7 @@ impl Model for Core {
     ghost use Rattle.iocm_model.specs.Machine.Numbering.{Numbering};
     ghost use Rattle.iocm_model.specs.Operation.State.{Lives};
     ghost use Rattle.iocm_core.specs.Codes.{core_code};
+    ghost use Rattle.iocm_core.specs.contracts.trace.Entry as trace;
     ghost use Rattle.iocm_core.specs.Seen as seen;
 
     ghost Value = { seen.Core };
@@ -42,13 +43,14 @@ impl Model for Core {
         (code_by (_ × (_ × _)) (coded× (map.code (Prim.hlevel codes) (Prim.hlevel codes)) (coded× (map.code (Prim.hlevel codes) (Prim.hlevel codes)) (map.code (Prim.hlevel codes) (Prim.hlevel codes))))
         (λ f. (f.records, (f.numbers, f.lives))) (λ p. record { records = p.0; numbers = p.1.0; lives = p.1.1 }) (λ _. refl))
         (code_by (Configuration × (Numbering × Lives)) (coded× (map.code (Prim.hlevel codes) (Prim.hlevel codes)) (coded× (map.code (Prim.hlevel codes) coded_ℕ) (map.code (Prim.hlevel codes) (Prim.hlevel codes))))
-        (λ s. (s.config, (s.numbers, s.lives))) (λ p. record { config = p.0; numbers = p.1.0; lives = p.1.1 }) (λ _. refl)) };
+        (λ s. (s.config, (s.numbers, s.lives))) (λ p. record { config = p.0; numbers = p.1.0; lives = p.1.1 }) (λ _. refl))
+        trace.the_row.coded };
 
     ghost use Rattle.iocm_model.specs.Operation.State.{opening_state};
     ghost use Rattle.iocm_core.specs.Told.{history_in};
     ghost use Rattle.iocm_core.specs.Held as held;
 
-    ghost view = { λ c. record { opening = opening_state c.opening.records; history = history_in c.machine.changes.items c.entries.items; room = c.room } };
+    ghost view = { λ c. record { opening = opening_state c.opening.records; history = history_in c.machine.changes.items c.entries.items; entries = c.entries.items; room = c.room } };
 
     ghost invariant = { λ c. held.IsCore (opening_state c.opening.records) c.machine c.entries.items c.room (vec_capacity c.entries) };
 }
@@ -61,15 +63,32 @@ pub struct Full {
 }
 
 impl Core {
+    /// How many calls were recorded.
+    pub fn len(&self) -> usize
+        ensures len { result ≡ length self.now.entries }
+        ensures room { result ≤ self.now.room }
+    {
+        self.entries.len()
+    }
+
+    /// The call that was recorded last, with its answer.
+    pub fn last(&self) -> &Entry
+        requires { 0 < length self.now.entries }
+        ensures { slice_get self.now.entries (length self.now.entries - 1) ≡ Some result.now }
+    {
+        &self.entries[self.entries.len() - 1]
+    }
+
     /// Makes a call on the machine, and records it with its answer. A call that is refused changes nothing but the trace.
     ///
     /// `Full`: the trace has as many entries as it has room for; the call is handed back, and nothing is recorded.
     pub fn call(&mut self, alloc: Global, call: Call) -> Result<Answer, Full>
         ensures recorded { IfOk result (λ answer. IsRecorded self.old (call_in call) answer self.new) }
+        ensures entries { IfOk result (λ answer. self.new.entries ≡ self.old.entries ++ record { call = call; answer = answer } ∷ []) }
         ensures same { OnErr result (self.new ≡ self.old) }
         ensures handed_back { IfErr result (λ full. full.call ≡ call) }
-        ensures full { OnErr result (length self.old.history ≡ self.old.room) }
-        ensures room { OnOk result (length self.old.history < self.old.room) }
+        ensures full { OnErr result (length self.old.entries ≡ self.old.room) }
+        ensures room { OnOk result (length self.old.entries < self.old.room) }
     {
         if self.entries.len() == self.room {
             return Err(Full { call });

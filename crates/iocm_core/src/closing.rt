@@ -7,7 +7,7 @@ ghost use Rattle.iocm_history.specs.Stage.{Stage};
 ghost use Rattle.iocm_model.specs.Operation.State.{State, opening_state};
 ghost use Rattle.iocm_stage.specs.Staged.{IsStaged};
 ghost use Rattle.iocm_core.specs.Running.{IsStagedAs};
-ghost use Rattle.iocm_core.specs.Told.{history_in};
+ghost use Rattle.iocm_core.specs.Told.{history_in, IsTold};
 
 use crate::machine::Machine;
 use crate::{Core, Trace};
@@ -29,6 +29,7 @@ impl Core {
         ensures state { result.plant.state ≡ state_at self.opening self.history }
         ensures opening { opening_state result.trace.opening.records ≡ self.opening }
         ensures history { history_in result.trace.changes.items result.trace.entries.items ≡ self.history }
+        ensures entries { result.trace.entries.items ≡ self.entries }
         ensures changes { length result.trace.changes.items ≡ (journal_of self.history).count }
     {
         let Core {
@@ -59,6 +60,8 @@ impl Core {
     pub fn is_legal(&self)
         ensures used { IsInUse self.now.opening }
         ensures legal { IsLegal self.now.opening self.now.history }
+        ensures told { IsTold self.now.history self.now.entries }
+        ensures as_many { length self.now.history ≡ length self.now.entries }
     {
         let _ = &self.room;
     }

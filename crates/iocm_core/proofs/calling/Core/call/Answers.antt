@@ -39,7 +39,7 @@ returns-clause-recorded c =
     let machine = c.perform-answer.new.self in
     let e : Entry = record { call = c.args.call; answer = c.perform-answer.result } in
     let more = one_more inside.machine.changes.items machine.changes.items inside.entries.items e c.self.invariant.within c.perform-answer.ensures.changes in
-    let new : seen.Core = record { opening = opening_state inside.opening.records; history = history_in machine.changes.items c.note.new.entries.items; room = inside.room } in
+    let new : seen.Core = record { opening = opening_state inside.opening.records; history = history_in machine.changes.items c.note.new.entries.items; entries = c.note.new.entries.items; room = inside.room } in
     subst (λ (v : seen.Core). IsRecorded v (call_in c.args.call) c.note.result new) c.self.view_is (record {
       entry = entry_told machine.changes.items (call_in c.args.call) c.perform-answer.result;
       history = ap (history_in machine.changes.items) c.note.ensures.entries ∙ more;
