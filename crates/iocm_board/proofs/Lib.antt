@@ -1,0 +1,14 @@
+mod Lists
+mod SameNames
+mod Names
+mod NamesSplit
+mod NamesJoin
+mod Receipts
+mod Whole
+mod Keeping
+mod Opens
+mod Looks
+mod Publishes
+mod Splits
+mod Joins
+mod Compares
