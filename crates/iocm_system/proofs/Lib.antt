@@ -1,0 +1,3 @@
+mod Callers
+mod Turns
+pub mod Sends
