@@ -1,0 +1,4 @@
+pub mod Fitting
+pub mod InTheWay
+pub mod WithoutAChange
+pub mod Premises

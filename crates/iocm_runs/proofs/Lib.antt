@@ -1,0 +1,15 @@
+pub mod Accepted
+pub mod Resting
+pub mod Beside
+pub mod UndoneRun
+pub mod RedoneRun
+pub mod Waiting
+pub mod UndoAnswers
+pub mod RedoAnswers
+pub mod TakingBack
+pub mod Coming
+pub mod Answered
+pub mod Later
+pub mod BackAgain
+pub mod RedoneAmong
+pub mod StagedRun

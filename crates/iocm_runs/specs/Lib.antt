@@ -1,0 +1,9 @@
+pub mod RunWithout
+pub mod UndoneRun
+pub mod RedoneRun
+pub mod UndoAnswers
+pub mod RedoAnswers
+pub mod Inverses
+pub mod LaterChanges
+pub mod RedoneAmong
+pub mod StagedRun
