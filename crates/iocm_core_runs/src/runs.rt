@@ -1,6 +1,5 @@
-use crate::draws::{SMALL, draw_call, draw_first, draw_second, draw_subchannel};
-use crate::player::Player;
 use iocm_core::{Call, Core, Trace};
+use iocm_plain_reading::{Player, SMALL, draw_call, draw_first, draw_second, draw_subchannel};
 use iocm_trial_machines::{Sight, below, configuration, is_heads, is_same, look_at};
 use iocm_types::{Answer, Rule, SubId};
 use rand_pcg::Pcg32;

@@ -3,7 +3,7 @@ use Rattle.std.specs.FinMap.Entries.{is_sorted}
 use Rattle.iocm_types.specs.declared.live.Live.{Live}
 use Rattle.iocm_types.specs.declared.sub_id.SubId.{SubId}
 use Rattle.iocm_types.specs.SubId.{sub_id_cmp}
-use Rattle.iocm_core_runs.proofs.rebuilt.comes.Goals as goal
+use Rattle.iocm_plain_reading.proofs.rebuilt.comes.Goals as goal
 
 -- no rows stand in order
 none : (rows : List (SubId × Live)) → rows ≡ [] → T (is_sorted sub_id_cmp rows)
