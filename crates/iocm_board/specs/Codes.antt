@@ -1,4 +1,5 @@
--- How a seat is stored as data, by which a proof tells two of them apart. No contract speaks of these.
+-- How a seat is stored as data, by which a proof tells two of them apart. No contract speaks of
+-- these.
 use Rattle.std.specs.Prelude.{ℕ, refl}
 use Rattle.std.specs.Coded.{Coded, code_by, coded×, coded_ℕ}
 use Rattle.iocm_board.specs.declared.view.View.{View}

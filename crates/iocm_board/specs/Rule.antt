@@ -1,4 +1,5 @@
--- The board's rule: what holds of its word and of the views of all seats, between any two steps. Own.
+-- The board's rule: what holds of its word and of the views of all seats, between any two steps.
+-- Own.
 use Rattle.std.specs.Prelude.{◌≡◌, ℕ, ◌+◌, ◌<◌, ◌≤◌, true, List, [], ◌∷◌, ◌++◌, length, map}
 use Rattle.std.specs.List.{AllByRecursion}
 use mathlib.Core.Option.{some}
@@ -16,7 +17,8 @@ use Rattle.iocm_board.specs.Receipts.{entries_of, names_of, made_by}
 abbrev pub all_names : List View → List (List Borne)
 all_names views = map (λ v. v.names) views
 
--- what holds of the view of one seat, where the calls since the board was made are these, each with the name under which it was made
+-- what holds of the view of one seat, where the calls since the board was made are these, each with
+-- the name under which it was made
 pub record Fits (run : seen.Core) (keeper : ℕ) (since : List (Entry × Name)) (at : ℕ) (v : View) : Type 0 where
   -- a seat that isn't spent knows the core with which the board was made
   pub origin : v.live ≡ true → v.origin ≡ run

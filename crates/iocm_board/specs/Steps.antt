@@ -10,7 +10,8 @@ use Rattle.iocm_board.specs.Names.{is_whole}
 use Rattle.iocm_board.specs.Receipts.{numbered}
 use Rattle.iocm_board.specs.Views.{sees, adds}
 
--- a seat looks, and finds so many calls: at least what it had seen, and the length of the list, if it keeps that
+-- a seat looks, and finds so many calls: at least what it had seen, and the length of the list, if
+-- it keeps that
 abbrev pub Looks : View → ℕ → View → Type 0
 Looks v n w = (v.seen ≤ n) × (w ≡ sees v n) × (v.keeps ≡ true → n ≡ length v.list)
 
@@ -19,11 +20,13 @@ abbrev pub IsAdded : Option Entry → View → View → Type 0
 IsAdded none v w = ⊥
 IsAdded (some e) v w = w ≡ adds v e
 
--- a seat publishes the entry of which the step was told, where it finds just the count that it wants to find
+-- a seat publishes the entry of which the step was told, where it finds just the count that it
+-- wants to find
 abbrev pub Publishes : Step Entry → View → ℕ → View → Type 0
 Publishes s v n w = (n ≡ s.first) × (v.seen ≤ n) × IsAdded s.said v w
 
--- receipts are those of all entries since the board was made, each at its number, once: these entries stand behind those of the board's core
+-- receipts are those of all entries since the board was made, each at its number, once: these
+-- entries stand behind those of the board's core
 abbrev pub TellAll : seen.Core → List Made → List Entry → Type 0
 TellAll origin receipts list = (since : List Entry) × (list ≡ origin.entries ++ since) × (receipts ≡ numbered (length origin.entries) since)
 

@@ -22,7 +22,8 @@ pub struct Blank {
 }
 
 impl Blank {
-    /// A board for a core, whose word says how many calls its trace has; and the keeper's seat, which knows them, and bears the first name.
+    /// A board for a core, whose word says how many calls its trace has; and the keeper's seat,
+    /// which knows them, and bears the first name.
     ///
     /// M1: memory was wanted.
     pub fn new(alloc: Global, core: &Core) -> Result<Blank, AllocError>
@@ -32,7 +33,8 @@ impl Blank {
         Ok(Blank { table, keeper })
     }
 
-    /// Names the board: which table and which core `B` has at this tag. It gives the board, and the keeper's seat.
+    /// Names the board: which table and which core `B` has at this tag. It gives the board, and the
+    /// keeper's seat.
     pub fn named<B: Identity>(self, tag: u64) -> (Board<B>, Seat<B>)
         requires table { self.table.shared.table_id ≡ B.table tag }
         requires origin { self.keeper.me.0.origin ≡ B.origin tag }

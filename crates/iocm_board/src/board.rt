@@ -12,7 +12,8 @@ use iocm_core::{Core, Entry};
 use std::alloc::Global;
 use std::marker::PhantomData;
 
-/// A board: a word that says how many calls are published. Any thread may read it from its seat, without the lock.
+/// A board: a word that says how many calls are published. Any thread may read it from its seat,
+/// without the lock.
 #[derive(Drop)]
 pub struct Board<B: Identity> {
     pub(crate) table: Table<Entry, View, Core, Law, Global>,
@@ -30,7 +31,8 @@ impl<B: Identity> Board<B> {
         self.tag == seat.tag
     }
 
-    /// How many calls are published: at least as many as the seat had seen. It takes no lock and no memory, and waits for nobody.
+    /// How many calls are published: at least as many as the seat had seen. It takes no lock and no
+    /// memory, and waits for nobody.
     pub fn look(&self, seat: &mut Seat<B>) -> u64
         requires mine { seat.old.tag ≡ self.now.tag }
         ensures looked { Looks seat.old.view result seat.new.view }
@@ -53,7 +55,8 @@ impl<B: Identity> Board<B> {
         }
     }
 
-    /// One seat of two: it bears the names and has the receipts of both, and has seen what the one has that had seen more.
+    /// One seat of two: it bears the names and has the receipts of both, and has seen what the one
+    /// has that had seen more.
     pub fn join(&self, seat: &mut Seat<B>, other: Seat<B>)
         requires mine { seat.old.tag ≡ self.now.tag }
         requires other { other.tag ≡ self.now.tag }
@@ -69,8 +72,8 @@ impl<B: Identity> Board<B> {
             .join_seat::<BothViews>(&mut seat.place, place);
     }
 
-    /// Compares the receipts of a seat that keeps the list with all entries: those of a whole seat are all entries since the board was made, each at
-    /// its number, once.
+    /// Compares the receipts of a seat that keeps the list with all entries: those of a whole seat
+    /// are all entries since the board was made, each at its number, once.
     pub fn compare(&self, seat: &mut Seat<B>)
         requires mine { seat.old.tag ≡ self.now.tag }
         requires keeps { seat.old.view.keeps ≡ true }

@@ -11,7 +11,8 @@ use std::marker::PhantomData;
 
 // The three steps of a call, under the lock.
 impl<B: Identity> Board<B> {
-    /// Takes up the list: the caller's seat has it, and has seen what the keeper's seat had. The keeper's seat knows nothing more then.
+    /// Takes up the list: the caller's seat has it, and has seen what the keeper's seat had. The
+    /// keeper's seat knows nothing more then.
     pub fn take_up(&self, me: &mut Seat<B>, keeper: &mut Seat<B>)
         requires mine { me.old.tag ≡ self.now.tag }
         requires keepers { keeper.old.tag ≡ self.now.tag }
@@ -27,7 +28,8 @@ impl<B: Identity> Board<B> {
         self.table.shared.join_seat::<TakeUp>(&mut me.place, place);
     }
 
-    /// Publishes an entry: the word is one more, and the entry is in the list and among the receipts, at the number that the word was.
+    /// Publishes an entry: the word is one more, and the entry is in the list and among the
+    /// receipts, at the number that the word was.
     pub fn publish(&self, me: &mut Seat<B>, count: u64, entry: &Entry)
         requires mine { me.old.tag ≡ self.now.tag }
         requires keeps { me.old.view.keeps ≡ true }

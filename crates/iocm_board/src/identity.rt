@@ -1,7 +1,8 @@
 use std::marker::Brand;
 
-/// Which board a tag names: its table, and the core with which it was made. A type parameter of this bound is how contracts tell that a seat
-/// and a board with the same tag belong together, since no test at run time can compare two tables.
+/// Which board a tag names: its table, and the core with which it was made. A type parameter of
+/// this bound is how contracts tell that a seat and a board with the same tag belong together,
+/// since no test at run time can compare two tables.
 pub trait Identity {
     ghost use Rattle.std.specs.Prelude.{ℕ};
     ghost use Rattle.atomic_table.specs.Seated.{TableId};

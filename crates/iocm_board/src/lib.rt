@@ -1,12 +1,16 @@
-//! The board: the one word that threads share beside the lock, the count of the calls that were published, and the seats from which it is read.
+//! The board: the one word that threads share beside the lock, the count of the calls that were
+//! published, and the seats from which it is read.
 //!
-//! A seat has no bytes that matter: what it knows, its view, stands in proofs alone. The keeper's seat, which lies under the lock, knows every call
-//! that was recorded; a caller's seat knows the calls that were made from it, its receipts, and how many calls it has seen. The rule
-//! (`specs/Rule.antt`) ties them to the word, and each step keeps it: opening (`Blank::new`), `look`, `split` and `join`, the three of a call
-//! under the lock, `take_up`, `publish` and `set_back`, and `compare`, with which a board is closed.
+//! A seat has no bytes that matter: what it knows, its view, stands in proofs alone. The keeper's
+//! seat, which lies under the lock, knows every call that was recorded; a caller's seat knows the
+//! calls that were made from it, its receipts, and how many calls it has seen. The rule
+//! (`specs/Rule.antt`) ties them to the word, and each step keeps it: opening (`Blank::new`),
+//! `look`, `split` and `join`, the three of a call under the lock, `take_up`, `publish` and
+//! `set_back`, and `compare`, with which a board is closed.
 //!
-//! What the layer above may rely on: the contracts of these steps. The hard one is that of `compare`: the receipts of a whole seat are all entries
-//! since the board was made, each at its number, once.
+//! What the layer above may rely on: the contracts of these steps. The hard one is that of
+//! `compare`: the receipts of a whole seat are all entries since the board was made, each at its
+//! number, once.
 //!
 //! Begin with `view.rt`, `specs/Views.antt` and `specs/Rule.antt`.
 #![tactic(auto)]

@@ -32,7 +32,8 @@ impl<B: Identity> Model for Seat<B> {
 }
 
 impl<B: Identity> Seat<B> {
-    /// What always holds of a seat: it is in use, and knows the core of its board. It reads nothing, and is there for callers' proofs.
+    /// What always holds of a seat: it is in use, and knows the core of its board. It reads
+    /// nothing, and is there for callers' proofs.
     pub fn is_known(&self)
         ensures { self.now.view.origin ≡ B.origin self.now.tag }
     {

@@ -23,7 +23,8 @@ pub struct View {
     pub keeps: bool,
     /// The entries of the trace, in order, if the seat keeps them.
     pub list: LinkedList<Entry>,
-    /// The names under which calls are made from the seat: the first one, and those of the seats that were joined to it.
+    /// The names under which calls are made from the seat: the first one, and those of the seats
+    /// that were joined to it.
     pub names: LinkedList<Borne>,
     /// The calls that were made under its names since the board was made, by their numbers.
     pub receipts: LinkedList<Made>,

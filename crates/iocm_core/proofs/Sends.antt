@@ -1,4 +1,5 @@
--- A core and an entry of its trace may be sent to another thread, and so may each of their parts. Above this crate `core_send` and `entry_send` are named.
+-- A core and an entry of its trace may be sent to another thread, and so may each of their parts.
+-- Above this crate `core_send` and `entry_send` are named.
 use denote.Param.Send.{IsSend, view_send, sendable}
 use denote.Param.SendFields.{declared_send}
 use Rattle.std.proofs.Crossing.{crosses}

@@ -11,7 +11,8 @@ pub struct Entry {
     pub answer: Answer,
 }
 
-/// Written by hand, so that how its parts are let go is proved here alone, and not in each crate that lets an entry go.
+/// Written by hand, so that how its parts are let go is proved here alone, and not in each crate
+/// that lets an entry go.
 impl Drop for Entry {
     fn drop(self) {
         let Entry { call, answer: _ } = self;

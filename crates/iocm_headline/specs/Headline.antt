@@ -21,7 +21,8 @@ pub record LeavesTheRunWithout (opening : State) (h : History) (n : ℕ) (left :
   -- the change is there
   pub undone : change.Change
   pub there : change_at n (marked_entries opening h) ≡ Some undone
-  -- it is the state of the run without the change: its entry is struck, and each step since on the subchannels that it altered
+  -- it is the state of the run without the change: its entry is struck, and each step since on the
+  -- subchannels that it altered
   pub run_without : left ≡ state_of (replay (store_of opening) (without_change n (marked_entries opening h)))
   -- the cells that the change wrote are as they were before it, and all others as they are
   pub cells : store_of left ≡ store_with (values_before undone) (store_of (state_at opening h))

@@ -28,7 +28,8 @@ fn unit_number(place: u32) -> Result<UnitNo, Fail> {
     Ok(number.ok_or("0000 to FFFE")?)
 }
 
-/// A device on the one or the other control unit, mostly with its own address, which now and then lists a candidate.
+/// A device on the one or the other control unit, mostly with its own address, which now and then
+/// lists a candidate.
 fn draw_device(alloc: Global, dice: &mut Pcg32) -> Result<Record, Fail> {
     let number = below(dice, 7);
     let unit = unit_number(number / 3)?;
@@ -155,7 +156,8 @@ fn draw_order(dice: &mut Pcg32) -> Order {
     }
 }
 
-/// The first of two calls on a subchannel: it is enabled, its device ends, or something else comes about.
+/// The first of two calls on a subchannel: it is enabled, its device ends, or something else comes
+/// about.
 pub fn draw_first(dice: &mut Pcg32, kind: u32, there: &SubId) -> Call {
     match kind {
         0 => Call::Io(*there, enabled(0xE0)),

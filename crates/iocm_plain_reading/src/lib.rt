@@ -1,10 +1,12 @@
 //! What a history means, read plainly, and calls that are drawn by chance, for trials of the core.
 //!
-//! Nothing of the product stands on this. The reading keeps every entry with its mark, and finds each value anew, as the last entry wrote it
-//! that counts (`plain.rt`). It answers a call on a machine that is built anew of these values (`player.rt`, `rebuilt.rt`). The trials above
-//! compare its answers with those of the core, and its machine with what the core leaves.
+//! Nothing of the product stands on this. The reading keeps every entry with its mark, and finds
+//! each value anew, as the last entry wrote it that counts (`plain.rt`). It answers a call on a
+//! machine that is built anew of these values (`player.rt`, `rebuilt.rt`). The trials above compare
+//! its answers with those of the core, and its machine with what the core leaves.
 //!
-//! The calls (`draws.rt`) are those of three images and an operator on a small machine, whose changes often meet.
+//! The calls (`draws.rt`) are those of three images and an operator on a small machine, whose
+//! changes often meet.
 #![tactic(auto)]
 
 mod draws;

@@ -1,4 +1,5 @@
-//! What a history means, read plainly: entries with their marks, and each value as the last entry wrote it that counts.
+//! What a history means, read plainly: entries with their marks, and each value as the last entry
+//! wrote it that counts.
 use iocm_activate::{Done, Effect};
 use iocm_plant::Plant;
 use iocm_record::Record;
@@ -211,7 +212,8 @@ impl History {
         }
     }
 
-    /// Takes back what the last undo of a change struck, and strikes each step since on the subchannels that the change altered.
+    /// Takes back what the last undo of a change struck, and strikes each step since on the
+    /// subchannels that the change altered.
     pub fn restore(&mut self, number: u64, altered: &[SubId]) {
         let mut is_since = true;
         for entry in self.entries.iter_mut().rev() {

@@ -22,7 +22,8 @@ struct Stage {
 #[derive(Drop)]
 pub struct Player {
     history: History,
-    /// The machine now: a step is made on it, and after a change, an undo or a redo it is built anew.
+    /// The machine now: a step is made on it, and after a change, an undo or a redo it is built
+    /// anew.
     pub plant: Plant,
     stage: Option<Stage>,
     /// How many changes were accepted.

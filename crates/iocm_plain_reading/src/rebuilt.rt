@@ -1,5 +1,5 @@
-//! The machine of a history, built anew: its configuration without the devices is opened, each device is added with its numbers, and orders
-//! bring the live records about.
+//! The machine of a history, built anew: its configuration without the devices is opened, each
+//! device is added with its numbers, and orders bring the live records about.
 use crate::plain::History;
 use iocm_config::Config;
 use iocm_plant::Plant;

@@ -18,8 +18,8 @@ made_in e s = record { edits = e ∷ []; from = s }
 abbrev pub turned : Change
 turned = made_in turn base_opened
 
--- it fits the state that it left. In the state before it the inverse would leave each view as it was before the change too, but would not come from
--- what the change left: so it doesn't fit there
+-- it fits the state that it left. In the state before it the inverse would leave each view as it
+-- was before the change too, but would not come from what the change left: so it doesn't fit there
 pub record FromAnotherValue : Type 0 where
   pub there : fits turned (state_after turn base_opened) ≡ true
   pub before : fits turned base_opened ≡ false

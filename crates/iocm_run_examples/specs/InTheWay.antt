@@ -1,4 +1,5 @@
--- Worked runs in which a change is in the way of an undo, or no such change is there, as they are stated by hand.
+-- Worked runs in which a change is in the way of an undo, or no such change is there, as they are
+-- stated by hand.
 use Rattle.std.specs.Prelude.{[], ◌∷◌}
 use Rattle.iocm_types.specs.declared.answer.Answer.TheVariants.{Changed, Undone, Redone}
 use Rattle.iocm_types.specs.declared.refused.At.TheVariants.{Change, Nothing}
@@ -10,8 +11,9 @@ use Rattle.iocm_examples.specs.BaseDeck.{device_on_1000, device_key}
 use Rattle.iocm_examples.specs.Edits.{added, deleted, online_51}
 use Rattle.iocm_examples.specs.Histories.{Script, change_by, refused}
 
--- a path comes online to LPB, which alters its subchannels; a later change deletes a device and adds it again, so that its subchannels are as
--- they were. That is all that the two have in common, and the later one is in the way
+-- a path comes online to LPB, which alters its subchannels; a later change deletes a device and
+-- adds it again, so that its subchannels are as they were. That is all that the two have in common,
+-- and the later one is in the way
 abbrev pub put_back_by_a_later : Script
 put_back_by_a_later =
     (change_by online_51, Changed 1)

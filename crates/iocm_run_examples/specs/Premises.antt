@@ -45,7 +45,8 @@ pub record ADeletionRedone : Type 0 where
   pub met : IsRedone base_opened (first 4 undone_in_turn) (latest_of_first 4 9 undone_in_turn) 2
   pub run : IsRunThatCounts base_opened (first 4 undone_in_turn) (latest_of_first 4 9 undone_in_turn) 2
 
--- a device is deleted in stages, which holds its subchannels; LPA uses another device before the Commit, and looks at both after it
+-- a device is deleted in stages, which holds its subchannels; LPA uses another device before the
+-- Commit, and looks at both after it
 abbrev pub a_deletion_in_stages : Script
 a_deletion_in_stages =
     (begin (leaf (deleted (device_key 0x1003))), Staged 1)
@@ -70,7 +71,8 @@ pub record ADeletionInStages : Type 0 where
 abbrev pub UnderALaterChange : Type 0
 UnderALaterChange = IsUndoneLater base_opened (first 0 cells_apart) (latest_of_first 1 2 cells_apart) (entry_after 0 cells_apart (change_by add_0fff)) 1
 
--- what is left of that without the first is no legal history: the second has a number that it would not get
+-- what is left of that without the first is no legal history: the second has a number that it would
+-- not get
 abbrev pub NoRunWithoutTheFirst : Type 0
 NoRunWithoutTheFirst =
     IsLegal base_opened (run_with_the_later (entry_after 0 cells_apart (change_by add_0fff)) (latest_of_first 1 2 cells_apart) (first 0 cells_apart)) → ⊥

@@ -1,4 +1,5 @@
--- Worked runs with a change that is undone and without it, as they are stated by hand: they differ where changes came later.
+-- Worked runs with a change that is undone and without it, as they are stated by hand: they differ
+-- where changes came later.
 use Rattle.std.specs.Prelude.{◌≡◌, false, [], ◌∷◌, Some, None}
 use Rattle.iocm_types.specs.declared.answer.Answer.TheVariants.{Changed, Undone}
 use Rattle.iocm_types.specs.declared.order.Order.TheVariants.{Store}
@@ -13,7 +14,8 @@ use Rattle.iocm_examples.specs.SelectiveUndo.{add_1004, cells_apart}
 abbrev pub without_the_first : Script
 without_the_first = (change_by add_1004, Changed 1) ∷ []
 
--- the second keeps its number through the undo. Without the first it gets the number that the first had
+-- the second keeps its number through the undo. Without the first it gets the number that the first
+-- had
 pub record NumbersAnew : Type 0 where
   pub kept : number_of 0x1004 (after 3 cells_apart) ≡ Some 5
   pub answers : Answers without_the_first
@@ -23,8 +25,9 @@ pub record NumbersAnew : Type 0 where
 abbrev pub turn : Edit
 turn = modified (unit_on 0x1000 (0x51 ∷ 0x50 ∷ []) None)
 
--- then a device comes in on the unit and goes again, and LPB looks at it meanwhile: path 50, on which it is online, is the second. The change of
--- the paths may be undone: no cell of it was written since, and the device is gone
+-- then a device comes in on the unit and goes again, and LPB looks at it meanwhile: path 50, on
+-- which it is online, is the second. The change of the paths may be undone: no cell of it was
+-- written since, and the device is gone
 abbrev pub seen_meanwhile : Script
 seen_meanwhile =
     (change_by turn, Changed 1)

@@ -11,8 +11,8 @@ ghost use Rattle.iocm_run_examples.specs.Premises.{
 };
 ghost use Rattle.iocm_run_examples.specs.WithoutAChange.{NumbersAnew, seen_meanwhile, seen_without};
 
-/// The run without an undone change, under later changes, need not be legal with the same answers: a device that came later has
-/// another number in it, and a step is answered otherwise: computed.
+/// The run without an undone change, under later changes, need not be legal with the same answers:
+/// a device that came later has another number in it, and a step is answered otherwise: computed.
 pub fn runs_without_a_change_are_as_worked()
     ensures numbers { NumbersAnew }
     ensures no_run { NoRunWithoutTheFirst }
@@ -26,15 +26,17 @@ pub fn what_blocks_is_as_worked()
     ensures from_one { Answers numbers_from_one }
 {}
 
-/// Changes that don't fit a state because an inverse would come from another value, or is refused by its key: computed.
+/// Changes that don't fit a state because an inverse would come from another value, or is refused
+/// by its key: computed.
 pub fn changes_fit_as_worked()
     ensures another { FromAnotherValue }
     ensures not_there { NotThereToDelete }
     ensures there { ThereToAdd }
 {}
 
-/// Runs that meet the premises of the laws of `iocm_runs`, computed. They are an undo and a redo with steps between, and a redo with another
-/// undo and redo between. Others are the undo of a change in stages, and an undo under a later change.
+/// Runs that meet the premises of the laws of `iocm_runs`, computed. They are an undo and a redo
+/// with steps between, and a redo with another undo and redo between. Others are the undo of a
+/// change in stages, and an undo under a later change.
 pub fn premises_are_met()
     ensures undone { ADeletionUndone }
     ensures redone { APathRedone }

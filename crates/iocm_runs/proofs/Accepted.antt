@@ -26,7 +26,8 @@ use Rattle.iocm_history.proofs.Settled.{IsStaged, IsSettled}
 use Rattle.iocm_history.proofs.Along.{settled}
 use Rattle.iocm_history.proofs.EachCall.{states_stay_in_use}
 
--- an entry accepted a change: it was ready in the state before, the entry tells what it wrote, and what was held before the change altered
+-- an entry accepted a change: it was ready in the state before, the entry tells what it wrote, and
+-- what was held before the change altered
 pub record HasAccepted (opening : State) (h : History) (e : Entry) (n : ℕ) : Type 0 where
   pub change : Change
   pub number : n ≡ (journal_of h).count + 1

@@ -75,7 +75,8 @@ module _ (x : SubId) (made : Step) (m o : Lives) (same : get m x ≡ get o x) wh
   left_alike (Some v) None (Some k) None at_k at_l both other answer = let no : Some k ≡ None = sym at_k ∙ same ∙ at_l in cc
   left_alike None (Some w) None (Some l) at_k at_l both other answer = let no : None ≡ Some l = sym at_k ∙ same ∙ at_l in cc
 
--- a step leaves the same at its subchannel in two sound states in which it has the same live record there and is answered alike
+-- a step leaves the same at its subchannel in two sound states in which it has the same live record
+-- there and is answered alike
 pub leaves_alike : (s u : State) (x : SubId) (made : Step) → IsSound s → IsSound u → get s.lives x ≡ get u.lives x → answer_in s x made ≡ answer_in u x made
     → get (after_step x made s).lives x ≡ get (after_step x made u).lives x
 leaves_alike s u x made sound_s sound_u same answer =

@@ -1,4 +1,5 @@
--- Entries once changes are redone in turn: where a step in front is struck by that, and what is seen and has live records elsewhere.
+-- Entries once changes are redone in turn: where a step in front is struck by that, and what is
+-- seen and has live records elsewhere.
 use Rattle.std.proofs.Common.{◌≡◌, ℕ, Bool, true, false, ◌&&◌, not, eqb, List, [], ◌∷◌, ◌++◌, Option, refl, sym, ap, subst, ◌∙◌}
 use Rattle.std.proofs.lemmas.Bool.{and_parts, not-true, or_left, or_right, eq-eqb}
 use Rattle.iocm_types.specs.declared.live.Live.{Live}

@@ -1,5 +1,5 @@
--- Two runs beside each other, of which one leaves out the steps on some subchannels: each keeps its configuration and numbers, and their live
--- records are the same off these subchannels.
+-- Two runs beside each other, of which one leaves out the steps on some subchannels: each keeps its
+-- configuration and numbers, and their live records are the same off these subchannels.
 use Rattle.std.proofs.Common.{◌≡◌, inl, ℕ, Bool, true, false, cond, ◌&&◌, not, [], ◌∷◌, ◌++◌, List, Option, Some, None, refl, sym, ap, subst, ◌∙◌}
 use Rattle.std.proofs.lemmas.Bool.{or_parts}
 use Rattle.std.specs.List.{list_any}
@@ -62,8 +62,8 @@ another xs x y b there off = by (eq_by_cmp sub_id_cmp y x) refl b there off
 
 -- ---- two runs
 
--- two states: each has the configuration and the numbers of one before, live records are the same off the subchannels, and on them the second's
--- are as before
+-- two states: each has the configuration and the numbers of one before, live records are the same
+-- off the subchannels, and on them the second's are as before
 pub record AreBeside (xs : List SubId) (t r s u : State) : Type 0 where
   pub config_with : s.config ≡ t.config
   pub numbers_with : s.numbers ≡ t.numbers
@@ -111,7 +111,8 @@ module _ (xs : List SubId) (t r : State) (sees : (x : SubId) → is_among x xs �
 
 -- ---- along what came
 
--- two histories, of which off these subchannels the same is seen at first, live records are the same, and the second holds nothing
+-- two histories, of which off these subchannels the same is seen at first, live records are the
+-- same, and the second holds nothing
 pub record StartsBeside (opening : State) (xs : List SubId) (g h : History) : Type 0 where
   pub used : IsInUse opening
   pub legal_with : IsLegal opening g
@@ -120,8 +121,8 @@ pub record StartsBeside (opening : State) (xs : List SubId) (g h : History) : Ty
   pub off : (x : SubId) → is_among x xs ≡ false → get (state_at opening g).lives x ≡ get (state_at opening h).lives x
   pub held : (x : SubId) → is_among x xs ≡ false → is_held x (account opening h).stage ≡ false
 
--- where the same entries come on both, but for the steps on these subchannels: the second is legal, and holds nothing off them; on the first no
--- change comes
+-- where the same entries come on both, but for the steps on these subchannels: the second is legal,
+-- and holds nothing off them; on the first no change comes
 pub record IsBeside (opening : State) (xs : List SubId) (g h since : History) : Type 0 where
   pub beside : AreBeside xs (state_at opening g) (state_at opening h) (state_at opening (since ++ g)) (state_at opening (steps_off xs since ++ h))
   pub legal : IsLegal opening (steps_off xs since ++ h)

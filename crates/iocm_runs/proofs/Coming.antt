@@ -1,4 +1,5 @@
--- What an entry is: it does nothing, wherever it comes; it is a step that was done; it accepted a change; or it is an accepted undo or redo.
+-- What an entry is: it does nothing, wherever it comes; it is a step that was done; it accepted a
+-- change; or it is an accepted undo or redo.
 use Rattle.std.proofs.Common.{◌≡◌, inl, inr, ℕ, ◌+◌, Bool, true, false, cond, ◌∷◌, Option, Some, None, Ok, Err, refl, sym, subst}
 use Rattle.iocm_types.specs.declared.answer.Answer.TheVariants as answers
 use Rattle.iocm_types.specs.declared.refused.At.TheVariants.{Nothing}

@@ -1,4 +1,5 @@
--- Where the run without an undone change is legal, it leads to the state after the undo, also under later changes.
+-- Where the run without an undone change is legal, it leads to the state after the undo, also under
+-- later changes.
 use Rattle.std.proofs.Common.{◌≡◌, ◌≤◌, inl, inr, ℕ, ◌-◌, Bool, true, false, cond, ◌&&◌, ◌||◌, not, eqb, List, [], ◌∷◌, ◌++◌, Option, None, refl, sym, ap, subst, ◌∙◌, map, filter, arith}
 use Rattle.std.proofs.lemmas.Bool.{or_parts, or_from, or_right, ne_eqb, eq-eqb}
 use Rattle.std.specs.List.{list_any}

@@ -1,4 +1,5 @@
--- The run without an undo and its redo is a run, also where other changes were undone and redone between.
+-- The run without an undo and its redo is a run, also where other changes were undone and redone
+-- between.
 use Rattle.std.proofs.Common.{◌≡◌, ◌≢◌, ◌⊎◌, inl, inr, ℕ, Bool, true, false, cond, ◌&&◌, ◌||◌, eqb, length, List, [], ◌∷◌, ◌++◌, drop, Option, None, refl, sym, ap, subst, ◌∙◌, arith}
 use Rattle.std.proofs.lemmas.Bool.{or_parts, or_left, eq-eqb, ne_eqb}
 use Rattle.std.specs.List.{list_any}
@@ -145,8 +146,8 @@ module _ (opening : State) (h : History) (n : ℕ) (used : IsInUse opening) (leg
   abbrev now : History → History
   now between = between ++ undo_entry n ∷ h
 
-  -- once the changes undone since are redone in turn, and the change then, what came is in front of the entries before the undo; the steps of it that
-  -- count are a run on these, and play the same
+  -- once the changes undone since are redone in turn, and the change then, what came is in front of
+  -- the entries before the undo; the steps of it that count are a run on these, and play the same
   record IsAmong (between : History) (undone : List ℕ) (ls : List MarkedEntry) : Type 0 where
     later : List ℕ
     earlier : List ℕ

@@ -1,4 +1,5 @@
--- The inverse tree of each change that was accepted takes it back: of accepted edits, of changes that are there, and of what is staged.
+-- The inverse tree of each change that was accepted takes it back: of accepted edits, of changes
+-- that are there, and of what is staged.
 use Rattle.std.specs.Prelude.{◌≡◌, ◌≤◌, ℕ, length, List, Some}
 use Rattle.iocm_model.specs.Operation.State.{State, IsSound}
 use Rattle.iocm_model.specs.Change.Edit.{Edit}
@@ -14,13 +15,14 @@ use Rattle.iocm_history.specs.Legal.{IsLegal}
 use Rattle.iocm_history.specs.MarkedEntry.{change_at}
 use Rattle.iocm_history.specs.Stage.{Stage}
 
--- the inverse tree of edits that are accepted one after the other takes them back. The rules held before them, and there are no more of them than
--- a tree may have leaves
+-- the inverse tree of edits that are accepted one after the other takes them back. The rules held
+-- before them, and there are no more of them than a tree may have leaves
 abbrev pub InversesOfEditsTakeBack : Type 0
 InversesOfEditsTakeBack = (es : List Edit) (s : State) → IsSound s → KeepsTheRules s → AreAccepted es s → length es ≤ most_leaves
     → TakesBack (inverse_tree es s) es s
 
--- the inverse tree of a change takes its edits back, at every state with the configuration and the numbers that the change left
+-- the inverse tree of a change takes its edits back, at every state with the configuration and the
+-- numbers that the change left
 abbrev pub IsTakenBackByItsInverse : Change → Type 0
 IsTakenBackByItsInverse c = TakesBack (inverse_tree c.edits c.from) c.edits c.from
 

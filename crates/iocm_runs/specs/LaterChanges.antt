@@ -1,4 +1,5 @@
--- The run without an undone change under later changes: where it is a run, it leads to the state after the undo.
+-- The run without an undone change under later changes: where it is a run, it leads to the state
+-- after the undo.
 use Rattle.std.specs.Prelude.{◌≡◌, ℕ, ◌-◌, Bool, true, false, ◌&&◌, ◌||◌, not, List, ◌∷◌, ◌++◌, filter, map}
 use Rattle.std.specs.List.{list_any}
 use Rattle.iocm_types.specs.declared.answer.Answer.{Answer}
@@ -20,7 +21,8 @@ goes_back_or_forth (answers.Undone n) = true
 goes_back_or_forth (answers.Redone n) = true
 goes_back_or_forth _ = false
 
--- an answer that a call for a change was accepted: it was made, or it was begun, advanced or given up in stages
+-- an answer that a call for a change was accepted: it was made, or it was begun, advanced or given
+-- up in stages
 abbrev pub is_for_a_change : Answer → Bool
 is_for_a_change (answers.Changed n) = true
 is_for_a_change (answers.Staged k) = true
@@ -36,12 +38,14 @@ one_less answer = answer
 abbrev pub with_one_less : Entry → Entry
 with_one_less e = record { call = e.call; answer = one_less e.answer; effect = e.effect }
 
--- an entry that is left: a step that was done on none of these subchannels, or an accepted call for a change
+-- an entry that is left: a step that was done on none of these subchannels, or an accepted call for
+-- a change
 abbrev pub is_left : List SubId → Entry → Bool
 is_left xs e = (is_done e.call e.answer && not (is_at xs e.call)) || is_for_a_change e.answer
 
--- what is left without a change of the history that had it: what was before the change, and the steps since that were done elsewhere. The accepted
--- calls for changes are left too, each change with the number before its own and with what it wrote
+-- what is left without a change of the history that had it: what was before the change, and the
+-- steps since that were done elsewhere. The accepted calls for changes are left too, each change
+-- with the number before its own and with what it wrote
 abbrev pub run_with_the_later : Entry → History → History → History
 run_with_the_later e since h = map with_one_less (filter (is_left (altered_by e)) since) ++ h
 

@@ -29,8 +29,9 @@ pub record IsPast (n : ℕ) (b : Journal) : Type 0 where
   pub not_standing : is_in n b.standing ≡ false
   pub not_undone : is_in n b.undone ≡ false
 
--- the answer to a redo: the first of these that applies. O1, a change is staged; J1, the change was never there, or stands; J3, it is past, or
--- another was undone after it; B1, this is the least of its subchannels that isn't quiet; else it is redone. Or memory lacks
+-- the answer to a redo: the first of these that applies. O1, a change is staged; J1, the change was
+-- never there, or stands; J3, it is past, or another was undone after it; B1, this is the least of
+-- its subchannels that isn't quiet; else it is redone. Or memory lacks
 pub data RedoAnswered (opening : State) (h : History) (n : ℕ) (e : Entry) : Type 0 where
   staged : stage_of opening h ≢ None → e.answer ≡ Refused (refusal_at O1 Nothing) → RedoAnswered opening h n e
   not_undone : stage_of opening h ≡ None → IsNotUndone n (journal_of h) → e.answer ≡ Refused (refusal_at J1 Nothing) → RedoAnswered opening h n e

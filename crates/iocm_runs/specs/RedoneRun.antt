@@ -17,13 +17,13 @@ pub record IsRedoneAlone (opening : State) (h between : History) (n : ℕ) : Typ
   pub legal : IsLegal opening (redo_entry n ∷ between ++ undo_entry n ∷ h)
   pub alone : leaves_changes between ≡ true
 
--- what is left of a history without the undo and the redo: what was before the undo, and of what came between the steps that were done on
--- no subchannel that the change altered
+-- what is left of a history without the undo and the redo: what was before the undo, and of what
+-- came between the steps that were done on no subchannel that the change altered
 abbrev pub run_without_both : State → ℕ → History → History → History
 run_without_both opening n between h = steps_off (altered_by_change n (marked_entries opening h)) between ++ h
 
--- that run is legal, with the same answers to the steps that are left, and leads to the state after the redo; after it the same changes stand, and
--- the same are undone, in the same order
+-- that run is legal, with the same answers to the steps that are left, and leads to the state after
+-- the redo; after it the same changes stand, and the same are undone, in the same order
 pub record IsRunWithoutBoth (opening : State) (h between : History) (n : ℕ) : Type 0 where
   pub legal : IsLegal opening (run_without_both opening n between h)
   pub state : state_at opening (redo_entry n ∷ between ++ undo_entry n ∷ h) ≡ state_at opening (run_without_both opening n between h)

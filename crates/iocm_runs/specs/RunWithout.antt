@@ -1,4 +1,5 @@
--- The run without a change: which entries of a history are left when a change goes with the steps on its subchannels. Own.
+-- The run without a change: which entries of a history are left when a change goes with the steps
+-- on its subchannels. Own.
 use Rattle.std.specs.Prelude.{Bool, true, false, ◌&&◌, not, List, ◌++◌, filter}
 use Rattle.std.specs.List.{list_any}
 use Rattle.std.specs.FinMap.{keys}
@@ -33,7 +34,7 @@ altered_by e = keys e.effect.lives
 abbrev pub steps_off : List SubId → History → History
 steps_off xs h = filter (λ (e : Entry). is_done e.call e.answer && not (is_at xs e.call)) h
 
--- what is left without a change of the history that had it, where only steps count since: what was before the change, and of what came since
--- the steps that were done elsewhere
+-- what is left without a change of the history that had it, where only steps count since: what was
+-- before the change, and of what came since the steps that were done elsewhere
 abbrev pub run_without : Entry → History → History → History
 run_without e since h = steps_off (altered_by e) since ++ h

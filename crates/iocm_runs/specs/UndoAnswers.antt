@@ -27,8 +27,9 @@ pub record IsFree (opening : State) (h : History) (n : ℕ) : Type 0 where
   pub start : MayStart opening h n
   pub none : stands_on n (marked_entries opening h) (state_at opening h) ≡ None
 
--- the answer to an undo: the first of these that applies. O1, a change is staged; J1, no such change stands; J2, this is the greatest change that
--- stands on it; B1, this is the least of its subchannels that isn't quiet; else it is undone. Or memory lacks
+-- the answer to an undo: the first of these that applies. O1, a change is staged; J1, no such
+-- change stands; J2, this is the greatest change that stands on it; B1, this is the least of its
+-- subchannels that isn't quiet; else it is undone. Or memory lacks
 pub data UndoAnswered (opening : State) (h : History) (n : ℕ) (e : Entry) : Type 0 where
   staged : stage_of opening h ≢ None → e.answer ≡ Refused (refusal_at O1 Nothing) → UndoAnswered opening h n e
   not_standing : stage_of opening h ≡ None → is_in n (journal_of h).standing ≡ false → e.answer ≡ Refused (refusal_at J1 Nothing) → UndoAnswered opening h n e

@@ -1,12 +1,14 @@
 ghost use Rattle.iocm_runs.specs.RedoAnswers.{RedoIsAnsweredInOrder};
 ghost use Rattle.iocm_runs.specs.UndoAnswers.{UndoIsAnsweredInOrder};
 
-/// An undo is answered by the first of these that applies: O1, J1, J2, B1, that it is undone. M1 may stand in place of any.
+/// An undo is answered by the first of these that applies: O1, J1, J2, B1, that it is undone. M1
+/// may stand in place of any.
 pub fn undo_is_answered_in_order()
     ensures { UndoIsAnsweredInOrder }
 {}
 
-/// A redo is answered by the first of these that applies: O1, J1, J3, B1, that it is redone. M1 may stand in place of any.
+/// A redo is answered by the first of these that applies: O1, J1, J3, B1, that it is redone. M1 may
+/// stand in place of any.
 pub fn redo_is_answered_in_order()
     ensures { RedoIsAnsweredInOrder }
 {}

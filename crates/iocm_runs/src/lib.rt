@@ -1,12 +1,14 @@
-//! Runs without a change, the order in which undo and redo are refused, and the inverses of changes: laws of the histories of
-//! `iocm_history`, and no code that runs.
+//! Runs without a change, the order in which undo and redo are refused, and the inverses of
+//! changes: laws of the histories of `iocm_history`, and no code that runs.
 //!
-//! `specs/RunWithout.antt` says which entries of a history are left when a change goes. `specs/UndoneRun.antt` and
-//! `specs/RedoneRun.antt` say that these are a legal history too, and lead to the state after the undo, or after the redo;
-//! `specs/StagedRun.antt` is on a change in stages, `specs/LaterChanges.antt` on later changes, and `specs/RedoneAmong.antt` on
-//! other changes that were undone and redone between.
-//! `specs/UndoAnswers.antt` and `specs/RedoAnswers.antt` say what each is answered, and `specs/Inverses.antt` that the inverse
-//! tree of each change takes it back. The functions here have empty bodies: their contracts are these laws.
+//! `specs/RunWithout.antt` says which entries of a history are left when a change goes.
+//! `specs/UndoneRun.antt` and `specs/RedoneRun.antt` say that these are a legal history too, and
+//! lead to the state after the undo, or after the redo; `specs/StagedRun.antt` is on a change in
+//! stages, `specs/LaterChanges.antt` on later changes, and `specs/RedoneAmong.antt` on other
+//! changes that were undone and redone between. `specs/UndoAnswers.antt` and
+//! `specs/RedoAnswers.antt` say what each is answered, and `specs/Inverses.antt` that the inverse
+//! tree of each change takes it back. The functions here have empty bodies: their contracts are
+//! these laws.
 #![tactic(auto)]
 
 mod answers;
