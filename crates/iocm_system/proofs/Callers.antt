@@ -1,4 +1,5 @@
--- A seat is a caller's still, once it was joined to another, or has lent a name; what a caller has of a call, and tells at the close.
+-- A seat is a caller's still, once it was joined to another, or has lent a name; what a caller has
+-- of a call, and tells at the close.
 use Rattle.std.proofs.Common.{◌≡◌, ◌≤◌, Ok, Err, Bool, true, false, cond, ◌||◌, List, [], ◌++◌, refl, sym, ap, ◌∙◌, subst}
 use Rattle.std.specs.Prelude.{Result, IfOk}
 use Rattle.iocm_core.specs.Seen as seen
@@ -8,6 +9,8 @@ use Rattle.iocm_board.specs.declared.view.View.{View}
 use Rattle.iocm_board.specs.Names.{BearsSome, is_whole, lend}
 use Rattle.iocm_board.specs.Steps.{HasAll, TellAll}
 use Rattle.iocm_board.specs.Views.{Held, both, caller_of, first_view, lends, takes, with_receipt}
+use Rattle.iocm_system.specs.Asking.{asked_by}
+use Rattle.iocm_system.specs.Calling.{IsMade}
 use Rattle.iocm_system.specs.Sights.{IsCaller, Sight, gains, sight_of}
 use Rattle.iocm_system.specs.declared.receipt.Receipt.{Receipt}
 
@@ -48,11 +51,16 @@ first_caller o run is =
     }
 
 -- what a call under the lock gave the seat, the caller has gained
-pub ok_gains : {E : Type 0} (r : Result Receipt E) (old new : Held) (me : Sight) (call : Call) → sight_of old ≡ me
+pub ok_made : {E : Type 0} (r : Result Receipt E) (old new : Held) (me : Sight) (call : Call) → sight_of old ≡ me → IfOk r (λ x. x.asked ≡ asked_by call)
     → IfOk r (λ x. (old.view.seen ≤ x.number) × ◌≡◌ {A = Held} new (record { tag = old.tag; view = with_receipt old.view x.number (record { call = call; answer = x.answer }) }))
-    → IfOk r (λ x. sight_of new ≡ gains me x.number (record { call = call; answer = x.answer }))
-ok_gains (Ok x) old new me call is h = ap sight_of h.1 ∙ ap (λ m. gains m x.number (record { call = call; answer = x.answer })) is
-ok_gains (Err e) old new me call is h = tt
+    → IfOk r (λ x. IsMade call me x (sight_of new))
+ok_made (Ok x) old new me call is asked h =
+    record {
+      asked = asked;
+      later = subst (λ (s : Sight). s.seen ≤ x.number) is h.0;
+      receipt = ap sight_of h.1 ∙ ap (λ m. gains m x.number (record { call = call; answer = x.answer })) is;
+    }
+ok_made (Err e) old new me call is asked h = tt
 
 -- a whole caller with the keeper's list tells all of the core
 pub tells_all : (run : seen.Core) (h : Held) (k : View) (me : Sight) → sight_of h ≡ me → k.list ≡ run.entries → is_whole me.names ≡ true → HasAll (takes h.view k)

@@ -1,3 +1,3 @@
 mod Callers
-mod Turns
+pub mod Turns
 pub mod Sends

@@ -1,4 +1,5 @@
--- A system may be shared among threads, and a caller and what came of its calls may go from one to another.
+-- A system may be shared among threads, and a caller and what came of its calls may go from one to
+-- another.
 use denote.RattleType.{RattleType}
 use denote.Param.Send.{IsSend, IsSync, view_send, sendable}
 use denote.Param.SendFields.{declared_send, declared_sync}
@@ -26,7 +27,7 @@ use Rattle.iocm_system.specs.contracts.turn.Turn as Turn
 asked_send : IsSend Asked.the_row
 asked_send = search (crosses, sendable) depth 60 fits 20000
 
-receipt_send : IsSend Receipt.the_row
+pub receipt_send : IsSend Receipt.the_row
 receipt_send = declared_send Receipt.the_type (search sendable depth 20, (asked_send, (answer.the_send, tt)))
 
 back_send : IsSend Back.the_row

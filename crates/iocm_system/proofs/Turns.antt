@@ -8,7 +8,7 @@ use Rattle.iocm_types.specs.declared.rule.Rule.TheVariants as rules
 use Rattle.iocm_system.specs.Asking.{asked_by}
 use Rattle.iocm_system.specs.Backs.{IsBack}
 use Rattle.iocm_system.specs.Sights.{Sight, gains, sees_now}
-use Rattle.iocm_system.specs.Turns.{gained, Rise, IsTurn}
+use Rattle.iocm_system.specs.Turns.{gained, EndsATurn, Rise, IsTurn}
 use Rattle.iocm_system.specs.declared.receipt.Receipt.{Receipt}
 
 gained_last : (cs : List Call) (rs : List Receipt) (c : Call) (r : Receipt) → length rs ≡ length cs
@@ -74,3 +74,9 @@ pub turn_ends : (calls : List Call) (old now new : Sight) (rs : List Receipt) (r
 turn_ends calls old now new rs rest rules.O3 t back = subst (λ s. IsTurn calls old s rs rest) (sym back.1) (back_sees calls old now rs rest now.origin.room t back.0)
 turn_ends calls old now new rs rest rules.X1 t back = subst (λ s. IsTurn calls old s rs rest) (sym back) t
 turn_ends calls old now new rs rest _ t back = absurd back
+
+-- a call that is handed back ends a turn
+pub why_back : (why : Rule) (old new : Sight) → IsBack why old new → EndsATurn why new
+why_back rules.O3 old new back = ap (λ (s : Sight). s.seen) back.1 ∙ sym (ap (λ (s : Sight). s.origin.room) back.1)
+why_back rules.X1 old new back = tt
+why_back _ old new back = absurd back

@@ -1,4 +1,5 @@
--- How a caller is stored as data, by which a proof tells two of them apart. No contract speaks of these.
+-- How a caller is stored as data, by which a proof tells two of them apart. No contract speaks of
+-- these.
 use Rattle.std.specs.Prelude.{ℕ, List, refl}
 use Rattle.std.specs.Coded.{Coded, code_by, coded×, coded_list, coded_ℕ}
 use Rattle.iocm_core.specs.Seen as seen

@@ -21,8 +21,9 @@ AreTaken calls made ran = calls ≡ made ++ (handed_back ran.back ++ ran.left.it
 abbrev pub history_of : Closed → History
 history_of closed = history_in closed.trace.changes.items closed.trace.entries.items
 
--- the trace has the entries that the core had, and behind them those of the calls that the two threads made, each at the number of its receipt,
--- once; it is a legal history, and the machine is in the state to which that leads
+-- the trace has the entries that the core had, and behind them those of the calls that the two
+-- threads made, each at the number of its receipt, once; it is a legal history, and the machine is
+-- in the state to which that leads
 pub record IsOneRun (core : seen.Core) (first second : List Call) (t : Together) : Type 0 where
   pub made_first : List Call
   pub made_second : List Call

@@ -9,8 +9,8 @@ use Rattle.iocm_board.specs.Names.{BearsSome, fresh, lend, next_of}
 use Rattle.iocm_board.specs.Receipts.{made, merged}
 use Rattle.iocm_board.specs.Views.{Held}
 
--- a caller, as a value: the tag of its system, the core with which that was opened, the names under which it makes calls, its receipts, and how many
--- calls it has seen
+-- a caller, as a value: the tag of its system, the core with which that was opened, the names under
+-- which it makes calls, its receipts, and how many calls it has seen
 pub record Sight : Type 0 where
   pub tag : ℕ
   pub origin : seen.Core
@@ -28,7 +28,8 @@ pub record IsCaller (origin : seen.Core) (v : View) : Type 0 where
   pub list : v.list ≡ []
   pub names : BearsSome v.names
 
--- a seat is the keeper's, at a board that was made with a core: it has the list of all entries of the core that is run now, no name and no receipt
+-- a seat is the keeper's, at a board that was made with a core: it has the list of all entries of
+-- the core that is run now, no name and no receipt
 pub record IsKeeper (origin run : seen.Core) (v : View) : Type 0 where
   pub keeps : v.keeps ≡ true
   pub list : v.list ≡ run.entries

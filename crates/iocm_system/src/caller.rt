@@ -1,8 +1,9 @@
 use iocm_board::{Identity, Seat};
 use std::marker::Model;
 
-/// From where a thread makes its calls. Contracts see the tag of its system, the core with which that was opened, the names under which it makes calls,
-/// its receipts, and how many calls it has seen.
+/// From where a thread makes its calls. Contracts see the tag of its system, the core with which
+/// that was opened, the names under which it makes calls, its receipts, and how many calls it has
+/// seen.
 #[derive(Drop)]
 pub struct Caller<B: Identity> {
     pub(crate) seat: Seat<B>,

@@ -22,9 +22,10 @@ pub struct Unclosed {
 }
 
 impl<B: Identity> System<B> {
-    /// Closes the system with its one caller, to which all others were joined, and gives the core. Its trace is a legal history, from the state in which
-    /// the core was opened; and behind the entries that it had when the system was opened stand those of the caller's receipts, each at its number,
-    /// once, and no others.
+    /// Closes the system with its one caller, to which all others were joined, and gives the core.
+    /// Its trace is a legal history, from the state in which the core was opened; and behind the
+    /// entries that it had when the system was opened stand those of the caller's receipts, each at
+    /// its number, once, and no others.
     ///
     /// X1: what lies under the lock is not of this system.
     pub fn close(self, me: Caller<B>) -> Result<Core, Unclosed>

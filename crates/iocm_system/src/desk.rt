@@ -14,7 +14,8 @@ use iocm_types::Rule;
 use std::alloc::Global;
 use std::marker::Model;
 
-/// What lies under the lock: the core, and the keeper's seat, which knows every entry of its trace. Contracts see the core.
+/// What lies under the lock: the core, and the keeper's seat, which knows every entry of its trace.
+/// Contracts see the core.
 #[derive(Drop)]
 pub struct Desk<B: Identity> {
     pub(crate) core: Core,
@@ -36,10 +37,11 @@ impl<B: Identity> Model for Desk<B> {
 }
 
 impl<B: Identity> Desk<B> {
-    /// Makes a whole call: on the core, which records it; and on the board, which publishes it. The receipt is the caller's.
+    /// Makes a whole call: on the core, which records it; and on the board, which publishes it. The
+    /// receipt is the caller's.
     ///
-    /// X1: the keeper's seat is not this board's. O3: the trace has no room; the caller has then seen as many calls as there is room for. Either hands
-    /// the call back.
+    /// X1: the keeper's seat is not this board's. O3: the trace has no room; the caller has then
+    /// seen as many calls as there is room for. Either hands the call back.
     pub fn make(
         &mut self,
         alloc: Global,

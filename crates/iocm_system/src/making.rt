@@ -1,9 +1,6 @@
-ghost use Rattle.std.specs.Prelude.{◌≡◌, ◌≤◌, IfOk, IfErr};
+ghost use Rattle.std.specs.Prelude.{◌≡◌, IfOk, IfErr};
 ghost use Rattle.iocm_core.specs.declared.call.Call.TheVariants as calls;
-ghost use Rattle.iocm_system.specs.declared.asked.Asked.TheVariants as asks;
-ghost use Rattle.iocm_system.specs.Asking.{asked_by};
-ghost use Rattle.iocm_system.specs.Backs.{IsBack};
-ghost use Rattle.iocm_system.specs.Sights.{gains};
+ghost use Rattle.iocm_system.specs.Calling.{IsHandedBack, IsMade};
 
 use crate::caller::Caller;
 use crate::receipt::{Back, Receipt};
@@ -24,10 +21,8 @@ impl<B: Identity> System<B> {
         order: Order,
     ) -> Result<Receipt, Back>
         requires mine { me.old.tag ≡ self.now.board.tag }
-        ensures asked { IfOk result (λ r. r.asked ≡ asks.Io subchannel order) }
-        ensures later { IfOk result (λ r. me.old.seen ≤ r.number) }
-        ensures receipt { IfOk result (λ r. me.new ≡ gains me.old r.number (record { call = calls.Io subchannel order; answer = r.answer })) }
-        ensures back { IfErr result (λ b. (b.call ≡ calls.Io subchannel order) × IsBack b.rule me.old me.new) }
+        ensures made { IfOk result (λ r. IsMade (calls.Io subchannel order) me.old r me.new) }
+        ensures back { IfErr result (λ b. IsHandedBack (calls.Io subchannel order) me.old b me.new) }
     {
         self.operate(rt, me, Call::Io(subchannel, order))
     }
@@ -40,10 +35,8 @@ impl<B: Identity> System<B> {
         subchannel: SubId,
     ) -> Result<Receipt, Back>
         requires mine { me.old.tag ≡ self.now.board.tag }
-        ensures asked { IfOk result (λ r. r.asked ≡ asks.DeviceBegin subchannel) }
-        ensures later { IfOk result (λ r. me.old.seen ≤ r.number) }
-        ensures receipt { IfOk result (λ r. me.new ≡ gains me.old r.number (record { call = calls.DeviceBegin subchannel; answer = r.answer })) }
-        ensures back { IfErr result (λ b. (b.call ≡ calls.DeviceBegin subchannel) × IsBack b.rule me.old me.new) }
+        ensures made { IfOk result (λ r. IsMade (calls.DeviceBegin subchannel) me.old r me.new) }
+        ensures back { IfErr result (λ b. IsHandedBack (calls.DeviceBegin subchannel) me.old b me.new) }
     {
         self.operate(rt, me, Call::DeviceBegin(subchannel))
     }
@@ -56,25 +49,23 @@ impl<B: Identity> System<B> {
         subchannel: SubId,
     ) -> Result<Receipt, Back>
         requires mine { me.old.tag ≡ self.now.board.tag }
-        ensures asked { IfOk result (λ r. r.asked ≡ asks.DeviceEnd subchannel) }
-        ensures later { IfOk result (λ r. me.old.seen ≤ r.number) }
-        ensures receipt { IfOk result (λ r. me.new ≡ gains me.old r.number (record { call = calls.DeviceEnd subchannel; answer = r.answer })) }
-        ensures back { IfErr result (λ b. (b.call ≡ calls.DeviceEnd subchannel) × IsBack b.rule me.old me.new) }
+        ensures made { IfOk result (λ r. IsMade (calls.DeviceEnd subchannel) me.old r me.new) }
+        ensures back { IfErr result (λ b. IsHandedBack (calls.DeviceEnd subchannel) me.old b me.new) }
     {
         self.operate(rt, me, Call::DeviceEnd(subchannel))
     }
 
-    /// Any call, as those of an operator. The receipt has its place in the trace, which is at least the number of calls that the caller had seen; the
-    /// caller has this receipt more, and has seen the call.
+    /// Any call, as those of an operator. The receipt has its place in the trace, which is at least
+    /// the number of calls that the caller had seen; the caller has this receipt more, and has seen
+    /// the call.
     ///
-    /// X1: what lies under the lock is not of this system; the caller is as before. O3: the trace has no room; the caller has then seen as many calls as
-    /// there is room for, and has no new receipt. Either hands the call back.
+    /// X1: what lies under the lock is not of this system; the caller is as before. O3: the trace
+    /// has no room; the caller has then seen as many calls as there is room for, and has no new
+    /// receipt. Either hands the call back.
     pub fn operate<R: Wait>(&self, rt: &R, me: &mut Caller<B>, call: Call) -> Result<Receipt, Back>
         requires mine { me.old.tag ≡ self.now.board.tag }
-        ensures asked { IfOk result (λ r. r.asked ≡ asked_by call) }
-        ensures later { IfOk result (λ r. me.old.seen ≤ r.number) }
-        ensures receipt { IfOk result (λ r. me.new ≡ gains me.old r.number (record { call = call; answer = r.answer })) }
-        ensures back { IfErr result (λ b. (b.call ≡ call) × IsBack b.rule me.old me.new) }
+        ensures made { IfOk result (λ r. IsMade call me.old r me.new) }
+        ensures back { IfErr result (λ b. IsHandedBack call me.old b me.new) }
     {
         self.desk
             .lock(rt)

@@ -16,7 +16,8 @@ pub struct Receipt {
 /// A call that was not made, handed back. Own.
 #[derive(Drop)]
 pub struct Back {
-    /// Why: O3, the trace has no room for it; or X1, which comes before: what lies under the lock is not of this system.
+    /// Why: O3, the trace has no room for it; or X1, which comes before: what lies under the lock
+    /// is not of this system.
     pub rule: Rule,
     /// The call.
     pub call: Call,

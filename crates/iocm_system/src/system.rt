@@ -19,7 +19,8 @@ pub struct System<B: Identity> {
 }
 
 impl<B: Identity> System<B> {
-    /// Puts a core under the lock, with the board and the keeper's seat that were made for it. It gives the first caller.
+    /// Puts a core under the lock, with the board and the keeper's seat that were made for it. It
+    /// gives the first caller.
     pub fn open(
         alloc: Global,
         core: Core,
@@ -46,7 +47,8 @@ impl<B: Identity> System<B> {
         self.board.is_mine(&me.seat)
     }
 
-    /// How many calls are published: at least as many as the caller had seen. It takes no lock and no memory, and waits for nobody.
+    /// How many calls are published: at least as many as the caller had seen. It takes no lock and
+    /// no memory, and waits for nobody.
     pub fn seen(&self, me: &mut Caller<B>) -> u64
         requires mine { me.old.tag ≡ self.now.board.tag }
         ensures later { me.old.seen ≤ result }
@@ -55,7 +57,8 @@ impl<B: Identity> System<B> {
         self.board.look(&mut me.seat)
     }
 
-    /// A new caller, for another thread: it has seen as much as this one, and has no receipt. It takes no memory.
+    /// A new caller, for another thread: it has seen as much as this one, and has no receipt. It
+    /// takes no memory.
     pub fn split(&self, me: &mut Caller<B>) -> Caller<B>
         requires mine { me.old.tag ≡ self.now.board.tag }
         ensures kept { me.new ≡ lends_one me.old }
@@ -66,7 +69,8 @@ impl<B: Identity> System<B> {
         }
     }
 
-    /// One caller of two: it has the receipts of both, by their numbers, and has seen what the one has that had seen more.
+    /// One caller of two: it has the receipts of both, by their numbers, and has seen what the one
+    /// has that had seen more.
     pub fn join(&self, mut me: Caller<B>, other: Caller<B>) -> Caller<B>
         requires mine { me.tag ≡ self.now.board.tag }
         requires other { other.tag ≡ self.now.board.tag }

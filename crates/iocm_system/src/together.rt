@@ -4,6 +4,7 @@ ghost use Rattle.iocm_system.specs.OneRun.{IsOneRun};
 ghost use Rattle.iocm_system.specs.Turns.{handed_back, IsTurn};
 
 use crate::closing::Unclosed;
+use crate::gate::Open;
 use crate::system::System;
 use crate::turn::{Ran, Turn, in_turn};
 use iocm_board::{Blank, Identity};
@@ -25,8 +26,8 @@ pub struct Together {
     pub second: Ran,
 }
 
-/// Opens a system, lets two threads make their calls, joins them, and closes it: all calls stand in one legal history, in an order that the receipts of
-/// both threads tell.
+/// Opens a system, lets two threads make their calls, joins them, and closes it: all calls stand in
+/// one legal history, in an order that the receipts of both threads tell.
 pub fn run_together<R: Threads + Wait + Sync>(
     rt: &R,
     alloc: Global,
@@ -64,11 +65,11 @@ fn run_named<B: Identity + Send + Sync, R: Threads + Wait + Sync>(
         || -> Turn<B>
             requires { one.tag ≡ shared.now.board.tag }
             ensures { IsTurn first.items one result.caller result.ran.receipts.items (handed_back result.ran.back ++ result.ran.left.items) }
-        { in_turn(rt, shared, one, first) },
+        { in_turn(rt, &Open, shared, one, first) },
         || -> Turn<B>
             requires { two.tag ≡ shared.now.board.tag }
             ensures { IsTurn second.items two result.caller result.ran.receipts.items (handed_back result.ran.back ++ result.ran.left.items) }
-        { in_turn(rt, shared, two, second) },
+        { in_turn(rt, &Open, shared, two, second) },
     );
     let Turn {
         caller: me,

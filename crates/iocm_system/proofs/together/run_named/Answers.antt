@@ -1,4 +1,5 @@
--- The system, the callers and their calls may go to another thread, and what came of the calls comes back.
+-- The system, the callers and their calls may go to another thread, and what came of the calls
+-- comes back.
 use denote.Param.Send.{sendable}
 use Rattle.std.proofs.Crossing.{crosses}
 use Rattle.iocm_core.proofs.Sends.{call_send}
