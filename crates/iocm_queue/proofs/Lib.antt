@@ -1,0 +1,6 @@
+mod Lists
+mod Messages
+mod Steps
+mod Settling
+mod Speaking
+mod Counting
