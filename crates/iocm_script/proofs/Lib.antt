@@ -1,0 +1,9 @@
+mod Again
+mod Counting
+mod Cutting
+mod Fitting
+mod Keeping
+mod OperandsAgain
+mod Refusing
+mod Rows
+mod Splitting
