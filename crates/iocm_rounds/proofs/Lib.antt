@@ -1,0 +1,4 @@
+mod Lines
+mod Working
+mod Rounds
+mod Sends
