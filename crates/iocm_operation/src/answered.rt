@@ -1,0 +1,10 @@
+use iocm_types::Answer;
+
+/// What came of a line of a script. Own.
+#[derive(Clone, Copy, Debug, PartialEq, Eq)]
+pub struct Answered {
+    /// The number of the line.
+    pub line: usize,
+    /// What was answered.
+    pub answer: Answer,
+}
