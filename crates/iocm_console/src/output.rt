@@ -1,7 +1,7 @@
 ghost use Rattle.std.specs.Prelude.{◌≡◌, false, ◌++◌, ◌∷◌, [], IsOk, IsErr, OnOk, OnErr, IfErr};
 ghost use Rattle.std.specs.Io.KnownBytes.{Keeps};
 ghost use Rattle.iocm_model.specs.Machine.Table.{line_of, heading};
-ghost use Rattle.iocm_console.specs.Output.{writer_of, has_failed, Prints, FailedToWrite};
+ghost use Rattle.iocm_console.specs.Output.{writer_of, has_failed, Prints, PrintsLine, FailedToWrite};
 ghost use Rattle.iocm_console.specs.Check.{accepted_text};
 ghost use Rattle.iocm_console.specs.Refusal.{refusal_line, breach_line, change_refusal_line};
 ghost use Rattle.iocm_console.specs.Changed.{changed_text};
@@ -10,8 +10,8 @@ use crate::row::{write_heading, write_row};
 use crate::{BreachRefusal, ChangeRefusal, ConsoleError, Refusal};
 use iocm_rules::Breach;
 use iocm_types::{Fault, Refused, SubId, View};
-use std::io;
 use std::io::Write;
+use std::{fmt, io};
 
 /// A writer, and a note of whether a write to it failed.
 #[derive(Drop)]
@@ -128,6 +128,16 @@ impl<W: Write> Output<W> {
     {
         let refusal = ChangeRefusal(why);
         let written = writeln!(self.writer, "{refusal}");
+        self.note(written)
+    }
+
+    /// Writes a text as it is displayed, and the end of its line. Can't answer want of memory.
+    pub fn line<D: fmt::Display + Drop>(&mut self, text: D) -> Result<(), ConsoleError>
+        ensures text { OnOk result (PrintsLine W.contents self.old self.new (D.output text)) }
+        ensures works { OnOk result (has_failed self.new ≡ has_failed self.old) }
+        ensures fault { IfErr result (FailedToWrite self.new) }
+    {
+        let written = writeln!(self.writer, "{text}");
         self.note(written)
     }
 
