@@ -16,9 +16,9 @@ use Rattle.clap.proofs.OnLiterals.{clap_on_literals}
 use Rattle.clap.proofs.ValueTestLemmas.{accepts-Accepts, Accepts-accepts}
 use Rattle.iocm_apply.specs.declared.report.Report.{Report}
 use Rattle.iocm_apply.specs.declared.report.Report.TheVariants.{Table, WayBack}
-use Rattle.iocm.specs.CommandLine.{bare_app, deck_app, file_rule, heap_rule, iocm_app, mistakes, undo_rule, with_deck_command, IsApplyOf, IsHeapOption, IsPlainName, IsSizeText, NamesApply, StatesApply}
+use Rattle.iocm.specs.CommandLine.{deck_app, decks_app, file_rule, heap_rule, iocm_app, mistakes, run_app, undo_rule, IsApplyOf, IsHeapOption, IsPlainName, IsSizeText, NamesApply, StatesApply}
 
-abbrev size_parser : ValueParser
+abbrev pub size_parser : ValueParser
 size_parser = Unsigned 16 16777216
 
 -- ---- without a size
@@ -32,7 +32,7 @@ apply_is_read : (program : Text) (d : ℕ) (ds : List ℕ) (c : ℕ) (cs : List 
 unfolding clap_on_literals
 apply_is_read program d ds c cs dh ch = (simp (dh, ch), (simp (dh, ch), simp (dh, ch), simp (dh, ch), simp (dh, ch)))
 
-default_is_size : IsSizeText (codes "262144")
+pub default_is_size : IsSizeText (codes "262144")
 default_is_size = accepts-Accepts false size_parser (codes "262144") refl
 
 -- ---- with a size
@@ -42,8 +42,7 @@ abbrev apply_by : ValueParser → App
 apply_by p = with_rule (with_rule (with_rule (deck_app (codes "apply")) (file_rule (codes "CHANGE"))) (record heap_rule { parser = Some p })) undo_rule
 
 abbrev iocm_by : ValueParser → App
-iocm_by p = with_subcommand (with_deck_command (with_deck_command (with_deck_command bare_app (codes "check")) (codes "show")) (codes "write"))
-    (apply_by p).top
+iocm_by p = with_subcommand (with_subcommand decks_app (apply_by p).top) run_app.top
 
 abbrev shape_by : ValueParser → Shape
 shape_by p = built_leaf (apply_by p).top
@@ -257,7 +256,7 @@ hyphen_is_no_digit : (bs : List ℕ) → IsNumeral 10 (without_leading_plus (45 
 hyphen_is_no_digit bs h = omega (arith, h.1.0)
 
 -- a size doesn't begin with a hyphen
-size_is_plain : (text : Text) → IsSizeText text → IsPlainName text
+pub size_is_plain : (text : Text) → IsSizeText text → IsPlainName text
 size_is_plain [] h = absurd (omega (arith, h.0.0))
 size_is_plain (b ∷ bs) h = (b, bs, refl, go (b == 45) refl)
   where

@@ -1,19 +1,21 @@
 -- What clap's clauses say of the command line.
-use Rattle.std.proofs.Common.{Result, Ok, Err, IfErr, IsErr, IfSome, IsSome, subst, ◌≡◌, List, [], ◌∷◌, Option, None, Some, is_some, option_map, option_and_then, refl, inl, inr, sym, ap, ◌∙◌, true, false}
+use Rattle.std.proofs.Common.{Result, Ok, Err, IfErr, IsErr, IfSome, IsSome, subst, ◌≡◌, List, [], ◌∷◌, Option, None, Some, is_some, option_map, option_and_then, unwrap_or, map, codes, refl, inl, inr, sym, ap, ◌∙◌, true, false}
 use Rattle.std.specs.Prelude.{Box}
 use Rattle.std.specs.Result.{IsErrAnd}
 use Rattle.std.specs.Borrow.{Bor}
 use Rattle.std.specs.Box.{box_value}
-use Rattle.clap.specs.Words.{App, HasKind, HasMatchesOf, Kinds, Row, Text, fault_of, first_value, rows_of, subcommand_of, subcommand_rows, subcommand_rows_of, subcommand_name_of, is_simple, is_simple_and_free}
+use Rattle.clap.specs.Words.{App, HasKind, HasMatchesOf, Kinds, Row, Text, fault_of, kind_of, first_value, matched_of, raw_values, rows_of, subcommand_of, subcommand_rows, subcommand_rows_of, subcommand_name_of, is_simple, is_simple_and_free}
 use Rattle.clap.specs.declared.parser.matches.ArgMatches.{ArgMatches}
 use Rattle.clap.specs.declared.parser.matches.ArgMatches.TheViews.{out-ArgMatches, out-SubCommand}
 use Rattle.clap.specs.declared.parser.matches.SubCommand.{SubCommand}
 use Rattle.clap.specs.declared.parser.matches.Found.{Found}
-use Rattle.clap.proofs.WalkLemmas.{first_value-rows}
+use Rattle.clap.proofs.WalkLemmas.{first_value-rows, raw_values-rows}
 use Rattle.clap.specs.Kinds.{or_else}
 use Rattle.clap.specs.declared.error.Error.{Error}
+use Rattle.clap.specs.declared.error.kind.ErrorKind.TheVariants.{MissingRequiredArgument}
 use Rattle.clap.proofs.OnLiterals.{clap_on_literals}
-use Rattle.iocm.specs.CommandLine.{argument_of, iocm_app, mistakes}
+use Rattle.iocm.specs.CommandLine.{argument_of, arguments_of, iocm_app, mistakes, mistakes_or_missing, stated, words_of, HasArguments, StatesArguments}
+use Rattle.iocm.specs.declared.command.Command.{Command}
 
 -- one of these kinds is one of these or, where there is none, of others
 pub has_kind_or : (kinds more : Kinds) (e : Error) → HasKind kinds e → HasKind (or_else kinds more) e
@@ -61,6 +63,19 @@ pub argument_is : (m : ArgMatches) (f : Found) (name id : Text) (value : Option 
 argument_is m f name id value named rows found = ap (argument_of id) (used (out-ArgMatches m).subcommand name (rows_of f) named rows)
     ∙ ap (λ (o : Option Text). Some (name, o)) (sym (found ∙ first_value-rows f id))
 
+-- and one of its arguments all these values
+pub arguments_are : (m : ArgMatches) (f : Found) (name id : Text) (values : Option (List Text)) → subcommand_name_of m ≡ Some name
+    → option_map (λ (p : Text × List Row). p.1) (subcommand_rows_of m) ≡ Some (rows_of f) → values ≡ option_map raw_values (matched_of f id)
+    → arguments_of id (subcommand_rows_of m) ≡ Some (name, unwrap_or values [])
+arguments_are m f name id values named rows found = ap (arguments_of id) (used (out-ArgMatches m).subcommand name (rows_of f) named rows)
+    ∙ ap (λ (o : Option (List Text)). Some (name, unwrap_or o [])) (sym (found ∙ raw_values-rows f id))
+
+-- the texts of a list that was read, or none, are its texts, or none
+pub texts_or_none : (read : Option (Bor (List (Bor Text)))) (none : Bor (List (Bor Text))) → none.now ≡ []
+    → unwrap_or (option_map (λ (d : Bor (List (Bor Text))). map (λ (v : Bor Text). v.now) d.now) read) [] ≡ map (λ (v : Bor Text). v.now) (unwrap_or read none).now
+texts_or_none None none empty = sym (ap (map (λ (v : Bor Text). v.now)) empty)
+texts_or_none (Some d) none empty = refl
+
 -- where that value is what was read, a text that was read has it
 pub has_value : (stated : Option (Text × Option Text)) (name : Text) (read : Option (Bor Text))
     → stated ≡ Some (name, option_map (λ (d : Bor Text). d.now) read) → IfSome read (λ d. stated ≡ Some (name, Some d.now))
@@ -83,3 +98,23 @@ passed_on (Err e) given P has is = subst P (sym is.1) has
 pub not_some : {X : Type 0} (o : Option X) → ((x : X) → o ≡ Some x → ⊥) → IsSome o → ⊥
 not_some None never some = let bad : false ≡ true = some in cc
 not_some (Some x) never some = never x refl
+
+-- what holds of the value that there is
+pub some_is : {X : Type 0} (o : Option X) (x : X) (P : X → Type 0) → o ≡ Some x → IfSome o P → P x
+some_is o x P is has = subst (λ o. IfSome o P) is has
+
+-- where there is no mistake, a missing argument is of a kind that is stated
+pub is_missing : (words : List Text) (e : Error) → mistakes words ≡ [] → kind_of e ≡ MissingRequiredArgument → HasKind (mistakes_or_missing words) e
+is_missing words e none kind = subst (λ (kinds : Kinds). HasKind (or_else kinds (MissingRequiredArgument ∷ [])) e) (sym none) (inr (inl kind))
+
+-- the command that was found is the one that the words state
+pub is_stated_as : (words : List Text) (m : ArgMatches) (found : Option Command) (c : Command) → subcommand_rows_of m ≡ subcommand_of iocm_app words
+    → found ≡ Some c → IfSome found (λ c. argument_of (codes "DECK") (subcommand_rows_of m) ≡ Some (words_of c)) → stated words ≡ Some (words_of c)
+is_stated_as words m found c entered is has = ap (argument_of (codes "DECK")) (sym entered)
+    ∙ some_is found c (λ c. argument_of (codes "DECK") (subcommand_rows_of m) ≡ Some (words_of c)) is has
+
+-- with what it has
+pub has_stated : (words : List Text) (m : ArgMatches) (found : Option Command) (c : Command) → subcommand_rows_of m ≡ subcommand_of iocm_app words
+    → found ≡ Some c → IfSome found (HasArguments (subcommand_rows_of m)) → StatesArguments words c
+has_stated words m found c entered is has =
+    subst (λ (named : Option (Text × List Row)). HasArguments named c) entered (some_is found c (HasArguments (subcommand_rows_of m)) is has)

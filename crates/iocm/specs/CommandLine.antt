@@ -1,9 +1,11 @@
 -- What a command line means, as `clap` reads it.
-use Rattle.std.specs.Prelude.{◌≡◌, ◌==◌, ◌⊎◌, ℕ, Bool, true, false, List, [], ◌∷◌, ◌++◌, Option, Some, None, codes, option_map, ⊤}
+use Rattle.std.specs.Prelude.{◌≡◌, ◌==◌, ◌⊎◌, ℕ, Bool, true, false, List, [], ◌∷◌, ◌++◌, Option, Some, None, codes, option_map, unwrap_or, ⊤}
+use Rattle.std.specs.List.{All}
 use Rattle.std.specs.Str.Parse.{digits_value, without_leading_plus}
-use Rattle.clap.specs.Words.{App, Row, Rule, Text, Kinds, IsUnsignedIn, new_app, new_rule, with_rule, with_subcommand, subcommand_of, first_of, fault_of}
+use Rattle.clap.specs.Walk.{texts}
+use Rattle.clap.specs.Words.{App, Row, Rule, Text, Kinds, IsUnsignedIn, new_app, new_rule, with_rule, with_subcommand, subcommand_of, all_of, first_of, fault_of}
 use Rattle.clap.specs.Kinds.{or_else}
-use Rattle.clap.specs.declared.builder.action.ArgAction.TheVariants.{SetTrue}
+use Rattle.clap.specs.declared.builder.action.ArgAction.TheVariants.{Append, SetTrue}
 use Rattle.clap.specs.declared.builder.command.Command as clap
 use Rattle.clap.specs.declared.builder.command.Command.TheViews.{out-Command}
 use Rattle.clap.specs.declared.builder.value_parser.ValueParser.TheVariants.{Unsigned}
@@ -11,11 +13,17 @@ use Rattle.clap.specs.declared.error.kind.ErrorKind.TheVariants.{MissingRequired
 use Rattle.iocm_apply.specs.declared.report.Report.{Report}
 use Rattle.iocm_apply.specs.declared.report.Report.TheVariants.{Table, WayBack}
 use Rattle.iocm.specs.declared.command.Command.{Command}
-use Rattle.iocm.specs.declared.command.Command.TheVariants.{Check, Show, Write, Apply}
+use Rattle.iocm.specs.declared.command.Command.TheVariants.{Answer, Run}
+use Rattle.iocm.specs.declared.command.Request.{Request}
+use Rattle.iocm.specs.declared.command.Request.TheVariants.{Check, Show, Write, Apply}
 
--- a file, which is required: the deck, or the change deck
+-- a file, which is required: the deck, the script, or the change deck
 abbrev pub file_rule : Text → Rule
 file_rule name = record (new_rule name) { required = true }
+
+-- files, of which each word names one, and which aren't required: the change decks of a script
+abbrev pub changes_rule : Text → Rule
+changes_rule name = record (new_rule name) { action = Some Append }
 
 -- the size of a heap in bytes, by an option: 16 to 16777216, where it is not given 262144
 abbrev pub heap_rule : Rule
@@ -38,6 +46,10 @@ undo_rule = record (new_rule (codes "undo")) { long = Some (codes "undo"); actio
 abbrev pub apply_app : App
 apply_app = with_rule (with_rule (with_rule (deck_app (codes "apply")) (file_rule (codes "CHANGE"))) heap_rule) undo_rule
 
+-- `run`, with its deck, its script, its change decks and the size of their heaps
+abbrev pub run_app : App
+run_app = with_rule (with_rule (with_rule (deck_app (codes "run")) (file_rule (codes "SCRIPT"))) (changes_rule (codes "CHANGE"))) heap_rule
+
 -- whether an argument of the command is one of all commands below it too
 abbrev pub has_globals : clap.Command → Bool
 has_globals c = (out-Command c).has_globals
@@ -50,27 +62,40 @@ bare_app = record (new_app (codes "iocm")) { top = record (new_app (codes "iocm"
 abbrev pub with_deck_command : App → Text → App
 with_deck_command app name = with_subcommand app (deck_app name).top
 
+-- the program with the commands that read a deck and nothing else
+abbrev pub decks_app : App
+decks_app = with_deck_command (with_deck_command (with_deck_command bare_app (codes "check")) (codes "show")) (codes "write")
+
 -- the program, with its commands
 abbrev pub iocm_app : App
-iocm_app = with_subcommand (with_deck_command (with_deck_command (with_deck_command bare_app (codes "check")) (codes "show")) (codes "write")) apply_app.top
+iocm_app = with_subcommand (with_subcommand decks_app apply_app.top) run_app.top
 
 -- a command's name, and the value of one of its arguments
 abbrev pub argument_of : Text → Option (Text × List Row) → Option (Text × Option Text)
 argument_of id = option_map (λ p. (p.0, first_of id p.1))
 
+-- a command's name, and all values of one of its arguments in their order: none where it isn't given
+abbrev pub arguments_of : Text → Option (Text × List Row) → Option (Text × List Text)
+arguments_of id = option_map (λ p. (p.0, unwrap_or (all_of id p.1) []))
+
 -- the command that the words name, and the value of its deck
 abbrev pub stated : List Text → Option (Text × Option Text)
 stated words = argument_of (codes "DECK") (subcommand_of iocm_app words)
 
+-- a request by its command's name and its deck
+abbrev pub request_words : Request → Text × Option Text
+request_words (Check deck) = (codes "check", Some deck.now)
+request_words (Show deck) = (codes "show", Some deck.now)
+request_words (Write deck) = (codes "write", Some deck.now)
+request_words (Apply deck change heap report) = (codes "apply", Some deck.now)
+
 -- a command by its name and its deck
 abbrev pub words_of : Command → Text × Option Text
-words_of (Check deck) = (codes "check", Some deck.now)
-words_of (Show deck) = (codes "show", Some deck.now)
-words_of (Write deck) = (codes "write", Some deck.now)
-words_of (Apply deck change heap report) = (codes "apply", Some deck.now)
+words_of (Answer request) = request_words request
+words_of (Run deck script changes heap) = (codes "run", Some deck.now)
 
--- the change deck of a command, if it has one
-abbrev pub change_of : Command → Option Text
+-- the change deck of a request, if it has one
+abbrev pub change_of : Request → Option Text
 change_of (Apply deck change heap report) = Some change.now
 change_of _ = None
 
@@ -94,14 +119,27 @@ IsApplyOf named deck change size report = (argument_of (codes "DECK") named ≡ 
     × (argument_of (codes "heap") named ≡ Some (codes "apply", Some size))
     × (argument_of (codes "undo") named ≡ Some (codes "apply", Some (flag_text report)))
 
--- they are so with those of `apply`; any other command has none
-abbrev pub HasChange : Option (Text × List Row) → Command → Type 0
+-- they are so with those of `apply`; any other request has none
+abbrev pub HasChange : Option (Text × List Row) → Request → Type 0
 HasChange named (Apply deck change heap report) = (size : Text) × IsApplyOf named deck.now change.now size report × GivesSize size heap
 HasChange named _ = ⊤
 
--- the words state the change deck of a command, the size of its heap and its report, if it has them
-abbrev pub StatesChange : List Text → Command → Type 0
-StatesChange words c = HasChange (subcommand_of iocm_app words) c
+-- the command and its matches are those of `run` with this deck, this script, these change decks and this text of a heap's size
+abbrev pub IsRunOf : Option (Text × List Row) → Text → Text → List Text → Text → Type 0
+IsRunOf named deck script changes size = (argument_of (codes "DECK") named ≡ Some (codes "run", Some deck))
+    × (argument_of (codes "SCRIPT") named ≡ Some (codes "run", Some script))
+    × (arguments_of (codes "CHANGE") named ≡ Some (codes "run", changes))
+    × (argument_of (codes "heap") named ≡ Some (codes "run", Some size))
+
+-- they are so with what the command has
+abbrev pub HasArguments : Option (Text × List Row) → Command → Type 0
+HasArguments named (Answer request) = HasChange named request
+HasArguments named (Run deck script changes heap) =
+    (size : Text) × IsRunOf named deck.now script.now (texts changes.items) size × GivesSize size heap
+
+-- the words state what the command has: a change deck and a report, or a script and all its change decks, and the size of a heap
+abbrev pub StatesArguments : List Text → Command → Type 0
+StatesArguments words c = HasArguments (subcommand_of iocm_app words) c
 
 -- the commands whose one argument is a deck
 abbrev pub IsDeckCommand : Text → Type 0
@@ -127,6 +165,14 @@ IsApply named = (deck change size : Text) × (report : Report) × IsApplyOf name
 abbrev pub StatesApply : List Text → Type 0
 StatesApply words = (mistakes words ≡ []) × IsApply (subcommand_of iocm_app words)
 
+-- they are those of `run` with a deck, a script, change decks and a size
+abbrev pub IsRun : Option (Text × List Row) → Type 0
+IsRun named = (deck script size : Text) × (changes : List Text) × IsRunOf named deck script changes size × IsSizeText size
+
+-- the words have no mistake, and state `run` with these
+abbrev pub StatesRun : List Text → Type 0
+StatesRun words = (mistakes words ≡ []) × IsRun (subcommand_of iocm_app words)
+
 -- the program's name, `check`, `show` or `write`, and the name of a deck that doesn't begin with a hyphen
 abbrev pub NamesDeck : List Text → Type 0
 NamesDeck words = (program name : Text) × (first : ℕ) × (rest : List ℕ) × IsDeckCommand name
@@ -149,3 +195,30 @@ AreApplyOptions options = (size : List Text) × IsHeapOption size
 abbrev pub NamesApply : List Text → Type 0
 NamesApply words = (program deck change : Text) × (options : List Text) × IsPlainName deck × IsPlainName change × AreApplyOptions options
     × (words ≡ program ∷ codes "apply" ∷ deck ∷ change ∷ options)
+
+-- the words are the program's name, `run`, these names of a deck, a script and change decks, which don't begin with a hyphen, and
+-- an option or none
+abbrev pub IsRunLine : List Text → Text → Text → List Text → List Text → Type 0
+IsRunLine words deck script changes options = (program : Text) × IsPlainName deck × IsPlainName script
+    × All IsPlainName changes × IsHeapOption options
+    × (words ≡ program ∷ codes "run" ∷ deck ∷ script ∷ (changes ++ options))
+
+-- they are so with some names
+abbrev pub NamesRun : List Text → Type 0
+NamesRun words = (deck script : Text) × (changes options : List Text) × IsRunLine words deck script changes options
+
+-- the size of a heap that the options give: the default where there is none
+abbrev pub GivesHeap : List Text → ℕ → Type 0
+GivesHeap options heap = ((options ≡ []) × (heap ≡ 262144))
+    ⊎ ((size : Text) × (options ≡ codes "--heap" ∷ size ∷ []) × GivesSize size heap)
+
+-- the command is `run` with this deck, this script, these change decks and the heap that these options give
+abbrev pub IsRunWith : Command → Text → Text → List Text → List Text → Type 0
+IsRunWith (Answer request) deck script changes options = ⊥
+IsRunWith (Run d s cs heap) deck script changes options = (d.now ≡ deck) × (s.now ≡ script) × (texts cs.items ≡ changes)
+    × GivesHeap options heap
+
+-- it is so with all that the words name, where they name `run`
+abbrev pub IsAsNamed : List Text → Command → Type 0
+IsAsNamed words c = (deck script : Text) (changes options : List Text) → IsRunLine words deck script changes options
+    → IsRunWith c deck script changes options

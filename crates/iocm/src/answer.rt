@@ -5,21 +5,22 @@ ghost use Rattle.iocm_console.specs.Opening.{SaysIfMemory};
 ghost use Rattle.iocm.specs.Answer.{printed};
 ghost use Rattle.iocm.specs.CommandLine.{change_of};
 
-use crate::command::Command;
+use crate::command::Request;
 use iocm_apply::apply_change;
 use iocm_columns::Device;
 use iocm_console::{ConsoleError, DeckCommand, Output, Status, answer_deck};
 use std::alloc::Global;
 use std::io::{Read, Write};
 
-/// Does a command: prints what it has to say of its deck, and of its change deck if it has one, or why one of them is refused.
+/// Does what is asked of a deck: prints what there is to say of it, and of its change deck if there is one, or why one of
+/// them is refused.
 ///
-/// Each deck is read by at most `limit` reads; a command that has no change deck leaves `change` alone. L5
+/// Each deck is read by at most `limit` reads; a request that has no change deck leaves `change` alone. L5
 /// (`ConsoleError::Read`): a deck can't be read to its end; L6 (`ConsoleError::Write`): a write failed. All other faults are
 /// refusals, which are printed.
 pub fn print_answer<R: Read, S: Read, W: Write>(
     alloc: Global,
-    command: Command<'_>,
+    request: Request<'_>,
     deck: &mut Device<R>,
     change: &mut Device<S>,
     limit: u64,
@@ -30,18 +31,18 @@ pub fn print_answer<R: Read, S: Read, W: Write>(
     requires room { reads_of deck.old + limit < 2 ^ 64 }
     requires room_change { reads_of change.old + limit < 2 ^ 64 }
     requires works { has_failed output.old ≡ false }
-    ensures known_bytes { IfSome (R.remaining (reader_of deck.old)) (λ bytes. (lines : List ℕ) → (IsSome (change_of command.entry) → S.remaining (reader_of change.old) ≡ Some lines) → IfOk result (SaysIfMemory W.contents output.old output.new (printed command.entry bytes lines))) }
-    ensures some_bytes { (bytes : List ℕ) × (lines : List ℕ) × IfOk result (SaysIfMemory W.contents output.old output.new (printed command.entry bytes lines)) }
-    ensures untouched { change_of command.entry ≡ None → change.new ≡ change.old }
+    ensures known_bytes { IfSome (R.remaining (reader_of deck.old)) (λ bytes. (lines : List ℕ) → (IsSome (change_of request.entry) → S.remaining (reader_of change.old) ≡ Some lines) → IfOk result (SaysIfMemory W.contents output.old output.new (printed request.entry bytes lines))) }
+    ensures some_bytes { (bytes : List ℕ) × (lines : List ℕ) × IfOk result (SaysIfMemory W.contents output.old output.new (printed request.entry bytes lines)) }
+    ensures untouched { change_of request.entry ≡ None → change.new ≡ change.old }
     ensures unreadable { result ≡ Err ConsoleError.Read → StopsShort deck.new (reads_of deck.old + limit)
-        ⊎ (IsSome (change_of command.entry) × StopsShort change.new (reads_of change.old + limit)) }
+        ⊎ (IsSome (change_of request.entry) × StopsShort change.new (reads_of change.old + limit)) }
     ensures unwritable { result ≡ Err ConsoleError.Write → has_failed output.new ≡ true }
 {
-    match command {
-        Command::Check { .. } => answer_deck(alloc, DeckCommand::Check, deck, limit, output),
-        Command::Show { .. } => answer_deck(alloc, DeckCommand::Show, deck, limit, output),
-        Command::Write { .. } => answer_deck(alloc, DeckCommand::Write, deck, limit, output),
-        Command::Apply { heap, report, .. } => {
+    match request {
+        Request::Check { .. } => answer_deck(alloc, DeckCommand::Check, deck, limit, output),
+        Request::Show { .. } => answer_deck(alloc, DeckCommand::Show, deck, limit, output),
+        Request::Write { .. } => answer_deck(alloc, DeckCommand::Write, deck, limit, output),
+        Request::Apply { heap, report, .. } => {
             apply_change(alloc, heap as usize, report, deck, change, limit, output)
         }
     }

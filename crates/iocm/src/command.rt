@@ -1,7 +1,9 @@
-ghost use Rattle.std.specs.Prelude.{◌≡◌, [], Some, IsSome, IfOk, IfErr, IfSome, codes, false, map, option_map};
+ghost use Rattle.std.specs.Prelude.{◌≡◌, [], List, Some, IsSome, IfOk, IfErr, IfSome, codes, false, map, option_map};
+ghost use Rattle.clap.specs.Walk.{texts};
 ghost use Rattle.clap.specs.Words.{HasKind, Text, app_of, kind_of, rule_of, subcommand_rows_of};
 ghost use Rattle.iocm_apply.specs.declared.report.Report.{Report};
-ghost use Rattle.iocm.specs.CommandLine.{iocm_app, apply_app, argument_of, bare_app, change_of, deck_app, file_rule, flag_text, has_globals, heap_rule, stated, undo_rule, with_deck_command, words_of, mistakes, mistakes_or_missing, GivesSize, HasChange, IsApply, IsDeckCommand, IsSizeText, NamesApply, NamesDeck, StatesApply, StatesChange, StatesDeck};
+ghost use Rattle.iocm.specs.CommandLine.{iocm_app, apply_app, argument_of, arguments_of, bare_app, change_of, changes_rule, deck_app, decks_app, file_rule, flag_text, has_globals, heap_rule, request_words, run_app, undo_rule};
+ghost use Rattle.iocm.specs.CommandLine.{stated, with_deck_command, words_of, mistakes, mistakes_or_missing, GivesSize, HasArguments, HasChange, IsApply, IsAsNamed, IsDeckCommand, IsRun, IsSizeText, NamesApply, NamesDeck, NamesRun, StatesApply, StatesArguments, StatesDeck, StatesRun};
 
 use clap::builder::ValueParser;
 use clap::error::ErrorKind;
@@ -11,8 +13,23 @@ use std::alloc::{AllocError, Global};
 use std::convert::AsStr;
 
 /// What a command line asks for.
-#[derive(Clone, Copy, Debug, PartialEq, Eq)]
+#[derive(Debug, PartialEq, Eq, Drop)]
 pub enum Command<'a> {
+    /// Read a deck, and a change deck if there is one, and print one answer.
+    Answer(Request<'a>),
+    /// Run the script in the second file on the machine of the deck in the first one, with the change decks in the others,
+    /// in their order; each change tree is read in a heap of so many bytes.
+    Run {
+        deck: &'a str,
+        script: &'a str,
+        changes: Vec<&'a str>,
+        heap: u32,
+    },
+}
+
+/// What is asked of a deck.
+#[derive(Clone, Copy, Debug, PartialEq, Eq)]
+pub enum Request<'a> {
     /// Check the rules of the deck in this file, and print how many records it has.
     Check {
         deck: &'a str,
@@ -35,14 +52,14 @@ pub enum Command<'a> {
     },
 }
 
-impl<'a> Command<'a> {
+impl<'a> Request<'a> {
     /// The name of the file that the deck is in.
     pub fn deck(self) -> &'a str
-        ensures { (words_of self.entry).1 ≡ Some result.now }
+        ensures { (request_words self.entry).1 ≡ Some result.now }
     {
         match self {
-            Command::Check { deck } | Command::Show { deck } | Command::Write { deck } => deck,
-            Command::Apply { deck, .. } => deck,
+            Request::Check { deck } | Request::Show { deck } | Request::Write { deck } => deck,
+            Request::Apply { deck, .. } => deck,
         }
     }
 
@@ -51,8 +68,8 @@ impl<'a> Command<'a> {
         ensures { option_map (λ change. change.now) result ≡ change_of self.entry }
     {
         match self {
-            Command::Check { .. } | Command::Show { .. } | Command::Write { .. } => None,
-            Command::Apply { change, .. } => Some(change),
+            Request::Check { .. } | Request::Show { .. } | Request::Write { .. } => None,
+            Request::Apply { change, .. } => Some(change),
         }
     }
 }
@@ -74,8 +91,16 @@ fn file<'a>(alloc: Global, name: &'a str, help: &'a str) -> Arg<'a>
     Arg::new(alloc, name).required(true).help(help)
 }
 
+/// The change decks, which aren't required: each word is a file.
+fn changes<'a>(alloc: Global, name: &'a str, help: &'a str) -> Arg<'a>
+    ensures rule { rule_of result ≡ changes_rule name.now }
+    ensures local { result.global ≡ false }
+{
+    Arg::new(alloc, name).action(ArgAction::Append).help(help)
+}
+
 /// The option `--heap`: the size in bytes of the heap that a change tree is read in.
-fn heap<'a>(alloc: Global) -> Arg<'a>
+fn heap<'a>(alloc: Global, help: &'a str) -> Arg<'a>
     ensures rule { rule_of result ≡ heap_rule }
     ensures local { result.global ≡ false }
 {
@@ -85,7 +110,7 @@ fn heap<'a>(alloc: Global) -> Arg<'a>
         .value_name("BYTES")
         .value_parser(size)
         .default_value("262144")
-        .help("The heap that the change tree is read in: 16 to 16777216 bytes")
+        .help(help)
 }
 
 /// The flag `--undo`: that the change deck that takes the change back is wanted.
@@ -122,10 +147,28 @@ fn apply_command<'a>(alloc: Global) -> Result<clap::Command<'a>, AllocError>
         "Activates a change deck on the machine of a configuration deck and prints the table afterwards, or how to take it back";
     let help = "A change deck: the file of the statements of a change";
     let change = file(alloc, "CHANGE", help);
+    let heap_help = "The heap that the change tree is read in: 16 to 16777216 bytes";
     deck_command(alloc, "apply", about)?
         .arg(change)?
-        .arg(heap(alloc))?
+        .arg(heap(alloc, heap_help))?
         .arg(undo(alloc))
+}
+
+/// The command that reads a deck, a script and its change decks.
+fn run_command<'a>(alloc: Global) -> Result<clap::Command<'a>, AllocError>
+    ensures app { IfOk result (λ c. app_of c ≡ run_app) }
+    ensures local { IfOk result (λ c. has_globals c ≡ false) }
+{
+    let about =
+        "Runs a script of images and operators on the machine of a configuration deck, and prints the answers and the table afterwards";
+    let script = file(alloc, "SCRIPT", "A script: the file of its lines");
+    let help = "A change deck, which the script names by its place: the first is 1";
+    let changes = changes(alloc, "CHANGE", help);
+    let heap_help = "The heap that each change tree is read in: 16 to 16777216 bytes";
+    deck_command(alloc, "run", about)?
+        .arg(script)?
+        .arg(changes)?
+        .arg(heap(alloc, heap_help))
 }
 
 /// A program with one more command that reads a deck.
@@ -154,9 +197,9 @@ fn bare_iocm<'a>(alloc: Global) -> Result<clap::Command<'a>, AllocError>
     Ok(program)
 }
 
-/// The command lines that `iocm` understands.
-fn iocm<'a>(alloc: Global) -> Result<clap::Command<'a>, AllocError>
-    ensures { IfOk result (λ c. app_of c ≡ iocm_app) }
+/// The program with the commands that read a deck and nothing else.
+fn deck_iocm<'a>(alloc: Global) -> Result<clap::Command<'a>, AllocError>
+    ensures { IfOk result (λ c. app_of c ≡ decks_app) }
 {
     let check = "Reads a configuration deck, checks its rules and says how many records it has";
     let show = "Reads a configuration deck and prints the table of its subchannels";
@@ -164,8 +207,16 @@ fn iocm<'a>(alloc: Global) -> Result<clap::Command<'a>, AllocError>
     let program = bare_iocm(alloc)?;
     let program = with_deck_command(alloc, program, "check", check)?;
     let program = with_deck_command(alloc, program, "show", show)?;
-    let program = with_deck_command(alloc, program, "write", write)?;
-    program.subcommand(apply_command(alloc)?)
+    with_deck_command(alloc, program, "write", write)
+}
+
+/// The command lines that `iocm` understands.
+fn iocm<'a>(alloc: Global) -> Result<clap::Command<'a>, AllocError>
+    ensures { IfOk result (λ c. app_of c ≡ iocm_app) }
+{
+    let program = deck_iocm(alloc)?;
+    let program = program.subcommand(apply_command(alloc)?)?;
+    program.subcommand(run_command(alloc)?)
 }
 
 /// The value of an argument of the command `name`, where the words name that command.
@@ -182,6 +233,24 @@ fn deck_of<'a>(matches: &ArgMatches<'a>, name: &str) -> Option<&'a str>
     ensures only { (deck : Text) → argument_of (codes "DECK") (subcommand_rows_of matches.now) ≡ Some (name.now, Some deck) → IsSome result }
 {
     value_of(matches, name, "DECK")
+}
+
+/// All values of an argument of the command `name`, in the order of the words, where the words name that command.
+fn values_of<'a>(
+    alloc: Global,
+    matches: &ArgMatches<'a>,
+    name: &str,
+    argument: &str,
+) -> Result<Option<Vec<&'a str>>, AllocError>
+    ensures some { IfOk result (λ found. IfSome found (λ values. arguments_of argument.now (subcommand_rows_of matches.now) ≡ Some (name.now, texts values.items))) }
+    ensures only { IfOk result (λ found. (values : List Text) → arguments_of argument.now (subcommand_rows_of matches.now) ≡ Some (name.now, values) → IsSome found) }
+{
+    let Some(found) = matches.subcommand_matches(name) else {
+        return Ok(None);
+    };
+    let none: &[&str] = &[];
+    let values = found.get_strs(argument).unwrap_or(none);
+    Ok(Some(Vec::from_slice(alloc, values)?))
 }
 
 /// The size of a heap that a text gives, if it gives one.
@@ -207,9 +276,9 @@ fn report_of(flag: &str) -> Option<Report>
     }
 }
 
-/// The command `apply`, where the words name it, with its decks, the size of its heap and its report.
-fn apply_in<'a>(matches: &ArgMatches<'a>) -> Option<Command<'a>>
-    ensures some { IfSome result (λ c. argument_of (codes "DECK") (subcommand_rows_of matches.now) ≡ Some (words_of c)) }
+/// The request of `apply`, where the words name it, with its decks, the size of its heap and its report.
+fn apply_in<'a>(matches: &ArgMatches<'a>) -> Option<Request<'a>>
+    ensures some { IfSome result (λ r. argument_of (codes "DECK") (subcommand_rows_of matches.now) ≡ Some (request_words r)) }
     ensures change { IfSome result (HasChange (subcommand_rows_of matches.now)) }
     ensures only { IsApply (subcommand_rows_of matches.now) → IsSome result }
 {
@@ -217,7 +286,7 @@ fn apply_in<'a>(matches: &ArgMatches<'a>) -> Option<Command<'a>>
     let change = value_of(matches, "apply", "CHANGE")?;
     let heap = heap_size(value_of(matches, "apply", "heap")?)?;
     let report = report_of(value_of(matches, "apply", "undo")?)?;
-    Some(Command::Apply {
+    Some(Request::Apply {
         deck,
         change,
         heap,
@@ -225,23 +294,66 @@ fn apply_in<'a>(matches: &ArgMatches<'a>) -> Option<Command<'a>>
     })
 }
 
-/// The command that the words name, with its deck and what else it takes.
-fn command_in<'a>(matches: &ArgMatches<'a>) -> Option<Command<'a>>
-    ensures some { IfSome result (λ c. argument_of (codes "DECK") (subcommand_rows_of matches.now) ≡ Some (words_of c)) }
+/// The request that the words name, with its deck and what else it takes.
+fn request_in<'a>(matches: &ArgMatches<'a>) -> Option<Request<'a>>
+    ensures some { IfSome result (λ r. argument_of (codes "DECK") (subcommand_rows_of matches.now) ≡ Some (request_words r)) }
     ensures change { IfSome result (HasChange (subcommand_rows_of matches.now)) }
     ensures only { (name deck : Text) → IsDeckCommand name → argument_of (codes "DECK") (subcommand_rows_of matches.now) ≡ Some (name, Some deck) → IsSome result }
     ensures only_apply { IsApply (subcommand_rows_of matches.now) → IsSome result }
 {
     if let Some(deck) = deck_of(matches, "check") {
-        return Some(Command::Check { deck });
+        return Some(Request::Check { deck });
     }
     if let Some(deck) = deck_of(matches, "show") {
-        return Some(Command::Show { deck });
+        return Some(Request::Show { deck });
     }
     if let Some(deck) = deck_of(matches, "write") {
-        return Some(Command::Write { deck });
+        return Some(Request::Write { deck });
     }
     apply_in(matches)
+}
+
+/// The command `run`, where the words name it, with its deck, its script, its change decks and the size of their heaps.
+fn run_in<'a>(alloc: Global, matches: &ArgMatches<'a>) -> Result<Option<Command<'a>>, AllocError>
+    ensures some { IfOk result (λ found. IfSome found (λ c. argument_of (codes "DECK") (subcommand_rows_of matches.now) ≡ Some (words_of c))) }
+    ensures arguments { IfOk result (λ found. IfSome found (HasArguments (subcommand_rows_of matches.now))) }
+    ensures only { IfOk result (λ found. IsRun (subcommand_rows_of matches.now) → IsSome found) }
+{
+    let Some(deck) = deck_of(matches, "run") else {
+        return Ok(None);
+    };
+    let Some(script) = value_of(matches, "run", "SCRIPT") else {
+        return Ok(None);
+    };
+    let Some(heap) = value_of(matches, "run", "heap").and_then(heap_size) else {
+        return Ok(None);
+    };
+    let Some(changes) = values_of(alloc, matches, "run", "CHANGE")? else {
+        return Ok(None);
+    };
+    Ok(Some(Command::Run {
+        deck,
+        script,
+        changes,
+        heap,
+    }))
+}
+
+/// The command that the words name, with what it takes.
+fn command_in<'a>(
+    alloc: Global,
+    matches: &ArgMatches<'a>,
+) -> Result<Option<Command<'a>>, AllocError>
+    ensures some { IfOk result (λ found. IfSome found (λ c. argument_of (codes "DECK") (subcommand_rows_of matches.now) ≡ Some (words_of c))) }
+    ensures arguments { IfOk result (λ found. IfSome found (HasArguments (subcommand_rows_of matches.now))) }
+    ensures only { IfOk result (λ found. (name deck : Text) → IsDeckCommand name → argument_of (codes "DECK") (subcommand_rows_of matches.now) ≡ Some (name, Some deck) → IsSome found) }
+    ensures only_apply { IfOk result (λ found. IsApply (subcommand_rows_of matches.now) → IsSome found) }
+    ensures only_run { IfOk result (λ found. IsRun (subcommand_rows_of matches.now) → IsSome found) }
+{
+    if let Some(request) = request_in(matches) {
+        return Ok(Some(Command::Answer(request)));
+    }
+    run_in(alloc, matches)
 }
 
 /// The command of the words of a command line, of which the first is the program's name.
@@ -249,20 +361,25 @@ fn command_in<'a>(matches: &ArgMatches<'a>) -> Option<Command<'a>>
 /// Help, the version and every mistake in the words are `clap`'s errors. Want of memory is one of the kind `OutOfMemory`, and
 /// nothing else keeps words that have no mistake and state a deck from being understood: `check`, `show` or `write` and a name that
 /// doesn't begin with a hyphen are such words, and `show -- -x.deck` too. So it is with `apply`, a deck, a change deck, the size
-/// of a heap, which `--heap` gives, or its default, and `--undo` or not.
+/// of a heap, which `--heap` gives, or its default, and `--undo` or not; and with `run`, a deck, a script, change decks, as many as
+/// there are and in their order, and the size of a heap. Where the words name `run` and such files plainly, the command is `Run`
+/// with just these.
 pub fn command_of<'a, S: AsStr>(alloc: Global, words: &'a [S]) -> Result<Command<'a>, Error>
     ensures command { IfOk result (λ c. stated (map S.text words.entry.now) ≡ Some (words_of c)) }
-    ensures change { IfOk result (StatesChange (map S.text words.entry.now)) }
+    ensures arguments { IfOk result (StatesArguments (map S.text words.entry.now)) }
+    ensures as_named { IfOk result (IsAsNamed (map S.text words.entry.now)) }
     ensures accepted { IfOk result (λ _. mistakes (map S.text words.entry.now) ≡ []) }
     ensures understood { IfErr result (λ e. StatesDeck (map S.text words.entry.now) → kind_of e ≡ ErrorKind.OutOfMemory) }
     ensures understood_apply { IfErr result (λ e. StatesApply (map S.text words.entry.now) → kind_of e ≡ ErrorKind.OutOfMemory) }
+    ensures understood_run { IfErr result (λ e. StatesRun (map S.text words.entry.now) → kind_of e ≡ ErrorKind.OutOfMemory) }
     ensures named { IfErr result (λ e. NamesDeck (map S.text words.entry.now) → kind_of e ≡ ErrorKind.OutOfMemory) }
     ensures named_apply { IfErr result (λ e. NamesApply (map S.text words.entry.now) → kind_of e ≡ ErrorKind.OutOfMemory) }
+    ensures named_run { IfErr result (λ e. NamesRun (map S.text words.entry.now) → kind_of e ≡ ErrorKind.OutOfMemory) }
     ensures mistaken { IfErr result (HasKind (mistakes_or_missing (map S.text words.entry.now))) }
 {
     let mut iocm = iocm(alloc)?;
     let matches = iocm.try_get_matches_from_mut(words)?;
-    if let Some(command) = command_in(&matches) {
+    if let Some(command) = command_in(alloc, &matches)? {
         return Ok(command);
     }
     Err(iocm.error(ErrorKind::MissingRequiredArgument, "a deck is wanted")?)

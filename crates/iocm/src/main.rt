@@ -4,28 +4,38 @@
 //! prints the table of its subchannels, `iocm write DECK` the deck in its canonical order and forms. `iocm apply DECK CHANGE`
 //! activates a change deck on the machine of a configuration deck, and prints how many subchannels it altered and the table
 //! afterwards, with `--undo` the change deck that takes the change back; it reads the change tree in a heap of as many bytes as
-//! `--heap` gives.
+//! `--heap` gives. `iocm run DECK SCRIPT CHANGE..` lets images and operators work on the machine of a configuration deck as a
+//! script says, and prints every answer and the table at the end.
 //!
 //! The exit status is 0 where a command did what it was asked to do, 1 where
 //! a text was refused (one line on standard output says why), 2 where the command line is not understood, and 3
 //! where a file cannot be read or the output cannot be written (`fault L5` or `fault L6` on standard error).
 //!
-//! Begin with `command.rt`, the command line, and `answer.rt`, which call is whose; all else is in `iocm_console` and `iocm_apply`.
+//! Begin with `command.rt`, the command line, and `answer.rt`, which call is whose; all else is in `iocm_console`, `iocm_apply` and
+//! `iocm_run`.
 #![tactic(auto)]
+
+ghost use Rattle.std.specs.Prelude.{◌+◌, ◌^◌, ◌<◌, All, IfOk, IfSome};
+ghost use Rattle.iocm_columns.specs.Device.{reads_of, IsOpen};
+ghost use Rattle.iocm_columns.specs.declared.device.Device as its_device;
 
 mod answer;
 mod command;
 
 use answer::print_answer;
 use clap::error::ErrorKind;
-use command::{Command, command_of};
+use command::{Command, Request, command_of};
 use iocm_columns::Device;
 use iocm_console::{ConsoleError, Output, refuse};
+use iocm_run::run_script;
 use iocm_types::Fault;
 use std::alloc::AllocError;
+use std::collections::VecDeque;
 use std::io::{BufWriter, Read};
 use std::process::ExitCode;
 use std::rt::{Env, Files};
+use std::sync::Wait;
+use std::thread::Threads;
 use std::{env, fs, io};
 
 /// How often each deck is read at most.
@@ -48,11 +58,13 @@ fn main(rt: HostRuntime) -> ExitCode {
 }
 
 /// Does what the command line says.
-fn run<R: Env + Files + Print + Eprint + AllocGlobal>(rt: &R) -> Result<ExitCode, ConsoleError> {
+fn run<R: Env + Files + Print + Eprint + AllocGlobal + Threads + Wait + Sync>(
+    rt: &R,
+) -> Result<ExitCode, ConsoleError> {
     let words: Vec<String> = match words(rt) {
         Ok(words) => words,
         Err(error) if error.kind() == io::ErrorKind::OutOfMemory => return refuse_memory(rt),
-        Err(_) => return explain_words(rt),
+        Err(_) => return explain_usage(rt, "a word of the command line is not UTF-8"),
     };
     match command_of(rt.alloc(), words.as_slice()) {
         Ok(command) => perform(rt, command),
@@ -65,27 +77,43 @@ fn words<R: Env + AllocGlobal>(rt: &R) -> io::Result<Vec<String>> {
     Ok(env::args(rt)?.collect(rt.alloc())?)
 }
 
-/// Does a command on the decks in its files: they are opened, in the order of the words, before one of them is read.
-fn perform<R: Files + Print + AllocGlobal>(
+/// Does a command on its files: they are opened, in the order of the words, before one of them is read.
+fn perform<R: Files + Print + AllocGlobal + Threads + Wait + Sync>(
     rt: &R,
     command: Command<'_>,
 ) -> Result<ExitCode, ConsoleError> {
-    let Ok(deck) = fs::open(rt, command.deck()) else {
+    match command {
+        Command::Answer(request) => answer_files(rt, request),
+        Command::Run {
+            deck,
+            script,
+            changes,
+            heap,
+        } => run_files(rt, deck, script, changes.as_slice(), heap),
+    }
+}
+
+/// Does what is asked of the deck in a file.
+fn answer_files<R: Files + Print + AllocGlobal>(
+    rt: &R,
+    request: Request<'_>,
+) -> Result<ExitCode, ConsoleError> {
+    let Ok(deck) = fs::open(rt, request.deck()) else {
         return Err(ConsoleError::Read);
     };
-    let Some(name) = command.change() else {
-        return perform_on(rt, command, deck, b"".as_slice());
+    let Some(name) = request.change() else {
+        return answer_on(rt, request, deck, b"".as_slice());
     };
     let Ok(change) = fs::open(rt, name) else {
         return Err(ConsoleError::Read);
     };
-    perform_on(rt, command, deck, change)
+    answer_on(rt, request, deck, change)
 }
 
-/// Does a command on a deck, and on a change deck if it has one.
-fn perform_on<R: Print + AllocGlobal, D: Read + Drop, C: Read + Drop>(
+/// Does what is asked of a deck, and of a change deck if there is one.
+fn answer_on<R: Print + AllocGlobal, D: Read + Drop, C: Read + Drop>(
     rt: &R,
-    command: Command<'_>,
+    request: Request<'_>,
     deck: D,
     change: C,
 ) -> Result<ExitCode, ConsoleError> {
@@ -97,9 +125,84 @@ fn perform_on<R: Print + AllocGlobal, D: Read + Drop, C: Read + Drop>(
     let mut output = Output::new(writer);
     let status = print_answer(
         rt.alloc(),
-        command,
+        request,
         &mut deck,
         &mut change,
+        MOST_READS,
+        &mut output,
+    )?;
+    Ok(ExitCode::from(status.code()))
+}
+
+/// Runs the script in a file on the machine of the deck in another one, with the change decks in the others.
+fn run_files<R: Files + Print + AllocGlobal + Threads + Wait + Sync>(
+    rt: &R,
+    deck: &str,
+    script: &str,
+    changes: &[&str],
+    heap: u32,
+) -> Result<ExitCode, ConsoleError> {
+    let Ok(deck) = fs::open(rt, deck) else {
+        return Err(ConsoleError::Read);
+    };
+    let Ok(script) = fs::open(rt, script) else {
+        return Err(ConsoleError::Read);
+    };
+    let Some(changes) = open_all(rt, changes)? else {
+        return refuse_memory(rt);
+    };
+    run_on(rt, deck, script, changes, heap)
+}
+
+/// The files of these names, opened in their order; `None` where memory is wanted for them.
+fn open_all<R: Files + AllocGlobal>(
+    rt: &R,
+    names: &[&str],
+) -> Result<Option<VecDeque<Device<R::File>>>, ConsoleError>
+    ensures open { IfOk result (λ found. IfSome found (λ devices. All (λ d. IsOpen d) devices.items)) }
+    ensures room { IfOk result (λ found. IfSome found (λ devices. All (λ d. reads_of d + 1048576 < 2 ^ 64) devices.items)) }
+{
+    let mut devices = VecDeque::new(rt.alloc());
+    for name in names {
+        let Ok(file) = fs::open(rt, *name) else {
+            return Err(ConsoleError::Read);
+        };
+        if devices.push_back(Device::new(file)).is_err() {
+            return Ok(None);
+        }
+    }
+    Ok(Some(devices))
+}
+
+/// Runs a script on the machine of a deck, with these change decks, each change tree in a heap of so many bytes.
+fn run_on<
+    R: Print + AllocGlobal + Threads + Wait + Sync,
+    D: Read + Drop,
+    S: Read + Drop,
+    C: Read + Drop,
+>(
+    rt: &R,
+    deck: D,
+    script: S,
+    changes: VecDeque<Device<C>>,
+    heap: u32,
+) -> Result<ExitCode, ConsoleError>
+    requires open { All (λ (d : its_device.Device C). IsOpen d) changes.items }
+    requires room { All (λ (d : its_device.Device C). reads_of d + 1048576 < 2 ^ 64) changes.items }
+{
+    let Ok(writer) = BufWriter::new(rt.alloc(), io::writer(rt)) else {
+        return refuse_memory(rt);
+    };
+    let mut deck = Device::new(deck);
+    let mut script = Device::new(script);
+    let mut output = Output::new(writer);
+    let status = run_script(
+        rt,
+        rt.alloc(),
+        heap as usize,
+        &mut deck,
+        changes,
+        &mut script,
         MOST_READS,
         &mut output,
     )?;
@@ -128,9 +231,9 @@ fn explain<R: Print + Eprint>(rt: &R, error: &clap::Error) -> Result<ExitCode, C
     })
 }
 
-/// Prints why the words of the command line cannot be read: they are no text.
-fn explain_words<R: Eprint>(rt: &R) -> Result<ExitCode, ConsoleError> {
-    match eprintln!(rt; "error: a word of the command line is not UTF-8") {
+/// Prints why the command line is not understood.
+fn explain_usage<R: Eprint>(rt: &R, why: &str) -> Result<ExitCode, ConsoleError> {
+    match eprintln!(rt; "error: {why}") {
         Ok(()) => Ok(ExitCode::from(USAGE)),
         Err(_) => Err(ConsoleError::Write),
     }

@@ -1,4 +1,4 @@
--- Of a command with a change deck: what is printed is what `apply_change` says.
+-- Of a request with a change deck: what is printed is what `apply_change` says.
 use Rattle.std.proofs.Common.{subst, sym, IfOk}
 use Rattle.iocm_console.specs.Opening.{SaysIfMemory}
 use Rattle.iocm.specs.Answer.{printed}
@@ -8,6 +8,6 @@ pub returns-in-Apply-clause-some_bytes : goal.returns-in-Apply-clause-some_bytes
 returns-in-Apply-clause-some_bytes g c = let said = c.apply_change.ensures.some_bytes in (
   said.0,
   said.1,
-  subst (λ command. IfOk c.apply_change.result (SaysIfMemory g.W.Write.contents c.args.output.now c.apply_change.new.output (printed command said.0 said.1)))
+  subst (λ request. IfOk c.apply_change.result (SaysIfMemory g.W.Write.contents c.args.output.now c.apply_change.new.output (printed request said.0 said.1)))
       (sym c.in-Apply.is) said.2,
 )

@@ -1,10 +1,11 @@
 use Rattle.std.proofs.Common.{◌≡◌, ◌∙◌, ◌∷◌, [], List, ap, codes, map, subst, sym}
 use Rattle.clap.specs.Words.{Text, HasKind, app_of, kind_of}
 use Rattle.clap.specs.declared.error.kind.ErrorKind.TheVariants.{MissingRequiredArgument, OutOfMemory}
-use Rattle.iocm.specs.CommandLine.{argument_of, mistakes, mistakes_or_missing, IsApply, NamesApply, NamesDeck, StatesApply, StatesDeck}
+use Rattle.iocm.specs.CommandLine.{argument_of, mistakes, mistakes_or_missing, IsApply, IsRun, NamesApply, NamesDeck, NamesRun, StatesApply, StatesDeck, StatesRun}
 use Rattle.iocm.proofs.Plain.{only_memory, states_deck}
 use Rattle.iocm.proofs.PlainApply.{states_apply}
-use Rattle.iocm.proofs.Reading.{has_kind_or, is_accepted, is_entered, is_mistaken, not_some, passed_on}
+use Rattle.iocm.proofs.PlainRun.{as_named, states_run}
+use Rattle.iocm.proofs.Reading.{has_kind_or, is_accepted, is_entered, is_mistaken, is_missing, is_stated_as, has_stated, not_some, passed_on}
 use Rattle.iocm.proofs.command.command_of.Goals as goal
 
 pub returns-in_err-matches-clause-understood : goal.returns-in_err-matches-clause-understood
@@ -20,6 +21,14 @@ returns-in_err-matches-clause-understood_apply g c =
     let words : List Text = map g.S.AsStr.text c.args.words.now in
     let e = c.in_err-matches.field-0.0 in
     passed_on c.from_residual-in_err-matches.result e (λ e. StatesApply words → kind_of e ≡ OutOfMemory)
+    (λ s. only_memory words e s.0 (is_mistaken (app_of c.in_ok-iocm.iocm) words e c.in_ok-iocm.ensures c.in_err-matches.ensures.kinds))
+    c.from_residual-in_err-matches.ensures
+
+pub returns-in_err-matches-clause-understood_run : goal.returns-in_err-matches-clause-understood_run
+returns-in_err-matches-clause-understood_run g c =
+    let words : List Text = map g.S.AsStr.text c.args.words.now in
+    let e = c.in_err-matches.field-0.0 in
+    passed_on c.from_residual-in_err-matches.result e (λ e. StatesRun words → kind_of e ≡ OutOfMemory)
     (λ s. only_memory words e s.0 (is_mistaken (app_of c.in_ok-iocm.iocm) words e c.in_ok-iocm.ensures c.in_err-matches.ensures.kinds))
     c.from_residual-in_err-matches.ensures
 
@@ -41,6 +50,15 @@ returns-in_err-matches-clause-named_apply g c =
     (is_mistaken (app_of c.in_ok-iocm.iocm) words e c.in_ok-iocm.ensures c.in_err-matches.ensures.kinds))
     c.from_residual-in_err-matches.ensures
 
+pub returns-in_err-matches-clause-named_run : goal.returns-in_err-matches-clause-named_run
+returns-in_err-matches-clause-named_run g c =
+    let words : List Text = map g.S.AsStr.text c.args.words.now in
+    let e = c.in_err-matches.field-0.0 in
+    passed_on c.from_residual-in_err-matches.result e (λ e. NamesRun words → kind_of e ≡ OutOfMemory)
+    (λ s. only_memory words e (states_run words s).0
+    (is_mistaken (app_of c.in_ok-iocm.iocm) words e c.in_ok-iocm.ensures c.in_err-matches.ensures.kinds))
+    c.from_residual-in_err-matches.ensures
+
 pub returns-in_err-matches-clause-mistaken : goal.returns-in_err-matches-clause-mistaken
 returns-in_err-matches-clause-mistaken g c =
     let words : List Text = map g.S.AsStr.text c.args.words.now in
@@ -50,26 +68,72 @@ returns-in_err-matches-clause-mistaken g c =
     (is_mistaken (app_of c.in_ok-iocm.iocm) words e c.in_ok-iocm.ensures c.in_err-matches.ensures.kinds))
     c.from_residual-in_err-matches.ensures
 
+pub returns-in-Some-clause-command : goal.returns-in-Some-clause-command
+returns-in-Some-clause-command g c =
+    let words : List Text = map g.S.AsStr.text c.args.words.now in
+    let entered = is_entered (app_of c.in_ok-iocm.iocm) words c.in_ok-matches.matches c.in_ok-iocm.ensures c.in_ok-matches.ensures.ok.2 in
+    is_stated_as words c.in_ok-matches.matches c.in_ok-command.field-0 c.in-Some.command entered c.in-Some.is c.in_ok-command.ensures.some
+
+pub returns-in-Some-clause-arguments : goal.returns-in-Some-clause-arguments
+returns-in-Some-clause-arguments g c =
+    let words : List Text = map g.S.AsStr.text c.args.words.now in
+    let entered = is_entered (app_of c.in_ok-iocm.iocm) words c.in_ok-matches.matches c.in_ok-iocm.ensures c.in_ok-matches.ensures.ok.2 in
+    has_stated words c.in_ok-matches.matches c.in_ok-command.field-0 c.in-Some.command entered c.in-Some.is c.in_ok-command.ensures.arguments
+
+pub returns-in-Some-clause-as_named : goal.returns-in-Some-clause-as_named
+returns-in-Some-clause-as_named g c =
+    let words : List Text = map g.S.AsStr.text c.args.words.now in
+    let m = c.in_ok-matches.matches in
+    let entered = is_entered (app_of c.in_ok-iocm.iocm) words m c.in_ok-iocm.ensures c.in_ok-matches.ensures.ok.2 in
+    as_named words c.in-Some.command
+    (is_stated_as words m c.in_ok-command.field-0 c.in-Some.command entered c.in-Some.is c.in_ok-command.ensures.some)
+    (has_stated words m c.in_ok-command.field-0 c.in-Some.command entered c.in-Some.is c.in_ok-command.ensures.arguments)
+
 pub returns-in-Some-clause-accepted : goal.returns-in-Some-clause-accepted
 returns-in-Some-clause-accepted g c = is_accepted (app_of c.in_ok-iocm.iocm) (map g.S.AsStr.text c.args.words.now) c.in_ok-iocm.ensures c.in_ok-matches.ensures.kinds
+
+pub returns-clause-understood : goal.returns-clause-understood
+returns-clause-understood g c = λ s.
+    let words : List Text = map g.S.AsStr.text c.args.words.now in
+    let entered = is_entered (app_of c.in_ok-iocm.iocm) words c.in_ok-matches.matches c.in_ok-iocm.ensures c.in_ok-matches.ensures.ok.2 in
+    absurd (not_some c.in_ok-command.field-0 c.in_default.not-Some
+    (c.in_ok-command.ensures.only s.0 s.1 s.2 (ap (argument_of (codes "DECK")) entered ∙ s.4)))
 
 pub returns-clause-named : goal.returns-clause-named
 returns-clause-named g c = λ s.
     let words : List Text = map g.S.AsStr.text c.args.words.now in
     let t : StatesDeck words = states_deck words s in
     let entered = is_entered (app_of c.in_ok-iocm.iocm) words c.in_ok-matches.matches c.in_ok-iocm.ensures c.in_ok-matches.ensures.ok.2 in
-    absurd (not_some c.command_in.result c.in_default.not-Some
-    (c.command_in.ensures.only t.0 t.1 t.2 (ap (argument_of (codes "DECK")) entered ∙ t.4)))
+    absurd (not_some c.in_ok-command.field-0 c.in_default.not-Some
+    (c.in_ok-command.ensures.only t.0 t.1 t.2 (ap (argument_of (codes "DECK")) entered ∙ t.4)))
 
 pub returns-clause-understood_apply : goal.returns-clause-understood_apply
 returns-clause-understood_apply g c = λ s.
     let words : List Text = map g.S.AsStr.text c.args.words.now in
     let entered = is_entered (app_of c.in_ok-iocm.iocm) words c.in_ok-matches.matches c.in_ok-iocm.ensures c.in_ok-matches.ensures.ok.2 in
-    absurd (not_some c.command_in.result c.in_default.not-Some (c.command_in.ensures.only_apply (subst IsApply (sym entered) s.1)))
+    absurd (not_some c.in_ok-command.field-0 c.in_default.not-Some (c.in_ok-command.ensures.only_apply (subst IsApply (sym entered) s.1)))
 
 pub returns-clause-named_apply : goal.returns-clause-named_apply
 returns-clause-named_apply g c = λ s.
     let words : List Text = map g.S.AsStr.text c.args.words.now in
     let t : StatesApply words = states_apply words s in
     let entered = is_entered (app_of c.in_ok-iocm.iocm) words c.in_ok-matches.matches c.in_ok-iocm.ensures c.in_ok-matches.ensures.ok.2 in
-    absurd (not_some c.command_in.result c.in_default.not-Some (c.command_in.ensures.only_apply (subst IsApply (sym entered) t.1)))
+    absurd (not_some c.in_ok-command.field-0 c.in_default.not-Some (c.in_ok-command.ensures.only_apply (subst IsApply (sym entered) t.1)))
+
+pub returns-clause-understood_run : goal.returns-clause-understood_run
+returns-clause-understood_run g c = λ s.
+    let words : List Text = map g.S.AsStr.text c.args.words.now in
+    let entered = is_entered (app_of c.in_ok-iocm.iocm) words c.in_ok-matches.matches c.in_ok-iocm.ensures c.in_ok-matches.ensures.ok.2 in
+    absurd (not_some c.in_ok-command.field-0 c.in_default.not-Some (c.in_ok-command.ensures.only_run (subst IsRun (sym entered) s.1)))
+
+pub returns-clause-named_run : goal.returns-clause-named_run
+returns-clause-named_run g c = λ s.
+    let words : List Text = map g.S.AsStr.text c.args.words.now in
+    let t : StatesRun words = states_run words s in
+    let entered = is_entered (app_of c.in_ok-iocm.iocm) words c.in_ok-matches.matches c.in_ok-iocm.ensures c.in_ok-matches.ensures.ok.2 in
+    absurd (not_some c.in_ok-command.field-0 c.in_default.not-Some (c.in_ok-command.ensures.only_run (subst IsRun (sym entered) t.1)))
+
+pub returns-clause-mistaken : goal.returns-clause-mistaken
+returns-clause-mistaken g c =
+    let words : List Text = map g.S.AsStr.text c.args.words.now in
+    is_missing words c.in_ok-error.field-0 (is_accepted (app_of c.in_ok-iocm.iocm) words c.in_ok-iocm.ensures c.in_ok-matches.ensures.kinds) c.in_ok-error.ensures.kind
