@@ -1,0 +1,32 @@
+-- Scripts in which each round has the lines of one actor. Own.
+use Rattle.std.specs.Prelude.{◌≡◌, ℕ, List, ◌++◌, map}
+use Rattle.std.specs.List.{AllByRecursion, flat_map}
+use Rattle.iocm_core.specs.Calls.{call_in}
+use Rattle.iocm_core.specs.Seen as seen
+use Rattle.iocm_core.specs.declared.trace.Entry.{Entry}
+use Rattle.iocm_history.specs.Entry as history
+use Rattle.iocm_model.specs.Change.Tree.{ChangeTree}
+use Rattle.iocm_script.specs.declared.line.Line.{Line}
+use Rattle.iocm_operation.specs.declared.operated.Operated.{Operated}
+use Rattle.iocm_operation.specs.Saying.{actor_of, call_said}
+
+-- all lines of a round are of the actor of this number
+abbrev pub IsOfOne : ℕ → List Line → Type 0
+IsOfOne n ls = AllByRecursion (λ (l : Line). actor_of l.said ≡ n) ls
+
+-- each round has one actor
+abbrev pub AreOfOne : List (List Line) → Type 0
+AreOfOne rounds = AllByRecursion (λ ls. (n : ℕ) × IsOfOne n ls) rounds
+
+-- the calls that lines ask for, in the order of the lines
+abbrev pub calls_of_lines : List ChangeTree → List Line → List history.Call
+calls_of_lines ts ls = map (λ (l : Line). call_said ts l.said) ls
+
+-- the calls of entries, in their order
+abbrev pub calls_of_entries : List Entry → List history.Call
+calls_of_entries es = map (λ (e : Entry). call_in e.call) es
+
+-- the calls stand in the trace as their lines stand in the script, behind those from before
+abbrev pub StandAsInTheScript : seen.Core → List ChangeTree → List (List Line) → Operated → Type 0
+StandAsInTheScript core ts rounds o =
+    calls_of_entries o.closed.trace.entries.items ≡ calls_of_entries core.entries ++ flat_map (calls_of_lines ts) rounds
