@@ -1,1 +1,2 @@
 mod OneOrder
+mod OneHistory

@@ -1,12 +1,18 @@
 -- Scripts in which each round has the lines of one actor. Own.
-use Rattle.std.specs.Prelude.{◌≡◌, ℕ, List, ◌++◌, map}
+use Rattle.std.specs.Prelude.{◌≡◌, ◌≢◌, ℕ, List, ◌++◌, map}
 use Rattle.std.specs.List.{AllByRecursion, flat_map}
 use Rattle.iocm_core.specs.Calls.{call_in}
 use Rattle.iocm_core.specs.Seen as seen
 use Rattle.iocm_core.specs.declared.trace.Entry.{Entry}
 use Rattle.iocm_history.specs.Entry as history
+use Rattle.iocm_history.specs.Entry.{History}
+use Rattle.iocm_model.specs.Change.Refusal.{refusal_at}
 use Rattle.iocm_model.specs.Change.Tree.{ChangeTree}
 use Rattle.iocm_script.specs.declared.line.Line.{Line}
+use Rattle.iocm_system.specs.OneRun.{history_of}
+use Rattle.iocm_types.specs.declared.answer.Answer.TheVariants.{Refused}
+use Rattle.iocm_types.specs.declared.refused.At.TheVariants.{Nothing}
+use Rattle.iocm_types.specs.declared.rule.Rule.TheVariants.{M1}
 use Rattle.iocm_operation.specs.declared.operated.Operated.{Operated}
 use Rattle.iocm_operation.specs.Saying.{actor_of, call_said}
 
@@ -30,3 +36,13 @@ calls_of_entries es = map (λ (e : Entry). call_in e.call) es
 abbrev pub StandAsInTheScript : seen.Core → List ChangeTree → List (List Line) → Operated → Type 0
 StandAsInTheScript core ts rounds o =
     calls_of_entries o.closed.trace.entries.items ≡ calls_of_entries core.entries ++ flat_map (calls_of_lines ts) rounds
+
+-- no entry is want of memory
+abbrev pub HadMemory : History → Type 0
+HadMemory h = AllByRecursion (λ (e : history.Entry). e.answer ≢ Refused (refusal_at M1 Nothing)) h
+
+-- two runs of a script have the same history, so the same answers, and leave the machine in the same
+-- state
+pub record AreTheSame (o p : Operated) : Type 0 where
+  pub histories : history_of o.closed ≡ history_of p.closed
+  pub states : o.closed.plant.state ≡ p.closed.plant.state
