@@ -1,2 +1,3 @@
 mod OneOrder
 mod OneHistory
+mod OneAnswer

@@ -1,7 +1,8 @@
 -- A legal history in which memory was there is known by its calls.
 use Rattle.std.proofs.Common.{◌≡◌, ◌≢◌, List, [], ◌∷◌, ◌++◌, inl, inr, refl, sym, ap, ◌∙◌}
 use Rattle.std.specs.Prelude.{map, reverse}
-use Rattle.std.proofs.lemmas.List.{map-append, reverse-append}
+use Rattle.std.specs.List.{flat_map}
+use Rattle.std.proofs.lemmas.List.{map-append, reverse-append, reverse-reverse}
 use Rattle.iocm_activate.specs.declared.effect.Effect.{Effect}
 use Rattle.iocm_core.specs.Calls.{call_in}
 use Rattle.iocm_core.specs.Seen as seen
@@ -21,6 +22,8 @@ use Rattle.iocm_types.specs.declared.rule.Rule.TheVariants.{M1}
 use Rattle.iocm_operation.specs.declared.operated.Operated.{Operated}
 use Rattle.iocm_operation.specs.Running.{IsOperation}
 use Rattle.iocm_operation_laws.specs.OneActor.{AreOfOne, AreTheSame, HadMemory, calls_of_entries}
+use Rattle.iocm_operation.specs.Segments.{in_order}
+use Rattle.iocm_operation_laws.proofs.OneAnswer.{replies_of, same_answers}
 use Rattle.iocm_operation_laws.proofs.OneOrder.{one_order}
 
 abbrev calls_in : History → List Call
@@ -56,6 +59,19 @@ calls_mapped fs (e ∷ es) = ap (λ cs. call_in e.call ∷ cs) (calls_mapped fs 
 calls_told : (fs : List Effect) (es : List trace.Entry) → calls_in (history_in fs es) ≡ reverse (calls_of_entries es)
 calls_told fs es = map_reverse (λ (e : Entry). e.call) (map (entry_in fs) es) ∙ ap reverse (calls_mapped fs es)
 
+replies_mapped : (fs : List Effect) (es : List trace.Entry) → map (λ (e : Entry). e.answer) (map (entry_in fs) es) ≡ replies_of es
+replies_mapped fs [] = refl
+replies_mapped fs (e ∷ es) = ap (λ xs. e.answer ∷ xs) (replies_mapped fs es)
+
+replies_told : (fs : List Effect) (es : List trace.Entry) → reverse (map (λ (e : Entry). e.answer) (history_in fs es)) ≡ replies_of es
+replies_told fs es =
+    ap reverse (map_reverse (λ (e : Entry). e.answer) (map (entry_in fs) es)) ∙ reverse-reverse (map (λ (e : Entry). e.answer) (map (entry_in fs) es)) ∙ replies_mapped fs es
+
+-- on a new machine the entries are those of the rounds
+replies_new : (core : seen.Core) (ts : List ChangeTree) (rounds : List (List Line)) (o : Operated) → core.entries ≡ [] → (op : IsOperation core ts rounds o)
+    → replies_of o.closed.trace.entries.items ≡ replies_of (flat_map in_order op.segments)
+replies_new core ts rounds o new op = ap replies_of op.trace ∙ ap (λ es. replies_of (es ++ flat_map in_order op.segments)) new
+
 pub one_history : (core : seen.Core) (ts : List ChangeTree) (rounds : List (List Line)) (o p : Operated) → core.entries ≡ [] → AreOfOne rounds
     → IsOperation core ts rounds o → IsOperation core ts rounds p → HadMemory (history_of o.closed) → HadMemory (history_of p.closed) → AreTheSame o p
 one_history core ts rounds o p new ones one two had_one had_two =
@@ -64,4 +80,12 @@ one_history core ts rounds o p new ones one two had_one had_two =
     let calls : calls_in (history_of o.closed) ≡ calls_in (history_of p.closed) =
     calls_told o.closed.trace.changes.items o.closed.trace.entries.items ∙ ap reverse same ∙ sym (calls_told p.closed.trace.changes.items p.closed.trace.entries.items) in
     let histories = known core.opening (history_of o.closed) (history_of p.closed) calls one.legal two.legal had_one had_two in
-    record { histories = histories; states = one.state ∙ ap (state_at core.opening) histories ∙ sym two.state }
+    let replies : replies_of (flat_map in_order one.segments) ≡ replies_of (flat_map in_order two.segments) =
+    sym (replies_new core ts rounds o new one) ∙ sym (replies_told o.closed.trace.changes.items o.closed.trace.entries.items)
+    ∙ ap (λ (h : History). reverse (map (λ (e : Entry). e.answer) h)) histories ∙ replies_told p.closed.trace.changes.items p.closed.trace.entries.items
+    ∙ replies_new core ts rounds p new two in
+    record {
+      answers = one.answers ∙ same_answers ts rounds one.segments two.segments ones one.each two.each replies ∙ sym two.answers;
+      histories = histories;
+      states = one.state ∙ ap (state_at core.opening) histories ∙ sym two.state;
+    }

@@ -16,7 +16,7 @@ use Rattle.iocm_operation.specs.Segments.{AreRun, IsRoundRun, Segment, entries_o
 use Rattle.iocm_operation_laws.specs.OneActor.{AreOfOne, IsOfOne, StandAsInTheScript, calls_of_entries, calls_of_lines}
 
 -- a list of which something is made is empty where that is
-nothing_made : {A B : Type 0} (f : A → B) (xs : List A) → map f xs ≡ [] → xs ≡ []
+pub nothing_made : {A B : Type 0} (f : A → B) (xs : List A) → map f xs ≡ [] → xs ≡ []
 nothing_made f [] e = refl
 nothing_made f (x ∷ xs) e = cc
 
@@ -25,7 +25,7 @@ all_lines : (n : ℕ) (ls : List Line) → IsOfOne n ls → lines_of n ls ≡ ls
 all_lines n [] one = refl
 all_lines n (l ∷ ls) one = ap (λ b. cond b (l ∷ lines_of n ls) (lines_of n ls)) (eq-eqb (actor_of l.said) n one.0) ∙ ap (λ xs. l ∷ xs) (all_lines n ls one.1)
 
-no_lines : (n k : ℕ) (ls : List Line) → (n == k) ≡ false → IsOfOne n ls → lines_of k ls ≡ []
+pub no_lines : (n k : ℕ) (ls : List Line) → (n == k) ≡ false → IsOfOne n ls → lines_of k ls ≡ []
 no_lines n k [] other one = refl
 no_lines n k (l ∷ ls) other one =
     ap (λ b. cond b (l ∷ lines_of k ls) (lines_of k ls)) (ap (λ j. j == k) one.0 ∙ other) ∙ no_lines n k ls other one.1
@@ -45,14 +45,14 @@ later_none : (e : ℕ × Entry) (s : Segment) (n k : ℕ) → (e.0 == n) ≡ tru
 later_none e s n k is other none =
     sym (ap (λ b. in_order (cond b (e ∷ filter (λ (x : ℕ × Entry). x.0 == k) s) (filter (λ (x : ℕ × Entry). x.0 == k) s))) (ap (λ j. j == k) (eqb-true e.0 n is) ∙ other)) ∙ none
 
-all_of_one : (n : ℕ) (s : Segment) → ((k : ℕ) → (n == k) ≡ false → entries_of k s ≡ []) → entries_of n s ≡ in_order s
+pub all_of_one : (n : ℕ) (s : Segment) → ((k : ℕ) → (n == k) ≡ false → entries_of k s ≡ []) → entries_of n s ≡ in_order s
 all_of_one n [] none = refl
 all_of_one n (e ∷ s) none =
     let is = first_is e s n none in
     ap (λ b. in_order (cond b (e ∷ filter (λ (x : ℕ × Entry). x.0 == n) s) (filter (λ (x : ℕ × Entry). x.0 == n) s))) is
     ∙ ap (λ es. e.1 ∷ es) (all_of_one n s (λ k other. later_none e s n k is other (none k other)))
 
-one_round : (ts : List ChangeTree) (ls : List Line) (s : Segment) (n : ℕ) → IsOfOne n ls → IsRoundRun ts ls s → calls_of_entries (in_order s) ≡ calls_of_lines ts ls
+pub one_round : (ts : List ChangeTree) (ls : List Line) (s : Segment) (n : ℕ) → IsOfOne n ls → IsRoundRun ts ls s → calls_of_entries (in_order s) ≡ calls_of_lines ts ls
 one_round ts ls s n one run =
     let none : (k : ℕ) → (n == k) ≡ false → entries_of k s ≡ [] =
     λ k other. nothing_made (λ (e : Entry). call_in e.call) (entries_of k s) (run k ∙ ap (map (λ (l : Line). call_said ts l.said)) (no_lines n k ls other one)) in

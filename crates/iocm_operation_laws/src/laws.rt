@@ -14,8 +14,8 @@ pub fn one_actor_has_one_order()
         → AreOfOne rounds → IsOperation core ts rounds o → StandAsInTheScript core ts rounds o }
 {}
 
-/// Two runs of such a script on a new machine, in which memory was there, have one history, and
-/// leave the machine in one state. So they print the same table, and each call has the same answer.
+/// Two runs of such a script on a new machine, in which memory was there, give each line the same
+/// answer, have one history, and leave the machine in one state. So they print the same.
 pub fn one_actor_has_one_history()
     ensures { (core : seen.Core) (ts : List ChangeTree) (rounds : List (List its_line.Line)) (o p : operated.Operated)
         → core.entries ≡ [] → AreOfOne rounds → IsOperation core ts rounds o → IsOperation core ts rounds p
