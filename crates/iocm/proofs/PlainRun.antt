@@ -92,7 +92,8 @@ module _ (p : ValueParser) where
   abbrev rules : List Rule
   rules = (shape_by p).rules
 
-  -- words lead from one place of the walk to another one, without a mistake, whatever comes after them
+  -- words lead from one place of the walk to another one, without a mistake, whatever comes after
+  -- them
   abbrev Leads : Walk → List Text → Walk → Type 0
   Leads w words after = (rest : List Text) → (fold (walked rules []) w (words ++ rest) ≡ fold (walked rules []) after rest)
       × (walk_fault (shape_by p) [] w (words ++ rest) ≡ walk_fault (shape_by p) [] after rest)

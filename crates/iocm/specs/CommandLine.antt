@@ -74,7 +74,8 @@ iocm_app = with_subcommand (with_subcommand decks_app apply_app.top) run_app.top
 abbrev pub argument_of : Text → Option (Text × List Row) → Option (Text × Option Text)
 argument_of id = option_map (λ p. (p.0, first_of id p.1))
 
--- a command's name, and all values of one of its arguments in their order: none where it isn't given
+-- a command's name, and all values of one of its arguments in their order: none where it isn't
+-- given
 abbrev pub arguments_of : Text → Option (Text × List Row) → Option (Text × List Text)
 arguments_of id = option_map (λ p. (p.0, unwrap_or (all_of id p.1) []))
 
@@ -124,7 +125,8 @@ abbrev pub HasChange : Option (Text × List Row) → Request → Type 0
 HasChange named (Apply deck change heap report) = (size : Text) × IsApplyOf named deck.now change.now size report × GivesSize size heap
 HasChange named _ = ⊤
 
--- the command and its matches are those of `run` with this deck, this script, these change decks and this text of a heap's size
+-- the command and its matches are those of `run` with this deck, this script, these change decks
+-- and this text of a heap's size
 abbrev pub IsRunOf : Option (Text × List Row) → Text → Text → List Text → Text → Type 0
 IsRunOf named deck script changes size = (argument_of (codes "DECK") named ≡ Some (codes "run", Some deck))
     × (argument_of (codes "SCRIPT") named ≡ Some (codes "run", Some script))
@@ -137,7 +139,8 @@ HasArguments named (Answer request) = HasChange named request
 HasArguments named (Run deck script changes heap) =
     (size : Text) × IsRunOf named deck.now script.now (texts changes.items) size × GivesSize size heap
 
--- the words state what the command has: a change deck and a report, or a script and all its change decks, and the size of a heap
+-- the words state what the command has: a change deck and a report, or a script and all its change
+-- decks, and the size of a heap
 abbrev pub StatesArguments : List Text → Command → Type 0
 StatesArguments words c = HasArguments (subcommand_of iocm_app words) c
 
@@ -196,8 +199,8 @@ abbrev pub NamesApply : List Text → Type 0
 NamesApply words = (program deck change : Text) × (options : List Text) × IsPlainName deck × IsPlainName change × AreApplyOptions options
     × (words ≡ program ∷ codes "apply" ∷ deck ∷ change ∷ options)
 
--- the words are the program's name, `run`, these names of a deck, a script and change decks, which don't begin with a hyphen, and
--- an option or none
+-- the words are the program's name, `run`, these names of a deck, a script and change decks, which
+-- don't begin with a hyphen, and an option or none
 abbrev pub IsRunLine : List Text → Text → Text → List Text → List Text → Type 0
 IsRunLine words deck script changes options = (program : Text) × IsPlainName deck × IsPlainName script
     × All IsPlainName changes × IsHeapOption options
@@ -212,7 +215,8 @@ abbrev pub GivesHeap : List Text → ℕ → Type 0
 GivesHeap options heap = ((options ≡ []) × (heap ≡ 262144))
     ⊎ ((size : Text) × (options ≡ codes "--heap" ∷ size ∷ []) × GivesSize size heap)
 
--- the command is `run` with this deck, this script, these change decks and the heap that these options give
+-- the command is `run` with this deck, this script, these change decks and the heap that these
+-- options give
 abbrev pub IsRunWith : Command → Text → Text → List Text → List Text → Type 0
 IsRunWith (Answer request) deck script changes options = ⊥
 IsRunWith (Run d s cs heap) deck script changes options = (d.now ≡ deck) × (s.now ≡ script) × (texts cs.items ≡ changes)

@@ -12,12 +12,12 @@ use iocm_console::{ConsoleError, DeckCommand, Output, Status, answer_deck};
 use std::alloc::Global;
 use std::io::{Read, Write};
 
-/// Does what is asked of a deck: prints what there is to say of it, and of its change deck if there is one, or why one of
-/// them is refused.
+/// Does what is asked of a deck: prints what there is to say of it, and of its change deck if there
+/// is one, or why one of them is refused.
 ///
-/// Each deck is read by at most `limit` reads; a request that has no change deck leaves `change` alone. L5
-/// (`ConsoleError::Read`): a deck can't be read to its end; L6 (`ConsoleError::Write`): a write failed. All other faults are
-/// refusals, which are printed.
+/// Each deck is read by at most `limit` reads; a request that has no change deck leaves `change`
+/// alone. L5 (`ConsoleError::Read`): a deck can't be read to its end; L6 (`ConsoleError::Write`): a
+/// write failed. All other faults are refusals, which are printed.
 pub fn print_answer<R: Read, S: Read, W: Write>(
     alloc: Global,
     request: Request<'_>,

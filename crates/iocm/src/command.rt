@@ -17,8 +17,9 @@ use std::convert::AsStr;
 pub enum Command<'a> {
     /// Read a deck, and a change deck if there is one, and print one answer.
     Answer(Request<'a>),
-    /// Run the script in the second file on the machine of the deck in the first one, with the change decks in the others,
-    /// in their order; each change tree is read in a heap of so many bytes.
+    /// Run the script in the second file on the machine of the deck in the first one, with the
+    /// change decks in the others, in their order; each change tree is read in a heap of so many
+    /// bytes.
     Run {
         deck: &'a str,
         script: &'a str,
@@ -235,7 +236,8 @@ fn deck_of<'a>(matches: &ArgMatches<'a>, name: &str) -> Option<&'a str>
     value_of(matches, name, "DECK")
 }
 
-/// All values of an argument of the command `name`, in the order of the words, where the words name that command.
+/// All values of an argument of the command `name`, in the order of the words, where the words name
+/// that command.
 fn values_of<'a>(
     alloc: Global,
     matches: &ArgMatches<'a>,
@@ -276,7 +278,8 @@ fn report_of(flag: &str) -> Option<Report>
     }
 }
 
-/// The request of `apply`, where the words name it, with its decks, the size of its heap and its report.
+/// The request of `apply`, where the words name it, with its decks, the size of its heap and its
+/// report.
 fn apply_in<'a>(matches: &ArgMatches<'a>) -> Option<Request<'a>>
     ensures some { IfSome result (λ r. argument_of (codes "DECK") (subcommand_rows_of matches.now) ≡ Some (request_words r)) }
     ensures change { IfSome result (HasChange (subcommand_rows_of matches.now)) }
@@ -313,7 +316,8 @@ fn request_in<'a>(matches: &ArgMatches<'a>) -> Option<Request<'a>>
     apply_in(matches)
 }
 
-/// The command `run`, where the words name it, with its deck, its script, its change decks and the size of their heaps.
+/// The command `run`, where the words name it, with its deck, its script, its change decks and the
+/// size of their heaps.
 fn run_in<'a>(alloc: Global, matches: &ArgMatches<'a>) -> Result<Option<Command<'a>>, AllocError>
     ensures some { IfOk result (λ found. IfSome found (λ c. argument_of (codes "DECK") (subcommand_rows_of matches.now) ≡ Some (words_of c))) }
     ensures arguments { IfOk result (λ found. IfSome found (HasArguments (subcommand_rows_of matches.now))) }
@@ -358,12 +362,13 @@ fn command_in<'a>(
 
 /// The command of the words of a command line, of which the first is the program's name.
 ///
-/// Help, the version and every mistake in the words are `clap`'s errors. Want of memory is one of the kind `OutOfMemory`, and
-/// nothing else keeps words that have no mistake and state a deck from being understood: `check`, `show` or `write` and a name that
-/// doesn't begin with a hyphen are such words, and `show -- -x.deck` too. So it is with `apply`, a deck, a change deck, the size
-/// of a heap, which `--heap` gives, or its default, and `--undo` or not; and with `run`, a deck, a script, change decks, as many as
-/// there are and in their order, and the size of a heap. Where the words name `run` and such files plainly, the command is `Run`
-/// with just these.
+/// Help, the version and every mistake in the words are `clap`'s errors. Want of memory is one of
+/// the kind `OutOfMemory`, and nothing else keeps words that have no mistake and state a deck from
+/// being understood: `check`, `show` or `write` and a name that doesn't begin with a hyphen are
+/// such words, and `show -- -x.deck` too. So it is with `apply`, a deck, a change deck, the size of
+/// a heap, which `--heap` gives, or its default, and `--undo` or not; and with `run`, a deck, a
+/// script, change decks, as many as there are and in their order, and the size of a heap. Where the
+/// words name `run` and such files plainly, the command is `Run` with just these.
 pub fn command_of<'a, S: AsStr>(alloc: Global, words: &'a [S]) -> Result<Command<'a>, Error>
     ensures command { IfOk result (λ c. stated (map S.text words.entry.now) ≡ Some (words_of c)) }
     ensures arguments { IfOk result (StatesArguments (map S.text words.entry.now)) }

@@ -1,18 +1,20 @@
 //! `iocm`, a dynamic I/O reconfiguration manager for a channel subsystem.
 //!
-//! `iocm check DECK` reads a configuration deck, checks its rules and says how many records it has; `iocm show DECK`
-//! prints the table of its subchannels, `iocm write DECK` the deck in its canonical order and forms. `iocm apply DECK CHANGE`
-//! activates a change deck on the machine of a configuration deck, and prints how many subchannels it altered and the table
-//! afterwards, with `--undo` the change deck that takes the change back; it reads the change tree in a heap of as many bytes as
-//! `--heap` gives. `iocm run DECK SCRIPT CHANGE..` lets images and operators work on the machine of a configuration deck as a
-//! script says, and prints every answer and the table at the end.
+//! `iocm check DECK` reads a configuration deck, checks its rules and says how many records it has;
+//! `iocm show DECK` prints the table of its subchannels, `iocm write DECK` the deck in its
+//! canonical order and forms. `iocm apply DECK CHANGE` activates a change deck on the machine of a
+//! configuration deck, and prints how many subchannels it altered and the table afterwards, with
+//! `--undo` the change deck that takes the change back; it reads the change tree in a heap of as
+//! many bytes as `--heap` gives. `iocm run DECK SCRIPT CHANGE..` lets images and operators work on
+//! the machine of a configuration deck as a script says, and prints every answer and the table at
+//! the end.
 //!
 //! The exit status is 0 where a command did what it was asked to do, 1 where
 //! a text was refused (one line on standard output says why), 2 where the command line is not understood, and 3
 //! where a file cannot be read or the output cannot be written (`fault L5` or `fault L6` on standard error).
 //!
-//! Begin with `command.rt`, the command line, and `answer.rt`, which call is whose; all else is in `iocm_console`, `iocm_apply` and
-//! `iocm_run`.
+//! Begin with `command.rt`, the command line, and `answer.rt`, which call is whose; all else is in
+//! `iocm_console`, `iocm_apply` and `iocm_run`.
 #![tactic(auto)]
 
 ghost use Rattle.std.specs.Prelude.{◌+◌, ◌^◌, ◌<◌, All, IfOk, IfSome};
@@ -77,7 +79,8 @@ fn words<R: Env + AllocGlobal>(rt: &R) -> io::Result<Vec<String>> {
     Ok(env::args(rt)?.collect(rt.alloc())?)
 }
 
-/// Does a command on its files: they are opened, in the order of the words, before one of them is read.
+/// Does a command on its files: they are opened, in the order of the words, before one of them is
+/// read.
 fn perform<R: Files + Print + AllocGlobal + Threads + Wait + Sync>(
     rt: &R,
     command: Command<'_>,
@@ -134,7 +137,8 @@ fn answer_on<R: Print + AllocGlobal, D: Read + Drop, C: Read + Drop>(
     Ok(ExitCode::from(status.code()))
 }
 
-/// Runs the script in a file on the machine of the deck in another one, with the change decks in the others.
+/// Runs the script in a file on the machine of the deck in another one, with the change decks in
+/// the others.
 fn run_files<R: Files + Print + AllocGlobal + Threads + Wait + Sync>(
     rt: &R,
     deck: &str,
@@ -174,7 +178,8 @@ fn open_all<R: Files + AllocGlobal>(
     Ok(Some(devices))
 }
 
-/// Runs a script on the machine of a deck, with these change decks, each change tree in a heap of so many bytes.
+/// Runs a script on the machine of a deck, with these change decks, each change tree in a heap of
+/// so many bytes.
 fn run_on<
     R: Print + AllocGlobal + Threads + Wait + Sync,
     D: Read + Drop,

@@ -1,13 +1,15 @@
-//! A script that is run on a machine: its rounds, one behind the other, and the answer to each line.
+//! A script that is run on a machine: its rounds, one behind the other, and the answer to each
+//! line.
 //!
 //! `operate` opens a system round a core, runs the rounds, and closes it (`operating.rt`). In a
 //! round the lines of both images and both operators ask for calls at the same time (`asking.rt`,
 //! `round.rt`). The next round begins once all are answered. Each line then takes the answer of its
 //! call (`running.rt`).
 //!
-//! What the layer above may rely on is one sentence, `IsOperation`. The trace is a legal history, in
-//! which each line's call stands once, along each actor in order, each round behind the one before.
-//! Each line has the answer of its call. The machine is in the state to which the history leads.
+//! What the layer above may rely on is one sentence, `IsOperation`. The trace is a legal history,
+//! in which each line's call stands once, along each actor in order, each round behind the one
+//! before. Each line has the answer of its call. The machine is in the state to which the history
+//! leads.
 //!
 //! Begin with `specs/Saying.antt`, `specs/Segments.antt` and `specs/Running.antt`, then
 //! `operating.rt`.

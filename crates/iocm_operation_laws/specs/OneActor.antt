@@ -41,8 +41,8 @@ StandAsInTheScript core ts rounds o =
 abbrev pub HadMemory : History → Type 0
 HadMemory h = AllByRecursion (λ (e : history.Entry). e.answer ≢ Refused (refusal_at M1 Nothing)) h
 
--- two runs of a script give each line the same answer, have the same history, and leave the machine in
--- the same state
+-- two runs of a script give each line the same answer, have the same history, and leave the machine
+-- in the same state
 pub record AreTheSame (o p : Operated) : Type 0 where
   pub answers : o.answers.items ≡ p.answers.items
   pub histories : history_of o.closed ≡ history_of p.closed

@@ -57,7 +57,8 @@ stopped rule = declined (record { rule = rule; node = None; at = Nothing })
 abbrev pub new_core : Configuration → ℕ → Core
 new_core c room = record { opening = opening_state c; history = []; entries = []; room = room }
 
--- a script is run on the machine of a configuration, and this is printed of it; or a rule stopped it
+-- a script is run on the machine of a configuration, and this is printed of it; or a rule stopped
+-- it
 abbrev pub IsRun : Configuration → List CarriedTree → Rounds → Shown → Type 0
 IsRun c ts rounds shown =
     ((room : ℕ) × (o : Operated) × IsOperation (new_core c room) (map plain_tree ts) rounds o × (shown ≡ ran o))

@@ -13,7 +13,8 @@ use std::alloc::{AllocError, Global};
 use std::collections::VecDeque;
 use std::io::Read;
 
-/// The change tree of a change deck, or its first fault. The tree is read in a heap of `heap` bytes.
+/// The change tree of a change deck, or its first fault. The tree is read in a heap of `heap`
+/// bytes.
 fn read_change_deck<C: Read>(
     alloc: Global,
     heap: usize,

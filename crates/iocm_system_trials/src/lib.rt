@@ -5,8 +5,8 @@
 //! what a history means (`replay.rt`), and the receipts are compared with it (`receipts.rt`). So a
 //! test ends in the same way whatever the threads' order was.
 //!
-//! What eight threads do (`crowd.rt`) isn't under `cfg(test)`, since lemmas in `proofs/` name it, and
-//! the check without tests reads these too.
+//! What eight threads do (`crowd.rt`) isn't under `cfg(test)`, since lemmas in `proofs/` name it,
+//! and the check without tests reads these too.
 //!
 //! The trials: two threads of the system's own function (`pairs.rt`), eight threads (`crowd.rt`,
 //! `crowds.rt`), also where the trace becomes full, the count that is read beside calls
