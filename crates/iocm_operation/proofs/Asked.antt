@@ -1,10 +1,9 @@
 -- The change tree of a number, and a copy of it.
-use Rattle.std.proofs.Common.{◌≡◌, ◌≤◌, ◌<◌, ℕ, ◌-◌, Bool, true, false, ltb, IfOk, List, [], length, refl, sym, ap, ◌∙◌, arith}
-use Rattle.std.specs.Prelude.{map, Option, None, Some, Result, Ok, Err}
+use Rattle.std.proofs.Common.{◌≡◌, ℕ, ◌-◌, true, false, ltb, IfOk, List, length, sym, ap, ◌∙◌}
+use Rattle.std.specs.Prelude.{Some, Result, Ok, Err}
 use Rattle.std.specs.List.{slice_get, slice_index_or}
 use Rattle.std.specs.Option.{option_map, option_map_or}
 use Rattle.std.proofs.lemmas.Bool.{ltb-false, ltb-true}
-use Rattle.std.proofs.lemmas.List.{length-map}
 use Rattle.std.proofs.lemmas.Option.{slice_get-get_or, slice_get-map, slice_get_past}
 use Rattle.std.specs.declared.alloc.Global.{Global}
 use Rattle.iocm_model.specs.Change.Tree.{ChangeTree, row, none}

@@ -1,17 +1,15 @@
 -- What a script comes to, once its last round was run and the system is closed.
-use Rattle.std.proofs.Common.{◌≡◌, List, [], ◌++◌, length, sym, ap, ◌∙◌, subst}
+use Rattle.std.proofs.Common.{◌≡◌, List, ◌++◌, length, sym, ap, ◌∙◌, subst}
 use Rattle.std.specs.Prelude.{map}
 use Rattle.std.specs.List.{flat_map}
 use Rattle.iocm_board.specs.Steps.{TellAll}
 use Rattle.iocm_core.specs.Seen as seen
-use Rattle.iocm_core.specs.declared.trace.Entry.{Entry}
 use Rattle.iocm_history.specs.Account.{state_at}
 use Rattle.iocm_history.specs.Legal.{IsLegal}
 use Rattle.iocm_model.specs.Change.Tree.{ChangeTree}
 use Rattle.iocm_script.specs.declared.line.Line.{Line}
 use Rattle.iocm_system.specs.OneRun.{history_of}
 use Rattle.iocm_system.specs.Sights.{Sight}
-use Rattle.iocm_operation.specs.declared.answered.Answered.{Answered}
 use Rattle.iocm_operation.specs.declared.operated.Operated.{Operated}
 use Rattle.iocm_operation.specs.Running.{IsOperation}
 use Rattle.iocm_operation.specs.Segments.{in_order}

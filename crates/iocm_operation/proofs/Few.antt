@@ -1,6 +1,5 @@
 -- A round's operators ask for as many calls as they have lines.
 use Rattle.std.proofs.Common.{◌≡◌, ◌≤◌, ◌+◌, ℕ, suc, List, [], ◌∷◌, length, cond, refl, sym, ap, ◌∙◌, arith}
-use Rattle.std.specs.Prelude.{map}
 use Rattle.std.proofs.lemmas.List.{length-map}
 use Rattle.std.proofs.lemmas.List.Sums.{sum_by-cons}
 use Rattle.iocm_core.specs.Calls.{call_in}
@@ -14,7 +13,7 @@ use Rattle.iocm_script.specs.declared.said.ImageThread.TheVariants as images
 use Rattle.iocm_script.specs.declared.said.OperatorThread.TheVariants as operators
 use Rattle.iocm_script.specs.declared.said.Said.{Said}
 use Rattle.iocm_operation.specs.Asked.{AreAsked, calls_by}
-use Rattle.iocm_operation.specs.Saying.{call_said, calls_said, lines_of}
+use Rattle.iocm_operation.specs.Saying.{call_said, lines_of}
 
 abbrev counted : Line → ℕ
 counted l = cond (is_operators_said l.said) 1 0

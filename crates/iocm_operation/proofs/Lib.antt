@@ -1,6 +1,5 @@
 pub mod Merging
 pub mod Whole
-mod Placing
 mod Asked
 mod Rounds
 mod Segments

@@ -1,8 +1,8 @@
 -- Receipts of several that are put together by number keep their order, each one's.
 use Rattle.std.proofs.Common.{◌≡◌, ◌≤◌, ◌<◌, ℕ, suc, ◌==◌, nat_lt, Bool, true, false, cond, not, List, [], ◌∷◌, ◌++◌, refl, sym, ap, ◌∙◌, subst, arith}
-use Rattle.std.specs.Prelude.{map, filter}
+use Rattle.std.specs.Prelude.{filter}
 use Rattle.std.specs.List.{AllByRecursion}
-use Rattle.std.proofs.lemmas.Bool.{eq-eqb, eqb-true, false_from_ne_true, false≢true, ltb-false, le-ltb}
+use Rattle.std.proofs.lemmas.Bool.{eqb-true, false_from_ne_true, false≢true, ltb-false, le-ltb}
 use Rattle.iocm_board.specs.declared.view.Made.{Made}
 use Rattle.iocm_board.specs.Receipts.{merged, put_in}
 use Rattle.iocm_operation.specs.Marks.{Marked, MadeRise, all_of, those_of}

@@ -1,21 +1,17 @@
 -- What the marked receipts of a round tell of its part of the trace.
-use Rattle.std.proofs.Common.{◌≡◌, ℕ, zero, suc, ◌==◌, Bool, true, false, cond, List, [], ◌∷◌, ◌++◌, length, refl, sym, ap, ◌∙◌, arith}
+use Rattle.std.proofs.Common.{◌≡◌, ℕ, suc, ◌==◌, Bool, true, false, cond, List, [], ◌∷◌, ◌++◌, length, refl, sym, ap, ◌∙◌, arith}
 use Rattle.std.specs.Prelude.{map, filter}
 use Rattle.std.specs.List.{flat_map}
-use Rattle.std.proofs.lemmas.List.{append_assoc}
+use Rattle.std.proofs.lemmas.List.{append_assoc, append-nil}
 use Rattle.iocm_board.specs.declared.view.Made.{Made}
 use Rattle.iocm_board.specs.Receipts.{numbered}
 use Rattle.iocm_core.specs.Calls.{call_in}
 use Rattle.iocm_core.specs.declared.call.Call.{Call}
 use Rattle.iocm_core.specs.declared.trace.Entry.{Entry}
 use Rattle.iocm_model.specs.Change.Tree.{ChangeTree}
-use Rattle.iocm_rounds.specs.declared.round.Round.{Round}
 use Rattle.iocm_script.specs.declared.line.Line.{Line}
 use Rattle.iocm_system.specs.Turns.{gained}
 use Rattle.iocm_system.specs.declared.receipt.Receipt.{Receipt}
-use Rattle.iocm_types.specs.declared.answer.Answer.{Answer}
-use Rattle.iocm_operation.specs.declared.answered.Answered.{Answered}
-use Rattle.iocm_operation.specs.Asked.{AreAsked}
 use Rattle.iocm_operation.specs.Marks.{Marked, all_of, of_actor, those_of}
 use Rattle.iocm_operation.specs.Placing.{answers_for, replies}
 use Rattle.iocm_operation.specs.Running.{AreAll}
@@ -79,11 +75,7 @@ one_run_more ts (r ∷ rounds) (x ∷ ss) ls s are one = (are.0, one_run_more ts
 
 pub answers_of_more : (ts : List ChangeTree) (rounds : List (List Line)) (ss : List Segment) (ls : List Line) (s : Segment) → AreRun ts rounds ss
     → answers_of (rounds ++ ls ∷ []) (ss ++ s ∷ []) ≡ answers_of rounds ss ++ answers_by ls (answers_in 0 s) (answers_in 1 s) (answers_in 2 s) (answers_in 3 s)
-answers_of_more ts [] [] ls s are = append_nil_of (answers_by ls (answers_in 0 s) (answers_in 1 s) (answers_in 2 s) (answers_in 3 s))
-  where
-    append_nil_of : (xs : List Answered) → xs ++ [] ≡ xs
-    append_nil_of [] = refl
-    append_nil_of (x ∷ xs) = ap (λ ys. x ∷ ys) (append_nil_of xs)
+answers_of_more ts [] [] ls s are = append-nil (answers_by ls (answers_in 0 s) (answers_in 1 s) (answers_in 2 s) (answers_in 3 s))
 answers_of_more ts [] (x ∷ ss) ls s are = absurd are
 answers_of_more ts (r ∷ rounds) [] ls s are = absurd are
 answers_of_more ts (r ∷ rounds) (x ∷ ss) ls s are =
@@ -96,11 +88,7 @@ map_more [] ms = refl
 map_more (x ∷ parts) ms = ap (λ ss. segment_of x ∷ ss) (map_more parts ms)
 
 pub all_more : (parts : List Marked) (ms : Marked) → flat_map all_of (parts ++ ms ∷ []) ≡ flat_map all_of parts ++ all_of ms
-all_more [] ms = nil_behind (all_of ms)
-  where
-    nil_behind : (xs : List Made) → xs ++ [] ≡ xs
-    nil_behind [] = refl
-    nil_behind (x ∷ xs) = ap (λ ys. x ∷ ys) (nil_behind xs)
+all_more [] ms = append-nil (all_of ms)
 all_more (x ∷ parts) ms = ap (λ ys. all_of x ++ ys) (all_more parts ms) ∙ sym (append_assoc (all_of x) (flat_map all_of parts) (all_of ms))
 
 -- entries whose receipts are those of parts are those of the parts

@@ -1,7 +1,7 @@
 -- One round more of a script, and its first.
-use Rattle.std.proofs.Common.{◌≡◌, ◌<◌, ℕ, true, List, [], ◌∷◌, ◌++◌, refl, sym, ap, ◌∙◌, subst}
+use Rattle.std.proofs.Common.{◌≡◌, ◌<◌, true, List, [], ◌∷◌, ◌++◌, refl, sym, ap, ◌∙◌, subst}
 use Rattle.std.specs.Prelude.{map, None, Option}
-use Rattle.std.specs.List.{AllByRecursion, flat_map}
+use Rattle.std.specs.List.{AllByRecursion}
 use Rattle.iocm_board.specs.Names.{is_whole}
 use Rattle.iocm_board.specs.declared.view.Made.{Made}
 use Rattle.iocm_model.specs.Change.Tree.{ChangeTree}
@@ -12,10 +12,10 @@ use Rattle.iocm_system.specs.declared.receipt.Receipt.{Receipt}
 use Rattle.iocm_types.specs.declared.rule.Rule.{Rule}
 use Rattle.iocm_operation.specs.declared.answered.Answered.{Answered}
 use Rattle.iocm_operation.specs.Asked.{AreAsked}
-use Rattle.iocm_operation.specs.Marks.{Marked, all_of}
+use Rattle.iocm_operation.specs.Marks.{all_of}
 use Rattle.iocm_operation.specs.Placing.{answers_for}
 use Rattle.iocm_operation.specs.Running.{IsRan}
-use Rattle.iocm_operation.specs.Segments.{AreRun, answers_by, answers_in, answers_of}
+use Rattle.iocm_operation.specs.Segments.{AreRun, answers_of}
 use Rattle.iocm_operation.specs.SoFar.{IsSoFar, segment_of}
 use Rattle.iocm_operation.proofs.Segments.{all_more, answers_are_those, answers_of_more, map_more, one_run_more, round_is_run}
 

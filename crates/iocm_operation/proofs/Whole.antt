@@ -1,5 +1,5 @@
 -- A seat that was whole is whole again, once a name that it lent has come back.
-use Rattle.std.proofs.Common.{◌≡◌, ℕ, zero, suc, ◌==◌, Bool, true, false, ◌&&◌, ◌||◌, List, [], ◌∷◌, ◌++◌, refl, sym, ap, ◌∙◌, subst}
+use Rattle.std.proofs.Common.{◌≡◌, ℕ, zero, suc, Bool, true, false, ◌&&◌, ◌||◌, List, [], ◌∷◌, ◌++◌, refl, sym, ap, ◌∙◌, subst}
 use Rattle.std.proofs.lemmas.Bool.{eq-eqb, false≢true}
 use Rattle.iocm_board.specs.declared.view.Borne.{Borne}
 use Rattle.iocm_board.specs.Names.{Name, all_home, are_home, bears, BearsSome, child, fresh, is_whole, lend, next_of, same}

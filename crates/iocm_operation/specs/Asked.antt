@@ -2,7 +2,6 @@
 use Rattle.std.specs.Prelude.{◌≡◌, ℕ, List, [], ◌∷◌, ◌++◌, map}
 use Rattle.iocm_core.specs.Calls.{call_in}
 use Rattle.iocm_core.specs.declared.call.Call.{Call}
-use Rattle.iocm_history.specs.Entry as history
 use Rattle.iocm_model.specs.Change.Tree.{ChangeTree}
 use Rattle.iocm_rounds.specs.declared.round.Round.{Round}
 use Rattle.iocm_script.specs.declared.line.Line.{Line}
@@ -10,7 +9,7 @@ use Rattle.iocm_tree.specs.Trees.{plain_tree, tree_of}
 use Rattle.iocm_tree.specs.declared.tree.Tree.{Tree}
 use Rattle.std.specs.declared.alloc.Global.{Global}
 use Rattle.iocm_operation.specs.Marks.{of_actor}
-use Rattle.iocm_operation.specs.Saying.{call_said, calls_said, lines_of}
+use Rattle.iocm_operation.specs.Saying.{calls_said}
 
 -- the change trees, plain
 abbrev pub trees_in : List (Tree Global) → List ChangeTree

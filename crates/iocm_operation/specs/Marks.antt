@@ -1,5 +1,5 @@
 -- Receipts with the numbers of the actors whose they are. Own.
-use Rattle.std.specs.Prelude.{◌≡◌, ℕ, zero, suc, ◌≤◌, ◌<◌, ◌==◌, List, [], ◌∷◌, map, filter}
+use Rattle.std.specs.Prelude.{ℕ, zero, suc, ◌≤◌, ◌==◌, List, [], ◌∷◌, map, filter}
 use Rattle.iocm_board.specs.declared.view.Made.{Made}
 
 abbrev pub Marked : Type 0

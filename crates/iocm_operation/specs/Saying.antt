@@ -1,5 +1,5 @@
 -- What the lines of a script ask of a machine. Own.
-use Rattle.std.specs.Prelude.{ℕ, ◌-◌, ◌==◌, List, [], ◌∷◌, map, filter}
+use Rattle.std.specs.Prelude.{ℕ, ◌-◌, ◌==◌, List, map, filter}
 use Rattle.std.specs.List.{slice_get}
 use Rattle.std.specs.Option.{option_map_or}
 use Rattle.iocm_model.specs.Change.Tree.{ChangeTree, row, none}

@@ -1,5 +1,5 @@
 -- The tree of the number is there, and is copied; or there is none.
-use Rattle.std.proofs.Common.{◌≡◌, map, [], refl, sym, ap, ◌∙◌}
+use Rattle.std.proofs.Common.{map, sym, ap, ◌∙◌}
 use Rattle.iocm_tree.proofs.Trees.{tree-Row}
 use Rattle.iocm_tree.specs.Trees.{parts_from, plain_tree, row, tree_of}
 use Rattle.iocm_operation.specs.Asked.{trees_in}

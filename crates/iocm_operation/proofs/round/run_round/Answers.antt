@@ -1,5 +1,5 @@
 -- The callers that were split off come back with what the round made.
-use Rattle.std.proofs.Common.{◌≡◌, ap, ◌∙◌}
+use Rattle.std.proofs.Common.{ap, ◌∙◌}
 use Rattle.iocm_system.specs.Sights.{borrowed, joined, lends_one}
 use Rattle.iocm_operation.proofs.Rounds.{ran_is}
 use Rattle.iocm_operation.proofs.round.run_round.Goals as goal

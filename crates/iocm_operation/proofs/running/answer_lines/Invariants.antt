@@ -1,4 +1,4 @@
-use Rattle.std.proofs.Common.{◌≡◌, ◌++◌, List, drop}
+use Rattle.std.proofs.Common.{◌≡◌, ◌++◌, drop}
 use Rattle.iocm_operation.specs.Placing.{answers_of_hands}
 use Rattle.iocm_operation.proofs.running.answer_lines.Given as goal
 
