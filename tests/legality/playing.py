@@ -39,10 +39,10 @@ class Case(NamedTuple):
     def status(self):
         return 0 if self.refusal is None else 1
 
-    def judge(self, text):
-        """What was found of each round of an output, or why it is illegal."""
+    def judge(self, text, is_short=False):
+        """What was found of each round of an output, or why it is illegal. Memory may be short."""
         if self.refusal is None:
-            return judged(self.opening, self.trees, self.rounds, text)
+            return judged(self.opening, self.trees, self.rounds, text, is_short)
         if text != self.refusal:
             raise Illegal(f"{self.refusal!r} is right")
         return []

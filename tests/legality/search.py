@@ -7,6 +7,11 @@ from .printed import table_of
 from .scripts import IMAGES, OPERATORS
 
 
+# what a call that takes memory may answer where memory is short; it changes nothing then
+NO_MEMORY = "refused M1"
+TAKES_MEMORY = ("activate", "begin", "undo", "redo")
+
+
 class Illegal(Exception):
     """An output that no order of the lines gives, and why."""
 
@@ -36,6 +41,14 @@ def answered(history, line, trees):
     return history.called(line.command, line.at, trees)
 
 
+def judged_answer(history, line, trees, printed, is_short):
+    """The answer that a line may have had here, with the history behind it. Where memory is short, `refused M1` is
+    right too."""
+    if is_short and printed == NO_MEMORY and line.command in TAKES_MEMORY:
+        return NO_MEMORY, history
+    return answered(history, line, trees)
+
+
 def round_of(lines, answers):
     """A round with its answers by the lines' numbers."""
     queues = {}
@@ -49,7 +62,7 @@ def is_between(queues, places, actors):
     return any(0 < place < len(queue) for queue, place in zip(queues, places) if queue[0][0].actor in actors)
 
 
-def reached(round_, starts, trees, kept_apart=None):
+def reached(round_, starts, trees, kept_apart=None, is_short=False):
     """Goes through a round in every order in which the answers come just so. Where two groups of actors are to be
     kept apart, no line of the first may come between two lines of an actor of the second."""
     queues = round_.queues
@@ -67,7 +80,7 @@ def reached(round_, starts, trees, kept_apart=None):
             line, wanted = queue[places[at]]
             if kept_apart and line.actor in kept_apart[0] and is_between(queues, places, kept_apart[1]):
                 continue
-            answer, after = answered(history, line, trees)
+            answer, after = judged_answer(history, line, trees, wanted, is_short)
             if answer != wanted:
                 has_other = True
                 continue
@@ -114,18 +127,20 @@ def looked_at(round_, starts, trees, result):
     return Looked(len(round_.queues), answers, result.has_other, image, operator)
 
 
-def judged(opening, trees, rounds, text):
-    """What was found of each round of an output, or why it is illegal."""
+def judged(opening, trees, rounds, text, is_short=False):
+    """What was found of each round of an output, or why it is illegal. Where memory is short, nothing is said of the
+    rounds."""
     answers, table = split_output(text, rounds)
     start = History(opening)
     histories, found = {start.key(): start}, []
     for lines in rounds:
         round_ = round_of(lines, answers)
-        result = reached(round_, histories, trees)
+        result = reached(round_, histories, trees, is_short=is_short)
         if not result.ends:
             which = f"the lines {lines[0].number} to {lines[-1].number}"
             raise Illegal(f"no order of {which} gives these answers; {result.most} of {len(lines)} can be done")
-        found.append(looked_at(round_, histories, trees, result))
+        if not is_short:
+            found.append(looked_at(round_, histories, trees, result))
         histories = result.ends
     if not any(table == table_of(history.state.views) for history in histories.values()):
         raise Illegal("the table isn't that of a state to which these answers lead")
