@@ -1,53 +1,13 @@
-ghost use Rattle.std.specs.Prelude.{◌≡◌, map, IfOk};
-ghost use Rattle.std.specs.List.{list_any};
+ghost use Rattle.std.specs.Prelude.{◌≡◌, IfOk};
 ghost use Rattle.iocm_keywords.specs.LeftOut as words;
 ghost use Rattle.iocm_values.specs.Value.{seen};
 ghost use Rattle.iocm_statements.specs.declared.operation.Operation.TheVariants.{Chpid};
 ghost use Rattle.iocm_change_records.specs.Table as meaning;
 
-use iocm_statements::{Operation, Unread, pieces};
-use iocm_values::{Value, inside_css, is_decimal_number, is_hex_number, words};
+use iocm_keywords::names_several_css;
+use iocm_statements::Operation;
+use iocm_values::{Value, is_hex_number, words};
 use std::alloc::{AllocError, Global};
-
-fn count_decimals(texts: &[&[u8]]) -> usize
-    ensures { result ≡ words.count_decimals (map (λ k. k.now) texts.now) }
-{
-    texts.iter().filter(|text| is_decimal_number(text)).count()
-}
-
-// The word `CSS(..)` with two decimal numbers or more.
-fn spans_css(alloc: Global, text: &[u8]) -> Result<bool, AllocError>
-    ensures { IfOk result (λ answer. answer ≡ words.spans_css text.now) }
-{
-    let Some(inner) = inside_css(text) else {
-        return Ok(false);
-    };
-    match pieces(alloc, inner) {
-        Ok(pieces) => Ok(count_decimals(&pieces) >= 2),
-        Err(Unread::Malformed) => Ok(false),
-        Err(Unread::Memory) => Err(AllocError),
-    }
-}
-
-#[tactic(auto, using(crate::proofs::Rows::any_steps))]
-fn has_span(alloc: Global, texts: &[&[u8]]) -> Result<bool, AllocError>
-    ensures { IfOk result (λ answer. answer ≡ list_any words.spans_css (map (λ k. k.now) texts.now)) }
-{
-    for text in texts {
-        if spans_css(alloc, text)? {
-            return Ok(true);
-        }
-    }
-    Ok(false)
-}
-
-// One of the words at any depth names several channel subsystems.
-fn names_several_css(alloc: Global, text: &[u8]) -> Result<bool, AllocError>
-    ensures { IfOk result (λ answer. answer ≡ words.names_several_css text.now) }
-{
-    let words = words(alloc, text)?;
-    has_span(alloc, &words)
-}
 
 fn is_path_word(text: &[u8]) -> bool
     ensures { result ≡ words.is_path_word text.now }

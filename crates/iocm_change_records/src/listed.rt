@@ -28,7 +28,7 @@ fn is_list_form(value: Value) -> bool
     }
 }
 
-#[tactic(auto, using(crate::proofs::Rows::any_steps))]
+#[tactic(auto, using(iocm_values::proofs::Looking::any_steps))]
 fn has_list_form(items: &[Value]) -> bool
     ensures { result ≡ list_any partition.is_list_form (map seen items.now) }
 {

@@ -74,7 +74,7 @@ fn is_missing(operands: &Operands, row: &Row) -> bool
     row.form == Form::Required && operands.get(row.word).is_none()
 }
 
-#[tactic(auto, using(crate::proofs::Rows::any_steps))]
+#[tactic(auto, using(iocm_values::proofs::Looking::any_steps))]
 fn is_one_missing(operands: &Operands, rows: &[Row]) -> bool
     ensures { result ≡ list_any (is_missing operands.now) (map seen_row rows.now) }
 {
@@ -107,7 +107,7 @@ fn is_key_left_out(
     }
 }
 
-#[tactic(auto, using(crate::proofs::Rows::any_steps))]
+#[tactic(auto, using(iocm_values::proofs::Looking::any_steps))]
 fn is_one_left_out(
     alloc: Global,
     operation: Operation,
@@ -135,7 +135,7 @@ pub fn has_key_left_out(
     is_one_left_out(alloc, operation, operands, key_table(operation))
 }
 
-#[tactic(auto, using(crate::proofs::Rows::any_steps))]
+#[tactic(auto, using(iocm_values::proofs::Looking::any_steps))]
 fn is_one_bare(operands: &Operands, rows: &[Row]) -> bool
     ensures { result ≡ list_any (meaning.is_key_bare operands.now) (map seen_row rows.now) }
 {

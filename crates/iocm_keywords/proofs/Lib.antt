@@ -1,1 +1,6 @@
+mod Css
+mod Outer
+mod Reading
 mod Rows
+mod Runs
+mod Within

@@ -1,27 +1,9 @@
--- The steps of loops that look for an item by what it looks like.
-use Rattle.std.proofs.Common.{◌≡◌, ℕ, ◌+◌, ◌<◌, ◌≤◌, Bool, true, false, Option, Some, None, List, length, get_or, drop, map, refl}
+-- The steps of a loop that looks up a word in a table.
+use Rattle.std.proofs.Common.{◌≡◌, ℕ, ◌+◌, ◌<◌, ◌≤◌, true, false, Some, None, List, length, get_or, drop, map, refl}
 use Rattle.std.proofs.Math.ListN.{drop_of_length-le}
 use Rattle.std.proofs.lemmas.List.{drop_more}
-use Rattle.std.specs.List.{list_any}
 use Rattle.std.specs.Str.{bytes_eq}
-use Rattle.iocm_keywords.specs.declared.known.Form.{Form}
 use Rattle.iocm_keywords.specs.Known.{Row, form_in}
-
--- an item that doesn't pass leaves the answer to the rest
-pub any_goes_on : {X A : Type 0} (look : X → A) (p : A → Bool) (xs : List X) (i : ℕ) (d : X)
-    → i < length xs → p (look (get_or xs i d)) ≡ false → list_any p (map look (drop i xs)) ≡ list_any p (map look (drop (i + 1) xs))
-any_goes_on look p xs i d within is = rw (drop_more xs i d within, is) refl
-
--- an item that passes is enough
-pub any_stops : {X A : Type 0} (look : X → A) (p : A → Bool) (xs : List X) (i : ℕ) (d : X)
-    → i < length xs → p (look (get_or xs i d)) ≡ true → list_any p (map look (drop i xs)) ≡ true
-any_stops look p xs i d within is = rw (drop_more xs i d within, is) refl
-
--- at the end none has passed
-pub any_done : {X A : Type 0} (look : X → A) (p : A → Bool) (xs : List X) (i : ℕ) → length xs ≤ i → list_any p (map look (drop i xs)) ≡ false
-any_done look p xs i past = rw (drop_of_length-le xs past) refl
-
-pub ruleset any_steps = (any_goes_on, any_stops, any_done)
 
 -- a row of another word leaves the answer to the rest
 pub form_goes_on : {X : Type 0} (look : X → Row) (word : List ℕ) (rows : List X) (i : ℕ) (d : X)

@@ -1,6 +1,6 @@
 -- Which operands a statement knows: its table. What the table doesn't name is carried.
 -- IOCP User's Guide, the statements; which operands are known, and which are left out, is own.
-use Rattle.std.specs.Prelude.{ℕ, Bool, true, false, not, is_none, Option, None, Some, List, [], ◌∷◌, codes}
+use Rattle.std.specs.Prelude.{ℕ, Bool, true, false, not, is_none, Option, Some, List, [], ◌∷◌, codes}
 use Rattle.std.specs.List.{list_any}
 use Rattle.std.specs.Map.{lookup}
 use Rattle.std.specs.Str.{bytes_eq}

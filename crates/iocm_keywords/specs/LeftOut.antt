@@ -1,8 +1,9 @@
 -- The forms of known operands that this product leaves out by name.
 -- IOCP User's Guide; which forms are left out is own.
-use Rattle.std.specs.Prelude.{ℕ, ◌&&◌, ◌||◌, nat_le, Bool, true, false, Option, None, Some, List, length, count_by, codes}
-use Rattle.std.specs.List.{list_any}
-use Rattle.std.specs.Option.{option_map_or, option_and_then}
+use Rattle.std.specs.Prelude.{ℕ, zero, suc, ◌&&◌, ◌||◌, nat_le, Bool, true, false, Option, Some, List, [], length}
+use Rattle.std.specs.Prelude.{count_by, codes, unwrap_or}
+use Rattle.std.specs.List.{flat_map, list_any}
+use Rattle.std.specs.Option.{option_and_then}
 use Rattle.std.specs.Str.{bytes_eq}
 use Rattle.iocm_statements.specs.declared.operation.Operation.{Operation}
 use Rattle.iocm_statements.specs.declared.operation.Operation.TheVariants.{Chpid, Iodevice}
@@ -20,13 +21,28 @@ use Rattle.iocm_keywords.specs.Known.{table, form_in, word_of, has_value}
 abbrev pub count_decimals : List (List ℕ) → ℕ
 count_decimals texts = count_by (is_number is_decimal_digit) texts
 
+-- the items of the word CSS(..); another word has none
+abbrev pub css_items : List ℕ → List (List ℕ)
+css_items text = unwrap_or (option_and_then pieces_of (inside_css text)) []
+
 -- the word CSS(..) with two decimal numbers or more
 abbrev pub spans_css : List ℕ → Bool
-spans_css text = option_map_or (λ pieces. nat_le 2 (count_decimals pieces)) (option_and_then pieces_of (inside_css text)) false
+spans_css text = nat_le 2 (count_decimals (css_items text))
 
--- one of the words at any depth names several channel subsystems
+-- the words at any depth between the parentheses of the word CSS(..)
+abbrev pub words_inside : List ℕ → List (List ℕ)
+words_inside text = flat_map words (css_items text)
+
+-- the word, or one inside its parentheses, so many levels of CSS(..) down, names several channel
+-- subsystems
+unfoldable pub spans_within : ℕ → List ℕ → Bool
+spans_within zero text = false
+spans_within (suc levels) text = spans_css text || list_any (spans_within levels) (words_inside text)
+
+-- a word of the text, at any depth, names several, or one inside its parentheses does; there are
+-- fewer levels than bytes
 abbrev pub names_several_css : List ℕ → Bool
-names_several_css text = list_any spans_css (words text)
+names_several_css text = list_any (spans_within (length text)) (words text)
 
 -- a hexadecimal number of one or two digits
 abbrev pub is_path_word : List ℕ → Bool

@@ -1,2 +1,4 @@
+pub mod Examples
 pub mod Known
 pub mod LeftOut
+pub mod Walk

@@ -170,7 +170,7 @@ fn is_missing(operands: &Operands, row: &Row) -> bool
     row.form == Form::Required && operands.get(row.word).is_none()
 }
 
-#[tactic(auto, using(crate::proofs::Rows::any_steps))]
+#[tactic(auto, using(iocm_values::proofs::Looking::any_steps))]
 fn is_one_missing(operands: &Operands, rows: &[Row]) -> bool
     ensures { result ≡ list_any (meaning.is_missing operands.now) (map seen_row rows.now) }
 {

@@ -1,52 +1,14 @@
-ghost use Rattle.std.specs.Prelude.{◌≡◌, map, IfOk};
-ghost use Rattle.std.specs.List.{list_any};
+ghost use Rattle.std.specs.Prelude.{◌≡◌, ◌++◌, map, IfOk, OnOk};
+ghost use Rattle.std.specs.List.{flat_map, list_any};
 ghost use Rattle.iocm_keywords.specs.LeftOut as meaning;
 ghost use Rattle.iocm_values.specs.Value.{seen};
+ghost use Rattle.iocm_values.specs.Words.{words};
 
 use crate::known::{Form, form_in, has_value, table, word_of};
-use iocm_statements::{OperandKey, Operands, Operation, Unread, pieces};
-use iocm_values::{Value, inside_css, is_decimal_number, is_hex_number, words};
+use crate::nested_css::names_several_css;
+use iocm_statements::{OperandKey, Operands, Operation};
+use iocm_values::{Value, is_hex_number, words};
 use std::alloc::{AllocError, Global};
-
-fn count_decimals(texts: &[&[u8]]) -> usize
-    ensures { result ≡ meaning.count_decimals (map (λ k. k.now) texts.now) }
-{
-    texts.iter().filter(|text| is_decimal_number(text)).count()
-}
-
-// The word `CSS(..)` with two decimal numbers or more.
-fn spans_css(alloc: Global, text: &[u8]) -> Result<bool, AllocError>
-    ensures { IfOk result (λ answer. answer ≡ meaning.spans_css text.now) }
-{
-    let Some(inner) = inside_css(text) else {
-        return Ok(false);
-    };
-    match pieces(alloc, inner) {
-        Ok(pieces) => Ok(count_decimals(&pieces) >= 2),
-        Err(Unread::Malformed) => Ok(false),
-        Err(Unread::Memory) => Err(AllocError),
-    }
-}
-
-#[tactic(auto, using(crate::proofs::Rows::any_steps))]
-fn has_span(alloc: Global, texts: &[&[u8]]) -> Result<bool, AllocError>
-    ensures { IfOk result (λ answer. answer ≡ list_any meaning.spans_css (map (λ k. k.now) texts.now)) }
-{
-    for text in texts {
-        if spans_css(alloc, text)? {
-            return Ok(true);
-        }
-    }
-    Ok(false)
-}
-
-// One of the words at any depth names several channel subsystems.
-fn names_several_css(alloc: Global, text: &[u8]) -> Result<bool, AllocError>
-    ensures { IfOk result (λ answer. answer ≡ meaning.names_several_css text.now) }
-{
-    let words = words(alloc, text)?;
-    has_span(alloc, &words)
-}
 
 fn is_path_word(text: &[u8]) -> bool
     ensures { result ≡ meaning.is_path_word text.now }
@@ -125,8 +87,8 @@ fn is_left_out(
     }
 }
 
-/// Whether one of the operands is left out by name: NOTPART; a value that names several channel subsystems in one
-/// `CSS(..)`; several paths of a CHPID; a list of subchannel sets.
+/// Whether one of the operands is left out by name: NOTPART; a value that names several channel
+/// subsystems in one `CSS(..)`, at any depth; several paths of a CHPID; a list of subchannel sets.
 #[tactic(auto, using(iocm_types::proofs::Any::any_steps))]
 pub fn has_left_out(
     alloc: Global,

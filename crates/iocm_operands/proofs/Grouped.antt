@@ -2,10 +2,10 @@
 use Rattle.std.proofs.Common.{◌≡◌, ◌≢◌, ℕ, ◌<◌, ◌==◌, not, Bool, true, false, cond, Option, Some, None, List, [], ◌∷◌, ◌++◌, All, ◌⊎◌, inl, inr, map, filter, length, refl, sym, ap, ◌∙◌, subst, arith, eqb-true, ⊎_elim}
 use Rattle.std.proofs.Math.Dec.{eqb-suc-zero}
 use Rattle.std.proofs.lemmas.List.Elements.{All-head, All-tail}
-use Rattle.std.specs.List.{flat_map, join_with_byte}
+use Rattle.std.specs.List.{flat_map, join_with_byte, list_any}
 use Rattle.std.specs.Option.{option_map_or}
 use Rattle.iocm_values.specs.declared.texts.CssText.{CssText}
-use Rattle.iocm_values.specs.CssLists.{begins_with_css, css_number, group, group_of, has_items, by_css_items, in_css_order, by_css}
+use Rattle.iocm_values.specs.CssLists.{begins_with_css, is_group, css_number, group, group_of, has_items, by_css_items, in_css_order, by_css}
 use Rattle.iocm_values.specs.Reading.{◌>>=◌, every, gathered}
 use Rattle.iocm_values.specs.Texts.{css_text, list_text, texts_in, group_texts, by_css_text}
 use Rattle.iocm_values.specs.Value.{Value, list, value, values, items}
@@ -128,7 +128,7 @@ read_as_groups : {A : Type 0} (may_lack : Bool) (read : ℕ → Value → Option
     → option_map_or begins_with_css (values inner) false ≡ true → by_css_items may_lack read (v ∷ vs) ≡ gathered (group_of may_lack read) (v ∷ vs)
 read_as_groups may_lack read v inner vs is begins =
     ap (λ first. by_css_items may_lack read (first ∷ vs)) is
-    ∙ ap (λ b. cond b (gathered (group_of may_lack read) (list inner ∷ vs)) (every (read 0) (list inner ∷ vs))) begins
+    ∙ ap (λ b. cond b (gathered (group_of may_lack read) (list inner ∷ vs)) (cond (list_any is_group (list inner ∷ vs)) None (every (read 0) (list inner ∷ vs)))) begins
     ∙ ap (λ first. gathered (group_of may_lack read) (first ∷ vs)) (sym is)
 
 groups_read : {A : Type 0} (may_lack : Bool) (read : ℕ → Value → Option A) (groups : List (List ℕ)) → BeginsWithGroup groups → AllWhole groups

@@ -9,4 +9,3 @@ pub mod Operands
 pub mod Ordered
 pub mod Places
 pub mod Readings
-mod Rows

@@ -2,7 +2,7 @@
 use Rattle.std.proofs.Common.{◌≡◌, ◌≢◌, ℕ, zero, suc, ◌+◌, ◌<◌, ◌≤◌, ◌==◌, nat_lt, Bool, true, false, cond, Option, Some, None, List, [], ◌∷◌, ◌++◌, map, filter, length, unwrap_or, All, refl, sym, ap, ◌∙◌, subst, arith, append-nil, add-one, lt-ltb, ltb-true, eqb-true}
 use Rattle.std.proofs.lemmas.List.Elements.{All-nil, All-cons, All-head, All-tail, All-append}
 use Rattle.std.proofs.lemmas.Map.Keys.{IsStrictlyIncreasing-from_sorted}
-use Rattle.std.specs.List.{AllByRecursion, filter_map, flat_map}
+use Rattle.std.specs.List.{AllByRecursion, filter_map, flat_map, list_any}
 use Rattle.std.specs.List.Sorted.{IsStrictlyIncreasing, IsStrictlySortedBy}
 use Rattle.std.specs.Option.{option_map}
 use Rattle.std.specs.Ordering.{nat_cmp}
@@ -12,7 +12,7 @@ use Rattle.iocm_operands.specs.declared.limits.LimitPlace.{LimitPlace}
 use Rattle.iocm_operands.specs.Again.{IsLimit, AreLimits}
 use Rattle.iocm_operands.specs.Given.{GivesLimits}
 use Rattle.iocm_operands.specs.Limits.{limit_of, limit_item, limit_at, limits_in}
-use Rattle.iocm_values.specs.CssLists.{begins_with_css, begins_with_group, css_number, has_items, group, group_of, by_css_items, in_css_order, by_css}
+use Rattle.iocm_values.specs.CssLists.{begins_with_css, begins_with_group, is_group, css_number, has_items, group, group_of, by_css_items, in_css_order, by_css}
 use Rattle.iocm_values.specs.Digits.{decimal_of}
 use Rattle.iocm_values.specs.Reading.{◌>>=◌, every, every_at, gathered}
 use Rattle.iocm_values.specs.Value.{Value, word, list, items, word_text}
@@ -43,12 +43,14 @@ module _ {A : Type 0} (P : A → Type 0) (may_lack : Bool) (read : ℕ → Value
       (All-append P first.0 rest.0 (group_all inner.0 first.0 inner.2) (groups_all vs rest.0 rest.1))
 
   items_all : (vs : List Value) (ys : List A) → by_css_items may_lack read vs ≡ Some ys → All P ys
-  items_all vs ys e = by (begins_with_css vs) (begins_with_group vs) e
+  items_all vs ys e = by (begins_with_css vs) (begins_with_group vs) (list_any is_group vs) e
     where
-      by : (alone groups : Bool) → cond alone (group may_lack read vs) (cond groups (gathered (group_of may_lack read) vs) (every (read 0) vs)) ≡ Some ys → All P ys
-      by true groups e = group_all vs ys e
-      by false true e = groups_all vs ys e
-      by false false e = (every_gave P (read 0) (is 0) vs ys e).0
+      by : (alone groups mixed : Bool)
+          → cond alone (group may_lack read vs) (cond groups (gathered (group_of may_lack read) vs) (cond mixed None (every (read 0) vs))) ≡ Some ys → All P ys
+      by true groups mixed e = group_all vs ys e
+      by false true mixed e = groups_all vs ys e
+      by false false true e = no_value ys e
+      by false false false e = (every_gave P (read 0) (is 0) vs ys e).0
 
   by_css_all : (css_of : A → ℕ) (v : Value) (ys : List A) → by_css may_lack read css_of v ≡ Some ys → All P ys
   by_css_all css_of v ys e =

@@ -1,16 +1,16 @@
 -- Sets of names and lists by channel subsystem that were read are in order.
-use Rattle.std.proofs.Common.{◌≡◌, ◌≢◌, ℕ, zero, suc, ◌<◌, ◌==◌, not, Bool, true, false, cond, Option, Some, List, [], ◌∷◌, ◌++◌, filter, fold, length, get_or, All, refl, sym, ap, ◌∙◌, subst, arith, append-nil, append_assoc, eqb-true, eq-eqb}
+use Rattle.std.proofs.Common.{◌≡◌, ◌≢◌, ℕ, zero, suc, ◌<◌, ◌==◌, not, Bool, true, false, cond, Option, Some, None, List, [], ◌∷◌, ◌++◌, filter, fold, length, get_or, All, refl, sym, ap, ◌∙◌, subst, arith, append-nil, append_assoc, eqb-true, eq-eqb}
 use Rattle.std.proofs.lemmas.Bool.{false≢true}
 use Rattle.std.proofs.lemmas.Cmp.{nat_list_cmp_total}
 use Rattle.std.proofs.lemmas.List.Elements.{All-nil, All-cons, All-head, All-tail, All-append, All-filter}
-use Rattle.std.specs.List.{AllByRecursion, flat_map}
+use Rattle.std.specs.List.{AllByRecursion, flat_map, list_any}
 use Rattle.std.specs.List.Sorted.{IsStrictlySortedBy}
 use Rattle.std.specs.Ordering.{ordering_reverse}
 use Rattle.std.specs.declared.cmp.Ordering.{Ordering}
 use Rattle.std.specs.declared.cmp.Ordering.TheVariants.{Less, Equal, Greater}
 use Rattle.std.specs.FinMap.Entries.{by_order}
 use Rattle.iocm_types.specs.Name.{is_name}
-use Rattle.iocm_values.specs.CssLists.{begins_with_css, begins_with_group, css_number, has_items, group, group_of, by_css_items, in_css_order, by_css}
+use Rattle.iocm_values.specs.CssLists.{begins_with_css, begins_with_group, is_group, css_number, has_items, group, group_of, by_css_items, in_css_order, by_css}
 use Rattle.iocm_values.specs.NameSet.{name_cmp, with_name, name_set}
 use Rattle.iocm_values.specs.Reading.{◌>>=◌, every, gathered}
 use Rattle.iocm_values.specs.Value.{Value, word, list, items}
@@ -215,12 +215,14 @@ module _ {A : Type 0} (P : A → Type 0) (read : ℕ → Value → Option A) (is
       )
 
   items_gave : (vs : List Value) (ys : List A) → vs ≢ [] → by_css_items false read vs ≡ Some ys → All P ys × (ys ≢ [])
-  items_gave vs ys some e = by (begins_with_css vs) (begins_with_group vs) e
+  items_gave vs ys some e = by (begins_with_css vs) (begins_with_group vs) (list_any is_group vs) e
     where
-      by : (alone groups : Bool) → cond alone (group false read vs) (cond groups (gathered (group_of false read) vs) (every (read 0) vs)) ≡ Some ys → All P ys × (ys ≢ [])
-      by true groups e = group_gave vs ys e
-      by false true e = let gave = groups_gave vs ys e in (gave.0, gave.1 some)
-      by false false e = let gave = every_gave P (read 0) (λ v a. is 0 v a (omega arith)) vs ys e in (gave.0, gave.1 some)
+      by : (alone groups mixed : Bool)
+          → cond alone (group false read vs) (cond groups (gathered (group_of false read) vs) (cond mixed None (every (read 0) vs))) ≡ Some ys → All P ys × (ys ≢ [])
+      by true groups mixed e = group_gave vs ys e
+      by false true mixed e = let gave = groups_gave vs ys e in (gave.0, gave.1 some)
+      by false false true e = no_value ys e
+      by false false false e = let gave = every_gave P (read 0) (λ v a. is 0 v a (omega arith)) vs ys e in (gave.0, gave.1 some)
 
 level_some : (v : Value) (vs : List Value) → items v ≡ Some vs → vs ≢ []
 level_some (word text) vs e = no_value vs e

@@ -1,5 +1,6 @@
 pub mod Joined
 pub mod Levels
+pub mod Looking
 pub mod Naming
 pub mod Numerals
 pub mod Passing

@@ -1,7 +1,7 @@
 -- Lists by channel subsystem: ((CSS(0),..),(CSS(1),..)), one such group alone, or items alone for CSS 0.
 -- IOCP User's Guide, PATH and PARTITION keywords; which forms are taken is own.
 use Rattle.std.specs.Prelude.{ℕ, ◌==◌, Bool, true, false, is_some, not, if◌then◌else◌, Option, None, Some, List, [], ◌∷◌, filter, length, codes}
-use Rattle.std.specs.List.{flat_map}
+use Rattle.std.specs.List.{flat_map, list_any}
 use Rattle.std.specs.Option.{option_and_then, option_map_or}
 use Rattle.iocm_values.specs.Digits.{decimal_of}
 use Rattle.iocm_values.specs.Reading.{◌>>=◌, every, gathered}
@@ -37,16 +37,22 @@ group may_lack read _ = None
 abbrev pub group_of : {A : Type 0} → Bool → (ℕ → Value → Option A) → Value → Option (List A)
 group_of may_lack read v = items v >>= group may_lack read
 
--- whether the first item is a group: a list whose first item is CSS(..)
+-- a group: a list whose first item is CSS(..)
+abbrev pub is_group : Value → Bool
+is_group (list inner) = option_map_or begins_with_css (values inner) false
+is_group _ = false
+
+-- whether the first item is a group
 abbrev pub begins_with_group : List Value → Bool
-begins_with_group (list inner ∷ items) = option_map_or begins_with_css (values inner) false
+begins_with_group (v ∷ items) = is_group v
 begins_with_group _ = false
 
--- one group alone, groups, or items alone for CSS 0
+-- one group alone, groups, or items alone for CSS 0; groups and other items don't mix
 abbrev pub by_css_items : {A : Type 0} → Bool → (ℕ → Value → Option A) → List Value → Option (List A)
 by_css_items may_lack read items =
     if begins_with_css items then group may_lack read items
     else if begins_with_group items then gathered (group_of may_lack read) items
+    else if list_any is_group items then None
     else every (read 0) items
 
 -- with channel subsystems ascending, and each one's in the order of the text

@@ -1,4 +1,5 @@
 ghost use Rattle.std.specs.Prelude.{◌≡◌, ◌==◌, ◌++◌, map, filter, OnOk, IfOk};
+ghost use Rattle.std.specs.List.{list_any};
 ghost use Rattle.std.specs.Option.{option_copied};
 ghost use Rattle.iocm_statements.specs.Unread.{Reads};
 ghost use Rattle.iocm_values.specs.CssLists as meaning;
@@ -123,18 +124,39 @@ fn read_groups<T: CssItem>(alloc: Global, items: &[Value]) -> Result<Vec<T>, Unr
     Ok(found)
 }
 
-/// Whether the first item is a list whose first item is `CSS(..)`.
-pub fn begins_with_group(alloc: Global, items: &[Value]) -> Result<bool, AllocError>
-    ensures { IfOk result (λ answer. answer ≡ meaning.begins_with_group (map seen items.now)) }
+// Whether a value is a list whose first item is `CSS(..)`.
+fn is_group(alloc: Global, value: Value) -> Result<bool, AllocError>
+    ensures { IfOk result (λ answer. answer ≡ meaning.is_group (seen value.entry)) }
 {
-    match items {
-        [Value::List(inner), ..] => match values(alloc, inner) {
+    match value {
+        Value::List(inner) => match values(alloc, inner) {
             Ok(items) => Ok(begins_with_css(&items)),
             Err(Unread::Malformed) => Ok(false),
             Err(Unread::Memory) => Err(AllocError),
         },
+        Value::Word(_) => Ok(false),
+    }
+}
+
+fn begins_with_group(alloc: Global, items: &[Value]) -> Result<bool, AllocError>
+    ensures { IfOk result (λ answer. answer ≡ meaning.begins_with_group (map seen items.now)) }
+{
+    match items {
+        [first, ..] => is_group(alloc, *first),
         _ => Ok(false),
     }
+}
+
+#[tactic(auto, using(crate::proofs::Looking::any_steps))]
+fn has_group(alloc: Global, items: &[Value]) -> Result<bool, AllocError>
+    ensures { IfOk result (λ answer. answer ≡ list_any meaning.is_group (map seen items.now)) }
+{
+    for item in items {
+        if is_group(alloc, *item)? {
+            return Ok(true);
+        }
+    }
+    Ok(false)
 }
 
 fn read_items<T: CssItem>(alloc: Global, items: &[Value]) -> Result<Vec<T>, Unread>
@@ -145,6 +167,9 @@ fn read_items<T: CssItem>(alloc: Global, items: &[Value]) -> Result<Vec<T>, Unre
     }
     if begins_with_group(alloc, items)? {
         return read_groups(alloc, items);
+    }
+    if has_group(alloc, items)? {
+        return Err(Unread::Malformed);
     }
     read_each(alloc, Css::FIRST, items)
 }

@@ -16,9 +16,7 @@ mod texts;
 mod value;
 mod word_list;
 
-pub use css_lists::{
-    CssItem, begins_with_css, begins_with_group, by_css, css_number, inside_css, is_css,
-};
+pub use css_lists::{CssItem, begins_with_css, by_css, css_number, inside_css, is_css};
 pub use digits::{decimal, hex, is_decimal_number, is_hex_number};
 pub use name_set::{add_name, names_of, names_text, set_of_names};
 pub use numbers::{count_of, path_number, unit_address, unit_number};
