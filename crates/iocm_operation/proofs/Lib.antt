@@ -5,4 +5,5 @@ mod Rounds
 mod Segments
 mod SoFar
 mod Few
+mod Lines
 mod Ending

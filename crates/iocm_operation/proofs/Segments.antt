@@ -13,13 +13,13 @@ use Rattle.iocm_script.specs.declared.line.Line.{Line}
 use Rattle.iocm_system.specs.Turns.{gained}
 use Rattle.iocm_system.specs.declared.receipt.Receipt.{Receipt}
 use Rattle.iocm_operation.specs.Marks.{Marked, all_of, of_actor, those_of}
-use Rattle.iocm_operation.specs.Placing.{answers_for, replies}
+use Rattle.iocm_operation.specs.Placing.{numbers, numbers_of, places_by, places_for, places_of}
 use Rattle.iocm_operation.specs.Running.{AreAll}
 use Rattle.iocm_operation.specs.Saying.{calls_said}
-use Rattle.iocm_operation.specs.Segments.{AreRun, IsRoundRun, Segment, answers_by, answers_in, answers_of, entries_of, in_order}
+use Rattle.iocm_operation.specs.Segments.{AreRun, IsRoundRun, Segment, entries_of, in_order}
 use Rattle.iocm_operation.specs.SoFar.{segment_of}
 
-abbrev entries_in : List Made → List Entry
+abbrev pub entries_in : List Made → List Entry
 entries_in ms = map (λ (m : Made). m.entry) ms
 
 one_of_one : (n : ℕ) (m : ℕ × Made) (rest : Segment) (kept : Marked) (b : Bool) → entries_of n rest ≡ entries_in (all_of kept)
@@ -28,22 +28,22 @@ one_of_one n m rest kept true e = ap (λ es. m.1.entry ∷ es) e
 one_of_one n m rest kept false e = e
 
 -- those of one actor
-of_one : (n : ℕ) (ms : Marked) → entries_of n (segment_of ms) ≡ entries_in (those_of n ms)
+pub of_one : (n : ℕ) (ms : Marked) → entries_of n (segment_of ms) ≡ entries_in (those_of n ms)
 of_one n [] = refl
 of_one n (m ∷ ms) = one_of_one n m (segment_of ms) (filter (λ (k : ℕ × Made). k.0 == n) ms) (m.0 == n) (of_one n ms)
 
--- the calls and the answers of what was gained
+-- the calls and the places of what was gained
 calls_gained : (cs : List Call) (rs : List Receipt) → length rs ≡ length cs → map (λ (e : Entry). call_in e.call) (entries_in (gained cs rs)) ≡ map call_in cs
 calls_gained [] [] e = refl
 calls_gained [] (r ∷ rs) e = absurd (omega (arith, e))
 calls_gained (c ∷ cs) [] e = absurd (omega (arith, e))
 calls_gained (c ∷ cs) (r ∷ rs) e = ap (λ xs. call_in c ∷ xs) (calls_gained cs rs (omega (arith, e)))
 
-replies_gained : (cs : List Call) (rs : List Receipt) → length rs ≡ length cs → map (λ (e : Entry). e.answer) (entries_in (gained cs rs)) ≡ replies rs
-replies_gained [] [] e = refl
-replies_gained [] (r ∷ rs) e = absurd (omega (arith, e))
-replies_gained (c ∷ cs) [] e = absurd (omega (arith, e))
-replies_gained (c ∷ cs) (r ∷ rs) e = ap (λ xs. r.answer ∷ xs) (replies_gained cs rs (omega (arith, e)))
+numbers_gained : (cs : List Call) (rs : List Receipt) → length rs ≡ length cs → map (λ (m : Made). m.number) (gained cs rs) ≡ numbers rs
+numbers_gained [] [] e = refl
+numbers_gained [] (r ∷ rs) e = absurd (omega (arith, e))
+numbers_gained (c ∷ cs) [] e = absurd (omega (arith, e))
+numbers_gained (c ∷ cs) (r ∷ rs) e = ap (λ xs. r.number ∷ xs) (numbers_gained cs rs (omega (arith, e)))
 
 module _ (p q a b : List Call) (rp rq ra rb : List Receipt) (ms : Marked) (all : AreAll p q a b rp rq ra rb ms) where
   gained_by : (n : ℕ) → entries_of n (segment_of ms) ≡ entries_in (gained (of_actor n p q a b) (of_actor n rp rq ra rb))
@@ -54,16 +54,16 @@ module _ (p q a b : List Call) (rp rq ra rb : List Receipt) (ms : Marked) (all :
   round_is_run ts ls asked n =
       ap (map (λ (e : Entry). call_in e.call)) (gained_by n) ∙ calls_gained (of_actor n p q a b) (of_actor n rp rq ra rb) (all.as_many n) ∙ asked n
 
-  answers_are : (n : ℕ) → replies (of_actor n rp rq ra rb) ≡ answers_in n (segment_of ms)
-  answers_are n = sym (ap (map (λ (e : Entry). e.answer)) (gained_by n) ∙ replies_gained (of_actor n p q a b) (of_actor n rp rq ra rb) (all.as_many n))
+  numbers_are : (n : ℕ) → numbers (of_actor n rp rq ra rb) ≡ numbers_of n ms
+  numbers_are n = sym (ap (map (λ (m : Made). m.number)) (all.gained_are n) ∙ numbers_gained (of_actor n p q a b) (of_actor n rp rq ra rb) (all.as_many n))
 
-  pub answers_are_those : (ls : List Line) → answers_for ls rp rq ra rb
-      ≡ answers_by ls (answers_in 0 (segment_of ms)) (answers_in 1 (segment_of ms)) (answers_in 2 (segment_of ms)) (answers_in 3 (segment_of ms))
-  answers_are_those ls =
-      ap (λ xs. answers_by ls xs (replies rq) (replies ra) (replies rb)) (answers_are 0)
-      ∙ ap (λ xs. answers_by ls (answers_in 0 (segment_of ms)) xs (replies ra) (replies rb)) (answers_are 1)
-      ∙ ap (λ xs. answers_by ls (answers_in 0 (segment_of ms)) (answers_in 1 (segment_of ms)) xs (replies rb)) (answers_are 2)
-      ∙ ap (λ xs. answers_by ls (answers_in 0 (segment_of ms)) (answers_in 1 (segment_of ms)) (answers_in 2 (segment_of ms)) xs) (answers_are 3)
+  -- each line takes the place of its own call
+  pub places_are_those : (ls : List Line) → places_for ls rp rq ra rb ≡ places_by ls (numbers_of 0 ms) (numbers_of 1 ms) (numbers_of 2 ms) (numbers_of 3 ms)
+  places_are_those ls =
+      ap (λ xs. places_by ls xs (numbers rq) (numbers ra) (numbers rb)) (numbers_are 0)
+      ∙ ap (λ xs. places_by ls (numbers_of 0 ms) xs (numbers ra) (numbers rb)) (numbers_are 1)
+      ∙ ap (λ xs. places_by ls (numbers_of 0 ms) (numbers_of 1 ms) xs (numbers rb)) (numbers_are 2)
+      ∙ ap (λ xs. places_by ls (numbers_of 0 ms) (numbers_of 1 ms) (numbers_of 2 ms) xs) (numbers_are 3)
 
 -- one round behind others
 pub one_run_more : (ts : List ChangeTree) (rounds : List (List Line)) (ss : List Segment) (ls : List Line) (s : Segment) → AreRun ts rounds ss → IsRoundRun ts ls s
@@ -73,15 +73,15 @@ one_run_more ts [] (x ∷ ss) ls s are one = absurd are
 one_run_more ts (r ∷ rounds) [] ls s are one = absurd are
 one_run_more ts (r ∷ rounds) (x ∷ ss) ls s are one = (are.0, one_run_more ts rounds ss ls s are.1 one)
 
-pub answers_of_more : (ts : List ChangeTree) (rounds : List (List Line)) (ss : List Segment) (ls : List Line) (s : Segment) → AreRun ts rounds ss
-    → answers_of (rounds ++ ls ∷ []) (ss ++ s ∷ []) ≡ answers_of rounds ss ++ answers_by ls (answers_in 0 s) (answers_in 1 s) (answers_in 2 s) (answers_in 3 s)
-answers_of_more ts [] [] ls s are = append-nil (answers_by ls (answers_in 0 s) (answers_in 1 s) (answers_in 2 s) (answers_in 3 s))
-answers_of_more ts [] (x ∷ ss) ls s are = absurd are
-answers_of_more ts (r ∷ rounds) [] ls s are = absurd are
-answers_of_more ts (r ∷ rounds) (x ∷ ss) ls s are =
-    ap (λ xs. answers_by r (answers_in 0 x) (answers_in 1 x) (answers_in 2 x) (answers_in 3 x) ++ xs) (answers_of_more ts rounds ss ls s are.1)
-    ∙ sym (append_assoc (answers_by r (answers_in 0 x) (answers_in 1 x) (answers_in 2 x) (answers_in 3 x)) (answers_of rounds ss)
-    (answers_by ls (answers_in 0 s) (answers_in 1 s) (answers_in 2 s) (answers_in 3 s)))
+pub places_of_more : (ts : List ChangeTree) (rounds : List (List Line)) (parts : List Marked) (ls : List Line) (ms : Marked) → AreRun ts rounds (map segment_of parts)
+    → places_of (rounds ++ ls ∷ []) (parts ++ ms ∷ []) ≡ places_of rounds parts ++ places_by ls (numbers_of 0 ms) (numbers_of 1 ms) (numbers_of 2 ms) (numbers_of 3 ms)
+places_of_more ts [] [] ls ms are = append-nil (places_by ls (numbers_of 0 ms) (numbers_of 1 ms) (numbers_of 2 ms) (numbers_of 3 ms))
+places_of_more ts [] (x ∷ parts) ls ms are = absurd are
+places_of_more ts (r ∷ rounds) [] ls ms are = absurd are
+places_of_more ts (r ∷ rounds) (x ∷ parts) ls ms are =
+    ap (λ ks. places_by r (numbers_of 0 x) (numbers_of 1 x) (numbers_of 2 x) (numbers_of 3 x) ++ ks) (places_of_more ts rounds parts ls ms are.1)
+    ∙ sym (append_assoc (places_by r (numbers_of 0 x) (numbers_of 1 x) (numbers_of 2 x) (numbers_of 3 x)) (places_of rounds parts)
+    (places_by ls (numbers_of 0 ms) (numbers_of 1 ms) (numbers_of 2 ms) (numbers_of 3 ms)))
 
 pub map_more : (parts : List Marked) (ms : Marked) → map segment_of (parts ++ ms ∷ []) ≡ map segment_of parts ++ segment_of ms ∷ []
 map_more [] ms = refl

@@ -4,4 +4,5 @@ pub mod Asked
 pub mod Segments
 pub mod Running
 pub mod Placing
+pub mod Answering
 pub mod SoFar

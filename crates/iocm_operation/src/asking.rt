@@ -82,7 +82,7 @@ fn add(alloc: Global, trees: &[Tree], round: &mut Round, line: &Line) -> Result<
 
 /// The calls of a round's lines, of each actor in their order.
 ///
-/// `AllocError` (M1): memory was wanted.
+/// `AllocError` (M1): memory was missing.
 pub(crate) fn round_of(alloc: Global, trees: &[Tree], lines: &[Line]) -> Result<Round, AllocError>
     ensures { IfOk result (λ round. AreAsked (trees_in trees.now) lines.now round) }
 {

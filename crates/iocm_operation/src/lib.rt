@@ -3,8 +3,9 @@
 //!
 //! `operate` opens a system round a core, runs the rounds, and closes it (`operating.rt`). In a
 //! round the lines of both images and both operators ask for calls at the same time (`asking.rt`,
-//! `round.rt`). The next round begins once all are answered. Each line then takes the answer of its
-//! call (`running.rt`).
+//! `round.rt`). The next round begins once all are answered. Each line keeps the place of its call
+//! in the trace (`placing.rt`); once the machine is closed it gets the answer there
+//! (`answering.rt`).
 //!
 //! What the layer above may rely on is one sentence, `IsOperation`. The trace is a legal history,
 //! in which each line's call stands once, along each actor in order, each round behind the one
@@ -16,11 +17,13 @@
 #![tactic(auto)]
 
 mod answered;
+mod answering;
 mod asking;
 mod operated;
 mod operating;
+mod placed;
+mod placing;
 mod round;
-mod running;
 
 pub use answered::Answered;
 pub use operated::Operated;

@@ -4,18 +4,20 @@ ghost use Rattle.std.specs.List.{AllByRecursion};
 ghost use Rattle.iocm_board.specs.Names.{is_whole};
 ghost use Rattle.iocm_board.specs.Views.{first_view};
 ghost use Rattle.iocm_board.specs.declared.view.Made as its_made;
+ghost use Rattle.iocm_operation.specs.Answering.{answers_at};
 ghost use Rattle.iocm_operation.specs.Asked.{trees_in};
 ghost use Rattle.iocm_operation.specs.Running.{IsOperation};
 ghost use Rattle.iocm_operation.specs.SoFar.{GoesOn, IsSoFar};
 ghost use Rattle.iocm_script.specs.Scripts.{FitsQueue};
 
-use crate::answered::Answered;
+use crate::answering::answer_lines;
 use crate::asking::round_of;
 use crate::operated::Operated;
+use crate::placed::Placed;
+use crate::placing::{Hands, place_lines};
 use crate::round::{Ran, run_round};
-use crate::running::{Hands, answer_lines};
 use iocm_board::{Blank, Identity};
-use iocm_core::Core;
+use iocm_core::{Closed, Core};
 use iocm_script::{Line, Script};
 use iocm_system::{Caller, System};
 use iocm_tree::Tree;
@@ -29,7 +31,7 @@ use std::thread::Threads;
 #[derive(Drop)]
 struct SoFar<B: Identity> {
     caller: Caller<B>,
-    answers: Vec<Answered>,
+    places: Vec<Placed>,
 }
 
 /// Runs one round more.
@@ -47,10 +49,7 @@ fn go_on<B: Identity + Send + Sync, R: Threads + Wait + Sync>(
     requires fits { FitsQueue lines.now }
     ensures { IfOk result (λ more. GoesOn (trees_in trees.now) lines.now so_far more) }
 {
-    let SoFar {
-        caller,
-        mut answers,
-    } = so_far;
+    let SoFar { caller, mut places } = so_far;
     let Ok(round) = round_of(alloc, trees, lines) else {
         return Err(Rule::M1);
     };
@@ -72,10 +71,10 @@ fn go_on<B: Identity + Send + Sync, R: Threads + Wait + Sync>(
         a: a.as_slice(),
         b: b.as_slice(),
     };
-    let Ok(()) = answer_lines(lines, hands, &mut answers) else {
+    let Ok(()) = place_lines(lines, hands, &mut places) else {
         return Err(Rule::M1);
     };
-    Ok(SoFar { caller, answers })
+    Ok(SoFar { caller, places })
 }
 
 /// Runs rounds, one after the other.
@@ -91,16 +90,27 @@ fn run_rounds<B: Identity + Send + Sync, R: Threads + Wait + Sync>(
     requires whole { is_whole me.names ≡ true }
     requires new { me.receipts ≡ [] }
     requires fits { All FitsQueue rounds.now }
-    ensures { IfOk result (λ done. IsSoFar (trees_in trees.now) rounds.now me done.caller done.answers.items) }
+    ensures { IfOk result (λ done. IsSoFar (trees_in trees.now) rounds.now me done.caller done.places.items) }
 {
     let mut so_far = SoFar {
         caller: me,
-        answers: Vec::new(alloc),
+        places: Vec::new(alloc),
     };
     for lines in rounds {
         so_far = go_on(rt, alloc, system, so_far, trees, lines.as_slice())?;
     }
     Ok(so_far)
+}
+
+/// What came of a script whose lines have these places in the trace.
+fn answered(alloc: Global, closed: Closed, places: &[Placed]) -> Result<Operated, Rule>
+    ensures closed { IfOk result (λ o. o.closed ≡ closed) }
+    ensures answers { IfOk result (λ o. o.answers.items ≡ answers_at closed.trace.entries.items places.now) }
+{
+    match answer_lines(alloc, &closed.trace.entries, places) {
+        Ok(answers) => Ok(Operated { closed, answers }),
+        Err(_) => Err(Rule::M1),
+    }
 }
 
 /// Runs a script on a board that is named.
@@ -120,12 +130,9 @@ fn operate_named<B: Identity + Send + Sync, R: Threads + Wait + Sync>(
 {
     let (board, keeper) = blank.named::<B>(1);
     let (system, me) = System::open(alloc, core, board, keeper);
-    let SoFar { caller, answers } = run_rounds(rt, alloc, &system, me, trees, rounds)?;
+    let SoFar { caller, places } = run_rounds(rt, alloc, &system, me, trees, rounds)?;
     match system.close(caller) {
-        Ok(core) => Ok(Operated {
-            closed: core.close(),
-            answers,
-        }),
+        Ok(core) => answered(alloc, core.close(), &places),
         Err(unclosed) => Err(unclosed.rule),
     }
 }
@@ -134,7 +141,7 @@ fn operate_named<B: Identity + Send + Sync, R: Threads + Wait + Sync>(
 /// all actors at the same time. `trees` are the change trees that the script names by number, from
 /// 1.
 ///
-/// The rule: M1, memory was wanted; O3, the trace became full; X1 doesn't come.
+/// The rule: M1, memory was missing; O3, the trace became full; X1 doesn't come.
 pub fn operate<R: Threads + Wait + Sync>(
     rt: &R,
     alloc: Global,

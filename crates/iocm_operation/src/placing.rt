@@ -1,11 +1,11 @@
-//! The answers of a round, each at its line.
+//! The calls of a round, each at its line. A line keeps the place of its call in the trace and not
+//! the answer, which the trace has: so the answers of a long script lie in memory once.
 ghost use Rattle.std.specs.Prelude.{◌≡◌, ◌++◌, IfOk, OnOk};
-ghost use Rattle.iocm_operation.specs.Placing.{answers_of_hands, given, Answers, AreCut, Takes};
+ghost use Rattle.iocm_operation.specs.Placing.{given_place, places_of_hands, AreCut, Places, Takes};
 
-use crate::answered::Answered;
+use crate::placed::Placed;
 use iocm_script::{ImageThread, Line, OperatorThread, Said};
 use iocm_system::Receipt;
-use iocm_types::Answer;
 use std::alloc::AllocError;
 
 /// The receipts of each actor that its lines have not taken yet.
@@ -17,8 +17,8 @@ pub(crate) struct Hands<'a> {
     pub b: &'a [Receipt],
 }
 
-/// The answer that a line takes, if there is one for it, and what is left.
-fn take<'a>(said: &Said, hands: Hands<'a>) -> (Option<Answer>, Hands<'a>)
+/// The place that a line takes, if there is one for it, and what is left.
+fn take<'a>(said: &Said, hands: Hands<'a>) -> (Option<u64>, Hands<'a>)
     ensures { Takes said.now hands.entry result.0 result.1 }
 {
     let Hands { p, q, a, b } = hands;
@@ -42,54 +42,51 @@ fn take<'a>(said: &Said, hands: Hands<'a>) -> (Option<Answer>, Hands<'a>)
     }
 }
 
-/// The answer of the first of some receipts, if there is one, and the others.
-fn cut(receipts: &[Receipt]) -> (Option<Answer>, &[Receipt])
+/// The number of the first of some receipts, if there is one, and the others.
+fn cut(receipts: &[Receipt]) -> (Option<u64>, &[Receipt])
     ensures { AreCut receipts.now result.0 result.1.now }
 {
     match receipts.split_first() {
-        Some((first, rest)) => (Some(first.answer), rest),
+        Some((first, rest)) => (Some(first.number), rest),
         None => (None, receipts),
     }
 }
 
-/// Adds the answer to a line, if there is one.
-fn add(answers: &mut Vec<Answered>, line: usize, first: Option<Answer>) -> Result<(), AllocError>
-    ensures { OnOk result (answers.new.items ≡ answers.old.items ++ given line first) }
+/// Adds a line with the place of its call, if there is one.
+fn add(places: &mut Vec<Placed>, line: usize, first: Option<u64>) -> Result<(), AllocError>
+    ensures { OnOk result (places.new.items ≡ places.old.items ++ given_place line first) }
 {
-    let Some(answer) = first else {
+    let Some(number) = first else {
         return Ok(());
     };
-    // The prover finds the parts of an answer by this.
-    let _none: &[Answered] = &[];
-    answers.push(Answered { line, answer })?;
+    places.push(Placed { line, number })?;
     Ok(())
 }
 
-/// Adds the answer to a line, and gives what is left.
-fn answer_line<'a>(
+/// Adds a line with the place of its call, and gives what is left.
+fn place_line<'a>(
     line: &Line,
     hands: Hands<'a>,
-    answers: &mut Vec<Answered>,
+    places: &mut Vec<Placed>,
 ) -> Result<Hands<'a>, AllocError>
-    ensures { IfOk result (λ left. Answers line.now hands.entry left answers.old.items answers.new.items) }
+    ensures { IfOk result (λ left. Places line.now hands.entry left places.old.items places.new.items) }
 {
     let (first, left) = take(&line.said, hands);
-    add(answers, line.line, first)?;
+    add(places, line.line, first)?;
     Ok(left)
 }
 
-/// Adds the answers to the lines of a round, of whose receipts each line takes the next of its
-/// actor.
-pub(crate) fn answer_lines(
+/// Adds the lines of a round, of whose receipts each line takes the next of its actor.
+pub(crate) fn place_lines(
     lines: &[Line],
     hands: Hands<'_>,
-    answers: &mut Vec<Answered>,
+    places: &mut Vec<Placed>,
 ) -> Result<(), AllocError>
-    ensures { OnOk result (answers.new.items ≡ answers.old.items ++ answers_of_hands lines.now hands.entry) }
+    ensures { OnOk result (places.new.items ≡ places.old.items ++ places_of_hands lines.now hands.entry) }
 {
     let mut left = hands;
     for line in lines {
-        left = answer_line(line, left, answers)?;
+        left = place_line(line, left, places)?;
     }
     Ok(())
 }
