@@ -1,9 +1,11 @@
 -- What a command line means, as `clap` reads it.
-use Rattle.std.specs.Prelude.{◌≡◌, ◌==◌, ◌⊎◌, ℕ, Bool, true, false, List, [], ◌∷◌, ◌++◌, Option, Some, None, codes, option_map, unwrap_or, ⊤}
+use Rattle.std.specs.Prelude.{◌≡◌, ◌==◌, ◌⊎◌, ℕ, Bool, true, false, List, [], ◌∷◌, ◌++◌, Option, Some, None, codes}
+use Rattle.std.specs.Prelude.{option_map, unwrap_or, ⊤}
 use Rattle.std.specs.List.{All}
 use Rattle.std.specs.Str.Parse.{digits_value, without_leading_plus}
 use Rattle.clap.specs.Walk.{texts}
-use Rattle.clap.specs.Words.{App, Row, Rule, Text, Kinds, IsUnsignedIn, new_app, new_rule, with_rule, with_subcommand, subcommand_of, all_of, first_of, fault_of}
+use Rattle.clap.specs.Words.{App, Row, Rule, Text, Kinds, IsUnsignedIn, new_app, new_rule, with_rule, with_subcommand}
+use Rattle.clap.specs.Words.{subcommand_of, all_of, first_of, fault_of}
 use Rattle.clap.specs.Kinds.{or_else}
 use Rattle.clap.specs.declared.builder.action.ArgAction.TheVariants.{Append, SetTrue}
 use Rattle.clap.specs.declared.builder.command.Command as clap
@@ -38,7 +40,7 @@ heap_rule = record (new_rule (codes "heap")) {
 abbrev pub deck_app : Text → App
 deck_app name = with_rule (new_app name) (file_rule (codes "DECK"))
 
--- that the change deck that takes the change back is wanted, by a flag
+-- that the change deck that takes the change back is asked for, by a flag
 abbrev pub undo_rule : Rule
 undo_rule = record (new_rule (codes "undo")) { long = Some (codes "undo"); action = Some SetTrue }
 
@@ -48,7 +50,9 @@ apply_app = with_rule (with_rule (with_rule (deck_app (codes "apply")) (file_rul
 
 -- `run`, with its deck, its script, its change decks and the size of their heaps
 abbrev pub run_app : App
-run_app = with_rule (with_rule (with_rule (deck_app (codes "run")) (file_rule (codes "SCRIPT"))) (changes_rule (codes "CHANGE"))) heap_rule
+run_app =
+    let files = with_rule (deck_app (codes "run")) (file_rule (codes "SCRIPT")) in
+    with_rule (with_rule files (changes_rule (codes "CHANGE"))) heap_rule
 
 -- whether an argument of the command is one of all commands below it too
 abbrev pub has_globals : clap.Command → Bool
@@ -64,7 +68,8 @@ with_deck_command app name = with_subcommand app (deck_app name).top
 
 -- the program with the commands that read a deck and nothing else
 abbrev pub decks_app : App
-decks_app = with_deck_command (with_deck_command (with_deck_command bare_app (codes "check")) (codes "show")) (codes "write")
+decks_app =
+    with_deck_command (with_deck_command (with_deck_command bare_app (codes "check")) (codes "show")) (codes "write")
 
 -- the program, with its commands
 abbrev pub iocm_app : App
@@ -94,6 +99,13 @@ request_words (Apply deck change heap report) = (codes "apply", Some deck.now)
 abbrev pub words_of : Command → Text × Option Text
 words_of (Answer request) = request_words request
 words_of (Run deck script changes heap) = (codes "run", Some deck.now)
+
+-- the words name the request, or the command, and its deck
+abbrev pub HasRequest : Option (Text × List Row) → Request → Type 0
+HasRequest named request = argument_of (codes "DECK") named ≡ Some (request_words request)
+
+abbrev pub HasCommand : Option (Text × List Row) → Command → Type 0
+HasCommand named command = argument_of (codes "DECK") named ≡ Some (words_of command)
 
 -- the change deck of a request, if it has one
 abbrev pub change_of : Request → Option Text
@@ -170,7 +182,8 @@ StatesApply words = (mistakes words ≡ []) × IsApply (subcommand_of iocm_app w
 
 -- they are those of `run` with a deck, a script, change decks and a size
 abbrev pub IsRun : Option (Text × List Row) → Type 0
-IsRun named = (deck script size : Text) × (changes : List Text) × IsRunOf named deck script changes size × IsSizeText size
+IsRun named =
+    (deck script size : Text) × (changes : List Text) × IsRunOf named deck script changes size × IsSizeText size
 
 -- the words have no mistake, and state `run` with these
 abbrev pub StatesRun : List Text → Type 0

@@ -1,7 +1,11 @@
-ghost use Rattle.std.specs.Prelude.{◌≡◌, ◌+◌, ◌^◌, ◌<◌, ◌⊎◌, ℕ, List, Some, None, IsSome, Err, false, true, IfOk, IfSome};
-ghost use Rattle.iocm_columns.specs.Device.{reader_of, reads_of, IsOpen, StopsShort};
+ghost use Rattle.std.specs.Prelude.{◌≡◌, ◌+◌, ◌^◌, ◌<◌, ◌≤◌, ◌⊎◌, ℕ, List, Some, None, IsSome, Err, false, true};
+ghost use Rattle.std.specs.Prelude.{IfOk, IfSome, OnOk};
+ghost use Rattle.iocm_types.specs.Fault.{memory};
+ghost use Rattle.iocm_columns.specs.Device.{reader_of, reads_of, IsOpen, IsWhole, StopsShort};
+ghost use Rattle.iocm_console.specs.declared.status.Status.TheVariants.{Done};
 ghost use Rattle.iocm_console.specs.Output.{has_failed};
-ghost use Rattle.iocm_console.specs.Opening.{SaysIfMemory};
+ghost use Rattle.iocm_console.specs.Opening.{refused, Says, SaysIfMemory};
+ghost use Rattle.iocm_apply.specs.Apply.{IsRefusedDeck};
 ghost use Rattle.iocm.specs.Answer.{printed};
 ghost use Rattle.iocm.specs.CommandLine.{change_of};
 
@@ -31,11 +35,24 @@ pub fn print_answer<R: Read, S: Read, W: Write>(
     requires room { reads_of deck.old + limit < 2 ^ 64 }
     requires room_change { reads_of change.old + limit < 2 ^ 64 }
     requires works { has_failed output.old ≡ false }
-    ensures known_bytes { IfSome (R.remaining (reader_of deck.old)) (λ bytes. (lines : List ℕ) → (IsSome (change_of request.entry) → S.remaining (reader_of change.old) ≡ Some lines) → IfOk result (SaysIfMemory W.contents output.old output.new (printed request.entry bytes lines))) }
-    ensures some_bytes { (bytes : List ℕ) × (lines : List ℕ) × IfOk result (SaysIfMemory W.contents output.old output.new (printed request.entry bytes lines)) }
+    ensures reads { reads_of deck.new ≤ reads_of deck.old + limit }
+    ensures reads_change { reads_of change.new ≤ reads_of change.old + limit }
+    ensures known_bytes { IfSome (R.remaining (reader_of deck.old)) (λ bytes. (lines : List ℕ)
+        → (IsSome (change_of request.entry) → S.remaining (reader_of change.old) ≡ Some lines)
+        → IfOk result (SaysIfMemory W.contents output.old output.new (printed request.entry bytes lines))) }
+    ensures some_bytes { (bytes : List ℕ) × (lines : List ℕ)
+        × IfOk result (SaysIfMemory W.contents output.old output.new (printed request.entry bytes lines)) }
+    ensures whole { IfOk result (λ status. IsWhole deck.new
+        ⊎ Says W.contents output.old output.new (refused memory) status) }
+    ensures whole_change { IfOk result (λ status. status ≡ Done
+        → IsSome (change_of request.entry) → IsWhole change.new) }
+    ensures written { OnOk result (has_failed output.new ≡ false) }
     ensures untouched { change_of request.entry ≡ None → change.new ≡ change.old }
     ensures unreadable { result ≡ Err ConsoleError.Read → StopsShort deck.new (reads_of deck.old + limit)
         ⊎ (IsSome (change_of request.entry) × StopsShort change.new (reads_of change.old + limit)) }
+    ensures first { IfSome (R.remaining (reader_of deck.old)) (λ bytes. IsRefusedDeck bytes
+        → result ≡ Err ConsoleError.Read → StopsShort deck.new (reads_of deck.old + limit)) }
+    ensures unwritten { result ≡ Err ConsoleError.Read → output.new ≡ output.old }
     ensures unwritable { result ≡ Err ConsoleError.Write → has_failed output.new ≡ true }
 {
     match request {

@@ -2,8 +2,13 @@ ghost use Rattle.std.specs.Prelude.{◌≡◌, [], List, Some, IsSome, IfOk, IfE
 ghost use Rattle.clap.specs.Walk.{texts};
 ghost use Rattle.clap.specs.Words.{HasKind, Text, app_of, kind_of, rule_of, subcommand_rows_of};
 ghost use Rattle.iocm_apply.specs.declared.report.Report.{Report};
-ghost use Rattle.iocm.specs.CommandLine.{iocm_app, apply_app, argument_of, arguments_of, bare_app, change_of, changes_rule, deck_app, decks_app, file_rule, flag_text, has_globals, heap_rule, request_words, run_app, undo_rule};
-ghost use Rattle.iocm.specs.CommandLine.{stated, with_deck_command, words_of, mistakes, mistakes_or_missing, GivesSize, HasArguments, HasChange, IsApply, IsAsNamed, IsDeckCommand, IsRun, IsSizeText, NamesApply, NamesDeck, NamesRun, StatesApply, StatesArguments, StatesDeck, StatesRun};
+ghost use Rattle.iocm.specs.CommandLine.{iocm_app, apply_app, argument_of, arguments_of, bare_app, change_of};
+ghost use Rattle.iocm.specs.CommandLine.{changes_rule, deck_app, decks_app, file_rule, flag_text, has_globals};
+ghost use Rattle.iocm.specs.CommandLine.{heap_rule, request_words, run_app, undo_rule};
+ghost use Rattle.iocm.specs.CommandLine.{stated, with_deck_command, mistakes, mistakes_or_missing, GivesSize};
+ghost use Rattle.iocm.specs.CommandLine.{HasArguments, HasChange, HasCommand, HasRequest, IsApply, IsAsNamed};
+ghost use Rattle.iocm.specs.CommandLine.{IsDeckCommand, IsRun, IsSizeText, NamesApply, NamesDeck, NamesRun};
+ghost use Rattle.iocm.specs.CommandLine.{words_of, StatesApply, StatesArguments, StatesDeck, StatesRun};
 
 use clap::builder::ValueParser;
 use clap::error::ErrorKind;
@@ -114,7 +119,7 @@ fn heap<'a>(alloc: Global, help: &'a str) -> Arg<'a>
         .help(help)
 }
 
-/// The flag `--undo`: that the change deck that takes the change back is wanted.
+/// The flag `--undo`: that the change deck that takes the change back is asked for.
 fn undo<'a>(alloc: Global) -> Arg<'a>
     ensures rule { rule_of result ≡ undo_rule }
     ensures local { result.global ≡ false }
@@ -244,8 +249,10 @@ fn values_of<'a>(
     name: &str,
     argument: &str,
 ) -> Result<Option<Vec<&'a str>>, AllocError>
-    ensures some { IfOk result (λ found. IfSome found (λ values. arguments_of argument.now (subcommand_rows_of matches.now) ≡ Some (name.now, texts values.items))) }
-    ensures only { IfOk result (λ found. (values : List Text) → arguments_of argument.now (subcommand_rows_of matches.now) ≡ Some (name.now, values) → IsSome found) }
+    ensures some { IfOk result (λ found. IfSome found (λ values.
+        arguments_of argument.now (subcommand_rows_of matches.now) ≡ Some (name.now, texts values.items))) }
+    ensures only { IfOk result (λ found. (values : List Text)
+        → arguments_of argument.now (subcommand_rows_of matches.now) ≡ Some (name.now, values) → IsSome found) }
 {
     let Some(found) = matches.subcommand_matches(name) else {
         return Ok(None);
@@ -281,7 +288,7 @@ fn report_of(flag: &str) -> Option<Report>
 /// The request of `apply`, where the words name it, with its decks, the size of its heap and its
 /// report.
 fn apply_in<'a>(matches: &ArgMatches<'a>) -> Option<Request<'a>>
-    ensures some { IfSome result (λ r. argument_of (codes "DECK") (subcommand_rows_of matches.now) ≡ Some (request_words r)) }
+    ensures some { IfSome result (HasRequest (subcommand_rows_of matches.now)) }
     ensures change { IfSome result (HasChange (subcommand_rows_of matches.now)) }
     ensures only { IsApply (subcommand_rows_of matches.now) → IsSome result }
 {
@@ -299,7 +306,7 @@ fn apply_in<'a>(matches: &ArgMatches<'a>) -> Option<Request<'a>>
 
 /// The request that the words name, with its deck and what else it takes.
 fn request_in<'a>(matches: &ArgMatches<'a>) -> Option<Request<'a>>
-    ensures some { IfSome result (λ r. argument_of (codes "DECK") (subcommand_rows_of matches.now) ≡ Some (request_words r)) }
+    ensures some { IfSome result (HasRequest (subcommand_rows_of matches.now)) }
     ensures change { IfSome result (HasChange (subcommand_rows_of matches.now)) }
     ensures only { (name deck : Text) → IsDeckCommand name → argument_of (codes "DECK") (subcommand_rows_of matches.now) ≡ Some (name, Some deck) → IsSome result }
     ensures only_apply { IsApply (subcommand_rows_of matches.now) → IsSome result }
@@ -319,7 +326,7 @@ fn request_in<'a>(matches: &ArgMatches<'a>) -> Option<Request<'a>>
 /// The command `run`, where the words name it, with its deck, its script, its change decks and the
 /// size of their heaps.
 fn run_in<'a>(alloc: Global, matches: &ArgMatches<'a>) -> Result<Option<Command<'a>>, AllocError>
-    ensures some { IfOk result (λ found. IfSome found (λ c. argument_of (codes "DECK") (subcommand_rows_of matches.now) ≡ Some (words_of c))) }
+    ensures some { IfOk result (λ found. IfSome found (HasCommand (subcommand_rows_of matches.now))) }
     ensures arguments { IfOk result (λ found. IfSome found (HasArguments (subcommand_rows_of matches.now))) }
     ensures only { IfOk result (λ found. IsRun (subcommand_rows_of matches.now) → IsSome found) }
 {
@@ -348,9 +355,10 @@ fn command_in<'a>(
     alloc: Global,
     matches: &ArgMatches<'a>,
 ) -> Result<Option<Command<'a>>, AllocError>
-    ensures some { IfOk result (λ found. IfSome found (λ c. argument_of (codes "DECK") (subcommand_rows_of matches.now) ≡ Some (words_of c))) }
+    ensures some { IfOk result (λ found. IfSome found (HasCommand (subcommand_rows_of matches.now))) }
     ensures arguments { IfOk result (λ found. IfSome found (HasArguments (subcommand_rows_of matches.now))) }
-    ensures only { IfOk result (λ found. (name deck : Text) → IsDeckCommand name → argument_of (codes "DECK") (subcommand_rows_of matches.now) ≡ Some (name, Some deck) → IsSome found) }
+    ensures only { IfOk result (λ found. (name deck : Text) → IsDeckCommand name
+        → argument_of (codes "DECK") (subcommand_rows_of matches.now) ≡ Some (name, Some deck) → IsSome found) }
     ensures only_apply { IfOk result (λ found. IsApply (subcommand_rows_of matches.now) → IsSome found) }
     ensures only_run { IfOk result (λ found. IsRun (subcommand_rows_of matches.now) → IsSome found) }
 {
@@ -376,7 +384,8 @@ pub fn command_of<'a, S: AsStr>(alloc: Global, words: &'a [S]) -> Result<Command
     ensures accepted { IfOk result (λ _. mistakes (map S.text words.entry.now) ≡ []) }
     ensures understood { IfErr result (λ e. StatesDeck (map S.text words.entry.now) → kind_of e ≡ ErrorKind.OutOfMemory) }
     ensures understood_apply { IfErr result (λ e. StatesApply (map S.text words.entry.now) → kind_of e ≡ ErrorKind.OutOfMemory) }
-    ensures understood_run { IfErr result (λ e. StatesRun (map S.text words.entry.now) → kind_of e ≡ ErrorKind.OutOfMemory) }
+    ensures understood_run { IfErr result (λ e.
+        StatesRun (map S.text words.entry.now) → kind_of e ≡ ErrorKind.OutOfMemory) }
     ensures named { IfErr result (λ e. NamesDeck (map S.text words.entry.now) → kind_of e ≡ ErrorKind.OutOfMemory) }
     ensures named_apply { IfErr result (λ e. NamesApply (map S.text words.entry.now) → kind_of e ≡ ErrorKind.OutOfMemory) }
     ensures named_run { IfErr result (λ e. NamesRun (map S.text words.entry.now) → kind_of e ≡ ErrorKind.OutOfMemory) }
@@ -387,5 +396,5 @@ pub fn command_of<'a, S: AsStr>(alloc: Global, words: &'a [S]) -> Result<Command
     if let Some(command) = command_in(alloc, &matches)? {
         return Ok(command);
     }
-    Err(iocm.error(ErrorKind::MissingRequiredArgument, "a deck is wanted")?)
+    Err(iocm.error(ErrorKind::MissingRequiredArgument, "a deck is missing")?)
 }

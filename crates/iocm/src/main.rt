@@ -158,13 +158,14 @@ fn run_files<R: Files + Print + AllocGlobal + Threads + Wait + Sync>(
     run_on(rt, deck, script, changes, heap)
 }
 
-/// The files of these names, opened in their order; `None` where memory is wanted for them.
+/// The files of these names, opened in their order; `None` where memory is missing for them.
 fn open_all<R: Files + AllocGlobal>(
     rt: &R,
     names: &[&str],
 ) -> Result<Option<VecDeque<Device<R::File>>>, ConsoleError>
     ensures open { IfOk result (λ found. IfSome found (λ devices. All (λ d. IsOpen d) devices.items)) }
-    ensures room { IfOk result (λ found. IfSome found (λ devices. All (λ d. reads_of d + 1048576 < 2 ^ 64) devices.items)) }
+    ensures room { IfOk result (λ found. IfSome found (λ devices.
+        All (λ d. reads_of d + 1048576 < 2 ^ 64) devices.items)) }
 {
     let mut devices = VecDeque::new(rt.alloc());
     for name in names {
@@ -214,7 +215,7 @@ fn run_on<
     Ok(ExitCode::from(status.code()))
 }
 
-/// Prints that memory is wanted.
+/// Prints that memory is missing.
 fn refuse_memory<R: Print>(rt: &R) -> Result<ExitCode, ConsoleError> {
     let mut output = Output::new(io::writer(rt));
     let status = refuse(Fault::from(AllocError), &mut output)?;

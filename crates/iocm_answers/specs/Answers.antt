@@ -1,7 +1,7 @@
 -- What `run` prints of each answer: a line that begins with the number of the script's line. Own.
 -- Bytes by their codes: 10 ends a line.
-use Rattle.std.specs.Prelude.{ℕ, ◌-◌, ◌^◌, Bool, true, false, if◌then◌else◌, List, [], ◌∷◌, ◌++◌, codes}
-use Rattle.std.specs.Fmt.{decimal, digits, format_spec, padded_integral}
+use Rattle.std.specs.Prelude.{ℕ, true, false, List, [], ◌∷◌, ◌++◌, codes}
+use Rattle.std.specs.Fmt.{decimal}
 use Rattle.iocm_types.specs.declared.answer.Answer.{Answer}
 use Rattle.iocm_types.specs.declared.answer.Answer.TheVariants as answer
 use Rattle.iocm_types.specs.declared.answer.Counts.{Counts}
@@ -10,15 +10,8 @@ use Rattle.iocm_types.specs.declared.order.Io.TheVariants as io
 use Rattle.iocm_types.specs.declared.order.Stored.{Stored}
 use Rattle.iocm_types.specs.declared.scsw.ScswBits.{ScswBits}
 use Rattle.iocm_types.specs.Print.{hex1, hex2, hex4}
+use Rattle.iocm_console.specs.Digits.{enabled_text, hex8}
 use Rattle.iocm_console.specs.Refusal.{change_refusal_text}
-
--- a number in hexadecimal with zeros in front, at least eight digits
-abbrev pub hex8 : ℕ → List ℕ
-hex8 n = padded_integral (format_spec 32 0 4 8 (2 ^ 64 - 1)) false [] (digits 16 true n)
-
--- 1 where a subchannel is enabled, else 0
-abbrev pub enabled_text : Bool → List ℕ
-enabled_text enabled = decimal (if enabled then 1 else 0)
 
 -- the status bits, one hexadecimal digit: 1 start, 2 halt, 4 clear, and 8 more where status is
 -- pending

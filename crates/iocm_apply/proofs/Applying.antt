@@ -1,9 +1,10 @@
 -- What `apply` said, from what its steps said.
-use Rattle.std.proofs.Common.{◌≡◌, ◌≢◌, ◌⊎◌, ℕ, List, [], ◌∷◌, ◌++◌, Option, None, Some, Result, Ok, Err, OnOk, IfOk, IfSome, inl, inr, refl, sym, ap, subst, ◌∙◌}
+use Rattle.std.proofs.Common.{◌≡◌, ◌≢◌, ◌⊎◌, ℕ, List, [], ◌∷◌, ◌++◌, Option, None, Some, Result, Ok, Err, OnOk, IfOk, IfErr, IfSome, inl, inr, refl, sym, ap, subst, ◌∙◌}
 use Rattle.std.specs.FinMap.{len}
 use Rattle.iocm_types.specs.declared.fault.Fault.{Fault}
 use Rattle.iocm_types.specs.declared.refused.Refused.{Refused}
 use Rattle.iocm_types.specs.Fault.{◌>>=◌, Fails, memory}
+use Rattle.iocm_columns.specs.Cards.{cards_of}
 use Rattle.iocm_columns.specs.declared.card.Card.{Card}
 use Rattle.iocm_columns.specs.Device.{unreadable, GivesIfReadable}
 use Rattle.iocm_model.specs.Operation.State.{State}
@@ -19,11 +20,12 @@ use Rattle.iocm_activate.specs.Done.{refusal_in}
 use Rattle.iocm_console.specs.declared.output.Output.{Output}
 use Rattle.iocm_console.specs.declared.status.Status.{Status}
 use Rattle.iocm_console.specs.declared.error.ConsoleError.{ConsoleError}
-use Rattle.iocm_console.specs.Opening.{Shown, declined, refused, unless_breached, Says, SaysIfMemory}
-use Rattle.iocm_console.specs.Output.{Prints}
+use Rattle.iocm_console.specs.declared.error.ConsoleError.TheVariants.{Read, Write}
+use Rattle.iocm_console.specs.Opening.{Shown, configuration_in, declined, refused, unless_breached, Says, SaysIfMemory}
+use Rattle.iocm_console.specs.Output.{FailedToWrite, Prints}
 use Rattle.iocm_console.proofs.Printing.{appends_then}
 use Rattle.iocm_apply.specs.declared.report.Report.{Report}
-use Rattle.iocm_apply.specs.Apply.{change_in, lines_tried, made, reported, tried}
+use Rattle.iocm_apply.specs.Apply.{change_in, lines_tried, made, reported, tried, IsRefused, IsRefusedDeck}
 
 -- the report of a change that was made
 pub made_is : (report : Report) (s t : State) (o : Outcome) (es : List Edit) (altered : ℕ) (back : ChangeTree) → o ≡ Ok (record { state = t; edits = es })
@@ -43,6 +45,20 @@ lines_are view change x read is gives = go (subst (λ (c : Result _ Fault). Give
     go : GivesIfReadable view (Ok x) read → read ≡ Ok (view x)
     go (inl bad) = cc
     go (inr e) = e
+
+-- a deck whose lines were read is refused by them
+pub refused_lines : {X : Type 0} (view : X → List Card) (x : X) (cards : List Card) (bytes : List ℕ) → cards ≡ view x → GivesIfReadable view (Ok x) (cards_of bytes)
+    → IsRefusedDeck bytes → IsRefused (configuration_in cards)
+refused_lines view x cards bytes same gives bad =
+    let read : cards_of bytes ≡ Ok (view x) = lines_are view (Ok x) x (cards_of bytes) refl gives in
+    subst IsRefused (ap (λ (r : Result (List Card) Fault). r >>= configuration_in) (read ∙ ap Ok (sym same))) bad
+
+-- a call that only fails to write answers no L5
+pub never_read : {W : Type 0} (output : Output W) (result : Result Status ConsoleError) → IfErr result (FailedToWrite output) → result ≡ Err Read → ⊥
+never_read output (Ok status) failed short = cc
+never_read output (Err e) failed short =
+    let read : e ≡ Read = cc in
+    let write : e ≡ Write = failed.0 in cc
 
 -- no breach, no refusal
 pub none_breached : (b : Option Breach) → refusal_by_breach b ≡ None → b ≡ None

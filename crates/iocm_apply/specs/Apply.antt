@@ -1,13 +1,15 @@
 -- What `apply` prints of a deck and a change deck, and how it ends.
-use Rattle.std.specs.Prelude.{ℕ, List, [], ◌∷◌, ◌++◌, Result, Ok, Err}
+use Rattle.std.specs.Prelude.{◌≡◌, ℕ, List, [], ◌∷◌, ◌++◌, Some, Result, Ok, Err}
 use Rattle.std.specs.FinMap.{len}
 use Rattle.iocm_types.specs.declared.fault.Fault.{Fault}
 use Rattle.iocm_types.specs.Fault.{◌>>=◌}
 use Rattle.iocm_columns.specs.Cards.{cards_of}
 use Rattle.iocm_columns.specs.declared.card.Card.{Card}
 use Rattle.iocm_model.specs.Machine.Configuration.{Configuration}
+use Rattle.iocm_model.specs.Machine.Numbering.{opening}
 use Rattle.iocm_model.specs.Machine.Table.{table_of}
 use Rattle.iocm_model.specs.Operation.State.{State, opening_state}
+use Rattle.iocm_model.specs.Rules.FirstBreach.{Breach, first_breach}
 use Rattle.iocm_model.specs.Change.InverseTree.{inverse_tree}
 use Rattle.iocm_model.specs.Change.Meaning.{Outcome, Performed, meaning}
 use Rattle.iocm_model.specs.Change.Runs.{effect_of}
@@ -51,3 +53,12 @@ applied_to report config change = opened_or_refused (λ c n. lines_tried report 
 -- what is printed of the bytes of a deck and of a change deck
 abbrev pub applied : Report → List ℕ → List ℕ → Shown
 applied report deck change = applied_to report (cards_of deck >>= configuration_in) (cards_of change)
+
+-- a deck that is refused: it has a fault, or its configuration breaks a rule
+abbrev pub IsRefused : Result Configuration Fault → Type 0
+IsRefused (Err why) = Unit {0}
+IsRefused (Ok c) = (b : Breach) × (first_breach c (opening c) ≡ Some b)
+
+-- the same of the bytes of a deck
+abbrev pub IsRefusedDeck : List ℕ → Type 0
+IsRefusedDeck bytes = IsRefused (cards_of bytes >>= configuration_in)

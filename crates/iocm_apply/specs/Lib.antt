@@ -1,3 +1,4 @@
 pub mod Apply
+pub mod Examples
 pub mod Remarks
 pub mod WayBack

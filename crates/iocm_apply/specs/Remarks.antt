@@ -1,7 +1,6 @@
 -- What comes along with an edit and no statement says, in comments of a change deck. Own.
 -- Bytes by their codes: 10 ends a line.
-use Rattle.std.specs.Prelude.{ℕ, ◌-◌, ◌^◌, Bool, true, false, if◌then◌else◌, List, [], ◌∷◌, ◌++◌, codes}
-use Rattle.std.specs.Fmt.{padded_integral, format_spec, digits}
+use Rattle.std.specs.Prelude.{ℕ, List, [], ◌∷◌, ◌++◌, codes}
 use Rattle.std.specs.FinMap.{entries}
 use Rattle.std.specs.List.{flat_map}
 use Rattle.iocm_types.specs.declared.live.Live.{Live}
@@ -10,15 +9,8 @@ use Rattle.iocm_types.specs.declared.sub_id.SubId.{SubId}
 use Rattle.iocm_types.specs.Print.{hex1, hex2, hex4}
 use Rattle.iocm_model.specs.Change.Edit.{Edit}
 use Rattle.iocm_model.specs.Operation.Orders.{bits_of}
+use Rattle.iocm_console.specs.Digits.{enabled_text, hex8}
 use Rattle.iocm_console.specs.Refusal.{subchannel_text}
-
--- a number in hexadecimal with zeros in front, at least eight digits
-abbrev pub hex8 : ℕ → List ℕ
-hex8 n = padded_integral (format_spec 32 0 4 8 (2 ^ 64 - 1)) false [] (digits 16 true n)
-
--- whether a subchannel is enabled, as a digit
-abbrev pub enabled_digit : Bool → List ℕ
-enabled_digit enabled = digits 10 false (if enabled then 1 else 0)
 
 -- a device by its set and its number
 unfoldable pub device_text : Place → List ℕ
@@ -30,7 +22,7 @@ number_remark p = codes "* css " ++ (hex1 p.0.css ++ (codes " device " ++ (devic
 
 -- what a subchannel remembered, in the words of STORE's answer: * subchannel 0.1.0.0003 had lpm C0 ena 0 parm 00000000 scsw 0
 abbrev pub live_remark : SubId × Live → List ℕ
-live_remark r = codes "* subchannel " ++ (subchannel_text r.0 ++ (codes " had lpm " ++ (hex2 r.1.lpm ++ (codes " ena " ++ (enabled_digit r.1.enabled
+live_remark r = codes "* subchannel " ++ (subchannel_text r.0 ++ (codes " had lpm " ++ (hex2 r.1.lpm ++ (codes " ena " ++ (enabled_text r.1.enabled
     ++ (codes " parm " ++ (hex8 r.1.parm ++ (codes " scsw " ++ hex1 (bits_of r.1.phase).0))))))))
 
 -- the line of each

@@ -10,6 +10,7 @@ ghost use Rattle.iocm_console.specs.declared.status.Status.TheVariants.{Done};
 ghost use Rattle.iocm_console.specs.Opening.{configuration_in, refused, Says, SaysIfMemory};
 ghost use Rattle.iocm_console.specs.Output.{has_failed, FailedToWrite};
 ghost use Rattle.iocm_apply.specs.Apply.{applied, applied_to, change_in, lines_tried, made, tried};
+ghost use Rattle.iocm_apply.specs.Apply.{IsRefused, IsRefusedDeck};
 
 use crate::change::read_change;
 use crate::printing::print_report;
@@ -47,12 +48,16 @@ pub fn apply_change<R: Read, S: Read, W: Write>(
     requires room { reads_of deck.old + limit < 2 ^ 64 }
     requires room_change { reads_of change.old + limit < 2 ^ 64 }
     requires works { has_failed output.old ≡ false }
+    ensures reads { reads_of deck.new ≤ reads_of deck.old + limit }
+    ensures reads_change { reads_of change.new ≤ reads_of change.old + limit }
     ensures known_bytes { IfSome (R.remaining (reader_of deck.old)) (λ bytes. IfSome (S.remaining (reader_of change.old)) (λ lines. IfOk result (SaysIfMemory W.contents output.old output.new (applied report bytes lines)))) }
     ensures some_bytes { (bytes : List ℕ) × (lines : List ℕ) × IfOk result (SaysIfMemory W.contents output.old output.new (applied report bytes lines)) }
     ensures whole { IfOk result (λ status. IsWhole deck.new ⊎ Says W.contents output.old output.new (refused memory) status) }
     ensures whole_change { IfOk result (λ status. status ≡ Done → IsWhole change.new) }
     ensures written { OnOk result (has_failed output.new ≡ false) }
     ensures unreadable { result ≡ Err ConsoleError.Read → StopsShort deck.new (reads_of deck.old + limit) ⊎ StopsShort change.new (reads_of change.old + limit) }
+    ensures first { IfSome (R.remaining (reader_of deck.old)) (λ bytes. IsRefusedDeck bytes
+        → result ≡ Err ConsoleError.Read → StopsShort deck.new (reads_of deck.old + limit)) }
     ensures untouched { result ≡ Err ConsoleError.Read → output.new ≡ output.old }
     ensures unwritable { result ≡ Err ConsoleError.Write → has_failed output.new ≡ true }
 {
@@ -79,6 +84,7 @@ fn apply_to_deck<W: Write>(
     ensures done { IfOk result (λ status. status ≡ Done → IsOk change) }
     ensures works { OnOk result (has_failed output.new ≡ has_failed output.old) }
     ensures unreadable { result ≡ Err ConsoleError.Read → change ≡ Err unreadable }
+    ensures first { IsRefused (configuration_in deck.now) → result ≡ Err ConsoleError.Read → ⊥ }
     ensures untouched { result ≡ Err ConsoleError.Read → output.new ≡ output.old }
     ensures unwritable { result ≡ Err ConsoleError.Write → has_failed output.new ≡ true }
 {
@@ -102,6 +108,7 @@ fn apply_to_config<W: Write>(
     ensures done { IfOk result (λ status. status ≡ Done → IsOk change) }
     ensures works { OnOk result (has_failed output.new ≡ has_failed output.old) }
     ensures unreadable { result ≡ Err ConsoleError.Read → change ≡ Err unreadable }
+    ensures first { IsRefused (Ok config.records) → result ≡ Err ConsoleError.Read → ⊥ }
     ensures untouched { result ≡ Err ConsoleError.Read → output.new ≡ output.old }
     ensures unwritable { result ≡ Err ConsoleError.Write → has_failed output.new ≡ true }
 {

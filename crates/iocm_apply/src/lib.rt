@@ -13,6 +13,7 @@
 mod apply;
 mod back;
 mod change;
+mod laws;
 mod printing;
 mod remarks;
 mod report;
@@ -20,4 +21,5 @@ mod report;
 pub use apply::apply_change;
 pub use back::way_back;
 pub use change::read_change;
+pub use laws::remark_of_a_subchannel_is_as_worked;
 pub use report::Report;

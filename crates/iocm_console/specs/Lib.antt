@@ -2,6 +2,8 @@ pub mod Again
 pub mod Changed
 pub mod Check
 pub mod Command
+pub mod Digits
+pub mod Examples
 pub mod Lines
 pub mod Opening
 pub mod Output

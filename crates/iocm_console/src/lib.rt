@@ -33,7 +33,7 @@ pub use cells::{CellDevice, gather_cells};
 pub use change_refusal::{ChangeRefusal, SubchannelName};
 pub use command::{DeckCommand, answer_deck};
 pub use error::ConsoleError;
-pub use laws::what_is_written_is_read_again;
+pub use laws::{refusals_of_changes_are_as_worked, what_is_written_is_read_again};
 pub use opening::{answer_unread, read_config, read_statements, refuse, refuse_change};
 pub use output::Output;
 pub use refusal::{BreachRefusal, Refusal};

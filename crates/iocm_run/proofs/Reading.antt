@@ -1,19 +1,34 @@
 -- Texts of devices, and the change trees that are read of them.
-use Rattle.std.proofs.Common.{◌≡◌, ◌⊎◌, ℕ, List, [], ◌∷◌, ◌++◌, Option, None, Some, Result, Ok, Err, IfSome, inl, inr, refl, sym, ap, subst, ◌∙◌, append-nil}
+use Rattle.std.proofs.Common.{◌≡◌, ◌≢◌, ◌⊎◌, ℕ, List, [], ◌∷◌, ◌++◌, Option, None, Some, Result, Ok, Err, IfSome, inl, inr, refl, sym, ap, subst, ◌∙◌, append-nil}
 use Rattle.iocm_types.specs.declared.fault.Fault.{Fault}
+use Rattle.iocm_types.specs.declared.rule.Rule.TheVariants.{L5, M1}
 use Rattle.iocm_types.specs.Fault.{◌>>=◌, Gives, memory}
 use Rattle.iocm_columns.specs.Cards.{cards_of}
-use Rattle.iocm_columns.specs.Device.{reader_of, GivesIfReadable}
+use Rattle.iocm_columns.specs.Device.{reader_of, unreadable, GivesIfReadable}
 use Rattle.iocm_columns.specs.declared.card.Card.{Card}
 use Rattle.iocm_columns.specs.declared.device.Device.{Device}
 use Rattle.iocm_tree.specs.Trees.{CarriedTree}
 use Rattle.iocm_apply.specs.Apply.{change_in}
+use Rattle.iocm_run.specs.Run.{AreUnread}
 use Rattle.iocm_run.specs.Texts.{tree_in, trees_read, AreReadSoFar, AreTextsOf, IsTextOf}
 
 -- what was to be read is known, or is of some text
 pub picked : (P : List ℕ → Type 0) (known : Option (List ℕ)) → IfSome known P → (text : List ℕ) × P text → (text : List ℕ) × IfSome known (λ k. text ≡ k) × P text
 picked P None all some = (some.0, tt, some.1)
 picked P (Some k) all some = (k, refl, all)
+
+-- want of memory is told from what can't be read
+memory_is_another : memory ≡ unreadable → ⊥
+memory_is_another e = let rules : M1 ≡ L5 = ap (λ f. f.rule) e in cc
+
+pub never_for_memory : {X : Type 0} (fault : Fault) (result : Result X Fault) → fault ≡ memory → result ≡ Err fault → result ≡ Err unreadable → ⊥
+never_for_memory fault result is given e = let same : fault ≡ unreadable = cc in memory_is_another (sym is ∙ same)
+
+-- what can't be read, of the change decks and the script
+pub which_unread : {X Y D C S : Type 0} (trees : Result X Fault) (script : Result Y Fault) → (trees ≡ Err unreadable → C)
+    → (script ≡ Err unreadable → S) → AreUnread trees script → D ⊎ (C ⊎ S)
+which_unread trees script changes scripts (inl e) = inr (inl (changes e))
+which_unread trees script changes scripts (inr e) = inr (inr (scripts e.1))
 
 -- a text of a device that isn't read
 text_there : (known : Option (List ℕ)) → (text : List ℕ) × IfSome known (λ k. text ≡ k)
@@ -110,6 +125,14 @@ module _ {R : Type 0} (remaining : R → Option (List ℕ)) (all : List (Device 
   -- all were read
   pub all_read : (trees : List CarriedTree) → AreReadSoFar remaining all [] trees → (texts : List (List ℕ)) × AreTextsOf remaining all texts × (trees_read texts ≡ Ok trees)
   all_read trees so_far = (so_far.1, subst (λ ds. AreTextsOf remaining ds so_far.1) (sym (so_far.2 ∙ append-nil so_far.0)) so_far.3, so_far.4)
+
+  -- where one is left there are some
+  pub some_left : (d : Device R) (rest : List (Device R)) (trees : List CarriedTree) → AreReadSoFar remaining all (d ∷ rest) trees → all ≢ []
+  some_left d rest trees so_far none = by so_far.0 (sym so_far.2 ∙ none)
+    where
+      by : (front : List (Device R)) → front ++ d ∷ rest ≢ []
+      by [] e = cc
+      by (x ∷ xs) e = cc
 
   -- one has a fault, and the rest isn't read
   pub one_refused : {Y Z : Type 0} (shown : Y → CarriedTree) (view : Z → List CarriedTree) (d : Device R) (rest : List (Device R)) (trees : List CarriedTree) (text : List ℕ) (fault : Fault)

@@ -1,5 +1,6 @@
 -- What a script that is run prints, and how it ends. Own.
-use Rattle.std.specs.Prelude.{◌≡◌, ◌⊎◌, ℕ, List, [], ◌∷◌, ◌++◌, codes, length, map, Option, None, Some, Result, Ok, Err}
+use Rattle.std.specs.Prelude.{◌≡◌, ◌⊎◌, ℕ, List, [], ◌∷◌, ◌++◌, codes, length, map, Option, None, Some}
+use Rattle.std.specs.Prelude.{IsOk, Result, Ok, Err}
 use Rattle.std.specs.Fmt.{decimal}
 use Rattle.std.specs.List.{flat_map}
 use Rattle.iocm_types.specs.declared.fault.Fault.{Fault}
@@ -7,6 +8,7 @@ use Rattle.iocm_types.specs.declared.refused.At.TheVariants.{Nothing}
 use Rattle.iocm_types.specs.declared.rule.Rule.{Rule}
 use Rattle.iocm_types.specs.Fault.{◌>>=◌, memory}
 use Rattle.iocm_columns.specs.Cards.{cards_of}
+use Rattle.iocm_columns.specs.Device.{unreadable}
 use Rattle.iocm_model.specs.Machine.Configuration.{Configuration}
 use Rattle.iocm_model.specs.Machine.Numbering.{opening}
 use Rattle.iocm_model.specs.Operation.State.{opening_state}
@@ -37,7 +39,8 @@ trace_text calls = codes "trace " ++ decimal calls
 abbrev pub with_answers : Operated → Shown → Shown
 with_answers o table =
     record {
-      text = answers_text o.answers.items ++ ((trace_text (length o.closed.trace.entries.items) ++ 10 ∷ []) ++ table.text);
+      text = answers_text o.answers.items
+          ++ ((trace_text (length o.closed.trace.entries.items) ++ 10 ∷ []) ++ table.text);
       status = table.status;
     }
 
@@ -74,11 +77,13 @@ abbrev pub IsOfChanges : Configuration → Result (List CarriedTree) Fault → R
 IsOfChanges c (Ok ts) script shown = IsOfScript c ts script shown
 IsOfChanges c (Err fault) script shown = shown ≡ refused fault
 
-abbrev pub IsUnlessBreached : Option Breach → Configuration → Result (List CarriedTree) Fault → Result Rounds Fault → Shown → Type 0
+abbrev pub IsUnlessBreached : Option Breach → Configuration → Result (List CarriedTree) Fault
+    → Result Rounds Fault → Shown → Type 0
 IsUnlessBreached (Some b) c trees script shown = shown ≡ breached b
 IsUnlessBreached None c trees script shown = IsOfChanges c trees script shown
 
-abbrev pub IsOfDeck : Result Configuration Fault → Result (List CarriedTree) Fault → Result Rounds Fault → Shown → Type 0
+abbrev pub IsOfDeck : Result Configuration Fault → Result (List CarriedTree) Fault → Result Rounds Fault
+    → Shown → Type 0
 IsOfDeck (Ok c) trees script shown = IsUnlessBreached (first_breach c (opening c)) c trees script shown
 IsOfDeck (Err fault) trees script shown = shown ≡ refused fault
 
@@ -87,7 +92,11 @@ abbrev pub IsOfTexts : List ℕ → List (List ℕ) → List ℕ → Shown → T
 IsOfTexts deck changes script =
     IsOfDeck (cards_of deck >>= configuration_in) (trees_read changes) (script_in (length changes) script)
 
--- something is printed of which this holds, or only that memory is wanted
+-- the change decks can't be read, or, where their trees are there, the script can't
+abbrev pub AreUnread : {X Y : Type 0} → Result X Fault → Result Y Fault → Type 0
+AreUnread trees script = (trees ≡ Err unreadable) ⊎ (IsOk trees × (script ≡ Err unreadable))
+
+-- something is printed of which this holds, or only that memory is missing
 abbrev pub SaysOne : {W : Type 0} → (W → Option (List ℕ)) → Output W → Output W → (Shown → Type 0) → Status → Type 0
 SaysOne contents old new Is status =
     ((shown : Shown) × Is shown × Says contents old new shown status) ⊎ Says contents old new (refused memory) status

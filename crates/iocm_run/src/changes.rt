@@ -1,6 +1,6 @@
 //! The change decks of a command line are read.
-ghost use Rattle.std.specs.Prelude.{◌≡◌, ◌+◌, ◌^◌, ◌<◌, ℕ, List, map, All};
-ghost use Rattle.iocm_columns.specs.Device.{reads_of, GivesIfReadable, IsOpen};
+ghost use Rattle.std.specs.Prelude.{◌≡◌, ◌≢◌, ◌+◌, ◌^◌, ◌<◌, ℕ, List, [], Err, map, All};
+ghost use Rattle.iocm_columns.specs.Device.{reads_of, unreadable, GivesIfReadable, IsOpen};
 ghost use Rattle.iocm_columns.specs.declared.device.Device as its_device;
 ghost use Rattle.iocm_tree.specs.Trees.{tree_of};
 ghost use Rattle.iocm_run.specs.Texts.{tree_in, trees_read, AreTextsOf, IsTextOf};
@@ -43,6 +43,7 @@ pub(crate) fn read_changes<C: Read + Drop>(
     requires room { All (λ (d : its_device.Device C). reads_of d + limit < 2 ^ 64) devices.items }
     ensures texts { (texts : List (List ℕ)) × AreTextsOf C.remaining devices.items texts
         × GivesIfReadable (λ v. map tree_of v.items) result (trees_read texts) }
+    ensures unreadable { result ≡ Err unreadable → devices.items ≢ [] }
 {
     let mut trees = Vec::new(alloc);
     while let Some(mut device) = devices.pop_front() {

@@ -16,7 +16,7 @@ use std::io::Write;
 /// Prints the answers, how many calls were made, and the table of the machine that is left. All
 /// memory is taken before the first byte is written.
 ///
-/// M1, a refusal, which is printed: memory was wanted.
+/// M1, a refusal, which is printed: memory was missing.
 pub(crate) fn print_run<W: Write>(
     alloc: Global,
     operated: &Operated,

@@ -1,7 +1,8 @@
 //! A script is run on the machine of a deck, and what came of it is printed.
-ghost use Rattle.std.specs.Prelude.{◌≡◌, ◌+◌, ◌^◌, ◌<◌, ℕ, List, Result, Ok, Err, map, false, true, All, IfOk, IfErr, OnOk};
+ghost use Rattle.std.specs.Prelude.{◌≡◌, ◌≢◌, ◌+◌, ◌^◌, ◌<◌, ◌≤◌, ◌⊎◌, ℕ, List, [], Result, Ok, Err, map};
+ghost use Rattle.std.specs.Prelude.{All, IfOk, IfErr, IfSome, OnOk, false, true};
 ghost use Rattle.iocm_types.specs.declared.fault.Fault as fault;
-ghost use Rattle.iocm_columns.specs.Device.{reads_of, GivesIfReadable, IsOpen};
+ghost use Rattle.iocm_columns.specs.Device.{reader_of, reads_of, unreadable, GivesIfReadable, IsOpen, StopsShort};
 ghost use Rattle.iocm_columns.specs.declared.device.Device as its_device;
 ghost use Rattle.iocm_model.specs.Machine.Configuration as configuration;
 ghost use Rattle.iocm_tree.specs.Trees as plain;
@@ -9,7 +10,8 @@ ghost use Rattle.iocm_tree.specs.Trees.{tree_of};
 ghost use Rattle.iocm_script.specs.Scripts.{FitsQueue, Rounds};
 ghost use Rattle.iocm_console.specs.Opening.{configuration_in};
 ghost use Rattle.iocm_console.specs.Output.{has_failed, FailedToWrite};
-ghost use Rattle.iocm_run.specs.Run.{new_core, IsOfChanges, IsOfDeck, IsOfScript, IsOfTexts, IsRun, SaysOne};
+ghost use Rattle.iocm_apply.specs.Apply.{IsRefused, IsRefusedDeck};
+ghost use Rattle.iocm_run.specs.Run.{new_core, AreUnread, IsOfChanges, IsOfDeck, IsOfScript, IsOfTexts, IsRun, SaysOne};
 ghost use Rattle.iocm_run.specs.Texts.{AreTextsOf, IsTextOf};
 
 use crate::changes::read_changes;
@@ -56,11 +58,17 @@ pub fn run_script<R: Read, C: Read + Drop, S: Read, W: Write, T: Threads + Wait 
     requires room_changes { All (λ (d : its_device.Device C). reads_of d + limit < 2 ^ 64) changes.items }
     requires room_script { reads_of script.old + limit < 2 ^ 64 }
     requires works { has_failed output.old ≡ false }
+    ensures reads { reads_of deck.new ≤ reads_of deck.old + limit }
+    ensures reads_script { reads_of script.new ≤ reads_of script.old + limit }
     ensures text { (text : List ℕ) × (decks : List (List ℕ)) × (lines : List ℕ)
         × IsTextOf R.remaining deck.old text × AreTextsOf C.remaining changes.items decks
         × IsTextOf S.remaining script.old lines
         × IfOk result (SaysOne W.contents output.old output.new (IsOfTexts text decks lines)) }
     ensures written { OnOk result (has_failed output.new ≡ false) }
+    ensures unreadable { result ≡ Err ConsoleError.Read → StopsShort deck.new (reads_of deck.old + limit)
+        ⊎ ((changes.items ≢ []) ⊎ StopsShort script.new (reads_of script.old + limit)) }
+    ensures first { IfSome (R.remaining (reader_of deck.old)) (λ bytes. IsRefusedDeck bytes
+        → result ≡ Err ConsoleError.Read → StopsShort deck.new (reads_of deck.old + limit)) }
     ensures untouched { result ≡ Err ConsoleError.Read → output.new ≡ output.old }
     ensures unwritable { result ≡ Err ConsoleError.Write → has_failed output.new ≡ true }
 {
@@ -89,6 +97,8 @@ fn run_on_deck<W: Write, T: Threads + Wait + Sync>(
         → GivesIfReadable (λ v. map tree_of v.items) trees ts → GivesIfReadable (λ s. s) script rounds
         → IfOk result (SaysOne W.contents output.old output.new (IsOfDeck (configuration_in deck.now) ts rounds)) }
     ensures works { OnOk result (has_failed output.new ≡ has_failed output.old) }
+    ensures unreadable { result ≡ Err ConsoleError.Read → AreUnread trees script }
+    ensures first { IsRefused (configuration_in deck.now) → result ≡ Err ConsoleError.Read → ⊥ }
     ensures untouched { result ≡ Err ConsoleError.Read → output.new ≡ output.old }
     ensures unwritable { result ≡ Err ConsoleError.Write → has_failed output.new ≡ true }
 {
@@ -112,6 +122,8 @@ fn run_on_config<W: Write, T: Threads + Wait + Sync>(
         → GivesIfReadable (λ v. map tree_of v.items) trees ts → GivesIfReadable (λ s. s) script rounds
         → IfOk result (SaysOne W.contents output.old output.new (IsOfDeck (Ok config.records) ts rounds)) }
     ensures works { OnOk result (has_failed output.new ≡ has_failed output.old) }
+    ensures unreadable { result ≡ Err ConsoleError.Read → AreUnread trees script }
+    ensures first { IsRefused (Ok config.records) → result ≡ Err ConsoleError.Read → ⊥ }
     ensures untouched { result ≡ Err ConsoleError.Read → output.new ≡ output.old }
     ensures unwritable { result ≡ Err ConsoleError.Write → has_failed output.new ≡ true }
 {
@@ -150,6 +162,7 @@ fn run_on_core<W: Write, T: Threads + Wait + Sync>(
         → GivesIfReadable (λ v. map tree_of v.items) trees ts → GivesIfReadable (λ s. s) script rounds
         → IfOk result (SaysOne W.contents output.old output.new (IsOfChanges config ts rounds)) }
     ensures works { OnOk result (has_failed output.new ≡ has_failed output.old) }
+    ensures unreadable { result ≡ Err ConsoleError.Read → AreUnread trees script }
     ensures untouched { result ≡ Err ConsoleError.Read → output.new ≡ output.old }
     ensures unwritable { result ≡ Err ConsoleError.Write → has_failed output.new ≡ true }
 {
@@ -173,6 +186,7 @@ fn run_with_trees<W: Write, T: Threads + Wait + Sync>(
         → core ≡ new_core config room → GivesIfReadable (λ s. s) script rounds
         → IfOk result (SaysOne W.contents output.old output.new (IsOfScript config (map tree_of trees.now) rounds)) }
     ensures works { OnOk result (has_failed output.new ≡ has_failed output.old) }
+    ensures unreadable { result ≡ Err ConsoleError.Read → script ≡ Err unreadable }
     ensures untouched { result ≡ Err ConsoleError.Read → output.new ≡ output.old }
     ensures unwritable { result ≡ Err ConsoleError.Write → has_failed output.new ≡ true }
 {

@@ -1,12 +1,12 @@
-use Rattle.std.proofs.Common.{[], List, ℕ, IfOk}
+use Rattle.std.proofs.Common.{◌≡◌, [], List, ℕ, IfOk}
 use Rattle.std.proofs.lemmas.Option.{IfSome_then}
 use Rattle.iocm_columns.specs.Cards.{cards_of}
-use Rattle.iocm_columns.specs.Device.{reader_of}
+use Rattle.iocm_columns.specs.Device.{reader_of, unreadable}
 use Rattle.iocm_model.specs.Operation.State.{opening_state}
 use Rattle.iocm_console.specs.Opening.{SaysIfMemory}
 use Rattle.iocm_console.proofs.Showing.{refuses_lines, answers_whole}
 use Rattle.iocm_apply.specs.Apply.{applied, lines_tried}
-use Rattle.iocm_apply.proofs.Applying.{if_some_any}
+use Rattle.iocm_apply.proofs.Applying.{if_some_any, refused_lines}
 use Rattle.iocm_apply.proofs.apply.apply_change.Goals as goal
 
 pub returns-in-Err-clause-known_bytes : goal.returns-in-Err-clause-known_bytes
@@ -27,3 +27,13 @@ returns-in-Err-clause-some_bytes g c = let read = c.in-Err.ensures.some_bytes in
 pub returns-in-Err-clause-whole : goal.returns-in-Err-clause-whole
 returns-in-Err-clause-whole g c = answers_whole g.W.Write.contents c.args.output.now c.answer_unread.new.output c.read_cards.new.device
     c.answer_unread.result c.in-Err.fault c.answer_unread.ensures.readable c.in-Err.ensures.whole c.answer_unread.ensures.text
+
+-- a deck that can't be read is the one that L5 is about
+pub returns-in-Err-clause-first : goal.returns-in-Err-clause-first
+returns-in-Err-clause-first g c = IfSome_then (g.R.Read.remaining (reader_of c.args.deck.now)) c.in-Err.ensures.known_bytes
+    (λ bytes read bad short. let same : c.in-Err.fault ≡ unreadable = c.answer_unread.ensures.unreadable short in c.in-Err.ensures.unreadable (cc))
+
+-- and one whose lines were read is refused by them
+pub returns-in-Ok-clause-first : goal.returns-in-Ok-clause-first
+returns-in-Ok-clause-first g c = IfSome_then (g.R.Read.remaining (reader_of c.args.deck.now)) c.in-Ok.ensures.known_bytes
+    (λ bytes read bad short. absurd (c.apply_to_deck.ensures.first (refused_lines (λ v. v.items) c.in-Ok.cards c.deref.result.now bytes c.deref.ensures.value read bad) short))

@@ -1,9 +1,10 @@
-use Rattle.std.proofs.Common.{Ok, ap}
+use Rattle.std.proofs.Common.{Ok, ap, subst}
 use Rattle.iocm_model.specs.Operation.State.{opening_state}
 use Rattle.iocm_console.specs.Opening.{configuration_in}
 use Rattle.iocm_console.proofs.Opened.{says_named}
 use Rattle.iocm_console.proofs.Showing.{refuses}
-use Rattle.iocm_apply.specs.Apply.{applied_to, lines_tried}
+use Rattle.iocm_apply.specs.Apply.{applied_to, lines_tried, IsRefused}
+use Rattle.iocm_apply.proofs.Applying.{never_read}
 use Rattle.iocm_apply.proofs.apply.apply_to_deck.Goals as goal
 
 pub returns-in-Ok-clause-text : goal.returns-in-Ok-clause-text
@@ -14,3 +15,9 @@ returns-in-Ok-clause-text g c = λ read gives. says_named g.W.Write.contents c.a
 pub returns-in-Err-clause-text : goal.returns-in-Err-clause-text
 returns-in-Err-clause-text g c = λ read gives. refuses g.W.Write.contents c.args.output.now c.refuse.new.output (λ config numbers. lines_tried c.args.report (opening_state config) read)
     c.refuse.result (configuration_in c.args.deck.now) c.in-Err.fault c.in-Err.ensures c.refuse.ensures.text
+
+pub returns-in-Ok-clause-first : goal.returns-in-Ok-clause-first
+returns-in-Ok-clause-first g c = λ bad short. c.apply_to_config.ensures.first (subst IsRefused c.in-Ok.ensures bad) short
+
+pub returns-in-Err-clause-first : goal.returns-in-Err-clause-first
+returns-in-Err-clause-first g c = λ bad short. never_read c.refuse.new.output c.refuse.result c.refuse.ensures.fault short

@@ -1,17 +1,20 @@
 -- One change deck more is read, or is refused.
-use Rattle.std.proofs.Common.{◌+◌, ◌<◌, ◌^◌, Ok, [], ◌∷◌, refl, sym, ap, subst, ◌∙◌}
+use Rattle.std.proofs.Common.{◌+◌, ◌<◌, ◌^◌, Ok, Err, [], ◌∷◌, refl, sym, ap, subst, ◌∙◌}
 use Rattle.std.proofs.lemmas.List.{map-append}
 use Rattle.std.proofs.lemmas.List.Elements.{All-rest}
 use Rattle.std.specs.Prelude.{map}
 use Rattle.iocm_columns.specs.Device.{reads_of, IsOpen}
 use Rattle.iocm_tree.specs.Trees.{tree_of}
 use Rattle.iocm_run.specs.Texts.{tree_in, AreReadSoFar}
-use Rattle.iocm_run.proofs.Reading.{none_for_memory, one_more, one_refused}
+use Rattle.iocm_run.proofs.Reading.{never_for_memory, none_for_memory, one_more, one_refused, some_left}
 use Rattle.iocm_run.proofs.Saying.{there}
 use Rattle.iocm_run.proofs.changes.read_changes.Goals as goal
 
 pub returns-in_default-push : goal.returns-in_default-push
-returns-in_default-push g c = record { texts = none_for_memory g.C.Read.remaining c.args.devices.items (λ v. map tree_of v.items) c.from.result c.from.ensures }
+returns-in_default-push g c = record {
+  texts = none_for_memory g.C.Read.remaining c.args.devices.items (λ v. map tree_of v.items) c.from.result c.from.ensures;
+  unreadable = λ e. absurd (never_for_memory c.from.result (Err c.from.result) c.from.ensures refl e);
+}
 
 pub returns-in-Err : goal.returns-in-Err
 returns-in-Err g c =
@@ -19,7 +22,10 @@ returns-in-Err g c =
     let trees = map tree_of c.loop-device.trees.items in
     let before = subst (λ ds. AreReadSoFar g.C.Read.remaining c.args.devices.items ds trees) c.in-Some.ensures.items c.loop-device.invariant.so_far in
     let read = c.in-Err.ensures.text in
-    record { texts = one_refused g.C.Read.remaining c.args.devices.items tree_of (λ v. map tree_of v.items) c.in-Some.device rest trees read.0 c.in-Err.fault before read.1 read.2 }
+    record {
+      texts = one_refused g.C.Read.remaining c.args.devices.items tree_of (λ v. map tree_of v.items) c.in-Some.device rest trees read.0 c.in-Err.fault before read.1 read.2;
+      unreadable = λ e. some_left g.C.Read.remaining c.args.devices.items c.in-Some.device rest trees before;
+    }
 
 pub loop-device-preserved : goal.loop-device-preserved
 loop-device-preserved g c =

@@ -2,12 +2,13 @@
 use Rattle.std.proofs.Common.{◌≡◌, Ok, Err, refl, sym, subst, ◌∙◌}
 use Rattle.std.proofs.lemmas.Option.{IfSome_then}
 use Rattle.iocm_columns.specs.Cards.{cards_of}
-use Rattle.iocm_columns.specs.Device.{reader_of, GivesIfReadable}
+use Rattle.iocm_columns.specs.Device.{reader_of, unreadable, GivesIfReadable}
 use Rattle.iocm_script.specs.Scripts.{script_in}
 use Rattle.iocm_console.specs.Opening.{configuration_in}
+use Rattle.iocm_apply.proofs.Applying.{refused_lines}
 use Rattle.iocm_run.specs.Run.{IsOfDeck, SaysOne}
 use Rattle.iocm_run.specs.Texts.{trees_read}
-use Rattle.iocm_run.proofs.Reading.{picked, texts_are_as_many}
+use Rattle.iocm_run.proofs.Reading.{picked, texts_are_as_many, which_unread}
 use Rattle.iocm_run.proofs.Saying.{says_no_lines, says_of_texts, there}
 use Rattle.std.specs.Prelude.{IfOk}
 use Rattle.iocm_run.proofs.running.run_script.Goals as goal
@@ -50,3 +51,22 @@ returns-in-Err-clause-text g c =
       says_no_lines g.W.Write.contents c.args.output.now c.answer_unread.new.output (λ v. v.items) c.answer_unread.result deck.0 decks.0 lines.0 c.in-Err.fault c.answer_unread.ensures.readable deck.2
           c.answer_unread.ensures.text,
     )
+
+-- a deck that can't be read is the one that L5 is about
+pub returns-in-Err-clause-first : goal.returns-in-Err-clause-first
+returns-in-Err-clause-first g c =
+    IfSome_then (g.R.Read.remaining (reader_of c.args.deck.now)) c.in-Err.ensures.known_bytes (λ bytes read bad short.
+    let same : c.in-Err.fault ≡ unreadable = c.answer_unread.ensures.unreadable short in c.in-Err.ensures.unreadable (cc))
+
+-- and one whose lines were read is refused by them
+pub returns-in-Ok-clause-first : goal.returns-in-Ok-clause-first
+returns-in-Ok-clause-first g c =
+    IfSome_then (g.R.Read.remaining (reader_of c.args.deck.now)) c.in-Ok.ensures.known_bytes (λ bytes read bad short.
+    let lines = refused_lines (λ v. v.items) c.in-Ok.cards c.deref.result.now bytes c.deref.ensures.value read bad in
+    absurd (c.run_on_deck.ensures.first lines short))
+
+-- what can't be read is a change deck or the script
+pub returns-in-Ok-clause-unreadable : goal.returns-in-Ok-clause-unreadable
+returns-in-Ok-clause-unreadable g c = λ short.
+    which_unread c.read_changes-trees.result c.read_script-script.result c.read_changes-trees.ensures.unreadable
+    c.read_script-script.ensures.unreadable (c.run_on_deck.ensures.unreadable short)
