@@ -63,7 +63,8 @@ module _ {T : Type 0} where
       pub speaks : Speaks n (as_lines n (all_lines (view p).sent)) (view p)
 
     -- the worker takes the messages of operators 0 and 1, and knows how far it is with each
-    pub record IsWorker (r : receiver.Receiving (Ring T Q M L A) B) (p : Token T) (progress : List Progress) : Type 0 where
+    pub record IsWorker (r : receiver.Receiving (Ring T Q M L A) B) (p : Token T)
+        (progress : List Progress) : Type 0 where
       pub sender : IsSender p
       pub receiver : receives_on r ≡ sends_on s
       pub takes : (view p).takes ≡ true

@@ -25,5 +25,6 @@ module _ {T : Type 0} where
     -- how many operators there are; those below this number
     pub operators : ℕ
     pub taken : List (Message T)
-    pub fits : (at : ℕ) (v : Part T) → get_elem? parts at ≡ some v → Fits seat worker operators (taken ++ items) taken at v
+    pub fits : (at : ℕ) (v : Part T) → get_elem? parts at ≡ some v
+        → Fits seat worker operators (taken ++ items) taken at v
     pub none : (p : ℕ) → operators ≤ p → of p (taken ++ items) ≡ []

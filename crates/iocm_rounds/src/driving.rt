@@ -1,6 +1,6 @@
 ghost use Rattle.std.specs.Prelude.{◌≡◌, ◌+◌, ◌≤◌, List, length};
 ghost use Rattle.iocm_core.specs.declared.call.Call as its_call;
-ghost use Rattle.iocm_rounds.specs.Rounds.{IsImage, IsOffice};
+ghost use Rattle.iocm_rounds.specs.Rounds.{ImageDid, OfficeDid};
 ghost use Rattle.iocm_rounds.specs.Sending.{IsNewQueue};
 ghost use Rattle.iocm_rounds.specs.Stops.{graver};
 
@@ -57,9 +57,9 @@ pub fn drive<B: Identity + Send + Sync, R: Threads + Wait + Sync, G: Gates + Syn
     requires b { seats.b.tag ≡ system.now.board.tag }
     requires worker { seats.worker.tag ≡ system.now.board.tag }
     requires few { length round.p.items + length round.q.items ≤ 14 }
-    ensures a { IsImage round.a.items seats.a result.a.caller result.a.receipts.items result.a.stopped }
-    ensures b { IsImage round.b.items seats.b result.b.caller result.b.receipts.items result.b.stopped }
-    ensures office { IsOffice round.p.items round.q.items seats.worker result.office.caller result.office.first.items result.office.second.items result.office.stopped }
+    ensures a { ImageDid round.a.items seats.a result.a }
+    ensures b { ImageDid round.b.items seats.b result.b }
+    ensures office { OfficeDid round.p.items round.q.items seats.worker result.office }
 {
     match queue(alloc) {
         Ok(queue) => drive_by(rt, alloc, gates, system, queue, seats, round),
@@ -69,9 +69,9 @@ pub fn drive<B: Identity + Send + Sync, R: Threads + Wait + Sync, G: Gates + Syn
 
 /// A round of which nothing is made, for want of memory.
 fn not_driven<B: Identity>(alloc: Global, seats: Seats<B>) -> Driven<B>
-    ensures a { (calls : List its_call.Call) → IsImage calls seats.a result.a.caller result.a.receipts.items result.a.stopped }
-    ensures b { (calls : List its_call.Call) → IsImage calls seats.b result.b.caller result.b.receipts.items result.b.stopped }
-    ensures office { (p q : List its_call.Call) → IsOffice p q seats.worker result.office.caller result.office.first.items result.office.second.items result.office.stopped }
+    ensures a { (calls : List its_call.Call) → ImageDid calls seats.a result.a }
+    ensures b { (calls : List its_call.Call) → ImageDid calls seats.b result.b }
+    ensures office { (p q : List its_call.Call) → OfficeDid p q seats.worker result.office }
 {
     let Seats { a, b, worker } = seats;
     Driven {
@@ -108,9 +108,9 @@ fn drive_by<B: Identity + Send + Sync, R: Threads + Wait + Sync, G: Gates + Sync
     requires b { seats.b.tag ≡ system.now.board.tag }
     requires worker { seats.worker.tag ≡ system.now.board.tag }
     requires queue { IsNewQueue queue.0 queue.1 queue.2 }
-    ensures a { IsImage round.a.items seats.a result.a.caller result.a.receipts.items result.a.stopped }
-    ensures b { IsImage round.b.items seats.b result.b.caller result.b.receipts.items result.b.stopped }
-    ensures office { IsOffice round.p.items round.q.items seats.worker result.office.caller result.office.first.items result.office.second.items result.office.stopped }
+    ensures a { ImageDid round.a.items seats.a result.a }
+    ensures b { ImageDid round.b.items seats.b result.b }
+    ensures office { OfficeDid round.p.items round.q.items seats.worker result.office }
 {
     let Seats {
         a: me,
@@ -132,11 +132,12 @@ fn drive_by<B: Identity + Send + Sync, R: Threads + Wait + Sync, G: Gates + Sync
         rt,
         || -> Images<B>
             requires { (tasks.a.caller.tag ≡ system.now.board.tag) × (tasks.b.caller.tag ≡ system.now.board.tag) }
-            ensures { (IsImage tasks.a.calls.items tasks.a.caller result.a.caller result.a.receipts.items result.a.stopped) × (IsImage tasks.b.calls.items tasks.b.caller result.b.caller result.b.receipts.items result.b.stopped) }
+            ensures { ImageDid tasks.a.calls.items tasks.a.caller result.a
+                × ImageDid tasks.b.calls.items tasks.b.caller result.b }
         { run_images(rt, gates, system, tasks) },
         || -> Office<B>
             requires { (clerk.tag ≡ system.now.board.tag) × IsNewQueue queue.0 queue.1 queue.2 }
-            ensures { IsOffice p.items q.items clerk result.caller result.first.items result.second.items result.stopped }
+            ensures { OfficeDid p.items q.items clerk result }
         { run_office(rt, alloc, gates, system, clerk, queue, p, q) },
     );
     let Images { a, b } = images;

@@ -1,6 +1,6 @@
 //! The images: each makes its calls from a thread of its own.
 ghost use Rattle.std.specs.Prelude.{◌≡◌};
-ghost use Rattle.iocm_rounds.specs.Rounds.{IsImage};
+ghost use Rattle.iocm_rounds.specs.Rounds.{ImageDid};
 
 use crate::gates::{Actor, Door, Gates};
 use iocm_board::Identity;
@@ -44,7 +44,7 @@ fn run_image<B: Identity, R: Wait, G: Gates>(
     task: Task<B>,
 ) -> Image<B>
     requires mine { task.caller.tag ≡ system.now.board.tag }
-    ensures { IsImage task.calls.items task.caller result.caller result.receipts.items result.stopped }
+    ensures { ImageDid task.calls.items task.caller result }
 {
     let door = Door { gates, actor };
     let Task { caller: me, calls } = task;
@@ -81,19 +81,19 @@ pub(crate) fn run_images<B: Identity + Send + Sync, R: Threads + Wait + Sync, G:
 ) -> Images<B>
     requires a { tasks.a.caller.tag ≡ system.now.board.tag }
     requires b { tasks.b.caller.tag ≡ system.now.board.tag }
-    ensures a { IsImage tasks.a.calls.items tasks.a.caller result.a.caller result.a.receipts.items result.a.stopped }
-    ensures b { IsImage tasks.b.calls.items tasks.b.caller result.b.caller result.b.receipts.items result.b.stopped }
+    ensures a { ImageDid tasks.a.calls.items tasks.a.caller result.a }
+    ensures b { ImageDid tasks.b.calls.items tasks.b.caller result.b }
 {
     let Tasks { a, b } = tasks;
     let (a, b) = join(
         rt,
         || -> Image<B>
             requires { a.caller.tag ≡ system.now.board.tag }
-            ensures { IsImage a.calls.items a.caller result.caller result.receipts.items result.stopped }
+            ensures { ImageDid a.calls.items a.caller result }
         { run_image(rt, gates, Actor::A, system, a) },
         || -> Image<B>
             requires { b.caller.tag ≡ system.now.board.tag }
-            ensures { IsImage b.calls.items b.caller result.caller result.receipts.items result.stopped }
+            ensures { ImageDid b.calls.items b.caller result }
         { run_image(rt, gates, Actor::B, system, b) },
     );
     Images { a, b }

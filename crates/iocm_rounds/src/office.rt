@@ -1,9 +1,9 @@
 //! The operators and their worker, each in a thread of its own.
 ghost use Rattle.std.specs.Prelude.{◌≡◌, [], None, IfSome};
 ghost use Rattle.iocm_types.specs.declared.rule.Rule.TheVariants as rules;
-ghost use Rattle.iocm_rounds.specs.Rounds.{IsOffice};
-ghost use Rattle.iocm_rounds.specs.Sending.{AreSent, IsNewQueue, IsSent};
-ghost use Rattle.iocm_rounds.specs.Working.{IsWork};
+ghost use Rattle.iocm_rounds.specs.Rounds.{OfficeDid};
+ghost use Rattle.iocm_rounds.specs.Sending.{IsNewQueue, IsSent, OperatorsDid};
+ghost use Rattle.iocm_rounds.specs.Working.{WorkerDid};
 
 use crate::gates::{Actor, Door, Gates};
 use crate::operators::{Sent, send_in_turn};
@@ -49,7 +49,7 @@ fn run_operators<R: Threads + Wait + Sync, G: Gates + Sync>(
 ) -> Operators
     requires first { first.sent ≡ [] }
     requires second { second.sent ≡ [] }
-    ensures { AreSent p.items q.items first second result.p.done result.q.done result.p.left.items result.q.left.items }
+    ensures { OperatorsDid p.items q.items first second result }
 {
     let (p, q) = join(
         rt,
@@ -90,18 +90,18 @@ pub(crate) fn run_office<B: Identity + Send + Sync, R: Threads + Wait + Sync, G:
 ) -> Office<B>
     requires mine { me.tag ≡ system.now.board.tag }
     requires queue { IsNewQueue queue.0 queue.1 queue.2 }
-    ensures { IsOffice p.items q.items me result.caller result.first.items result.second.items result.stopped }
+    ensures { OfficeDid p.items q.items me result }
 {
     let (first, second, worker) = queue;
     let (sent, worked) = join(
         rt,
         || -> Operators
             requires { (first.sent ≡ []) × (second.sent ≡ []) }
-            ensures { AreSent p.items q.items first second result.p.done result.q.done result.p.left.items result.q.left.items }
+            ensures { OperatorsDid p.items q.items first second result }
         { run_operators(rt, gates, first, second, p, q) },
         || -> Work<B>
             requires { (me.tag ≡ system.now.board.tag) × (worker.taken ≡ []) }
-            ensures { IsWork worker me result.worker result.caller result.first.items result.second.items result.stopped }
+            ensures { WorkerDid worker me result }
         { run_worker(rt, alloc, gates, system, me, worker) },
     );
     let Operators {

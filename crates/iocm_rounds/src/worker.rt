@@ -1,6 +1,6 @@
 //! The worker: it makes the operators' calls, one after the other, as the queue gives them.
 ghost use Rattle.std.specs.Prelude.{◌≡◌, ◌<◌, ◌++◌, ◌∷◌, [], MatchOption};
-ghost use Rattle.iocm_rounds.specs.Working.{GoesOn, IsKept, IsWork};
+ghost use Rattle.iocm_rounds.specs.Working.{IsKept, WorkGoesOn, WorkerDid};
 
 use crate::gates::{Actor, Gates};
 use iocm_board::Identity;
@@ -35,7 +35,7 @@ pub(crate) fn run_worker<B: Identity, R: Wait, G: Gates>(
 ) -> Work<B>
     requires mine { me.tag ≡ system.now.board.tag }
     requires idle { worker.taken ≡ [] }
-    ensures { IsWork worker me result.worker result.caller result.first.items result.second.items result.stopped }
+    ensures { WorkerDid worker me result }
 {
     let mut work = Work {
         caller: me,
@@ -69,7 +69,7 @@ impl<B: Identity> Work<B> {
         requires mine { self.old.caller.tag ≡ system.now.board.tag }
         requires operator { number < 2 }
         ensures worker { self.new.worker ≡ self.old.worker }
-        ensures goes_on { GoesOn number call self.old.caller self.new.caller self.old.first.items self.new.first.items self.old.second.items self.new.second.items self.old.stopped self.new.stopped }
+        ensures goes_on { WorkGoesOn number call self.old self.new }
     {
         if self.stopped.is_some() {
             return;

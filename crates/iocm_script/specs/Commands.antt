@@ -13,7 +13,8 @@ use Rattle.iocm_script.specs.declared.said.ImageCommand.{ImageCommand}
 use Rattle.iocm_script.specs.declared.said.ImageCommand.TheVariants.{Io, DeviceBegin, DeviceEnd}
 use Rattle.iocm_script.specs.declared.said.ImageThread.TheVariants.{A, B}
 use Rattle.iocm_script.specs.declared.said.OperatorCommand.{OperatorCommand}
-use Rattle.iocm_script.specs.declared.said.OperatorCommand.TheVariants.{Activate, Begin, Advance, Commit, Abort, Undo, Redo, Show}
+use Rattle.iocm_script.specs.declared.said.OperatorCommand.TheVariants.{Activate, Begin, Advance, Commit, Abort, Undo}
+use Rattle.iocm_script.specs.declared.said.OperatorCommand.TheVariants.{Redo, Show}
 use Rattle.iocm_script.specs.declared.said.OperatorThread.TheVariants.{P, Q}
 use Rattle.iocm_script.specs.declared.said.Said.{Said}
 use Rattle.iocm_script.specs.declared.said.Said.TheVariants.{Image, Operator}

@@ -1,5 +1,6 @@
 -- What each line of a script is, and which are refused: K1, K2, K3.
-use Rattle.std.specs.Prelude.{ℕ, ◌+◌, ◌&&◌, nat_le, nat_lt, not, Bool, true, false, if◌then◌else◌, Option, None, Some, List, [], ◌∷◌, reverse, take, take_while, count_by, codes, Result, Ok, Err}
+use Rattle.std.specs.Prelude.{ℕ, ◌+◌, ◌&&◌, nat_le, nat_lt, not, Bool, true, false, if◌then◌else◌, Option, None, Some}
+use Rattle.std.specs.Prelude.{List, [], ◌∷◌, reverse, take, take_while, count_by, codes, Result, Ok, Err}
 use Rattle.std.specs.Option.{option_map, option_map_or}
 use Rattle.std.specs.Str.{bytes_eq}
 use Rattle.iocm_types.specs.declared.fault.Fault.{Fault}

@@ -1,5 +1,6 @@
 -- What stands behind the word of a command: a subchannel, what MODIFY SUBCHANNEL sets, a number.
-use Rattle.std.specs.Prelude.{ℕ, ◌==◌, Bool, true, false, if◌then◌else◌, Option, None, Some, List, [], ◌∷◌, length, codes}
+use Rattle.std.specs.Prelude.{ℕ, ◌==◌, Bool, true, false, if◌then◌else◌, Option, None, Some, List, [], ◌∷◌, length}
+use Rattle.std.specs.Prelude.{codes}
 use Rattle.std.specs.Str.{bytes_eq}
 use Rattle.iocm_types.specs.declared.order.Setting.{Setting}
 use Rattle.iocm_types.specs.declared.sub_id.SubId.{SubId}

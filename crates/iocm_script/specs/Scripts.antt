@@ -1,5 +1,6 @@
 -- A script: the lines of its rounds.
-use Rattle.std.specs.Prelude.{ℕ, Option, None, Some, List, map, filter_map, Result, Ok, ◌≤◌, count_by, ◌≡◌, ◌+◌, length, flat_map}
+use Rattle.std.specs.Prelude.{ℕ, Option, None, Some, List, map, filter_map, Result, Ok, ◌≤◌, count_by, ◌≡◌, ◌+◌, length}
+use Rattle.std.specs.Prelude.{flat_map}
 use Rattle.std.specs.List.{slice_split}
 use Rattle.iocm_types.specs.declared.fault.Fault.{Fault}
 use Rattle.iocm_types.specs.Fault.{◌>>=◌}

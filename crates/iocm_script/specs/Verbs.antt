@@ -4,7 +4,9 @@ use Rattle.std.specs.Map.{lookup}
 use Rattle.std.specs.Str.{bytes_eq}
 use Rattle.iocm_script.specs.declared.verb.Row as code
 use Rattle.iocm_script.specs.declared.verb.Verb.{Verb}
-use Rattle.iocm_script.specs.declared.verb.Verb.TheVariants.{Start, Halt, Clear, Cancel, Test, Store, Modify, Active, End, Activate, Begin, Advance, Commit, Abort, Undo, Redo, Show}
+use Rattle.iocm_script.specs.declared.verb.Verb.TheVariants.{Start, Halt, Clear, Cancel, Test, Store, Modify, Active}
+use Rattle.iocm_script.specs.declared.verb.Verb.TheVariants.{End, Activate, Begin, Advance, Commit, Abort, Undo, Redo}
+use Rattle.iocm_script.specs.declared.verb.Verb.TheVariants.{Show}
 
 -- a row of the code, wherever its bytes lie
 abbrev pub seen_row : code.Row → List ℕ × Verb

@@ -1,5 +1,6 @@
 -- How what an actor says is written: its words, a blank between each two.
-use Rattle.std.specs.Prelude.{◌≡◌, ℕ, ◌≤◌, ◌<◌, ◌/◌, ◌%◌, ◌&&◌, Bool, true, false, not, Some, List, [], ◌∷◌, ◌++◌, codes}
+use Rattle.std.specs.Prelude.{◌≡◌, ℕ, ◌≤◌, ◌<◌, ◌/◌, ◌%◌, ◌&&◌, Bool, true, false, not, Some, List, [], ◌∷◌, ◌++◌}
+use Rattle.std.specs.Prelude.{codes}
 use Rattle.std.specs.Fmt.{decimal}
 use Rattle.std.specs.List.{join_with_byte, list_all}
 use Rattle.iocm_types.specs.declared.order.Order.{Order}
@@ -12,7 +13,8 @@ use Rattle.iocm_script.specs.declared.said.ImageCommand.TheVariants.{Io, DeviceB
 use Rattle.iocm_script.specs.declared.said.ImageThread.{ImageThread}
 use Rattle.iocm_script.specs.declared.said.ImageThread.TheVariants.{A, B}
 use Rattle.iocm_script.specs.declared.said.OperatorCommand.{OperatorCommand}
-use Rattle.iocm_script.specs.declared.said.OperatorCommand.TheVariants.{Activate, Begin, Advance, Commit, Abort, Undo, Redo, Show}
+use Rattle.iocm_script.specs.declared.said.OperatorCommand.TheVariants.{Activate, Begin, Advance, Commit, Abort, Undo}
+use Rattle.iocm_script.specs.declared.said.OperatorCommand.TheVariants.{Redo, Show}
 use Rattle.iocm_script.specs.declared.said.OperatorThread.{OperatorThread}
 use Rattle.iocm_script.specs.declared.said.OperatorThread.TheVariants.{P, Q}
 use Rattle.iocm_script.specs.declared.said.Said.{Said}

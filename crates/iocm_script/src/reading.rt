@@ -1,6 +1,7 @@
 ghost use Rattle.std.specs.Prelude.{◌≡◌, ◌+◌, ◌^◌, ◌<◌, ◌≤◌, ◌⊎◌, ℕ, List, All, IfOk, IfSome, Err};
 ghost use Rattle.iocm_types.specs.Fault.{Gives};
-ghost use Rattle.iocm_columns.specs.Device.{reader_of, reads_of, unreadable, GivesIfReadable, IsOpen, IsUnread, IsWhole, StopsShort};
+ghost use Rattle.iocm_columns.specs.Device.{reader_of, reads_of, unreadable, GivesIfReadable, IsOpen, IsUnread};
+ghost use Rattle.iocm_columns.specs.Device.{IsWhole, StopsShort};
 ghost use Rattle.iocm_script.specs.Scripts as meaning;
 ghost use Rattle.iocm_script.specs.Scripts.{FitsQueue, script_in};
 

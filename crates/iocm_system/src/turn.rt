@@ -77,7 +77,10 @@ fn ended<B: Identity>(
     call: Call,
     left: VecDeque<Call>,
 ) -> Turn<B>
-    ensures { result ≡ record { caller = caller; ran = record { receipts = receipts; back = Some (record { rule = rule; call = call }); left = left } } }
+    ensures { result ≡ record {
+      caller = caller;
+      ran = record { receipts = receipts; back = Some (record { rule = rule; call = call }); left = left };
+    } }
 {
     let ran = Ran {
         receipts,

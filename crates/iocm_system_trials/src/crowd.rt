@@ -79,7 +79,8 @@ fn all_threads<B: Identity + Send + Sync, R: Threads + Wait + Sync>(
         { one_thread(rt, system, me, first) },
         || -> All<B>
             requires { other.tag ≡ system.now.board.tag }
-            ensures { (result.caller.tag ≡ other.tag) × (result.caller.names ≡ after_all (length calls.items) other.names) }
+            ensures { (result.caller.tag ≡ other.tag)
+                × (result.caller.names ≡ after_all (length calls.items) other.names) }
         { all_threads(rt, alloc, system, other, calls) },
     );
     let One {
