@@ -29,25 +29,27 @@ pub fn exchange<T: Drop + Send, R: Threads + Wait + Sync>(
     ensures second { IfOk result (λ taken. lines_of 1 (map message_of taken.items) ≡ second.items) }
 {
     let (one, two, worker) = queue::<T>(alloc)?;
-    let ((one, two), haul) = join(
+    // Where no thread can be made, `join` calls its first closure last: so the worker takes what
+    // was sent.
+    let (haul, (two, one)) = join(
         rt,
-        || -> (Finished<T>, Finished<T>)
-            ensures { (result.0 ≡ sends_lines one first.items) × (result.1 ≡ sends_lines two second.items) }
-        {
-            join(
-                rt,
-                || -> Finished<T>
-                    ensures { result ≡ sends_lines one first.items }
-                { send_all(rt, one, first) },
-                || -> Finished<T>
-                    ensures { result ≡ sends_lines two second.items }
-                { send_all(rt, two, second) },
-            )
-        },
         || -> Haul<T>
             requires { worker.taken ≡ [] }
             ensures { IsHaul worker.channel result }
         { take_all(rt, alloc, worker) },
+        || -> (Finished<T>, Finished<T>)
+            ensures { (result.0 ≡ sends_lines two second.items) × (result.1 ≡ sends_lines one first.items) }
+        {
+            join(
+                rt,
+                || -> Finished<T>
+                    ensures { result ≡ sends_lines two second.items }
+                { send_all(rt, two, second) },
+                || -> Finished<T>
+                    ensures { result ≡ sends_lines one first.items }
+                { send_all(rt, one, first) },
+            )
+        },
     );
     let Haul { mut worker, items } = haul;
     worker.settle(one);

@@ -6,7 +6,7 @@ ghost use Rattle.iocm_rounds.specs.Stops.{graver};
 
 use crate::gates::Gates;
 use crate::images::{Image, Images, Task, Tasks, run_images};
-use crate::office::{Office, run_office};
+use crate::office::{Office, OfficeTask, run_office};
 use crate::round::{Round, Seats};
 use crate::stops::graver;
 use iocm_board::Identity;
@@ -128,17 +128,25 @@ fn drive_by<B: Identity + Send + Sync, R: Threads + Wait + Sync, G: Gates + Sync
             calls: b,
         },
     };
-    let (images, office) = join(
+    let task = OfficeTask {
+        caller: clerk,
+        queue,
+        p,
+        q,
+    };
+    // The first of these comes last where no thread can be made.
+    let (office, images) = join(
         rt,
+        || -> Office<B>
+            requires { (task.caller.tag ≡ system.now.board.tag)
+                × IsNewQueue task.queue.0 task.queue.1 task.queue.2 }
+            ensures { OfficeDid task.p.items task.q.items task.caller result }
+        { run_office(rt, alloc, gates, system, task) },
         || -> Images<B>
             requires { (tasks.a.caller.tag ≡ system.now.board.tag) × (tasks.b.caller.tag ≡ system.now.board.tag) }
             ensures { ImageDid tasks.a.calls.items tasks.a.caller result.a
                 × ImageDid tasks.b.calls.items tasks.b.caller result.b }
         { run_images(rt, gates, system, tasks) },
-        || -> Office<B>
-            requires { (clerk.tag ≡ system.now.board.tag) × IsNewQueue queue.0 queue.1 queue.2 }
-            ensures { OfficeDid p.items q.items clerk result }
-        { run_office(rt, alloc, gates, system, clerk, queue, p, q) },
     );
     let Images { a, b } = images;
     Driven { a, b, office }

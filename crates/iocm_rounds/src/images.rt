@@ -85,16 +85,17 @@ pub(crate) fn run_images<B: Identity + Send + Sync, R: Threads + Wait + Sync, G:
     ensures b { ImageDid tasks.b.calls.items tasks.b.caller result.b }
 {
     let Tasks { a, b } = tasks;
-    let (a, b) = join(
+    // The first of these comes last where no thread can be made.
+    let (b, a) = join(
         rt,
-        || -> Image<B>
-            requires { a.caller.tag ≡ system.now.board.tag }
-            ensures { ImageDid a.calls.items a.caller result }
-        { run_image(rt, gates, Actor::A, system, a) },
         || -> Image<B>
             requires { b.caller.tag ≡ system.now.board.tag }
             ensures { ImageDid b.calls.items b.caller result }
         { run_image(rt, gates, Actor::B, system, b) },
+        || -> Image<B>
+            requires { a.caller.tag ≡ system.now.board.tag }
+            ensures { ImageDid a.calls.items a.caller result }
+        { run_image(rt, gates, Actor::A, system, a) },
     );
     Images { a, b }
 }

@@ -31,6 +31,16 @@ pub struct Office<B: Identity> {
     pub stopped: Option<Rule>,
 }
 
+/// What the operators and the worker are to do: from where the worker makes calls, the queue between
+/// them, and the calls of each operator.
+#[derive(Drop)]
+pub(crate) struct OfficeTask<B: Identity> {
+    pub caller: Caller<B>,
+    pub queue: (Operator<Call>, Operator<Call>, Worker<Call>),
+    pub p: VecDeque<Call>,
+    pub q: VecDeque<Call>,
+}
+
 /// Both operators have sent their calls.
 #[derive(Drop)]
 struct Operators {
@@ -51,18 +61,9 @@ fn run_operators<R: Threads + Wait + Sync, G: Gates + Sync>(
     requires second { second.sent ≡ [] }
     ensures { OperatorsDid p.items q.items first second result }
 {
-    let (p, q) = join(
+    // The first of these comes last where no thread can be made.
+    let (q, p) = join(
         rt,
-        || -> Sent
-            requires { first.sent ≡ [] }
-            ensures { IsSent p.items first result.done result.left.items }
-        {
-            let door = Door {
-                gates,
-                actor: Actor::P,
-            };
-            send_in_turn(rt, &door, first, p)
-        },
         || -> Sent
             requires { second.sent ≡ [] }
             ensures { IsSent q.items second result.done result.left.items }
@@ -72,6 +73,16 @@ fn run_operators<R: Threads + Wait + Sync, G: Gates + Sync>(
                 actor: Actor::Q,
             };
             send_in_turn(rt, &door, second, q)
+        },
+        || -> Sent
+            requires { first.sent ≡ [] }
+            ensures { IsSent p.items first result.done result.left.items }
+        {
+            let door = Door {
+                gates,
+                actor: Actor::P,
+            };
+            send_in_turn(rt, &door, first, p)
         },
     );
     Operators { p, q }
@@ -83,26 +94,31 @@ pub(crate) fn run_office<B: Identity + Send + Sync, R: Threads + Wait + Sync, G:
     alloc: Global,
     gates: &G,
     system: &System<B>,
-    me: Caller<B>,
-    queue: (Operator<Call>, Operator<Call>, Worker<Call>),
-    p: VecDeque<Call>,
-    q: VecDeque<Call>,
+    task: OfficeTask<B>,
 ) -> Office<B>
-    requires mine { me.tag ≡ system.now.board.tag }
-    requires queue { IsNewQueue queue.0 queue.1 queue.2 }
-    ensures { OfficeDid p.items q.items me result }
+    requires mine { task.caller.tag ≡ system.now.board.tag }
+    requires queue { IsNewQueue task.queue.0 task.queue.1 task.queue.2 }
+    ensures { OfficeDid task.p.items task.q.items task.caller result }
 {
+    let OfficeTask {
+        caller: me,
+        queue,
+        p,
+        q,
+    } = task;
     let (first, second, worker) = queue;
-    let (sent, worked) = join(
+    // Where no thread can be made, `join` calls its first closure last: so the worker takes what
+    // was sent.
+    let (worked, sent) = join(
         rt,
-        || -> Operators
-            requires { (first.sent ≡ []) × (second.sent ≡ []) }
-            ensures { OperatorsDid p.items q.items first second result }
-        { run_operators(rt, gates, first, second, p, q) },
         || -> Work<B>
             requires { (me.tag ≡ system.now.board.tag) × (worker.taken ≡ []) }
             ensures { WorkerDid worker me result }
         { run_worker(rt, alloc, gates, system, me, worker) },
+        || -> Operators
+            requires { (first.sent ≡ []) × (second.sent ≡ []) }
+            ensures { OperatorsDid p.items q.items first second result }
+        { run_operators(rt, gates, first, second, p, q) },
     );
     let Operators {
         p: Sent { done: p, left },
