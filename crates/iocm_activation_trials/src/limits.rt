@@ -14,7 +14,7 @@ pub const LIMITED: &[u8] = b" RESOURCE PARTITION=((CSS(0),(LPA,1),(LPB,2))),MAXD
 ";
 
 /// The refusal of a tree that is over a limit.
-fn over(rule: Rule) -> Refused {
+pub fn over(rule: Rule) -> Refused {
     Refused {
         rule,
         node: None,

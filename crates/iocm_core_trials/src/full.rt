@@ -93,11 +93,25 @@ fn sight_after(alloc: Global, acts: &[Act]) -> Result<Sight, Fail> {
 }
 
 /// Whether a core, once it is closed, has so many entries, and its machine shows this.
-pub fn has_left(alloc: Global, core: Core, entries: usize, wanted: &Sight) -> Result<bool, Fail> {
+fn has_left(alloc: Global, core: Core, entries: usize, wanted: &Sight) -> Result<bool, Fail> {
     let closed = core.close();
     let is_full = closed.trace.entries.len() == entries;
     let seen = look_at_last(alloc, &closed.plant)?;
     Ok(is_full && is_same(&seen, wanted))
+}
+
+/// Whether a core answers these acts as it should, has so many entries once it is closed, and its
+/// machine then shows this.
+pub fn have_left(
+    alloc: Global,
+    acts: &[Act],
+    entries: usize,
+    wanted: &Sight,
+) -> Result<bool, Fail> {
+    let mut core = opened(alloc, 64)?;
+    let wrong = first_wrong_of(alloc, &mut core, acts)?;
+    let is_left = has_left(alloc, core, entries, wanted)?;
+    Ok(wrong.is_none() && is_left)
 }
 
 /// Whether a trace with this room takes so many of these calls, and the machine then shows this.

@@ -22,6 +22,8 @@ pub enum Edit {
 pub enum Shape {
     /// One edit.
     One(Edit),
+    /// One edit in so many Groups, one in the other.
+    Nested(Edit, u32),
     /// A Group without parts.
     Nothing,
     /// A Group of three edits.
@@ -71,6 +73,7 @@ fn change_by(alloc: Global, way: Way, plan: &Plan) -> Result<Call, Fail> {
 pub fn change_in(alloc: Global, way: Way, shape: &Shape) -> Result<Call, Fail> {
     let plan = match shape {
         Shape::One(edit) => Plan::One(change_of(edit)?),
+        Shape::Nested(edit, count) => Plan::Nested(change_of(edit)?, *count),
         Shape::Nothing => Plan::Nothing,
         Shape::Three(first, second, third) => {
             Plan::Three(change_of(first)?, change_of(second)?, change_of(third)?)

@@ -6,7 +6,7 @@ use crate::asks::Ask::{
 };
 use crate::asks::Order::{Cancel, Enable, Start, Store, Test};
 use crate::asks::There;
-use crate::full::has_left;
+use crate::full::have_left;
 use crate::plans::Edit::{Becomes, Goes};
 use crate::plans::Shape;
 use crate::plans::Shape::{Choice, One, Three};
@@ -16,13 +16,13 @@ use crate::wanted::Wanted::{
     StartEnded,
 };
 use iocm_core::Core;
-use iocm_trial_machines::{Deck, Sight};
+use iocm_trial_machines::Deck;
 use iocm_types::{Answer, Rule};
 use std::alloc::Global;
 use std::test::Fail;
 
 /// Two devices exchange their unit addresses in three steps.
-const EXCHANGE: Shape = Three(
+pub const EXCHANGE: Shape = Three(
     Becomes(Deck::Away, 0x1002),
     Becomes(Deck::Over, 0x1003),
     Becomes(Deck::Back, 0x1002),
@@ -111,19 +111,6 @@ fn a_start_that_is_pending_is_cancelled_before_a_begin(rt: HostRuntime) -> Resul
     Ok(())
 }
 
-/// Whether the machine of these acts, once it is closed, shows this, and its trace has so many entries.
-fn are_taken_back(
-    alloc: Global,
-    acts: &[Act],
-    entries: usize,
-    wanted: &Sight,
-) -> Result<bool, Fail> {
-    let mut core = opened(alloc, 64)?;
-    let wrong = first_wrong_of(alloc, &mut core, acts)?;
-    let is_left = has_left(alloc, core, entries, wanted)?;
-    Ok(wrong.is_none() && is_left)
-}
-
 /// Aborts a change in stages after these acts.
 fn abort_after(alloc: Global, core: &mut Core, acts: &[Act]) -> Result<bool, Fail> {
     let wrong = first_wrong_of(alloc, core, acts)?;
@@ -152,7 +139,7 @@ fn is_aborted(alloc: Global, acts: &[Act]) -> Result<bool, Fail> {
     Ok(is_aborted && is_base(alloc, &after)?)
 }
 
-const STAGES: &[Act] = &[
+pub const STAGES: &[Act] = &[
     (Begin(EXCHANGE), Staged(3)),
     (Advance, Left(2)),
     (Advance, Left(1)),
@@ -169,11 +156,11 @@ fn a_change_is_aborted_at_each_stage(rt: HostRuntime) -> Result<(), Fail> {
     Ok(())
 }
 
-const LEFT_STAGED: &[Act] = &[(Begin(One(Goes(0x1003))), Staged(1)), (Advance, Left(0))];
+pub const LEFT_STAGED: &[Act] = &[(Begin(One(Goes(0x1003))), Staged(1)), (Advance, Left(0))];
 
 #[test]
 fn what_is_left_staged_is_taken_back_at_the_end(rt: HostRuntime) -> Result<(), Fail> {
     let wanted = base_sight(rt.alloc())?;
-    assert!(rt; are_taken_back(rt.alloc(), LEFT_STAGED, 2, &wanted)?);
+    assert!(rt; have_left(rt.alloc(), LEFT_STAGED, 2, &wanted)?);
     Ok(())
 }

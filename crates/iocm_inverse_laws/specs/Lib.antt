@@ -1,0 +1,2 @@
+pub mod KeptInverses
+pub mod WayBack
