@@ -20,9 +20,11 @@ device_text p = hex1 p.set ++ (codes "." ++ hex4 p.device)
 abbrev pub number_remark : Place × ℕ → List ℕ
 number_remark p = codes "* css " ++ (hex1 p.0.css ++ (codes " device " ++ (device_text p.0 ++ (codes " had number " ++ hex4 p.1))))
 
--- what a subchannel remembered, in the words of STORE's answer: * subchannel 0.1.0.0003 had lpm C0 ena 0 parm 00000000 scsw 0
+-- what a subchannel remembered, in the words of STORE's answer:
+-- * subchannel 0.1.0.0003 had lpm C0 ena 0 parm 00000000 scsw 0
 abbrev pub live_remark : SubId × Live → List ℕ
-live_remark r = codes "* subchannel " ++ (subchannel_text r.0 ++ (codes " had lpm " ++ (hex2 r.1.lpm ++ (codes " ena " ++ (enabled_text r.1.enabled
+live_remark r = codes "* subchannel " ++ (subchannel_text r.0 ++ (codes " had lpm " ++ (hex2 r.1.lpm
+    ++ (codes " ena " ++ (enabled_text r.1.enabled
     ++ (codes " parm " ++ (hex8 r.1.parm ++ (codes " scsw " ++ hex1 (bits_of r.1.phase).0))))))))
 
 -- the line of each

@@ -16,7 +16,8 @@ use Rattle.iocm_values.specs.Value.{before}
 use Rattle.iocm_values.specs.Words.{ended, words_from, words}
 use Rattle.iocm_values.proofs.Levels.{before_last}
 use Rattle.iocm_keywords.specs.LeftOut.{count_decimals, css_items}
-use Rattle.iocm_keywords.specs.Walk.{names_several, nesting_behind, is_front_of_css, css_text}
+use Rattle.iocm_statements.specs.Cutting.{nesting_behind}
+use Rattle.iocm_keywords.specs.Walk.{names_several, is_front_of_css, css_text}
 use Rattle.iocm_keywords.proofs.Runs.{front_has_nesting, none_inside}
 use Rattle.iocm_keywords.proofs.Within.{words_of_items, by_what_is_inside}
 
@@ -107,7 +108,6 @@ ends_inside q inside = rw inside refl
 
 -- CSS( that isn't closed
 pub open_names_none : (text : List ℕ) (q : Nesting) → nesting_behind start text ≡ Some q → names_several (codes "CSS(" ++ text) ≡ false
-unfolding nesting_behind
 open_names_none [] q is = names_none (codes "CSS(") refl
 open_names_none (b ∷ more) q is =
     ap (λ t. names_several (codes "CSS(" ++ t)) rest.2 ∙ uncut_names_none rest.0 rest.1 uncut

@@ -12,7 +12,8 @@ use Rattle.iocm_values.specs.Words.{words_from, words}
 use Rattle.iocm_keywords.specs.LeftOut.{count_decimals, names_several_css}
 use Rattle.iocm_keywords.specs.declared.nested_css.Items.{Items}
 use Rattle.iocm_keywords.specs.declared.nested_css.Level.{Level}
-use Rattle.iocm_keywords.specs.Walk.{names_several, nesting_behind, opens_css, closes_css, css_text, AreItemsRead, IsRead}
+use Rattle.iocm_statements.specs.Cutting.{nesting_behind}
+use Rattle.iocm_keywords.specs.Walk.{names_several, opens_css, closes_css, css_text, AreItemsRead, IsRead}
 use Rattle.iocm_keywords.proofs.Css.{open_names_none, last_names}
 use Rattle.iocm_keywords.proofs.Reading.{OpensCss, css_opens, slice_split, from_parenthesis, css_closes_words, css_closes_items, all_names, css_names}
 use Rattle.iocm_keywords.proofs.Runs.{within, nesting_of_both, nesting_opens, word_stays}

@@ -22,7 +22,8 @@ use Rattle.iocm_keywords.specs.LeftOut.{count_decimals}
 use Rattle.iocm_keywords.specs.declared.nested_css.Items.{Items}
 use Rattle.iocm_keywords.specs.declared.nested_css.Level.{Level}
 use Rattle.iocm_keywords.specs.declared.nested_css.Words.{Words}
-use Rattle.iocm_keywords.specs.Walk.{names_several, nesting_behind, is_front_of_css, opens_css, css_text, quoted_behind, MayBecomeCss, IsSettled, AreWordsRead, AreItemsRead, IsRead}
+use Rattle.iocm_statements.specs.Cutting.{nesting_behind}
+use Rattle.iocm_keywords.specs.Walk.{names_several, is_front_of_css, opens_css, css_text, quoted_behind, MayBecomeCss, IsSettled, AreWordsRead, AreItemsRead, IsRead}
 use Rattle.iocm_keywords.proofs.Css.{front_names_none, front_grows, other_names_none, more_names_none, ended_names, last_names, names_by_count}
 use Rattle.iocm_keywords.proofs.Runs.{after, depth_after, steps_to_after, nesting_of_both, nothing_first, first_twice, byte_first, in_parentheses, nesting_through, pieces_through, word_through}
 
@@ -39,7 +40,6 @@ pub level_begins : (text : List ℕ) (i : ℕ) (level : Level)
       items = Some (record { from = i; nesting = start; decimals = 0 });
     }
     → IsRead text i i level
-unfolding nesting_behind
 level_begins text i level is = subst (IsRead text i i) (sym is) (record {
   words = record {
     within = omega arith;
@@ -299,7 +299,6 @@ front_joins n item front (Some pieces) = ap (λ xs. Some (n + count_decimals xs)
 
 nesting_with : (text : List ℕ) (inside i : ℕ) (items : Items) (next : Nesting) → i < length text → AreItemsRead text inside i items
     → step items.nesting (get_or text i 0) ≡ Some next → nesting_behind start (slice_range text inside (i + 1)) ≡ Some next
-unfolding nesting_behind
 nesting_with text inside i items next within read steps =
     let in_text : inside ≤ items.from = read.within in
     let begun : items.from ≤ i = read.begun in

@@ -8,7 +8,7 @@ use Rattle.iocm_statements.specs.Nesting.{start, is_outside, step, cuts}
 use Rattle.iocm_statements.specs.Pieces.{onto_first, pieces_from}
 use Rattle.iocm_statements.proofs.Nestings.{step_over_cut}
 use Rattle.iocm_values.specs.Words.{words_from}
-use Rattle.iocm_keywords.specs.Walk.{nesting_behind}
+use Rattle.iocm_statements.specs.Cutting.{nesting_behind}
 
 -- ---- a byte
 
@@ -105,7 +105,6 @@ within_step n p q b = by (b == 39) p.quoted (b == 40) (b == 41) (p.depth == 0) (
 
 -- the nesting behind two texts, one behind the other
 pub nesting_of_both : (p q : Nesting) (a b : List ℕ) → nesting_behind p a ≡ Some q → nesting_behind p (a ++ b) ≡ nesting_behind q b
-unfolding nesting_behind
 nesting_of_both p q [] b is = let same : p ≡ q = cc in ap (λ r. nesting_behind r b) same
 nesting_of_both p q (x ∷ a) b is = by (λ r. nesting_of_both r q a b) (step p x) is
   where
@@ -118,7 +117,6 @@ nesting_of_both p q (x ∷ a) b is = by (λ r. nesting_of_both r q a b) (step p 
 -- where the whole has a nesting behind it, so has the front
 pub front_has_nesting : (p q : Nesting) (a b : List ℕ) → nesting_behind p (a ++ b) ≡ Some q
     → (r : Nesting) × (nesting_behind p a ≡ Some r) × (nesting_behind r b ≡ Some q)
-unfolding nesting_behind
 front_has_nesting p q [] b is = (p, refl, is)
 front_has_nesting p q (x ∷ a) b is = by (λ r. front_has_nesting r q a b) (step p x) is
   where
@@ -130,7 +128,6 @@ front_has_nesting p q (x ∷ a) b is = by (λ r. front_has_nesting r q a b) (ste
 
 -- deeper down, a text has the same nesting behind it
 nesting_within : (n : ℕ) (p q : Nesting) (a : List ℕ) → nesting_behind p a ≡ Some q → nesting_behind (within n p) a ≡ Some (within n q)
-unfolding nesting_behind
 nesting_within n p q [] is = ap (option_map (within n)) is
 nesting_within n p q (x ∷ a) is = by (λ r. nesting_within n r q a) (step p x) refl is
   where
@@ -143,7 +140,7 @@ nesting_within n p q (x ∷ a) is = by (λ r. nesting_within n r q a) (step p x)
 -- inside parentheses of its own a word goes on
 words_within : (n : ℕ) (p q : Nesting) (text a rest : List ℕ) → nesting_behind p a ≡ Some q
     → words_from (within n p) text (a ++ rest) ≡ words_from (within n q) (text ++ a) rest
-unfolding nesting_behind words_from
+unfolding words_from
 words_within n p q text [] rest is =
     let same : p ≡ q = cc in
     ap (λ r. words_from (within n r) text rest) same ∙ ap (λ t. words_from (within n q) t rest) (sym (append-nil text))
@@ -189,7 +186,6 @@ within_cuts_not n p b = ap (λ out. out && (b == 44)) (within_not_outside n p)
 
 pieces_within : (n : ℕ) (p q : Nesting) (a rest : List ℕ) → nesting_behind p a ≡ Some q
     → pieces_from (within n p) (a ++ rest) ≡ option_map (onto_first a) (pieces_from (within n q) rest)
-unfolding nesting_behind
 pieces_within n p q [] rest is =
     let same : p ≡ q = cc in
     ap (λ r. pieces_from (within n r) rest) same ∙ nothing_first_of (pieces_from (within n q) rest)
@@ -207,7 +203,7 @@ pieces_within n p q (x ∷ a) rest is = by (λ r. pieces_within n r q a rest) (s
 
 -- a text is cut only where its nesting comes back outside
 pub none_inside : (p q : Nesting) (a rest : List ℕ) → nesting_behind p a ≡ Some q → pieces_from q rest ≡ None → pieces_from p (a ++ rest) ≡ None
-unfolding nesting_behind pieces_from
+unfolding pieces_from
 none_inside p q [] rest is none = let same : p ≡ q = cc in ap (λ r. pieces_from r rest) same ∙ none
 none_inside p q (x ∷ a) rest is none = by (λ r here. none_inside r q a rest here none) (cuts p x) refl
   where
@@ -257,7 +253,6 @@ in_parentheses inside = 40 ∷ (inside ++ 41 ∷ [])
 -- it leaves the nesting as it was
 pub nesting_through : (p : Nesting) (inside : List ℕ) → p.quoted ≡ false → nesting_behind start inside ≡ Some start
     → nesting_behind p (in_parentheses inside) ≡ Some p
-unfolding nesting_behind
 nesting_through p inside out balanced =
     rw (opens_within p out)
     (nesting_of_both (within p.depth start) (within p.depth start) inside (41 ∷ []) (nesting_within p.depth start start inside balanced)
@@ -266,7 +261,6 @@ nesting_through p inside out balanced =
 -- behind its first parenthesis alone it is deeper
 pub nesting_opens : (p q : Nesting) (inside : List ℕ) → p.quoted ≡ false → nesting_behind start inside ≡ Some q
     → nesting_behind p (40 ∷ inside) ≡ Some (within p.depth q)
-unfolding nesting_behind
 nesting_opens p q inside out is = rw (opens_within p out) (nesting_within p.depth start q inside is)
 
 -- it is no more than the front of the piece at hand

@@ -1,12 +1,13 @@
 -- What the walk into nested CSS(..) knows of a text, up to a place in it.
 -- Bytes by their codes: 67 is C, 83 is S, 39 is a quote, 40 and 41 are parentheses.
-use Rattle.std.specs.Prelude.{ℕ, ◌≡◌, ◌≤◌, ◌+◌, ◌==◌, ◌&&◌, ◌||◌, ◌⊎◌, Bool, true, false, not, if◌then◌else◌, Option}
+use Rattle.std.specs.Prelude.{ℕ, ◌≡◌, ◌≤◌, ◌+◌, ◌==◌, ◌&&◌, ◌||◌, ◌⊎◌, Bool, true, false, not, if◌then◌else◌}
 use Rattle.std.specs.Prelude.{Some, List, [], ◌∷◌, ◌++◌, length, codes, slice_index, slice_range, IfSome}
 use Rattle.std.specs.List.{list_any}
-use Rattle.std.specs.Option.{option_map, option_map_or, option_and_then}
+use Rattle.std.specs.Option.{option_map, option_map_or}
 use Rattle.std.specs.Str.{bytes_eq}
 use Rattle.iocm_statements.specs.declared.nesting.Nesting.{Nesting}
-use Rattle.iocm_statements.specs.Nesting.{start, is_outside, step}
+use Rattle.iocm_statements.specs.Cutting.{nesting_behind}
+use Rattle.iocm_statements.specs.Nesting.{start, is_outside}
 use Rattle.iocm_statements.specs.Pieces.{onto_first, pieces_from, pieces_of}
 use Rattle.iocm_values.specs.Words as words
 use Rattle.iocm_keywords.specs.LeftOut.{count_decimals, spans_within}
@@ -17,11 +18,6 @@ use Rattle.iocm_keywords.specs.declared.nested_css.Words.{Words}
 -- the word names several channel subsystems, or a word inside its parentheses does
 unfoldable pub names_several : List ℕ → Bool
 names_several word = spans_within (length word) word
-
--- the nesting behind these bytes; there is none behind a parenthesis that closes nothing
-unfoldable pub nesting_behind : Nesting → List ℕ → Option Nesting
-nesting_behind p [] = Some p
-nesting_behind p (b ∷ bs) = option_and_then (λ q. nesting_behind q bs) (step p b)
 
 -- whether a byte that follows leaves the text inside quotes
 abbrev pub quoted_behind : Nesting → ℕ → Bool

@@ -31,8 +31,8 @@ pub struct Office<B: Identity> {
     pub stopped: Option<Rule>,
 }
 
-/// What the operators and the worker are to do: from where the worker makes calls, the queue between
-/// them, and the calls of each operator.
+/// What the operators and the worker are to do: from where the worker makes calls, the queue
+/// between them, and the calls of each operator.
 #[derive(Drop)]
 pub(crate) struct OfficeTask<B: Identity> {
     pub caller: Caller<B>,
