@@ -125,7 +125,8 @@ abbrev pub flag_text : Report → Text
 flag_text Table = codes "false"
 flag_text WayBack = codes "true"
 
--- the command and its matches are those of `apply` with this deck, this change deck, this text of a heap's size and this report
+-- the command and its matches are those of `apply` with this deck, this change deck, this text of a
+-- heap's size and this report
 abbrev pub IsApplyOf : Option (Text × List Row) → Text → Text → Text → Report → Type 0
 IsApplyOf named deck change size report = (argument_of (codes "DECK") named ≡ Some (codes "apply", Some deck))
     × (argument_of (codes "CHANGE") named ≡ Some (codes "apply", Some change))
@@ -189,7 +190,8 @@ IsRun named =
 abbrev pub StatesRun : List Text → Type 0
 StatesRun words = (mistakes words ≡ []) × IsRun (subcommand_of iocm_app words)
 
--- the program's name, `check`, `show` or `write`, and the name of a deck that doesn't begin with a hyphen
+-- the program's name, `check`, `show` or `write`, and the name of a deck that doesn't begin with a
+-- hyphen
 abbrev pub NamesDeck : List Text → Type 0
 NamesDeck words = (program name : Text) × (first : ℕ) × (rest : List ℕ) × IsDeckCommand name
     × (words ≡ program ∷ name ∷ (first ∷ rest) ∷ []) × ((first == 45) ≡ false)
@@ -207,7 +209,8 @@ abbrev pub AreApplyOptions : List Text → Type 0
 AreApplyOptions options = (size : List Text) × IsHeapOption size
     × ((options ≡ size) ⊎ ((options ≡ size ++ codes "--undo" ∷ []) ⊎ (options ≡ codes "--undo" ∷ size)))
 
--- the program's name, `apply`, the names of a deck and of a change deck that don't begin with a hyphen, and options or none
+-- the program's name, `apply`, the names of a deck and of a change deck that don't begin with a
+-- hyphen, and options or none
 abbrev pub NamesApply : List Text → Type 0
 NamesApply words = (program deck change : Text) × (options : List Text) × IsPlainName deck × IsPlainName change × AreApplyOptions options
     × (words ≡ program ∷ codes "apply" ∷ deck ∷ change ∷ options)

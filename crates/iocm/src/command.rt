@@ -48,8 +48,8 @@ pub enum Request<'a> {
     Write {
         deck: &'a str,
     },
-    /// Activate the change deck in the second file on the machine of the deck in the first one, and print this report; the change tree
-    /// is read in a heap of so many bytes.
+    /// Activate the change deck in the second file on the machine of the deck in the first one, and
+    /// print this report; the change tree is read in a heap of so many bytes.
     Apply {
         deck: &'a str,
         change: &'a str,

@@ -9,9 +9,10 @@
 //! the machine of a configuration deck as a script says, and prints every answer and the table at
 //! the end.
 //!
-//! The exit status is 0 where a command did what it was asked to do, 1 where
-//! a text was refused (one line on standard output says why), 2 where the command line is not understood, and 3
-//! where a file cannot be read or the output cannot be written (`fault L5` or `fault L6` on standard error).
+//! The exit status is 0 where a command did what it was asked to do, 1 where a text was refused
+//! (one line on standard output says why), 2 where the command line is not understood, and 3 where
+//! a file cannot be read or the output cannot be written (`fault L5` or `fault L6` on standard
+//! error).
 //!
 //! Begin with `command.rt`, the command line, and `answer.rt`, which call is whose; all else is in
 //! `iocm_console`, `iocm_apply` and `iocm_run`.
@@ -222,7 +223,8 @@ fn refuse_memory<R: Print>(rt: &R) -> Result<ExitCode, ConsoleError> {
     Ok(ExitCode::from(status.code()))
 }
 
-/// Prints what `clap` says of the command line: help on standard output, a mistake on standard error.
+/// Prints what `clap` says of the command line: help on standard output, a mistake on standard
+/// error.
 fn explain<R: Print + Eprint>(rt: &R, error: &clap::Error) -> Result<ExitCode, ConsoleError> {
     if error.kind() == ErrorKind::OutOfMemory {
         return refuse_memory(rt);

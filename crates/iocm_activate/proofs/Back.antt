@@ -1,4 +1,5 @@
--- Edits that lead back: they do so still where a machine is in the same state and has lost no place, and one after the other.
+-- Edits that lead back: they do so still where a machine is in the same state and has lost no
+-- place, and one after the other.
 use Rattle.std.proofs.Common.{◌≡◌, List, [], ◌∷◌, ◌++◌, refl, sym, ap, subst, ◌∙◌}
 use Rattle.std.proofs.lemmas.List.{append-nil, append_assoc}
 use Rattle.iocm_model.specs.Operation.State.{State, HasLives, IsSound}

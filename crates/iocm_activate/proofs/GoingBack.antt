@@ -1,4 +1,5 @@
--- Changes that are those of an edit turned round are just what it is to go back, cell by cell; and so along a whole run.
+-- Changes that are those of an edit turned round are just what it is to go back, cell by cell; and
+-- so along a whole run.
 use Rattle.std.proofs.Common.{◌≡◌, ℕ, Bool, true, false, cond, not, ◌&&◌, ◌||◌, List, [], ◌∷◌, ◌++◌, map, length, reverse, Option, Some, None, refl, sym, ap, subst, ◌∙◌, arith, eqb-true, eq-eqb}
 use Rattle.std.specs.Prelude.{nat_eq}
 use Rattle.std.specs.List.{list_any, list_all}

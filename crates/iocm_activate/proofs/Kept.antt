@@ -1,4 +1,5 @@
--- From which place of the log on the rules may be broken, and that they can be checked near the keys behind it.
+-- From which place of the log on the rules may be broken, and that they can be checked near the
+-- keys behind it.
 use Rattle.std.proofs.Common.{◌≡◌, Bool, true, false, ◌||◌, List, [], ◌∷◌, ◌++◌, length, drop, refl, sym, ap, subst, ◌∙◌, arith}
 use Rattle.std.specs.List.{list_all}
 use Rattle.std.specs.Ordering.{eq_by_cmp}

@@ -1,4 +1,5 @@
--- In the middle of telling of a change: the edits of a log go over to the inverse tree, the last one first.
+-- In the middle of telling of a change: the edits of a log go over to the inverse tree, the last
+-- one first.
 use Rattle.std.proofs.Common.{◌≡◌, ◌<◌, ◌≤◌, ◌+◌, List, [], ◌∷◌, ◌++◌, length, map, reverse, refl, sym, ap, ◌∙◌, arith, rules, Vec}
 use Rattle.std.specs.Vec.{vec_capacity}
 use Rattle.std.proofs.lemmas.List.{append_assoc, append-nil, map-append, reverse-append, length-append}

@@ -1,4 +1,5 @@
--- An edit that is tried as the way back of another one: what it leaves, and that it can be taken back itself.
+-- An edit that is tried as the way back of another one: what it leaves, and that it can be taken
+-- back itself.
 use Rattle.std.proofs.Common.{◌≡◌, ℕ, ◌+◌, ◌<◌, ◌≤◌, Bool, true, false, cond, not, ◌&&◌, ◌||◌, List, [], ◌∷◌, ◌++◌, length, get_or, drop, reverse, Option, Some, None, is_some, refl, sym, ap, subst, ◌∙◌}
 use Rattle.std.specs.Prelude.{Result, Ok, Err}
 use Rattle.std.specs.Option.{option_or, option_and_then}
@@ -184,7 +185,8 @@ abbrev pub is_row : ChangeTree → Bool
 is_row (model.row ps) = true
 is_row _ = false
 
--- parts that take back what was performed, at the end of which the rules are kept, say whether a change fits
+-- parts that take back what was performed, at the end of which the rules are kept, say whether a
+-- change fits
 pub fits_by : (t : CarriedTree) (ps : CarriedParts) (ds : List Touched) (u : State) (is : Bool) → t ≡ row ps
     → is ≡ keeps_the_rules (gone_back_along (plain_parts ps) (reverse ds) u)
     → (es : List Edit) (s : State) → plain_tree t ≡ inverse_tree es s → AreToldBy ds (told_of_all es s) → is ≡ fits (record { edits = es; from = s }) u

@@ -25,7 +25,8 @@ abbrev pub leaves_from : List Carried → CarriedParts
 leaves_from [] = none
 leaves_from (i ∷ is) = part (leaf i) (leaves_from is)
 
--- a tree is one Row of edits that can be unapplied on a machine, one after the other, without memory, and lead to a state
+-- a tree is one Row of edits that can be unapplied on a machine, one after the other, without
+-- memory, and lead to a state
 pub record IsWayBack (t : CarriedTree) (s : State) (p : Operating) : Type 0 where
   pub edits : List Carried
   pub shape : t ≡ row (leaves_from edits)

@@ -1,4 +1,5 @@
--- What is kept of edits that were performed: what each changed, and the edits that take them back. Own.
+-- What is kept of edits that were performed: what each changed, and the edits that take them back.
+-- Own.
 use Rattle.std.specs.Prelude.{◌≡◌, List, [], ◌∷◌, ◌++◌}
 use Rattle.iocm_types.specs.declared.key.Key.{Key}
 use Rattle.iocm_model.specs.Operation.State.{State, views_in}
@@ -13,7 +14,8 @@ use Rattle.iocm_plant.specs.Operating.{Operating}
 use Rattle.iocm_plant.specs.TakingBack.{CanUnapply}
 use Rattle.iocm_plant.specs.declared.touched.Applied.{Applied}
 
--- of an edit that was performed: the edit that takes it back, the number cells that changed, and the subchannels that were altered
+-- of an edit that was performed: the edit that takes it back, the number cells that changed, and
+-- the subchannels that were altered
 pub record Told : Type 0 where
   pub inverse : Edit
   pub numbers : List NumberChange

@@ -1,4 +1,5 @@
--- A walk through a part of a change tree: what it did to the machine, what it kept of that, and what it answered. Own.
+-- A walk through a part of a change tree: what it did to the machine, what it kept of that, and
+-- what it answered. Own.
 use Rattle.std.specs.Prelude.{◌≡◌, ◌≤◌, List, ◌++◌, map, drop, length, Option, None, Some, Ok, Err}
 use Rattle.iocm_types.specs.declared.refused.Refused.{Refused}
 use Rattle.iocm_model.specs.Operation.State.{State, IsSound}
@@ -11,8 +12,9 @@ use Rattle.iocm_plant.specs.declared.touched.Applied.{Applied}
 use Rattle.iocm_activate.specs.Told.{told_in, told_of_all, key_of_edit, way_back, LeadsTo}
 use Rattle.iocm_activate.specs.declared.log.Log.{Log}
 
--- some edits were accepted and performed, one after the other: the machine is in the state after them, the log tells of each of them behind
--- what it told before, and they can be taken back without memory
+-- some edits were accepted and performed, one after the other: the machine is in the state after
+-- them, the log tells of each of them behind what it told before, and they can be taken back
+-- without memory
 pub record Ran (before : Operating) (old : Log) (after : Operating) (new : Log) : Type 0 where
   pub edits : List Edit
   pub accepted : AreAccepted edits before.state
@@ -29,7 +31,8 @@ abbrev pub outcome_of : Option Refused → State → List Edit → Outcome
 outcome_of None s es = Ok (record { state = s; edits = es })
 outcome_of (Some why) s es = Err why
 
--- a walk answers what the part of the tree means. Where that is a refusal, what it did until then is still done
+-- a walk answers what the part of the tree means. Where that is a refusal, what it did until then
+-- is still done
 pub record Answers (meant : Outcome) (before : Operating) (old : Log) (after : Operating) (new : Log) (answer : Option Refused) : Type 0 where
   pub ran : Ran before old after new
   pub means : meant ≡ outcome_of answer after.state ran.edits

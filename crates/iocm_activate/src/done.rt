@@ -15,7 +15,8 @@ use std::alloc::{AllocError, Global};
 /// That a change was performed. The word is own.
 #[derive(Drop)]
 pub struct Done {
-    /// The tree that takes it back: one Row of the inverses of the edits that were performed, that of the last one first.
+    /// The tree that takes it back: one Row of the inverses of the edits that were performed, that
+    /// of the last one first.
     pub inverse: Tree,
     /// What it wrote, with the values after it.
     pub effect: Effect,

@@ -21,8 +21,9 @@ use iocm_table::Table;
 use iocm_types::{DevNo, Key, Live, NumberCell, SubId, TableKey};
 use std::alloc::{AllocError, Global};
 
-/// The effect of a change: the cells that it wrote, each with its value after the change; none where there is nothing any more. Also a
-/// cell is among them that one edit wrote and a later one put back. The word is own.
+/// The effect of a change: the cells that it wrote, each with its value after the change; none
+/// where there is nothing any more. Also a cell is among them that one edit wrote and a later one
+/// put back. The word is own.
 #[derive(Drop)]
 pub struct Effect {
     /// The records, under the keys of the edits.

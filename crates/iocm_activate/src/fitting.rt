@@ -20,9 +20,10 @@ use iocm_plant::{Plant, Touched};
 use iocm_tree::{Edit, Tree};
 use std::alloc::{AllocError, Allocator, Global};
 
-/// Whether a change fits a machine that keeps the rules: whether the edits of its inverse tree, performed now, be the subchannels quiet or
-/// not, take back edit by edit just what the change did, each number cell and each view from what it was after the edit to what it was
-/// before; and whether the rules are kept at the end. The state stays as it is.
+/// Whether a change fits a machine that keeps the rules: whether the edits of its inverse tree,
+/// performed now, be the subchannels quiet or not, take back edit by edit just what the change did,
+/// each number cell and each view from what it was after the edit to what it was before; and
+/// whether the rules are kept at the end. The state stays as it is.
 ///
 /// `AllocError` (M1): memory was wanted.
 pub fn fits<A: Allocator>(
@@ -49,7 +50,8 @@ pub fn fits<A: Allocator>(
     }
 }
 
-/// Whether these parts take back what was performed, and the rules are kept at the end. What was done until then is still done.
+/// Whether these parts take back what was performed, and the rules are kept at the end. What was
+/// done until then is still done.
 ///
 /// `AllocError` (M1): memory was wanted.
 fn try_back<A: Allocator>(
@@ -70,8 +72,9 @@ fn try_back<A: Allocator>(
     Ok(first_broken(plant, log).is_ok())
 }
 
-/// Performs parts in order, each of which is to take back what was performed, the last first. The answer is whether they do; it stops
-/// at the first that doesn't. What was done until then is still done.
+/// Performs parts in order, each of which is to take back what was performed, the last first. The
+/// answer is whether they do; it stops at the first that doesn't. What was done until then is still
+/// done.
 ///
 /// `AllocError` (M1): memory was wanted.
 fn all_go_back<A: Allocator>(
@@ -103,7 +106,8 @@ fn all_go_back<A: Allocator>(
     Ok(true)
 }
 
-/// Performs an edit that is to take back what another one did. The answer is whether it does; where it is refused, it doesn't.
+/// Performs an edit that is to take back what another one did. The answer is whether it does; where
+/// it is refused, it doesn't.
 ///
 /// `AllocError` (M1): memory was wanted.
 fn goes_back<A: Allocator>(

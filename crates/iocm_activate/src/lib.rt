@@ -1,14 +1,17 @@
 //! Activation of change trees: all or none, with the tree that takes the change back.
 //!
-//! `activate` performs a `Tree` on a `Plant` that keeps the rules: all the edits that the tree means, or none. It walks through the tree
-//! and logs each edit that it performs, with the edit that takes it back; a part of a Choose that is refused, and the whole tree where it is
-//! refused or where memory is wanted, is taken back from the log without memory. `Done` has the inverse tree, the `Effect`, and what
-//! each edit did. `fits` tries whether the inverse tree of a change would take back now just what the change did, and leaves the
-//! state as it was.
+//! `activate` performs a `Tree` on a `Plant` that keeps the rules: all the edits that the tree
+//! means, or none. It walks through the tree and logs each edit that it performs, with the edit
+//! that takes it back; a part of a Choose that is refused, and the whole tree where it is refused
+//! or where memory is wanted, is taken back from the log without memory. `Done` has the inverse
+//! tree, the `Effect`, and what each edit did. `fits` tries whether the inverse tree of a change
+//! would take back now just what the change did, and leaves the state as it was.
 //!
-//! What the layer above may rely on: the state afterwards and each refusal are those of the model's `meaning`, a refused tree leaves the
-//! state as it was, and the inverse tree takes the change back, by its meaning and, edit by edit, without memory. Begin with
-//! `specs/Told.antt` and `specs/Walked.antt`, then `activation.rt` and `walk.rt`; of `fits` with `specs/Fitting.antt`, then `fitting.rt`.
+//! What the layer above may rely on: the state afterwards and each refusal are those of the model's
+//! `meaning`, a refused tree leaves the state as it was, and the inverse tree takes the change
+//! back, by its meaning and, edit by edit, without memory. Begin with `specs/Told.antt` and
+//! `specs/Walked.antt`, then `activation.rt` and `walk.rt`; of `fits` with `specs/Fitting.antt`,
+//! then `fitting.rt`.
 #![tactic(auto)]
 
 mod activation;

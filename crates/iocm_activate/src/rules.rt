@@ -12,7 +12,8 @@ use iocm_plant::Plant;
 use iocm_rules::{Breach, check, check_near, near_edits_keep_the_rest};
 use iocm_types::{At, Key, Refused};
 
-/// Whether the rules are kept where a node ends. The answer is the first breach of them, at that node, if there is one.
+/// Whether the rules are kept where a node ends. The answer is the first breach of them, at that
+/// node, if there is one.
 pub fn broken(plant: &Plant, log: &mut Log, node: u64) -> Option<Refused>
     requires kept { WereKept log.old plant.now.state }
     ensures value { result ≡ option_map (λ (b : Breach). record { rule = b.rule; node = Some node; at = at.Key b.key }) (first_breach plant.now.state.config plant.now.state.numbers) }
@@ -35,7 +36,8 @@ pub fn broken(plant: &Plant, log: &mut Log, node: u64) -> Option<Refused>
     }
 }
 
-/// The first breach of the rules. Where only devices and online records were changed since the rules held, all else is passed over.
+/// The first breach of the rules. Where only devices and online records were changed since the
+/// rules held, all else is passed over.
 pub fn first_broken(plant: &Plant, log: &Log) -> Result<(), Breach>
     requires kept { WereKept log.now plant.now.state }
     ensures { result_err result ≡ first_breach plant.now.state.config plant.now.state.numbers }

@@ -5,7 +5,8 @@ ghost use Rattle.iocm_activate.specs.Told.{CanTakeBack, LeadsTo, way_back};
 use crate::log::{Log, Mark};
 use iocm_plant::{Applied, Plant};
 
-/// Takes the edits back that were performed since a mark was made, the last one first. Can't answer want of memory.
+/// Takes the edits back that were performed since a mark was made, the last one first. Can't answer
+/// want of memory.
 pub fn take_back(plant: &mut Plant, log: &mut Log, mark: Mark)
     requires { CanTakeBack (drop mark.done log.old.done.items) plant.old }
     ensures state { (s : State) → LeadsTo (way_back (drop mark.done log.old.done.items)) s plant.old → plant.new.state ≡ s }

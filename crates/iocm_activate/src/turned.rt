@@ -9,8 +9,8 @@ use iocm_plant::Touched;
 use iocm_seats::ViewChange;
 use iocm_types::View;
 
-/// Whether an edit did just what another one did, turned round: each change at the same cell, from what was there after that one to what was
-/// there before it.
+/// Whether an edit did just what another one did, turned round: each change at the same cell, from
+/// what was there after that one to what was there before it.
 pub fn is_turned(now: &Touched, was: &Touched) -> bool
     ensures { result ≡ (pointwise is_turned_number now.now.numbers.items was.now.numbers.items && pointwise is_turned_view now.now.subchannels.items was.now.subchannels.items) }
 {

@@ -13,8 +13,8 @@ use iocm_tree::Tree;
 use iocm_types::{At, Refused, Rule};
 use std::alloc::{AllocError, Allocator, Global};
 
-/// Performs a tree whose first node has this number. The answer is why it is refused, if it is; what was done until then is
-/// still done.
+/// Performs a tree whose first node has this number. The answer is why it is refused, if it is;
+/// what was done until then is still done.
 ///
 /// `AllocError` (M1): memory was wanted; what was done until then is still done.
 #[cycle(walk)]
@@ -115,8 +115,9 @@ fn walk_all<A: Allocator>(
     Ok(None)
 }
 
-/// Performs the first part of a Choose that is accepted and after which the rules are kept; each one that is refused is taken back. The
-/// answer is the last refusal, where all are refused; E3, where there are none.
+/// Performs the first part of a Choose that is accepted and after which the rules are kept; each
+/// one that is refused is taken back. The answer is the last refusal, where all are refused; E3,
+/// where there are none.
 ///
 /// `AllocError` (M1): memory was wanted; what was done until then is still done.
 #[cycle(walk)]

@@ -1,4 +1,5 @@
--- Edits of devices and online records that were performed since the rules were kept, and that the rules can be checked near their keys.
+-- Edits of devices and online records that were performed since the rules were kept, and that the
+-- rules can be checked near their keys.
 use Rattle.std.proofs.Common.{◌≡◌, Bool, true, false, ◌||◌, ◌⊎◌, inl, inr, List, [], ◌∷◌, ◌++◌, refl, sym, ap, subst, ◌∙◌}
 use Rattle.std.specs.Ordering.{eq_by_cmp}
 use Rattle.std.proofs.lemmas.Bool.{or_cases, false≢true}
@@ -16,7 +17,8 @@ use Rattle.iocm_model.proofs.Change.RunsGoBack.{all_append}
 use Rattle.iocm_device_rules.specs.Among.{is_one_of}
 use Rattle.iocm_rules.specs.Near.{is_near_key, AreNear, KeptBut, keys_edited, NearEditsKeepTheRest}
 
--- the rules were kept; since then edits at these keys, of devices and online records, were performed
+-- the rules were kept; since then edits at these keys, of devices and online records, were
+-- performed
 pub record Since (keys : List Key) (s : State) : Type 0 where
   pub before : State
   pub sound : IsSound before

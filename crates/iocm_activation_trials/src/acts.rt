@@ -14,13 +14,15 @@ pub enum Act {
     Order(SubId, Order, Io),
     /// The device of a subchannel ends a function.
     End(SubId),
-    /// A change, which performs so many edits and alters so many subchannels. The first one is kept.
+    /// A change, which performs so many edits and alters so many subchannels. The first one is
+    /// kept.
     Activate(Plan, usize, usize),
     /// A change that is refused.
     Refuse(Plan, Refused),
     /// The change that is kept is taken back.
     TakeBack,
-    /// A change is made, taken back, and made again by what that gives: the machine is as it was each time.
+    /// A change is made, taken back, and made again by what that gives: the machine is as it was
+    /// each time.
     ThereAndBack(Plan),
     /// Nothing is done: whether the change that is kept fits.
     Fits(bool),
@@ -63,7 +65,8 @@ fn is_refused(alloc: Global, plant: &mut Plant, plan: &Plan, why: &Refused) -> R
 }
 
 impl Trial {
-    /// Makes a change, and keeps it if none is kept. The answer is how many edits it performed, and how many subchannels it altered.
+    /// Makes a change, and keeps it if none is kept. The answer is how many edits it performed, and
+    /// how many subchannels it altered.
     fn activate(&mut self, alloc: Global, plan: &Plan) -> Result<(usize, usize), Fail> {
         let tree = tree_of(alloc, plan)?;
         let done = accepted(alloc, &mut self.plant, &tree)?;
@@ -118,7 +121,8 @@ impl Trial {
     }
 }
 
-/// The place of the first act that the machine of a deck doesn't answer as it should, if there is one.
+/// The place of the first act that the machine of a deck doesn't answer as it should, if there is
+/// one.
 pub fn first_wrong(alloc: Global, deck: &[u8], acts: &[Act]) -> Result<Option<usize>, Fail> {
     let mut trial = Trial {
         plant: machine(alloc, deck)?,

@@ -23,7 +23,8 @@ fn attempt(alloc: Global, plant: &mut Plant, tree: &Tree) -> Result<Result<Done,
     Ok(activate(alloc, plant, tree))
 }
 
-/// What a machine answers to a change tree, where memory may be wanted once: the machine is then as it was, and the tree is tried anew.
+/// What a machine answers to a change tree, where memory may be wanted once: the machine is then as
+/// it was, and the tree is tried anew.
 pub fn answer(
     alloc: Global,
     plant: &mut Plant,

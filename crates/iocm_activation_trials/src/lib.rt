@@ -1,4 +1,5 @@
-//! Change trees on a machine in operation, tried by the calls of `iocm_activate`, and the rules near their edits: there is nothing here to call.
+//! Change trees on a machine in operation, tried by the calls of `iocm_activate`, and the rules
+//! near their edits: there is nothing here to call.
 //!
 //! A trial is a list of acts with what they answer (`acts.rt`). A tree is activated on a machine
 //! that keeps the rules, where memory may be wanted once (`attempt.rt`). The worked examples say

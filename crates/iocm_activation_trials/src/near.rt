@@ -1,5 +1,6 @@
-//! The rules near the edits of a change, and what is seen after each of them. The edits are performed one by one on a machine in operation;
-//! then `check_near` must answer what `check` does, and the machine must show what a machine that is opened afresh shows.
+//! The rules near the edits of a change, and what is seen after each of them. The edits are
+//! performed one by one on a machine in operation; then `check_near` must answer what `check` does,
+//! and the machine must show what a machine that is opened afresh shows.
 ghost use Rattle.std.specs.Prelude.{◌≡◌, true, OnOk};
 ghost use Rattle.iocm_model.specs.Change.Edit.{state_after};
 ghost use Rattle.iocm_rules.specs.Near.{is_near_key, KeptBut};
@@ -97,7 +98,8 @@ enum Step {
 enum Wanted {
     /// The rules are kept, and the machine shows what that of a deck does.
     Kept(&'static [u8]),
-    /// The rules are kept, and each image sees what it does at the machine of a deck, whose records differ in the access list of a path.
+    /// The rules are kept, and each image sees what it does at the machine of a deck, whose records
+    /// differ in the access list of a path.
     Seen(&'static [u8]),
     /// The first breach is of this rule, with a device of set 0.
     Broken(Rule, u16),
@@ -289,7 +291,8 @@ fn first_wrong_row(
     if !keeps_rules(plant) {
         return Err(Fail::from("a rule is broken"));
     }
-    // For the proof alone: the state is sound, and what edits of devices and of online records leave as it was.
+    // For the proof alone: the state is sound, and what edits of devices and of online records
+    // leave as it was.
     plant.is_sound();
     near_edits_keep_the_rest();
     let mut keys = Vec::new(alloc);

@@ -1,5 +1,5 @@
-//! What a change tree means, read plainly: each edit is tried on a machine that is opened afresh and to which all that was done before is
-//! done once more, so that nothing is ever taken back.
+//! What a change tree means, read plainly: each edit is tried on a machine that is opened afresh
+//! and to which all that was done before is done once more, so that nothing is ever taken back.
 use crate::attempt::at_node;
 use iocm_plant::Plant;
 use iocm_rules::{Breach, check};
@@ -129,7 +129,8 @@ fn leaf(alloc: Global, past: &mut Past, edit: &Edit, node: u64) -> Result<bool, 
     }
 }
 
-/// Whether a tree whose first node has a number is done; else the refusal is noted, and what was done until then is still there.
+/// Whether a tree whose first node has a number is done; else the refusal is noted, and what was
+/// done until then is still there.
 #[cycle(plain)]
 fn tree_at(alloc: Global, past: &mut Past, tree: &Tree, node: u64) -> Result<bool, Fail> {
     match tree {
@@ -189,7 +190,8 @@ fn closed_at(alloc: Global, past: &mut Past, tree: &Tree, node: u64) -> Result<b
     }
 }
 
-/// Whether a tree within the limits is accepted, and done; else the refusal is noted, and nothing was done.
+/// Whether a tree within the limits is accepted, and done; else the refusal is noted, and nothing
+/// was done.
 pub fn read_plainly(alloc: Global, past: &mut Past, tree: &Tree) -> Result<bool, Fail> {
     let length = past.deeds.len();
     let is_done = closed_at(alloc, past, tree, 0)?;

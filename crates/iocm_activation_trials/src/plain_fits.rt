@@ -77,7 +77,8 @@ fn is_undone_well(alloc: Global, plant: &mut Plant, done: &Done) -> Result<bool,
     Ok(are_undone(alloc, plant, parts, done.performed.as_slice())? && keeps_rules(plant))
 }
 
-/// Whether a change fits, read plainly: its inverse is performed on a machine that is opened afresh, and to which all is done once more.
+/// Whether a change fits, read plainly: its inverse is performed on a machine that is opened
+/// afresh, and to which all is done once more.
 pub fn plain_fits(alloc: Global, past: &Past, done: &Done) -> Result<bool, Fail> {
     let mut plant = past.machine(alloc)?;
     is_undone_well(alloc, &mut plant, done)

@@ -90,7 +90,8 @@ fn is_as_plainly(alloc: Global, plant: &Plant, past: &Past) -> Result<(), Fail> 
     is_as_before(alloc, plant, &past.sight(alloc)?)
 }
 
-/// What is kept of a change that was accepted: it fits where it was made, can be taken back, and the plain reading agrees.
+/// What is kept of a change that was accepted: it fits where it was made, can be taken back, and
+/// the plain reading agrees.
 fn look_into(
     alloc: Global,
     plant: &mut Plant,
@@ -104,7 +105,8 @@ fn look_into(
     is_as_plainly(alloc, plant, past)
 }
 
-/// Tries a tree, and compares what is answered and left with the plain reading. The answer is what is kept of it, if it is accepted.
+/// Tries a tree, and compares what is answered and left with the plain reading. The answer is what
+/// is kept of it, if it is accepted.
 fn compare(
     alloc: Global,
     plant: &mut Plant,

@@ -1,4 +1,5 @@
--- Configurations that agree at all keys but one: what a view depends on, and that it is the same where the key is none of that.
+-- Configurations that agree at all keys but one: what a view depends on, and that it is the same
+-- where the key is none of that.
 use Rattle.std.proofs.Common.{◌≡◌, ℕ, ◌+◌, ◌/◌, Bool, true, false, cond, not, ◌&&◌, ◌||◌, nat_eq, eq-eqb, List, [], ◌∷◌, ◌++◌, take, drop, Option, Some, None, refl, sym, ap, ◌∙◌}
 use Rattle.std.proofs.lemmas.List.{take-append-drop}
 use Rattle.std.proofs.lemmas.List.Folds.{list_any-append}
@@ -59,7 +60,8 @@ mask_on bit f g (x ∷ xs) same = λ i. cond (same x (in_front x xs) i) bit 0 + 
 abbrev pub AgreeBut : Key → Lookup → Lookup → Type 0
 AgreeBut key c d = (q : Key) → (q ≡ key → ⊥) → c q ≡ d q
 
--- a key is none of those on which it depends what the image of a name in a channel subsystem sees of a device
+-- a key is none of those on which it depends what the image of a name in a channel subsystem sees
+-- of a device
 pub record IsApart (key : Key) (c : Lookup) (css : ℕ) (name : List ℕ) (r : DeviceRecord) : Type 0 where
   pub units : (u : ℕ) → IsIn u r.units → Unit u ≡ key → ⊥
   pub paths : (n : ℕ) → IsIn n (path_list c css r.units) → Path css n ≡ key → ⊥

@@ -1,4 +1,5 @@
--- Who names whom on the way from a device to what it depends on: a device its units, a unit its paths, a path the images that reach it.
+-- Who names whom on the way from a device to what it depends on: a device its units, a unit its
+-- paths, a path the images that reach it.
 use Rattle.std.proofs.Common.{◌≡◌, ℕ, Bool, true, false, cond, ◌||◌, nat_eq, eqb-true, List, [], ◌∷◌, ◌++◌, map, filter, Option, Some, None, unwrap_or, refl, sym, ap, ◌∙◌}
 use Rattle.std.proofs.lemmas.List.Folds.{list_any-append}
 use Rattle.std.specs.Cmp.Lexicographic.{pointwise, same_text}

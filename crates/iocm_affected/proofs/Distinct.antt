@@ -1,4 +1,5 @@
--- Places, or keys, that are sorted and of which each is kept once: they rise, and are the same; and what the same keys lead to is the same.
+-- Places, or keys, that are sorted and of which each is kept once: they rise, and are the same; and
+-- what the same keys lead to is the same.
 use Rattle.std.proofs.Common.{◌≡◌, Bool, true, false, cond, ◌||◌, List, [], ◌∷◌, ◌++◌, append_assoc, refl, sym, ap, subst, ◌∙◌}
 use Rattle.std.specs.List.{dedup, dedup_from, list_any, flat_map}
 use Rattle.std.specs.List.Retain.{IsFiltered, DiffersFromLast}
@@ -39,7 +40,8 @@ module _ {A : Type 0} (same : A → A → Bool) (test : A → Bool) (alike : (x 
       by true is here next = here ∙ one_more (test k) (test x) (list_any test xs) (alike x k is)
       by false is here next = ap (λ b. test k || b) next
 
-  -- what is left where each stands once passes a test that tells no two apart, exactly where something did
+  -- what is left where each stands once passes a test that tells no two apart, exactly where
+  -- something did
   any_once : (xs : List A) → list_any test (dedup same xs) ≡ list_any test xs
   any_once [] = refl
   any_once (x ∷ xs) = any_from x xs

@@ -1,4 +1,5 @@
--- A walk over the records from the first key of an image on finds the images of a group, and finds them in order.
+-- A walk over the records from the first key of an image on finds the images of a group, and finds
+-- them in order.
 use Rattle.std.proofs.Common.{◌≡◌, ℕ, ◌<◌, ◌≤◌, Bool, true, false, cond, nat_lt, List, [], ◌∷◌, ◌++◌, T, refl, sym, ap, subst, ◌∙◌, append_assoc, arith}
 use Rattle.std.proofs.lemmas.Bool.{ltb-true, false≢true}
 use Rattle.std.proofs.lemmas.List.{append-nil}

@@ -1,5 +1,5 @@
--- What is led to is listed: the places of a device are among those to which the device leads, each unit of it, each path of its path list,
--- and each name of an image that reaches one of these.
+-- What is led to is listed: the places of a device are among those to which the device leads, each
+-- unit of it, each path of its path list, and each name of an image that reaches one of these.
 use Rattle.std.proofs.Common.{◌≡◌, ℕ, Bool, true, false, cond, ◌&&◌, nat_eq, eqb-true, List, [], ◌∷◌, Some, None, refl, sym, ap, ◌∙◌}
 use Rattle.std.specs.List.{list_any, flat_map}
 use Rattle.std.specs.Ordering.{eq_by_cmp}

@@ -153,7 +153,8 @@ module _ (c : Configuration) (changed : Key) (after : Option Rec) (keyed : IsKey
       → ((r : DeviceRecord) → lookup_of c (key.Device p.set p.device) ≡ Some (device r) → IsApart changed (lookup_of c) p.css name r) → seen c p name ≡ seen then p name
   same_seen p name other apart = same_view changed (lookup_of c) (lookup_of then) agree p.css name p.set p.device other apart
 
-  -- whether a place is reached stays where the key is neither that of its device nor that of a unit of it
+  -- whether a place is reached stays where the key is neither that of its device nor that of a unit
+  -- of it
   same_place : (p : Place) → p.css < 6 → p.set < 4 → (key.Device p.set p.device ≡ changed → ⊥)
       → ((r : DeviceRecord) → lookup_of c (key.Device p.set p.device) ≡ Some (device r) → (u : ℕ) → IsIn u r.units → key.Unit u ≡ changed → ⊥)
       → is_reached_at c p ≡ is_reached_at then p

@@ -1,4 +1,5 @@
--- Which places and images a change may affect: those at which a device may come in or leave, or be seen differently. Own.
+-- Which places and images a change may affect: those at which a device may come in or leave, or be
+-- seen differently. Own.
 use Rattle.std.specs.Prelude.{◌≡◌, ℕ, ◌<◌, true, false, List, Option, is_some}
 use Rattle.std.specs.List.{list_any}
 use Rattle.std.specs.Option.{option_and_then}
@@ -23,9 +24,10 @@ sight_at c mif p = option_and_then (λ (i : ImageRecord). image_view (lookup_of 
 abbrev pub image_at : ℕ → Place → images.Image
 image_at mif p = record { css = p.css; mif = mif }
 
--- of two configurations, these places and images are all at which they may differ: at any other place a device is reached as before and, in
--- channel subsystems 0 to 5, each image sees there what it saw; any other image sees everywhere what it saw; and where an image that is there
--- at first isn't among these, devices in its channel subsystem come in and leave nowhere
+-- of two configurations, these places and images are all at which they may differ: at any other
+-- place a device is reached as before and, in channel subsystems 0 to 5, each image sees there what
+-- it saw; any other image sees everywhere what it saw; and where an image that is there at first
+-- isn't among these, devices in its channel subsystem come in and leave nowhere
 pub record AreAllAffected (c d : Configuration) (places : List Place) (seeing : List images.Image) : Type 0 where
   pub reached : (p : Place) → list_any (eq_by_cmp place_cmp p) places ≡ false → is_reached_at c p ≡ is_reached_at d p
   pub off_places : (p : Place) (mif : ℕ) → p.css < 6 → list_any (eq_by_cmp place_cmp p) places ≡ false → sight_at c mif p ≡ sight_at d mif p

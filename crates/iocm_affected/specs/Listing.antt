@@ -81,7 +81,8 @@ AreSamePlaces xs ys = (p : Place) → list_any (eq_by_cmp place_cmp p) xs ≡ li
 abbrev pub AreSameKeys : List Key → List Key → Type 0
 AreSameKeys xs ys = (k : Key) → list_any (eq_by_cmp key_cmp k) xs ≡ list_any (eq_by_cmp key_cmp k) ys
 
--- an image of this channel subsystem and name is of a group: of all, of those of a channel subsystem, or of those of a name there
+-- an image of this channel subsystem and name is of a group: of all, of those of a channel
+-- subsystem, or of those of a name there
 abbrev pub is_of : Group → ℕ → List ℕ → Bool
 is_of All css name = true
 is_of (In within) css name = css == within

@@ -17,7 +17,8 @@ use iocm_record::Record;
 use iocm_types::{Image, Key, Place};
 use std::alloc::{AllocError, Allocator, Global};
 
-/// The places and the images that a change may affect: at other places, and to other images, everything is as before. Own.
+/// The places and the images that a change may affect: at other places, and to other images,
+/// everything is as before. Own.
 #[derive(Drop)]
 pub struct Affected<A: Allocator = Global> {
     /// The places at which a device may come in, leave or be seen differently, rising.
@@ -26,9 +27,10 @@ pub struct Affected<A: Allocator = Global> {
     pub images: Vec<Image, A>,
 }
 
-/// What may be affected where the record of a key becomes another, or none, or where it comes in. The index is that of the configuration
-/// before the change. The time is that of sorting the places that lead to the key, and of a walk over the images; a device of which
-/// several paths lead there counts as often.
+/// What may be affected where the record of a key becomes another, or none, or where it comes in.
+/// The index is that of the configuration before the change. The time is that of sorting the places
+/// that lead to the key, and of a walk over the images; a device of which several paths lead there
+/// counts as often.
 ///
 /// `AllocError` (M1): memory was wanted.
 pub fn affected_by<A: Allocator, B: Allocator, C: Allocator + Clone>(

@@ -20,9 +20,9 @@ enum Group {
     Named(Css, Name),
 }
 
-/// The images that look at the record of a key, in order. An image looks at its own record; at the paths of its channel subsystem; at
-/// what is said to be online to its name there; and at all units and devices. The time is that of one search, and of a walk over the
-/// images, 90 at the most.
+/// The images that look at the record of a key, in order. An image looks at its own record; at the
+/// paths of its channel subsystem; at what is said to be online to its name there; and at all units
+/// and devices. The time is that of one search, and of a walk over the images, 90 at the most.
 ///
 /// `AllocError` (M1): memory was wanted.
 pub(crate) fn led_images<A: Allocator, B: Allocator>(

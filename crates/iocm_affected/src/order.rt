@@ -6,7 +6,8 @@ ghost use Rattle.iocm_affected.specs.Listing.{AreSamePlaces, AreSameKeys};
 use iocm_types::{Key, Place};
 use std::alloc::{AllocError, Allocator};
 
-/// The same places in order, each once: a device may be met on two of its units. The time is that of sorting them.
+/// The same places in order, each once: a device may be met on two of its units. The time is that
+/// of sorting them.
 ///
 /// `AllocError` (M1): memory was wanted.
 pub(crate) fn in_order<A: Allocator>(mut places: Vec<Place, A>) -> Result<Vec<Place, A>, AllocError>
@@ -18,7 +19,8 @@ pub(crate) fn in_order<A: Allocator>(mut places: Vec<Place, A>) -> Result<Vec<Pl
     Ok(places)
 }
 
-/// The same keys, each once: a unit may be met on several of its paths. The time is that of sorting them.
+/// The same keys, each once: a unit may be met on several of its paths. The time is that of sorting
+/// them.
 ///
 /// `AllocError` (M1): memory was wanted.
 pub(crate) fn each_key_once<A: Allocator>(mut keys: Vec<Key, A>) -> Result<Vec<Key, A>, AllocError>

@@ -9,8 +9,9 @@ use iocm_record::{Record, RecordBody};
 use iocm_types::{Css, Key, Name, Named, Place};
 use std::alloc::{AllocError, Allocator};
 
-/// Puts the places to which a key leads, whose record was one and becomes another, behind those that are listed. The time is in
-/// proportion to the number of places that are found, a device once for each unit of it that leads there.
+/// Puts the places to which a key leads, whose record was one and becomes another, behind those
+/// that are listed. The time is in proportion to the number of places that are found, a device once
+/// for each unit of it that leads there.
 ///
 /// `AllocError` (M1): memory was wanted.
 pub(crate) fn list_led<A: Allocator, B: Allocator, C: Allocator + Clone>(
@@ -56,7 +57,8 @@ fn list_of_image<A: Allocator, B: Allocator, C: Allocator>(
     }
 }
 
-/// Those of the devices on the units on the paths of a channel subsystem that name an image. Each unit is looked at once.
+/// Those of the devices on the units on the paths of a channel subsystem that name an image. Each
+/// unit is looked at once.
 fn list_of_name<B: Allocator, C: Allocator>(
     alloc: C,
     listed: &mut Vec<Place, C>,

@@ -7,8 +7,8 @@ use iocm_index::Index;
 use iocm_types::{Css, Key, Name, Named};
 use std::alloc::{AllocError, Allocator};
 
-/// The users of the paths of a channel subsystem that name an image, each once. Units are among them. The time is that of sorting
-/// them, a unit once for each path of it that names the image.
+/// The users of the paths of a channel subsystem that name an image, each once. Units are among
+/// them. The time is that of sorting them, a unit once for each path of it that names the image.
 ///
 /// `AllocError` (M1): memory was wanted.
 pub(crate) fn users_of_name<B: Allocator, C: Allocator>(
@@ -38,7 +38,8 @@ fn all_users_of_name<B: Allocator, C: Allocator>(
     Ok(users)
 }
 
-/// Puts the users of a path, if it is one of the channel subsystem, behind those that are listed. What is no path has none.
+/// Puts the users of a path, if it is one of the channel subsystem, behind those that are listed.
+/// What is no path has none.
 fn list_on_path<B: Allocator, C: Allocator>(
     users: &mut Vec<Key, C>,
     index: &Index<B>,

@@ -15,7 +15,7 @@ use Rattle.iocm_model.specs.Change.Meaning.{Outcome, Performed, meaning}
 use Rattle.iocm_model.specs.Change.Runs.{effect_of}
 use Rattle.iocm_model.specs.Change.Tree.{ChangeTree}
 use Rattle.iocm_tree.specs.Trees.{CarriedTree, plain_tree}
-use Rattle.iocm_treetext.specs.Reading.{read_tree}
+use Rattle.iocm_tree_reader.specs.Reading.{read_tree}
 use Rattle.iocm_console.specs.declared.status.Status.TheVariants.{Done}
 use Rattle.iocm_console.specs.Changed.{changed_text}
 use Rattle.iocm_console.specs.Opening.{Shown, configuration_in, statements_in, opened_or_refused, refused, declined}
@@ -23,16 +23,19 @@ use Rattle.iocm_apply.specs.declared.report.Report.{Report}
 use Rattle.iocm_apply.specs.declared.report.Report.TheVariants.{Table, WayBack}
 use Rattle.iocm_apply.specs.WayBack.{way_back_text}
 
--- the change tree of the lines of a change deck, or the first fault: of the statements, then of the tree
+-- the change tree of the lines of a change deck, or the first fault: of the statements, then of the
+-- tree
 abbrev pub change_in : List Card → Result CarriedTree Fault
 change_in cards = statements_in cards >>= read_tree
 
--- a report of a change: how many subchannels it altered, and the table of the state that it left; or the deck of the change tree that takes it back
+-- a report of a change: how many subchannels it altered, and the table of the state that it left;
+-- or the deck of the change tree that takes it back
 abbrev pub reported : Report → ℕ → ChangeTree → State → Shown
 reported Table altered back s = record { text = (changed_text altered ++ 10 ∷ []) ++ table_of s.config s.numbers; status = Done }
 reported WayBack altered back s = record { text = way_back_text back; status = Done }
 
--- what is printed of what a change tree means in a state: the report of the edits that were performed, or the refusal
+-- what is printed of what a change tree means in a state: the report of the edits that were
+-- performed, or the refusal
 abbrev pub made : Report → State → Outcome → Shown
 made report s (Ok r) = reported report (len (effect_of r.edits s).lives) (inverse_tree r.edits s) r.state
 made report s (Err why) = declined why
@@ -46,7 +49,8 @@ tried report s (Err fault) = refused fault
 abbrev pub lines_tried : Report → State → Result (List Card) Fault → Shown
 lines_tried report s change = tried report s (change >>= change_in)
 
--- what is printed of a configuration that was read, and of the lines of a change deck: the configuration's refusal comes first
+-- what is printed of a configuration that was read, and of the lines of a change deck: the
+-- configuration's refusal comes first
 abbrev pub applied_to : Report → Result Configuration Fault → Result (List Card) Fault → Shown
 applied_to report config change = opened_or_refused (λ c n. lines_tried report (opening_state c) change) config
 

@@ -34,6 +34,7 @@ number_line p = number_remark p ++ 10 ∷ []
 unfoldable pub live_line : SubId × Live → List ℕ
 live_line r = live_remark r ++ 10 ∷ []
 
--- the lines of what comes along with an edit: its numbers, then its live records in the order of subchannels
+-- the lines of what comes along with an edit: its numbers, then its live records in the order of
+-- subchannels
 abbrev pub remarks_of : Edit → List ℕ
 remarks_of e = flat_map number_line e.places ++ flat_map live_line (entries e.lives)

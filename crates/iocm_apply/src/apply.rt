@@ -27,13 +27,16 @@ use iocm_types::Fault;
 use std::alloc::Global;
 use std::io::{Read, Write};
 
-/// Prints what a change deck does to the machine of a deck, by `report` how many subchannels it alters and the table afterwards, or the
-/// change deck that takes it back; or the refusal of the deck's first fault or of the first rule that it breaks, of the change deck's first fault, or of the change. Each deck is read to
-/// its end by at most `limit` reads, the change tree in a heap of `heap` bytes, and all memory is taken before the first byte is written.
+/// Prints what a change deck does to the machine of a deck, by `report` how many subchannels it
+/// alters and the table afterwards, or the change deck that takes it back; or the refusal of the
+/// deck's first fault or of the first rule that it breaks, of the change deck's first fault, or of
+/// the change. Each deck is read to its end by at most `limit` reads, the change tree in a heap of
+/// `heap` bytes, and all memory is taken before the first byte is written.
 ///
-/// L5 (`ConsoleError::Read`): a read failed, or none of `limit` reads gave the end; nothing is written then, and a deck that is
-/// refused is refused before the change deck counts. L6 (`ConsoleError::Write`): a write failed; what is written up to there is not said. All
-/// other faults, want of memory (M1) too, are refusals, which are printed.
+/// L5 (`ConsoleError::Read`): a read failed, or none of `limit` reads gave the end; nothing is
+/// written then, and a deck that is refused is refused before the change deck counts. L6
+/// (`ConsoleError::Write`): a write failed; what is written up to there is not said. All other
+/// faults, want of memory (M1) too, are refusals, which are printed.
 pub fn apply_change<R: Read, S: Read, W: Write>(
     alloc: Global,
     heap: usize,
@@ -70,7 +73,8 @@ pub fn apply_change<R: Read, S: Read, W: Write>(
     }
 }
 
-/// Prints what the lines of a change deck, as far as they are there, do to the machine of the lines of a deck.
+/// Prints what the lines of a change deck, as far as they are there, do to the machine of the lines
+/// of a deck.
 fn apply_to_deck<W: Write>(
     alloc: Global,
     heap: usize,
@@ -94,7 +98,8 @@ fn apply_to_deck<W: Write>(
     }
 }
 
-/// Prints what the lines of a change deck, as far as they are there, do to the machine of a configuration.
+/// Prints what the lines of a change deck, as far as they are there, do to the machine of a
+/// configuration.
 fn apply_to_config<W: Write>(
     alloc: Global,
     heap: usize,

@@ -40,8 +40,9 @@ fn put_parts<A: Allocator>(
     Ok(())
 }
 
-/// The change deck of a tree that takes a change back. Behind its statements stands, in comments, what comes along with its edits and no
-/// statement says: the subchannel numbers that devices had, and what subchannels remembered. It calls itself as deep as the tree is.
+/// The change deck of a tree that takes a change back. Behind its statements stands, in comments,
+/// what comes along with its edits and no statement says: the subchannel numbers that devices had,
+/// and what subchannels remembered. It calls itself as deep as the tree is.
 ///
 /// `AllocError` (M1): memory was wanted.
 pub fn way_back<A: Allocator>(alloc: Global, tree: &Tree<A>) -> Result<Vec<u8>, AllocError>

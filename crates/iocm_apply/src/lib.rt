@@ -1,13 +1,15 @@
 //! `apply`: a change deck, tried on the machine that a deck describes.
 //!
-//! `apply_change` reads a deck and a change deck from a `Device` each, opens the machine of the deck, reads the change tree in a heap of a
-//! fixed size, copies it out, lets that heap go, activates the copy and prints to an `Output` what a `Report` names: how many subchannels the
-//! change altered and the table afterwards, or the change deck that takes the change back; or the one line of its refusal. What is printed
-//! and the status are exactly what `applied` says of the bytes of both decks; only want of memory (`refused M1`) may come instead. The
-//! deck's refusals come before those of the change deck.
+//! `apply_change` reads a deck and a change deck from a `Device` each, opens the machine of the
+//! deck, reads the change tree in a heap of a fixed size, copies it out, lets that heap go,
+//! activates the copy and prints to an `Output` what a `Report` names: how many subchannels the
+//! change altered and the table afterwards, or the change deck that takes the change back; or the
+//! one line of its refusal. What is printed and the status are exactly what `applied` says of the
+//! bytes of both decks; only want of memory (`refused M1`) may come instead. The deck's refusals
+//! come before those of the change deck.
 //!
-//! Begin with `specs/Apply.antt`, then `apply.rt`, `change.rt` and `printing.rt`; of the way back with `specs/WayBack.antt`, then
-//! `back.rt` and `remarks.rt`.
+//! Begin with `specs/Apply.antt`, then `apply.rt`, `change.rt` and `printing.rt`; of the way back
+//! with `specs/WayBack.antt`, then `back.rt` and `remarks.rt`.
 #![tactic(auto)]
 
 mod apply;

@@ -25,8 +25,9 @@ use iocm_types::Fault;
 use std::alloc::{Allocator, Global};
 use std::io::Write;
 
-/// Prints a report of a change that was made: how many subchannels it altered and the table of the machine, or the change deck that takes
-/// it back. All memory is taken before the first byte is written.
+/// Prints a report of a change that was made: how many subchannels it altered and the table of the
+/// machine, or the change deck that takes it back. All memory is taken before the first byte is
+/// written.
 ///
 /// M1, a refusal, which is printed: memory was wanted.
 pub fn print_report<W: Write>(
@@ -46,7 +47,8 @@ pub fn print_report<W: Write>(
     }
 }
 
-/// Prints how many subchannels a change altered, and the table of the machine. All memory is taken before the first byte is written.
+/// Prints how many subchannels a change altered, and the table of the machine. All memory is taken
+/// before the first byte is written.
 ///
 /// M1, a refusal, which is printed: memory was wanted.
 fn print_machine<W: Write>(
@@ -65,7 +67,8 @@ fn print_machine<W: Write>(
     }
 }
 
-/// Prints how many subchannels a change altered, and the table at some number cells. Can't answer want of memory.
+/// Prints how many subchannels a change altered, and the table at some number cells. Can't answer
+/// want of memory.
 fn print_lines<W: Write>(
     altered: usize,
     config: &Config,
@@ -80,7 +83,8 @@ fn print_lines<W: Write>(
     write_lines(output, config, cells)
 }
 
-/// Prints the change deck of a tree that takes a change back. All memory is taken before the first byte is written.
+/// Prints the change deck of a tree that takes a change back. All memory is taken before the first
+/// byte is written.
 ///
 /// M1, a refusal, which is printed: memory was wanted.
 fn print_way_back<A: Allocator, W: Write>(

@@ -132,7 +132,8 @@ fn put_lives(alloc: Global, lives: &[(SubId, Live)], text: &mut Vec<u8>) -> Resu
     Ok(())
 }
 
-/// Puts behind a text, in comments, what comes along with an edit: its numbers, then its live records in the order of subchannels.
+/// Puts behind a text, in comments, what comes along with an edit: its numbers, then its live
+/// records in the order of subchannels.
 pub fn put_remarks<A: Allocator>(
     alloc: Global,
     edit: &Edit<A>,

@@ -15,9 +15,9 @@ use Rattle.iocm_statements.specs.declared.operation.Operation.TheVariants.{Id, R
 use Rattle.iocm_statements.specs.declared.statement.Statement.{Statement}
 use Rattle.iocm_statements.specs.Operands.{Operand}
 use Rattle.iocm_operands.specs.declared.device.Devices.{Devices}
-use Rattle.iocm_records.specs.ChpidRecords.{chpid_path}
-use Rattle.iocm_records.specs.DeviceRecords.{statement_devices, device_set}
-use Rattle.iocm_records.specs.UnitRecords.{unit_number}
+use Rattle.iocm_record_reader.specs.ChpidRecords.{chpid_path}
+use Rattle.iocm_record_reader.specs.DeviceRecords.{statement_devices, device_set}
+use Rattle.iocm_record_reader.specs.UnitRecords.{unit_number}
 use Rattle.iocm_change_records.specs.declared.pairs.Pairs.{Pairs}
 use Rattle.iocm_change_records.specs.Pairs.{pairs_of}
 use Rattle.iocm_change_records.specs.ResourceKeys.{resource_keys}

@@ -1,4 +1,5 @@
--- Whether both lists of a path are written, judged by shape alone: a SHARED or REC path of a change deck wants both. Own.
+-- Whether both lists of a path are written, judged by shape alone: a SHARED or REC path of a change
+-- deck wants both. Own.
 use Rattle.std.specs.Prelude.{ℕ, ◌-◌, ◌&&◌, ◌||◌, nat_le, Bool, not, if◌then◌else◌, List, [], ◌∷◌, length, take, codes, unwrap_or}
 use Rattle.std.specs.List.{list_any}
 use Rattle.std.specs.Option.{option_and_then}

@@ -14,8 +14,8 @@ use Rattle.iocm_values.specs.NameSet.{name_item}
 use Rattle.iocm_values.specs.Reading as reading
 use Rattle.iocm_values.specs.Value.{Value, items}
 use Rattle.iocm_model.specs.Machine.Record.{Rec}
-use Rattle.iocm_records.specs.ChpidRecords.{chpid_path, online_to}
-use Rattle.iocm_records.specs.Values.{required}
+use Rattle.iocm_record_reader.specs.ChpidRecords.{chpid_path, online_to}
+use Rattle.iocm_record_reader.specs.Values.{required}
 use Rattle.iocm_change_records.specs.declared.pairs.Pairs.{Pairs}
 use Rattle.iocm_change_records.specs.Table.{lacks_key, has_key_left_out}
 

@@ -12,7 +12,7 @@ use Rattle.iocm_operands.specs.Resource.{mif_of}
 use Rattle.iocm_values.specs.CssLists.{by_css}
 use Rattle.iocm_values.specs.Reading.{◌>>=◌, every_at, gathered}
 use Rattle.iocm_values.specs.Value.{Value, word, list, items}
-use Rattle.iocm_records.specs.Values.{optional}
+use Rattle.iocm_record_reader.specs.Values.{optional}
 use Rattle.iocm_change_records.specs.declared.image_keys.ImageKey.{ImageKey}
 use Rattle.iocm_change_records.specs.declared.limit_keys.LimitSeat.{LimitSeat}
 

@@ -1,4 +1,5 @@
--- The whole records that an ADD or MODIFY statement gives. Own; each is what the statement gives in a deck of its own.
+-- The whole records that an ADD or MODIFY statement gives. Own; each is what the statement gives in
+-- a deck of its own.
 use Rattle.std.specs.Prelude.{if◌then◌else◌, Option, Some, List, [], ◌∷◌, take, Result, Ok, Err}
 use Rattle.iocm_types.specs.declared.fault.Fault.{Fault}
 use Rattle.iocm_types.specs.declared.rule.Rule.TheVariants.{S3, S10}
@@ -9,7 +10,7 @@ use Rattle.iocm_statements.specs.declared.operation.Operation.{Operation}
 use Rattle.iocm_statements.specs.declared.operation.Operation.TheVariants.{Id, Resource, Chpid, Cntlunit, Iodevice, Online}
 use Rattle.iocm_statements.specs.declared.statement.Statement.{Statement}
 use Rattle.iocm_model.specs.Machine.Record.{Rec}
-use Rattle.iocm_records.specs.Deck.{deck_records, read_statement, nothing_read}
+use Rattle.iocm_record_reader.specs.Deck.{deck_records, read_statement, nothing_read}
 use Rattle.iocm_change_records.specs.Listed.{lacks_lists}
 use Rattle.iocm_change_records.specs.Pairs.{online_records}
 use Rattle.iocm_change_records.specs.Verbs.{verb_named}
@@ -18,8 +19,8 @@ use Rattle.iocm_change_records.specs.Verbs.{verb_named}
 abbrev pub alone : Statement → Result (List Rec) Fault
 alone s = deck_records (s ∷ [])
 
--- a path without the images that it is online to: it is the first of its statement's records. Where no image is known, a
--- SHARED or REC path has no lists by default, so both are to be written
+-- a path without the images that it is online to: it is the first of its statement's records. Where
+-- no image is known, a SHARED or REC path has no lists by default, so both are to be written
 abbrev pub path_alone : Statement → Result (List Rec) Fault
 path_alone s = if lacks_lists s.operands then Err (at S3 s.line) else (alone s >>= λ records. Ok (take 1 records))
 

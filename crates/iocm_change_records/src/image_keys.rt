@@ -95,8 +95,8 @@ fn keys_in(alloc: Global, images: &[ImageKey]) -> Result<Vec<Key>, AllocError>
     Ok(keys)
 }
 
-/// The keys of PARTITION of DELETE RESOURCE, a list by channel subsystem of pairs whose second item is an image's digit. The
-/// first isn't looked at, but it isn't empty.
+/// The keys of PARTITION of DELETE RESOURCE, a list by channel subsystem of pairs whose second item
+/// is an image's digit. The first isn't looked at, but it isn't empty.
 pub fn image_keys(alloc: Global, value: Value) -> Result<Vec<Key>, Unread>
     ensures { Reads (λ v. v.items) result (meaning.image_keys (seen value.entry)) }
 {

@@ -2,8 +2,8 @@ ghost use Rattle.std.specs.Prelude.{◌≡◌, ◌≤◌, ◌+◌, IfOk, [], ◌
 ghost use Rattle.iocm_types.specs.Fault.{Gives};
 ghost use Rattle.iocm_types.specs.declared.key.Key.TheVariants.{Online};
 ghost use Rattle.iocm_statements.specs.declared.operation.Operation.TheVariants.{Iodevice};
-ghost use Rattle.iocm_records.specs.DeviceRecords.{statement_devices, device_set};
-ghost use Rattle.iocm_records.specs.UnitRecords as units;
+ghost use Rattle.iocm_record_reader.specs.DeviceRecords.{statement_devices, device_set};
+ghost use Rattle.iocm_record_reader.specs.UnitRecords as units;
 ghost use Rattle.iocm_change_records.specs.Keys as meaning;
 
 use crate::pairs::{pairs_of, written_path};
@@ -70,7 +70,7 @@ fn written_set(operands: &Operands, malformed: Fault) -> Result<SetNo, Fault>
 }
 
 // A key for each device.
-#[tactic(auto, using(iocm_records::proofs::Places::places_more))]
+#[tactic(auto, using(iocm_record_reader::proofs::Places::places_more))]
 fn device_keys(alloc: Global, set: SetNo, devices: Devices) -> Result<Vec<Key>, AllocError>
     requires { devices.first + devices.count ≤ 65536 }
     ensures { IfOk result (λ keys. keys.items ≡ meaning.device_keys set devices) }
@@ -156,12 +156,14 @@ fn keys_or_fault(alloc: Global, statement: &Statement) -> Result<Vec<Key>, Fault
     }
 }
 
-/// The keys of a DELETE statement, in the order of the text. It looks only at the operands that give them: PATH, CUNUMBR, ADDRESS
-/// and SCHSET, PARTITION and MAXDEV. In DELETE RESOURCE an image is found by its channel subsystem and its digit, a limit by its
-/// place, and without both the key is that of what RESOURCE carries. (The forms are own.)
+/// The keys of a DELETE statement, in the order of the text. It looks only at the operands that
+/// give them: PATH, CUNUMBR, ADDRESS and SCHSET, PARTITION and MAXDEV. In DELETE RESOURCE an image
+/// is found by its channel subsystem and its digit, a limit by its place, and without both the key
+/// is that of what RESOURCE carries. (The forms are own.)
 ///
-/// The first of these with the statement's line: S10, it is no DELETE; S3, an operand that is required is missing; S5, a form that
-/// this product leaves out; S4, a malformed value. M1 comes without memory.
+/// The first of these with the statement's line: S10, it is no DELETE; S3, an operand that is
+/// required is missing; S5, a form that this product leaves out; S4, a malformed value. M1 comes
+/// without memory.
 pub fn keys_of(alloc: Global, statement: &Statement) -> Result<Vec<Key>, Fault>
     ensures { Gives (λ v. v.items) result (meaning.keys_of statement.now) }
 {

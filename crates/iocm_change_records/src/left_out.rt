@@ -59,8 +59,8 @@ fn is_form_left_out(
     }
 }
 
-/// Whether the value of a keyword that gives keys is in a form that is left out by name: it names several channel subsystems in one
-/// `CSS(..)`, several paths, or several subchannel sets.
+/// Whether the value of a keyword that gives keys is in a form that is left out by name: it names
+/// several channel subsystems in one `CSS(..)`, several paths, or several subchannel sets.
 pub fn is_text_left_out(
     alloc: Global,
     operation: Operation,

@@ -12,7 +12,8 @@ use iocm_types::{Css, Key, SetNo};
 use iocm_values::{CssItem, Value, by_css};
 use std::alloc::{AllocError, Global};
 
-/// A place of MAXDEV in a DELETE: the first of a channel subsystem is that of subchannel set 0, and so on.
+/// A place of MAXDEV in a DELETE: the first of a channel subsystem is that of subchannel set 0, and
+/// so on.
 #[derive(Clone, Copy)]
 pub struct LimitSeat {
     /// The channel subsystem.
@@ -131,8 +132,8 @@ fn limit_keys_of_all(
     Ok(found)
 }
 
-/// The keys of MAXDEV of DELETE RESOURCE, a list by channel subsystem: one for each place, of the subchannel sets 0 to 3 in their
-/// order, where something is written; what it says isn't looked at.
+/// The keys of MAXDEV of DELETE RESOURCE, a list by channel subsystem: one for each place, of the
+/// subchannel sets 0 to 3 in their order, where something is written; what it says isn't looked at.
 pub fn limit_keys(alloc: Global, value: Value) -> Result<Vec<Key>, Unread>
     ensures { Reads (λ v. v.items) result (meaning.limit_keys (seen value.entry)) }
 {

@@ -156,8 +156,9 @@ fn wants_lists(operands: &Operands, shape: Shape) -> bool
     operands.has_bare(b"SHARED") || operands.has_bare(b"REC") || shape.is_reconfigurable
 }
 
-/// Whether a path is SHARED or REC, and its two lists aren't both written: this is judged by the shape of PARTITION alone, without
-/// a group round its items and without a last REC. The rule is own.
+/// Whether a path is SHARED or REC, and its two lists aren't both written: this is judged by the
+/// shape of PARTITION alone, without a group round its items and without a last REC. The rule is
+/// own.
 pub fn lacks_lists(alloc: Global, operands: &Operands) -> Result<bool, AllocError>
     ensures { IfOk result (λ answer. answer ≡ meaning.lacks_lists operands.now) }
 {

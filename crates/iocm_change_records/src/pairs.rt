@@ -5,8 +5,8 @@ ghost use Rattle.iocm_statements.specs.Unread.{Reads};
 ghost use Rattle.iocm_values.specs.NameSet as names;
 ghost use Rattle.iocm_values.specs.Reading.{every};
 ghost use Rattle.iocm_values.specs.Value.{seen};
-ghost use Rattle.iocm_records.specs.ChpidRecords.{chpid_path, online_to};
-ghost use Rattle.iocm_records.specs.Values.{required};
+ghost use Rattle.iocm_record_reader.specs.ChpidRecords.{chpid_path, online_to};
+ghost use Rattle.iocm_record_reader.specs.Values.{required};
 ghost use Rattle.iocm_change_records.specs.Pairs as meaning;
 
 use crate::table::{has_key_left_out, lacks_key};
@@ -27,7 +27,8 @@ pub struct Pairs {
     pub names: List<Name>,
 }
 
-/// The path of PATH, which is required. Answers `malformed` where it isn't there or has none of its forms, and M1 without memory.
+/// The path of PATH, which is required. Answers `malformed` where it isn't there or has none of its
+/// forms, and M1 without memory.
 pub fn written_path(alloc: Global, operands: &Operands, malformed: Fault) -> Result<CssPath, Fault>
     ensures { Gives (λ p. p) result (chpid_path malformed operands.now) }
 {
@@ -67,7 +68,8 @@ fn written_names(alloc: Global, operands: &Operands, malformed: Fault) -> Result
     or_malformed(names_listed(alloc, Value::new(text)), malformed)
 }
 
-/// The path of an ONLINE statement and its names. Answers `malformed` where a value is, and M1 without memory.
+/// The path of an ONLINE statement and its names. Answers `malformed` where a value is, and M1
+/// without memory.
 pub fn pairs_of(alloc: Global, operands: &Operands, malformed: Fault) -> Result<Pairs, Fault>
     ensures { Gives (λ p. p) result (meaning.pairs_of malformed operands.now) }
 {
@@ -141,7 +143,8 @@ fn records_in(
     Ok(records)
 }
 
-/// What an ONLINE statement adds, a record for each name, or its first fault: S3, S5, which MODIFY is too, or S4.
+/// What an ONLINE statement adds, a record for each name, or its first fault: S3, S5, which MODIFY
+/// is too, or S4.
 pub fn online_records(
     alloc: Global,
     verb: Verb,

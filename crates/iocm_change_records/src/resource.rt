@@ -1,9 +1,9 @@
 ghost use Rattle.std.specs.Prelude.{◌≡◌, [], ◌++◌, map, IfOk, OnOk};
 ghost use Rattle.iocm_types.specs.Fault.{Gives};
 ghost use Rattle.iocm_model.specs.Machine.Record.{image, limit};
-ghost use Rattle.iocm_records.specs.Deck.{nothing_read, read_statement};
-ghost use Rattle.iocm_records.specs.ResourceRecords as meaning;
-ghost use Rattle.iocm_records.specs.Values as carrying;
+ghost use Rattle.iocm_record_reader.specs.Deck.{nothing_read, read_statement};
+ghost use Rattle.iocm_record_reader.specs.ResourceRecords as meaning;
+ghost use Rattle.iocm_record_reader.specs.Values as carrying;
 ghost use Rattle.iocm_statements.specs.declared.operation.Operation.TheVariants.{Resource};
 
 use iocm_keywords::{has_left_out, has_other_form, is_carried};
@@ -25,7 +25,7 @@ fn as_carried(alloc: Global, key: &OperandKey, text: &[u8]) -> Result<Carried, A
     Ok(Carried::new(keyword, Text::from_slice(alloc, text)?))
 }
 
-#[tactic(auto, using(iocm_records::proofs::Carrying::carried_steps))]
+#[tactic(auto, using(iocm_record_reader::proofs::Carrying::carried_steps))]
 fn carried_by(alloc: Global, operands: &Operands) -> Result<Vec<Carried>, AllocError>
     ensures { IfOk result (λ carried. carried.items ≡ carrying.carried_by Resource operands.now) }
 {

@@ -1,6 +1,6 @@
 ghost use Rattle.std.specs.Prelude.{◌≡◌, [], codes};
 ghost use Rattle.iocm_types.specs.Fault.{Gives};
-ghost use Rattle.iocm_records.specs.Values.{optional};
+ghost use Rattle.iocm_record_reader.specs.Values.{optional};
 ghost use Rattle.iocm_change_records.specs.ResourceKeys as meaning;
 
 use crate::image_keys::image_keys;
@@ -28,8 +28,8 @@ fn written_limits(alloc: Global, operands: &Operands, malformed: Fault) -> Resul
     }
 }
 
-/// The keys of DELETE RESOURCE: images, then limits; without PARTITION and MAXDEV that of what the statement carries. Answers
-/// `malformed` where a value is, and M1 without memory.
+/// The keys of DELETE RESOURCE: images, then limits; without PARTITION and MAXDEV that of what the
+/// statement carries. Answers `malformed` where a value is, and M1 without memory.
 pub fn resource_keys(
     alloc: Global,
     operands: &Operands,

@@ -7,7 +7,7 @@ use crate::pairs::online_records;
 use crate::resource::resource_records;
 use crate::verbs::verb_named;
 use iocm_record::Record;
-use iocm_records::from_statements;
+use iocm_record_reader::from_statements;
 use iocm_statements::{Operation, Statement};
 use iocm_tree::Verb;
 use iocm_types::{Fault, Rule};
@@ -76,16 +76,18 @@ fn copies<A: Allocator + Copy>(
     Ok(copies)
 }
 
-/// The whole records of an ADD or a MODIFY statement under an allocator, in the order of the text. What is needed only while the
-/// statement is read lies in `global`.
+/// The whole records of an ADD or a MODIFY statement under an allocator, in the order of the text.
+/// What is needed only while the statement is read lies in `global`.
 ///
-/// ID, RESOURCE, CNTLUNIT and IODEVICE give what they give in a deck of their own; RESOURCE may give two records of one key. A
-/// CHPID gives its path alone, and a SHARED or REC path wants both lists written. ONLINE gives a record for each name. (IOCP User's
-/// Guide, the statements; the verbs and ONLINE are own.)
+/// ID, RESOURCE, CNTLUNIT and IODEVICE give what they give in a deck of their own; RESOURCE may
+/// give two records of one key. A CHPID gives its path alone, and a SHARED or REC path wants both
+/// lists written. ONLINE gives a record for each name. (IOCP User's Guide, the statements; the
+/// verbs and ONLINE are own.)
 ///
-/// The first of these with the statement's line: S10, it is neither ADD nor MODIFY; S3, a required operand is missing, or the two
-/// lists of a SHARED or REC path aren't both written; S5, a form that this product leaves out, and MODIFY ONLINE; S4, a malformed
-/// value, and with ONLINE another operand than PATH and PARTITION. M1 comes without memory.
+/// The first of these with the statement's line: S10, it is neither ADD nor MODIFY; S3, a required
+/// operand is missing, or the two lists of a SHARED or REC path aren't both written; S5, a form
+/// that this product leaves out, and MODIFY ONLINE; S4, a malformed value, and with ONLINE another
+/// operand than PATH and PARTITION. M1 comes without memory.
 pub fn records_of<A: Allocator + Copy>(
     global: Global,
     alloc: A,

@@ -1,4 +1,5 @@
--- The steps of a loop that takes the items of a list off its front: what was gathered, with what the rest gives, is what all give.
+-- The steps of a loop that takes the items of a list off its front: what was gathered, with what
+-- the rest gives, is what all give.
 use Rattle.std.proofs.Common.{◌≡◌, ℕ, ◌+◌, List, [], ◌∷◌, ◌++◌, Result, Ok, Err, refl}
 use Rattle.std.proofs.lemmas.List.{append-nil}
 use Rattle.iocm_types.specs.declared.fault.Fault.{Fault}

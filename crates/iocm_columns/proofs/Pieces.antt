@@ -1,4 +1,5 @@
--- A text that is cut behind column 71, piece by piece: the first piece from a column on, each other one from column 16 on.
+-- A text that is cut behind column 71, piece by piece: the first piece from a column on, each other
+-- one from column 16 on.
 use Rattle.std.proofs.Common.{◌≡◌, ◌∙◌, ◌+◌, ◌<◌, ◌≤◌, ◌++◌, ℕ, Bool, true, false, List, [], ◌∷◌, length, refl, ap, sym, arith, eqb}
 use Rattle.std.specs.List.{concat}
 use Rattle.std.proofs.lemmas.Bool.{eqb-true, eqb-false, ne_eqb}

@@ -12,7 +12,8 @@ use Rattle.iocm_columns.proofs.Relating.{deck_only}
 use Rattle.iocm_columns.proofs.WrittenCards.{AreLines, cards_from, lines_are_kept, lines_are_read, lines_together, rows_from, rows_together}
 use Rattle.iocm_columns.proofs.WrittenStatements.{cards_of_statement, row}
 
--- the lines in which a deck is written, and the statements of their cards, wherever they are counted from
+-- the lines in which a deck is written, and the statements of their cards, wherever they are
+-- counted from
 record IsDeck (deck : List Joined) : Type 0 where
   all : List (List ℕ)
   written : lines (deck_bytes deck) ≡ all

@@ -33,7 +33,8 @@ pub no_blank : (before after : List ℕ) → [] ≢ before ++ 32 ∷ after
 no_blank [] after = λ e. cc
 no_blank (y ∷ before) after = λ e. cc
 
--- blanks of a text behind another are inside quotes where they are so behind the quotes of the first
+-- blanks of a text behind another are inside quotes where they are so behind the quotes of the
+-- first
 pub inside_both : (inside : Bool) (a b : List ℕ) → IsInside inside a → IsInside (fold switched inside a) b → IsInside inside (a ++ b)
 inside_both inside [] b first second = second
 inside_both inside (x ∷ a) b first second = by (inside_both (switched inside x) a b (λ c d h. first (x ∷ c) d (ap (λ t. x ∷ t) h)) second)

@@ -1,4 +1,5 @@
--- The first fault between cards of a deck is that of its first card, or that of the cards behind it.
+-- The first fault between cards of a deck is that of its first card, or that of the cards behind
+-- it.
 use Rattle.std.proofs.Common.{◌≡◌, None, Some, List, [], ◌∷◌, length, refl, arith}
 use Rattle.iocm_types.specs.declared.fault.Fault.{Fault}
 use Rattle.iocm_columns.specs.declared.statement_card.StatementCard.{StatementCard}

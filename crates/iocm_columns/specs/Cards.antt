@@ -12,12 +12,14 @@ use Rattle.iocm_columns.specs.declared.card.Card.{Card}
 abbrev pub is_printable : ℕ → Bool
 is_printable b = nat_le 32 b && nat_le b 126
 
--- a line as a card, unless a byte of it is not printable (L1) or it has more than 80 bytes (L2), in this order
+-- a line as a card, unless a byte of it is not printable (L1) or it has more than 80 bytes (L2), in
+-- this order
 abbrev pub card_of : ℕ → List ℕ → Result Card Fault
 card_of line bytes =
     if not (list_all is_printable bytes) then Err (at L1 line)
     else (if nat_lt 80 (length bytes) then Err (at L2 line) else Ok (record { line = line; bytes = bytes }))
 
--- all lines of a deck as cards, counted from 1, or the first fault; a line ends at LF, or CR LF, or the end
+-- all lines of a deck as cards, counted from 1, or the first fault; a line ends at LF, or CR LF, or
+-- the end
 abbrev pub cards_of : List ℕ → Result (List Card) Fault
 cards_of text = each card_of 1 (lines text)

@@ -6,8 +6,8 @@ use Rattle.iocm_columns.specs.declared.joined.Joined.{Joined}
 abbrev pub line : List ℕ → List ℕ
 line text = text ++ 10 ∷ []
 
--- a device statement in four lines: it goes on at the first nonblank behind a comma, behind a comment, and
--- exactly at column 16 inside quotes
+-- a device statement in four lines: it goes on at the first nonblank behind a comma, behind a
+-- comment, and exactly at column 16 inside quotes
 abbrev pub device_deck : List ℕ
 device_deck =
     line (codes "DEV1     IODEVICE ADDRESS=(1000,4),   THE FIRST FOUR                   X")
@@ -24,7 +24,8 @@ device_statement = record {
   text = codes "ADDRESS=(1000,4),CUNUMBR=(1000),NOTE='RUNS TO COLUMN 71 IN QUOTES, AND GOES ON'";
 }
 
--- a deck whose first line is continued and whose third is no continuation, since its column 15 is not blank
+-- a deck whose first line is continued and whose third is no continuation, since its column 15 is
+-- not blank
 abbrev pub deck_without_margin : List ℕ
 deck_without_margin =
     line (codes "         ID A,                                                         X")

@@ -17,7 +17,8 @@ is_quoting text = fold switched false text
 unfoldable pub ends : Bool → ℕ → Bool
 ends inside b = is_blank b && not inside
 
--- the columns that belong to a part, up to where it ends; inside says whether they begin inside quotes
+-- the columns that belong to a part, up to where it ends; inside says whether they begin inside
+-- quotes
 unfoldable pub front : Bool → List ℕ → List ℕ
 front inside [] = []
 front inside (b ∷ bs) = if ends inside b then [] else b ∷ front (switched inside b) bs
@@ -26,8 +27,9 @@ front inside (b ∷ bs) = if ends inside b then [] else b ∷ front (switched in
 abbrev pub ends_in_comma : List ℕ → Bool
 ends_in_comma text = (slice_index text (length text - 1) == 44) && not (is_quoting text)
 
--- how a part goes on in a continuation: at the next nonblank, where it is empty or ends in a comma outside quotes;
--- else exactly at column 16, where it ran through column 71; else not at all, and what follows is remark
+-- how a part goes on in a continuation: at the next nonblank, where it is empty or ends in a comma
+-- outside quotes; else exactly at column 16, where it ran through column 71; else not at all, and
+-- what follows is remark
 abbrev pub going_of : List ℕ → Bool → Going
 going_of text through = if (length text == 0) || ends_in_comma text then AtNext else (if through then Exactly else Ended)
 

@@ -1,4 +1,5 @@
--- What the statements of a deck are, as a relation to all of its cards: their texts are slices of the cards' columns.
+-- What the statements of a deck are, as a relation to all of its cards: their texts are slices of
+-- the cards' columns.
 use Rattle.std.specs.Prelude.{◌≡◌, ◌⊎◌, ⊤, ℕ, ◌==◌, true, false, IsTrue, List, [], ◌∷◌, ◌++◌, length}
 use Rattle.std.specs.List.{concat}
 use Rattle.iocm_columns.specs.declared.going.Going.{Going}
@@ -8,8 +9,8 @@ use Rattle.iocm_columns.specs.declared.statement_card.StatementCard.{StatementCa
 use Rattle.iocm_columns.specs.Columns.{after_blanks, behind_operation, continuation_area, has_margin, is_continued, name_of, operation_of}
 use Rattle.iocm_columns.specs.Part.{is_quoting, going_of}
 
--- a slice at the front of some columns, behind a text: each blank in it is inside quotes, and it stops
--- where the columns end or at a blank outside quotes
+-- a slice at the front of some columns, behind a text: each blank in it is inside quotes, and it
+-- stops where the columns end or at a blank outside quotes
 pub record IsFront (text columns slice : List ℕ) : Type 0 where
   pub rest : List ℕ
   pub whole : columns ≡ slice ++ rest
@@ -20,8 +21,8 @@ pub record IsFront (text columns slice : List ℕ) : Type 0 where
 abbrev pub going_behind : List ℕ → List ℕ → List ℕ → Going
 going_behind text columns slice = going_of (text ++ slice) (length slice == length columns)
 
--- one slice for each continuation, behind the text so far: at the front of columns 16 to 71, or of what follows
--- the blanks there, or empty where the continuation is remark
+-- one slice for each continuation, behind the text so far: at the front of columns 16 to 71, or of
+-- what follows the blanks there, or empty where the continuation is remark
 abbrev pub AreSlices : List ℕ → Going → List StatementCard → List (List ℕ) → Type 0
 AreSlices text going [] [] = ⊤
 AreSlices text going [] (s ∷ ss) = ⊥
@@ -34,19 +35,22 @@ AreSlices text AtNext (r ∷ rs) (s ∷ ss) =
     IsFront text columns s × AreSlices (text ++ s) (going_behind text columns s) rs ss
 AreSlices text Ended (r ∷ rs) (s ∷ ss) = (s ≡ []) × AreSlices text Ended rs ss
 
--- one slice for each card of a statement: the first one at the front of the columns behind the operation
+-- one slice for each card of a statement: the first one at the front of the columns behind the
+-- operation
 abbrev pub AreSlicesOf : StatementCard → List StatementCard → List (List ℕ) → Type 0
 AreSlicesOf r rs [] = ⊥
 AreSlicesOf r rs (s ∷ ss) =
     let columns = behind_operation r.columns in
     IsFront [] columns s × AreSlices s (going_behind [] columns s) rs ss
 
--- a card with exactly its continuations behind it: each but the last one is continued, by one with blank columns 1 to 15
+-- a card with exactly its continuations behind it: each but the last one is continued, by one with
+-- blank columns 1 to 15
 abbrev pub IsContinuedBy : StatementCard → List StatementCard → Type 0
 IsContinuedBy r [] = is_continued r.columns ≡ false
 IsContinuedBy r (c ∷ cs) = (is_continued r.columns ≡ true) × (has_margin c.columns ≡ true) × IsContinuedBy c cs
 
--- a statement of a card and its continuations: name and operation stand in the card, the text is slices of all of them
+-- a statement of a card and its continuations: name and operation stand in the card, the text is
+-- slices of all of them
 pub record IsStatementOf (r : StatementCard) (rs : List StatementCard) (joined : Joined) : Type 0 where
   pub line : joined.line ≡ r.line
   pub name : joined.name ≡ name_of r.columns

@@ -21,7 +21,8 @@ statement_cards cards = filter (λ r. not (is_skipped r.columns)) (map statement
 abbrev pub margin_fault : StatementCard → Option Fault
 margin_fault c = if has_margin c.columns then None else Some (at L3 c.line)
 
--- the fault between a card and the next one: a continued card needs a continuation (L4) with blank columns 1 to 15
+-- the fault between a card and the next one: a continued card needs a continuation (L4) with blank
+-- columns 1 to 15
 abbrev pub continuation_fault : StatementCard → List StatementCard → Option Fault
 continuation_fault r [] = if is_continued r.columns then Some (at L4 r.line) else None
 continuation_fault r (c ∷ rs) = if is_continued r.columns then margin_fault c else None

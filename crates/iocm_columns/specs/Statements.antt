@@ -43,6 +43,7 @@ unless_fault None cards = Ok (map statement_of (groups cards))
 abbrev pub statements_of : List Card → Result (List Joined) Fault
 statements_of cards = unless_fault (first_continuation_fault (statement_cards cards)) (statement_cards cards)
 
--- the statements of the bytes of a deck, or its first fault: that of a line comes before that of a card
+-- the statements of the bytes of a deck, or its first fault: that of a line comes before that of a
+-- card
 abbrev pub joined_of : List ℕ → Result (List Joined) Fault
 joined_of bytes = cards_of bytes >>= statements_of

@@ -1,5 +1,6 @@
--- How statements are written: name, operation and operand part in their columns, and what passes column 71 in continuations.
--- IOCP User's Guide, on coding the statements. Bytes by their codes: 88 is X, 10 ends a line, 32 is a blank.
+-- How statements are written: name, operation and operand part in their columns, and what passes
+-- column 71 in continuations. IOCP User's Guide, on coding the statements. Bytes by their codes: 88
+-- is X, 10 ends a line, 32 is a blank.
 use Rattle.std.specs.Prelude.{◌≡◌, ◌≢◌, ◌≤◌, ◌<◌, ℕ, ◌+◌, ◌-◌, ◌==◌, max, Bool, not, ◌&&◌, false, IsTrue, if◌then◌else◌, List, [], ◌∷◌, ◌++◌, length, map, replicate, slice_index, Ok}
 use Rattle.std.specs.List.{flat_map, list_all}
 use Rattle.iocm_columns.specs.declared.joined.Joined.{Joined}
@@ -8,11 +9,13 @@ use Rattle.iocm_columns.specs.Columns.{is_blank}
 use Rattle.iocm_columns.specs.Part.{is_quoting}
 use Rattle.iocm_columns.specs.Statements.{joined_of}
 
--- the end of a line that is continued, X in column 72, and the blank columns 1 to 15 of the next one
+-- the end of a line that is continued, X in column 72, and the blank columns 1 to 15 of the next
+-- one
 abbrev pub cut : List ℕ
 cut = 88 ∷ 10 ∷ replicate 15 32
 
--- a byte as it stands at a column: column 72 is cut, and the byte stands in column 16 of the next line
+-- a byte as it stands at a column: column 72 is cut, and the byte stands in column 16 of the next
+-- line
 abbrev pub placed : ℕ → ℕ → List ℕ
 placed column b = if column == 72 then cut ++ b ∷ [] else b ∷ []
 
@@ -25,7 +28,8 @@ unfoldable pub cut_from : ℕ → List ℕ → List ℕ
 cut_from column [] = []
 cut_from column (b ∷ bs) = placed column b ++ cut_from (column_behind column) bs
 
--- a name from column 1 on, and the blanks behind it: the operation begins in column 10, or behind one blank if the name is longer
+-- a name from column 1 on, and the blanks behind it: the operation begins in column 10, or behind
+-- one blank if the name is longer
 abbrev pub name_columns : List ℕ → List ℕ
 name_columns name = name ++ replicate (max 1 (9 - length name)) 32
 
@@ -52,8 +56,9 @@ deck_bytes deck = flat_map statement_lines deck
 abbrev pub is_graphic : ℕ → Bool
 is_graphic b = is_printable b && not (is_blank b)
 
--- a statement that can be written: its name and its operation are words of at most 8 bytes, the name doesn't begin as a comment does,
--- and blanks stand in the operand part inside quotes alone, which are closed
+-- a statement that can be written: its name and its operation are words of at most 8 bytes, the
+-- name doesn't begin as a comment does, and blanks stand in the operand part inside quotes alone,
+-- which are closed
 pub record IsWritable (joined : Joined) : Type 0 where
   pub name : IsTrue (list_all is_graphic joined.name)
   pub short_name : length joined.name ≤ 8

@@ -16,10 +16,11 @@ const UNREADABLE: Fault = Fault {
     line: 0,
 };
 
-/// A reader with a count of its reads, and a note of whether a read failed and whether one gave the end.
+/// A reader with a count of its reads, and a note of whether a read failed and whether one gave the
+/// end.
 ///
-/// Contracts see these by `reader_of`, `reads_of`, `has_failed` and `has_ended`. The notes are what tells a
-/// fault of the device (L5) from a fault of its bytes. The form is own.
+/// Contracts see these by `reader_of`, `reads_of`, `has_failed` and `has_ended`. The notes are what
+/// tells a fault of the device (L5) from a fault of its bytes. The form is own.
 #[derive(Drop)]
 pub struct Device<R> {
     reader: R,
@@ -59,7 +60,8 @@ impl<R> Device<R> {
 }
 
 impl<R: Read> Device<R> {
-    /// All bytes up to the end, by at most `limit` reads; L5 where a read failed or none gave the end.
+    /// All bytes up to the end, by at most `limit` reads; L5 where a read failed or none gave the
+    /// end.
     #[tactic(auto, using(crate::proofs::Consuming::consuming))]
     pub(crate) fn read_to_end(&mut self, alloc: Global, limit: u64) -> Result<Vec<u8>, Fault>
         requires open { IsOpen self.old }
@@ -83,7 +85,8 @@ impl<R: Read> Device<R> {
         Err(UNREADABLE)
     }
 
-    /// One read into `buffer`: answers how many bytes came, none at the end, or L5 where the reader failed.
+    /// One read into `buffer`: answers how many bytes came, none at the end, or L5 where the reader
+    /// failed.
     fn read(&mut self, buffer: &mut [u8]) -> Result<usize, Fault>
         requires counts { reads_of self.old + 1 < 2 ^ 64 }
         requires room { 0 < length buffer.old }

@@ -1,16 +1,19 @@
-//! From the bytes of a deck to joined statements, the first two stages of reading, and back to bytes.
+//! From the bytes of a deck to joined statements, the first two stages of reading, and back to
+//! bytes.
 //!
-//! `read_cards` reads a device to its end and checks each line (L5, L1, L2). `join` puts each statement
-//! and its continuations together (L3, L4) and takes its name, operation and operand part out of the
-//! columns. The layer above may rely on this: each answer is exactly what the definitions `cards_of` and
-//! `statements_of` say of the bytes, or their first fault; only want of memory, and L5 of a device that can't be read
-//! to its end, may come instead. Where the bytes aren't known beforehand, this is said of some bytes.
+//! `read_cards` reads a device to its end and checks each line (L5, L1, L2). `join` puts each
+//! statement and its continuations together (L3, L4) and takes its name, operation and operand part
+//! out of the columns. The layer above may rely on this: each answer is exactly what the
+//! definitions `cards_of` and `statements_of` say of the bytes, or their first fault; only want of
+//! memory, and L5 of a device that can't be read to its end, may come instead. Where the bytes
+//! aren't known beforehand, this is said of some bytes.
 //!
-//! `deck_bytes` writes joined statements into columns again; what it writes of statements that can be written is read again.
+//! `deck_bytes` writes joined statements into columns again; what it writes of statements that can
+//! be written is read again.
 //!
 //! Begin with `specs/Cards.antt` and `specs/Statements.antt`, which say what a line, a card and a
-//! statement are, then `reading.rt` and `statement.rt`. `laws.rt` states what a statement's text is in
-//! other words: one slice of the columns of each of its cards.
+//! statement are, then `reading.rt` and `statement.rt`. `laws.rt` states what a statement's text is
+//! in other words: one slice of the columns of each of its cards.
 #![tactic(auto)]
 
 mod card;

@@ -10,13 +10,14 @@ use std::io::Read;
 
 /// The lines of a deck, read from `device` to its end by at most `limit` further reads.
 ///
-/// All bytes are read first. L5: a read failed, or none of `limit` reads gave the end; the read that gives
-/// the end is one of them. Then the lines are checked in order, comments and blank lines and columns 73
-/// to 80 too, each for L1 (a byte that is not printable ASCII) before L2 (more than 80 bytes). A line
-/// ends at LF or where the bytes end, and none follows a last LF. One CR directly before an LF belongs
-/// to the line end and isn't counted; any other CR is L1.
+/// All bytes are read first. L5: a read failed, or none of `limit` reads gave the end; the read
+/// that gives the end is one of them. Then the lines are checked in order, comments and blank lines
+/// and columns 73 to 80 too, each for L1 (a byte that is not printable ASCII) before L2 (more than
+/// 80 bytes). A line ends at LF or where the bytes end, and none follows a last LF. One CR directly
+/// before an LF belongs to the line end and isn't counted; any other CR is L1.
 ///
-/// Source: a card of 80 columns, as in the IOCP User's Guide, coding macroinstructions; the rest is own.
+/// Source: a card of 80 columns, as in the IOCP User's Guide, coding macroinstructions; the rest is
+/// own.
 #[tactic(auto, using(crate::proofs::Refusing::never_unreadable))]
 pub fn read_cards<R: Read>(
     alloc: Global,

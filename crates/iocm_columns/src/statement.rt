@@ -12,16 +12,17 @@ use std::alloc::{AllocError, Global};
 
 /// The statements of a deck, each with its continuations joined.
 ///
-/// Cards that are blank in columns 1 to 72 or have an asterisk in column 1 are skipped, also between
-/// continuations and inside quotes. A card with a nonblank column 72 is continued by the next one that
-/// isn't skipped: L4 with its line where none follows, L3 with the line of the continuation where columns
-/// 1 to 15 of that aren't blank; the first of them by place, in remarks too. A statement stands in columns 1
-/// to 71, a continuation in columns 16 to 71. The name begins in column 1, the operation is the next word,
-/// and the operand part begins behind it and ends before the first blank outside quotes.
+/// Cards that are blank in columns 1 to 72 or have an asterisk in column 1 are skipped, also
+/// between continuations and inside quotes. A card with a nonblank column 72 is continued by the
+/// next one that isn't skipped: L4 with its line where none follows, L3 with the line of the
+/// continuation where columns 1 to 15 of that aren't blank; the first of them by place, in remarks
+/// too. A statement stands in columns 1 to 71, a continuation in columns 16 to 71. The name begins
+/// in column 1, the operation is the next word, and the operand part begins behind it and ends
+/// before the first blank outside quotes.
 ///
-/// The operand part goes on exactly at column 16 where it ran through column 71 and is inside quotes or
-/// has no comma there; at the first nonblank from column 16 on where it is empty or ends in a comma
-/// outside quotes; else the continuations are remark.
+/// The operand part goes on exactly at column 16 where it ran through column 71 and is inside
+/// quotes or has no comma there; at the first nonblank from column 16 on where it is empty or ends
+/// in a comma outside quotes; else the continuations are remark.
 ///
 /// Source: IOCP User's Guide, coding macroinstructions, continuation; where a part goes on is own.
 pub fn join(alloc: Global, cards: &[Card]) -> Result<Vec<Joined>, Fault>

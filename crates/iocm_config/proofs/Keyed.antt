@@ -1,4 +1,5 @@
--- Each record stands under its own key: where there is none, in a configuration of records, and after an edit.
+-- Each record stands under its own key: where there is none, in a configuration of records, and
+-- after an edit.
 use Rattle.std.proofs.Common.{◌≡◌, false, List, [], ◌∷◌, is_some, ap, ◌∙◌, sym}
 use Rattle.std.specs.List.{IsDistinct, AllByRecursion, list_any}
 use Rattle.std.specs.Ordering.{eq_by_cmp}

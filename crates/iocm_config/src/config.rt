@@ -15,8 +15,8 @@ use iocm_types::Key;
 use std::alloc::{AllocError, Allocator, Global};
 use std::marker::Model;
 
-/// A configuration: at most one record of each key. Contracts see the finite map of its records, and the keys that
-/// have a place, under which a record can be put in without memory.
+/// A configuration: at most one record of each key. Contracts see the finite map of its records,
+/// and the keys that have a place, under which a record can be put in without memory.
 #[derive(Drop)]
 pub struct Config<A: Allocator = Global> {
     table: Table<Key, Record<A>, A>,
@@ -53,8 +53,9 @@ impl<A: Allocator> Config<A> {
         }
     }
 
-    /// The configuration of these records, no two of one key; each key has a place. The time is in proportion to their
-    /// number where they stand in the order of keys, and else to that of sorting them.
+    /// The configuration of these records, no two of one key; each key has a place. The time is in
+    /// proportion to their number where they stand in the order of keys, and else to that of
+    /// sorting them.
     ///
     /// `AllocError` (M1): memory was wanted.
     pub fn from_records<B: Allocator>(
@@ -92,8 +93,8 @@ impl<A: Allocator> Config<A> {
         let _ = &self.table;
     }
 
-    /// A key that has a record has a place. It reads nothing, and is there for callers' proofs: a record that is replaced
-    /// needs no call of `room`.
+    /// A key that has a record has a place. It reads nothing, and is there for callers' proofs: a
+    /// record that is replaced needs no call of `room`.
     pub fn has_places(&self)
         ensures { RecordsHavePlaces self.now }
     {
@@ -108,7 +109,8 @@ impl<A: Allocator> Config<A> {
         self.table.walk()
     }
 
-    /// The records from a key on with their keys, in the order of keys. The time is that of one search.
+    /// The records from a key on with their keys, in the order of keys. The time is that of one
+    /// search.
     pub fn walk_from(&self, from: &Key) -> Rows<'_, Key, Record<A>>
         ensures entries { result ≡ rows_from key_cmp from.now (map.entries self.now.records) }
         ensures fits { length result < 2 ^ 63 }
@@ -116,8 +118,8 @@ impl<A: Allocator> Config<A> {
         self.table.walk_from(from)
     }
 
-    /// Gives a key a place, if it has none. Each other key that has a place keeps it, no other key gets one, and no record
-    /// changes.
+    /// Gives a key a place, if it has none. Each other key that has a place keeps it, no other key
+    /// gets one, and no record changes.
     ///
     /// `AllocError` (M1): memory was wanted, which can't be where the key has a place already.
     pub fn room(&mut self, key: Key) -> Result<(), AllocError>
@@ -132,8 +134,8 @@ impl<A: Allocator> Config<A> {
         self.table.room(key)
     }
 
-    /// Puts a record in under its key, which has a place, and gives back the record that was there. Can't answer want of
-    /// memory.
+    /// Puts a record in under its key, which has a place, and gives back the record that was there.
+    /// Can't answer want of memory.
     pub fn put(&mut self, entry: Record<A>) -> Option<Record<A>>
         requires { HasPlace self.old (key_of entry) }
         ensures before { result ≡ map.get self.old.records (key_of entry) }
@@ -144,7 +146,8 @@ impl<A: Allocator> Config<A> {
         self.table.put(&key, entry)
     }
 
-    /// Takes the record of a key out, if there is one. The key's place stays. Can't answer want of memory.
+    /// Takes the record of a key out, if there is one. The key's place stays. Can't answer want of
+    /// memory.
     pub fn take(&mut self, key: &Key) -> Option<Record<A>>
         ensures before { result ≡ map.get self.old.records key.now }
         ensures records { self.new.records ≡ map.remove self.old.records key.now }

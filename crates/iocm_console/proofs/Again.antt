@@ -1,4 +1,5 @@
--- What is written of a deck is read as the same configuration, so each command prints the same of it.
+-- What is written of a deck is read as the same configuration, so each command prints the same of
+-- it.
 use Rattle.std.proofs.Common.{◌≡◌, ℕ, Option, None, Some, List, Result, Ok, Err, refl, sym, ap, ◌∙◌}
 use Rattle.iocm_types.specs.declared.fault.Fault.{Fault}
 use Rattle.iocm_types.specs.Fault.{◌>>=◌}
@@ -6,12 +7,12 @@ use Rattle.iocm_columns.specs.declared.card.Card.{Card}
 use Rattle.iocm_columns.specs.Cards.{cards_of}
 use Rattle.iocm_columns.specs.Statements.{statements_of}
 use Rattle.iocm_statements.specs.Statement.{parsed}
-use Rattle.iocm_records.specs.Deck.{deck_records}
+use Rattle.iocm_record_reader.specs.Deck.{deck_records}
 use Rattle.iocm_model.specs.Machine.Configuration.{Configuration, configuration_of}
 use Rattle.iocm_model.specs.Machine.Numbering.{opening}
 use Rattle.iocm_model.specs.Rules.FirstBreach.{Breach, first_breach}
-use Rattle.iocm_canonical.specs.Canonical.{canonical_deck}
-use Rattle.iocm_rereading.proofs.Same.{configuration_is_read_again}
+use Rattle.iocm_deck_writer.specs.Canonical.{canonical_deck}
+use Rattle.iocm_round_trip.proofs.Same.{configuration_is_read_again}
 use Rattle.iocm_console.specs.declared.command.DeckCommand.{DeckCommand}
 use Rattle.iocm_console.specs.declared.command.DeckCommand.TheVariants.{Write}
 use Rattle.iocm_console.specs.declared.status.Status.TheVariants.{Done}
@@ -20,7 +21,8 @@ use Rattle.iocm_console.specs.Command.{answered, shown_by}
 use Rattle.iocm_console.specs.Opening.{configuration_in, opened_or_refused, unless_breached}
 use Rattle.iocm_console.specs.Write.{canonical_done}
 
--- the configuration of a deck: from its lines, as the commands take it, or from its records, as the law says it
+-- the configuration of a deck: from its lines, as the commands take it, or from its records, as the
+-- law says it
 abbrev read_of : List ℕ → Result Configuration Fault
 read_of bytes = cards_of bytes >>= configuration_in
 

@@ -1,4 +1,5 @@
--- A deck that is opened: what it describes is a configuration that keeps the rules, or it is refused.
+-- A deck that is opened: what it describes is a configuration that keeps the rules, or it is
+-- refused.
 use Rattle.std.specs.Prelude.{◌≡◌, ◌⊎◌, ℕ, List, ◌∷◌, [], ◌++◌, codes, Option, None, Some, Result, Ok, Err}
 use Rattle.iocm_types.specs.declared.fault.Fault.{Fault}
 use Rattle.iocm_types.specs.declared.refused.Refused as refusal
@@ -9,7 +10,7 @@ use Rattle.iocm_columns.specs.declared.card.Card.{Card}
 use Rattle.iocm_columns.specs.Statements.{statements_of}
 use Rattle.iocm_statements.specs.declared.statement.Statement.{Statement}
 use Rattle.iocm_statements.specs.Statement.{parsed}
-use Rattle.iocm_records.specs.Deck.{deck_records}
+use Rattle.iocm_record_reader.specs.Deck.{deck_records}
 use Rattle.iocm_model.specs.Machine.Record.{Rec}
 use Rattle.iocm_model.specs.Machine.Configuration.{Configuration, configuration_of}
 use Rattle.iocm_model.specs.Machine.Numbering.{Numbering, opening}

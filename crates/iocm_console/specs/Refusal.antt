@@ -54,7 +54,8 @@ about_text (Subchannel s) = codes " subchannel " ++ subchannel_text s
 about_text (Change number) = codes " change " ++ digits 10 false number
 about_text Nothing = []
 
--- the refusal of a change: its number, the node of the change tree, and what it is about, as far as it names them
+-- the refusal of a change: its number, the node of the change tree, and what it is about, as far as
+-- it names them
 abbrev pub change_refusal_text : Refused → List ℕ
 change_refusal_text why = codes "refused " ++ (rule_text why.rule ++ (node_text why.node ++ about_text why.at))
 

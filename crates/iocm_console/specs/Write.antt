@@ -1,6 +1,6 @@
 -- What `write` prints of a configuration.
 use Rattle.iocm_model.specs.Machine.Configuration.{Configuration}
-use Rattle.iocm_canonical.specs.Canonical.{canonical_deck}
+use Rattle.iocm_deck_writer.specs.Canonical.{canonical_deck}
 use Rattle.iocm_console.specs.declared.status.Status.TheVariants.{Done}
 use Rattle.iocm_console.specs.Opening.{Shown}
 

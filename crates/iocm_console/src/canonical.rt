@@ -6,13 +6,14 @@ ghost use Rattle.iocm_console.specs.Write.{canonical_done};
 
 use crate::opening::refuse;
 use crate::{ConsoleError, Output, Status};
-use iocm_canonical::canonical_deck;
 use iocm_config::Config;
+use iocm_deck_writer::canonical_deck;
 use iocm_types::Fault;
 use std::alloc::Global;
 use std::io::Write;
 
-/// Prints the canonical deck of a configuration. All memory is taken before the first byte is written.
+/// Prints the canonical deck of a configuration. All memory is taken before the first byte is
+/// written.
 ///
 /// M1, a refusal, which is printed: memory was wanted.
 pub fn write_canonical<W: Write>(

@@ -61,8 +61,9 @@ impl fmt::Display for AboutName {
     }
 }
 
-/// The refusal of a change as it is printed, without the end of its line: its number, the node of the change tree where it was
-/// refused, and what it is about, a key, a subchannel or a change, as far as it names them.
+/// The refusal of a change as it is printed, without the end of its line: its number, the node of
+/// the change tree where it was refused, and what it is about, a key, a subchannel or a change, as
+/// far as it names them.
 #[derive(Clone, Copy)]
 pub struct ChangeRefusal(pub Refused);
 

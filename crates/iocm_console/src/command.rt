@@ -30,13 +30,13 @@ pub enum DeckCommand {
     Write,
 }
 
-/// Prints what a command prints of the configuration that a deck describes, as it is opened, or the refusal of its first
-/// fault, or of the first rule that it breaks. The deck is read to its end by at most `limit` reads, and all memory is taken before the first byte
-/// is written.
+/// Prints what a command prints of the configuration that a deck describes, as it is opened, or the
+/// refusal of its first fault, or of the first rule that it breaks. The deck is read to its end by
+/// at most `limit` reads, and all memory is taken before the first byte is written.
 ///
-/// L5 (`ConsoleError::Read`): a read failed, or none of `limit` reads gave the end; nothing is written then.
-/// L6 (`ConsoleError::Write`): a write failed; what is written up to there is not said. All other faults, want
-/// of memory (M1) too, are refusals, which are printed.
+/// L5 (`ConsoleError::Read`): a read failed, or none of `limit` reads gave the end; nothing is
+/// written then. L6 (`ConsoleError::Write`): a write failed; what is written up to there is not
+/// said. All other faults, want of memory (M1) too, are refusals, which are printed.
 pub fn answer_deck<R: Read, W: Write>(
     alloc: Global,
     command: DeckCommand,
@@ -79,7 +79,8 @@ fn answer_cards<W: Write>(
     }
 }
 
-/// Prints what a command prints of a configuration as it is opened, or which rule it breaks, or that memory is wanted.
+/// Prints what a command prints of a configuration as it is opened, or which rule it breaks, or
+/// that memory is wanted.
 fn answer_opened<W: Write>(
     alloc: Global,
     command: DeckCommand,
@@ -97,7 +98,8 @@ fn answer_opened<W: Write>(
     }
 }
 
-/// Prints what a command prints of a configuration that keeps the rules, as it is opened, or that memory is wanted.
+/// Prints what a command prints of a configuration that keeps the rules, as it is opened, or that
+/// memory is wanted.
 fn answer_kept<W: Write>(
     alloc: Global,
     command: DeckCommand,

@@ -1,7 +1,7 @@
 use thiserror::Error;
 
-/// A fault of the device that a deck is read from, or of the one that is written to. It is no answer about
-/// the deck.
+/// A fault of the device that a deck is read from, or of the one that is written to. It is no
+/// answer about the deck.
 #[derive(Debug, Drop, Error)]
 pub enum ConsoleError {
     /// A read failed, or the limit of reads came before the end.

@@ -3,8 +3,9 @@
 ghost use Rattle.iocm_console.specs.Again.{PrintsTheSame};
 ghost use Rattle.iocm_console.specs.Examples.{RefusalsOfChanges};
 
-/// What `write` writes of a deck that it doesn't refuse is read again: `check`, `show` and `write` print of it what they print of the deck. So the canonical
-/// deck is accepted, has the same records and subchannels, and is its own canonical deck.
+/// What `write` writes of a deck that it doesn't refuse is read again: `check`, `show` and `write`
+/// print of it what they print of the deck. So the canonical deck is accepted, has the same records
+/// and subchannels, and is its own canonical deck.
 pub fn what_is_written_is_read_again()
     ensures { PrintsTheSame }
 {}

@@ -1,16 +1,18 @@
 //! What each command prints and how it ends, over any reader and any writer.
 //!
-//! `answer_deck` reads a deck from a `Device`, checks its rules and prints to an `Output` what a `DeckCommand` prints of it: how many
-//! records it has, the table of its subchannels, or its canonical deck; or the one line of its refusal. The program above may rely on
-//! this: what is printed and the status are exactly
-//! what `answered` says of the deck's bytes (of some bytes, where they aren't known beforehand), as far as it is known
-//! what the writer holds, and only want of memory (`refused M1`) may come instead. A fault
-//! of a device is an error, `ConsoleError`, and is noted where it came from: L5 at the `Device`, L6 at the
-//! `Output`. All memory is taken before the first byte is written; a line takes none.
+//! `answer_deck` reads a deck from a `Device`, checks its rules and prints to an `Output` what a
+//! `DeckCommand` prints of it: how many records it has, the table of its subchannels, or its
+//! canonical deck; or the one line of its refusal. The program above may rely on this: what is
+//! printed and the status are exactly what `answered` says of the deck's bytes (of some bytes,
+//! where they aren't known beforehand), as far as it is known what the writer holds, and only want
+//! of memory (`refused M1`) may come instead. A fault of a device is an error, `ConsoleError`, and
+//! is noted where it came from: L5 at the `Device`, L6 at the `Output`. All memory is taken before
+//! the first byte is written; a line takes none.
 //!
-//! Begin with `specs/Command.antt`, which says what each command means, then `opening.rt`, `command.rt` and a file a command:
-//! `accepted.rt`, `table.rt`, `canonical.rt`. `row.rt`
-//! puts a line of the table together, digit by digit; `refusal.rt` has that of a refusal, as `Display` states it.
+//! Begin with `specs/Command.antt`, which says what each command means, then `opening.rt`,
+//! `command.rt` and a file a command: `accepted.rt`, `table.rt`, `canonical.rt`. `row.rt` puts a
+//! line of the table together, digit by digit; `refusal.rt` has that of a refusal, as `Display`
+//! states it.
 #![tactic(auto)]
 
 mod accepted;

@@ -12,7 +12,7 @@ use iocm_columns::{Card, join};
 use iocm_config::Config;
 use iocm_lookup::index_of;
 use iocm_record::Record;
-use iocm_records::from_statements;
+use iocm_record_reader::from_statements;
 use iocm_rules::{Breach, check_at_opening};
 use iocm_statements::{Statement, parse};
 use iocm_types::{Fault, Refused, Rule};
@@ -33,7 +33,8 @@ pub fn read_config(alloc: Global, cards: &[Card]) -> Result<Config, Fault>
     Ok(Config::from_records(alloc, records)?)
 }
 
-/// The records of the lines of a deck, no two of one key, or its first fault. The statements are let go.
+/// The records of the lines of a deck, no two of one key, or its first fault. The statements are
+/// let go.
 fn read_records(alloc: Global, cards: &[Card]) -> Result<Vec<Record>, Fault>
     ensures records { Gives (λ v. v.items) result (records_in cards.now) }
     ensures apart { IfOk result (λ v. HasNoKeyTwice v.items) }
@@ -42,7 +43,8 @@ fn read_records(alloc: Global, cards: &[Card]) -> Result<Vec<Record>, Fault>
     from_statements(alloc, &statements)
 }
 
-/// The statements of the lines of a deck, or its first fault. The lines as they were joined are let go.
+/// The statements of the lines of a deck, or its first fault. The lines as they were joined are let
+/// go.
 pub fn read_statements(alloc: Global, cards: &[Card]) -> Result<Vec<Statement>, Fault>
     ensures { Gives (λ v. v.items) result (statements_in cards.now) }
 {
@@ -50,7 +52,8 @@ pub fn read_statements(alloc: Global, cards: &[Card]) -> Result<Vec<Statement>, 
     parse(alloc, &joined)
 }
 
-/// The first breach of the rules by a configuration as it is opened, if there is one. Answers the want of memory alone.
+/// The first breach of the rules by a configuration as it is opened, if there is one. Answers the
+/// want of memory alone.
 pub fn breach_of(alloc: Global, config: &Config) -> Result<Option<Breach>, AllocError>
     ensures { IfOk result (λ breach. breach ≡ first_breach config.now.records (model.opening config.now.records)) }
 {

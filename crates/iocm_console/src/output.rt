@@ -110,7 +110,8 @@ impl<W: Write> Output<W> {
         self.note(written)
     }
 
-    /// Writes that the first change was made, and how many subchannels it altered. Can't answer want of memory.
+    /// Writes that the first change was made, and how many subchannels it altered. Can't answer
+    /// want of memory.
     pub fn changed(&mut self, altered: usize) -> Result<(), ConsoleError>
         ensures text { OnOk result (Prints W.contents self.old self.new (changed_text altered ++ 10 ∷ [])) }
         ensures works { OnOk result (has_failed self.new ≡ has_failed self.old) }

@@ -2,8 +2,8 @@ use iocm_rules::Breach;
 use iocm_types::{Fault, Rule};
 use std::fmt;
 
-/// A refusal as it is printed, without the end of its line: its number and its line, and want of memory,
-/// which stands at no line, by its number alone.
+/// A refusal as it is printed, without the end of its line: its number and its line, and want of
+/// memory, which stands at no line, by its number alone.
 #[derive(Clone, Copy)]
 pub struct Refusal(pub Fault);
 
@@ -23,7 +23,8 @@ impl fmt::Display for Refusal {
     }
 }
 
-/// A breach as it is printed, without the end of its line: the number of the rule, and the key of the record that breaks it.
+/// A breach as it is printed, without the end of its line: the number of the rule, and the key of
+/// the record that breaks it.
 #[derive(Clone, Copy)]
 pub struct BreachRefusal(pub Breach);
 

@@ -9,7 +9,8 @@ use iocm_types::{Chpid, SubId, View};
 use std::io;
 use std::io::Write;
 
-/// The most bytes of a line: 28 before the paths, three for each of at most eight paths, and its end.
+/// The most bytes of a line: 28 before the paths, three for each of at most eight paths, and its
+/// end.
 const LONGEST: usize = 53;
 
 /// Writes the heading of the table, with its end. Can't answer want of memory.

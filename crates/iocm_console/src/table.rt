@@ -42,7 +42,8 @@ pub fn write_table<A: Allocator, B: Allocator, C: Allocator + Drop, W: Write>(
     }
 }
 
-/// Prints the heading and the lines of all images at some number cells. Can't answer want of memory.
+/// Prints the heading and the lines of all images at some number cells. Can't answer want of
+/// memory.
 pub fn write_lines<A: Allocator, W: Write>(
     output: &mut Output<W>,
     config: &Config<A>,
@@ -98,7 +99,8 @@ fn write_record<A: Allocator, W: Write>(
     }
 }
 
-/// Writes the lines of an image at some number cells. The paths that the image reaches are looked up once.
+/// Writes the lines of an image at some number cells. The paths that the image reaches are looked
+/// up once.
 fn write_image<A: Allocator, W: Write>(
     output: &mut Output<W>,
     config: &Config<A>,
@@ -130,8 +132,8 @@ fn write_cells<A: Allocator, W: Write>(
     Ok(())
 }
 
-/// Writes the line of an image at a number cell, if the cell is of its channel subsystem and the image sees
-/// the device there.
+/// Writes the line of an image at a number cell, if the cell is of its channel subsystem and the
+/// image sees the device there.
 fn write_cell<A: Allocator, W: Write>(
     output: &mut Output<W>,
     sight: &mut ImageSight<'_, A>,
@@ -149,7 +151,8 @@ fn write_cell<A: Allocator, W: Write>(
     write_seen(output, sight, place)
 }
 
-/// Writes the line of an image at a number cell of its channel subsystem, if it sees the device there.
+/// Writes the line of an image at a number cell of its channel subsystem, if it sees the device
+/// there.
 fn write_seen<A: Allocator, W: Write>(
     output: &mut Output<W>,
     sight: &mut ImageSight<'_, A>,

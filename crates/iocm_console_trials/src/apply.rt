@@ -66,7 +66,8 @@ impl Read for Halting<'_> {
     }
 }
 
-/// A writer that keeps what is written, and fails where there is no room for it. It never takes memory.
+/// A writer that keeps what is written, and fails where there is no room for it. It never takes
+/// memory.
 #[derive(Drop)]
 struct Sheet<'a> {
     bytes: &'a mut Vec<u8>,
@@ -130,7 +131,8 @@ fn a_heap_of_any_size_is_enough_or_refused(rt: HostRuntime) -> Result<(), Fail> 
     Ok(())
 }
 
-/// Whether nothing is printed but a fault where a deck's reads, or its change deck's, fail after so many good ones.
+/// Whether nothing is printed but a fault where a deck's reads, or its change deck's, fail after so
+/// many good ones.
 fn is_fault_of_reading(alloc: Global, deck: u64, change: u64) -> Result<bool, AllocError> {
     let mut bytes = Vec::with_capacity(alloc, 1024)?;
     let mut output = Output::new(Sheet {

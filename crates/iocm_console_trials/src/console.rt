@@ -54,7 +54,8 @@ impl Read for Halting<'_> {
     }
 }
 
-/// A writer that keeps what is written, and fails where there is no room for it. It never takes memory.
+/// A writer that keeps what is written, and fails where there is no room for it. It never takes
+/// memory.
 #[derive(Drop)]
 struct Sheet<'a> {
     bytes: &'a mut Vec<u8>,
@@ -99,11 +100,13 @@ const COMMANDS: &[(DeckCommand, &[u8])] = &[
     (DeckCommand::Write, BASE_WRITTEN),
 ];
 
-/// How a command is tried: how many bytes a read gives at most, after how many good reads one fails, the limit of reads, the room on the
-/// sheet, and whether that can be flushed; then how it must end.
+/// How a command is tried: how many bytes a read gives at most, after how many good reads one
+/// fails, the limit of reads, the room on the sheet, and whether that can be flushed; then how it
+/// must end.
 type Row = (usize, u64, u64, usize, bool, &'static str);
 
-/// The deck has 308 bytes: where it is read 100 at a time, four reads give them, and the fifth the end.
+/// The deck has 308 bytes: where it is read 100 at a time, four reads give them, and the fifth the
+/// end.
 const ROWS: &[Row] = &[
     (100, 100, 100, 1024, true, "done"),
     (100, 5, 5, 1024, true, "done"),
@@ -124,7 +127,8 @@ const ROWS: &[Row] = &[
     (100, 100, 100, 1024, false, "fault of writing"),
 ];
 
-/// How a command ended that is to print this and has written that, none of it if a read failed; or what is wrong with it.
+/// How a command ended that is to print this and has written that, none of it if a read failed; or
+/// what is wrong with it.
 fn end(ended: &Result<Status, ConsoleError>, printed: &[u8], written: &[u8]) -> &'static str {
     match ended {
         Ok(Status::Done) if written == printed => "done",
@@ -183,7 +187,8 @@ fn reads_and_writes_that_fail_are_faults(rt: HostRuntime) -> Result<(), Fail> {
     Ok(())
 }
 
-/// The first room on the sheet, too little for what a command prints, with which it doesn't end with a fault of writing, if there is one.
+/// The first room on the sheet, too little for what a command prints, with which it doesn't end
+/// with a fault of writing, if there is one.
 fn first_enough(
     alloc: Global,
     command: DeckCommand,

@@ -16,7 +16,7 @@ use Rattle.iocm_history.specs.Journal.{journal_of}
 use Rattle.iocm_history.specs.Legal.{activated, begun, IsRight}
 use Rattle.iocm_history.specs.Stage.{Stage, once_more, left_of}
 use Rattle.iocm_history.proofs.EachCall.{activations_do_what_they_mean, other_calls_leave_the_state}
-use Rattle.iocm_reckoning.proofs.Found.{activations_are_there, commits_are_there}
+use Rattle.iocm_history.proofs.Found.{activations_are_there, commits_are_there}
 use Rattle.iocm_plant.specs.Operating.{Operating}
 use Rattle.iocm_plant.specs.Refusing.{IsDue}
 use Rattle.iocm_tree.specs.Trees.{plain_tree, tree_of}

@@ -47,7 +47,8 @@ within_more k l more (answers.Redone n) within = tt
 within_more k l more (answers.Shown n) within = tt
 within_more k l more (answers.Refused why) within = tt
 
--- what is known of changes after a call has what was known before it, and the answer tells of one of them
+-- what is known of changes after a call has what was known before it, and the answer tells of one
+-- of them
 record IsMore (answer : Answer) (old new : List Effect) : Type 0 where
   more : List Effect
   is : new ≡ old ++ more

@@ -1,5 +1,5 @@
--- How a history is stored as data, by which a proof tells two of them apart: a change tree as the list of the steps that build it. No contract
--- speaks of these.
+-- How a history is stored as data, by which a proof tells two of them apart: a change tree as the
+-- list of the steps that build it. No contract speaks of these.
 use Rattle.std.specs.Prelude.{◌≡◌, ℕ, zero, suc, List, [], ◌∷◌, ◌++◌, refl}
 use Rattle.std.specs.Coded.{Coded, code_by, coded×, coded_list, coded_ℕ}
 use Rattle.std.proofs.Common.{ap, ◌∙◌}
@@ -16,7 +16,8 @@ use Rattle.iocm_history.specs.Entry.{Call, at, activate, begin, advance, commit,
 
 -- ---- trees
 
--- a step that builds parts from the last to the first: an edit comes before them; a node begins; its parts are a Row, a Group or a Choose
+-- a step that builds parts from the last to the first: an edit comes before them; a node begins;
+-- its parts are a Row, a Group or a Choose
 pub data Move : Type 0 where
   edit : Edit → Move
   start : Move
@@ -28,7 +29,8 @@ pub data Move : Type 0 where
 abbrev pub Begun : Type 0
 Begun = List Parts
 
--- the innermost parts with a part before them; a node that ends comes before those of the node around it
+-- the innermost parts with a part before them; a node that ends comes before those of the node
+-- around it
 abbrev pub with_part : ChangeTree → Begun → Begun
 with_part t [] = part t none ∷ []
 with_part t (ps ∷ outer) = part t ps ∷ outer

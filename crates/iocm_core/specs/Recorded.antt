@@ -4,7 +4,8 @@ use Rattle.iocm_types.specs.declared.answer.Answer.{Answer}
 use Rattle.iocm_history.specs.Entry.{Call, Entry}
 use Rattle.iocm_core.specs.Seen.{Core}
 
--- a core has one entry more than before, with this call and this answer; it was opened in the same state, and has the same room
+-- a core has one entry more than before, with this call and this answer; it was opened in the same
+-- state, and has the same room
 pub record IsRecorded (old : Core) (call : Call) (answer : Answer) (new : Core) : Type 0 where
   pub entry : Entry
   pub history : new.history ≡ entry ∷ old.history

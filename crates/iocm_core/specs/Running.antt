@@ -14,7 +14,8 @@ use Rattle.iocm_core.specs.Accepting.{HasRoom}
 use Rattle.iocm_core.specs.Told.{entry_told}
 use Rattle.iocm_core.specs.declared.machine.Machine.{Machine}
 
--- what is staged, if anything is, on a machine that would be in a state, were it not for the edits that were advanced
+-- what is staged, if anything is, on a machine that would be in a state, were it not for the edits
+-- that were advanced
 abbrev pub IsStagedAs : Option Stage → Option Staged → State → Operating → Type 0
 IsStagedAs None None s p = p.state ≡ s
 IsStagedAs (Some t) (Some g) s p = IsStageOf g t s p
@@ -25,7 +26,8 @@ abbrev pub HasRoomFor : Option Staged → Machine → Type 0
 HasRoomFor None m = Unit {0}
 HasRoomFor (Some g) m = HasRoom m
 
--- a machine after a history from an opening state: its journal, what is staged, and the state to which the history leads
+-- a machine after a history from an opening state: its journal, what is staged, and the state to
+-- which the history leads
 pub record IsMachineOf (opening : State) (h : history.History) (m : Machine) : Type 0 where
   pub journal : IsJournalOf opening h m.journal m.changes.items
   pub stage : IsStagedAs (stage_of opening h) m.stage (state_at opening h) m.plant
@@ -37,7 +39,8 @@ pub record IsRunning (m : Machine) : Type 0 where
   pub history : history.History
   pub is : IsMachineOf opening history m
 
--- a call was answered: its entry is right after the history, and the machine is then one of the history with it
+-- a call was answered: its entry is right after the history, and the machine is then one of the
+-- history with it
 pub record IsAnswered (opening : State) (h : history.History) (call : history.Call) (answer : Answer) (m : Machine) : Type 0 where
   pub right : IsRight opening h (entry_told m.changes.items call answer)
   pub is : IsMachineOf opening (entry_told m.changes.items call answer ∷ h) m

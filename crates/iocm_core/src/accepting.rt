@@ -17,7 +17,8 @@ impl Machine {
         self.journal.room()
     }
 
-    /// Accepts a change that was done, for which there is memory. It gives the change's number. Can't answer want of memory.
+    /// Accepts a change that was done, for which there is memory. It gives the change's number.
+    /// Can't answer want of memory.
     pub fn accept(&mut self, done: Done) -> u64
         requires room { HasRoom self.old }
         requires few { self.old.journal.standing ≤ length self.old.journal.changes.items }

@@ -1,7 +1,8 @@
 use iocm_tree::Tree;
 use iocm_types::{Order, SubId};
 
-/// What is asked of a machine. A change tree stands in a box, so that a call without one is small in the trace. Own.
+/// What is asked of a machine. A change tree stands in a box, so that a call without one is small
+/// in the trace. Own.
 #[derive(Drop)]
 pub enum Call {
     /// An order of an image on its subchannel.
@@ -12,7 +13,8 @@ pub enum Call {
     DeviceEnd(SubId),
     /// A change tree is activated at once, all or none.
     Activate(Box<Tree>),
-    /// A change tree is begun, to be done in stages: it is tried whole, and holds the subchannels that it alters.
+    /// A change tree is begun, to be done in stages: it is tried whole, and holds the subchannels
+    /// that it alters.
     Begin(Box<Tree>),
     /// The next edit of the change in stages is done.
     Advance,

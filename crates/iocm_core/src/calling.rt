@@ -10,8 +10,9 @@ use iocm_types::Answer;
 use std::alloc::Global;
 use std::marker::Model;
 
-/// A machine in operation with everything that was asked of it: every call goes through `call`, and is recorded with its answer. Contracts see
-/// the state in which it was opened, and its history, the latest entry first.
+/// A machine in operation with everything that was asked of it: every call goes through `call`, and
+/// is recorded with its answer. Contracts see the state in which it was opened, and its history,
+/// the latest entry first.
 #[derive(Drop)]
 pub struct Core {
     pub(crate) machine: Machine,
@@ -79,9 +80,11 @@ impl Core {
         &self.entries[self.entries.len() - 1]
     }
 
-    /// Makes a call on the machine, and records it with its answer. A call that is refused changes nothing but the trace.
+    /// Makes a call on the machine, and records it with its answer. A call that is refused changes
+    /// nothing but the trace.
     ///
-    /// `Full`: the trace has as many entries as it has room for; the call is handed back, and nothing is recorded.
+    /// `Full`: the trace has as many entries as it has room for; the call is handed back, and
+    /// nothing is recorded.
     pub fn call(&mut self, alloc: Global, call: Call) -> Result<Answer, Full>
         ensures recorded { IfOk result (λ answer. IsRecorded self.old (call_in call) answer self.new) }
         ensures entries { IfOk result (λ answer. self.new.entries ≡ self.old.entries ++ record { call = call; answer = answer } ∷ []) }

@@ -17,8 +17,8 @@ use iocm_types::{Answer, Refused};
 use std::alloc::Global;
 
 impl Machine {
-    /// Activates a change tree: Changed, with its number; or why it is refused: O1, a change is staged; or as `activate` of `iocm_activate`
-    /// is.
+    /// Activates a change tree: Changed, with its number; or why it is refused: O1, a change is
+    /// staged; or as `activate` of `iocm_activate` is.
     pub fn activate(&mut self, alloc: Global, tree: &Tree) -> Answer
         requires { IsRunning self.old }
         ensures answers { Answers (history.activate (plain_tree (tree_of tree.now))) result self.old self.new }
@@ -33,7 +33,8 @@ impl Machine {
         }
     }
 
-    /// Begins a change in stages: Staged, with the number of its edits; or why it is refused: O1, a change is staged; or as its activation is.
+    /// Begins a change in stages: Staged, with the number of its edits; or why it is refused: O1, a
+    /// change is staged; or as its activation is.
     pub fn begin(&mut self, alloc: Global, tree: &Tree) -> Answer
         requires { IsRunning self.old }
         ensures answers { Answers (history.begin (plain_tree (tree_of tree.now))) result self.old self.new }
@@ -48,8 +49,8 @@ impl Machine {
         }
     }
 
-    /// Does the next edit of the change in stages: Left, with the number of those that are left then; O2 where nothing is staged. Can't answer
-    /// want of memory.
+    /// Does the next edit of the change in stages: Left, with the number of those that are left
+    /// then; O2 where nothing is staged. Can't answer want of memory.
     pub fn advance(&mut self) -> Answer
         requires { IsRunning self.old }
         ensures answers { Answers history.advance result self.old self.new }
@@ -61,8 +62,8 @@ impl Machine {
         }
     }
 
-    /// Does the edits that are left of the change in stages, which is accepted: Changed, with its number; O2 where nothing is staged. Can't
-    /// answer want of memory.
+    /// Does the edits that are left of the change in stages, which is accepted: Changed, with its
+    /// number; O2 where nothing is staged. Can't answer want of memory.
     pub fn commit(&mut self) -> Answer
         requires { IsRunning self.old }
         ensures answers { Answers history.commit result self.old self.new }
@@ -77,7 +78,8 @@ impl Machine {
         }
     }
 
-    /// Gives the change in stages up, and takes back what was done of it: Aborted; O2 where nothing is staged. Can't answer want of memory.
+    /// Gives the change in stages up, and takes back what was done of it: Aborted; O2 where nothing
+    /// is staged. Can't answer want of memory.
     pub fn abort(&mut self) -> Answer
         requires { IsRunning self.old }
         ensures answers { Answers history.abort result self.old self.new }

@@ -24,7 +24,8 @@ pub struct Closed {
 }
 
 impl Core {
-    /// Closes the machine, and gives it with its trace. What was advanced of a change in stages is taken back. Can't answer want of memory.
+    /// Closes the machine, and gives it with its trace. What was advanced of a change in stages is
+    /// taken back. Can't answer want of memory.
     pub fn close(self) -> Closed
         ensures state { result.plant.state ≡ state_at self.opening self.history }
         ensures opening { opening_state result.trace.opening.records ≡ self.opening }
@@ -54,9 +55,9 @@ impl Core {
         }
     }
 
-    /// Its history is legal, from an opening state in use: each answer is the one that the definition of histories gives, or want of memory, for
-    /// an activation, a Begin, an undo or a redo. It reads
-    /// nothing, and is there for callers' proofs.
+    /// Its history is legal, from an opening state in use: each answer is the one that the
+    /// definition of histories gives, or want of memory, for an activation, a Begin, an undo or a
+    /// redo. It reads nothing, and is there for callers' proofs.
     pub fn is_legal(&self)
         ensures used { IsInUse self.now.opening }
         ensures legal { IsLegal self.now.opening self.now.history }

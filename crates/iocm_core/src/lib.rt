@@ -1,11 +1,15 @@
-//! The core: every call on a machine goes through one function, is recorded with its answer, and leaves exactly the state that the history gives; what was advanced of
-//! a change in stages counts once that is committed.
+//! The core: every call on a machine goes through one function, is recorded with its answer, and
+//! leaves exactly the state that the history gives; what was advanced of a change in stages counts
+//! once that is committed.
 //!
-//! `Core::open` opens a machine, `Core::call` makes a call, `Core::close` gives the machine and its trace. A `Call` is an order of an image on its
-//! subchannel, a device begin or a device end; the activation of a change tree, at once or in stages; an undo or a redo; or a question.
+//! `Core::open` opens a machine, `Core::call` makes a call, `Core::close` gives the machine and its
+//! trace. A `Call` is an order of an image on its subchannel, a device begin or a device end; the
+//! activation of a change tree, at once or in stages; an undo or a redo; or a question.
 //!
-//! What the layer above may rely on: the history is legal, so each answer is the one that the definition of histories gives, or, of an activation, a
-//! Begin, an undo or a redo, want of memory; and the machine is in the state to which its history leads, once a change that is staged is given up. Begin with `specs/Running.antt` and `specs/Seen.antt`, then `calling.rt` and
+//! What the layer above may rely on: the history is legal, so each answer is the one that the
+//! definition of histories gives, or, of an activation, a Begin, an undo or a redo, want of memory;
+//! and the machine is in the state to which its history leads, once a change that is staged is
+//! given up. Begin with `specs/Running.antt` and `specs/Seen.antt`, then `calling.rt` and
 //! `machine.rt`.
 #![tactic(auto)]
 

@@ -17,10 +17,11 @@ use iocm_types::Refused;
 use std::alloc::{AllocError, Global};
 
 impl Core {
-    /// Opens a machine with this configuration, whose trace has room for so many entries; the memory for them is made now, so that no call
-    /// wants memory for its entry.
+    /// Opens a machine with this configuration, whose trace has room for so many entries; the
+    /// memory for them is made now, so that no call wants memory for its entry.
     ///
-    /// The first breach of V1 to V14, by rule, then by key; M1, which may stand in its place: memory was wanted. The configuration is handed back.
+    /// The first breach of V1 to V14, by rule, then by key; M1, which may stand in its place:
+    /// memory was wanted. The configuration is handed back.
     pub fn open(alloc: Global, config: Config, room: usize) -> Result<Core, Unopened>
         ensures opened { IfOk result (λ core. core ≡ record { opening = opening_state config.records; history = []; entries = []; room = room }) }
         ensures kept { OnOk result (opening_refusal config.records ≡ None) }

@@ -12,7 +12,8 @@ use iocm_stage::steps_elsewhere_pass_a_stage;
 use iocm_types::{Answer, Order, SubId};
 
 impl Machine {
-    /// An order of an image on its subchannel; Held where the change in stages alters the subchannel. Can't answer want of memory.
+    /// An order of an image on its subchannel; Held where the change in stages alters the
+    /// subchannel. Can't answer want of memory.
     pub fn io(&mut self, subchannel: &SubId, order: Order) -> Answer
         requires { IsRunning self.old }
         ensures answers { Answers (history.at subchannel.now (step.order order)) result self.old self.new }
@@ -26,8 +27,8 @@ impl Machine {
         Answer::Io(self.plant.step(*subchannel, order))
     }
 
-    /// The device of a subchannel begins what it was started for; Held where the change in stages alters the subchannel. Can't answer want
-    /// of memory.
+    /// The device of a subchannel begins what it was started for; Held where the change in stages
+    /// alters the subchannel. Can't answer want of memory.
     pub fn device_begin(&mut self, subchannel: &SubId) -> Answer
         requires { IsRunning self.old }
         ensures answers { Answers (history.at subchannel.now step.device_begin) result self.old self.new }
@@ -41,7 +42,8 @@ impl Machine {
         Answer::Begun(self.plant.begun(*subchannel))
     }
 
-    /// The device of a subchannel ends a function; Held where the change in stages alters the subchannel. Can't answer want of memory.
+    /// The device of a subchannel ends a function; Held where the change in stages alters the
+    /// subchannel. Can't answer want of memory.
     pub fn device_end(&mut self, subchannel: &SubId) -> Answer
         requires { IsRunning self.old }
         ensures answers { Answers (history.at subchannel.now step.device_end) result self.old self.new }

@@ -8,7 +8,8 @@ use iocm_types::{Answer, Counts};
 use std::alloc::Global;
 
 impl Machine {
-    /// Undoes a change: Undone, with its number; or why it is refused: O1, a change is staged; or as `Journal::undo` is.
+    /// Undoes a change: Undone, with its number; or why it is refused: O1, a change is staged; or
+    /// as `Journal::undo` is.
     pub fn undo(&mut self, alloc: Global, number: u64) -> Answer
         requires { IsRunning self.old }
         ensures answers { Answers (history.undo number) result self.old self.new }
@@ -26,7 +27,8 @@ impl Machine {
         }
     }
 
-    /// Does a change again that was undone: Redone, with its number; or why it is refused: O1, a change is staged; or as `Journal::redo` is.
+    /// Does a change again that was undone: Redone, with its number; or why it is refused: O1, a
+    /// change is staged; or as `Journal::redo` is.
     pub fn redo(&mut self, alloc: Global, number: u64) -> Answer
         requires { IsRunning self.old }
         ensures answers { Answers (history.redo number) result self.old self.new }

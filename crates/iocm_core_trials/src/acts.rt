@@ -9,7 +9,8 @@ use std::test::Fail;
 /// A call with the answer that is wanted.
 pub type Act = (Ask, Wanted);
 
-/// The core of a machine of the base deck, whose trace has room for so many entries; memory may be wanted once.
+/// The core of a machine of the base deck, whose trace has room for so many entries; memory may be
+/// wanted once.
 pub fn opened(alloc: Global, room: usize) -> Result<Core, Fail> {
     let config = configuration(alloc, BASE).ok_or("the deck is not read")?;
     match Core::open(alloc, config, room) {
@@ -28,7 +29,8 @@ pub fn ask_once(alloc: Global, core: &mut Core, ask: &Ask) -> Result<Option<Answ
     Ok(core.call(alloc, call).ok())
 }
 
-/// The answer to a call, where memory may be wanted once by those that may want it; none where the trace is full.
+/// The answer to a call, where memory may be wanted once by those that may want it; none where the
+/// trace is full.
 pub fn ask_of(alloc: Global, core: &mut Core, ask: &Ask) -> Result<Option<Answer>, Fail> {
     match ask_once(alloc, core, ask)? {
         Some(answer) if answer == refused(Rule::M1, None, At::Nothing) && may_want_memory(ask) => {
@@ -54,7 +56,8 @@ fn is_answered(alloc: Global, core: &mut Core, act: &Act) -> Result<bool, Fail> 
     Ok(answer == answer_of(wanted)?)
 }
 
-/// Makes the calls of these acts, and gives the place of the first that isn't answered as it should be, if there is one.
+/// Makes the calls of these acts, and gives the place of the first that isn't answered as it should
+/// be, if there is one.
 pub fn first_wrong_of(alloc: Global, core: &mut Core, acts: &[Act]) -> Result<Option<usize>, Fail> {
     for (place, act) in acts.iter().enumerate() {
         if !is_answered(alloc, core, act)? {
@@ -64,7 +67,8 @@ pub fn first_wrong_of(alloc: Global, core: &mut Core, acts: &[Act]) -> Result<Op
     Ok(None)
 }
 
-/// The place of the first act that a machine of the base deck doesn't answer as it should, if there is one.
+/// The place of the first act that a machine of the base deck doesn't answer as it should, if there
+/// is one.
 pub fn first_wrong(alloc: Global, acts: &[Act]) -> Result<Option<usize>, Fail> {
     let mut core = opened(alloc, 64)?;
     first_wrong_of(alloc, &mut core, acts)

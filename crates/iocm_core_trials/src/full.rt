@@ -61,7 +61,8 @@ fn is_full_once_begun(alloc: Global, core: &mut Core) -> Result<bool, Fail> {
     Ok(wrong.is_none() && comes_back(alloc, core, &Commit)? && comes_back(alloc, core, &Abort)?)
 }
 
-/// Whether a change in stages that can't be ended, since the trace is full, is taken back when the core is closed.
+/// Whether a change in stages that can't be ended, since the trace is full, is taken back when the
+/// core is closed.
 fn is_taken_back_at_the_end(alloc: Global) -> Result<bool, Fail> {
     let mut core = opened(alloc, 1)?;
     let is_full = is_full_once_begun(alloc, &mut core)?;
@@ -122,7 +123,8 @@ fn is_filled(alloc: Global, room: usize, acts: &[Act], wanted: &Sight) -> Result
     Ok(count == room && is_left)
 }
 
-/// That a trace with this room takes so many of these calls, and the machine is then as after these alone.
+/// That a trace with this room takes so many of these calls, and the machine is then as after these
+/// alone.
 fn is_full_at(alloc: Global, room: usize, acts: &[Act]) -> Result<bool, Fail> {
     let taken = acts.get(..room).ok_or("more room than acts")?;
     let wanted = sight_after(alloc, taken)?;

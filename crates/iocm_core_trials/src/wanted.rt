@@ -9,9 +9,11 @@ pub enum Wanted {
     Code(u8),
     /// The status of a start that ended.
     StartEnded,
-    /// What STORE SUBCHANNEL gives of a fresh subchannel that has the path-installed mask C0: its device and its path-available mask.
+    /// What STORE SUBCHANNEL gives of a fresh subchannel that has the path-installed mask C0: its
+    /// device and its path-available mask.
     Fresh(u16, u8),
-    /// What it gives of an enabled subchannel that is idle: its device, its path-available and its logical-path mask, and its parameter.
+    /// What it gives of an enabled subchannel that is idle: its device, its path-available and its
+    /// logical-path mask, and its parameter.
     InUse(u16, u8, u8, u32),
     /// Whether a function was in progress, which ended.
     Ended(bool),

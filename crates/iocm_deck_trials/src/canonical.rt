@@ -1,7 +1,7 @@
-use iocm_canonical::canonical_deck;
 use iocm_columns::{Device, join, read_cards};
 use iocm_config::Config;
-use iocm_records::from_statements;
+use iocm_deck_writer::canonical_deck;
+use iocm_record_reader::from_statements;
 use iocm_statements::{Statement, parse};
 use iocm_types::{Fault, Rule};
 use std::alloc::Global;
@@ -20,7 +20,8 @@ const BASE_CANONICAL: &[u8] = b"         RESOURCE PARTITION=((CSS(0),(LPA,1),(LP
          IODEVICE ADDRESS=(1000,4),CUNUMBR=(1000),UNITADD=00
 ";
 
-/// Two channel subsystems, each operand in a form that isn't the canonical one, and the statements backwards.
+/// Two channel subsystems, each operand in a form that isn't the canonical one, and the statements
+/// backwards.
 const WHOLE: &[u8] = b"* Each statement in other forms, and in another order.
          IODEVICE ADDRESS=(1000,2),CUNUMBR=2000,SCHSET=1
          IODEVICE UNIT=3390,ADDRESS=1107
@@ -46,8 +47,8 @@ const WHOLE: &[u8] = b"* Each statement in other forms, and in another order.
          ID MSG1='ALL FORMS',SYSTEM=(2964,1)
 ";
 
-/// Its canonical deck. Runs end at unit address FF, at other candidates, at other units, and at what else is
-/// carried. The blank before TODAY stands in column 16.
+/// Its canonical deck. Runs end at unit address FF, at other candidates, at other units, and at
+/// what else is carried. The blank before TODAY stands in column 16.
 const WHOLE_CANONICAL: &[u8] = b"         ID MSG1='ALL FORMS',SYSTEM=(2964,1)
          RESOURCE PARTITION=((CSS(0),(LPA,1),(LPB,2)),(CSS(1),(LPC,A)))X
                ,MAXDEV=((CSS(0),65280),(CSS(1),,5)),NOTE

@@ -1,6 +1,6 @@
 use iocm_columns::Joined;
 use iocm_record::{Carried, DeviceFields, PathFields, Record, RecordBody, UnitFields};
-use iocm_records::from_statements;
+use iocm_record_reader::from_statements;
 use iocm_statements::{Statement, parse};
 use iocm_types::{CssLink, CssPath, Fault, Link, List, Name, PathKind, Text, UnitNo, UnitRange};
 use std::alloc::Global;

@@ -1,6 +1,7 @@
 //! Decks, tried by the calls that read and write them: there is nothing here to call.
 //!
-//! Records and their copies (`records.rt`), the records of a deck and each form of an operand that is accepted (`decks.rt`), the canonical deck (`canonical.rt`).
+//! Records and their copies (`records.rt`), the records of a deck and each form of an operand that
+//! is accepted (`decks.rt`), the canonical deck (`canonical.rt`).
 #![tactic(auto)]
 
 #[cfg(test)]

@@ -11,7 +11,8 @@ const DECK: &[u8] = b"         ID DESC='A B'
          IODEVICE ADDRESS=1000,CUNUMBR=1000,PARTITION=(LPA)
 ";
 
-/// What a trial sees of a record: its key, what it names, and whether it carries along what the record of ID in the deck does, and no more.
+/// What a trial sees of a record: its key, what it names, and whether it carries along what the
+/// record of ID in the deck does, and no more.
 type Seen = (Key, [Option<Named>; 3], bool);
 
 fn carries_it(entry: &Record) -> bool {

@@ -1,4 +1,5 @@
--- The masks of names, when bits are added by a walk over the records by which a path is online, one row after the other.
+-- The masks of names, when bits are added by a walk over the records by which a path is online, one
+-- row after the other.
 use Rattle.std.proofs.Common.{◌≡◌, ◌∙◌, ℕ, ◌+◌, ◌*◌, ◌/◌, ◌<◌, ◌≤◌, Bool, true, false, cond, nat_eq, IsTrue, List, [], ◌∷◌, length, get_or, drop, Option, None, Some, is_some, T, refl, sym, ap, subst, arith, drop_of_length-le}
 use Rattle.std.specs.Cmp.Lexicographic.{pointwise}
 use Rattle.std.specs.List.{AllByRecursion}
@@ -28,7 +29,8 @@ use Rattle.iocm_derive.proofs.Tables.{all_after, found_after, none_before}
 abbrev pub bit_found : ℕ → Option Rec → ℕ
 bit_found bit found = cond (is_some found) bit 0
 
--- each mask, with the bit where the record of the name is still to come, is right; the rows that are left stand in order, none before a first key
+-- each mask, with the bit where the record of the name is still to come, is right; the rows that
+-- are left stand in order, none before a first key
 pub record IsAdding (css path bit : ℕ) (right : List ℕ → ℕ) (masks : List NamedMask) (rest : List (Key × Rec)) : Type 0 where
   pub rise : T (is_sorted key_cmp rest)
   pub after : AllByRecursion (λ e. is_le (key_cmp (Online css path least) e.0) ≡ true) rest
@@ -125,7 +127,8 @@ add_within mask bit right b is room = within mask bit (cond b bit 0) right (at_m
 
 -- ---- one path after the other
 
--- the masks so far, with the bits of the paths that are left, are those at the end; each has room for a bit more
+-- the masks so far, with the bits of the paths that are left, are those at the end; each has room
+-- for a bit more
 pub record AreAdding (test : List ℕ → ℕ → Bool) (masks : List NamedMask) (bit : ℕ) (left paths : List ℕ) : Type 0 where
   pub low : (n : List ℕ) → IsTrue (is_name n) → mask_in n masks < 256
   pub small : (n : List ℕ) → IsTrue (is_name n) → mask_in n masks + 2 * bit ≤ 256

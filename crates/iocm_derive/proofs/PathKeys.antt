@@ -106,7 +106,8 @@ behind_online css name n (Online of path other) none le = other_is_after css of 
     by true is = cc
     by false is = refl
 
--- the key of an online path ties with that of the path of this number that is online to this image, and with no other
+-- the key of an online path ties with that of the path of this number that is online to this image,
+-- and with no other
 pub ties_with_online : (css : ℕ) (name : List ℕ) (row : OnlinePath) (k : Key) → online_under css k ≡ Some row → (n : ℕ)
     → eq_by_cmp key_cmp (Online css n name) k ≡ (nat_eq n row.path && pointwise nat_eq name row.name)
 ties_with_online css name row Id is n = cc

@@ -18,8 +18,8 @@ use Rattle.iocm_table.specs.Slots.{rows_from}
 use Rattle.iocm_model.specs.Machine.Record.{Rec}
 use Rattle.iocm_model.specs.Machine.Configuration.{Configuration}
 
--- a table of 256 paths, with what a test says of those of their records that are still to come, has what it says of all;
--- the rows that are left stand in order, none before a first key
+-- a table of 256 paths, with what a test says of those of their records that are still to come, has
+-- what it says of all; the rows that are left stand in order, none before a first key
 pub record IsFilling (first : Key) (key : ℕ → Key) (test : Option Rec → Bool) (right : ℕ → Bool) (table : List Bool) (rest : List (Key × Rec)) : Type 0 where
   pub long : length table ≡ 256
   pub rise : T (is_sorted key_cmp rest)

@@ -1,4 +1,5 @@
--- What is asked of a configuration by number: the path list of a device, and whether an image sees it.
+-- What is asked of a configuration by number: the path list of a device, and whether an image sees
+-- it.
 use Rattle.std.specs.Prelude.{ℕ, Bool, false, List, [], Option, None, Some}
 use Rattle.std.specs.Option.{option_and_then, option_map}
 use Rattle.iocm_types.specs.declared.css_path.CssPath.{CssPath}

@@ -12,7 +12,8 @@ use Rattle.iocm_derive.specs.NamedMasks.{mask_in}
 abbrev pub least : List ℕ
 least = 65 ∷ []
 
--- the name in the key of a record by which this path of this channel subsystem is online to an image
+-- the name in the key of a record by which this path of this channel subsystem is online to an
+-- image
 abbrev pub online_name : ℕ → ℕ → Key → Option (List ℕ)
 online_name css path (Online of number name) = if nat_eq of css && nat_eq number path then Some name else None
 online_name css path _ = None

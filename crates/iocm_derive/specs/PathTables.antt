@@ -13,8 +13,8 @@ abbrev pub path_under : ℕ → Key → Option ℕ
 path_under css (Path of path) = if nat_eq of css then Some path else None
 path_under css _ = None
 
--- the path whose key this is, with the image to which it is online, if it is that of an online path of this channel
--- subsystem
+-- the path whose key this is, with the image to which it is online, if it is that of an online path
+-- of this channel subsystem
 abbrev pub online_under : ℕ → Key → Option OnlinePath
 online_under css (Online of path name) = if nat_eq of css then Some (record { path = path; name = name }) else None
 online_under css _ = None

@@ -1,5 +1,5 @@
--- An image of a configuration, with tables of the paths that it reaches and of those that are online to it, rows of
--- its records, and what it sees by some control units.
+-- An image of a configuration, with tables of the paths that it reaches and of those that are
+-- online to it, rows of its records, and what it sees by some control units.
 use Rattle.std.specs.Prelude.{◌≡◌, ℕ, Some, List}
 use Rattle.std.specs.List.{list_any, AllByRecursion}
 use Rattle.std.specs.FinMap.{get}
@@ -29,8 +29,8 @@ pub record IsSeenBy (c : Lookup) (css : ℕ) (name : List ℕ) (v : UnitsView) :
 abbrev pub AreOf : Configuration → List (Key × Rec) → Type 0
 AreOf m rows = AllByRecursion (λ e. get m e.0 ≡ Some e.1) rows
 
--- the tables of the paths that the image of this name reaches, and of those that are online to it; rows of the
--- configuration; and what the image sees by some units
+-- the tables of the paths that the image of this name reaches, and of those that are online to it;
+-- rows of the configuration; and what the image sees by some units
 pub record IsSighted (m : Configuration) (css : ℕ) (name : List ℕ) (tables : PathTables) (walk : List (Key × Rec)) (last : UnitsView) : Type 0 where
   pub reached_paths : IsTableOf (reaches (lookup_of m) css name) tables.reached
   pub online_paths : IsTableOf (is_online (lookup_of m) css name) tables.online

@@ -1,4 +1,5 @@
--- A number cell of a configuration, with the device there, and the paths and the records of paths by which its channel subsystem reaches it.
+-- A number cell of a configuration, with the device there, and the paths and the records of paths
+-- by which its channel subsystem reaches it.
 use Rattle.std.specs.Prelude.{◌≡◌, ℕ, List, Option, Some}
 use Rattle.std.specs.Option.{option_and_then}
 use Rattle.std.specs.FinMap.{get}

@@ -53,7 +53,8 @@ impl<'b, 'a, A: Allocator> Reach<A> for CellImage<'b, 'a, A> {
     }
 }
 
-/// What the image of a name sees of the device of a number cell with these first eight paths in its channel subsystem.
+/// What the image of a name sees of the device of a number cell with these first eight paths in its
+/// channel subsystem.
 pub fn view_in_cell<A: Allocator>(
     sight: &CellSight<'_, A>,
     name: Name,
@@ -93,8 +94,8 @@ fn view_by_paths<A: Allocator>(
     })
 }
 
-/// Whether an image reaches one of the paths of these units, by its path-installed mask over the first eight. Only where
-/// it reaches none of eight the units are asked for further ones.
+/// Whether an image reaches one of the paths of these units, by its path-installed mask over the
+/// first eight. Only where it reaches none of eight the units are asked for further ones.
 fn is_reached<A: Allocator, R: Reach<A>>(
     reach: &R,
     units: &[UnitNo],

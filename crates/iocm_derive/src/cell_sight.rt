@@ -22,9 +22,9 @@ use iocm_types::{Chpid, Css, Mask, Name, NumberCell, Paths, View};
 use std::alloc::Allocator;
 use std::marker::Model;
 
-/// A number cell of a configuration, with what all images of its channel subsystem share there looked up once: the
-/// device that has the number, its first eight paths, and their records. Contracts see the configuration, the cell
-/// and the device.
+/// A number cell of a configuration, with what all images of its channel subsystem share there
+/// looked up once: the device that has the number, its first eight paths, and their records.
+/// Contracts see the configuration, the cell and the device.
 #[derive(Drop)]
 pub struct CellSight<'a, A: Allocator> {
     config: &'a Config<A>,
@@ -74,8 +74,9 @@ impl<'a, A: Allocator> CellSight<'a, A> {
         CellSight::with_records(config, *cell, device, paths, None)
     }
 
-    /// A number cell for where many images are asked: which of them have its paths online is gathered beforehand, by one walk
-    /// for each path. Where the device lists candidates few of those who are asked see it, so that nothing is gathered.
+    /// A number cell for where many images are asked: which of them have its paths online is
+    /// gathered beforehand, by one walk for each path. Where the device lists candidates few of
+    /// those who are asked see it, so that nothing is gathered.
     pub fn gathered<B: Allocator>(
         config: &'a Config<A>,
         numbers: &Numbers<B>,
@@ -89,7 +90,8 @@ impl<'a, A: Allocator> CellSight<'a, A> {
         CellSight::with_records(config, *cell, device, paths, online)
     }
 
-    /// A number cell with its device, the first eight paths of that, and what was gathered; the records of the paths are looked up.
+    /// A number cell with its device, the first eight paths of that, and what was gathered; the
+    /// records of the paths are looked up.
     fn with_records(
         config: &'a Config<A>,
         cell: NumberCell,
@@ -119,7 +121,8 @@ impl<'a, A: Allocator> CellSight<'a, A> {
         self.cell
     }
 
-    /// What the image of a name in the cell's channel subsystem sees there, if there is a device and the image sees it.
+    /// What the image of a name in the cell's channel subsystem sees there, if there is a device
+    /// and the image sees it.
     pub fn view(&self, name: Name) -> Option<View>
         ensures { result ≡ seen_there self.now name }
     {
@@ -172,7 +175,8 @@ fn device_in<'a, A: Allocator, B: Allocator>(
     find_device(config, cell.set, device)
 }
 
-/// The path-available masks of all images over a path list of a device, if each image is a candidate of that, and they are few enough.
+/// The path-available masks of all images over a path list of a device, if each image is a
+/// candidate of that, and they are few enough.
 fn online_to_all<A: Allocator>(
     config: &Config<A>,
     css: Css,

@@ -13,8 +13,8 @@ use iocm_types::{Image, Key, Name};
 use std::alloc::Allocator;
 use std::marker::Model;
 
-/// The images of a configuration, asked for their names one after the other: the image behind the last one is found
-/// without a search. Contracts see the configuration.
+/// The images of a configuration, asked for their names one after the other: the image behind the
+/// last one is found without a search. Contracts see the configuration.
 #[derive(Drop)]
 pub struct ImageNames<'a, A: Allocator> {
     config: &'a Config<A>,

@@ -15,9 +15,9 @@ use iocm_types::{Chpid, Css, DevNo, Image, Key, Mask, Name, Paths, SetNo, View};
 use std::alloc::Allocator;
 use std::marker::Model;
 
-/// An image of a configuration, with the paths that it reaches and those that are online to it looked up
-/// once, and with what it sees of the last device kept for the next: its views of many devices, one after the
-/// other, follow quickly. Contracts see the configuration and the image.
+/// An image of a configuration, with the paths that it reaches and those that are online to it
+/// looked up once, and with what it sees of the last device kept for the next: its views of many
+/// devices, one after the other, follow quickly. Contracts see the configuration and the image.
 #[derive(Drop)]
 pub struct ImageSight<'a, A: Allocator> {
     config: &'a Config<A>,
@@ -71,8 +71,8 @@ impl<'a, A: Allocator> ImageSight<'a, A> {
         self.image
     }
 
-    /// What the image sees of the device of a number in a set, if it is there and seen. A device next to the
-    /// last one, or on the same units, is quickly answered.
+    /// What the image sees of the device of a number in a set, if it is there and seen. A device
+    /// next to the last one, or on the same units, is quickly answered.
     pub fn view(&mut self, set: SetNo, device: DevNo) -> Option<View>
         ensures view { result ≡ model.image_view (lookup_of self.old.records) self.old.image set device }
         ensures same { self.new ≡ self.old }
@@ -85,7 +85,8 @@ impl<'a, A: Allocator> ImageSight<'a, A> {
         view_by(self, &self.last, fields)
     }
 
-    /// The device of a number in a set, if there is one. It is looked for behind the last one first.
+    /// The device of a number in a set, if there is one. It is looked for behind the last one
+    /// first.
     fn find_next(&mut self, set: SetNo, device: DevNo) -> Option<&'a DeviceFields<A>>
         ensures device { option_map device_of (option_copied result) ≡ model.device_record (lookup_of self.old.records) set device }
         ensures same { self.new ≡ self.old }

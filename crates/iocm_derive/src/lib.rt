@@ -1,12 +1,12 @@
 //! What follows from a configuration and its numbers: path lists, sight, masks and views.
 //!
-//! Each function reads a `Config`, and `view_at` its `Numbers` too, and answers exactly what its definition says. None can
-//! answer want of memory.
-//! `view_at` is what an image sees at one subchannel; `path_list`, `sees`, `pim` and `pam` are its parts.
-//! `ImageSight` gives the views of one image at many devices, one after the other: it keeps tables of the image's
-//! paths, where the walk over the devices stands, and what it sees by the last device's control units.
-//! `CellSight` gives the views of many images at one number cell: what the images of its channel subsystem share there is looked up once.
-//! `ImageNames` gives the names of many images, one after the other.
+//! Each function reads a `Config`, and `view_at` its `Numbers` too, and answers exactly what its
+//! definition says. None can answer want of memory. `view_at` is what an image sees at one
+//! subchannel; `path_list`, `sees`, `pim` and `pam` are its parts. `ImageSight` gives the views of
+//! one image at many devices, one after the other: it keeps tables of the image's paths, where the
+//! walk over the devices stands, and what it sees by the last device's control units. `CellSight`
+//! gives the views of many images at one number cell: what the images of its channel subsystem
+//! share there is looked up once. `ImageNames` gives the names of many images, one after the other.
 //! Begin with `view.rt`, then `reach.rt` for what both ways share.
 #![tactic(auto)]
 

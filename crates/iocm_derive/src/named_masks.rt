@@ -3,7 +3,8 @@ ghost use Rattle.iocm_derive.specs.NamedMasks.{bits_in, mask_in, IsAdded, IsOpen
 
 use iocm_types::{Mask, Name};
 
-/// A row of a list of masks: some of the bits of the mask that belongs to a name. A row without bits is free.
+/// A row of a list of masks: some of the bits of the mask that belongs to a name. A row without
+/// bits is free.
 #[derive(Clone, Copy)]
 pub struct NamedMask {
     pub name: Name,
@@ -29,8 +30,8 @@ fn bits_of(row: &NamedMask, name: Name) -> u8
     if name == row.name { row.bits } else { 0 }
 }
 
-/// Adds a bit to the mask of a name, and tells in which row. The name's own row is looked for from a place on, and then before it.
-/// None where each row is another name's.
+/// Adds a bit to the mask of a name, and tells in which row. The name's own row is looked for from
+/// a place on, and then before it. None where each row is another name's.
 pub fn add_bit(masks: &mut [NamedMask; 16], near: usize, name: Name, bit: u8) -> Option<usize>
     requires near { near ≤ 16 }
     requires room { mask_in name masks.old + bit < 256 }

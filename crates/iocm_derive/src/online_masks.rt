@@ -11,9 +11,9 @@ use iocm_config::Config;
 use iocm_types::{Chpid, Css, Key, Name, Paths};
 use std::alloc::Allocator;
 
-/// The path-available masks of the images of a channel subsystem over a path list, by their names: one walk for each path over
-/// the records of those to which it is online. None where more names are met than have a row: a channel subsystem has at most 15
-/// images, but records may name others.
+/// The path-available masks of the images of a channel subsystem over a path list, by their names:
+/// one walk for each path over the records of those to which it is online. None where more names
+/// are met than have a row: a channel subsystem has at most 15 images, but records may name others.
 pub fn online_masks<A: Allocator>(
     config: &Config<A>,
     css: Css,
@@ -33,7 +33,8 @@ pub fn online_masks<A: Allocator>(
     Some(masks)
 }
 
-/// Adds a bit to the mask of each image to which a path is online. False where there were too few rows.
+/// Adds a bit to the mask of each image to which a path is online. False where there were too few
+/// rows.
 fn add_path<A: Allocator>(
     masks: &mut [NamedMask; 16],
     config: &Config<A>,
@@ -58,7 +59,8 @@ fn add_path<A: Allocator>(
     true
 }
 
-/// The name of the image to which a path is online, if this is the key of such a record of that path.
+/// The name of the image to which a path is online, if this is the key of such a record of that
+/// path.
 fn name_online(key: &Key, css: Css, path: Chpid) -> Option<Name>
     ensures under { result ≡ online_name css path key.now }
     ensures name { IfSome result (λ name. IsTrue (is_name name)) }

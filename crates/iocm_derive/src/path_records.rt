@@ -14,7 +14,8 @@ pub struct PathRecord<'a, A: Allocator> {
     pub entry: &'a Record<A>,
 }
 
-/// The records of these paths of a channel subsystem, each in its place; none where there is no such path.
+/// The records of these paths of a channel subsystem, each in its place; none where there is no
+/// such path.
 pub fn path_records<'a, A: Allocator>(
     config: &'a Config<A>,
     css: Css,

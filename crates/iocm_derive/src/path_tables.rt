@@ -9,8 +9,8 @@ use iocm_config::Config;
 use iocm_types::{Chpid, Css, Key, Name};
 use std::alloc::Allocator;
 
-/// The paths of a channel subsystem by their numbers: which of them the image of a name reaches, and which are
-/// online to it.
+/// The paths of a channel subsystem by their numbers: which of them the image of a name reaches,
+/// and which are online to it.
 #[derive(Drop)]
 pub struct PathTables {
     pub reached: [bool; 256],
@@ -24,8 +24,8 @@ struct OnlinePath {
     name: Name,
 }
 
-/// The tables of an image. The time is that of two searches, and in proportion to the paths that the channel subsystem has
-/// and to how many are online to its images.
+/// The tables of an image. The time is that of two searches, and in proportion to the paths that
+/// the channel subsystem has and to how many are online to its images.
 pub fn path_tables<A: Allocator>(config: &Config<A>, css: Css, name: Name) -> PathTables
     ensures reached { IsTableOf (sight.reaches (lookup_of config.now.records) css name) result.reached }
     ensures online { IsTableOf (mask.is_online (lookup_of config.now.records) css name) result.online }
@@ -74,8 +74,8 @@ fn online_paths<A: Allocator>(config: &Config<A>, css: Css, name: Name) -> [bool
     online
 }
 
-/// The path whose key this is, with the image to which it is online, if it is that of an online path of the channel
-/// subsystem.
+/// The path whose key this is, with the image to which it is online, if it is that of an online
+/// path of the channel subsystem.
 fn online_of(key: &Key, css: Css) -> Option<OnlinePath>
     ensures { result ≡ online_under css key.now }
 {

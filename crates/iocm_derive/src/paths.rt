@@ -11,8 +11,9 @@ use iocm_record::DeviceFields;
 use iocm_types::{Css, CssPath, DevNo, Paths, SetNo, UnitNo};
 use std::alloc::Allocator;
 
-/// The first eight paths by which a channel subsystem reaches a device: the paths of its control units there,
-/// joined in the order of CUNUMBR, each unit's in the order of PATH. Empty where there is no such device.
+/// The first eight paths by which a channel subsystem reaches a device: the paths of its control
+/// units there, joined in the order of CUNUMBR, each unit's in the order of PATH. Empty where there
+/// is no such device.
 pub fn path_list<A: Allocator>(config: &Config<A>, css: Css, set: SetNo, device: DevNo) -> Paths
     ensures { result ≡ paths_at (lookup_of config.now.records) css set device }
 {

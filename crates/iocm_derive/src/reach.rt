@@ -8,8 +8,8 @@ use iocm_config::Config;
 use iocm_types::{Chpid, Css, Name};
 use std::alloc::Allocator;
 
-/// An image of a configuration: which paths of its channel subsystem it reaches, and which are online to it.
-/// `ImageRecords` looks each path up; `ImageSight` has them in tables.
+/// An image of a configuration: which paths of its channel subsystem it reaches, and which are
+/// online to it. `ImageRecords` looks each path up; `ImageSight` has them in tables.
 pub trait Reach<A: Allocator> {
     ghost records: { Self → Configuration };
 

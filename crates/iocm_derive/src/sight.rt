@@ -14,8 +14,8 @@ use iocm_record::DeviceFields;
 use iocm_types::{CssPath, DevNo, Image, List, Name, SetNo, UnitNo};
 use std::alloc::Allocator;
 
-/// Whether an image sees a device of a set: the device lists no candidates or the image among them, and the
-/// image reaches one of the paths to it. False where the image or the device isn't there.
+/// Whether an image sees a device of a set: the device lists no candidates or the image among them,
+/// and the image reaches one of the paths to it. False where the image or the device isn't there.
 pub fn sees<A: Allocator>(config: &Config<A>, image: Image, set: SetNo, device: DevNo) -> bool
     ensures { result ≡ sees (lookup_of config.now.records) image set device }
 {

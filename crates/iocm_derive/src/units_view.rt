@@ -12,8 +12,8 @@ use iocm_record::DeviceFields;
 use iocm_types::{Mask, Paths, UnitNo, View};
 use std::alloc::Allocator;
 
-/// What an image sees of each device on these control units: whether it reaches a path to them, the first
-/// eight paths, and their masks.
+/// What an image sees of each device on these control units: whether it reaches a path to them, the
+/// first eight paths, and their masks.
 #[derive(Drop)]
 pub struct UnitsView<'a> {
     pub units: &'a [UnitNo],

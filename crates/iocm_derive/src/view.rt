@@ -14,8 +14,8 @@ use iocm_record::DeviceFields;
 use iocm_types::{Css, DevNo, Image, Name, NumberCell, SetNo, SubId, View};
 use std::alloc::Allocator;
 
-/// What an image sees at a subchannel: its view, if the image and the device of the number are there, and
-/// the image sees the device.
+/// What an image sees at a subchannel: its view, if the image and the device of the number are
+/// there, and the image sees the device.
 pub fn view_at<A: Allocator, B: Allocator>(
     config: &Config<A>,
     numbers: &Numbers<B>,

@@ -1,4 +1,5 @@
--- Of keys in order the first whose address was met or is that of a key before it, and the least of what some give.
+-- Of keys in order the first whose address was met or is that of a key before it, and the least of
+-- what some give.
 use Rattle.std.proofs.Common.{◌≡◌, ◌⊎◌, inl, inr, ℕ, zero, suc, Bool, true, false, cond, ◌||◌, nat_eq, Option, None, Some, List, [], ◌∷◌, get_or, replicate, refl, sym, ap, subst, ◌∙◌, arith}
 use Rattle.std.proofs.lemmas.Bool.{false≢true}
 use Rattle.std.proofs.lemmas.Bool.Decides.{nat_tests}

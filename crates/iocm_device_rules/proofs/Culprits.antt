@@ -1,4 +1,5 @@
--- The least device that has the address of another before it on one of its units is the first that breaks the rule.
+-- The least device that has the address of another before it on one of its units is the first that
+-- breaks the rule.
 use Rattle.std.proofs.Common.{◌≡◌, ◌⊎◌, inl, inr, ℕ, Bool, true, false, ◌&&◌, ◌||◌, ◌==◌, nat_eq, nat_lt, length, is_none, unwrap_or, Option, None, Some, List, [], ◌∷◌, map, refl, sym, ap, subst, ◌∙◌, arith}
 use Rattle.std.proofs.lemmas.Bool.{false≢true}
 use Rattle.std.proofs.lemmas.Bool.Decides.{nat_tests}

@@ -1,5 +1,6 @@
--- Where only records at some keys can be so, the least of these keys whose record is so is the first of all; and the least clash on the units of
--- the devices at some keys is the first, where of two devices that clash one is at these.
+-- Where only records at some keys can be so, the least of these keys whose record is so is the
+-- first of all; and the least clash on the units of the devices at some keys is the first, where of
+-- two devices that clash one is at these.
 use Rattle.std.proofs.Common.{◌≡◌, ◌⊎◌, inl, inr, ℕ, Bool, true, false, cond, nat_eq, eqb-true, Option, None, Some, List, [], ◌∷◌, refl, sym, ap, subst, ◌∙◌}
 use Rattle.std.proofs.lemmas.Bool.{false≢true, or_cases}
 use Rattle.std.specs.List.{AllByRecursion, list_any}

@@ -1,4 +1,5 @@
--- The steps of a loop that takes the least of what the items of a list give, and what need not be taken.
+-- The steps of a loop that takes the least of what the items of a list give, and what need not be
+-- taken.
 use Rattle.std.proofs.Common.{◌≡◌, ℕ, ◌+◌, ◌<◌, ◌≤◌, Bool, true, false, cond, Option, None, Some, List, length, get_or, drop, refl, sym, ap}
 use Rattle.std.proofs.Math.ListN.{drop_of_length-le}
 use Rattle.std.specs.Ordering.{is_lt}

@@ -1,4 +1,5 @@
--- The path lists of a device, one for each channel subsystem, while the paths of its units are joined.
+-- The path lists of a device, one for each channel subsystem, while the paths of its units are
+-- joined.
 use Rattle.std.specs.Prelude.{◌≡◌, ℕ, ◌<◌, ◌++◌, ◌||◌, nat_lt, Bool, true, false, List, [], length, get_or, Option, Some}
 use Rattle.iocm_types.specs.declared.css_path.CssPath.{CssPath}
 use Rattle.iocm_model.specs.Machine.Record.{Rec, unit}

@@ -1,4 +1,5 @@
--- Numbers that are given away, at or above the limit of their channel subsystem and set: by number cell, and by place.
+-- Numbers that are given away, at or above the limit of their channel subsystem and set: by number
+-- cell, and by place.
 use Rattle.std.specs.Prelude.{ℕ, Bool, nat_le}
 use Rattle.iocm_types.specs.declared.key.Key.TheVariants as key
 use Rattle.iocm_types.specs.declared.place.NumberCell.{NumberCell}

@@ -20,12 +20,13 @@ use iocm_record::{Record, RecordBody};
 use iocm_types::{Key, Named, UnitNo};
 use std::alloc::Allocator;
 
-/// V10: a device with a smaller key has the same unit address and a common unit. So no unit address of a unit is that of two
-/// devices. Own.
+/// V10: a device with a smaller key has the same unit address and a common unit. So no unit address
+/// of a unit is that of two devices. Own.
 ///
-/// The key of the first device that breaks it, if one does; V8 is kept, so each unit that a device names is there. It goes unit
-/// by unit: of a unit's devices in order the first whose address was met is the least that breaks the rule there, and the answer
-/// is the least of all units'. So each device is looked at once for each of its units.
+/// The key of the first device that breaks it, if one does; V8 is kept, so each unit that a device
+/// names is there. It goes unit by unit: of a unit's devices in order the first whose address was
+/// met is the least that breaks the rule there, and the answer is the least of all units'. So each
+/// device is looked at once for each of its units.
 pub fn first_address_twice<A: Allocator, I: Allocator>(
     config: &Config<A>,
     index: &Index<I>,

@@ -6,7 +6,8 @@ use iocm_record::{Record, RecordBody};
 use iocm_types::UnitNo;
 use std::alloc::Allocator;
 
-/// Whether two records are those of devices on the same units in the same order. Devices of one unit mostly stand side by side.
+/// Whether two records are those of devices on the same units in the same order. Devices of one
+/// unit mostly stand side by side.
 pub fn are_on_same_units<A: Allocator>(entry: &Record<A>, other: &Record<A>) -> bool
     ensures { result ≡ true → AreOnSameUnits entry.now other.now }
 {

@@ -19,8 +19,9 @@ use iocm_record::{Record, RecordBody};
 use iocm_types::{Key, UnitNo};
 use std::alloc::Allocator;
 
-/// The key of the first record that is looked for, if there is one, where no record at another key than these can be. The keys
-/// come in any order, also several times, and one may have no record. The time is that of one look at the record of each.
+/// The key of the first record that is looked for, if there is one, where no record at another key
+/// than these can be. The keys come in any order, also several times, and one may have no record.
+/// The time is that of one look at the record of each.
 pub fn first_wanted_among<A: Allocator, W: Wanted<A>>(
     config: &Config<A>,
     wanted: &W,
@@ -78,10 +79,11 @@ pub fn is_wanted_at<A: Allocator, W: Wanted<A>>(config: &Config<A>, wanted: &W, 
     }
 }
 
-/// V10, as `first_address_twice` answers it, where of two devices with one unit address and a common unit one is at these keys.
+/// V10, as `first_address_twice` answers it, where of two devices with one unit address and a
+/// common unit one is at these keys.
 ///
-/// Of a unit's devices in order the first whose address was met is the least that breaks the rule there, and the answer is the
-/// least of those on the units of the devices at the keys.
+/// Of a unit's devices in order the first whose address was met is the least that breaks the rule
+/// there, and the answer is the least of those on the units of the devices at the keys.
 pub fn first_address_twice_among<A: Allocator, I: Allocator>(
     config: &Config<A>,
     index: &Index<I>,
@@ -95,8 +97,8 @@ pub fn first_address_twice_among<A: Allocator, I: Allocator>(
     least_clash_among(config, index, keys)
 }
 
-/// The least device that has, on a unit of the device at one of some keys, the address of one before it. A device on the same units
-/// as the one before it is not looked at again.
+/// The least device that has, on a unit of the device at one of some keys, the address of one
+/// before it. A device on the same units as the one before it is not looked at again.
 #[tactic(auto, using(crate::proofs::Leasts::least_steps))]
 fn least_clash_among<A: Allocator, I: Allocator>(
     config: &Config<A>,
@@ -114,8 +116,8 @@ fn least_clash_among<A: Allocator, I: Allocator>(
     least
 }
 
-/// The lesser of the least so far and the least clash on the units of the device at a key, where that at the last key, if there was
-/// one, is none that is less.
+/// The lesser of the least so far and the least clash on the units of the device at a key, where
+/// that at the last key, if there was one, is none that is less.
 fn lesser_with<A: Allocator, I: Allocator>(
     config: &Config<A>,
     index: &Index<I>,

@@ -14,8 +14,8 @@ use iocm_types::{Key, List, Name, UnitNo};
 use iocm_unit_rules::is_address_held;
 use std::alloc::Allocator;
 
-/// V8: a device with no unit, over eight, one twice, or one that isn't there. The limit of eight is that of the IOCP User's
-/// Guide, IODEVICE statement; the rest is own.
+/// V8: a device with no unit, over eight, one twice, or one that isn't there. The limit of eight is
+/// that of the IOCP User's Guide, IODEVICE statement; the rest is own.
 #[derive(Drop)]
 pub struct WrongUnits;
 

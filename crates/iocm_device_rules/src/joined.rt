@@ -13,8 +13,9 @@ use iocm_record::{Record, RecordBody};
 use iocm_types::{Chpid, CssPath, Key, Paths, UnitNo};
 use std::alloc::Allocator;
 
-/// V11: in some channel subsystem the path list of a device, the paths of its units there in the order of CUNUMBR, is over eight
-/// or has a path twice. Own; the masks of a subchannel have eight bits (Principles of Operation, path-installed mask).
+/// V11: in some channel subsystem the path list of a device, the paths of its units there in the
+/// order of CUNUMBR, is over eight or has a path twice. Own; the masks of a subchannel have eight
+/// bits (Principles of Operation, path-installed mask).
 #[derive(Drop)]
 pub struct WrongPathList;
 
@@ -47,8 +48,8 @@ impl<A: Allocator> Wanted<A> for WrongPathList {
     }
 }
 
-/// Whether in some channel subsystem the path list of a device on these units is over eight or has a path twice. Each unit is
-/// looked up once.
+/// Whether in some channel subsystem the path list of a device on these units is over eight or has
+/// a path twice. Each unit is looked up once.
 fn is_list_wrong<A: Allocator>(config: &Config<A>, units: &[UnitNo]) -> bool
     ensures { result ≡ list_any (λ css. is_wrong_list (path_list (lookup_of config.now.records) css units.now)) numbering.subsystems }
 {
@@ -88,7 +89,8 @@ fn find_paths<A: Allocator>(config: &Config<A>, unit: UnitNo) -> &[CssPath]
     }
 }
 
-/// Puts paths at the end of the lists of their channel subsystems, while each then is right. Whether all are.
+/// Puts paths at the end of the lists of their channel subsystems, while each then is right.
+/// Whether all are.
 fn join_paths(lists: &mut [Paths; 6], more: &[CssPath]) -> bool
     requires { AreRight lists.old }
     ensures joined { result ≡ true → AreJoined lists.old lists.new (λ css. paths_in css more.now) }

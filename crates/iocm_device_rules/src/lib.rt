@@ -1,14 +1,16 @@
-//! The rules of devices: their units (V8), their unit addresses on these (V9, V10), their path lists (V11), their
-//! candidates (V12) and their subchannel numbers (V13).
+//! The rules of devices: their units (V8), their unit addresses on these (V9, V10), their path
+//! lists (V11), their candidates (V12) and their subchannel numbers (V13).
 //!
-//! V8, V9, V11 and V12 are `Wanted`s, which `first_wanted` of `iocm_lookup` looks for among the device records.
-//! `first_address_twice` (V10) and `first_past_limit` (V13) answer the first device that breaks their rule themselves:
-//! the one goes unit by unit, the other over the numbers first, so that no device is compared with all others. What each
-//! answers is exactly what the model's predicate says, and none takes memory but `first_past_limit_at_opening`, which lists the
-//! numbers at opening, for which no table has to be made.
+//! V8, V9, V11 and V12 are `Wanted`s, which `first_wanted` of `iocm_lookup` looks for among the
+//! device records. `first_address_twice` (V10) and `first_past_limit` (V13) answer the first device
+//! that breaks their rule themselves: the one goes unit by unit, the other over the numbers first,
+//! so that no device is compared with all others. What each answers is exactly what the model's
+//! predicate says, and none takes memory but `first_past_limit_at_opening`, which lists the numbers
+//! at opening, for which no table has to be made.
 //!
-//! Where only records at some keys can break a rule, since only these were changed, `first_wanted_among` and
-//! `first_address_twice_among` answer the same, and look at these keys alone.
+//! Where only records at some keys can break a rule, since only these were changed,
+//! `first_wanted_among` and `first_address_twice_among` answer the same, and look at these keys
+//! alone.
 //!
 //! Begin with `devices.rt`, then `addresses.rt`, then `among.rt`.
 #![tactic(auto)]

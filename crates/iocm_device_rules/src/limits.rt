@@ -17,8 +17,9 @@ use iocm_record::{Record, RecordBody};
 use iocm_types::{Css, DevNo, Key, NumberCell, Place, SetNo};
 use std::alloc::Allocator;
 
-/// V13: in some channel subsystem the subchannel number of a device is at or above the limit of its set there. Without a limit
-/// that is 65,280 in set 0 and 65,535 in the others (IOCP User's Guide, MAXDEV keyword). Own.
+/// V13: in some channel subsystem the subchannel number of a device is at or above the limit of its
+/// set there. Without a limit that is 65,280 in set 0 and 65,535 in the others (IOCP User's Guide,
+/// MAXDEV keyword). Own.
 #[derive(Drop)]
 pub struct NumberPastLimit<'a, N: Allocator> {
     pub numbers: &'a Numbers<N>,
@@ -51,8 +52,9 @@ impl<'a, A: Allocator, N: Allocator> Wanted<A> for NumberPastLimit<'a, N> {
     }
 }
 
-/// The key of the first device that breaks V13, if one does. Where no number that is given away is at or above its limit, as is
-/// the rule, one walk over the numbers tells, and no device is looked at.
+/// The key of the first device that breaks V13, if one does. Where no number that is given away is
+/// at or above its limit, as is the rule, one walk over the numbers tells, and no device is looked
+/// at.
 pub fn first_past_limit<A: Allocator, N: Allocator>(
     config: &Config<A>,
     numbers: &Numbers<N>,
@@ -98,7 +100,8 @@ pub(crate) fn first_limit<A: Allocator>(config: &Config<A>) -> SetLimit
     }
 }
 
-/// The limit of a number's channel subsystem and set, looked up where they are others than those of the last one.
+/// The limit of a number's channel subsystem and set, looked up where they are others than those of
+/// the last one.
 pub(crate) fn limit_of_cell<A: Allocator>(
     config: &Config<A>,
     last: &SetLimit,

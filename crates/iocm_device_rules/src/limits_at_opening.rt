@@ -15,8 +15,9 @@ use iocm_numbers::{opening, opening_rows};
 use iocm_types::{Key, NumberCell, Place};
 use std::alloc::{AllocError, Allocator};
 
-/// V13 with the numbers at opening: the key of the first device that breaks it, if one does. Where no number is at or above its
-/// limit, as is the rule, the list of the numbers tells, and no table is made of them.
+/// V13 with the numbers at opening: the key of the first device that breaks it, if one does. Where
+/// no number is at or above its limit, as is the rule, the list of the numbers tells, and no table
+/// is made of them.
 ///
 /// `AllocError` (M1): memory was wanted.
 pub fn first_past_limit_at_opening<A: Allocator, B: Allocator + Copy>(
@@ -43,7 +44,8 @@ fn is_any_past_at_opening<A: Allocator, B: Allocator + Copy>(
     Ok(is_any_row_past(config, rows.as_slice()))
 }
 
-/// Whether one of these numbers, each at its place, is at or above the limit of its channel subsystem and set.
+/// Whether one of these numbers, each at its place, is at or above the limit of its channel
+/// subsystem and set.
 #[tactic(auto, using(iocm_types::proofs::Any::any_steps))]
 fn is_any_row_past<A: Allocator>(config: &Config<A>, rows: &[(Place, u16)]) -> bool
     ensures { result ≡ list_any (past.is_row_past (lookup_of config.now.records)) rows.now }

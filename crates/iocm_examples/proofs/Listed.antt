@@ -1,5 +1,5 @@
--- The definitions on lists of entries in the order of their keys, each with the lemma that it agrees: the kit's finite maps
--- don't compute by themselves.
+-- The definitions on lists of entries in the order of their keys, each with the lemma that it
+-- agrees: the kit's finite maps don't compute by themselves.
 pub mod Effects
 pub mod Entries
 pub mod Fits

@@ -1,5 +1,6 @@
--- The records of the example deck, and of three variants of it: two images, LPA and LPB, share the paths 50 and 51 of one control unit
--- with four devices; LPB is offline on 51, where it is a candidate. And the keys, places and subchannels of the deck.
+-- The records of the example deck, and of three variants of it: two images, LPA and LPB, share the
+-- paths 50 and 51 of one control unit with four devices; LPB is offline on 51, where it is a
+-- candidate. And the keys, places and subchannels of the deck.
 use Rattle.std.specs.Prelude.{ℕ, ◌+◌, List, [], ◌∷◌, map, None, codes, Option}
 use Rattle.iocm_types.specs.declared.css_path.CssPath.{CssPath}
 use Rattle.iocm_types.specs.declared.path_kind.PathKind.TheVariants.{Shared}
@@ -41,7 +42,8 @@ deck_with candidates paths =
     ∷ device (device_record 0) ∷ device (device_record 1) ∷ device (device_record 2) ∷ device (device_record 3)
     ∷ online_record 0x50 lpa ∷ online_record 0x50 lpb ∷ online_record 0x51 lpa ∷ []
 
--- the example deck; with LPA alone as a candidate of path 51; with the unit's paths the other way round
+-- the example deck; with LPA alone as a candidate of path 51; with the unit's paths the other way
+-- round
 abbrev pub base : List Rec
 base = deck_with (lpa ∷ lpb ∷ []) (0x50 ∷ 0x51 ∷ [])
 

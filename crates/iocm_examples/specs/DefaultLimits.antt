@@ -1,4 +1,5 @@
--- How many subchannels a set holds where no limit is given, as it is stated by hand: 65280 in set 0, 65535 in the sets 1 to 3.
+-- How many subchannels a set holds where no limit is given, as it is stated by hand: 65280 in set
+-- 0, 65535 in the sets 1 to 3.
 use Rattle.std.specs.Prelude.{◌≡◌, ℕ, List, [], ◌∷◌, None, Option, Some}
 use Rattle.std.specs.FinMap.{from_entries}
 use Rattle.iocm_types.specs.declared.key.Key.TheVariants.{Device}
@@ -30,7 +31,8 @@ pub record Holds (records : List Rec) (set count : ℕ) (last : ℕ) : Type 0 wh
   pub last_held : breach_with records set last ≡ None
   pub first_beyond : breach_with records set count ≡ Some (record { rule = V13; key = Device set 0x2000 })
 
--- the limits of the four sets, and that a limit of another set or channel subsystem says nothing of this one
+-- the limits of the four sets, and that a limit of another set or channel subsystem says nothing of
+-- this one
 pub record LimitsOfSets : Type 0 where
   pub set_0 : Holds (deck_of_set 0) 0 65280 65279
   pub set_1 : Holds (deck_of_set 1) 1 65535 65534

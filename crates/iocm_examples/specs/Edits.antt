@@ -44,7 +44,8 @@ Performs p es s = meaning p s ≡ Ok (record { state = state_after_all es s; edi
 abbrev pub IsRefused : ChangeTree → Rule → ℕ → At → State → Type 0
 IsRefused p rule node place s = meaning p s ≡ Err (record { rule = rule; node = Some node; at = place })
 
--- edits that were performed from a state on are taken back by their inverse tree: it leads back to that state
+-- edits that were performed from a state on are taken back by their inverse tree: it leads back to
+-- that state
 abbrev pub IsTakenBack : List Edit → State → Type 0
 IsTakenBack es s = state_reached (meaning (inverse_tree es s) (state_after_all es s)) ≡ Some s
 

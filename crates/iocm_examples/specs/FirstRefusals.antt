@@ -1,4 +1,5 @@
--- Which refusal comes first where two would be right, and one number carried by two devices, as it is stated by hand.
+-- Which refusal comes first where two would be right, and one number carried by two devices, as it
+-- is stated by hand.
 use Rattle.std.specs.Prelude.{◌≡◌, ℕ, List, [], ◌∷◌, None, Err}
 use Rattle.std.specs.FinMap.{empty}
 use Rattle.iocm_types.specs.declared.place.Place.{Place}
@@ -15,7 +16,8 @@ use Rattle.iocm_examples.specs.Edits.{IsRefused, base_opened, started_at}
 use Rattle.iocm_examples.specs.Numbers.{second_opened, second_place}
 use Rattle.iocm_examples.specs.Trees.{nested, times}
 
--- unit 1000 with its paths the other way round, and on a path of channel subsystem 1 too: there its four devices come in
+-- unit 1000 with its paths the other way round, and on a path of channel subsystem 1 too: there its
+-- four devices come in
 abbrev pub turned_on_both : Rec
 turned_on_both = unit (record {
   number = 0x1000;

@@ -1,5 +1,5 @@
--- The status bits of functions in progress and of pending status, and HALT while a clear is in progress, as it is stated by hand:
--- start 1, halt 2, clear 4, and 8 more while status is pending.
+-- The status bits of functions in progress and of pending status, and HALT while a clear is in
+-- progress, as it is stated by hand: start 1, halt 2, clear 4, and 8 more while status is pending.
 use Rattle.std.specs.Prelude.{ℕ, true}
 use Rattle.iocm_types.specs.declared.live.Phase.{Phase}
 use Rattle.iocm_types.specs.declared.live.Phase.TheVariants.{Idle, StartPending, StartActive, Pending}

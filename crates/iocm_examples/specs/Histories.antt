@@ -1,4 +1,5 @@
--- Worked runs of calls on the example deck as it is opened, as they are stated by hand: each call with its answer.
+-- Worked runs of calls on the example deck as it is opened, as they are stated by hand: each call
+-- with its answer.
 use Rattle.std.specs.Prelude.{◌≡◌, ℕ, Bool, true, false, List, [], ◌∷◌, map, reverse, take, Option, None, Some}
 use Rattle.std.specs.FinMap.{get}
 use Rattle.iocm_types.specs.declared.answer.Answer.{Answer}
@@ -54,7 +55,8 @@ marks_after n script = reverse (map (λ (l : MarkedEntry). l.mark) (marked_entri
 abbrev pub number_of : ℕ → State → Option ℕ
 number_of device s = get s.numbers (record { css = 0; set = 0; device = device })
 
--- calls: a change of one edit; an order; a device end; MODIFY with this mask and parameter, that enables
+-- calls: a change of one edit; an order; a device end; MODIFY with this mask and parameter, that
+-- enables
 abbrev pub change_by : Edit → Call
 change_by e = activate (leaf e)
 
@@ -67,7 +69,8 @@ ends x = at x device_end
 abbrev pub enables : SubId → ℕ → ℕ → Call
 enables x lpm parm = orders x (Modify (record { enabled = true; lpm = lpm; parm = parm }))
 
--- answers: a condition code; the bits of a status; a refusal with no node, and one at node 0 of a tree
+-- answers: a condition code; the bits of a status; a refusal with no node, and one at node 0 of a
+-- tree
 abbrev pub code : ℕ → Answer
 code n = Io (Code n)
 
@@ -80,7 +83,8 @@ refused rule place = Refused (refusal_at rule place)
 abbrev pub refused_at_root : Rule → At → Answer
 refused_at_root rule place = Refused (at_node 0 (refusal_at rule place))
 
--- what STORE gives for an idle subchannel that has path-installed mask C0: its device, PAM, LPM, the enabled bit and the parameter
+-- what STORE gives for an idle subchannel that has path-installed mask C0: its device, PAM, LPM,
+-- the enabled bit and the parameter
 abbrev pub stored : ℕ → ℕ → ℕ → Bool → ℕ → Answer
 stored device pam lpm enabled parm =
     Io (Stored (record { device = device; pim = 0xC0; pam = pam; lpm = lpm; enabled = enabled; parm = parm; bits = record { 0 = 0 } }))
@@ -168,8 +172,8 @@ pub record PendingStatus : Type 0 where
   pub refused : number_of 0x1001 (after 4 pending_status) ≡ Some 1
   pub deleted : number_of 0x1001 (after 6 pending_status) ≡ None
 
--- three changes of one device, undone and redone: refusals name the greatest change that stands on another, and tell a change that
--- can't be undone or redone now from one that was never there
+-- three changes of one device, undone and redone: refusals name the greatest change that stands on
+-- another, and tell a change that can't be undone or redone now from one that was never there
 abbrev pub three_changes : Script
 three_changes =
     (change_by (deleted (device_key 0x1003)), Changed 1)
@@ -188,7 +192,8 @@ three_changes =
     ∷ (show, Shown (record { records = 11; subchannels = 6; standing = 3; undone = 0 }))
     ∷ []
 
--- changes of nothing, and undo and redo of changes that aren't there; a change makes those that are undone past
+-- changes of nothing, and undo and redo of changes that aren't there; a change makes those that are
+-- undone past
 abbrev pub empty_changes : Script
 empty_changes =
     (activate (group none), Changed 1)
@@ -201,7 +206,8 @@ empty_changes =
     ∷ (show, Shown (record { records = 12; subchannels = 8; standing = 1; undone = 0 }))
     ∷ []
 
--- LPB enables its subchannel of 1000 with path 51 alone, which is offline to it until a change brings it online
+-- LPB enables its subchannel of 1000 with path 51 alone, which is offline to it until a change
+-- brings it online
 abbrev pub a_path_comes_online : Script
 a_path_comes_online =
     (enables (subchannel 2 0) 0x40 0, code 0)
@@ -210,7 +216,8 @@ a_path_comes_online =
     ∷ (orders (subchannel 2 0) Start, code 0)
     ∷ []
 
--- the same, and LPB then enables its subchannel with both paths, before the change is undone and redone
+-- the same, and LPB then enables its subchannel with both paths, before the change is undone and
+-- redone
 abbrev pub a_path_undone : Script
 a_path_undone =
     (enables (subchannel 2 0) 0x40 0, code 0)
@@ -222,7 +229,8 @@ a_path_undone =
     ∷ (orders (subchannel 2 0) Store, stored 0x1000 0xC0 0xC0 true 9)
     ∷ []
 
--- the undo strikes what LPB did since the change, and the redo brings it back; what was done while the change was undone is lost
+-- the undo strikes what LPB did since the change, and the redo brings it back; what was done while
+-- the change was undone is lost
 pub record APathUndone : Type 0 where
   pub answers : Answers a_path_undone
   pub struck : marks_after 4 a_path_undone ≡ kept ∷ undone_with 1 ∷ undone_with 1 ∷ kept ∷ []
@@ -230,7 +238,8 @@ pub record APathUndone : Type 0 where
   pub undone : get (after 4 a_path_undone).lives (subchannel 2 0) ≡ Some (enabled_with 0x40)
   pub redone : get (after 6 a_path_undone).lives (subchannel 2 0) ≡ Some (record (enabled_with 0xC0) { parm = 9 })
 
--- a path comes online to LPB, which then uses it alone: its subchannel is fresh after the undo, and in use again after the redo
+-- a path comes online to LPB, which then uses it alone: its subchannel is fresh after the undo, and
+-- in use again after the redo
 abbrev pub a_path_in_use : Script
 a_path_in_use =
     (change_by online_51, Changed 1)
@@ -243,7 +252,8 @@ a_path_in_use =
     ∷ (undo 1, refused B1 (Subchannel (subchannel 2 0)))
     ∷ []
 
--- LPA starts its subchannel of a device that came in: the device goes with the undo once the subchannel is quiet
+-- LPA starts its subchannel of a device that came in: the device goes with the undo once the
+-- subchannel is quiet
 abbrev pub a_busy_undo : Script
 a_busy_undo =
     (change_by (added (device_on_1000 0x1004 0x04)), Changed 1)
@@ -270,7 +280,8 @@ pub record ABusyUndo : Type 0 where
   pub back : marks_after 10 a_busy_undo ≡ kept ∷ kept ∷ kept ∷ kept ∷ kept ∷ kept ∷ kept ∷ kept ∷ lost ∷ kept ∷ []
   pub redone : get (after 10 a_busy_undo).lives (subchannel 1 4) ≡ Some (enabled_with 0x80)
 
--- a device is deleted and comes back by the undo; both images start their subchannels of it, and the redo waits until both are quiet
+-- a device is deleted and comes back by the undo; both images start their subchannels of it, and
+-- the redo waits until both are quiet
 abbrev pub a_busy_redo : Script
 a_busy_redo =
     (change_by (deleted (device_key 0x1001)), Changed 1)
@@ -317,7 +328,8 @@ undone_in_turn =
     ∷ (orders (subchannel 1 4) Store, stored 0x1004 0xC0 0x80 true 5)
     ∷ []
 
--- each undo strikes what was not struck before it, and each redo takes back what its own undo struck
+-- each undo strikes what was not struck before it, and each redo takes back what its own undo
+-- struck
 pub record UndoneInTurn : Type 0 where
   pub answers : Answers undone_in_turn
   pub both_undone : marks_after 7 undone_in_turn

@@ -1,4 +1,5 @@
--- Path lists of six and of nine, and an image that reaches the ninth path alone, as it is stated by hand.
+-- Path lists of six and of nine, and an image that reaches the ninth path alone, as it is stated by
+-- hand.
 use Rattle.std.specs.Prelude.{◌≡◌, ℕ, List, [], ◌∷◌, ◌++◌, map, None, Option}
 use Rattle.iocm_types.specs.declared.view.View.{View}
 use Rattle.iocm_model.specs.Machine.Record.{Rec}
@@ -29,7 +30,8 @@ sight_of_1000 paths name = view_if_seen (found_in (unit_of paths)) 0 name (devic
 abbrev pub six : List ℕ
 six = 0x55 ∷ 0x54 ∷ 0x58 ∷ 0x52 ∷ 0x51 ∷ 0x50 ∷ []
 
--- of nine paths a view has the first eight; LPB reaches the ninth alone: it sees the device, and none of the eight paths is installed
+-- of nine paths a view has the first eight; LPB reaches the ninth alone: it sees the device, and
+-- none of the eight paths is installed
 pub record ViewsOfLongLists : Type 0 where
   pub six_of_lpa : sight_of_1000 six lpa ≡ a_view 0x1000 six 0xDC 0xDC
   pub six_of_lpb : sight_of_1000 six lpb ≡ a_view 0x1000 six 0x20 0x20

@@ -1,4 +1,5 @@
--- The numbers that devices get at opening, and get and free by edits of the example deck, as they are stated by hand.
+-- The numbers that devices get at opening, and get and free by edits of the example deck, as they
+-- are stated by hand.
 use Rattle.std.specs.Prelude.{◌≡◌, ℕ, List, [], ◌∷◌, Some, None, codes}
 use Rattle.std.specs.FinMap.{entries, get, empty}
 use Rattle.iocm_types.specs.declared.place.Place.{Place}
@@ -22,8 +23,8 @@ use Rattle.iocm_examples.specs.Edits.{base_opened, modified, Performs, IsRefused
 abbrev pub BaseNumbers : Type 0
 BaseNumbers = entries (opening (configuration_of base)) ≡ place_of 0x1000 0 ∷ place_of 0x1001 1 ∷ place_of 0x1002 2 ∷ place_of 0x1003 3 ∷ []
 
--- a device that comes in gets the lowest free number, and the others keep theirs though its device number is the smallest: in each
--- image one subchannel is new, with a fresh live record
+-- a device that comes in gets the lowest free number, and the others keep theirs though its device
+-- number is the smallest: in each image one subchannel is new, with a fresh live record
 pub record ADeviceComesIn : Type 0 where
   pub accepted : Performs (leaf add_0fff) (add_0fff ∷ []) base_opened
   pub numbers : entries (state_after_all (add_0fff ∷ []) base_opened).numbers
@@ -32,7 +33,8 @@ pub record ADeviceComesIn : Type 0 where
   pub live : get (state_after_all (add_0fff ∷ []) base_opened).lives (subchannel 2 4) ≡ Some (fresh 0xC0)
   pub taken_back : IsTakenBack (add_0fff ∷ []) base_opened
 
--- a device that leaves frees its number, and the next that comes in gets it: the subchannels of this number are altered
+-- a device that leaves frees its number, and the next that comes in gets it: the subchannels of
+-- this number are altered
 pub record ANumberIsUsedAgain : Type 0 where
   pub accepted : Performs (row (parts_of one_for_another)) one_for_another base_opened
   pub numbers : entries (state_after_all one_for_another base_opened).numbers
@@ -53,8 +55,8 @@ with_number_twice = with_places (place_of 0x2000 7 ∷ place_of 0x2000 7 ∷ [])
 abbrev pub with_number_of_another : Edit
 with_number_of_another = with_places (place_of 0x1000 0 ∷ [])
 
--- a device that comes in gets the number that comes along where it is free, and E4 refuses one that is held, or that comes twice;
--- what comes along for a device that stays says nothing
+-- a device that comes in gets the number that comes along where it is free, and E4 refuses one that
+-- is held, or that comes twice; what comes along for a device that stays says nothing
 pub record ANumberComesAlong : Type 0 where
   pub accepted : Performs (leaf (with_number 7)) (with_number 7 ∷ []) base_opened
   pub numbers : entries (state_after_all (with_number 7 ∷ []) base_opened).numbers
@@ -64,7 +66,8 @@ pub record ANumberComesAlong : Type 0 where
   pub of_another : Performs (leaf with_number_of_another) (with_number_of_another ∷ []) base_opened
   pub its_own : get (state_after_all (with_number_of_another ∷ []) base_opened).numbers (place_of 0x2000 0).0 ≡ Some 4
 
--- the example deck with an image LPC and a path in channel subsystem 1, opened; and unit 1000 on that path, too
+-- the example deck with an image LPC and a path in channel subsystem 1, opened; and unit 1000 on
+-- that path, too
 abbrev pub second_subsystem : List Rec
 second_subsystem = image (record { css = 1; mif = 1; name = codes "LPC" })
     ∷ path (record { css = 1; number = 0x50; kind = Shared; access = codes "LPC" ∷ []; candidates = []; carried = [] }) ∷ base

@@ -1,4 +1,5 @@
--- Orders on a subchannel of device 1002 of the example deck, and what they answer and leave, as it is stated by hand.
+-- Orders on a subchannel of device 1002 of the example deck, and what they answer and leave, as it
+-- is stated by hand.
 use Rattle.std.specs.Prelude.{◌≡◌, ℕ, true, [], ◌∷◌}
 use Rattle.iocm_types.specs.declared.live.Phase.{Phase}
 use Rattle.iocm_types.specs.declared.live.Phase.TheVariants.{Idle, StartPending, StartActive, Pending}
@@ -32,7 +33,8 @@ pub record Does (v : View) (l : Live) (o : Order) (answer : Io) (left : Live) : 
   pub answers : answer_of o v l ≡ answer
   pub leaves : live_after o v l ≡ left
 
--- enabled by MODIFY, started, begun and ended by the device, and tested: TEST gives the start function with status pending, 9
+-- enabled by MODIFY, started, begun and ended by the device, and tested: TEST gives the start
+-- function with status pending, 9
 pub record AnOperation : Type 0 where
   pub enabled : Does seen_by_lpa (fresh 0xC0) enable (Code 0) (enabled_in Idle)
   pub started : Does seen_by_lpa (enabled_in Idle) Start (Code 0) (enabled_in StartPending)
@@ -47,7 +49,8 @@ pub record AnOperation : Type 0 where
 abbrev pub Refuses : View → Live → Order → ℕ → Type 0
 Refuses v l o code = Does v l o (Code code) l
 
--- condition code 3: not enabled, or START with no path that is both available and in the mask; it comes before 1 and 2
+-- condition code 3: not enabled, or START with no path that is both available and in the mask; it
+-- comes before 1 and 2
 pub record NotOperational : Type 0 where
   pub start : Refuses seen_by_lpa (fresh 0xC0) Start 3
   pub halt : Refuses seen_by_lpa (fresh 0xC0) Halt 3
@@ -76,7 +79,8 @@ pub record BusyWithAnother : Type 0 where
   pub clear_pending : Does seen_by_lpa (enabled_in (Pending function.Start)) Clear (Code 0) (enabled_in phase.Clear)
   pub clear_twice : Does seen_by_lpa (enabled_in phase.Clear) Clear (Code 0) (enabled_in phase.Clear)
 
--- a start that is pending: CANCEL takes it back, and finds none in any other phase; other orders find it in progress
+-- a start that is pending: CANCEL takes it back, and finds none in any other phase; other orders
+-- find it in progress
 pub record APendingStart : Type 0 where
   pub cancelled : Does seen_by_lpa (enabled_in StartPending) Cancel (Code 0) (enabled_in Idle)
   pub idle : Refuses seen_by_lpa (enabled_in Idle) Cancel 2

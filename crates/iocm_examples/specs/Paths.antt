@@ -18,7 +18,8 @@ use Rattle.iocm_examples.specs.Edits.{base_opened, modified, Performs, IsTakenBa
 unfoldable pub base_enabled : State
 base_enabled = enabled_at (subchannel 2 0) 0x40 base_opened
 
--- a path that comes online to an image is in its path-available mask; a live record stays as it was, and what START lacked is there
+-- a path that comes online to an image is in its path-available mask; a live record stays as it
+-- was, and what START lacked is there
 pub record APathComesOnline : Type 0 where
   pub accepted : Performs (leaf online_51) (online_51 ∷ []) base_enabled
   pub seen : seen_in (state_after_all (online_51 ∷ []) base_enabled) (subchannel 2 0) ≡ a_view 0x1000 (0x50 ∷ 0x51 ∷ []) 0xC0 0xC0
@@ -28,7 +29,8 @@ pub record APathComesOnline : Type 0 where
   pub before : answer_in base_enabled (subchannel 2 0) (order orders.Start) ≡ answers.Io (io.Code 3)
   pub afterwards : answer_in (state_after_all (online_51 ∷ []) base_enabled) (subchannel 2 0) (order orders.Start) ≡ answers.Io (io.Code 0)
 
--- live records come along for two subchannels of 1000: LPB's is altered and gets its own, and LPA's isn't and stays as it was
+-- live records come along for two subchannels of 1000: LPB's is altered and gets its own, and LPA's
+-- isn't and stays as it was
 abbrev pub online_51_with_lives : Edit
 online_51_with_lives = record {
   action = add (online_record 0x51 lpb);
@@ -45,8 +47,8 @@ pub record LiveRecordsComeAlong : Type 0 where
 abbrev pub turned : Edit
 turned = modified (unit_on 0x1000 (0x51 ∷ 0x50 ∷ []) None)
 
--- where the path list changes, the logical-path mask becomes the path-installed mask, and the subchannel stays enabled; it has its
--- old mask again where that is taken back
+-- where the path list changes, the logical-path mask becomes the path-installed mask, and the
+-- subchannel stays enabled; it has its old mask again where that is taken back
 pub record APathListIsTurned : Type 0 where
   pub accepted : Performs (leaf turned) (turned ∷ []) base_enabled
   pub seen : seen_in (state_after_all (turned ∷ []) base_enabled) (subchannel 2 0) ≡ a_view 0x1000 (0x51 ∷ 0x50 ∷ []) 0xC0 0x40

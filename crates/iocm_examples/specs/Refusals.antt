@@ -1,4 +1,5 @@
--- Edits that are refused, by their keys and by subchannels that are busy or have status pending, as it is stated by hand.
+-- Edits that are refused, by their keys and by subchannels that are busy or have status pending, as
+-- it is stated by hand.
 use Rattle.std.specs.Prelude.{[], ◌∷◌}
 use Rattle.iocm_types.specs.declared.rule.Rule.TheVariants.{B1, E1, E2}
 use Rattle.iocm_types.specs.declared.key.Key.TheVariants as key

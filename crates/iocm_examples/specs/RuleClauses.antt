@@ -1,4 +1,5 @@
--- Each clause of a rule that a deck can break by itself, and decks at the bound of such a clause, as they are stated by hand.
+-- Each clause of a rule that a deck can break by itself, and decks at the bound of such a clause,
+-- as they are stated by hand.
 use Rattle.std.specs.Prelude.{◌≡◌, ℕ, Bool, true, false, List, [], ◌∷◌, ◌++◌, map, None, Option, Some, codes}
 use Rattle.iocm_types.specs.declared.css_path.CssPath.{CssPath}
 use Rattle.iocm_types.specs.declared.key.Key.TheVariants.{Unit, Device, Online}
@@ -46,8 +47,8 @@ online_to_both kind =
     path (record { css = 0; number = 0x52; kind = kind; access = lpa ∷ lpb ∷ []; candidates = lpa ∷ lpb ∷ []; carried = [] })
     ∷ online_record 0x52 lpa ∷ online_record 0x52 lpb ∷ base
 
--- V4: of two that are online at a dedicated path the second breaks the rule, and at a shared path none does. By itself the rule
--- is broken there, after V3
+-- V4: of two that are online at a dedicated path the second breaks the rule, and at a shared path
+-- none does. By itself the rule is broken there, after V3
 abbrev pub BreaksV4 : List Rec → List ℕ → Bool → Type 0
 BreaksV4 records name broken = breaks_v4 (configuration_of records) (online_record 0x52 name) ≡ broken
 
@@ -77,7 +78,8 @@ abbrev pub eight_in_both : List Rec
 eight_in_both = unit_of_both 0x1000 eight eight None ∷ image_lpc ∷ map second_path eight
     ++ (shared_path 0x52 ∷ shared_path 0x53 ∷ shared_path 0x54 ∷ shared_path 0x55 ∷ shared_path 0x56 ∷ shared_path 0x57 ∷ base)
 
--- V14: two units that share a path of channel subsystem 1 alone, the first without CUADD and the second with this
+-- V14: two units that share a path of channel subsystem 1 alone, the first without CUADD and the
+-- second with this
 abbrev pub sharing_elsewhere : Option ℕ → List Rec
 sharing_elsewhere cuadd =
     unit_of_both 0x1000 (0x50 ∷ 0x51 ∷ []) (0x60 ∷ []) None ∷ unit_of_both 0x1001 [] (0x60 ∷ []) cuadd ∷ image_lpc ∷ second_path 0x60 ∷ base

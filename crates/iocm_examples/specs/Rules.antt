@@ -1,4 +1,5 @@
--- Which rule is broken first, and where, on the example deck with records put before it: of one key the first counts.
+-- Which rule is broken first, and where, on the example deck with records put before it: of one key
+-- the first counts.
 use Rattle.std.specs.Prelude.{◌≡◌, ℕ, ◌+◌, List, [], ◌∷◌, map, None, Option, Some, codes}
 use Rattle.iocm_types.specs.declared.key.Key.{Key}
 use Rattle.iocm_types.specs.declared.key.Key.TheVariants.{Image, Path, Unit, Device, Online}
@@ -158,7 +159,8 @@ pub record TheOtherRules : Type 0 where
   pub v14 : BreaksFirst answered_by_two V14 (Unit 0x1001)
   pub v14_link : BreaksFirst (linked_to (link.Short 1)) V14 (Unit 0x1001)
 
--- at the bound: a unit on eight paths, a limit of four, a range up to FF; and two units on one path with two links
+-- at the bound: a unit on eight paths, a limit of four, a range up to FF; and two units on one path
+-- with two links
 abbrev pub eight_paths : List Rec
 eight_paths =
     unit_on 0x1000 (0x50 ∷ 0x51 ∷ 0x52 ∷ 0x53 ∷ 0x54 ∷ 0x55 ∷ 0x56 ∷ 0x57 ∷ []) None

@@ -44,7 +44,8 @@ pub record CellsApart : Type 0 where
   pub back : number_of 0x0FFF (after 5 cells_apart) ≡ Some 4
   pub still : number_of 0x1004 (after 5 cells_apart) ≡ Some 5
 
--- the paths of a unit change places, and a device comes in on it: its subchannels would be altered by the undo
+-- the paths of a unit change places, and a device comes in on it: its subchannels would be altered
+-- by the undo
 abbrev pub paths_turned : Script
 paths_turned =
     (change_by (modified (unit_on 0x1000 (0x51 ∷ 0x50 ∷ []) None)), Changed 1)
@@ -52,7 +53,8 @@ paths_turned =
     ∷ (undo 1, refused J2 (Change 2))
     ∷ []
 
--- a device gives up its unit address, and another takes it: they have no cell in common, and the undo would give two devices one address
+-- a device gives up its unit address, and another takes it: they have no cell in common, and the
+-- undo would give two devices one address
 abbrev pub an_address_taken : Script
 an_address_taken =
     (change_by (modified (device_on_1000 0x1003 0x05)), Changed 1)
@@ -62,8 +64,8 @@ an_address_taken =
     ∷ (undo 1, Undone 1)
     ∷ []
 
--- a path comes online to LPB, a device comes in and goes. With the path offline again the device would come back with another mask: so the
--- earlier change that was undone is to be redone first
+-- a path comes online to LPB, a device comes in and goes. With the path offline again the device
+-- would come back with another mask: so the earlier change that was undone is to be redone first
 abbrev pub an_earlier_undone : Script
 an_earlier_undone =
     (change_by online_51, Changed 1)
@@ -86,7 +88,8 @@ stood_on_and_busy =
     ∷ (undo 1, refused J2 (Change 2))
     ∷ []
 
--- a change that wasn't undone last is refused so, also while LPA uses a subchannel that it altered; as the last one undone it waits for that
+-- a change that wasn't undone last is refused so, also while LPA uses a subchannel that it altered;
+-- as the last one undone it waits for that
 abbrev pub not_last_and_busy : Script
 not_last_and_busy =
     (change_by (deleted (device_key 0x1001)), Changed 1)
@@ -114,7 +117,8 @@ nothing_in_common =
     ∷ (show, Shown (record { records = 12; subchannels = 8; standing = 3; undone = 0 }))
     ∷ []
 
--- the earlier change that was undone is past, since a new one came: it blocks as before, and can't be redone; made anew, it is a new change
+-- the earlier change that was undone is past, since a new one came: it blocks as before, and can't
+-- be redone; made anew, it is a new change
 abbrev pub a_past_one : Script
 a_past_one =
     (change_by online_51, Changed 1)
@@ -130,7 +134,8 @@ a_past_one =
     ∷ (undo 3, Undone 3)
     ∷ []
 
--- a later change that was undone isn't in the way, though the change doesn't fit: the latest that stands is named
+-- a later change that was undone isn't in the way, though the change doesn't fit: the latest that
+-- stands is named
 abbrev pub a_later_undone : Script
 a_later_undone =
     (change_by (modified (unit_on 0x1000 (0x51 ∷ 0x50 ∷ []) None)), Changed 1)
@@ -145,7 +150,8 @@ a_later_undone =
 abbrev pub in_and_out : List Edit
 in_and_out = add_1004 ∷ deleted (device_key 0x1004) ∷ []
 
--- what a change put back itself it wrote: later changes that wrote it too are in the way, though all is as it was
+-- what a change put back itself it wrote: later changes that wrote it too are in the way, though
+-- all is as it was
 abbrev pub put_back_at_once : Script
 put_back_at_once =
     (activate (group (parts_of in_and_out)), Changed 1)
@@ -166,7 +172,8 @@ abbrev pub unseen_device : ℕ → ℕ → Rec
 unseen_device number address =
     device (record { set = 0; number = number; units = 0x2000 ∷ []; unit_address = address; candidates = Some (lpb ∷ []); carried = [] })
 
--- one such device takes the number that another gave up, and frees it again: that number alone the changes have in common
+-- one such device takes the number that another gave up, and frees it again: that number alone the
+-- changes have in common
 abbrev pub a_number_in_common : Script
 a_number_in_common =
     (activate (group (parts_of unit_of_lpa)), Changed 1)
@@ -190,7 +197,8 @@ unit_with number paths =
 abbrev pub path_of_css_1 : CssPath
 path_of_css_1 = record { css = 1; path = 0x50 }
 
--- LPC with a path in channel subsystem 1, and device 3000 on two units: the first has that path, too
+-- LPC with a path in channel subsystem 1, and device 3000 on two units: the first has that path,
+-- too
 abbrev pub device_on_two : List Rec
 device_on_two =
     image (record { css = 1; mif = 1; name = codes "LPC" })
@@ -214,8 +222,9 @@ second_unit_too = record {
 abbrev pub of_lpc : ℕ → SubId
 of_lpc number = record { image = record { css = 1; mif = 1 }; set = 0; number = number }
 
--- the first unit leaves channel subsystem 1, where the device had number 0; by the second it comes again, with 7, and leaves. The first change has
--- no cell in common with the later ones. The last one can't be undone while it is
+-- the first unit leaves channel subsystem 1, where the device had number 0; by the second it comes
+-- again, with 7, and leaves. The first change has no cell in common with the later ones. The last
+-- one can't be undone while it is
 abbrev pub two_numbers_for_a_while : Script
 two_numbers_for_a_while =
     (activate (group (parts_of (map added device_on_two))), Changed 1)

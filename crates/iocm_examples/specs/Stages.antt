@@ -13,7 +13,8 @@ use Rattle.iocm_examples.specs.Edits.{base_opened, deleted, add_0fff}
 use Rattle.iocm_examples.specs.Histories.{Script, Answers, after, number_of, change_by, orders, ends, enables, code, status, refused, stored}
 use Rattle.iocm_examples.specs.Trees.{exchange}
 
--- while a change of 1003 is staged its subchannels are held, others go on, and undo is refused; an Abort gives them up
+-- while a change of 1003 is staged its subchannels are held, others go on, and undo is refused; an
+-- Abort gives them up
 abbrev pub held_and_aborted : Script
 held_and_aborted =
     (enables (subchannel 1 0) 0xC0 0, code 0)
@@ -27,7 +28,8 @@ held_and_aborted =
     ∷ (commit, refused O2 Nothing)
     ∷ []
 
--- a Choose is decided at the Begin: the device that was in use then stays, though it is quiet at the Commit
+-- a Choose is decided at the Begin: the device that was in use then stays, though it is quiet at
+-- the Commit
 abbrev pub decided_at_begin : Script
 decided_at_begin =
     (enables (subchannel 1 0) 0x80 0, code 0)
@@ -103,7 +105,8 @@ pub record AbortedAtEachStage : Type 0 where
   pub two : after 9 aborted_at_each_stage ≡ base_opened
   pub three : after 14 aborted_at_each_stage ≡ base_opened
 
--- an undone change is not past by a Begin and an Abort, but by a Commit; a second Begin and an activation wait for the end of the first
+-- an undone change is not past by a Begin and an Abort, but by a Commit; a second Begin and an
+-- activation wait for the end of the first
 abbrev pub past_by_a_commit : Script
 past_by_a_commit =
     (change_by add_0fff, Changed 1)

@@ -1,4 +1,5 @@
--- What change trees do to the example deck, and the nodes that refusals name, as they are stated by hand.
+-- What change trees do to the example deck, and the nodes that refusals name, as they are stated by
+-- hand.
 use Rattle.std.specs.Prelude.{◌≡◌, ℕ, zero, suc, List, [], ◌∷◌, None, Some, Err}
 use Rattle.std.specs.FinMap.{get}
 use Rattle.iocm_types.specs.declared.rule.Rule.TheVariants.{V5, B1, E1, E3, C1, C2}
@@ -42,13 +43,15 @@ pub record NodesOfBreaches : Type 0 where
   pub in_group_after : BreaksAt (row (part (leaf unit_2000) (part (group (parts_of (add_0fff ∷ []))) none))) 2
   pub in_last_of_choose : BreaksAt (choose (parts_of (deleted (key.Unit 0x2000) ∷ unit_2000 ∷ []))) 2
 
--- a Row may break a rule on its way, a Group in it may not; a Choose goes on after a part that breaks one
+-- a Row may break a rule on its way, a Group in it may not; a Choose goes on after a part that
+-- breaks one
 pub record WhereRulesHold : Type 0 where
   pub on_the_way : Performs (row (parts_of (unit_2000 ∷ deleted (key.Unit 0x2000) ∷ []))) (unit_2000 ∷ deleted (key.Unit 0x2000) ∷ []) base_opened
   pub in_group : BreaksAt (row (part (group (parts_of (unit_2000 ∷ []))) (part (leaf (deleted (key.Unit 0x2000))) none))) 1
   pub chosen : Performs (choose (parts_of (unit_2000 ∷ add_0fff ∷ []))) (add_0fff ∷ []) base_opened
 
--- nodes are counted in preorder: a Group of two is nodes 1 to 3 here, so that the part after it is node 4
+-- nodes are counted in preorder: a Group of two is nodes 1 to 3 here, so that the part after it is
+-- node 4
 abbrev pub AfterAGroup : Type 0
 AfterAGroup = IsRefused
     (row (part (group (parts_of one_for_another)) (part (leaf add_1000) none))) E1 4 (at.Key (device_key 0x1000)) base_opened
@@ -87,8 +90,8 @@ started_elsewhere = started_at (subchannel 1 0) base_grown
 unfoldable pub started_there : State
 started_there = started_at (subchannel 1 4) base_grown
 
--- an edit is taken back later, and the live records that it didn't alter are kept as they are then; where one that it altered is
--- busy, that is refused, at the leaf of the inverse tree
+-- an edit is taken back later, and the live records that it didn't alter are kept as they are then;
+-- where one that it altered is busy, that is refused, at the leaf of the inverse tree
 pub record TakenBackLater : Type 0 where
   pub elsewhere : state_reached (meaning (inverse_tree (add_0fff ∷ []) base_opened) started_elsewhere) ≡ Some base_started
   pub there : IsRefused (inverse_tree (add_0fff ∷ []) base_opened) B1 1 (at.Subchannel (subchannel 1 4)) started_there

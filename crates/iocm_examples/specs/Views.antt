@@ -38,14 +38,16 @@ abbrev pub Unseen : Type 0
 Unseen = (path_list (found_in base) 1 (0x1000 ∷ []) ≡ []) × (view_if_seen (found_in base) 1 lpa (device_record 0) ≡ None)
     × (view_if_seen (found_in base) 0 (lpa) (record (device_record 0) { candidates = Some [] }) ≡ None)
 
--- a line of the table: an image, a number and its device, with both paths installed and these available
+-- a line of the table: an image, a number and its device, with both paths installed and these
+-- available
 abbrev pub row_of : ℕ → ℕ → ℕ → ℕ → SubId × View
 row_of mif number device pam = (
   record { image = record { css = 0; mif = mif }; set = 0; number = number },
   record { device = device; paths = 0x50 ∷ 0x51 ∷ []; pim = 0xC0; pam = pam },
 )
 
--- LPA sees the four devices with both paths available, and then LPB with one, each in the order of numbers
+-- LPA sees the four devices with both paths available, and then LPB with one, each in the order of
+-- numbers
 abbrev pub BaseRows : Type 0
 BaseRows = views (configuration_of base) (opening (configuration_of base)) ≡
     row_of 1 0 0x1000 0xC0 ∷ row_of 1 1 0x1001 0xC0 ∷ row_of 1 2 0x1002 0xC0 ∷ row_of 1 3 0x1003 0xC0

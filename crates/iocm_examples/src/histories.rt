@@ -38,24 +38,24 @@ ghost use Rattle.iocm_examples.specs.Stages.{
 };
 ghost use Rattle.iocm_examples.specs.Starts.{taken_back, ended_before_it_began, in_the_way, held_when_staged};
 
-/// Undo and redo of changes that stand on each other, that aren't there or that are past, and what the refusals name:
-/// runs on the example deck, computed from the definitions.
+/// Undo and redo of changes that stand on each other, that aren't there or that are past, and what
+/// the refusals name: runs on the example deck, computed from the definitions.
 pub fn undo_and_redo_are_as_worked()
     ensures latest_first { LatestFirst }
     ensures three { Answers three_changes }
     ensures empty { Answers empty_changes }
 {}
 
-/// Steps that stand in the way of a change, and steps on subchannels that a change doesn't alter, which stay through
-/// its undo: computed.
+/// Steps that stand in the way of a change, and steps on subchannels that a change doesn't alter,
+/// which stay through its undo: computed.
 pub fn steps_elsewhere_are_as_worked()
     ensures chosen { AChooseUndone }
     ensures elsewhere { StepsElsewhere }
     ensures pending { PendingStatus }
 {}
 
-/// Steps on subchannels that a change altered: the undo waits until they are quiet and strikes the steps since the
-/// change, and the redo brings these back: computed.
+/// Steps on subchannels that a change altered: the undo waits until they are quiet and strikes the
+/// steps since the change, and the redo brings these back: computed.
 pub fn steps_on_altered_subchannels_are_as_worked()
     ensures online { Answers a_path_comes_online }
     ensures undone { APathUndone }
@@ -65,8 +65,9 @@ pub fn steps_on_altered_subchannels_are_as_worked()
     ensures in_turn { UndoneInTurn }
 {}
 
-/// Changes that are undone under later ones, and those that are not: because a later change has a cell in common, because the
-/// undo would not take back what the change did, or because an earlier one is undone; and which refusal comes first: computed.
+/// Changes that are undone under later ones, and those that are not: because a later change has a
+/// cell in common, because the undo would not take back what the change did, or because an earlier
+/// one is undone; and which refusal comes first: computed.
 pub fn undo_under_later_changes_is_as_worked()
     ensures apart { CellsApart }
     ensures turned { Answers paths_turned }
@@ -77,9 +78,10 @@ pub fn undo_under_later_changes_is_as_worked()
     ensures nothing { Answers nothing_in_common }
 {}
 
-/// What is in the way of an undo: an earlier change that was undone also once it is past, a later one only while it stands,
-/// one that wrote a cell that the change put back itself, and one that has a number alone in common. And a history in which a
-/// device has two numbers for a while once a change is undone: computed.
+/// What is in the way of an undo: an earlier change that was undone also once it is past, a later
+/// one only while it stands, one that wrote a cell that the change put back itself, and one that
+/// has a number alone in common. And a history in which a device has two numbers for a while once a
+/// change is undone: computed.
 pub fn what_is_in_the_way_is_as_worked()
     ensures past { Answers a_past_one }
     ensures later { Answers a_later_undone }
@@ -88,7 +90,8 @@ pub fn what_is_in_the_way_is_as_worked()
     ensures two_numbers { TwoNumbersForAWhile }
 {}
 
-/// Changes in stages: what is held, what is left, what a Commit and an Abort do, and what waits for them: computed.
+/// Changes in stages: what is held, what is left, what a Commit and an Abort do, and what waits for
+/// them: computed.
 pub fn stages_are_as_worked()
     ensures aborted { Answers held_and_aborted }
     ensures decided { Answers decided_at_begin }
@@ -99,8 +102,8 @@ pub fn stages_are_as_worked()
     ensures past { PastByACommit }
 {}
 
-/// Starts that are pending: CANCEL takes them back, a device begin makes them active, and until then they stand in the way of
-/// changes: computed.
+/// Starts that are pending: CANCEL takes them back, a device begin makes them active, and until
+/// then they stand in the way of changes: computed.
 pub fn pending_starts_are_as_worked()
     ensures taken_back { Answers taken_back }
     ensures ended { Answers ended_before_it_began }

@@ -1,9 +1,11 @@
-//! Worked examples, and no code that runs: what the definitions of `iocm_model` and `iocm_history` give on an example deck
-//! and its variants, as it was stated by hand from the books, and as the prover computes it from them.
+//! Worked examples, and no code that runs: what the definitions of `iocm_model` and `iocm_history`
+//! give on an example deck and its variants, as it was stated by hand from the books, and as the
+//! prover computes it from them.
 //!
-//! Each file in `specs/` states the examples of one subject; begin with `BaseDeck`, which has the deck. The functions here have
-//! empty bodies, and their contracts are the examples. The kit's finite maps don't compute by themselves, so `proofs/Listed` has
-//! each definition on sorted lists, with the lemma that the two agree, and `proofs/Computed` closes each example on them. Nothing
+//! Each file in `specs/` states the examples of one subject; begin with `BaseDeck`, which has the
+//! deck. The functions here have empty bodies, and their contracts are the examples. The kit's
+//! finite maps don't compute by themselves, so `proofs/Listed` has each definition on sorted lists,
+//! with the lemma that the two agree, and `proofs/Computed` closes each example on them. Nothing
 //! stands on this crate.
 #![tactic(auto)]
 

@@ -1,7 +1,8 @@
 ghost use Rattle.iocm_examples.specs.Views.{BaseViews, ViewsWithoutCandidate, TurnedViews, Unseen, BaseRows};
 ghost use Rattle.iocm_examples.specs.LongPathLists.{ViewsOfLongLists};
 
-/// What images see on the example deck and its variants, and all rows of its table, computed from the definitions.
+/// What images see on the example deck and its variants, and all rows of its table, computed from
+/// the definitions.
 pub fn views_are_as_worked()
     ensures base { BaseViews }
     ensures candidate { ViewsWithoutCandidate }

@@ -43,8 +43,8 @@ module _ (m : Store) (b : Journal) (a : Account) where
   abbrev s : State
   s = state_now m a
 
-  -- what an entry may be. It does nothing, but may begin, advance or abort a stage; it is a step; a change; the undo of a change on which nothing
-  -- stands; the redo of the last one undone
+  -- what an entry may be. It does nothing, but may begin, advance or abort a stage; it is a step; a
+  -- change; the undo of a change on which nothing stands; the redo of the last one undone
   pub data IsEvent (e : Entry) : Type 0 where
     idles : (g : Option Stage) → IsStaged g s → account_after e.call e.answer s a ≡ record { entries = entry nothing kept ∷ a.entries; stage = g }
         → journal_after e.answer b ≡ b → IsEvent e

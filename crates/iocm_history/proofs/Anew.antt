@@ -1,4 +1,5 @@
--- Where each undo is of the latest standing change, each step that counts left what it would leave if it were decided anew.
+-- Where each undo is of the latest standing change, each step that counts left what it would leave
+-- if it were decided anew.
 use Rattle.std.proofs.Common.{◌≡◌, ℕ, ◌+◌, Bool, true, false, cond, eqb, List, [], ◌∷◌, ◌++◌, Option, Some, None, refl, sym, ap, subst, ◌∙◌}
 use Rattle.std.proofs.lemmas.Bool.{or_parts, or_left, or_right, eq-eqb, ne_eqb}
 use Rattle.std.specs.Option.{option_zip}

@@ -1,4 +1,5 @@
--- Changes that share no cell with an undone one: its undo gives its cells back what they had before it, and leaves all others.
+-- Changes that share no cell with an undone one: its undo gives its cells back what they had before
+-- it, and leaves all others.
 use Rattle.std.proofs.Common.{◌≡◌, ℕ, Bool, true, false, cond, List, [], ◌∷◌, ◌++◌, Some, None, is_some, refl, sym, ap, ◌∙◌}
 use Rattle.std.specs.Option.{option_map}
 use Rattle.std.specs.FinMap.{get-empty}

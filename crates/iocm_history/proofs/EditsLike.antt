@@ -1,4 +1,5 @@
--- Edits on a state that has the configuration and the numbers of another, and its live records where they alter it.
+-- Edits on a state that has the configuration and the numbers of another, and its live records
+-- where they alter it.
 use Rattle.std.proofs.Common.{◌≡◌, Bool, true, false, cond, List, [], ◌∷◌, ◌++◌, refl, sym, ap, ◌∙◌}
 use Rattle.std.specs.FinMap.{get, same_map}
 use Rattle.iocm_types.specs.declared.sub_id.SubId.{SubId}

@@ -15,8 +15,8 @@ use Rattle.iocm_history.proofs.OneCell.{read_values, same_store, altered_cells}
 use Rattle.iocm_history.proofs.Fitting.{AreBack, all_back}
 use Rattle.iocm_history.proofs.WasMade.{WasMade, carried_free}
 
--- the state that they leave: with the cells of the change as they were; it is in use, sees the same off the altered subchannels, and the
--- inverses are accepted where these are quiet
+-- the state that they leave: with the cells of the change as they were; it is in use, sees the same
+-- off the altered subchannels, and the inverses are accepted where these are quiet
 pub record IsTakenBack (c : Change) (u : State) : Type 0 where
   pub state : State
   pub is : state ≡ state_after_all (inverses c.edits c.from) u

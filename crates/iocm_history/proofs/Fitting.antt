@@ -1,4 +1,5 @@
--- Where a change fits a sound state, its inverses give it back its cells, and leave a sound state that sees the same elsewhere.
+-- Where a change fits a sound state, its inverses give it back its cells, and leave a sound state
+-- that sees the same elsewhere.
 use Rattle.std.proofs.Common.{◌≡◌, ℕ, Bool, true, false, cond, not, ◌&&◌, ◌||◌, nat_eq, eqb-true, List, [], ◌∷◌, ◌++◌, Option, Some, None, is_some, refl, sym, ap, subst, ◌∙◌}
 use Rattle.std.proofs.lemmas.Bool.{or_parts, or_right, and_parts}
 use Rattle.std.proofs.lemmas.List.Folds.{list_any-append}

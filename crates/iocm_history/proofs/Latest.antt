@@ -1,4 +1,5 @@
--- Changes that count among the entries newer than a standing change: they stand and are later. So none is newer than the latest.
+-- Changes that count among the entries newer than a standing change: they stand and are later. So
+-- none is newer than the latest.
 use Rattle.std.proofs.Common.{◌≡◌, ◌⊎◌, inl, inr, ℕ, ◌<◌, ◌≤◌, max, Bool, true, false, ◌||◌, eqb, List, [], ◌∷◌, ◌++◌, Some, refl, sym, ap, subst, ◌∙◌, arith}
 use Rattle.std.proofs.lemmas.Bool.{or_parts, or_left, or_right, eq-eqb, eqb-true, false_from_ne_true}
 use Rattle.std.specs.List.{fold}
@@ -44,7 +45,8 @@ greatest_bounds (m ∷ ms) n k is among = subst (λ j. k ≤ j) (inner (fold max
 
 -- ---- no change that counts is newer
 
--- of two ways to part a list, where the first part of one has what the first part of the other has not, that one is longer
+-- of two ways to part a list, where the first part of one has what the first part of the other has
+-- not, that one is longer
 longer : (test other : Act → Bool) (xs ys cs ds : List MarkedEntry) → xs ++ cs ≡ ys ++ ds → has test xs ≡ true → has test ys ≡ false
     → has other xs ≡ false → has other ys ≡ false
 longer test other xs [] cs ds is has_x none_y none_x = refl

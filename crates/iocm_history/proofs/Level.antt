@@ -1,4 +1,5 @@
--- Entries of which these changes stand: each stands, no other counts, and what they come to is a state in use.
+-- Entries of which these changes stand: each stands, no other counts, and what they come to is a
+-- state in use.
 use Rattle.std.proofs.Common.{◌≡◌, ◌≢◌, ⊎_elim, inl, inr, ◌⊎◌, ℕ, ◌+◌, ◌<◌, ◌≤◌, Bool, true, false, cond, eqb, List, [], ◌∷◌, Option, Some, None, is_some, refl, sym, ap, subst, ◌∙◌, arith}
 use Rattle.std.proofs.lemmas.Bool.{or_left, or_right, eq-eqb, ne_eqb, cases_lt, false_from_ne_true}
 use Rattle.std.specs.Option.{unwrap_or}
@@ -140,7 +141,8 @@ pub record IsAhead (count : ℕ) (ls : List MarkedEntry) : Type 0 where
   pub none : (j : ℕ) → count < j → has (is_change j) ls ≡ false
   pub unmarked : (j : ℕ) → count < j → IsUnmarked j ls
 
--- a change is ready in a state: it was made in one with its configuration and numbers, and with its live records where the change alters them
+-- a change is ready in a state: it was made in one with its configuration and numbers, and with its
+-- live records where the change alters them
 pub record IsReady (c : Change) (s : State) : Type 0 where
   pub was_made : WasMade c
   pub config : s.config ≡ c.from.config

@@ -30,3 +30,12 @@ pub mod Anew
 pub mod Unblocked
 pub mod OnlyLater
 pub mod OwnMarks
+pub mod TheGreatest
+pub mod Numbered
+pub mod Found
+pub mod UndoMeans
+pub mod InversesWrite
+pub mod RedoMeans
+pub mod StandOn
+pub mod Reckoned
+pub mod Facts

@@ -1,4 +1,5 @@
--- One cell of a store, whichever kind it is of: what it has, what effects write to it, and that stores that agree at each cell are equal.
+-- One cell of a store, whichever kind it is of: what it has, what effects write to it, and that
+-- stores that agree at each cell are equal.
 use Rattle.std.proofs.Common.{◌≡◌, Bool, true, false, cond, ◌||◌, List, [], ◌∷◌, ℕ, Option, Some, None, is_some, refl, sym, ap, ◌∙◌}
 use Rattle.std.proofs.lemmas.Bool.{or_parts}
 use Rattle.std.specs.List.{list_any}

@@ -1,4 +1,5 @@
--- Where each undo is of the latest standing change, only later standing changes stand on a standing one.
+-- Where each undo is of the latest standing change, only later standing changes stand on a standing
+-- one.
 use Rattle.std.proofs.Common.{◌≡◌, ⊎_elim, ℕ, ◌<◌, Bool, true, false, cond, not, ◌&&◌, nat_lt, eqb, List, [], ◌∷◌, filter, sym, ap, ◌∙◌}
 use Rattle.std.proofs.lemmas.Bool.{and_parts, or_left, or_right, or_cases, eq-eqb, eqb-true, ltb-true}
 use Rattle.std.proofs.lemmas.List.Folds.{list_any-append}

@@ -1,4 +1,5 @@
--- What walks past entries that aren't the change that they look for: striking, and what is read of the entries before and since a change.
+-- What walks past entries that aren't the change that they look for: striking, and what is read of
+-- the entries before and since a change.
 use Rattle.std.proofs.Common.{◌≡◌, ◌≢◌, ℕ, Bool, true, false, cond, eqb, ◌||◌, List, [], ◌∷◌, ◌++◌, Option, Some, is_some, refl, sym, ap, ◌∙◌}
 use Rattle.std.proofs.lemmas.Bool.{or_parts, or_from, or_right, eq-eqb, ne_eqb}
 use Rattle.iocm_types.specs.declared.sub_id.SubId.{SubId}

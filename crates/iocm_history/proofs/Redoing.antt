@@ -1,4 +1,5 @@
--- What an accepted redo leaves, where its change was undone before with no undo or redo of it between.
+-- What an accepted redo leaves, where its change was undone before with no undo or redo of it
+-- between.
 use Rattle.std.proofs.Common.{◌≡◌, ◌⊎◌, inl, inr, ℕ, ◌+◌, Bool, true, false, cond, ◌||◌, eqb, List, [], ◌∷◌, ◌++◌, length, take, Option, Some, None, refl, sym, ap, subst, ◌∙◌, arith}
 use Rattle.std.proofs.lemmas.Bool.{or_parts, or_left, or_right, eq-eqb, eqb-true}
 use Rattle.std.specs.List.{list_any}

@@ -63,7 +63,8 @@ filter_all : (xs : List SubId) → filter (λ x. true) xs ≡ xs
 filter_all [] = refl
 filter_all (x ∷ xs) = ap (λ ys. x ∷ ys) (filter_all xs)
 
--- of the subchannels that a change altered, one that is less than the first that isn't quiet is quiet
+-- of the subchannels that a change altered, one that is less than the first that isn't quiet is
+-- quiet
 least_of : (o : Option Change) (lives : Lives) (x y : SubId) → first_not_quiet lives (altered_if o) ≡ Some x → is_among y (altered_if o) ≡ true → sub_id_cmp y x ≡ Less
     → is_not_quiet (get lives y) ≡ false
 least_of None lives x y found among less = cc

@@ -34,8 +34,9 @@ abbrev pub IsStaged : Option Stage → State → Type 0
 IsStaged (Some g) s = IsReady g.change s
 IsStaged None s = Unit {0}
 
--- with these changes standing and undone, an account of a history: no change is ahead of the count, the standing ones stand and all else is
--- in use, the undone ones are undone, and what is staged is ready
+-- with these changes standing and undone, an account of a history: no change is ahead of the count,
+-- the standing ones stand and all else is in use, the undone ones are undone, and what is staged is
+-- ready
 pub record IsSettled (m : Store) (b : Journal) (a : Account) : Type 0 where
   pub ahead : IsAhead b.count a.entries
   pub level : IsLevel m a.entries b.standing

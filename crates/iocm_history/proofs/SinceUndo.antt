@@ -1,5 +1,5 @@
--- What came since the undo of a change that is still undone: once those undone since are redone in turn, the entries before it are as it left
--- them, and no change came.
+-- What came since the undo of a change that is still undone: once those undone since are redone in
+-- turn, the entries before it are as it left them, and no change came.
 use Rattle.std.proofs.Common.{◌≡◌, ◌≢◌, ℕ, ◌+◌, Bool, true, false, ◌||◌, eqb, List, [], ◌∷◌, ◌++◌, length, refl, sym, ap, subst, ◌∙◌, arith}
 use Rattle.std.proofs.lemmas.Bool.{or_parts, or_from, or_left, or_right, eq-eqb, ne_eqb}
 use Rattle.iocm_history.specs.MarkedEntry.{undoing, kept, lost, MarkedEntry, is_change, is_undo, is_step_on, struck_if, without_change, with_change, altered_by_change}

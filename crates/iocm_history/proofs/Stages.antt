@@ -132,7 +132,8 @@ module _ (opening : State) (h : History) (g : Stage) where
 
 -- ---- beside the run of the steps alone
 
--- what was begun is staged, the steps alone are a legal history with nothing staged, and both come to the same cells
+-- what was begun is staged, the steps alone are a legal history with nothing staged, and both come
+-- to the same cells
 record IsBeside (opening : State) (h between : History) (p : ChangeTree) (k : ℕ) : Type 0 where
   stage : Stage
   staged : (account opening (between ++ begin_entry p k ∷ h)).stage ≡ Some stage

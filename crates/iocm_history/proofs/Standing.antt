@@ -27,8 +27,9 @@ pub record HasRecordsAndNumbersOf (m : Store) (s : State) : Type 0 where
 abbrev pub EarlierCount : ℕ → List MarkedEntry → List MarkedEntry → Type 0
 EarlierCount k newer ls = (j : ℕ) → is_in j (undos_in newer) ≡ true → j < k → counts j ls ≡ true
 
--- the change of this number stands. It counts; the entries before it have its cells as they were when it was made, and also all records and
--- numbers if the earlier changes that were undone since count again; older changes have smaller numbers; its undo marks nothing
+-- the change of this number stands. It counts; the entries before it have its cells as they were
+-- when it was made, and also all records and numbers if the earlier changes that were undone since
+-- count again; older changes have smaller numbers; its undo marks nothing
 pub record IsStanding (m : Store) (k : ℕ) (ls : List MarkedEntry) : Type 0 where
   pub change : Change
   pub newer : List MarkedEntry
@@ -71,7 +72,8 @@ later_undo j (change n c) us is = is
 later_undo j (undoing n) us is = or_right (eqb j n) _ is
 later_undo j nothing us is = is
 
--- an entry that is no change of such a number, and isn't struck by the undo of the change, only lengthens what came since
+-- an entry that is no change of such a number, and isn't struck by the undo of the change, only
+-- lengthens what came since
 pub one_more : (m : Store) (k : ℕ) (ls : List MarkedEntry) (l : MarkedEntry) → ((j : ℕ) → j ≤ k → is_change j l.act ≡ false) → l.mark ≢ undone_with k
     → IsStanding m k ls → IsStanding m k (l ∷ ls)
 one_more m k ls l others fresh s = record {

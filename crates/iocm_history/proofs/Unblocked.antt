@@ -27,7 +27,8 @@ use Rattle.iocm_history.proofs.Refusing.{greatest_among, undo_is_refused_only_fo
 
 -- ---- those that are undone are later than those that stand
 
--- each change that is undone is later than all that stand, and then later than those that were undone after it
+-- each change that is undone is later than all that stand, and then later than those that were
+-- undone after it
 abbrev pub AreLater : List ℕ → List ℕ → Type 0
 AreLater ns [] = Unit {0}
 AreLater ns (u ∷ us) = ((k : ℕ) → is_in k ns ≡ true → k < u) × AreLater (u ∷ ns) us
@@ -67,7 +68,8 @@ same_undos n (l ∷ ls) (m ∷ ms) r =
 abbrev pub IsOpen : Journal → ℕ → Type 0
 IsOpen b k = (is_in k b.standing ≡ true) ⊎ (is_in k b.undone ≡ true)
 
--- those that are undone are later than those that stand; of the changes undone since one that isn't past, no earlier one is past
+-- those that are undone are later than those that stand; of the changes undone since one that isn't
+-- past, no earlier one is past
 pub record IsOrdered (b : Journal) (ls : List MarkedEntry) : Type 0 where
   pub later : AreLater b.standing b.undone
   pub earlier : (n j : ℕ) → IsOpen b n → is_in j (undos_in (since n ls)) ≡ true → j < n → IsOpen b j

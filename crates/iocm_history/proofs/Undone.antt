@@ -1,4 +1,5 @@
--- The changes that are undone: each, with those undone after it counting again, comes back by its redo as it was.
+-- The changes that are undone: each, with those undone after it counting again, comes back by its
+-- redo as it was.
 use Rattle.std.proofs.Common.{◌≡◌, ◌≢◌, ℕ, Bool, true, false, cond, ◌||◌, eqb, List, [], ◌∷◌, Option, None, is_some, refl, sym, ap, subst, ◌∙◌}
 use Rattle.std.proofs.lemmas.Bool.{eq-eqb, ne_eqb}
 use Rattle.std.specs.Option.{option_map}
@@ -27,7 +28,8 @@ use Rattle.iocm_history.proofs.Standing.{IsStanding, standing_change}
 use Rattle.iocm_history.proofs.Fitted.{IsTakenBack}
 use Rattle.iocm_history.proofs.Level.{IsLevel, level_state, level_like, IsInert, inert_front, step_front, after_undo, undone_is}
 
--- a change comes back: with it the entries are such of which it stands too, and off the subchannels that it altered the same is seen
+-- a change comes back: with it the entries are such of which it stands too, and off the subchannels
+-- that it altered the same is seen
 pub record ComesBack (m : Store) (ls : List MarkedEntry) (ns : List ℕ) (u : ℕ) : Type 0 where
   pub new : is_in u ns ≡ false
   pub level : IsLevel m (with_change u ls) (u ∷ ns)
@@ -59,7 +61,8 @@ module _ (u : ℕ) (l : MarkedEntry) (ls : List MarkedEntry) (other : is_change 
   pub altered_past : altered_by_change u (l ∷ ls) ≡ altered_by_change u ls
   altered_past = ap altered_if (or_past u ls l.act (change_at u ls) other)
 
-  -- a redo passes an entry in front that isn't its undo: it strikes it where it is a step on its subchannels
+  -- a redo passes an entry in front that isn't its undo: it strikes it where it is a step on its
+  -- subchannels
   pub front_restored : is_undo u l.act ≡ false → with_change u (l ∷ ls) ≡ struck_if (is_step_on (altered_by_change u ls) l.act) lost l ∷ with_change u ls
   unfolding restore
   front_restored later =

@@ -1,4 +1,5 @@
--- Changes as they were made: their edits were accepted in a state in use, and left one in which the rules hold.
+-- Changes as they were made: their edits were accepted in a state in use, and left one in which the
+-- rules hold.
 use Rattle.std.proofs.Common.{◌≡◌, ◌≤◌, length, Ok, sym, subst}
 use Rattle.iocm_model.specs.Operation.State.{State}
 use Rattle.iocm_model.specs.Change.Tree.{ChangeTree, most_leaves}

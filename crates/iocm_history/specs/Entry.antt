@@ -7,9 +7,9 @@ use Rattle.iocm_model.specs.Change.Effect.{Effect}
 use Rattle.iocm_model.specs.Operation.Step.{Step}
 use Rattle.iocm_model.specs.Change.Tree.{ChangeTree}
 
--- what is asked of a machine: a step at a subchannel, an order of its image, a device begin or a device end; to activate a change tree at once; to
--- begin a change in stages, to advance it by an edit, to commit it or to abort it; to undo or redo the change of a number; to show
--- what it counts
+-- what is asked of a machine: a step at a subchannel, an order of its image, a device begin or a
+-- device end; to activate a change tree at once; to begin a change in stages, to advance it by an
+-- edit, to commit it or to abort it; to undo or redo the change of a number; to show what it counts
 pub data Call : Type 0 where
   at : SubId → Step → Call
   activate : ChangeTree → Call

@@ -1,5 +1,5 @@
--- Whether a change fits a state: its inverse edits, performed there whether subchannels are quiet or not, take back edit by edit just
--- what the edits did, and the rules hold at the end. Own.
+-- Whether a change fits a state: its inverse edits, performed there whether subchannels are quiet
+-- or not, take back edit by edit just what the edits did, and the rules hold at the end. Own.
 use Rattle.std.specs.Prelude.{◌==◌, Bool, false, ◌&&◌, ◌||◌, not, if◌then◌else◌, Option, None, Some, List, [], ◌∷◌, ◌++◌}
 use Rattle.std.specs.List.{list_all}
 use Rattle.std.specs.Option.{option_eq, option_and_then, is_some}
@@ -13,8 +13,9 @@ use Rattle.iocm_model.specs.Change.Refusal.{refusal_by_key, is_number_taken}
 use Rattle.iocm_model.specs.Change.Inverse.{inverse_of}
 use Rattle.iocm_history.specs.Change.{Change}
 
--- one cell before and after an edit, and before and after its inverse: what the edit left alone the inverse leaves alone, and what the
--- edit changed the inverse changes from the value after the edit to the one before
+-- one cell before and after an edit, and before and after its inverse: what the edit left alone the
+-- inverse leaves alone, and what the edit changed the inverse changes from the value after the edit
+-- to the one before
 abbrev pub goes_back_at : {X : Type 0} → (X → X → Bool) → Option X → Option X → Option X → Option X → Bool
 goes_back_at same old new here there =
     if option_eq same old new then option_eq same here there else option_eq same here new && option_eq same there old
@@ -24,12 +25,14 @@ abbrev pub goes_back : {K X : Type 0} {R : K → K → Ordering} → (X → X �
 goes_back same old new here there =
     list_all (λ key. goes_back_at same (get old key) (get new key) (get here key) (get there key)) (keys old ++ (keys new ++ (keys here ++ keys there)))
 
--- an edit that is refused though every subchannel be quiet: by its key (E1, E2), or for a number that is taken (E4)
+-- an edit that is refused though every subchannel be quiet: by its key (E1, E2), or for a number
+-- that is taken (E4)
 abbrev pub is_barred : Edit → State → Bool
 is_barred e u = is_some (refusal_by_key e.action (contains_key u.config (action_key e.action)))
     || is_number_taken (config_after e.action u.config) u.numbers e.places
 
--- an edit that was performed in one state is taken back in another: its number cells and its views go back
+-- an edit that was performed in one state is taken back in another: its number cells and its views
+-- go back
 abbrev pub goes_back_in : Edit → State → State → Bool
 goes_back_in e s u = let t = state_after e s in let v = state_after (inverse_of e s) u in
     not (is_barred (inverse_of e s) u)

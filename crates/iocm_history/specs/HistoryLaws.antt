@@ -34,7 +34,8 @@ ActivationsDoWhatTheyMean = (opening : State) (h : History) (p : ChangeTree) (n 
     → meaning p (state_at opening h) ≡ Ok done
     → state_at opening (record { call = activate p; answer = Changed n; effect = effect_of done.edits (state_at opening h) } ∷ h) ≡ done.state
 
--- the answers that tell that the state stays: a call was refused, or held; it began, advanced or aborted a change in stages; it showed counts
+-- the answers that tell that the state stays: a call was refused, or held; it began, advanced or
+-- aborted a change in stages; it showed counts
 abbrev pub LeavesTheState : Answer → Type 0
 LeavesTheState Held = Unit {0}
 LeavesTheState (Staged k) = Unit {0}

@@ -5,7 +5,8 @@ use Rattle.iocm_types.specs.declared.answer.Answer.{Answer}
 use Rattle.iocm_types.specs.declared.answer.Answer.TheVariants as answers
 use Rattle.iocm_history.specs.Entry.{History}
 
--- how many changes were accepted; those that stand, the latest first; those that are undone, the last one undone first
+-- how many changes were accepted; those that stand, the latest first; those that are undone, the
+-- last one undone first
 pub record Journal : Type 0 where
   pub count : ℕ
   pub standing : List ℕ
@@ -21,8 +22,8 @@ without n ns = filter (λ m. not (n == m)) ns
 abbrev pub is_past : ℕ → Journal → Bool
 is_past n b = nat_le 1 n && nat_le n b.count && not (is_in n b.standing) && not (is_in n b.undone)
 
--- a change stands once it is accepted, and all that are undone then become past; it is undone after its undo, and stands again
--- after its redo
+-- a change stands once it is accepted, and all that are undone then become past; it is undone after
+-- its undo, and stands again after its redo
 abbrev pub journal_after : Answer → Journal → Journal
 journal_after (answers.Changed n) b = record { count = n; standing = n ∷ b.standing; undone = [] }
 journal_after (answers.Undone n) b = record { count = b.count; standing = without n b.standing; undone = n ∷ b.undone }

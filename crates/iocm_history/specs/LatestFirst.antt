@@ -1,5 +1,6 @@
--- Histories in which each undo is of the latest standing change: there every step that counts may be decided anew, nothing stands on the
--- latest, and only later standing changes stand on a standing one.
+-- Histories in which each undo is of the latest standing change: there every step that counts may
+-- be decided anew, nothing stands on the latest, and only later standing changes stand on a
+-- standing one.
 use Rattle.std.specs.Prelude.{◌≡◌, ◌≢◌, ◌<◌, ◌⊎◌, ℕ, true, List, [], ◌∷◌, Some, None}
 use Rattle.iocm_types.specs.declared.answer.Answer.TheVariants.{Undone, Refused}
 use Rattle.iocm_types.specs.declared.refused.At.TheVariants.{Subchannel, Nothing}
@@ -47,8 +48,8 @@ abbrev pub StepsMayBeDecidedAnew : Type 0
 StepsMayBeDecidedAnew = (opening : State) (h : History) → IsInUse opening → IsLegal opening h → UndoesTheLatest h
     → state_at opening h ≡ replay_anew opening (marked_entries opening h)
 
--- why an undo has to wait though nothing stands on its change: a change is staged; this is the least of its subchannels that isn't quiet;
--- memory lacks
+-- why an undo has to wait though nothing stands on its change: a change is staged; this is the
+-- least of its subchannels that isn't quiet; memory lacks
 pub data HasToWait (opening : State) (h : History) (n : ℕ) (e : Entry) : Type 0 where
   for_the_stage : stage_of opening h ≢ None → e.answer ≡ Refused (refusal_at O1 Nothing) → HasToWait opening h n e
   for_quiet : (x : SubId) → WaitsFor opening h n x → e.answer ≡ Refused (refusal_at B1 (Subchannel x)) → HasToWait opening h n e

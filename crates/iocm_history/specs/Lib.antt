@@ -16,3 +16,5 @@ pub mod RedoLaws
 pub mod StageLaws
 pub mod LatestFirst
 pub mod MarkLaws
+pub mod Reckoning
+pub mod JournalLaws

@@ -19,7 +19,8 @@ IsUnmarked n (l ∷ ls) = (l.mark ≢ undone_with n) × IsUnmarked n ls
 abbrev pub RestoringUndoesStriking : Type 0
 RestoringUndoesStriking = (xs : List SubId) (n : ℕ) (ls : List MarkedEntry) → IsUnmarked n ls → taken_back n (strike xs n ls) ≡ ls
 
--- in a legal history no entry is struck by the undo of a change that stands, or that isn't there yet
+-- in a legal history no entry is struck by the undo of a change that stands, or that isn't there
+-- yet
 abbrev pub StandingChangesMarkNothing : Type 0
 StandingChangesMarkNothing = (opening : State) (h : History) (n : ℕ) → IsInUse opening → IsLegal opening h
     → ((journal_of h).count < n) ⊎ (is_in n (journal_of h).standing ≡ true) → IsUnmarked n (marked_entries opening h)

@@ -11,15 +11,16 @@ use Rattle.iocm_model.specs.Operation.Step.{Step}
 use Rattle.iocm_history.specs.Entry.{no_effect}
 use Rattle.iocm_history.specs.Change.{Change, effect_of_change, altered}
 
--- what an entry did: a step with the live record that it left, or none; an accepted change with its number; an accepted undo; or nothing
--- that counts here
+-- what an entry did: a step with the live record that it left, or none; an accepted change with its
+-- number; an accepted undo; or nothing that counts here
 pub data Act : Type 0 where
   step : SubId → Step → Option Live → Act
   change : ℕ → Change → Act
   undoing : ℕ → Act
   nothing : Act
 
--- whether an entry counts: it does; the undo of this change struck it; the redo of some change struck it, for good
+-- whether an entry counts: it does; the undo of this change struck it; the redo of some change
+-- struck it, for good
 pub data Mark : Type 0 where
   kept : Mark
   undone_with : ℕ → Mark
@@ -30,7 +31,8 @@ pub record MarkedEntry : Type 0 where
   pub act : Act
   pub mark : Mark
 
--- the cells that an act overwrites: a step the live record of its subchannel, a change what it wrote
+-- the cells that an act overwrites: a step the live record of its subchannel, a change what it
+-- wrote
 abbrev pub effect_of_act : Act → Effect
 effect_of_act (step x made l) = record no_effect { lives = insert empty x l }
 effect_of_act (change n c) = effect_of_change c
@@ -105,7 +107,8 @@ unstruck n l = record { act = l.act; mark = unstruck_mark n l.mark }
 abbrev pub taken_back : ℕ → List MarkedEntry → List MarkedEntry
 taken_back n ls = map (unstruck n) ls
 
--- a redo takes back what the last undo of the change newly struck, and strikes each step since that undo on these subchannels
+-- a redo takes back what the last undo of the change newly struck, and strikes each step since that
+-- undo on these subchannels
 unfoldable pub restore : List SubId → ℕ → List MarkedEntry → List MarkedEntry
 restore xs n [] = []
 restore xs n (l ∷ ls) = if is_undo n l.act then l ∷ taken_back n ls

@@ -31,8 +31,8 @@ pub record IsRedone (opening : State) (h between : History) (n : ℕ) : Type 0 w
   pub legal : IsLegal opening (redo_entry n ∷ between ++ undo_entry n ∷ h)
   pub first : list_any (λ (e : Entry). undoes_or_redoes n e.answer) between ≡ false
 
--- the redo takes the undo back: it goes back to what was before the undo, and plays what came between them without the steps on the
--- subchannels that the change altered
+-- the redo takes the undo back: it goes back to what was before the undo, and plays what came
+-- between them without the steps on the subchannels that the change altered
 abbrev pub RedoTakesUndoBack : Type 0
 RedoTakesUndoBack = (opening : State) (h between : History) (n : ℕ) → IsRedone opening h between n
     → let ls = marked_entries opening (between ++ undo_entry n ∷ h) in

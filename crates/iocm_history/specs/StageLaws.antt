@@ -55,7 +55,8 @@ AbortLeavesTheOtherSteps = (opening : State) (h between : History) (p : ChangeTr
 abbrev pub commit_of : ℕ → Performed → State → Entry
 commit_of n done s = record { call = commit; answer = Changed n; effect = effect_of done.edits s }
 
--- a Commit does the edits that the tree performed at its Begin, in the state that the other steps leave
+-- a Commit does the edits that the tree performed at its Begin, in the state that the other steps
+-- leave
 pub record DoesTheEdits (opening : State) (h between : History) (p : ChangeTree) (k n : ℕ) (done : Performed) : Type 0 where
   pub legal : IsLegal opening (steps_of between ++ h)
   pub state : state_at opening (commit_of n done (state_at opening h) ∷ between ++ begin_entry p k ∷ h)

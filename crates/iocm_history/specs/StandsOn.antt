@@ -48,8 +48,8 @@ undone_since n ls = filter (λ m. nat_lt m n && not (counts m ls)) (undos_in (si
 abbrev pub numbers_of : List Numbered → List ℕ
 numbers_of changes = map (λ (d : Numbered). d.0) changes
 
--- the changes that stand on a change. If it fits: the later ones that wrote a cell that it wrote. If it doesn't: all later ones, and the
--- earlier ones that were undone since
+-- the changes that stand on a change. If it fits: the later ones that wrote a cell that it wrote.
+-- If it doesn't: all later ones, and the earlier ones that were undone since
 abbrev pub standing_on : ℕ → Change → List MarkedEntry → Bool → List ℕ
 standing_on n c ls true = numbers_of (filter (λ (d : Numbered). share_a_cell (effect_of_change c) (effect_of_change d.1)) (changes_in (since n ls)))
 standing_on n c ls false = numbers_of (changes_in (since n ls)) ++ undone_since n ls

@@ -37,8 +37,8 @@ abbrev pub before : ℕ → List MarkedEntry → List MarkedEntry
 before n [] = []
 before n (l ∷ ls) = if is_change n l.act then ls else before n ls
 
--- an undo leaves the run without the change: what was before the change, and what came since, without the steps on the subchannels that
--- it altered
+-- an undo leaves the run without the change: what was before the change, and what came since,
+-- without the steps on the subchannels that it altered
 abbrev pub UndoLeavesTheRunWithout : Type 0
 UndoLeavesTheRunWithout = (m : Store) (n : ℕ) (ls : List MarkedEntry)
     → replay m (without_change n ls) ≡ replay (replay m (before n ls)) (struck_steps (altered_by_change n ls) (undone_with n) (since n ls))
@@ -84,8 +84,8 @@ pub record IsGreatestOf (k : ℕ) (ns : List ℕ) : Type 0 where
   pub among : is_in k ns ≡ true
   pub bounds : (j : ℕ) → is_in j ns ≡ true → j ≤ k
 
--- why an undo is refused: a change is staged; no such change stands; this is the greatest change that stands on it; this is the least of its
--- subchannels that isn't quiet; memory lacks
+-- why an undo is refused: a change is staged; no such change stands; this is the greatest change
+-- that stands on it; this is the least of its subchannels that isn't quiet; memory lacks
 pub data IsRefusedFor (opening : State) (h : History) (n : ℕ) (e : Entry) : Type 0 where
   staged : stage_of opening h ≢ None → e.answer ≡ Refused (refusal_at O1 Nothing) → IsRefusedFor opening h n e
   not_standing : is_in n (journal_of h).standing ≡ false → e.answer ≡ Refused (refusal_at J1 Nothing) → IsRefusedFor opening h n e

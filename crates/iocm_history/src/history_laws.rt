@@ -11,8 +11,8 @@ pub fn runs_are_legal()
     ensures { RunsAreLegal }
 {}
 
-/// From a state in use, one that is sound and in which the rules hold, every legal history leads to one, also while a change
-/// is staged.
+/// From a state in use, one that is sound and in which the rules hold, every legal history leads to
+/// one, also while a change is staged.
 pub fn states_stay_in_use()
     ensures { StatesStayInUse }
 {}
@@ -27,8 +27,8 @@ pub fn activations_do_what_they_mean()
     ensures { ActivationsDoWhatTheyMean }
 {}
 
-/// Every call that is refused or held leaves the state, and so do those that begin, advance or abort a change in stages, and
-/// the call that shows counts.
+/// Every call that is refused or held leaves the state, and so do those that begin, advance or
+/// abort a change in stages, and the call that shows counts.
 pub fn other_calls_leave_the_state()
     ensures { OtherCallsLeaveTheState }
 {}

@@ -1,13 +1,20 @@
-//! What a run of calls means, and no code that runs: histories, which of their entries are struck by undo and redo, changes in
-//! stages, the state that what is left gives, which changes stand on which, and which histories are legal.
+//! What a run of calls means, and no code that runs: histories, which of their entries are struck by
+//! undo and redo, changes in stages, the state that what is left gives, which changes stand on
+//! which, and which histories are legal.
 //!
-//! Each subject has one file in `specs/`; `docs/DEFINITIONS.md` goes through them, and `docs/UNDO.md` tells a system programmer
-//! what undo does. Each entry that is not struck overwrites cells, and what is left is read as a state. The functions here have
-//! empty bodies: their contracts are laws of the definitions, and the layers above rely on these alone. Begin reading at
-//! `specs/Legal.antt`, which has the answer to each call. Runs of calls that were worked by hand stand in `iocm_examples`.
+//! Each subject has one file in `specs/`; `docs/DEFINITIONS.md` goes through them, and
+//! `docs/UNDO.md` tells a system programmer what undo does. Each entry that is not struck
+//! overwrites cells, and what is left is read as a state. `specs/Reckoning.antt` has what a journal
+//! keeps beside a machine to answer undo and redo as histories say: the changes by their numbers,
+//! which of them stand, when each was last undone, and which cells they share.
+//!
+//! The functions here have empty bodies: their contracts are laws of the definitions, and the
+//! layers above rely on these alone. Begin reading at `specs/Legal.antt`, which has the answer to
+//! each call. Runs of calls that were worked by hand stand in `iocm_examples`.
 #![tactic(auto)]
 
 mod history_laws;
+mod journal_laws;
 mod latest_first_laws;
 mod mark_laws;
 mod redo_laws;
@@ -17,6 +24,13 @@ mod undo_laws;
 pub use history_laws::{
     activations_do_what_they_mean, other_calls_leave_the_state, runs_are_legal, states_stay_in_use,
     steps_step,
+};
+pub use journal_laws::{
+    activations_are_there, changes_are_entries, changes_stay_there, changes_were_made,
+    commits_are_there, each_change_is_there, later_stand_on_it, one_less_is_undone,
+    one_less_stands, only_these_are_there, others_stand_on_it, redo_means_the_redo,
+    stages_are_ready, standing_were_accepted, the_greatest_is_found, undo_means_the_undo,
+    undone_were_accepted,
 };
 pub use latest_first_laws::{
     latest_is_never_blocked, only_later_standing_changes_stand_on, steps_may_be_decided_anew,

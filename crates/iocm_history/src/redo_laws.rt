@@ -4,8 +4,9 @@ ghost use Rattle.iocm_history.specs.RedoLaws.{
   RedoPutsTheCellsForward,
 };
 
-/// The redo of a change, with no undo or redo of it since its undo, goes back to what was before the undo, and plays what
-/// came between them without the steps on the subchannels that the change altered.
+/// The redo of a change, with no undo or redo of it since its undo, goes back to what was before
+/// the undo, and plays what came between them without the steps on the subchannels that the change
+/// altered.
 pub fn redo_takes_undo_back()
     ensures { RedoTakesUndoBack }
 {}
@@ -15,7 +16,8 @@ pub fn redo_finds_what_the_undo_left()
     ensures { RedoFindsWhatTheUndoLeft }
 {}
 
-/// Such a redo gives the cells that the change wrote what they had before the undo, and leaves all others.
+/// Such a redo gives the cells that the change wrote what they had before the undo, and leaves all
+/// others.
 pub fn redo_puts_the_cells_forward()
     ensures { RedoPutsTheCellsForward }
 {}

@@ -8,25 +8,26 @@ ghost use Rattle.iocm_history.specs.UndoLaws.{
   UndoIsRefusedOnlyFor,
 };
 
-/// The undo of a change leaves the run without it: what was before the change, and what came since, without the steps on
-/// the subchannels that it altered.
+/// The undo of a change leaves the run without it: what was before the change, and what came since,
+/// without the steps on the subchannels that it altered.
 pub fn undo_leaves_the_run_without()
     ensures { UndoLeavesTheRunWithout }
 {}
 
-/// Wherever an undo is accepted, also under later changes that stand, it puts the cells that its change wrote back as they
-/// were before the change, and leaves all others.
+/// Wherever an undo is accepted, also under later changes that stand, it puts the cells that its
+/// change wrote back as they were before the change, and leaves all others.
 pub fn undo_puts_the_cells_back()
     ensures { UndoPutsTheCellsBack }
 {}
 
-/// An accepted undo leaves what the inverses of the edits of its change leave that are performed in the state now, and each
-/// of them is accepted there.
+/// An accepted undo leaves what the inverses of the edits of its change leave that are performed in
+/// the state now, and each of them is accepted there.
 pub fn undo_does_what_the_inverses_do()
     ensures { UndoDoesWhatTheInversesDo }
 {}
 
-/// The inverse tree of the change is accepted in the state now, and leaves the state that the undo leaves.
+/// The inverse tree of the change is accepted in the state now, and leaves the state that the undo
+/// leaves.
 pub fn undo_does_what_the_inverse_tree_does()
     ensures { UndoDoesWhatTheInverseTreeDoes }
 {}
@@ -36,13 +37,15 @@ pub fn standing_changes_are_there()
     ensures { StandingChangesAreThere }
 {}
 
-/// A standing change on which nothing stands fits the state now: where one does not fit, there is a change to name.
+/// A standing change on which nothing stands fits the state now: where one does not fit, there is a
+/// change to name.
 pub fn standing_changes_fit()
     ensures { StandingChangesFit }
 {}
 
-/// An undo is refused only while a change is staged, where no such change stands, where a change stands on it, which the
-/// refusal names, where a subchannel that it altered is not quiet, or for want of memory.
+/// An undo is refused only while a change is staged, where no such change stands, where a change
+/// stands on it, which the refusal names, where a subchannel that it altered is not quiet, or for
+/// want of memory.
 pub fn undo_is_refused_only_for()
     ensures { UndoIsRefusedOnlyFor }
 {}

@@ -1,4 +1,5 @@
--- Who names a thing stands together in the order of namings: from the first of them on, at the front.
+-- Who names a thing stands together in the order of namings: from the first of them on, at the
+-- front.
 use Rattle.std.proofs.Common.{◌≡◌, T, Bool, true, cond, List, [], ◌∷◌, map, filter, refl, sym, ap, ◌∙◌}
 use Rattle.std.specs.Ordering.{is_le, is_eq, eq_by_cmp, ordering_then, ordering_reverse}
 use Rattle.std.specs.Cmp.{IsTotalOrder, on_total, then_total}

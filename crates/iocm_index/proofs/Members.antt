@@ -1,4 +1,5 @@
--- The users of a thing: who they are, and that each comes once and in order; and that a set is its namings.
+-- The users of a thing: who they are, and that each comes once and in order; and that a set is its
+-- namings.
 use Rattle.std.proofs.Common.{◌≡◌, Option, None, Some, is_some, T, ◌||◌, cond, [], ◌∷◌, map, filter, refl, sym, ap, ◌∙◌}
 use Rattle.std.specs.List.{AllByRecursion, list_any}
 use Rattle.std.specs.List.Sorted.{IsStrictlySortedBy}

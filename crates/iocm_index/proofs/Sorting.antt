@@ -37,7 +37,8 @@ module _ {A : Type 0} (same : A → A → Bool) (test : A → Bool) (alike : (x 
       by true is here next = here ∙ one_more (test k) (test x) (list_any test xs) (alike x k is)
       by false is here next = ap (λ b. test k || b) next
 
-  -- what is left where each stands once passes a test that tells no two apart, exactly where something did
+  -- what is left where each stands once passes a test that tells no two apart, exactly where
+  -- something did
   any_once : (xs : List A) → list_any test (dedup same xs) ≡ list_any test xs
   any_once [] = refl
   any_once (x ∷ xs) = any_from x xs

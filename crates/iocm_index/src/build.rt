@@ -16,8 +16,9 @@ use iocm_types::Naming;
 use std::alloc::{AllocError, Allocator};
 
 impl<A: Allocator + Clone> Index<A> {
-    /// The index of these namings, in any order and each any number of times; they have places, and no others. The time is in
-    /// proportion to their number where they stand in order, and else to that of sorting them.
+    /// The index of these namings, in any order and each any number of times; they have places, and
+    /// no others. The time is in proportion to their number where they stand in order, and else to
+    /// that of sorting them.
     ///
     /// `AllocError` (M1): memory was wanted.
     pub fn from_namings<B: Allocator>(alloc: A, namings: Vec<Naming, B>) -> Result<Self, AllocError>
@@ -47,8 +48,9 @@ pub fn list_namings<B: Allocator, C: Allocator>(
     Ok(())
 }
 
-/// The same namings in order, each once. Records are mostly listed in the order of keys, and then the first sort, which looks at what
-/// is named alone and keeps equals in their order, leaves nothing to the second; it compares far less where a thing has many users.
+/// The same namings in order, each once. Records are mostly listed in the order of keys, and then
+/// the first sort, which looks at what is named alone and keeps equals in their order, leaves
+/// nothing to the second; it compares far less where a thing has many users.
 fn sort_apart<B: Allocator>(mut namings: Vec<Naming, B>) -> Result<Vec<Naming, B>, AllocError>
     ensures order { IfOk result (λ distinct. IsStrictlySortedBy naming_cmp distinct.items) }
     ensures same { IfOk result (λ distinct. (n : naming.Naming) → list_any (eq_by_cmp naming_cmp n) distinct.items ≡ list_any (eq_by_cmp naming_cmp n) namings.items) }

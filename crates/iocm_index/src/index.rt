@@ -38,16 +38,16 @@ impl<A: Allocator> Index<A> {
         }
     }
 
-    /// A naming that is in the index has a place. It reads nothing, and is there for callers' proofs: what is unlinked can be
-    /// linked again.
+    /// A naming that is in the index has a place. It reads nothing, and is there for callers'
+    /// proofs: what is unlinked can be linked again.
     pub fn has_places(&self)
         ensures { RowsHavePlaces naming_cmp self.now }
     {
         self.namings.has_places();
     }
 
-    /// Gives each naming of a record a place, if it has none. Each other naming that has a place keeps it, no other naming
-    /// gets one, and the set stays.
+    /// Gives each naming of a record a place, if it has none. Each other naming that has a place
+    /// keeps it, no other naming gets one, and the set stays.
     ///
     /// `AllocError` (M1): memory was wanted, which can't be where all have places already.
     pub fn room<B: Allocator>(&mut self, entry: &Record<B>) -> Result<(), AllocError>
@@ -65,7 +65,8 @@ impl<A: Allocator> Index<A> {
         Ok(())
     }
 
-    /// Puts the namings of a record in, each of which has a place, and no others. Can't answer want of memory.
+    /// Puts the namings of a record in, each of which has a place, and no others. Can't answer want
+    /// of memory.
     pub fn link<B: Allocator>(&mut self, entry: &Record<B>)
         requires { HavePlaces self.old (namings_of entry.now) }
         ensures linked { (n : naming.Naming) → is_linked self.new n ≡ (is_naming_of entry.now n || is_linked self.old n) }
@@ -76,7 +77,8 @@ impl<A: Allocator> Index<A> {
         }
     }
 
-    /// Takes the namings of a record out, and no others. Their places stay. Can't answer want of memory.
+    /// Takes the namings of a record out, and no others. Their places stay. Can't answer want of
+    /// memory.
     pub fn unlink<B: Allocator>(&mut self, entry: &Record<B>)
         ensures linked { (n : naming.Naming) → is_linked self.new n ≡ (not (is_naming_of entry.now n) && is_linked self.old n) }
         ensures places { self.new.places ≡ self.old.places }

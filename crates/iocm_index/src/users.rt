@@ -72,8 +72,9 @@ impl<'a> Users<'a> {
 }
 
 impl<A: Allocator> Index<A> {
-    /// The keys of the records that name a thing, each once and in order. The time is that of one search, and in proportion
-    /// to their number and to that of the places of unlinked namings among them.
+    /// The keys of the records that name a thing, each once and in order. The time is that of one
+    /// search, and in proportion to their number and to that of the places of unlinked namings
+    /// among them.
     pub fn users_of(&self, named: Named) -> Users<'_>
         ensures users { result ≡ users_in named (rows naming_cmp self.now) }
         ensures named { (k : key_type.Key) → list_any (eq_by_cmp key_cmp k) result ≡ is_linked self.now (naming k named) }

@@ -4,7 +4,7 @@ use Rattle.iocm_types.specs.declared.answer.Answer.{Answer}
 use Rattle.iocm_types.specs.declared.answer.Answer.TheVariants as answers
 use Rattle.iocm_history.specs.Journal.{Journal, journal_after}
 use Rattle.iocm_history.specs.RedoLaws.{undoes_or_redoes}
-use Rattle.iocm_reckoning.specs.Reckoning.{undone_then}
+use Rattle.iocm_history.specs.Reckoning.{undone_then}
 use Rattle.iocm_journal.specs.Answering.{LeavesTheJournal}
 
 pub same_journal : (a : Answer) (b : Journal) → LeavesTheJournal a → journal_after a b ≡ b

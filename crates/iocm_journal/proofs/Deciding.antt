@@ -13,15 +13,15 @@ use Rattle.iocm_history.specs.Account.{marked_entries}
 use Rattle.iocm_history.specs.Journal.{is_in, journal_of}
 use Rattle.iocm_history.specs.StandsOn.{greatest, standing_on}
 use Rattle.iocm_activate.specs.declared.effect.Effect.{Effect}
-use Rattle.iocm_reckoning.specs.Reckoning.{last_undone, shares}
+use Rattle.iocm_history.specs.Reckoning.{last_undone, shares}
 use Rattle.iocm_journal.specs.Kept.{IsKept}
 use Rattle.iocm_journal.specs.Now.{IsJournalOf}
 use Rattle.iocm_journal.specs.Standing.{stands_at, undone_since_at, share_with, share_at, is_on, last_passing}
 use Rattle.iocm_journal.specs.declared.kept.Kept.{Kept}
 use Rattle.iocm_journal.specs.declared.journal.Journal.{Journal}
-use Rattle.iocm_reckoning.proofs.Reckoned.{later_stand_on_it, others_stand_on_it}
-use Rattle.iocm_reckoning.proofs.TheGreatest.{greatest_is as the_greatest, greatest_of_none}
-use Rattle.iocm_reckoning.proofs.Facts.{standing_were_accepted}
+use Rattle.iocm_history.proofs.Reckoned.{later_stand_on_it, others_stand_on_it}
+use Rattle.iocm_history.proofs.TheGreatest.{greatest_is as the_greatest, greatest_of_none}
+use Rattle.iocm_history.proofs.Facts.{standing_were_accepted}
 use Rattle.iocm_journal.proofs.NeverUndone.{never_undone}
 use Rattle.iocm_journal.proofs.Passing.{IsLastPassing, last_passing_is}
 use Rattle.iocm_journal.proofs.Taken.{item_there}

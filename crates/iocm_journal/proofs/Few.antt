@@ -9,7 +9,7 @@ use Rattle.iocm_history.specs.Journal.{Journal, is_in, journal_of}
 use Rattle.iocm_history.specs.Legal.{IsLegal}
 use Rattle.iocm_history.specs.InUse.{IsInUse}
 use Rattle.iocm_history.proofs.Along.{IsEvent, is_event, settled}
-use Rattle.iocm_reckoning.proofs.Facts.{one_less_stands, one_less_is_undone}
+use Rattle.iocm_history.proofs.Facts.{one_less_stands, one_less_is_undone}
 use Rattle.iocm_activate.specs.declared.effect.Effect.{Effect}
 use Rattle.iocm_plant.specs.Operating.{Operating}
 use Rattle.iocm_journal.specs.Now.{BelongTogether}

@@ -19,7 +19,7 @@ use Rattle.iocm_activate.specs.Done.{AreToldBy}
 use Rattle.iocm_activate.specs.Effects.{effect_in}
 use Rattle.iocm_activate.specs.Told.{told_of_all}
 use Rattle.iocm_activate.specs.declared.effect.Effect.{Effect}
-use Rattle.iocm_reckoning.specs.Reckoning.{undone_then, last_undone}
+use Rattle.iocm_history.specs.Reckoning.{undone_then, last_undone}
 use Rattle.iocm_journal.specs.Answering.{LeavesTheJournal}
 use Rattle.iocm_journal.specs.Kept.{IsKept, IsRedoable}
 use Rattle.iocm_journal.specs.Now.{IsJournalOf}
@@ -27,7 +27,7 @@ use Rattle.iocm_journal.specs.declared.kept.Kept.{Kept}
 use Rattle.iocm_journal.specs.declared.kept.Undone.{Undone}
 use Rattle.iocm_journal.specs.declared.journal.Journal.{Journal}
 use Rattle.iocm_journal.proofs.Answers.{same_journal, same_undone, no_undo}
-use Rattle.iocm_reckoning.proofs.Found.{changes_stay_there}
+use Rattle.iocm_history.proofs.Found.{changes_stay_there}
 use Rattle.iocm_journal.proofs.NeverUndone.{never_undone}
 
 -- ---- places

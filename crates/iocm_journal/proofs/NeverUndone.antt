@@ -11,8 +11,8 @@ use Rattle.iocm_history.specs.Journal.{Journal, is_in, journal_after, journal_of
 use Rattle.iocm_history.specs.Legal.{IsLegal}
 use Rattle.iocm_history.specs.InUse.{IsInUse}
 use Rattle.iocm_history.proofs.Along.{IsEvent, is_event, settled}
-use Rattle.iocm_reckoning.specs.Reckoning.{undone_then, last_undone}
-use Rattle.iocm_reckoning.proofs.Facts.{standing_were_accepted}
+use Rattle.iocm_history.specs.Reckoning.{undone_then, last_undone}
+use Rattle.iocm_history.proofs.Facts.{standing_were_accepted}
 
 longer : (m : ℕ) (ms : List ℕ) → m ∷ ms ≡ ms → ⊥
 longer m ms same = let more : length (m ∷ ms) ≡ length ms = ap length same in omega (arith, more)

@@ -19,7 +19,7 @@ use Rattle.iocm_history.specs.InUse.{IsInUse}
 use Rattle.iocm_journal.specs.Standing.{is_last}
 use Rattle.iocm_journal.specs.declared.kept.Undone.{Undone}
 use Rattle.iocm_journal.proofs.Taken.{at_end}
-use Rattle.iocm_reckoning.proofs.Facts.{undone_were_accepted}
+use Rattle.iocm_history.proofs.Facts.{undone_were_accepted}
 
 differ : true ≡ false → ⊥
 differ e = cc

@@ -33,8 +33,8 @@ use Rattle.iocm_journal.specs.declared.kept.Kept.{Kept}
 use Rattle.iocm_journal.specs.declared.kept.Undone.{Undone}
 use Rattle.iocm_journal.specs.declared.journal.Journal.{Journal}
 use Rattle.iocm_journal.proofs.GoingOn.{all_redoable_still}
-use Rattle.iocm_reckoning.proofs.Found.{changes_stay_there}
-use Rattle.iocm_reckoning.proofs.RedoMeans.{redo_means_the_redo}
+use Rattle.iocm_history.proofs.Found.{changes_stay_there}
+use Rattle.iocm_history.proofs.RedoMeans.{redo_means_the_redo}
 use Rattle.iocm_journal.specs.Standing.{is_last, redo_at_end}
 use Rattle.iocm_journal.proofs.Places.{ends_with, redo_item}
 use Rattle.iocm_journal.proofs.Taken.{of_set, in_reverse, all_by_number, all_first, all_second}

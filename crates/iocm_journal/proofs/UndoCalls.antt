@@ -25,8 +25,8 @@ use Rattle.iocm_history.specs.StandsOn.{stands_on}
 use Rattle.iocm_history.specs.UndoLaws.{undo_entry}
 use Rattle.iocm_history.proofs.EachCall.{states_stay_in_use}
 use Rattle.iocm_history.proofs.Undoing.{MayBeUndone, may_be_undone}
-use Rattle.iocm_reckoning.proofs.Facts.{standing_were_accepted}
-use Rattle.iocm_reckoning.proofs.UndoMeans.{undo_means_the_undo}
+use Rattle.iocm_history.proofs.Facts.{standing_were_accepted}
+use Rattle.iocm_history.proofs.UndoMeans.{undo_means_the_undo}
 use Rattle.iocm_tree.specs.Trees.{plain_tree, tree_of}
 use Rattle.iocm_activate.specs.Done.{AreToldBy, refusal_in}
 use Rattle.iocm_activate.specs.Effects.{effect_in}

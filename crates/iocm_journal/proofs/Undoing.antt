@@ -20,7 +20,7 @@ use Rattle.iocm_tree.specs.Trees.{plain_tree, tree_of}
 use Rattle.iocm_activate.specs.declared.effect.Effect.{Effect}
 use Rattle.iocm_activate.specs.Done.{edits_of}
 use Rattle.iocm_plant.specs.Operating.{Operating}
-use Rattle.iocm_reckoning.specs.Reckoning.{last_undone}
+use Rattle.iocm_history.specs.Reckoning.{last_undone}
 use Rattle.iocm_journal.specs.Answering.{IsNext, undo_made}
 use Rattle.iocm_journal.specs.Kept.{IsKept, IsRedoable}
 use Rattle.iocm_journal.specs.Now.{IsNow}
@@ -29,9 +29,9 @@ use Rattle.iocm_journal.specs.declared.kept.Kept.{Kept}
 use Rattle.iocm_journal.specs.declared.kept.Undone.{Undone}
 use Rattle.iocm_journal.specs.declared.journal.Journal.{Journal}
 use Rattle.iocm_journal.proofs.GoingOn.{all_redoable_still}
-use Rattle.iocm_reckoning.proofs.Found.{changes_stay_there}
-use Rattle.iocm_reckoning.proofs.UndoMeans.{undo_means_the_undo}
-use Rattle.iocm_reckoning.proofs.Facts.{undone_were_accepted, one_less_stands}
+use Rattle.iocm_history.proofs.Found.{changes_stay_there}
+use Rattle.iocm_history.proofs.UndoMeans.{undo_means_the_undo}
+use Rattle.iocm_history.proofs.Facts.{undone_were_accepted, one_less_stands}
 use Rattle.iocm_journal.proofs.Rows.{inverse_tree_performs}
 use Rattle.iocm_journal.proofs.Taken.{of_set, in_reverse, all_by_number, all_append}
 

@@ -16,11 +16,12 @@ use Rattle.iocm_activate.specs.Done.{AreToldBy}
 use Rattle.iocm_activate.specs.Effects.{effect_in}
 use Rattle.iocm_activate.specs.Told.{told_of_all}
 use Rattle.iocm_activate.specs.declared.effect.Effect.{Effect}
-use Rattle.iocm_reckoning.specs.Reckoning.{last_undone}
+use Rattle.iocm_history.specs.Reckoning.{last_undone}
 use Rattle.iocm_journal.specs.declared.kept.Kept.{Kept}
 use Rattle.iocm_journal.specs.declared.kept.Undone.{Undone}
 
--- of the change of a number: the tree that takes it back, what its edits did, what it wrote, whether it stands, and when it was last undone
+-- of the change of a number: the tree that takes it back, what its edits did, what it wrote,
+-- whether it stands, and when it was last undone
 pub record IsKept (opening : State) (h : History) (n : ℕ) (k : Kept) (f : Effect) : Type 0 where
   pub change : Change
   pub there : change_at n (marked_entries opening h) ≡ Some change
@@ -30,7 +31,8 @@ pub record IsKept (opening : State) (h : History) (n : ℕ) (k : Kept) (f : Effe
   pub stands : k.stands ≡ is_in n (journal_of h).standing
   pub undone : k.undone_after ≡ last_undone n h
 
--- of a change that is undone: the tree that takes its undo back, where the configuration and the numbers are as that left them
+-- of a change that is undone: the tree that takes its undo back, where the configuration and the
+-- numbers are as that left them
 pub record IsRedoable (opening : State) (h : History) (u : Undone) : Type 0 where
   pub between : History
   pub before : History

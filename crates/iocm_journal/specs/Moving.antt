@@ -17,7 +17,8 @@ no_more count k = record k { stands = false; undone_after = count }
 abbrev pub again : Kept → Kept
 again k = record k { stands = true }
 
--- the change at a place was taken back by its inverse tree, from one state to another; the tree that does it again is kept
+-- the change at a place was taken back by its inverse tree, from one state to another; the tree
+-- that does it again is kept
 pub record WasUndone (old : Journal) (place : ℕ) (before after : State) (new : Journal) : Type 0 where
   pub kept : Kept
   pub there : slice_get old.changes.items place ≡ Some kept

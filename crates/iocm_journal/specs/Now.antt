@@ -15,8 +15,9 @@ use Rattle.iocm_journal.specs.declared.kept.Undone.{Undone}
 use Rattle.iocm_journal.specs.declared.journal.Journal.{Journal}
 use Rattle.std.specs.Prelude.{List}
 
--- a journal and what each change wrote, after a legal history from a state in use: each change is kept at its place, counted from 1; so many stand;
--- those that are undone and not past stand in the order of their undos
+-- a journal and what each change wrote, after a legal history from a state in use: each change is
+-- kept at its place, counted from 1; so many stand; those that are undone and not past stand in the
+-- order of their undos
 pub record IsJournalOf (opening : State) (h : History) (j : Journal) (fs : List Effect) : Type 0 where
   pub used : IsInUse opening
   pub legal : IsLegal opening h

@@ -10,7 +10,8 @@ use Rattle.iocm_activate.specs.Effects.{effect_in}
 use Rattle.iocm_journal.specs.declared.kept.Kept.{Kept}
 use Rattle.iocm_journal.specs.declared.kept.Undone.{Undone}
 
--- whether the change at a place stands, counted from 0; and whether it was undone since so many changes were accepted
+-- whether the change at a place stands, counted from 0; and whether it was undone since so many
+-- changes were accepted
 abbrev pub stands_at : List Kept → ℕ → Bool
 stands_at ks at = option_map_or (λ (k : Kept). k.stands) (slice_get ks at) false
 
@@ -29,8 +30,9 @@ share_with (Some f) g = share_a_cell (effect_in f) (effect_in g)
 abbrev pub share_at : List Effect → ℕ → ℕ → Bool
 share_at fs place at = option_map_or (share_with (slice_get fs place)) (slice_get fs at) false
 
--- whether a change stands on the one at a place. If that one fits: a later standing one does that wrote a cell in common. If it doesn't: each later
--- standing one, and each earlier one that was undone since and doesn't stand
+-- whether a change stands on the one at a place. If that one fits: a later standing one does that
+-- wrote a cell in common. If it doesn't: each later standing one, and each earlier one that was
+-- undone since and doesn't stand
 abbrev pub is_on : List Kept → List Effect → ℕ → Bool → ℕ → Bool
 is_on ks fs place true at = nat_lt place at && (stands_at ks at && share_at fs place at)
 is_on ks fs place false at =

@@ -9,7 +9,8 @@ use iocm_plant::Touched;
 use iocm_tree::Tree;
 use std::alloc::{AllocError, Global};
 
-/// The accepted changes of a machine: which stand, which are undone, what takes each back, and what does it again. The word is own.
+/// The accepted changes of a machine: which stand, which are undone, what takes each back, and what
+/// does it again. The word is own.
 #[derive(Drop)]
 pub struct Journal {
     /// Every accepted change, in the order of their numbers, which count from 1.
@@ -42,9 +43,9 @@ impl Journal {
         self.changes.reserve(1)
     }
 
-    /// Keeps one more change, which stands, and for which there is room; those that are undone become past. It gives the change's number. The tree and what was performed
-    /// are to be those of a change that was just made on the journal's machine.
-    /// Can't answer want of memory.
+    /// Keeps one more change, which stands, and for which there is room; those that are undone
+    /// become past. It gives the change's number. The tree and what was performed are to be those
+    /// of a change that was just made on the journal's machine. Can't answer want of memory.
     pub fn accept(&mut self, inverse: Tree, performed: Vec<Touched>) -> u64
         requires room { vec_len self.old.changes < vec_capacity self.old.changes }
         requires few { self.old.standing ≤ length self.old.changes.items }

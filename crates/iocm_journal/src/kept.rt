@@ -19,6 +19,7 @@ pub struct Kept {
 pub struct Undone {
     /// Its number, from 1.
     pub number: u64,
-    /// The tree that does it again, where the configuration and the numbers are as its undo left them.
+    /// The tree that does it again, where the configuration and the numbers are as its undo left
+    /// them.
     pub redo: Tree,
 }

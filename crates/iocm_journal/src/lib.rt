@@ -1,12 +1,14 @@
 //! The journal: which changes stand, which are undone, what takes each back and what does it again.
 //!
-//! `Journal` keeps every accepted change with its inverse tree, what each of its edits did, and whether it stands. `accept` adds a change
-//! without memory, `undo` takes one back on the machine, `redo` does the last one undone again. An undo is refused where a change stands
-//! on it: a later one that stands and wrote a cell that it wrote; or, where the change no longer fits, any later one that stands, and each earlier one that
-//! was undone since and doesn't stand.
+//! `Journal` keeps every accepted change with its inverse tree, what each of its edits did, and
+//! whether it stands. `accept` adds a change without memory, `undo` takes one back on the machine,
+//! `redo` does the last one undone again. An undo is refused where a change stands on it: a later
+//! one that stands and wrote a cell that it wrote; or, where the change no longer fits, any later
+//! one that stands, and each earlier one that was undone since and doesn't stand.
 //!
-//! What the layer above may rely on: beside a history (`IsJournalOf`) the journal answers undo and redo as the history's definition says, and
-//! leaves the machine in the state to which the history then leads. Begin with `specs/Kept.antt` and `specs/Now.antt`, then `journal.rt`, `undo.rt` and
+//! What the layer above may rely on: beside a history (`IsJournalOf`) the journal answers undo and
+//! redo as the history's definition says, and leaves the machine in the state to which the history
+//! then leads. Begin with `specs/Kept.antt` and `specs/Now.antt`, then `journal.rt`, `undo.rt` and
 //! `redo.rt`.
 #![tactic(auto)]
 

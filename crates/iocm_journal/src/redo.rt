@@ -24,11 +24,13 @@ use iocm_types::{Refused, Rule};
 use std::alloc::Global;
 
 impl Journal {
-    /// Does a change again that is undone: the cells that it wrote get back what they had before its undo. `changes`, and what is asked of the machine, are as for `undo`.
+    /// Does a change again that is undone: the cells that it wrote get back what they had before
+    /// its undo. `changes`, and what is asked of the machine, are as for `undo`.
     ///
-    /// J1: no such change is undone. J3: another one of those that are undone now was undone last, or the change was undone before a new one was accepted. B1, with the least: a
-    /// subchannel that it altered is busy or status pending. M1, which may stand in place of any other: memory was wanted. A refused redo
-    /// leaves journal and state as they were.
+    /// J1: no such change is undone. J3: another one of those that are undone now was undone last,
+    /// or the change was undone before a new one was accepted. B1, with the least: a subchannel
+    /// that it altered is busy or status pending. M1, which may stand in place of any other: memory
+    /// was wanted. A refused redo leaves journal and state as they were.
     pub fn redo(
         &mut self,
         alloc: Global,
@@ -80,7 +82,8 @@ impl Journal {
         }
     }
 
-    /// Does the last change undone again, by the tree that is kept for that; it stands then. It is at this place among the changes.
+    /// Does the last change undone again, by the tree that is kept for that; it stands then. It is
+    /// at this place among the changes.
     ///
     /// The refusal that the tree means, or M1: memory was wanted.
     fn do_again(&mut self, alloc: Global, plant: &mut Plant, place: usize) -> Result<(), Refused>
@@ -106,8 +109,8 @@ impl Journal {
         }
     }
 
-    /// Notes that the last change undone, at this place, stands again. It gives what was kept of it while it was undone. Can't answer want of
-    /// memory.
+    /// Notes that the last change undone, at this place, stands again. It gives what was kept of it
+    /// while it was undone. Can't answer want of memory.
     fn note_redone(&mut self, place: usize) -> Option<Undone>
         requires place { place < length self.old.changes.items }
         requires few { self.old.standing ≤ length self.old.changes.items }

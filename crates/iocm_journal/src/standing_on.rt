@@ -5,8 +5,8 @@ use crate::Kept;
 use crate::sharing::share_a_cell;
 use iocm_activate::Effect;
 
-/// The place of the greatest change that stands on the one at a place, if one does. Places count from 0; `fits` tells whether the change at the
-/// place fits the machine now.
+/// The place of the greatest change that stands on the one at a place, if one does. Places count
+/// from 0; `fits` tells whether the change at the place fits the machine now.
 pub fn greatest_on(kept: &[Kept], changes: &[Effect], place: usize, fits: bool) -> Option<usize>
     requires within { place < length kept.now }
     requires changes { length changes.now ≡ length kept.now }

@@ -27,11 +27,14 @@ use iocm_types::{Refused, Rule};
 use std::alloc::{AllocError, Global};
 
 impl Journal {
-    /// Undoes a change on its machine: the cells that it wrote get back what they had before it. `changes` is what each accepted change wrote, in the order of
-    /// their numbers; nothing may be staged, and no change but those of the journal may have been made on the machine since it was opened.
+    /// Undoes a change on its machine: the cells that it wrote get back what they had before it.
+    /// `changes` is what each accepted change wrote, in the order of their numbers; nothing may be
+    /// staged, and no change but those of the journal may have been made on the machine since it
+    /// was opened.
     ///
-    /// J1: no such change stands. J2, with the greatest: a change stands on it. B1, with the least: a subchannel that it altered is busy or status
-    /// pending. M1, which may stand in place of any other: memory was wanted. A refused undo leaves journal and state as they were.
+    /// J1: no such change stands. J2, with the greatest: a change stands on it. B1, with the least:
+    /// a subchannel that it altered is busy or status pending. M1, which may stand in place of any
+    /// other: memory was wanted. A refused undo leaves journal and state as they were.
     pub fn undo(
         &mut self,
         alloc: Global,
@@ -93,7 +96,8 @@ impl Journal {
         }
     }
 
-    /// Takes the standing change at a place back, by its inverse tree; it is the last one undone then.
+    /// Takes the standing change at a place back, by its inverse tree; it is the last one undone
+    /// then.
     ///
     /// The refusal that the inverse tree means, or M1: memory was wanted.
     fn take_back(&mut self, alloc: Global, plant: &mut Plant, place: usize) -> Result<(), Refused>
@@ -118,8 +122,8 @@ impl Journal {
         }
     }
 
-    /// Notes that the change at a place doesn't stand any more, with the tree that does it again, for which there is room. Can't answer
-    /// want of memory.
+    /// Notes that the change at a place doesn't stand any more, with the tree that does it again,
+    /// for which there is room. Can't answer want of memory.
     fn note_undone(&mut self, place: usize, redo: Tree)
         requires place { place < length self.old.changes.items }
         requires some { 0 < self.old.standing }

@@ -20,7 +20,8 @@ fn is_pending(phase: Phase) -> bool
     matches!(phase, Phase::Pending(_))
 }
 
-/// Condition code 3: the subchannel isn't enabled, or START finds no path that is available and in the mask.
+/// Condition code 3: the subchannel isn't enabled, or START finds no path that is available and in
+/// the mask.
 fn is_not_operational(order: &Order, view: &View, live: &Live) -> bool
     ensures { result ≡ meaning.is_not_operational order.now view.now live.now }
 {
@@ -42,7 +43,8 @@ fn is_status_in_the_way(order: &Order, phase: Phase) -> bool
     }
 }
 
-/// Condition code 2: a function is in progress; for HALT a halt or a clear; for CANCEL, that no start is pending.
+/// Condition code 2: a function is in progress; for HALT a halt or a clear; for CANCEL, that no
+/// start is pending.
 fn is_phase_in_the_way(order: &Order, phase: Phase) -> bool
     ensures { result ≡ meaning.is_phase_in_the_way order.now phase }
 {

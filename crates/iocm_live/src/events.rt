@@ -4,7 +4,8 @@ ghost use Rattle.iocm_model.specs.Operation.Orders as meaning;
 use crate::code::is_busy;
 use iocm_types::{Function, Live, Phase};
 
-/// The device begins what it was started for: a pending start becomes active. Else nothing changes. The answer is whether it did.
+/// The device begins what it was started for: a pending start becomes active. Else nothing changes.
+/// The answer is whether it did.
 pub fn device_begin(live: &mut Live) -> bool
     ensures answer { result ≡ meaning.is_start_pending live.old.phase }
     ensures left { live.new ≡ meaning.live_after_device_begin live.old }
@@ -28,8 +29,8 @@ fn ended(phase: Phase) -> Phase
     }
 }
 
-/// The device ends a function that is in progress, a start that is still pending too: its status is pending then. Else nothing changes. The
-/// answer is whether it did.
+/// The device ends a function that is in progress, a start that is still pending too: its status is
+/// pending then. Else nothing changes. The answer is whether it did.
 pub fn device_end(live: &mut Live) -> bool
     ensures answer { result ≡ meaning.is_busy live.old.phase }
     ensures left { live.new ≡ meaning.live_after_device_end live.old }

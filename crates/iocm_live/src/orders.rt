@@ -5,7 +5,8 @@ use crate::code::code_of;
 use crate::status::bits;
 use iocm_types::{Io, Live, Mask, Order, Phase, Stored, View};
 
-/// A live record that nobody has touched: not enabled, all installed paths in the logical-path mask, parameter 0, idle.
+/// A live record that nobody has touched: not enabled, all installed paths in the logical-path
+/// mask, parameter 0, idle.
 pub fn fresh(pim: Mask) -> Live
     ensures { result ≡ meaning.fresh pim }
 {
@@ -54,10 +55,11 @@ fn perform(order: &Order, live: &mut Live)
     }
 }
 
-/// An order of an image on its subchannel, where the image has this view of the device. Its condition code is 3 where the subchannel
-/// isn't enabled (but for MODIFY and STORE), or START finds no path that is both available and in the mask; 1 where status is in
-/// the way; 2 where a function is; else 0, and then it is performed: TEST answers the status that was pending, STORE what the
-/// subchannel is. With another code nothing changes.
+/// An order of an image on its subchannel, where the image has this view of the device. Its
+/// condition code is 3 where the subchannel isn't enabled (but for MODIFY and STORE), or START
+/// finds no path that is both available and in the mask; 1 where status is in the way; 2 where a
+/// function is; else 0, and then it is performed: TEST answers the status that was pending, STORE
+/// what the subchannel is. With another code nothing changes.
 pub fn order(live: &mut Live, view: &View, order: Order) -> Io
     ensures answer { result ≡ meaning.answer_of order view.now live.old }
     ensures left { live.new ≡ meaning.live_after order view.now live.old }

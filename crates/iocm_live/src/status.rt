@@ -4,8 +4,9 @@ ghost use Rattle.iocm_model.specs.Operation.Orders as meaning;
 use bitflags::Flags;
 use iocm_types::{Function, Live, Phase, ScswBits};
 
-/// The status bits that a subchannel shows: none while it is idle; the function's while it is in progress, also while a start is still
-/// pending; and `PENDING` beside it while its status is pending.
+/// The status bits that a subchannel shows: none while it is idle; the function's while it is in
+/// progress, also while a start is still pending; and `PENDING` beside it while its status is
+/// pending.
 pub fn bits(live: &Live) -> ScswBits
     ensures { result ≡ meaning.bits_of live.now.phase }
 {

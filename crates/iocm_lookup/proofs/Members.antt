@@ -1,4 +1,5 @@
--- Records of a configuration that pass a test, and users of a thing that do, where the index is that of the configuration.
+-- Records of a configuration that pass a test, and users of a thing that do, where the index is
+-- that of the configuration.
 use Rattle.std.proofs.Common.{◌≡◌, ℕ, Bool, true, false, ◌&&◌, ◌||◌, nat_eq, List, [], ◌∷◌, map, Option, Some, None, refl, sym, ap, ◌∙◌, arith}
 use Rattle.std.proofs.lemmas.Bool.{false≢true}
 use Rattle.std.proofs.lemmas.Bool.Decides.{nat_tests}
@@ -121,7 +122,8 @@ user_by c thing test k (Some r) keyed is named passes =
     let own : key_of r ≡ k = keyed_own c keyed k r is in
     record { user = r; there = ap (get c) own ∙ is; named = named; passes = ap test own ∙ passes }
 
--- where the key of some user passes a test, there is a record that names the thing and whose key does
+-- where the key of some user passes a test, there is a record that names the thing and whose key
+-- does
 pub user_found : (c : Configuration) (t : Stored Naming (Unit {0})) (thing : Named) (ks : List Key) (test : Key → Bool) → IsKeyed c → IsIndexOf c t → AreUsersOf t thing ks
     → list_any test ks ≡ true → IsUser c thing test
 user_found c t thing ks test keyed of users any =

@@ -39,7 +39,8 @@ own_keys (r ∷ rs) = (refl, own_keys rs)
 pub own_entries : (c : Configuration) → IsKeyed c → AreOwn (entries c)
 own_entries c keyed = subst AreOwn (sym keyed) (own_keys (records_of c))
 
--- what a walk that looks for the first record that is so has left: entries in order, of which the first is that of all records
+-- what a walk that looks for the first record that is so has left: entries in order, of which the
+-- first is that of all records
 pub record IsLeft (is_so : Rec → Bool) (records : List Rec) (es : List (Key × Rec)) : Type 0 where
   pub own : AreOwn es
   pub up : T (is_sorted key_cmp es)

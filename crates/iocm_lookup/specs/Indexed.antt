@@ -16,6 +16,7 @@ abbrev pub names : Named → Option Rec → Bool
 names thing None = false
 names thing (Some r) = list_any (eq_by_cmp named_cmp thing) (named_by r)
 
--- a naming is in the index exactly where the record of its user is in the configuration and names its thing
+-- a naming is in the index exactly where the record of its user is in the configuration and names
+-- its thing
 abbrev pub IsIndexOf : Configuration → Stored Naming (Unit {0}) → Type 0
 IsIndexOf c t = (n : Naming) → is_linked t n ≡ names n.named (lookup_of c n.user)

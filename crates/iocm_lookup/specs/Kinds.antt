@@ -30,7 +30,8 @@ place_of kind.Online = 7
 abbrev pub IsBeforeKind : Key → ℕ → Type 0
 IsBeforeKind first place = (k : Key) → kind_of k ≡ place → is_le (key_cmp first k) ≡ true
 
--- the numbers of a key are those of a machine: it has four subchannel sets, and device numbers have 16 bits
+-- the numbers of a key are those of a machine: it has four subchannel sets, and device numbers have
+-- 16 bits
 abbrev pub IsInMachine : Key → Type 0
 IsInMachine (key.Device set number) = (set < 4) × (number < 65536)
 IsInMachine _ = Unit {0}

@@ -71,7 +71,8 @@ impl<A: Allocator> Wanted<A> for Named {
     }
 }
 
-/// Whether a name is that of an image of a channel subsystem. The time is that of a walk over the images, 90 at the most.
+/// Whether a name is that of an image of a channel subsystem. The time is that of a walk over the
+/// images, 90 at the most.
 pub fn is_image_in<A: Allocator>(config: &Config<A>, css: Css, name: Name) -> bool
     ensures { result ≡ model.is_image_in config.now.records css name }
 {

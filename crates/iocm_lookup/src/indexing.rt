@@ -5,8 +5,9 @@ use iocm_config::Config;
 use iocm_index::{Index, list_namings};
 use std::alloc::{AllocError, Allocator};
 
-/// The index of a configuration: who names whom in it. All namings are listed first and the index is built of them at once, in
-/// the time of sorting them, or in proportion to their number where they stand in order already.
+/// The index of a configuration: who names whom in it. All namings are listed first and the index
+/// is built of them at once, in the time of sorting them, or in proportion to their number where
+/// they stand in order already.
 ///
 /// `AllocError` (M1): memory was wanted.
 pub fn index_of<A: Allocator, B: Allocator + Clone>(

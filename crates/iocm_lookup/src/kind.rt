@@ -20,7 +20,8 @@ pub enum Kind {
 }
 
 impl Kind {
-    /// A key that none of this kind stands before, and none of an earlier kind behind that a machine can have.
+    /// A key that none of this kind stands before, and none of an earlier kind behind that a
+    /// machine can have.
     pub(crate) fn first(self) -> Key
         ensures first { IsBeforeKind result (kinds.place_of self) }
         ensures near { IsBehindEarlier result (kinds.place_of self) }

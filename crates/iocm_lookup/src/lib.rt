@@ -1,12 +1,13 @@
 //! How a question to a configuration is asked: by key, by kind, and by who names whom.
 //!
-//! By key `Config::get` answers. By kind `first_wanted` does, the key of the first record that is `Wanted`: it walks over
-//! the records of one kind alone, which stand side by side in the order of keys. Who names a thing an `Index` answers;
-//! `index_of` builds that of a configuration.
+//! By key `Config::get` answers. By kind `first_wanted` does, the key of the first record that is
+//! `Wanted`: it walks over the records of one kind alone, which stand side by side in the order of
+//! keys. Who names a thing an `Index` answers; `index_of` builds that of a configuration.
 //!
-//! What the layer above may rely on: what `first_wanted` answers is the first of all records, since a `Wanted` says of
-//! which kind those are that it looks for; and a naming is in the index exactly where the record of its user is in the
-//! configuration and names its thing (`IsIndexOf`). `is_image` and `is_image_in` look for an image of a name.
+//! What the layer above may rely on: what `first_wanted` answers is the first of all records, since
+//! a `Wanted` says of which kind those are that it looks for; and a naming is in the index exactly
+//! where the record of its user is in the configuration and names its thing (`IsIndexOf`).
+//! `is_image` and `is_image_in` look for an image of a name.
 //!
 //! Begin with `wanted.rt`, then `specs/Indexed.antt`.
 #![tactic(auto)]

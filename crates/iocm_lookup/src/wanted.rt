@@ -32,8 +32,8 @@ pub trait Wanted<A: Allocator> {
         requires { fits self.now config.now.records }
         ensures { result ≡ wants self.now config.now.records entry.now };
 
-    /// Whether a record is known to be looked for exactly where another is, without a look into the configuration. Where it is
-    /// not known the answer is no.
+    /// Whether a record is known to be looked for exactly where another is, without a look into the
+    /// configuration. Where it is not known the answer is no.
     fn is_like(&self, entry: &Record<A>, other: &Record<A>) -> bool
         ensures { (c : Configuration) → result ≡ true → wants self.now c entry.now ≡ wants self.now c other.now }
     {
@@ -44,8 +44,8 @@ pub trait Wanted<A: Allocator> {
     ghost of_kind: { (s : Self) (c : Configuration) (r : Rec) → wants s c r ≡ true → kinds.kind_of (key_of r) ≡ place };
 }
 
-/// The key of the first record that is looked for, if there is one. The time is that of a walk over the records of its kind; one
-/// that is known to be like the one before it isn't looked at again.
+/// The key of the first record that is looked for, if there is one. The time is that of a walk over
+/// the records of its kind; one that is known to be like the one before it isn't looked at again.
 pub fn first_wanted<A: Allocator, W: Wanted<A>>(config: &Config<A>, wanted: &W) -> Option<Key>
     requires { W.fits wanted.now config.now.records }
     ensures { result ≡ option_map key_of (first_record (W.wants wanted.now config.now.records) (records_of config.now.records)) }

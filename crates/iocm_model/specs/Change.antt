@@ -1,4 +1,5 @@
--- Change: edits and runs of edits, what they do and when they are refused, their inverses and effects, and change trees.
+-- Change: edits and runs of edits, what they do and when they are refused, their inverses and
+-- effects, and change trees.
 pub mod Edit
 pub mod Effect
 pub mod Inverse

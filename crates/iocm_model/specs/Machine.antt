@@ -1,4 +1,5 @@
--- The machine as a configuration makes it: records, path lists, sight, masks, subchannel numbers, views and their table.
+-- The machine as a configuration makes it: records, path lists, sight, masks, subchannel numbers,
+-- views and their table.
 pub mod Configuration
 pub mod Mask
 pub mod Naming

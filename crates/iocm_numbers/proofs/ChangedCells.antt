@@ -1,4 +1,5 @@
--- The number cells that a change of the configuration changed are those of the rows that it freed and gave.
+-- The number cells that a change of the configuration changed are those of the rows that it freed
+-- and gave.
 use Rattle.std.proofs.Common.{◌≡◌, ℕ, Bool, true, false, cond, not, ◌||◌, nat_eq, eq-eqb, eqb-true, List, [], ◌∷◌, ◌++◌, map, Option, Some, None, is_some, T, refl, sym, ap, ◌∙◌}
 use Rattle.std.specs.List.{filter, fold, list_any, AllByRecursion}
 use Rattle.std.specs.Option.{option_eq}
@@ -118,7 +119,8 @@ module _ (n m : Numbering) (agree : Agree n m) (apart : IsApart n) (other : IsAp
 same_itself : (x : ℕ) → nat_eq x x ≡ true
 same_itself x = eq-eqb x x refl
 
--- a cell of rows that were freed, of rows that were given or of neither, by what it has before and after
+-- a cell of rows that were freed, of rows that were given or of neither, by what it has before and
+-- after
 changed_by : (freed given : Bool) (x y : Option ℕ) → (freed ≡ true → option_eq nat_eq x y ≡ false) → (given ≡ true → option_eq nat_eq y x ≡ false)
     → (freed ≡ false → (d : ℕ) → x ≡ Some d → y ≡ Some d) → (given ≡ false → (d : ℕ) → y ≡ Some d → x ≡ Some d)
     → cond freed (Some x) (cond given (Some None) None) ≡ cond (not (option_eq nat_eq x y)) (Some x) None

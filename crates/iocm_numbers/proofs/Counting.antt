@@ -96,7 +96,8 @@ module _ (n : Numbering) (css set : ℕ) where
   as_many [] = refl
   as_many (e ∷ es) = ap suc (as_many es)
 
-  -- where a device has no number, fewer than 65,536 are given away: there are no more device numbers
+  -- where a device has no number, fewer than 65,536 are given away: there are no more device
+  -- numbers
   pub room_for_one : (p : Place) → p.css ≡ css → p.set ≡ set → get n p ≡ None → p.device < 65536
       → ((q : Place) (k : ℕ) → get n q ≡ Some k → q.device < 65536) → length (numbers_in n css set) < 65536
   unfolding IsDistinct

@@ -1,4 +1,5 @@
--- The rows of numbers at opening are those of the devices that are reached; no two of them have one place, and no two devices of a set one number.
+-- The rows of numbers at opening are those of the devices that are reached; no two of them have one
+-- place, and no two devices of a set one number.
 use Rattle.std.proofs.Common.{◌≡◌, ℕ, suc, zero, ◌+◌, ◌<◌, ◌≤◌, Bool, true, false, cond, ◌&&◌, ◌||◌, nat_eq, List, [], ◌∷◌, ◌++◌, map, Some, slice_index_or, refl, sym, ap, subst, ◌∙◌, arith, eq-eqb}
 use Rattle.std.proofs.lemmas.Bool.{or_right}
 use Rattle.std.specs.List.{filter, flat_map, list_any, IsDistinct, AllByRecursion}

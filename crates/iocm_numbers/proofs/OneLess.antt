@@ -10,7 +10,8 @@ use Rattle.iocm_types.proofs.Found.{same_key, ties_itself}
 use Rattle.iocm_model.specs.Machine.Numbering.{Numbering, cells_of}
 use Rattle.iocm_model.proofs.Numbers.Cells.{IsApart, cell, place, has_number, has_cell, has_device}
 
--- two answers of which each value of the one is the other's are equal, if the one is there whenever the other is
+-- two answers of which each value of the one is the other's are equal, if the one is there whenever
+-- the other is
 pub same_answer : (a b : Option ℕ) → ((k : ℕ) → a ≡ Some k → b ≡ Some k) → ((k : ℕ) → b ≡ Some k → is_some a ≡ true) → a ≡ b
 same_answer (Some x) b there here = sym (there x refl)
 same_answer None None there here = refl

@@ -1,4 +1,5 @@
--- The loops of renumbering: what is left to do gives what all would give, only those that come in change, and what had room has it still.
+-- The loops of renumbering: what is left to do gives what all would give, only those that come in
+-- change, and what had room has it still.
 use Rattle.std.proofs.Common.{◌≡◌, ℕ, ◌+◌, ◌<◌, ◌≤◌, Bool, true, false, cond, not, ◌&&◌, List, ◌∷◌, length, get_or, drop, Option, Some, None, is_some, refl, sym, ap, subst, ◌∙◌}
 use Rattle.std.proofs.Math.ListN.{drop_of_length-le}
 use Rattle.std.proofs.lemmas.Bool.{or_parts}

@@ -1,4 +1,5 @@
--- Numbers that are exchanged: those of some rows are taken back, and others are given. What leads from one numbering to another and back.
+-- Numbers that are exchanged: those of some rows are taken back, and others are given. What leads
+-- from one numbering to another and back.
 use Rattle.std.specs.Prelude.{◌≡◌, ℕ, List, Some, map, fold}
 use Rattle.std.specs.FinMap.{get, remove}
 use Rattle.iocm_types.specs.declared.place.Place.{Place}

@@ -1,4 +1,5 @@
--- The number cells at some places, at which subchannels are looked at before and after a change of the configuration.
+-- The number cells at some places, at which subchannels are looked at before and after a change of
+-- the configuration.
 use Rattle.std.specs.Prelude.{◌≡◌, ℕ, true, List, Some}
 use Rattle.std.specs.List.{filter_map, list_any}
 use Rattle.std.specs.Option.{option_map}

@@ -1,4 +1,5 @@
--- What a change of the configuration did to the numbers: which number cells have another device now, and which had and have them.
+-- What a change of the configuration did to the numbers: which number cells have another device
+-- now, and which had and have them.
 use Rattle.std.specs.Prelude.{◌≡◌, ◌==◌, ℕ, List, Option, Some, None, map}
 use Rattle.std.specs.FinMap.{FinMap, insert}
 use Rattle.iocm_types.specs.declared.place.Place.{Place}
@@ -19,7 +20,8 @@ change_of n m cell = record { cell = cell; before = device_at n cell; after = de
 abbrev pub changes_between : Numbering → Numbering → List NumberChange
 changes_between n m = map (change_of n m) (differing ◌==◌ (cells_of n) (cells_of m))
 
--- numbers as they were before a change that freed the numbers of these rows and gave those: no number came twice, and those that stay kept theirs
+-- numbers as they were before a change that freed the numbers of these rows and gave those: no
+-- number came twice, and those that stay kept theirs
 pub record WereBefore (n m : Numbering) (freed given : List (Place × ℕ)) : Type 0 where
   pub agree : Agree n m
   pub apart : HasNoNumberTwice n

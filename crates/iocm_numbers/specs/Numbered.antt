@@ -8,8 +8,8 @@ use Rattle.iocm_types.specs.declared.place.NumberCell.{NumberCell}
 use Rattle.iocm_types.specs.Place.{place_cmp, cell_cmp}
 use Rattle.iocm_model.specs.Machine.Numbering.{Numbering}
 
--- the numbers that devices have, and what has room: the places that can be given a number, and the number cells that can be given away,
--- without memory
+-- the numbers that devices have, and what has room: the places that can be given a number, and the
+-- number cells that can be given away, without memory
 pub record Numbered : Type 0 where
   pub numbers : Numbering
   pub place_room : List Place

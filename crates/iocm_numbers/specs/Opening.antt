@@ -1,4 +1,5 @@
--- The numbers at opening, as they are given out: the devices, with the channel subsystems that reach them, and the rows of numbers.
+-- The numbers at opening, as they are given out: the devices, with the channel subsystems that
+-- reach them, and the rows of numbers.
 use Rattle.std.specs.Prelude.{ℕ, ◌+◌, ◌≤◌, ◌==◌, ◌&&◌, Bool, false, List, [], ◌∷◌, map, filter, not, slice_index_or}
 use Rattle.std.specs.List.{flat_map}
 use Rattle.iocm_types.specs.declared.place.Place.{Place}

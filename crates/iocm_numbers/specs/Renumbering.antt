@@ -23,7 +23,8 @@ abbrev pub Rise : List Place → Type 0
 Rise [] = Unit {0}
 Rise (p ∷ ps) = ((q : Place) → list_any (eq_by_cmp place_cmp q) ps ≡ true → place_cmp p q ≡ Less) × Rise ps
 
--- all places whose devices may come in or leave are among these: elsewhere exactly those that are reached have a number
+-- all places whose devices may come in or leave are among these: elsewhere exactly those that are
+-- reached have a number
 abbrev pub AreAllTouched : Configuration → Numbering → List Place → Type 0
 AreAllTouched c n ps = (p : Place) → list_any (eq_by_cmp place_cmp p) ps ≡ false → contains_key n p ≡ is_reached_at c p
 

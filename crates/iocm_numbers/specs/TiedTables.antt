@@ -1,4 +1,5 @@
--- The tables in which the numbers stand in memory: by place, by number cell, and a bit for each number that is given away.
+-- The tables in which the numbers stand in memory: by place, by number cell, and a bit for each
+-- number that is given away.
 use Rattle.std.specs.Prelude.{◌≡◌, ℕ, ◌+◌, ◌*◌, ◌<◌, ◌||◌, List, length, map, is_some}
 use Rattle.std.specs.FinMap.{find, contains_key}
 use Rattle.iocm_types.specs.declared.place.Place.{Place}
@@ -27,8 +28,8 @@ AreNotedToo rows old new = (css set number : ℕ) → css < 6 → set < 4 → nu
 abbrev pub all_words : ℕ
 all_words = 24576
 
--- the three tables of the numbers say the same: the places with their numbers, the number cells with their devices, and the bits of the numbers
--- that are given away
+-- the three tables of the numbers say the same: the places with their numbers, the number cells
+-- with their devices, and the bits of the numbers that are given away
 pub record AreTied (places : Stored Place ℕ) (cells : Stored NumberCell ℕ) (words : List ℕ) : Type 0 where
   pub same : rows cell_cmp cells ≡ cells_of (rows place_cmp places)
   pub apart : HasNoNumberTwice (rows place_cmp places)

@@ -15,8 +15,9 @@ use iocm_types::{DevNo, NumberCell, Place};
 use std::alloc::{AllocError, Allocator};
 
 impl<A: Allocator + Copy> Numbers<A> {
-    /// The numbers of these rows, each a place with its number: no place comes twice, and no number in a channel subsystem and set. The time
-    /// is in proportion to the number of rows where they stand in the order of places and of number cells, and else to that of sorting them.
+    /// The numbers of these rows, each a place with its number: no place comes twice, and no number
+    /// in a channel subsystem and set. The time is in proportion to the number of rows where they
+    /// stand in the order of places and of number cells, and else to that of sorting them.
     ///
     /// `AllocError` (M1): memory was wanted.
     pub fn from_rows<B: Allocator>(alloc: A, rows: Vec<(Place, u16), B>) -> Result<Self, AllocError>

@@ -12,9 +12,10 @@ use iocm_types::{DevNo, NumberCell, Place};
 use std::alloc::{AllocError, Allocator};
 
 impl<A: Allocator> Numbers<A> {
-    /// The number cells that a change of the configuration changed, by channel subsystem, set and number, each with the device that had
-    /// it and the one that has it now. The numbers are those after the change; the rows are those that it freed and gave. A number that
-    /// was freed and given to another device is one change. The time is that of some look-ups for each row.
+    /// The number cells that a change of the configuration changed, by channel subsystem, set and
+    /// number, each with the device that had it and the one that has it now. The numbers are those
+    /// after the change; the rows are those that it freed and gave. A number that was freed and
+    /// given to another device is one change. The time is that of some look-ups for each row.
     ///
     /// `AllocError` (M1): memory was wanted.
     pub fn list_changes<B: Allocator + Copy>(

@@ -10,8 +10,8 @@ use iocm_config::Config;
 use iocm_types::{Css, Place, SetNo};
 use std::alloc::{AllocError, Allocator};
 
-/// The numbers at opening: in each channel subsystem and subchannel set 0, 1, 2, .. for the devices that are reached there, in the order
-/// of device numbers.
+/// The numbers at opening: in each channel subsystem and subchannel set 0, 1, 2, .. for the devices
+/// that are reached there, in the order of device numbers.
 ///
 /// `AllocError` (M1): memory was wanted.
 pub fn opening<A: Allocator, B: Allocator + Copy>(
@@ -26,7 +26,8 @@ pub fn opening<A: Allocator, B: Allocator + Copy>(
     Numbers::from_rows(alloc, rows)
 }
 
-/// The numbers at opening as a list: each place with its number, by channel subsystem, set and device number.
+/// The numbers at opening as a list: each place with its number, by channel subsystem, set and
+/// device number.
 ///
 /// `AllocError` (M1): memory was wanted.
 pub fn opening_rows<A: Allocator, B: Allocator + Copy>(
@@ -35,7 +36,8 @@ pub fn opening_rows<A: Allocator, B: Allocator + Copy>(
 ) -> Result<Vec<(Place, u16), B>, AllocError>
     ensures { IfOk result (λ rows. rows.items ≡ rows_at_opening config.now.records) }
 {
-    // For the proof alone: each record stands under its own key, so device numbers rise in each set.
+    // For the proof alone: each record stands under its own key, so device numbers rise in each
+    // set.
     config.has_own_keys();
     let devices = gather_devices(alloc, config)?;
     let mut rows = Vec::new(alloc);
@@ -66,7 +68,8 @@ fn number_subsystem<B: Allocator>(
     Ok(())
 }
 
-/// Puts the rows of one set of a channel subsystem behind those that are there: 0, 1, 2, .. for its devices that are reached.
+/// Puts the rows of one set of a channel subsystem behind those that are there: 0, 1, 2, .. for its
+/// devices that are reached.
 fn number_set<B: Allocator>(
     rows: &mut Vec<(Place, u16), B>,
     devices: &[DeviceReach],
@@ -79,7 +82,8 @@ fn number_set<B: Allocator>(
     let mut next = 0u32;
     for device in devices {
         if is_numbered(device, css, set) {
-            // For the proof alone: the next number is no higher than the device's, which has 16 bits, so it fits.
+            // For the proof alone: the next number is no higher than the device's, which has 16
+            // bits, so it fits.
             let _highest = device.number.number();
             let place = Place {
                 css,

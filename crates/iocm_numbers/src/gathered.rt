@@ -18,8 +18,8 @@ struct UnitsReach<'a> {
     reached: [bool; 6],
 }
 
-/// All devices, by set and number, with the channel subsystems that reach them. Units are looked up where they differ from
-/// those of the device before.
+/// All devices, by set and number, with the channel subsystems that reach them. Units are looked up
+/// where they differ from those of the device before.
 pub fn gather_devices<A: Allocator, B: Allocator>(
     alloc: B,
     config: &Config<A>,
@@ -57,7 +57,8 @@ fn device_fields<A: Allocator>(entry: &Record<A>) -> Option<&DeviceFields<A>>
     }
 }
 
-/// For each channel subsystem, whether it reaches devices on these units, where it is known of the last ones.
+/// For each channel subsystem, whether it reaches devices on these units, where it is known of the
+/// last ones.
 fn reached_by<A: Allocator>(config: &Config<A>, last: &UnitsReach, units: &[UnitNo]) -> [bool; 6]
     requires { last.now.reached ≡ reach_by (lookup_of config.now.records) last.now.units.now }
     ensures { result ≡ reach_by (lookup_of config.now.records) units.now }

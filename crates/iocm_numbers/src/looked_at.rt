@@ -12,8 +12,9 @@ use iocm_types::{NumberCell, Place};
 use std::alloc::{AllocError, Allocator};
 
 impl<A: Allocator> Numbers<A> {
-    /// Puts the number cells of the numbers at these places behind those that are listed, in the order of the places. A place whose
-    /// device has no number has none. So the cells are listed at which subchannels may change, before and after a change.
+    /// Puts the number cells of the numbers at these places behind those that are listed, in the
+    /// order of the places. A place whose device has no number has none. So the cells are listed at
+    /// which subchannels may change, before and after a change.
     ///
     /// `AllocError` (M1): memory was wanted.
     pub fn list_cells<B: Allocator>(

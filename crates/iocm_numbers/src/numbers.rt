@@ -13,11 +13,12 @@ use iocm_types::{Css, DevNo, NumberCell, Place, SetNo};
 use std::alloc::{AllocError, Allocator, Global};
 use std::marker::Model;
 
-/// The words in which the numbers that are given away are noted: 65,536 bits for each channel subsystem and set.
+/// The words in which the numbers that are given away are noted: 65,536 bits for each channel
+/// subsystem and set.
 pub const ALL_WORDS: usize = 24576;
 
-/// The subchannel numbers of devices, and the devices of numbers. Contracts see the finite map from places to
-/// numbers, and what can be placed without memory.
+/// The subchannel numbers of devices, and the devices of numbers. Contracts see the finite map from
+/// places to numbers, and what can be placed without memory.
 #[derive(Drop)]
 pub struct Numbers<A: Allocator = Global> {
     pub(crate) places: Table<Place, u16, A>,
@@ -87,8 +88,9 @@ impl<A: Allocator> Numbers<A> {
         self.cells.walk()
     }
 
-    /// The lowest number that no device has in a channel subsystem and set, if one of the 65,536 is free. The time is that
-    /// of looking at a bit for each lower number, 64 at a time: at 1,024 words at the most, however many devices there are.
+    /// The lowest number that no device has in a channel subsystem and set, if one of the 65,536 is
+    /// free. The time is that of looking at a bit for each lower number, 64 at a time: at 1,024
+    /// words at the most, however many devices there are.
     pub fn lowest_free(&self, css: Css, set: SetNo) -> Option<u16>
         ensures some { IfSome result (λ number. number ≡ renumbering.lowest_free self.now.numbers css set) }
         ensures none { IsNone result → 65536 ≤ renumbering.lowest_free self.now.numbers css set }
@@ -98,7 +100,8 @@ impl<A: Allocator> Numbers<A> {
         lowest_clear(self.words.as_slice(), first)
     }
 
-    /// No number comes twice in a channel subsystem and set, and device numbers have 16 bits: facts for callers' proofs, with nothing to run.
+    /// No number comes twice in a channel subsystem and set, and device numbers have 16 bits: facts
+    /// for callers' proofs, with nothing to run.
     pub fn are_apart(&self)
         ensures apart { HasNoNumberTwice self.now.numbers }
         ensures small { HasSmallDevices self.now.numbers }
@@ -115,7 +118,8 @@ impl<A: Allocator> Numbers<A> {
         self.cells.has_places();
     }
 
-    /// Makes room for a number at a place. What had room has it still, nothing else gets room, and no number changes.
+    /// Makes room for a number at a place. What had room has it still, nothing else gets room, and
+    /// no number changes.
     ///
     /// `AllocError` (M1): memory was wanted, which can't be where there is room already.
     pub fn room(&mut self, place: Place, number: u16) -> Result<(), AllocError>
@@ -133,8 +137,8 @@ impl<A: Allocator> Numbers<A> {
         self.cells.room(cell)
     }
 
-    /// Gives a device at a place a number. Can't answer want of memory: there is room for it. The place has no number, and no device has the
-    /// number in its channel subsystem and set.
+    /// Gives a device at a place a number. Can't answer want of memory: there is room for it. The
+    /// place has no number, and no device has the number in its channel subsystem and set.
     pub fn place(&mut self, place: Place, number: u16)
         requires room { HasRoom self.old place number }
         requires unnumbered { map.get self.old.numbers place ≡ None }
@@ -150,7 +154,8 @@ impl<A: Allocator> Numbers<A> {
         set_bit(&mut self.words, bit_of(cell));
     }
 
-    /// Takes the number of a device at a place back, if it has one. Can't answer want of memory, and the room for it stays.
+    /// Takes the number of a device at a place back, if it has one. Can't answer want of memory,
+    /// and the room for it stays.
     pub fn free(&mut self, place: Place) -> Option<u16>
         ensures before { result ≡ map.get self.old.numbers place }
         ensures numbers { self.new.numbers ≡ map.remove self.old.numbers place }

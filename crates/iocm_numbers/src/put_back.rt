@@ -64,7 +64,8 @@ impl<A: Allocator> Numbers<A> {
         }
     }
 
-    /// Gives these numbers to their places, which have none. Can't answer want of memory: there is room for each.
+    /// Gives these numbers to their places, which have none. Can't answer want of memory: there is
+    /// room for each.
     pub(crate) fn place_all(&mut self, rows: &[(Place, u16)])
         requires room { HaveRoom self.old rows.now }
         requires fit { FitIn self.old.numbers rows.now }

@@ -8,8 +8,8 @@ use iocm_record::{Record, RecordBody};
 use iocm_types::{Css, CssPath, Key, Place, UnitNo};
 use std::alloc::Allocator;
 
-/// Whether a channel subsystem reaches devices on these units: one of them has a path there. One search for each unit, until
-/// one has a path.
+/// Whether a channel subsystem reaches devices on these units: one of them has a path there. One
+/// search for each unit, until one has a path.
 pub fn is_reached<A: Allocator>(config: &Config<A>, css: Css, units: &[UnitNo]) -> bool
     ensures { result ≡ not (is_empty (path_list (lookup_of config.now.records) css units.now)) }
 {
@@ -21,12 +21,13 @@ pub fn is_reached<A: Allocator>(config: &Config<A>, css: Css, units: &[UnitNo]) 
     false
 }
 
-/// Whether a place is that of a device that is there and reached. One search for the device, and one for each of its units
-/// until one has a path.
+/// Whether a place is that of a device that is there and reached. One search for the device, and
+/// one for each of its units until one has a path.
 pub fn is_place_reached<A: Allocator>(config: &Config<A>, place: Place) -> bool
     ensures { result ≡ is_reached_at config.now.records place }
 {
-    // For the proof alone: each record stands under its own key, and the place's numbers are in their ranges.
+    // For the proof alone: each record stands under its own key, and the place's numbers are in
+    // their ranges.
     config.has_own_keys();
     let _css = place.css.number();
     let _set = place.set.number();

@@ -15,12 +15,15 @@ use iocm_types::Place;
 use std::alloc::{AllocError, Allocator};
 
 impl<A: Allocator> Numbers<A> {
-    /// Numbers the devices of a configuration that has changed, in three steps: those that leave lose their numbers; those that come in and have
-    /// one carried along get it; the rest of those that come in get the lowest free ones, in order of device number. All places that
-    /// the change may touch are given, rising, and no others are looked at. No carried number is held by a device that stays, or carried twice.
-    /// Gives the numbers that were freed, and those that were given.
+    /// Numbers the devices of a configuration that has changed, in three steps: those that leave
+    /// lose their numbers; those that come in and have one carried along get it; the rest of those
+    /// that come in get the lowest free ones, in order of device number. All places that the change
+    /// may touch are given, rising, and no others are looked at. No carried number is held by a
+    /// device that stays, or carried twice. Gives the numbers that were freed, and those that were
+    /// given.
     ///
-    /// `AllocError` (M1): memory was wanted. The numbers are as before then; room that was made stays.
+    /// `AllocError` (M1): memory was wanted. The numbers are as before then; room that was made
+    /// stays.
     pub fn renumber<B: Allocator, C: Allocator + Copy>(
         &mut self,
         alloc: C,
@@ -163,7 +166,8 @@ impl<A: Allocator> Numbers<A> {
         Ok(())
     }
 
-    /// The third step: the rest of those that come in get the lowest free numbers, in the order of these places.
+    /// The third step: the rest of those that come in get the lowest free numbers, in the order of
+    /// these places.
     fn fill<B: Allocator>(
         &mut self,
         config: &Config<B>,
@@ -196,7 +200,8 @@ impl<A: Allocator> Numbers<A> {
         if !self.comes_in(config, place) {
             return Ok(());
         }
-        // For the proof alone: there are no more devices in a set than device numbers, so one number is free.
+        // For the proof alone: there are no more devices in a set than device numbers, so one
+        // number is free.
         self.are_apart();
         let _device = place.device.number();
         let Some(number) = self.lowest_free(place.css, place.set) else {

@@ -17,9 +17,10 @@ use iocm_types::{DevNo, NumberCell, Place};
 use std::alloc::{AllocError, Allocator};
 
 impl<A: Allocator> Numbers<A> {
-    /// Whether a carried number is taken (E4): of the devices that come in with a configuration one has a number that a device holds
-    /// that stays, or two have one number. A number that is carried for a device that doesn't come in, or that a device holds that
-    /// leaves, is not taken. The time is that of some look-ups for each carried number.
+    /// Whether a carried number is taken (E4): of the devices that come in with a configuration one
+    /// has a number that a device holds that stays, or two have one number. A number that is
+    /// carried for a device that doesn't come in, or that a device holds that leaves, is not taken.
+    /// The time is that of some look-ups for each carried number.
     ///
     /// `AllocError` (M1): memory was wanted, which can't be where no number is carried.
     pub fn is_taken<B: Allocator, C: Allocator + Clone>(
@@ -80,7 +81,8 @@ impl<A: Allocator> Numbers<A> {
         Ok(false)
     }
 
-    /// Notes the number of a row if its device comes in. Whether it does, and the number was noted before.
+    /// Notes the number of a row if its device comes in. Whether it does, and the number was noted
+    /// before.
     fn note<B: Allocator, C: Allocator + Clone>(
         &self,
         config: &Config<B>,

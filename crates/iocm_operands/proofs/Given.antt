@@ -1,4 +1,5 @@
--- What a reader gives is a value that its operand can have: paths, numbers, devices, units and ranges.
+-- What a reader gives is a value that its operand can have: paths, numbers, devices, units and
+-- ranges.
 use Rattle.std.proofs.Common.{◌≡◌, ◌≢◌, ℕ, ◌+◌, ◌<◌, ◌≤◌, ◌==◌, nat_le, Bool, true, false, cond, Option, Some, None, List, [], ◌∷◌, map, All, refl, ◌∙◌, subst, arith, leb-true}
 use Rattle.std.proofs.lemmas.Bool.{eqb-false}
 use Rattle.std.proofs.lemmas.List.Elements.{All-nil, All-cons}

@@ -1,4 +1,5 @@
--- What the reader of MAXDEV gives are limits: of ascending channel subsystems, and in each of ascending sets.
+-- What the reader of MAXDEV gives are limits: of ascending channel subsystems, and in each of
+-- ascending sets.
 use Rattle.std.proofs.Common.{◌≡◌, ◌≢◌, ℕ, zero, suc, ◌+◌, ◌<◌, ◌≤◌, ◌==◌, nat_lt, Bool, true, false, cond, Option, Some, None, List, [], ◌∷◌, ◌++◌, map, filter, length, unwrap_or, All, refl, sym, ap, ◌∙◌, subst, arith, append-nil, add-one, lt-ltb, ltb-true, eqb-true}
 use Rattle.std.proofs.lemmas.List.Elements.{All-nil, All-cons, All-head, All-tail, All-append}
 use Rattle.std.proofs.lemmas.Map.Keys.{IsStrictlyIncreasing-from_sorted}

@@ -1,4 +1,5 @@
--- What a reader gives is a value that its operand can have: sets of names, and lists by channel subsystem.
+-- What a reader gives is a value that its operand can have: sets of names, and lists by channel
+-- subsystem.
 use Rattle.std.proofs.Common.{◌≡◌, ℕ, ◌-◌, ◌<◌, ◌≤◌, ◌==◌, Bool, true, false, cond, Option, Some, None, List, [], ◌∷◌, ◌++◌, filter, take, length, All, codes, refl, sym, ap, ◌∙◌, subst, arith}
 use Rattle.std.proofs.lemmas.List.Elements.{All-nil, All-cons, All-head, All-tail, filter_map-append}
 use Rattle.std.specs.List.{list_any, filter_map, flat_map}

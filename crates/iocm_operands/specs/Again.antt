@@ -1,4 +1,5 @@
--- What is written of an operand is read again. Each law says so of every value that the operand can have.
+-- What is written of an operand is read again. Each law says so of every value that the operand can
+-- have.
 use Rattle.std.specs.Prelude.{◌≡◌, ◌≢◌, ℕ, ◌+◌, ◌<◌, ◌≤◌, Bool, true, Some, List, [], All, map, filter, ◌==◌}
 use Rattle.std.specs.List.Sorted.{IsStrictlyIncreasing}
 use Rattle.iocm_types.specs.declared.css_path.CssPath.{CssPath}
@@ -37,7 +38,8 @@ ReadsNumberAgain = (number : ℕ) → number ≤ 65534 → number_of (value (hex
 abbrev pub ReadsCuaddAgain : Type 0
 ReadsCuaddAgain = (address : ℕ) → address < 256 → cuadd_of (value (hex2 address)) ≡ Some address
 
--- UNITADD of IODEVICE: the address of the first of so many devices, up to FF; the last one's is not past FF
+-- UNITADD of IODEVICE: the address of the first of so many devices, up to FF; the last one's is not
+-- past FF
 abbrev pub ReadsFirstAddressAgain : Type 0
 ReadsFirstAddressAgain = (count first : ℕ) → first < 256 → first + count ≤ 256 → first_address count (value (hex2 first)) ≡ Some first
 

@@ -1,5 +1,5 @@
--- PARTITION of CHPID: the access and the candidate list of a path, in the group of its channel subsystem or without.
--- IOCP User's Guide, CHPID statement; the forms are own.
+-- PARTITION of CHPID: the access and the candidate list of a path, in the group of its channel
+-- subsystem or without. IOCP User's Guide, CHPID statement; the forms are own.
 use Rattle.std.specs.Prelude.{ℕ, ◌==◌, ◌-◌, ◌&&◌, ◌||◌, Bool, true, false, not, if◌then◌else◌, Option, None, Some, List, [], ◌∷◌, length, take, slice_get, codes}
 use Rattle.std.specs.List.{list_any}
 use Rattle.std.specs.Option.{option_map, option_map_or}

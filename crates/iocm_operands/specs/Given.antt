@@ -1,4 +1,5 @@
--- What a reader gives is a value that its operand can have: the conditions of the laws in Again hold of whatever is read.
+-- What a reader gives is a value that its operand can have: the conditions of the laws in Again
+-- hold of whatever is read.
 use Rattle.std.specs.Prelude.{◌≡◌, ◌≢◌, ℕ, ◌+◌, ◌<◌, ◌≤◌, Some, List, [], All}
 use Rattle.iocm_types.specs.declared.css_path.CssPath.{CssPath}
 use Rattle.iocm_types.specs.declared.link.CssLink.{CssLink}

@@ -209,9 +209,10 @@ fn with_rec(alloc: Global, items: &[Value]) -> Result<Partition, Unread>
     lists(alloc, true, front)
 }
 
-/// The lists of PARTITION of a path of this channel subsystem: names, which are the access list; or an access list, and a
-/// candidate list or none. Each is a list of names, a name, or `0` for no names, and the second may be `=` for the first.
-/// REC may stand last, and `CSS(n)` of the path's own channel subsystem first.
+/// The lists of PARTITION of a path of this channel subsystem: names, which are the access list; or
+/// an access list, and a candidate list or none. Each is a list of names, a name, or `0` for no
+/// names, and the second may be `=` for the first. REC may stand last, and `CSS(n)` of the path's
+/// own channel subsystem first.
 pub fn partition_of(alloc: Global, css: Css, value: Value) -> Result<Partition, Unread>
     ensures { Reads (λ p. p) result (meaning.partition_of css (seen value.entry)) }
 {

@@ -37,7 +37,8 @@ fn path_of_items(alloc: Global, items: &[Value]) -> Result<CssPath, Unread>
     }
 }
 
-/// The path of PATH of CHPID: `cc`, `(cc)` or `(CSS(n),cc)`, with one outer pair of parentheses more or without.
+/// The path of PATH of CHPID: `cc`, `(cc)` or `(CSS(n),cc)`, with one outer pair of parentheses
+/// more or without.
 pub fn path_of(alloc: Global, value: Value) -> Result<CssPath, Unread>
     ensures { Reads (λ p. p) result (meaning.path_of (seen value.entry)) }
 {

@@ -48,8 +48,9 @@ fn devices_listed(items: &[Value]) -> Option<Devices>
     }
 }
 
-/// The devices of ADDRESS: `(number,count)`, `(number)` or `number`. The number has one to four hexadecimal digits, the count is
-/// decimal, 1 to 4096, and 1 where it isn't there; none is past FFFF.
+/// The devices of ADDRESS: `(number,count)`, `(number)` or `number`. The number has one to four
+/// hexadecimal digits, the count is decimal, 1 to 4096, and 1 where it isn't there; none is past
+/// FFFF.
 pub fn devices_of(alloc: Global, value: Value) -> Result<Devices, Unread>
     ensures value { Reads (λ d. d) result (meaning.devices_of (seen value.entry)) }
     ensures within { IfOk result (λ d. (d.first + d.count ≤ 65536) × (d.count ≤ 4096)) }
@@ -83,7 +84,8 @@ pub fn units_of(alloc: Global, value: Value) -> Result<Vec<UnitNo>, Unread>
     read_units(alloc, &items)
 }
 
-/// The unit address of the first of `count` devices, one or two hexadecimal digits; the last address isn't past FF.
+/// The unit address of the first of `count` devices, one or two hexadecimal digits; the last
+/// address isn't past FF.
 pub fn first_address(count: u32, value: Value) -> Option<u32>
     requires { count ≤ 4096 }
     ensures value { result ≡ meaning.first_address count (seen value.entry) }
@@ -168,8 +170,8 @@ fn candidate_alone(alloc: Global, text: &[u8]) -> Result<List<Name>, Unread>
     Ok(List::from_vec(only))
 }
 
-/// The candidates of PARTITION, ascending with each once: a name, or names, lists of names and `CSS(n)` nested at will; `0` stands
-/// for the empty list wherever a list may stand.
+/// The candidates of PARTITION, ascending with each once: a name, or names, lists of names and
+/// `CSS(n)` nested at will; `0` stands for the empty list wherever a list may stand.
 pub fn candidates_of(alloc: Global, value: Value) -> Result<List<Name>, Unread>
     ensures { Reads (λ v. v) result (meaning.candidates_of (seen value.entry)) }
 {

@@ -1,4 +1,5 @@
-//! What holds of the definitions themselves. Each law is the contract of a function that does nothing.
+//! What holds of the definitions themselves. Each law is the contract of a function that does
+//! nothing.
 ghost use Rattle.std.specs.Prelude.{◌≡◌, true, false, [], ◌∷◌, codes};
 ghost use Rattle.iocm_types.specs.declared.link.Link.TheVariants as link;
 ghost use Rattle.iocm_operands.specs.Again.{ReadsPathAgain, ReadsNumberAgain, ReadsCuaddAgain, ReadsFirstAddressAgain, ReadsSetAgain, ReadsDevicesAgain, ReadsUnitsAgain, ReadsRangesAgain, ReadsCandidatesAgain, ReadsPartitionAgain, ReadsPathsAgain, ReadsLinksAgain, ReadsImagesAgain, ReadsLimitsAgain};
@@ -33,7 +34,8 @@ pub fn path_is_read_again()
     ensures { ReadsPathAgain }
 {}
 
-/// So are the operands that are one number: CUNUMBR and CUADD of CNTLUNIT, UNITADD and SCHSET of IODEVICE.
+/// So are the operands that are one number: CUNUMBR and CUADD of CNTLUNIT, UNITADD and SCHSET of
+/// IODEVICE.
 pub fn numbers_are_read_again()
     ensures number { ReadsNumberAgain }
     ensures cuadd { ReadsCuaddAgain }
@@ -86,7 +88,8 @@ pub fn limits_are_read_again()
     ensures { ReadsLimitsAgain }
 {}
 
-/// What a reader gives is a value that its operand can have, so what was read is written and read again.
+/// What a reader gives is a value that its operand can have, so what was read is written and read
+/// again.
 pub fn what_is_read_can_be_written()
     ensures path { GivesPath }
     ensures number { GivesNumber }

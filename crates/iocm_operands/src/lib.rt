@@ -1,10 +1,12 @@
 //! The operands of each statement: what a value is under its keyword.
 //!
-//! A file for each operand or statement: `resource.rt`, `limits.rt`, `chpid_path.rt`, `chpid_partition.rt`, `unit.rt` and
-//! `device.rt`. A reader takes the value of an operand and answers what it writes; where it has none of the operand's forms it is
-//! malformed. The forms of each stand in `specs/`, one line each, in the file of the same name.
+//! A file for each operand or statement: `resource.rt`, `limits.rt`, `chpid_path.rt`,
+//! `chpid_partition.rt`, `unit.rt` and `device.rt`. A reader takes the value of an operand and
+//! answers what it writes; where it has none of the operand's forms it is malformed. The forms of
+//! each stand in `specs/`, one line each, in the file of the same name.
 //!
-//! Begin with `specs/Unit.antt`, then `unit.rt`. Which operands a statement knows is said in `iocm_keywords`.
+//! Begin with `specs/Unit.antt`, then `unit.rt`. Which operands a statement knows is said in
+//! `iocm_keywords`.
 #![tactic(auto)]
 
 mod chpid_partition;

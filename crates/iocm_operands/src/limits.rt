@@ -12,7 +12,8 @@ use iocm_values::{CssItem, Value, by_css, decimal};
 use std::alloc::{AllocError, Global};
 use std::marker::Model;
 
-/// Below which number the subchannels of a set stay in a channel subsystem. Contracts see the model's record.
+/// Below which number the subchannels of a set stay in a channel subsystem. Contracts see the
+/// model's record.
 #[derive(Clone, Copy)]
 pub struct LimitEntry {
     /// The channel subsystem.
@@ -159,8 +160,8 @@ fn limits_of_all(
     Ok(found)
 }
 
-/// The limits of MAXDEV, a list by channel subsystem: decimal numbers for the subchannel sets 0 to 3 in their order, 0 to 65535,
-/// with empty or absent places for sets without one.
+/// The limits of MAXDEV, a list by channel subsystem: decimal numbers for the subchannel sets 0 to
+/// 3 in their order, 0 to 65535, with empty or absent places for sets without one.
 pub fn limits_of(alloc: Global, value: Value) -> Result<Vec<LimitEntry>, Unread>
     ensures { Reads (λ v. v.items) result (meaning.limits_of (seen value.entry)) }
 {

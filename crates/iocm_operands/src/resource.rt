@@ -135,8 +135,8 @@ fn images_at(alloc: Global, places: &[ImagePlace]) -> Result<Vec<ImageEntry>, Al
     Ok(images)
 }
 
-/// The images of PARTITION of RESOURCE, a list by channel subsystem of pairs `(NAME,digit)`, with channel subsystems ascending;
-/// `(*,digit)` stands for no image.
+/// The images of PARTITION of RESOURCE, a list by channel subsystem of pairs `(NAME,digit)`, with
+/// channel subsystems ascending; `(*,digit)` stands for no image.
 pub fn images_of(alloc: Global, value: Value) -> Result<Vec<ImageEntry>, Unread>
     ensures { Reads (λ v. v.items) result (meaning.images_of (seen value.entry)) }
 {

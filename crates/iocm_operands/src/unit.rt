@@ -159,7 +159,8 @@ impl CssItem for LinkItem {
     }
 }
 
-/// The links of LINK, a list by channel subsystem, with channel subsystems ascending: two or four digits, or `**` for none.
+/// The links of LINK, a list by channel subsystem, with channel subsystems ascending: two or four
+/// digits, or `**` for none.
 pub fn links_of(alloc: Global, value: Value) -> Result<Vec<CssLink>, Unread>
     ensures { Reads (λ v. v.items) result (meaning.links_of (seen value.entry)) }
 {
@@ -235,8 +236,9 @@ fn ranges_listed(alloc: Global, items: &[Value]) -> Result<Vec<UnitRange>, Unrea
     }
 }
 
-/// The ranges of UNITADD in their order: ranges `(start,count)`, `(start)` or `start`, or one range alone. The start has one or
-/// two hexadecimal digits, the count is decimal, 1 to 256, and 1 where it isn't there.
+/// The ranges of UNITADD in their order: ranges `(start,count)`, `(start)` or `start`, or one range
+/// alone. The start has one or two hexadecimal digits, the count is decimal, 1 to 256, and 1 where
+/// it isn't there.
 pub fn ranges_of(alloc: Global, value: Value) -> Result<Vec<UnitRange>, Unread>
     ensures { Reads (λ v. v.items) result (meaning.ranges_of (seen value.entry)) }
 {

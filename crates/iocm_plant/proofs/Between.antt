@@ -1,4 +1,5 @@
--- Between an edit and its way back: what leaves the configuration, the numbers and the places takes nothing from the edit that takes it back.
+-- Between an edit and its way back: what leaves the configuration, the numbers and the places takes
+-- nothing from the edit that takes it back.
 use Rattle.std.proofs.Common.{◌≡◌, List, [], ◌∷◌, Option, Some, None, refl, sym, ap, subst, ◌∙◌}
 use Rattle.std.specs.List.{AllByRecursion}
 use Rattle.iocm_types.specs.declared.naming.Naming.{Naming}

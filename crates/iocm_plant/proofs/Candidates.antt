@@ -1,4 +1,5 @@
--- Where neither a place nor an image that may be affected is looked at, the same is seen: so all that is seen differently is among the candidates.
+-- Where neither a place nor an image that may be affected is looked at, the same is seen: so all
+-- that is seen differently is among the candidates.
 use Rattle.std.proofs.Common.{◌≡◌, ℕ, ◌<◌, ◌==◌, Bool, true, false, cond, ◌||◌, List, [], ◌∷◌, map, Option, Some, None, is_some, eq-eqb, eqb-true, nat_eq, arith, ◌⊎◌, inl, inr, refl, sym, ap, subst, ◌∙◌}
 use Rattle.std.specs.List.{list_any, filter, flat_map, AllByRecursion}
 use Rattle.std.specs.Option.{option_and_then, option_eq}
@@ -162,7 +163,8 @@ some_there None h = cc
 some_there (Some a) h = (a, refl)
 
 module _ (c d : Configuration) (n m : Numbering) (numbered : AreNumbersOf c n) (renumbered : AreNumbersOf d m) (stay : Stay d n m) (x : SubId) where
-  -- at the places that have the subchannel's number, before or after, devices are reached and seen as before
+  -- at the places that have the subchannel's number, before or after, devices are reached and seen
+  -- as before
   pub IsSameThere : Type 0
   IsSameThere = (device : ℕ) → (get n (place_of x device) ≡ Some x.number) ⊎ (get m (place_of x device) ≡ Some x.number)
       → (is_reached_at c (place_of x device) ≡ is_reached_at d (place_of x device)) × (sight_at c x.image.mif (place_of x device) ≡ sight_at d x.image.mif (place_of x device))

@@ -1,4 +1,5 @@
--- What an edit does that is performed: the state is the one that the definition gives, and what is made of it takes it back.
+-- What an edit does that is performed: the state is the one that the definition gives, and what is
+-- made of it takes it back.
 use Rattle.std.proofs.Common.{◌≡◌, ℕ, Bool, true, false, cond, not, ◌&&◌, ◌||◌, List, [], ◌∷◌, ◌++◌, map, filter, Option, Some, None, is_some, T, refl, sym, ap, subst, ◌∙◌}
 use Rattle.std.specs.List.{cons_option, AllByRecursion}
 use Rattle.std.specs.List.Sorted.{IsStrictlySortedBy}

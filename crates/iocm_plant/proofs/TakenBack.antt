@@ -1,5 +1,5 @@
--- What an edit does that takes another one back: the configuration and the numbers are those from before that one, and of the seats those that
--- are altered are exchanged.
+-- What an edit does that takes another one back: the configuration and the numbers are those from
+-- before that one, and of the seats those that are altered are exchanged.
 use Rattle.std.proofs.Common.{◌≡◌, ℕ, Bool, true, false, cond, not, ◌&&◌, ◌||◌, List, [], ◌∷◌, map, Option, Some, None, is_some, T, refl, sym, ap, subst, ◌∙◌}
 use Rattle.std.proofs.lemmas.Bool.{or_right, and_parts}
 use Rattle.std.specs.List.{list_any, AllByRecursion}

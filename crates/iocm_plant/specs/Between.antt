@@ -1,4 +1,5 @@
--- What may happen between an edit and the edit that takes it back: whatever leaves the configuration, the numbers and the places as they are. Own.
+-- What may happen between an edit and the edit that takes it back: whatever leaves the
+-- configuration, the numbers and the places as they are. Own.
 use Rattle.std.specs.Prelude.{◌≡◌}
 use Rattle.iocm_types.specs.declared.sub_id.SubId.{SubId}
 use Rattle.iocm_model.specs.Operation.State.{IsSound, HasConfigAndNumbersOf}
@@ -10,7 +11,8 @@ use Rattle.iocm_tree.specs.Carried.{Carried}
 use Rattle.iocm_plant.specs.Operating.{Operating, KeepsRoom}
 use Rattle.iocm_plant.specs.TakingBack.{CanUnapply}
 
--- a machine stands as before: it has the configuration and the numbers from then, and no place was lost; its live records are its own
+-- a machine stands as before: it has the configuration and the numbers from then, and no place was
+-- lost; its live records are its own
 pub record StandsAsBefore (before now : Operating) : Type 0 where
   pub state : HasConfigAndNumbersOf now.state before.state
   pub room : KeepsRoom before.room now.room
@@ -30,8 +32,9 @@ StepsLeaveItStanding = (x : SubId) (step : Step) (p q : Operating) → IsSound p
 abbrev pub CanStillUnapply : Type 0
 CanStillUnapply = (i : Carried) (p q : Operating) → CanUnapply i p → StandsAsBefore p q → CanUnapply i q
 
--- an edit was performed, and later taken back, by its inverse with the live records that are kept or any others of the same subchannels: the
--- machine before it, after it, when it is taken back, and then
+-- an edit was performed, and later taken back, by its inverse with the live records that are kept
+-- or any others of the same subchannels: the machine before it, after it, when it is taken back,
+-- and then
 pub record WasTakenBack (e i : Edit) (before done standing undone : Operating) : Type 0 where
   pub sound : IsSound before.state
   pub performed : done.state ≡ state_after e before.state

@@ -20,8 +20,9 @@ use Rattle.iocm_seats.specs.Seated.{Seats, views_seated, lives_seated}
 use Rattle.iocm_plant.specs.declared.quiet.Quiet.{Quiet}
 use Rattle.iocm_plant.specs.Refusing.{refusal_by_number, refusal_by_quiet}
 
--- a configuration that was changed, from one in which these are the numbers and the seats: these places and images are all that may be affected, and
--- these number cells are those of the numbers at these places
+-- a configuration that was changed, from one in which these are the numbers and the seats: these
+-- places and images are all that may be affected, and these number cells are those of the numbers
+-- at these places
 pub record WasChanged (d : Configuration) (n : Numbering) (seats : Seats) (places : List Place) (seeing : List Image) (cells : List NumberCell) : Type 0 where
   pub before : Configuration
   pub keyed : IsKeyed before

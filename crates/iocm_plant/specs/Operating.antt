@@ -1,4 +1,5 @@
--- A machine in operation, as a value: its state, and what has a place in its tables and so can be put in without memory. Own.
+-- A machine in operation, as a value: its state, and what has a place in its tables and so can be
+-- put in without memory. Own.
 use Rattle.std.specs.Prelude.{◌≡◌, ℕ, T, List, Option, None, Some}
 use Rattle.std.specs.List.{list_any, AllByRecursion}
 use Rattle.std.specs.Ordering.{eq_by_cmp}
@@ -73,8 +74,8 @@ room_of c n index seats = record { keys = c.places; places = n.place_room; cells
 abbrev pub operating_of : config.Stored → Numbered → Stored Naming (Unit {0}) → Stored SubId Seat → Operating
 operating_of c n index seats = record { state = state_of c.records n.numbers (rows sub_id_cmp seats); room = room_of c n index seats }
 
--- what always holds of the tables: each record stands under its own key, the numbers are those of the configuration, the index tells who names
--- whom in it, and the seats show what is seen
+-- what always holds of the tables: each record stands under its own key, the numbers are those of
+-- the configuration, the index tells who names whom in it, and the seats show what is seen
 pub record IsOperating (c : Configuration) (n : Numbering) (index : Stored Naming (Unit {0})) (seats : Seats) : Type 0 where
   pub keyed : IsKeyed c
   pub numbered : AreNumbersOf c n

@@ -1,4 +1,5 @@
--- When an edit can be performed without memory: it takes another one back, and what it brings has a place. Own.
+-- When an edit can be performed without memory: it takes another one back, and what it brings has a
+-- place. Own.
 use Rattle.std.specs.Prelude.{◌≡◌, ◌&&◌, true, is_some}
 use Rattle.std.specs.List.{AllByRecursion}
 use Rattle.std.specs.FinMap.{contains_key}
@@ -14,8 +15,9 @@ use Rattle.iocm_model.specs.Laws.Runs.{HasSameKeys}
 use Rattle.iocm_tree.specs.Carried.{Carried}
 use Rattle.iocm_plant.specs.Operating.{Room, Operating, HasPlaceIn, HasNamingRoom, HasNumberRoom}
 
--- an edit that takes another one back, where the configuration and the numbers are those that this one left: it is its inverse, with its live records
--- or any others of the same subchannels; and it has room for the way back, for the numbers that it frees and for the subchannels that it alters
+-- an edit that takes another one back, where the configuration and the numbers are those that this
+-- one left: it is its inverse, with its live records or any others of the same subchannels; and it
+-- has room for the way back, for the numbers that it frees and for the subchannels that it alters
 -- and finds
 pub record TakesBack (i : Carried) (c : Configuration) (n : Numbering) : Type 0 where
   pub edit : Edit
@@ -29,7 +31,8 @@ pub record TakesBack (i : Carried) (c : Configuration) (n : Numbering) : Type 0 
   pub frees : i.frees ≡ freed_numbers n state.numbers
   pub meets : (x : SubId) → is_among x i.meets ≡ (is_altered state (state_after edit state) x && is_some (seen_in (state_after edit state) x))
 
--- what an edit brings has places: its key, its record's namings, its numbers, and the subchannels of its live records
+-- what an edit brings has places: its key, its record's namings, its numbers, and the subchannels
+-- of its live records
 pub record HasRoomFor (i : Carried) (room : Room) : Type 0 where
   pub key : HasPlaceIn key_cmp room.keys (action_key i.edit.action)
   pub namings : HasNamingRoom room.namings (record_after i.edit.action)

@@ -33,15 +33,16 @@ use iocm_table::Table;
 use iocm_types::{At, Key, Live, NumberCell, Place, Refused, Rule, SubId};
 use std::alloc::{AllocError, Global};
 
-/// Where a change of the configuration is looked for: at the places and images that it may affect, and the number cells of these
-/// places.
+/// Where a change of the configuration is looked for: at the places and images that it may affect,
+/// and the number cells of these places.
 #[derive(Drop)]
 pub struct LookedAt {
     pub affected: Affected<Global>,
     pub cells: Vec<NumberCell>,
 }
 
-/// What comes along with an edit beside its record, and whether the altered subchannels are wanted quiet.
+/// What comes along with an edit beside its record, and whether the altered subchannels are wanted
+/// quiet.
 #[derive(Drop)]
 pub struct Brought {
     pub key: Key,
@@ -69,8 +70,9 @@ pub struct Followed {
 
 /// Lets the numbers and the seats follow a change of the configuration, with what comes along.
 ///
-/// E4: a number that comes along is taken. B1, where altered subchannels are wanted quiet: the first that isn't. M1: memory was wanted. Then
-/// numbers and seats are as before, but some may have got places.
+/// E4: a number that comes along is taken. B1, where altered subchannels are wanted quiet: the
+/// first that isn't. M1: memory was wanted. Then numbers and seats are as before, but some may have
+/// got places.
 pub fn follow(
     alloc: Global,
     numbers: &mut Numbers,
@@ -180,8 +182,8 @@ fn follow_numbers(
     }
 }
 
-/// The subchannels at which another view is seen, with their live records, where the configuration and the numbers are those after a
-/// change.
+/// The subchannels at which another view is seen, with their live records, where the configuration
+/// and the numbers are those after a change.
 fn list_altered(
     alloc: Global,
     numbers: &Numbers,

@@ -40,9 +40,10 @@ use std::alloc::{AllocError, Global};
 impl Plant {
     /// Performs an edit, and gives the edit that takes it back with what it did.
     ///
-    /// Refused by the first that applies: E1 (add, the key is there), E2 (delete or modify, it isn't), E4 (a number that comes along is
-    /// taken), B1 (an altered subchannel isn't quiet; the least is named). M1, which may stand in place of any other: memory was wanted.
-    /// A refused edit leaves the state as it was.
+    /// Refused by the first that applies: E1 (add, the key is there), E2 (delete or modify, it
+    /// isn't), E4 (a number that comes along is taken), B1 (an altered subchannel isn't quiet; the
+    /// least is named). M1, which may stand in place of any other: memory was wanted. A refused
+    /// edit leaves the state as it was.
     pub fn apply(&mut self, alloc: Global, edit: Edit) -> Result<Applied, Refused>
         ensures accepted { OnOk result (refusal_of edit.edit self.old.state ≡ None) }
         ensures refused { IfErr result (IsDue (refusal_of edit.edit self.old.state)) }
@@ -60,7 +61,8 @@ impl Plant {
         }
     }
 
-    /// Performs an edit as `apply` does, also where altered subchannels are busy or status pending: it isn't refused by B1.
+    /// Performs an edit as `apply` does, also where altered subchannels are busy or status pending:
+    /// it isn't refused by B1.
     pub fn force(&mut self, alloc: Global, edit: Edit) -> Result<Applied, Refused>
         ensures accepted { OnOk result (refusal_when quiet.Whatever edit.edit self.old.state ≡ None) }
         ensures refused { IfErr result (IsDue (refusal_when quiet.Whatever edit.edit self.old.state)) }

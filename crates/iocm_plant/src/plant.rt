@@ -11,8 +11,9 @@ use iocm_table::Table;
 use iocm_types::{Live, SubId, View};
 use std::marker::Model;
 
-/// A machine in operation: its configuration, the subchannel numbers of its devices, and what each subchannel shows and remembers. Contracts
-/// see its state, and what has a place in its tables, so that it can be put in without memory.
+/// A machine in operation: its configuration, the subchannel numbers of its devices, and what each
+/// subchannel shows and remembers. Contracts see its state, and what has a place in its tables, so
+/// that it can be put in without memory.
 #[derive(Drop)]
 pub struct Plant {
     pub(crate) config: Config,
@@ -96,8 +97,9 @@ impl Plant {
         self.seats.len()
     }
 
-    /// The state is sound: each record stands under its own key, the numbers are those of the configuration, and exactly the subchannels that
-    /// are seen have a live record. It reads nothing, and is there for callers' proofs.
+    /// The state is sound: each record stands under its own key, the numbers are those of the
+    /// configuration, and exactly the subchannels that are seen have a live record. It reads
+    /// nothing, and is there for callers' proofs.
     pub fn is_sound(&self)
         ensures { IsSound self.now.state }
     {

@@ -14,8 +14,9 @@ use iocm_record::Record;
 use iocm_tree::Action;
 use iocm_types::Key;
 
-/// Performs an action on the configuration and on the index of who names whom, and gives the action that takes it back, with the
-/// record that was there. Can't answer want of memory: there are places for the key and for what the record names.
+/// Performs an action on the configuration and on the index of who names whom, and gives the action
+/// that takes it back, with the record that was there. Can't answer want of memory: there are
+/// places for the key and for what the record names.
 pub fn exchange_record(config: &mut Config, index: &mut Index, action: Action) -> Action
     requires index { IsIndexOf config.old.records index.old }
     requires key { HasPlaceIn key_cmp config.old.places (action_key (action_of action)) }
@@ -33,7 +34,8 @@ pub fn exchange_record(config: &mut Config, index: &mut Index, action: Action) -
     }
 }
 
-/// Puts a record in under its key, and gives the action that takes it out again or puts back the one that was there.
+/// Puts a record in under its key, and gives the action that takes it out again or puts back the
+/// one that was there.
 fn put_record(config: &mut Config, index: &mut Index, entry: Record) -> Action
     requires index { IsIndexOf config.old.records index.old }
     requires key { HasPlaceIn key_cmp config.old.places (key_of entry) }
@@ -82,7 +84,8 @@ fn unlink_record(config: &Config, index: &mut Index, key: &Key)
     }
 }
 
-/// Changes the record of a key back, by the action that changing it gave. Can't answer want of memory.
+/// Changes the record of a key back, by the action that changing it gave. Can't answer want of
+/// memory.
 pub fn change_back(config: &mut Config, index: &mut Index, back: Action)
     requires index { IsIndexOf config.old.records index.old }
     requires key { HasPlaceIn key_cmp config.old.places (action_key (action_of back)) }

@@ -30,11 +30,12 @@ pub struct Seated {
     pub meets: Vec<(SubId, Live)>,
 }
 
-/// Gives the subchannels of these changes the seats that they have afterwards, with the live records that come along. The changes are of what
-/// is seen at these seats, and come with the live records that they meet.
+/// Gives the subchannels of these changes the seats that they have afterwards, with the live
+/// records that come along. The changes are of what is seen at these seats, and come with the live
+/// records that they meet.
 ///
-/// B1, where altered subchannels are wanted quiet: the first that isn't. M1: memory was wanted. Then no seat has changed, but some
-/// subchannels may have got places.
+/// B1, where altered subchannels are wanted quiet: the first that isn't. M1: memory was wanted.
+/// Then no seat has changed, but some subchannels may have got places.
 pub fn seat(
     alloc: Global,
     seats: &mut Table<SubId, Seat>,
@@ -67,7 +68,8 @@ pub fn seat(
     })
 }
 
-/// The first subchannel of some changes that isn't quiet, where they are wanted quiet, by the live records that they meet.
+/// The first subchannel of some changes that isn't quiet, where they are wanted quiet, by the live
+/// records that they meet.
 fn first_in_the_way(met: &[(SubId, Live)], quiet: Quiet) -> Option<SubId>
     ensures { (lives : Lives) (changes : List changed.ViewChange) → met.now ≡ lives_met lives changes → result ≡ first_in_the_way quiet (refusal.first_not_quiet lives (map (λ ch. ch.subchannel) changes)) }
 {

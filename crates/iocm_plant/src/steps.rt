@@ -7,8 +7,8 @@ use iocm_live as live;
 use iocm_types::{Io, Order, SubId};
 
 impl Plant {
-    /// An order of an image on its subchannel: condition code 3 where the subchannel isn't there, else as its view and its live record
-    /// answer. Can't answer want of memory.
+    /// An order of an image on its subchannel: condition code 3 where the subchannel isn't there,
+    /// else as its view and its live record answer. Can't answer want of memory.
     pub fn step(&mut self, subchannel: SubId, order: Order) -> Io
         ensures answer { result ≡ order_answer order (subchannel_in self.old.state subchannel) }
         ensures state { self.new.state ≡ after_step subchannel (step.order order) self.old.state }
@@ -20,8 +20,9 @@ impl Plant {
         live::order(&mut seat.live, &seat.view.to_view(), order)
     }
 
-    /// The device of a subchannel begins what it was started for: a start that is pending becomes active. Else nothing changes, as where
-    /// the subchannel isn't there. The answer is whether it did. Can't answer want of memory.
+    /// The device of a subchannel begins what it was started for: a start that is pending becomes
+    /// active. Else nothing changes, as where the subchannel isn't there. The answer is whether it
+    /// did. Can't answer want of memory.
     pub fn begun(&mut self, subchannel: SubId) -> bool
         ensures answer { result ≡ begins_function (subchannel_in self.old.state subchannel) }
         ensures state { self.new.state ≡ after_step subchannel step.device_begin self.old.state }
@@ -33,8 +34,9 @@ impl Plant {
         live::device_begin(&mut seat.live)
     }
 
-    /// The device of a subchannel ends a function that is in progress: its status is pending then. Else nothing changes, as where the
-    /// subchannel isn't there. The answer is whether it did. Can't answer want of memory.
+    /// The device of a subchannel ends a function that is in progress: its status is pending then.
+    /// Else nothing changes, as where the subchannel isn't there. The answer is whether it did.
+    /// Can't answer want of memory.
     pub fn end(&mut self, subchannel: SubId) -> bool
         ensures answer { result ≡ ends_function (subchannel_in self.old.state subchannel) }
         ensures state { self.new.state ≡ after_step subchannel step.device_end self.old.state }

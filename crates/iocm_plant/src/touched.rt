@@ -5,9 +5,11 @@ use iocm_tree::Edit;
 /// What an edit did to numbers and subchannels. The word is own.
 #[derive(Drop)]
 pub struct Touched {
-    /// The number cells that changed, in their order, each with the device that had the number and the one that has it now.
+    /// The number cells that changed, in their order, each with the device that had the number and
+    /// the one that has it now.
     pub numbers: Vec<NumberChange>,
-    /// The subchannels that were altered, in their order, each with what was seen there and what is seen now.
+    /// The subchannels that were altered, in their order, each with what was seen there and what is
+    /// seen now.
     pub subchannels: Vec<ViewChange>,
 }
 

@@ -6,8 +6,8 @@ use iocm_types::Text;
 use std::alloc::{AllocError, Allocator, Global};
 use std::marker::Model;
 
-/// An operand that is carried along as it stands: its text, under a keyword or bare. What the product
-/// does not know of a statement is carried so, and written again.
+/// An operand that is carried along as it stands: its text, under a keyword or bare. What the
+/// product does not know of a statement is carried so, and written again.
 #[derive(Drop)]
 pub struct Carried<A: Allocator = Global> {
     keyword: Option<Text<A>>,

@@ -1,9 +1,11 @@
-//! A record of a configuration: an image, a limit, a channel path, a control unit, a device, what is online, and what ID and RESOURCE carry.
+//! A record of a configuration: an image, a limit, a channel path, a control unit, a device, what
+//! is online, and what ID and RESOURCE carry.
 //!
-//! A `Record` has one of eight kinds of fields inside; contracts see it as the model's plain record, whatever
-//! its allocator. `key` is what it stands under, `names` what it names, `copy_in` gives an equal record under
-//! another allocator. How records are read from a deck is the matter of `iocm_records`; a machine in operation
-//! stands on this crate alone. Begin with `record.rt`, then `specs/Meaning.antt`.
+//! A `Record` has one of eight kinds of fields inside; contracts see it as the model's plain
+//! record, whatever its allocator. `key` is what it stands under, `names` what it names, `copy_in`
+//! gives an equal record under another allocator. How records are read from a deck is the matter of
+//! `iocm_record_reader`; a machine in operation stands on this crate alone. Begin with `record.rt`,
+//! then `specs/Meaning.antt`.
 #![tactic(auto)]
 
 mod carried;

@@ -13,8 +13,8 @@ use iocm_types::{
 use std::alloc::{AllocError, Allocator, Global};
 use std::marker::Model;
 
-/// A channel path: how it is used, and the names of the images in its access and its candidate list,
-/// each list ascending with each name once (IOCP User's Guide, CHPID statement).
+/// A channel path: how it is used, and the names of the images in its access and its candidate
+/// list, each list ascending with each name once (IOCP User's Guide, CHPID statement).
 #[derive(Drop)]
 pub struct PathFields<A: Allocator = Global> {
     /// The channel subsystem of the path.
@@ -31,8 +31,8 @@ pub struct PathFields<A: Allocator = Global> {
     pub carried: Vec<Carried<A>, A>,
 }
 
-/// A control unit: its paths and their links in the order of the text, channel subsystems ascending,
-/// its ranges of unit addresses, and its CUADD (IOCP User's Guide, CNTLUNIT statement).
+/// A control unit: its paths and their links in the order of the text, channel subsystems
+/// ascending, its ranges of unit addresses, and its CUADD (IOCP User's Guide, CNTLUNIT statement).
 #[derive(Drop)]
 pub struct UnitFields<A: Allocator = Global> {
     /// Its number, 0000 to FFFE.
@@ -41,7 +41,8 @@ pub struct UnitFields<A: Allocator = Global> {
     pub paths: List<CssPath, A>,
     /// The unit addresses that it answers to.
     pub ranges: List<UnitRange, A>,
-    /// The links of its paths; in a channel subsystem with links the first is that of its first path there, and so on.
+    /// The links of its paths; in a channel subsystem with links the first is that of its first
+    /// path there, and so on.
     pub links: List<CssLink, A>,
     /// Its control unit address (CUADD), 00 to FF, where it has one.
     pub cuadd: Option<u8>,
@@ -67,8 +68,8 @@ pub struct DeviceFields<A: Allocator = Global> {
     pub carried: Vec<Carried<A>, A>,
 }
 
-/// The eight kinds of records with their fields. A `Record` has one of these inside. The kinds are own;
-/// they follow the statements of the IOCP User's Guide.
+/// The eight kinds of records with their fields. A `Record` has one of these inside. The kinds are
+/// own; they follow the statements of the IOCP User's Guide.
 #[derive(Drop)]
 pub enum RecordBody<A: Allocator = Global> {
     /// What an ID statement carries.
@@ -94,7 +95,8 @@ pub struct Record<A: Allocator = Global> {
     body: RecordBody<A>,
 }
 
-/// Written by hand, so that how the eight kinds are let go is proved here alone, and not in each crate that lets a record go.
+/// Written by hand, so that how the eight kinds are let go is proved here alone, and not in each
+/// crate that lets a record go.
 impl<A: Allocator> Drop for Record<A> {
     fn drop(self) {
         let Record { body } = self;
@@ -172,9 +174,9 @@ impl<A: Allocator> Record<A> {
         }
     }
 
-    /// The thing at a place, counted from 0, of all that the record names: a device its units and the
-    /// images of its candidates, a unit its paths, a path the images of its access and its candidate
-    /// list, an online record its path and its image. Nothing past the end.
+    /// The thing at a place, counted from 0, of all that the record names: a device its units and
+    /// the images of its candidates, a unit its paths, a path the images of its access and its
+    /// candidate list, an online record its path and its image. Nothing past the end.
     pub fn names(&self, place: usize) -> Option<Named>
         ensures { result ≡ slice_get (named_by self.now) place }
     {

@@ -36,8 +36,9 @@ fn image_record(in_css: u8, mif: u8, bytes: &[u8]) -> Result<Record, Fail> {
     Ok(Record::new(RecordBody::Image(own.css, own.mif, name(bytes)?)))
 }
 
-/// The images LPA and LPB of channel subsystem 0 and LPC of 1; there the paths 50 of LPA, 51 of LPB, and 50 of LPC; unit 1000 on
-/// both paths 50 and unit 2000 on 51; device 4000 on 1000, 4001 on both units, 4002 on 2000.
+/// The images LPA and LPB of channel subsystem 0 and LPC of 1; there the paths 50 of LPA, 51 of
+/// LPB, and 50 of LPC; unit 1000 on both paths 50 and unit 2000 on 51; device 4000 on 1000, 4001 on
+/// both units, 4002 on 2000.
 const THREE_PATHS: &[u8] = b"         RESOURCE PARTITION=((CSS(0),(LPA,1),(LPB,2)),(CSS(1),(LPC,1)))
          CHPID PATH=(CSS(0),50),SHARED,PARTITION=((LPA),(=))
          CHPID PATH=(CSS(0),51),SHARED,PARTITION=((LPB),(=))
@@ -83,7 +84,8 @@ fn are(affected: &Affected, places: &[Place], images: &[Image]) -> bool {
     affected.places.as_slice() == places && affected.images.as_slice() == images
 }
 
-/// Whether the deletion of a record may affect these devices in all six channel subsystems, and these images.
+/// Whether the deletion of a record may affect these devices in all six channel subsystems, and
+/// these images.
 fn are_everywhere(
     alloc: Global,
     key: Key,

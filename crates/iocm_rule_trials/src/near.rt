@@ -51,8 +51,8 @@ fn breach_near(
     Ok(near)
 }
 
-/// The first breach where a device or an online record comes into a configuration that keeps the rules, or becomes this one. Its key is
-/// given twice.
+/// The first breach where a device or an online record comes into a configuration that keeps the
+/// rules, or becomes this one. Its key is given twice.
 fn after_put(
     alloc: Global,
     config: &mut Config,
@@ -82,8 +82,8 @@ fn after_take(
     breach_near(alloc, config, numbers, &[key, key])
 }
 
-/// A configuration that keeps all rules: images LPA and LPB, a shared path 50 that both have online, a dedicated path 51 of LPA, a
-/// control unit 1000 on both paths, and two devices.
+/// A configuration that keeps all rules: images LPA and LPB, a shared path 50 that both have
+/// online, a dedicated path 51 of LPA, a control unit 1000 on both paths, and two devices.
 const KEPT: &[u8] = b"         RESOURCE PARTITION=((CSS(0),(LPA,1),(LPB,2)))
          CHPID PATH=(CSS(0),50),SHARED,PARTITION=((LPA,LPB),(=))
          CHPID PATH=(CSS(0),51),PARTITION=((LPA),(=))
@@ -122,7 +122,8 @@ const ONLINE: &[u8] = b"         RESOURCE PARTITION=((CSS(0),(LPA,1),(LPB,2)))
          CHPID PATH=(CSS(0),51),SHARED,PARTITION=((LPA,LPB),(=))
 ";
 
-/// The record of a key in a deck that comes into the configuration of another deck, and what is answered.
+/// The record of a key in a deck that comes into the configuration of another deck, and what is
+/// answered.
 #[derive(Clone, Copy)]
 struct Coming {
     into: &'static [u8],
@@ -141,7 +142,8 @@ fn kept_numbers(alloc: Global) -> Result<Numbers, Fail> {
     Ok(opening(alloc, &read(alloc, KEPT)?)?)
 }
 
-/// What is answered where a record comes into a configuration. The numbers are those of the configuration that keeps all rules.
+/// What is answered where a record comes into a configuration. The numbers are those of the
+/// configuration that keeps all rules.
 fn answer(alloc: Global, config: &mut Config, coming: &Coming) -> Result<Option<Breach>, Fail> {
     let numbers = kept_numbers(alloc)?;
     let changed = entry(alloc, coming.deck, &coming.key).ok_or("no record of the key")?;
@@ -185,7 +187,8 @@ fn online(path: u8, letters: &[u8]) -> Result<Key, Fail> {
     Ok(Key::Online(Css::FIRST, Chpid::new(path), name(letters)?))
 }
 
-/// The first breach where the record of a key is deleted from the configuration that keeps all rules.
+/// The first breach where the record of a key is deleted from the configuration that keeps all
+/// rules.
 fn gone(alloc: Global, key: Key) -> Result<Option<Breach>, Fail> {
     let numbers = kept_numbers(alloc)?;
     let mut config = read(alloc, KEPT)?;

@@ -1,4 +1,5 @@
--- Edits of devices and online records leave all other records, and the numbers of all other devices.
+-- Edits of devices and online records leave all other records, and the numbers of all other
+-- devices.
 use Rattle.std.proofs.Common.{◌≡◌, ◌<◌, ℕ, Bool, true, false, cond, not, ◌||◌, Option, None, Some, is_some, ◌⊎◌, inl, inr, List, [], ◌∷◌, map, refl, sym, ap, subst, ◌∙◌, arith}
 use Rattle.std.proofs.lemmas.Bool.{or_cases, or_parts, or_right}
 use Rattle.std.proofs.lemmas.List.Folds.{list_any-append}
@@ -75,7 +76,8 @@ same_reach c d same css (Some (path x)) = refl
 same_reach c d same css (Some (unit x)) = refl
 same_reach c d same css (Some (online x)) = refl
 
--- a place is reached in one configuration where it is in another with the same units and the same device there
+-- a place is reached in one configuration where it is in another with the same units and the same
+-- device there
 module _ (c d : Configuration) (c_keyed : IsKeyed c) (d_keyed : IsKeyed d) (units : (n : ℕ) → get c (key.Unit n) ≡ get d (key.Unit n)) where
   reached_too : (p : Place) → get c (key.Device p.set p.device) ≡ get d (key.Device p.set p.device) → is_reached_at c p ≡ true → is_reached_at d p ≡ true
   reached_too p same there =

@@ -1,5 +1,6 @@
--- Where since the rules held only devices and online records at some keys were changed, no other rule than V4 and V8 to V13 can be broken, and
--- these only by those records, or by others that clash with them.
+-- Where since the rules held only devices and online records at some keys were changed, no other
+-- rule than V4 and V8 to V13 can be broken, and these only by those records, or by others that
+-- clash with them.
 use Rattle.std.proofs.Common.{◌≡◌, ℕ, Bool, true, false, not, ◌&&◌, ◌||◌, ◌==◌, eq-eqb, nat_le, nat_lt, length, is_none, unwrap_or, None, Some, List, [], ◌++◌, refl, sym, ap, ◌∙◌}
 use Rattle.std.proofs.lemmas.Bool.{false≢true, or_right}
 use Rattle.std.specs.List.{list_any, flat_map}

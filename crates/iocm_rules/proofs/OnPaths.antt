@@ -1,4 +1,5 @@
--- The least of the online records that break V4 on the paths of some keys is the first of all, where none breaks it elsewhere.
+-- The least of the online records that break V4 on the paths of some keys is the first of all,
+-- where none breaks it elsewhere.
 use Rattle.std.proofs.Common.{◌≡◌, Bool, true, false, cond, ◌&&◌, ◌||◌, nat_eq, eqb-true, eq-eqb, Option, None, Some, List, [], ◌∷◌, refl, sym, ap, subst, ◌∙◌}
 use Rattle.std.proofs.lemmas.Bool.{false≢true, and_parts}
 use Rattle.std.proofs.lemmas.Map.Iter.{rest_more, rest_all}

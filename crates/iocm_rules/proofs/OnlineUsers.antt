@@ -52,7 +52,8 @@ module _ (o : OnlineRecord) where
   abbrev its_path : Named
   its_path = thing.Record (key.Path o.css o.path)
 
-  -- a record that names the path: its key is that of an online record before exactly where it is one before
+  -- a record that names the path: its key is that of an online record before exactly where it is
+  -- one before
   users_agree : (r : Rec) → names its_path (Some r) ≡ true → is_online_before (key_of (online o)) (key_of r) ≡ true
       → (stands_before r (online o) && is_online_at o.css o.path r) ≡ true
   users_agree (id x) named before = before

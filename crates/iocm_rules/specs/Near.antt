@@ -1,4 +1,5 @@
--- Configurations that keep the rules but for some devices and online records: only these were changed since the rules held. Own.
+-- Configurations that keep the rules but for some devices and online records: only these were
+-- changed since the rules held. Own.
 use Rattle.std.specs.Prelude.{◌≡◌, Bool, true, false, None, List, map}
 use Rattle.std.specs.FinMap.{get}
 use Rattle.iocm_types.specs.declared.key.Key.{Key}
@@ -22,8 +23,8 @@ is_near_key _ = false
 abbrev pub AreNear : List Key → Type 0
 AreNear keys = (key : Key) → is_one_of key keys ≡ true → is_near_key key ≡ true
 
--- before some change the configuration kept the rules; since then only records at these keys, of devices and online, were added, deleted or
--- modified, and no number of another device
+-- before some change the configuration kept the rules; since then only records at these keys, of
+-- devices and online, were added, deleted or modified, and no number of another device
 pub record KeptBut (keys : List Key) (c : Configuration) (n : Numbering) : Type 0 where
   pub before : Configuration
   pub numbers_before : Numbering

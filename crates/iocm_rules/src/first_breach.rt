@@ -23,8 +23,9 @@ use iocm_types::{Key, Rule};
 use iocm_unit_rules::{SharedAddress, WrongLinks, WrongPaths, WrongRanges};
 use std::alloc::{AllocError, Allocator};
 
-/// The first breach of the rules V1 to V14: by rule, then by key. The index is that of the configuration. It takes no memory,
-/// and its time is about in proportion to the records and to what they name.
+/// The first breach of the rules V1 to V14: by rule, then by key. The index is that of the
+/// configuration. It takes no memory, and its time is about in proportion to the records and to
+/// what they name.
 pub fn check<A: Allocator, N: Allocator, I: Allocator>(
     config: &Config<A>,
     numbers: &Numbers<N>,
@@ -40,8 +41,8 @@ pub fn check<A: Allocator, N: Allocator, I: Allocator>(
     }
 }
 
-/// The first breach of the rules V1 to V14 by the numbers that devices have at opening: by rule, then by key. No table of numbers is made,
-/// but where one is at or above its limit.
+/// The first breach of the rules V1 to V14 by the numbers that devices have at opening: by rule,
+/// then by key. No table of numbers is made, but where one is at or above its limit.
 ///
 /// `AllocError` (M1): memory was wanted.
 pub fn check_at_opening<A: Allocator, B: Allocator + Copy, I: Allocator>(

@@ -4,7 +4,8 @@ use iocm_record::{Record, RecordBody};
 use iocm_types::{Key, Name};
 use std::alloc::Allocator;
 
-/// V1: an image whose name an image with a smaller key has. So a name is that of one image at the most. Own.
+/// V1: an image whose name an image with a smaller key has. So a name is that of one image at the
+/// most. Own.
 #[derive(Drop)]
 pub struct NameTwice;
 

@@ -1,15 +1,18 @@
 //! The fourteen rules that a configuration in use keeps, V1 to V14: the first that is broken.
 //!
-//! `check` answers the first breach, by rule and then by key, as the model's definitions have it, in time about in
-//! proportion to the records: it takes no memory, and compares nobody with everybody. Which records name a thing it asks
-//! an `Index` of the configuration. `check_at_opening` answers it for the numbers at opening, which it lists and makes no table of.
+//! `check` answers the first breach, by rule and then by key, as the model's definitions have it,
+//! in time about in proportion to the records: it takes no memory, and compares nobody with
+//! everybody. Which records name a thing it asks an `Index` of the configuration.
+//! `check_at_opening` answers it for the numbers at opening, which it lists and makes no table of.
 //!
-//! `check_near` answers the same where since the rules held only devices and online records were changed, and looks at the
-//! keys of these alone and at what shares a unit or a path with them. That edits leave it so `near_edits_keep_the_rest` says.
+//! `check_near` answers the same where since the rules held only devices and online records were
+//! changed, and looks at the keys of these alone and at what shares a unit or a path with them.
+//! That edits leave it so `near_edits_keep_the_rest` says.
 //!
-//! V1 to V4, the rules of names and of online records, stand here, those of control units in `iocm_unit_rules`, those of
-//! devices in `iocm_device_rules`. Most are a `Wanted` of `iocm_lookup`: of which kind the records are that break the
-//! rule, and whether a record does. Begin with `first_breach.rt`, then `names.rt`, then `near.rt`.
+//! V1 to V4, the rules of names and of online records, stand here, those of control units in
+//! `iocm_unit_rules`, those of devices in `iocm_device_rules`. Most are a `Wanted` of
+//! `iocm_lookup`: of which kind the records are that break the rule, and whether a record does.
+//! Begin with `first_breach.rt`, then `names.rt`, then `near.rt`.
 #![tactic(auto)]
 
 mod breach;

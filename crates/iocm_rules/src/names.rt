@@ -8,7 +8,8 @@ use iocm_record::{Record, RecordBody};
 use iocm_types::{Css, Name, PathKind};
 use std::alloc::Allocator;
 
-/// V2: a name in the access or candidate list of a path is that of no image of the path's channel subsystem. Own.
+/// V2: a name in the access or candidate list of a path is that of no image of the path's channel
+/// subsystem. Own.
 #[derive(Drop)]
 pub struct NameOfNoImage;
 
@@ -67,8 +68,9 @@ fn has_stranger<A: Allocator>(config: &Config<A>, css: Css, names: &[Name]) -> b
     false
 }
 
-/// V3: a dedicated path, which is one without SHARED and REC, that more than one name reaches, or a REC path with more than one
-/// name in its access list. Own; what SHARED and REC mean is the CHPID statement's.
+/// V3: a dedicated path, which is one without SHARED and REC, that more than one name reaches, or a
+/// REC path with more than one name in its access list. Own; what SHARED and REC mean is the CHPID
+/// statement's.
 #[derive(Drop)]
 pub struct TooManyNames;
 

@@ -18,10 +18,11 @@ use iocm_numbers::Numbers;
 use iocm_types::{Key, Rule};
 use std::alloc::Allocator;
 
-/// The first breach of the rules V1 to V14, as `check` answers it, where since the rules held only records at these keys were
-/// added, deleted or modified, all of them devices or online records, and the numbers followed. The keys come in any order, also
-/// several times, and one may have no record any more. It takes no memory. Its time is about in proportion to the keys and to
-/// what is on the same units and paths, whatever else the configuration has.
+/// The first breach of the rules V1 to V14, as `check` answers it, where since the rules held only
+/// records at these keys were added, deleted or modified, all of them devices or online records,
+/// and the numbers followed. The keys come in any order, also several times, and one may have no
+/// record any more. It takes no memory. Its time is about in proportion to the keys and to what is
+/// on the same units and paths, whatever else the configuration has.
 pub fn check_near<A: Allocator, N: Allocator, I: Allocator>(
     config: &Config<A>,
     numbers: &Numbers<N>,

@@ -20,8 +20,9 @@ use iocm_index::Index;
 use iocm_types::{Chpid, Css, Key, Named};
 use std::alloc::Allocator;
 
-/// The key of the first online record that breaks V4, if one does, where none does but on the path of one of these keys. Of the
-/// records that name such a path it looks at each up to the first that breaks the rule.
+/// The key of the first online record that breaks V4, if one does, where none does but on the path
+/// of one of these keys. Of the records that name such a path it looks at each up to the first that
+/// breaks the rule.
 pub fn first_wrong_online_among<A: Allocator, I: Allocator>(
     config: &Config<A>,
     index: &Index<I>,

@@ -7,8 +7,8 @@ use Rattle.iocm_model.specs.Laws.Trees.{KeepsTheRules}
 use Rattle.iocm_model.proofs.Change.RunsGoBack.{accepted_carry, inverses_accepted, run_back, run_goes_back}
 use Rattle.iocm_model.proofs.Change.Trees.{inverse_tree_means}
 use Rattle.iocm_history.specs.Change.{Change}
-use Rattle.iocm_reckoning.specs.JournalLaws.{IsMade}
-use Rattle.iocm_reckoning.proofs.Facts.{changes_were_made, stages_are_ready}
+use Rattle.iocm_history.specs.JournalLaws.{IsMade}
+use Rattle.iocm_history.proofs.Facts.{changes_were_made, stages_are_ready}
 use Rattle.iocm_runs.specs.Inverses.{InversesOfEditsTakeBack, IsTakenBackByItsInverse, InversesOfChangesTakeBack, InversesOfStagesTakeBack}
 
 pub inverses_of_edits_take_back : InversesOfEditsTakeBack

@@ -53,7 +53,8 @@ fn live(parm: u32) -> Live {
     }
 }
 
-/// The seat of the device's subchannel alone, with the path available, and a live record with the parameter 5.
+/// The seat of the device's subchannel alone, with the path available, and a live record with the
+/// parameter 5.
 fn seated(alloc: Global) -> Result<Table<SubId, Seat>, Fail> {
     let there = there()?;
     let mut seats = Table::new(alloc);
@@ -76,7 +77,8 @@ fn gone_offline() -> Result<ViewChange, Fail> {
     })
 }
 
-/// Whether a subchannel has a seat that shows the device, with a path-available mask, and has a live record.
+/// Whether a subchannel has a seat that shows the device, with a path-available mask, and has a
+/// live record.
 fn has_seat(seats: &Table<SubId, Seat>, there: &SubId, available: u8, wanted: &Live) -> bool {
     let shown = match view_of(seats, *there) {
         Some(seen) => seen == view(available),
@@ -121,7 +123,8 @@ fn list_there(
     Ok(list_changes(alloc, tried, images.as_slice(), cells.as_slice())?)
 }
 
-/// Exchanges the seat of a subchannel for one with the live record of a parameter, and gives the live record that it had.
+/// Exchanges the seat of a subchannel for one with the live record of a parameter, and gives the
+/// live record that it had.
 fn exchange_there(
     seats: &mut Table<SubId, Seat>,
     config: &Config,
@@ -181,7 +184,8 @@ fn is_alone_in(altered: &Altered<Global>, wanted: &ViewChange) -> bool {
     }
 }
 
-/// Whether it alters the seats that the device's path goes offline, and a live record is listed with it.
+/// Whether it alters the seats that the device's path goes offline, and a live record is listed
+/// with it.
 fn goes_offline(alloc: Global, seats: &Table<SubId, Seat>, met: &Live) -> Result<bool, Fail> {
     let change = gone_offline()?;
     let met = [(change.subchannel, *met)];
@@ -261,7 +265,8 @@ fn what_changes_leave_is_listed(rt: HostRuntime) -> Result<(), Fail> {
     Ok(())
 }
 
-/// Exchanges the seat of a subchannel of the small configuration, and gives the live record that it had.
+/// Exchanges the seat of a subchannel of the small configuration, and gives the live record that it
+/// had.
 fn exchanged(alloc: Global, seats: &mut Table<SubId, Seat>, there: &SubId) -> Result<Live, Fail> {
     let config = small(alloc)?;
     let numbers = opening(alloc, &config)?;

@@ -1,4 +1,5 @@
--- The first live record that changes meet and that isn't quiet is that of the first subchannel which isn't.
+-- The first live record that changes meet and that isn't quiet is that of the first subchannel
+-- which isn't.
 use Rattle.std.proofs.Common.{◌≡◌, Bool, true, false, cond, List, [], ◌∷◌, map, Option, None, Some, refl}
 use Rattle.std.specs.List.{cons_option}
 use Rattle.std.specs.Option.{option_map}

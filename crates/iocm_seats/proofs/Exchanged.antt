@@ -1,4 +1,5 @@
--- Seats of which those that are altered are exchanged: they show what is seen now, and have the live records after the edit.
+-- Seats of which those that are altered are exchanged: they show what is seen now, and have the
+-- live records after the edit.
 use Rattle.std.proofs.Common.{◌≡◌, Bool, true, false, cond, not, ◌&&◌, List, [], ◌∷◌, Option, Some, None, is_some, T, refl, sym, ap, ◌∙◌}
 use Rattle.std.specs.List.{fold}
 use Rattle.std.specs.Option.{option_eq}
@@ -22,7 +23,8 @@ use Rattle.iocm_seats.specs.Exchange.{seat_given, given, exchanged, IsExchange, 
 use Rattle.iocm_seats.proofs.Maps.{get_without}
 use Rattle.iocm_seats.proofs.Settled.{view_in, live_in, view_seated, live_seated, both_there}
 
--- the seat of a subchannel once seats are given: with the live record that is given for it and what is seen there, if both are there
+-- the seat of a subchannel once seats are given: with the live record that is given for it and what
+-- is seen there, if both are there
 abbrev seat_with : Option Live → Option View → Option Seat → Option Seat
 seat_with (Some l) (Some v) o = Some (record { view = v; live = l })
 seat_with (Some l) None o = o

@@ -67,7 +67,8 @@ module _ {K X : Type 0} {R : K → K → Ordering} (total : IsTotalOrder R) (exa
   get_without m (k ∷ ks) q = get_without (remove m k) ks q ∙ ap (cond (list_any (eq_by_cmp R q) ks) None) (get-remove total m k q)
       ∙ gone_by (eq_by_cmp R q k) (list_any (eq_by_cmp R q) ks) (get m q)
 
-  -- keys that are written one after the other, each with a value that its own value before determines
+  -- keys that are written one after the other, each with a value that its own value before
+  -- determines
   module _ (g : K → Option X → Option X) where
     written_by : (m : FinMap R X) (k q : K) (ks : List K) (b : Bool) → eq_by_cmp R q k ≡ b → list_any (eq_by_cmp R k) ks ≡ false
         → cond (list_any (eq_by_cmp R q) ks) (g q (cond b (g k (get m k)) (get m q))) (cond b (g k (get m k)) (get m q))

@@ -1,4 +1,5 @@
--- Candidates stand in the order of subchannels where images and cells do, and so all changes among them are the changes in order.
+-- Candidates stand in the order of subchannels where images and cells do, and so all changes among
+-- them are the changes in order.
 use Rattle.std.proofs.Common.{◌≡◌, ℕ, ◌==◌, eqb-true, Bool, true, false, cond, not, ◌&&◌, List, [], ◌∷◌, ◌++◌, map, filter, Option, Some, None, is_some, T, refl, sym, ap, subst, ◌∙◌}
 use Rattle.std.specs.List.{list_any, filter_map, cons_option, AllByRecursion}
 use Rattle.std.specs.List.Sorted.{IsStrictlySortedBy}

@@ -1,4 +1,5 @@
--- Seats that are settled by all changes: they show what is seen afterwards, and have the live records after the edit.
+-- Seats that are settled by all changes: they show what is seen afterwards, and have the live
+-- records after the edit.
 use Rattle.std.proofs.Common.{◌≡◌, Bool, true, false, cond, not, List, [], ◌∷◌, ◌++◌, map, Option, Some, None, is_some, refl, sym, ap, ◌∙◌}
 use Rattle.std.specs.List.{fold}
 use Rattle.std.specs.Option.{option_map, option_eq}

@@ -1,4 +1,5 @@
--- What is seen at a number cell, by what its channel subsystem's images share there, is what is seen at the subchannel.
+-- What is seen at a number cell, by what its channel subsystem's images share there, is what is
+-- seen at the subchannel.
 use Rattle.std.proofs.Common.{◌≡◌, ◌==◌, ℕ, Bool, true, false, cond, not, List, [], ◌∷◌, ◌++◌, map, Option, None, Some, eq-eqb, eqb-true, refl, sym, ap, ◌∙◌}
 use Rattle.std.specs.List.{filter_map, cons_option}
 use Rattle.std.specs.Option.{option_and_then, option_map}

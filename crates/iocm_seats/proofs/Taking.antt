@@ -43,7 +43,8 @@ met_none seats row is = ap (λ o. (row.0, unwrap_or o row.1)) (live_seated seats
 
 -- ---- the loop that takes seats out
 
--- the rows so far have their live records, the others are as they were; what is left to take out gives what all gives
+-- the rows so far have their live records, the others are as they were; what is left to take out
+-- gives what all gives
 pub record IsTaking (first now : Stored SubId Seat) (start out : List (SubId × Live)) (i : ℕ) : Type 0 where
   pub len : length out ≡ length start
   pub rest : drop i out ≡ drop i start

@@ -17,7 +17,8 @@ use Rattle.iocm_seats.specs.declared.view_change.ViewChange.{ViewChange}
 use Rattle.iocm_seats.specs.Seated.{Seats, views_seated, lives_seated}
 use Rattle.iocm_seats.specs.Changes.{changes_between}
 
--- the seat of an altered subchannel afterwards, if anything is seen there: with the live record that an edit leaves it
+-- the seat of an altered subchannel afterwards, if anything is seen there: with the live record
+-- that an edit leaves it
 abbrev pub seat_after : Option Seat → Option View → Option Live → Option Seat
 seat_after old new kept =
     option_map (λ (w : View). record { view = w; live = live_of_altered (option_map (λ (s : Seat). s.view) old) w kept (option_map (λ (s : Seat). s.live) old) }) new
@@ -55,7 +56,8 @@ abbrev pub first_busy : List (SubId × Live) → Option SubId
 first_busy [] = None
 first_busy (row ∷ met) = if is_not_quiet (Some row.1) then Some row.0 else first_busy met
 
--- seats that are settled by all changes between what they show and other views show these, and have the live records after an edit
+-- seats that are settled by all changes between what they show and other views show these, and have
+-- the live records after an edit
 abbrev pub SettledSeatsShow : Type 0
 SettledSeatsShow = (seats : Seats) (w : Views) (kept : Lives) → views_seated (settled_all kept seats (changes_between (views_seated seats) w)) ≡ w
 

@@ -26,10 +26,12 @@ use iocm_table::Table;
 use iocm_types::{Image, Live, Name, NumberCell, SubId, View};
 use std::alloc::{AllocError, Allocator};
 
-/// Where so many images are asked, which of them have the paths of a number cell online is gathered beforehand.
+/// Where so many images are asked, which of them have the paths of a number cell online is gathered
+/// beforehand.
 const MANY_IMAGES: usize = 6;
 
-/// A change that is tried: the seats as they were before it, the configuration and the numbers as they are after it.
+/// A change that is tried: the seats as they were before it, the configuration and the numbers as
+/// they are after it.
 #[derive(Drop)]
 pub struct Tried<'a, A: Allocator, B: Allocator, C: Allocator> {
     pub seats: &'a Table<SubId, Seat, A>,
@@ -37,8 +39,8 @@ pub struct Tried<'a, A: Allocator, B: Allocator, C: Allocator> {
     pub numbers: &'a Numbers<C>,
 }
 
-/// What a change alters: the changes of what is seen, in the order of subchannels, and the live records that these have, of those that have
-/// a seat. The word is own.
+/// What a change alters: the changes of what is seen, in the order of subchannels, and the live
+/// records that these have, of those that have a seat. The word is own.
 #[derive(Drop)]
 pub struct Altered<D: Allocator> {
     pub changes: Vec<ViewChange, D>,
@@ -52,10 +54,11 @@ struct NamedImage {
     name: Option<Name>,
 }
 
-/// All changes of what is seen, in the order of subchannels. They are looked for at the subchannels of some images and number cells
-/// alone, each given once and in order, and are among these. What the images of a channel subsystem share at a number cell is looked up
-/// once; beside that the time is that of one view for each of these subchannels, by its seat and by the paths that are online. The
-/// live records are those of the same seats.
+/// All changes of what is seen, in the order of subchannels. They are looked for at the subchannels
+/// of some images and number cells alone, each given once and in order, and are among these. What
+/// the images of a channel subsystem share at a number cell is looked up once; beside that the time
+/// is that of one view for each of these subchannels, by its seat and by the paths that are online.
+/// The live records are those of the same seats.
 ///
 /// `AllocError` (M1): memory was wanted.
 pub fn list_changes<A: Allocator, B: Allocator, C: Allocator, D: Allocator + Clone>(
@@ -76,7 +79,8 @@ pub fn list_changes<A: Allocator, B: Allocator, C: Allocator, D: Allocator + Clo
     list_at_images(alloc, tried, images, sights.as_slice())
 }
 
-/// What the images of a channel subsystem share at each of some number cells, of which these images are asked.
+/// What the images of a channel subsystem share at each of some number cells, of which these images
+/// are asked.
 fn sight_cells<'a, A: Allocator, B: Allocator, C: Allocator, D: Allocator>(
     alloc: D,
     tried: &Tried<'a, A, B, C>,
@@ -153,8 +157,8 @@ fn list_at_cells<A: Allocator, B: Allocator, C: Allocator, D: Allocator>(
     Ok(())
 }
 
-/// Puts the change of an image at a number cell behind those that are listed, if the cell is of its channel subsystem and something else
-/// is seen there.
+/// Puts the change of an image at a number cell behind those that are listed, if the cell is of its
+/// channel subsystem and something else is seen there.
 fn list_at_cell<A: Allocator, B: Allocator, C: Allocator, D: Allocator>(
     altered: &mut Altered<D>,
     tried: &Tried<'_, A, B, C>,
@@ -195,8 +199,8 @@ fn view_there<B: Allocator>(named: &NamedImage, sight: &CellSight<'_, B>) -> Opt
     }
 }
 
-/// Puts the change at a subchannel with this seat, and the seat's live record, behind those that are listed, if something else is seen there
-/// afterwards.
+/// Puts the change at a subchannel with this seat, and the seat's live record, behind those that
+/// are listed, if something else is seen there afterwards.
 fn list_seated<D: Allocator>(
     altered: &mut Altered<D>,
     subchannel: &SubId,
@@ -219,7 +223,8 @@ fn list_seated<D: Allocator>(
     Ok(())
 }
 
-/// Puts the change at a subchannel without a seat behind those that are listed, if something is seen there afterwards.
+/// Puts the change at a subchannel without a seat behind those that are listed, if something is
+/// seen there afterwards.
 fn list_new<D: Allocator>(
     altered: &mut Altered<D>,
     subchannel: &SubId,

@@ -1,12 +1,15 @@
-//! Seats: what a machine keeps at each of its subchannels, the view and the live record, in one table.
+//! Seats: what a machine keeps at each of its subchannels, the view and the live record, in one
+//! table.
 //!
-//! `open_seats` makes them of a configuration and its numbers. When a change of these is tried, `list_changes` says at which
-//! subchannels another view is seen, `first_not_quiet` which of them is the first that isn't quiet, and `settle_all` gives each the
-//! seat that it has afterwards, without memory. `exchange` does the same for a change that is taken back and knows
-//! beforehand which seats go and which live records come.
+//! `open_seats` makes them of a configuration and its numbers. When a change of these is tried,
+//! `list_changes` says at which subchannels another view is seen, `first_not_quiet` which of them
+//! is the first that isn't quiet, and `settle_all` gives each the seat that it has afterwards,
+//! without memory. `exchange` does the same for a change that is taken back and knows beforehand
+//! which seats go and which live records come.
 //!
-//! What the layer above may rely on: after either the seats show what is seen now and have the live records after the edit
-//! (`settled_seats_show`, `exchanged_seats_show`). Begin with `specs/Seated.antt` and `specs/Changes.antt`.
+//! What the layer above may rely on: after either the seats show what is seen now and have the live
+//! records after the edit (`settled_seats_show`, `exchanged_seats_show`). Begin with
+//! `specs/Seated.antt` and `specs/Changes.antt`.
 #![tactic(auto)]
 
 mod changes;

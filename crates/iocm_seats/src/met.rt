@@ -10,7 +10,8 @@ use iocm_live::fresh;
 use iocm_types::{Live, Phase, SubId};
 use std::alloc::{AllocError, Allocator};
 
-/// The first of the subchannels of some changes whose live record isn't quiet, if there is one, by the live records that they meet.
+/// The first of the subchannels of some changes whose live record isn't quiet, if there is one, by
+/// the live records that they meet.
 pub fn first_not_quiet(met: &[(SubId, Live)]) -> Option<SubId>
     ensures { (lives : Lives) (changes : List changed.ViewChange) → met.now ≡ lives_met lives changes → result ≡ refusal.first_not_quiet lives (map (λ ch. ch.subchannel) changes) }
 {
@@ -36,7 +37,8 @@ fn is_busy(live: &Live) -> bool
     !matches!(live.phase, Phase::Idle)
 }
 
-/// A row for each subchannel of these changes at which something is seen afterwards, with any live record.
+/// A row for each subchannel of these changes at which something is seen afterwards, with any live
+/// record.
 ///
 /// `AllocError` (M1): memory was wanted.
 pub fn list_left<B: Allocator>(

@@ -18,8 +18,8 @@ use iocm_table::Table;
 use iocm_types::{DevNo, Image, NumberCell, SubId};
 use std::alloc::{AllocError, Allocator};
 
-/// A seat for each subchannel that has a view, with a fresh live record. The time is in proportion to the images, and for each to
-/// the number cells that are taken.
+/// A seat for each subchannel that has a view, with a fresh live record. The time is in proportion
+/// to the images, and for each to the number cells that are taken.
 ///
 /// `AllocError` (M1): memory was wanted.
 pub fn open_seats<A: Allocator, B: Allocator, C: Allocator + Clone>(
@@ -73,7 +73,8 @@ fn list_record<A: Allocator, B: Allocator, C: Allocator>(
     }
 }
 
-/// Puts the seats of an image behind those that are listed. The paths that it reaches are looked up once.
+/// Puts the seats of an image behind those that are listed. The paths that it reaches are looked up
+/// once.
 fn list_image<A: Allocator, B: Allocator, C: Allocator>(
     listed: &mut Vec<(SubId, Seat), C>,
     sight: &mut ImageSight<'_, A>,
@@ -87,8 +88,8 @@ fn list_image<A: Allocator, B: Allocator, C: Allocator>(
     Ok(())
 }
 
-/// Puts the seat of an image at a number cell behind those that are listed, if the cell is of its channel subsystem and the image sees
-/// the device there.
+/// Puts the seat of an image at a number cell behind those that are listed, if the cell is of its
+/// channel subsystem and the image sees the device there.
 fn list_cell<A: Allocator, C: Allocator>(
     listed: &mut Vec<(SubId, Seat), C>,
     sight: &mut ImageSight<'_, A>,
@@ -105,7 +106,8 @@ fn list_cell<A: Allocator, C: Allocator>(
     list_seen(listed, sight, cell, device)
 }
 
-/// Puts the seat of an image at a number cell of its channel subsystem behind those that are listed, if it sees the device there.
+/// Puts the seat of an image at a number cell of its channel subsystem behind those that are
+/// listed, if it sees the device there.
 fn list_seen<A: Allocator, C: Allocator>(
     listed: &mut Vec<(SubId, Seat), C>,
     sight: &mut ImageSight<'_, A>,

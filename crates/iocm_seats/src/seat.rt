@@ -1,7 +1,8 @@
 use crate::CompactView;
 use iocm_types::Live;
 
-/// What is kept at a subchannel that is there: what its image sees there, and its live record. The word is own.
+/// What is kept at a subchannel that is there: what its image sees there, and its live record. The
+/// word is own.
 #[derive(Drop)]
 pub struct Seat {
     /// What the image sees.

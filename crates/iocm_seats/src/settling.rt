@@ -15,8 +15,8 @@ use iocm_table::Table;
 use iocm_types::{Live, SubId, View};
 use std::alloc::{AllocError, Allocator};
 
-/// Gives each subchannel of these changes a place, if it has none. One at which something is seen has a seat, so it isn't searched. No
-/// seat changes, and no place is lost.
+/// Gives each subchannel of these changes a place, if it has none. One at which something is seen
+/// has a seat, so it isn't searched. No seat changes, and no place is lost.
 ///
 /// `AllocError` (M1): memory was wanted.
 pub fn make_places<A: Allocator + Clone>(
@@ -52,8 +52,9 @@ fn make_place<A: Allocator + Clone>(
     seats.room(change.subchannel)
 }
 
-/// Gives each subchannel of these changes the seat that it has afterwards: none where nothing is seen any more, else the view
-/// with the live record that comes along for it, or with a fresh one where it is new, or with its own. Can't answer want of memory.
+/// Gives each subchannel of these changes the seat that it has afterwards: none where nothing is
+/// seen any more, else the view with the live record that comes along for it, or with a fresh one
+/// where it is new, or with its own. Can't answer want of memory.
 pub fn settle_all<A: Allocator, B: Allocator>(
     seats: &mut Table<SubId, Seat, A>,
     changes: &[ViewChange],
@@ -68,7 +69,8 @@ pub fn settle_all<A: Allocator, B: Allocator>(
     }
 }
 
-/// Gives the subchannel of a change the seat that it has afterwards. One that has no seat is searched once.
+/// Gives the subchannel of a change the seat that it has afterwards. One that has no seat is
+/// searched once.
 fn settle<A: Allocator>(seats: &mut Table<SubId, Seat, A>, change: &ViewChange, own: Option<Live>)
     requires { HasPlace sub_id_cmp seats.old change.now.subchannel }
     ensures seats { rows sub_id_cmp seats.new ≡ with_value (rows sub_id_cmp seats.old) change.now.subchannel (seat_after (get (rows sub_id_cmp seats.old) change.now.subchannel) change.now.after own) }

@@ -1,6 +1,7 @@
 use iocm_types::{SubId, View};
 
-/// That a change alters a subchannel: what its image saw there, and what it sees there afterwards. The word is own.
+/// That a change alters a subchannel: what its image saw there, and what it sees there afterwards.
+/// The word is own.
 #[derive(Drop)]
 pub struct ViewChange {
     /// The subchannel.

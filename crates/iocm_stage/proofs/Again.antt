@@ -54,7 +54,8 @@ module _ (e : Edit) (s : State) (sound : IsSound s) (free : is_number_taken (con
     lives_by x true among = sym (live_like e u s x like (same x among))
     lives_by x false off = sym (keeps_the_others e u x like.lived (ap (is_among x) (altered_like e u s like) ∙ off))
 
-    -- done again it does what it does, where the configuration, the numbers and the live records are those that it found
+    -- done again it does what it does, where the configuration, the numbers and the live records
+    -- are those that it found
     pub does_again : state_after (again e s) u ≡ state_after e u
     does_again =
         let after = like_after e u s like in

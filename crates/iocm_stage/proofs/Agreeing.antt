@@ -1,5 +1,5 @@
--- Runs of edits on a state that agrees with the one that they were made in: they write their effect there, can be taken back and done again,
--- and steps elsewhere pass them.
+-- Runs of edits on a state that agrees with the one that they were made in: they write their effect
+-- there, can be taken back and done again, and steps elsewhere pass them.
 use Rattle.std.proofs.Common.{◌≡◌, Bool, true, false, cond, ◌||◌, List, [], ◌∷◌, ◌++◌, Option, Some, None, refl, sym, ap, subst, append_assoc, ◌∙◌}
 use Rattle.std.proofs.lemmas.Bool.{or_left, or_right}
 use Rattle.std.proofs.lemmas.List.Folds.{list_any-append}
@@ -28,7 +28,8 @@ use Rattle.iocm_stage.specs.Again.{all_again}
 use Rattle.iocm_stage.proofs.Like.{like_after_all, lives_like, cells_like}
 use Rattle.iocm_stage.proofs.Again.{does_again}
 
--- a state agrees with the one that edits were made in: it has its configuration and its numbers, and its live records where the edits alter them
+-- a state agrees with the one that edits were made in: it has its configuration and its numbers,
+-- and its live records where the edits alter them
 pub record Agrees (es : List Edit) (from s : State) : Type 0 where
   pub like : HasConfigAndNumbersOf s from
   pub lives : (x : SubId) → is_among x (cells_written_by_all es from).subchannels ≡ true → get s.lives x ≡ get from.lives x

@@ -46,7 +46,8 @@ is_leaf (row ps) i h = cc
 is_leaf (group ps) i h = cc
 is_leaf (choose ps) i h = cc
 
--- where all parts are edits, those that are left and those that were taken out are all of them, and there is room for those that are left
+-- where all parts are edits, those that are left and those that were taken out are all of them, and
+-- there is room for those that are left
 pub record IsCopying (all left : List CarriedTree) (edits : List Carried) (room : ℕ) : Type 0 where
   pub whole : (is : List Carried) → all ≡ map leaf is → left ++ map leaf (reverse edits) ≡ all
   pub fits : length left + length edits ≤ room

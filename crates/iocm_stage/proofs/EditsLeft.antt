@@ -33,7 +33,8 @@ next_performed p q r all left rest i doing is state room = record {
 
 -- ---- the parts of a Row
 
--- the first part of a Row that takes a change back is an edit that can be performed, and the others take back the rest
+-- the first part of a Row that takes a change back is an edit that can be performed, and the others
+-- take back the rest
 pub record BeginsWith (t : CarriedTree) (ps : CarriedParts) (s : State) (p : Operating) : Type 0 where
   pub edit : Carried
   pub is : t ≡ leaf edit

@@ -1,4 +1,5 @@
--- Edits on a state that has the configuration and the numbers of another: they alter the same, and leave the same live record where it was the same.
+-- Edits on a state that has the configuration and the numbers of another: they alter the same, and
+-- leave the same live record where it was the same.
 use Rattle.std.proofs.Common.{◌≡◌, Bool, true, false, cond, not, List, [], ◌∷◌, ◌++◌, Option, None, refl, sym, ap, ◌∙◌}
 use Rattle.std.specs.Option.{option_eq}
 use Rattle.std.specs.FinMap.{get, same_map}

@@ -1,4 +1,5 @@
--- Edits that are done one after the other without memory: those that were, and those that are left. Own.
+-- Edits that are done one after the other without memory: those that were, and those that are left.
+-- Own.
 use Rattle.std.specs.Prelude.{◌≡◌, List, map}
 use Rattle.iocm_model.specs.Operation.State.{State}
 use Rattle.iocm_model.specs.Change.Edit.{Edit}
@@ -12,8 +13,9 @@ use Rattle.iocm_stage.specs.Again.{all_again}
 abbrev pub edits_in : List Carried → List Edit
 edits_in is = map (λ (i : Carried). i.edit) is
 
--- of edits that were performed from a state on, and taken back, the first were done again on a machine, which was in another state before: some edits
--- take these back, the last one first, and lead to that state; others do the rest again, and lead to the state after all
+-- of edits that were performed from a state on, and taken back, the first were done again on a
+-- machine, which was in another state before: some edits take these back, the last one first, and
+-- lead to that state; others do the rest again, and lead to the state after all
 pub record StandsAlong (first rest : List Edit) (from before : State) (behind ahead : List Carried) (p : Operating) : Type 0 where
   pub state : p.state ≡ state_after_all first before
   pub back_edits : edits_in behind ≡ inverses first from

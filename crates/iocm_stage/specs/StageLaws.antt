@@ -8,7 +8,8 @@ use Rattle.iocm_plant.specs.Operating.{Operating, KeepsRoom}
 use Rattle.iocm_stage.specs.Staged.{IsStageOf}
 use Rattle.iocm_stage.specs.declared.staged.Staged.{Staged}
 
--- a step leaves a stage one, with the step done in the state before the edits that were advanced, too, and is answered as in that state
+-- a step leaves a stage one, with the step done in the state before the edits that were advanced,
+-- too, and is answered as in that state
 pub record PassesAStage (g : Staged) (t : Stage) (s : State) (x : SubId) (step : Step) (p q : Operating) : Type 0 where
   pub stage : IsStageOf g t (after_step x step s) q
   pub answer : answer_in p.state x step ≡ answer_in s x step

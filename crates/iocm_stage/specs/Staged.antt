@@ -19,14 +19,15 @@ use Rattle.iocm_activate.specs.declared.done.Done.{Done}
 use Rattle.iocm_stage.specs.Along.{StandsAlong}
 use Rattle.iocm_stage.specs.declared.staged.Staged.{Staged}
 
--- a change was made: in a state in use its edits were accepted, and they left one in which the rules hold
+-- a change was made: in a state in use its edits were accepted, and they left one in which the
+-- rules hold
 pub record WasMade (c : Change) : Type 0 where
   pub used : IsInUse c.from
   pub accepted : AreAccepted c.edits c.from
   pub rules : KeepsTheRules (state_after_all c.edits c.from)
 
--- a change can be made in a state as it was made: the configuration and the numbers are those of then, and so are the live records of the
--- subchannels that it alters
+-- a change can be made in a state as it was made: the configuration and the numbers are those of
+-- then, and so are the live records of the subchannels that it alters
 pub record IsReady (c : Change) (s : State) : Type 0 where
   pub made : WasMade c
   pub like : HasConfigAndNumbersOf s c.from
@@ -43,7 +44,8 @@ pub record HasRoom (g : Staged) : Type 0 where
   pub back : length g.back.items + length g.forward.items ≤ vec_capacity g.back
   pub forward : length g.back.items + length g.forward.items ≤ vec_capacity g.forward
 
--- this is a stage on a machine, which would be in a state in which the change can be made, were it not for the edits that were advanced
+-- this is a stage on a machine, which would be in a state in which the change can be made, were it
+-- not for the edits that were advanced
 pub record IsStageOf (g : Staged) (t : Stage) (before : State) (p : Operating) : Type 0 where
   pub ready : IsReady t.change before
   pub tells : Tells g.done t.change

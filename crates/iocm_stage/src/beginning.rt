@@ -20,10 +20,11 @@ use iocm_tree::{Edit, Tree};
 use iocm_types::Refused;
 use std::alloc::{AllocError, Allocator, Global};
 
-/// Begins a change: it is tried whole on a machine that keeps the rules, and taken back. Then it can be advanced, committed and aborted
-/// without memory. The state stays as it is.
+/// Begins a change: it is tried whole on a machine that keeps the rules, and taken back. Then it
+/// can be advanced, committed and aborted without memory. The state stays as it is.
 ///
-/// Refused as the activation of the tree is: by the first refusal that it means, or M1, where memory was wanted.
+/// Refused as the activation of the tree is: by the first refusal that it means, or M1, where
+/// memory was wanted.
 pub fn begin<A: Allocator>(
     alloc: Global,
     plant: &mut Plant,

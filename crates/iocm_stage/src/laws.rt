@@ -1,7 +1,8 @@
 ghost use Rattle.iocm_stage.specs.StageLaws.{StepsElsewherePassAStage};
 
-/// A step on a subchannel that isn't held leaves a stage one, and is answered as if no edit had been advanced: what is left does still what
-/// it did when the change was begun, and an abort leaves the state with the step alone.
+/// A step on a subchannel that isn't held leaves a stage one, and is answered as if no edit had
+/// been advanced: what is left does still what it did when the change was begun, and an abort
+/// leaves the state with the step alone.
 pub fn steps_elsewhere_pass_a_stage()
     ensures { StepsElsewherePassAStage }
 {}

@@ -12,8 +12,8 @@ use iocm_plant::Plant;
 use iocm_tree::Edit;
 use iocm_types::SubId;
 
-/// A change that was begun on a machine. Until it is committed or aborted there, no other change may be made on that machine, and no step on a subchannel that
-/// the change `holds`.
+/// A change that was begun on a machine. Until it is committed or aborted there, no other change
+/// may be made on that machine, and no step on a subchannel that the change `holds`.
 #[derive(Drop)]
 pub struct Staged {
     /// What is told of the change.
@@ -39,8 +39,8 @@ impl Staged {
         self.forward.len() as u64
     }
 
-    /// Performs the next edit. The answer is how many are left then; where none was left, nothing happens, and it is 0. Can't answer want of
-    /// memory.
+    /// Performs the next edit. The answer is how many are left then; where none was left, nothing
+    /// happens, and it is 0. Can't answer want of memory.
     pub fn advance(&mut self, plant: &mut Plant) -> u64
         requires { IsStaged self.old plant.old }
         ensures stage { (t : Stage) (s : State) → IsStageOf self.old t s plant.old → IsStageOf self.new (once_more t) s plant.new }
@@ -87,7 +87,8 @@ impl Staged {
         perform_all(plant, back);
     }
 
-    /// Takes back the edits that were advanced, and keeps the change staged. Can't answer want of memory.
+    /// Takes back the edits that were advanced, and keeps the change staged. Can't answer want of
+    /// memory.
     pub(crate) fn go_back(&mut self, plant: &mut Plant)
         requires { IsStaged self.old plant.old }
         ensures stage { (t : Stage) (s : State) → IsStageOf self.old t s plant.old → IsStageOf self.new (record { change = t.change; advances = 0 }) s plant.new }

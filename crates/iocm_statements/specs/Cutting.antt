@@ -19,7 +19,8 @@ IsBalanced text = nesting_behind start text ≡ Some start
 abbrev pub IsUncut : List ℕ → Type 0
 IsUncut piece = (a b : List ℕ) → piece ≡ a ++ 44 ∷ b → nesting_behind start a ≢ Some start
 
--- there are pieces; joined by commas they are the text; each is balanced, and has no comma at which to cut
+-- there are pieces; joined by commas they are the text; each is balanced, and has no comma at which
+-- to cut
 pub record IsCutInto (text : List ℕ) (pieces : List (List ℕ)) : Type 0 where
   pub some : pieces ≢ []
   pub joined : join_with_byte 44 pieces ≡ text

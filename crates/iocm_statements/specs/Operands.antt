@@ -43,7 +43,8 @@ abbrev pub operand_split : Fault → ℕ → List ℕ → Option ℕ → Result 
 operand_split fault place text (Some n) = keyword_operand fault text n
 operand_split fault place text None = Ok (Bare place, text)
 
--- what an operand at this place of its statement says; an empty one and one with a bad keyword are refused
+-- what an operand at this place of its statement says; an empty one and one with a bad keyword are
+-- refused
 abbrev pub operand_of : Fault → ℕ → List ℕ → Result Operand Fault
 operand_of fault place text =
     if length text == 0 then Err fault else operand_split fault place text (equals_from start text)

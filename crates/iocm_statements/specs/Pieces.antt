@@ -9,7 +9,8 @@ abbrev pub onto_first : List ℕ → List (List ℕ) → List (List ℕ)
 onto_first front [] = []
 onto_first front (piece ∷ pieces) = (front ++ piece) ∷ pieces
 
--- the pieces of a text that begins at this nesting; none where parentheses do not match or a quote does not end
+-- the pieces of a text that begins at this nesting; none where parentheses do not match or a quote
+-- does not end
 unfoldable pub pieces_from : Nesting → List ℕ → Option (List (List ℕ))
 pieces_from p [] = if is_outside p then Some ([] ∷ []) else None
 pieces_from p (b ∷ bs) =

@@ -10,8 +10,8 @@ use Rattle.iocm_statements.specs.Operands.{Operand, is_keyword, operand_of}
 abbrev pub HasNoEquals : List ℕ → Type 0
 HasNoEquals text = (a b : List ℕ) → text ≡ a ++ 61 ∷ b → nesting_behind start a ≢ Some start
 
--- the text at this place is a keyword, an equal sign and the value; or it is not empty, has no equal sign,
--- and is all of a bare text
+-- the text at this place is a keyword, an equal sign and the value; or it is not empty, has no
+-- equal sign, and is all of a bare text
 abbrev pub Says : ℕ → List ℕ → Operand → Type 0
 Says place text ((Keyword keyword), value) = (is_keyword keyword ≡ true) × (text ≡ keyword ++ 61 ∷ value)
 Says place text ((Bare at), word) = (at ≡ place) × (word ≡ text) × (text ≢ []) × HasNoEquals text

@@ -1,17 +1,19 @@
--- Readers of values: they give the value, or refuse it as malformed. At which line that stands is for the statement to say.
+-- Readers of values: they give the value, or refuse it as malformed. At which line that stands is
+-- for the statement to say.
 use Rattle.std.specs.Prelude.{◌≡◌, Option, None, Some, Result, Ok, Err}
 use Rattle.iocm_types.specs.declared.fault.Fault.{Fault}
 use Rattle.iocm_types.specs.Fault.{memory}
 use Rattle.iocm_statements.specs.declared.unread.Unread.{Unread}
 use Rattle.iocm_statements.specs.declared.unread.Unread.TheVariants.{Memory, Malformed}
 
--- what a refusal says of what was to be read: there is nothing, or, where memory was wanted, nothing is said
+-- what a refusal says of what was to be read: there is nothing, or, where memory was wanted,
+-- nothing is said
 abbrev pub Refuses : {Y : Type 0} → Unread → Option Y → Type 0
 Refuses Memory read = Unit {0}
 Refuses Malformed read = read ≡ None
 
--- what a reader promises: what it gives shows what was to be read, and where it is malformed there was nothing to be read;
--- only want of memory may come instead
+-- what a reader promises: what it gives shows what was to be read, and where it is malformed there
+-- was nothing to be read; only want of memory may come instead
 abbrev pub Reads : {X Y : Type 0} → (X → Y) → Result X Unread → Option Y → Type 0
 Reads view (Ok x) read = read ≡ Some (view x)
 Reads view (Err e) read = Refuses e read

@@ -1,11 +1,13 @@
 //! From joined statements to statements with their operands in order.
 //!
-//! `parse` goes over all statements of a deck. For each it finds the operation (S1), cuts the operand
-//! part at its commas outside parentheses and quotes (S6), splits each operand at its first equal sign
-//! (S4) and looks for keywords that come twice (S2). It knows nothing of what a keyword means.
+//! `parse` goes over all statements of a deck. For each it finds the operation (S1), cuts the
+//! operand part at its commas outside parentheses and quotes (S6), splits each operand at its first
+//! equal sign (S4) and looks for keywords that come twice (S2). It knows nothing of what a keyword
+//! means.
 //!
-//! The layer above reads values with `pieces`, which cuts any text at its commas, and answers `Unread` where a value has none
-//! of its forms. At which line that stands is said once, for the statement.
+//! The layer above reads values with `pieces`, which cuts any text at its commas, and answers
+//! `Unread` where a value has none of its forms. At which line that stands is said once, for the
+//! statement.
 //!
 //! Begin with `parser.rt`, then `split.rt`; `laws.rt` says what cutting means without saying how.
 

@@ -43,8 +43,8 @@ impl Model for Operands {
 }
 
 impl Operands {
-    /// The operands of a map, in its order. A map has room for nine at the least, and a deck has a statement for each
-    /// device, so the map is let go. Answers the want of memory alone.
+    /// The operands of a map, in its order. A map has room for nine at the least, and a deck has a
+    /// statement for each device, so the map is let go. Answers the want of memory alone.
     pub(crate) fn from_map(
         alloc: Global,
         map: IndexMap<OperandKey, Text>,
@@ -63,7 +63,8 @@ impl Operands {
         self.list.len()
     }
 
-    /// The key and the text of the operand at `index`, counted from 0 in the order of the statement.
+    /// The key and the text of the operand at `index`, counted from 0 in the order of the
+    /// statement.
     pub fn at(&self, index: usize) -> (&OperandKey, &[u8])
         requires { index < length self.now }
         ensures { (result.0.now, result.1.now) ≡ slice_index_or self.now index (result.0.now, result.1.now) }

@@ -64,10 +64,11 @@ fn make_statement(alloc: Global, joined: &Joined) -> Result<Statement, Fault>
 
 /// The statements of a deck, in order, each with the line of its first record.
 ///
-/// The first statement with a fault decides, and in it the first of these: S1, an operation that is not
-/// known here; S6, parentheses that do not match or a quote that does not end; S4, an empty operand or a
-/// bad keyword; S2, a keyword twice. A bare text may be repeated. M1 without memory. (IOCP User's Guide,
-/// coding of control statements; the numbers and the order of the faults are own.)
+/// The first statement with a fault decides, and in it the first of these: S1, an operation that is
+/// not known here; S6, parentheses that do not match or a quote that does not end; S4, an empty
+/// operand or a bad keyword; S2, a keyword twice. A bare text may be repeated. M1 without memory.
+/// (IOCP User's Guide, coding of control statements; the numbers and the order of the faults are
+/// own.)
 #[tactic(auto, using(iocm_types::proofs::Each::each_steps))]
 pub fn parse(alloc: Global, joined: &[Joined]) -> Result<Vec<Statement>, Fault>
     ensures { Gives (λ v. v.items) result (parsed joined.now) }

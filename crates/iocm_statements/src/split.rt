@@ -6,8 +6,8 @@ use crate::Unread;
 use crate::nesting::Nesting;
 use std::alloc::Global;
 
-/// Cuts `text` at its commas outside parentheses and quotes: `A,(B,C)` gives `A` and `(B,C)`, and the
-/// empty text gives one empty piece.
+/// Cuts `text` at its commas outside parentheses and quotes: `A,(B,C)` gives `A` and `(B,C)`, and
+/// the empty text gives one empty piece.
 ///
 /// Malformed where the parentheses do not match or a quote does not end.
 /// (IOCP User's Guide, coding of operands.)

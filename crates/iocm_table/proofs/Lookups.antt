@@ -1,4 +1,5 @@
--- Tables as finite maps: what a look-up, the number of rows and the rows in order are, in the order that clauses name.
+-- Tables as finite maps: what a look-up, the number of rows and the rows in order are, in the order
+-- that clauses name.
 use Rattle.std.proofs.Common.{◌≡◌, List, [], Option, length, refl, sym, ap, subst, ◌∙◌}
 use Rattle.std.specs.Option.{option_flatten}
 use Rattle.std.specs.Cmp.{IsTotalOrder}

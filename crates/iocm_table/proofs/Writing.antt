@@ -1,4 +1,5 @@
--- What is written to one slot, as a change of the rows: look-ups decide, since finite maps with the same look-ups are one.
+-- What is written to one slot, as a change of the rows: look-ups decide, since finite maps with the
+-- same look-ups are one.
 use Rattle.std.proofs.Common.{◌≡◌, ℕ, zero, suc, ◌+◌, ◌-◌, ◌≤◌, Bool, true, false, not, cond, T, List, [], ◌∷◌, Option, None, Some, is_some, length, refl, sym, ap, subst, ◌∙◌, arith}
 use Rattle.std.specs.List.{list_any}
 use Rattle.std.specs.Option.{option_flatten}

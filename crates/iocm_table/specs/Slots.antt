@@ -1,4 +1,5 @@
--- The slots of a table: keys that have a place, each with its row or empty; and the rows as a finite map.
+-- The slots of a table: keys that have a place, each with its row or empty; and the rows as a
+-- finite map.
 use Rattle.std.specs.Prelude.{◌≡◌, ℕ, true, T, List, length, [], ◌∷◌, Option, None, Some, map, filter}
 use Rattle.std.specs.List.{list_any}
 use Rattle.std.specs.Ordering.{eq_by_cmp, is_le}

@@ -13,8 +13,9 @@ use std::alloc::{AllocError, Allocator};
 use std::collections::BTreeMap;
 
 impl<K: TableKey + Drop, V: Drop, A: Allocator + Clone> Table<K, V, A> {
-    /// The table of some rows, no two of which have one key; their keys have places, and no others. The time is in proportion to the
-    /// number of rows where they stand in the order of keys, and else to that of sorting them.
+    /// The table of some rows, no two of which have one key; their keys have places, and no others.
+    /// The time is in proportion to the number of rows where they stand in the order of keys, and
+    /// else to that of sorting them.
     ///
     /// `AllocError` (M1): memory was wanted.
     pub fn from_rows<B: Allocator>(alloc: A, listed: Vec<(K, V), B>) -> Result<Self, AllocError>

@@ -11,8 +11,8 @@ use std::alloc::{AllocError, Allocator, Global};
 use std::collections::BTreeMap;
 use std::marker::Model;
 
-/// Rows under keys, in the order of keys. A key that is taken out keeps its place. Contracts see the rows as a
-/// finite map, and the keys that have a place.
+/// Rows under keys, in the order of keys. A key that is taken out keeps its place. Contracts see
+/// the rows as a finite map, and the keys that have a place.
 #[derive(Drop)]
 pub struct Table<K: TableKey, V, A: Allocator = Global> {
     pub(crate) slots: BTreeMap<K, Option<V>, A>,
@@ -73,15 +73,16 @@ impl<K: TableKey, V, A: Allocator> Table<K, V, A> {
         }
     }
 
-    /// A key that has a row has a place, in every table. It reads nothing, and is there for proofs: a row that is replaced
-    /// needs no call of `room`.
+    /// A key that has a row has a place, in every table. It reads nothing, and is there for proofs:
+    /// a row that is replaced needs no call of `room`.
     pub fn has_places(&self)
         ensures { RowsHavePlaces K.order self.now }
     {
         let _ = &self.len;
     }
 
-    /// Gives a key a place, if it has none. Each other key that has a place keeps it, no other key gets one, and no row changes.
+    /// Gives a key a place, if it has none. Each other key that has a place keeps it, no other key
+    /// gets one, and no row changes.
     ///
     /// `AllocError` (M1): memory was wanted, which can't be where the key has a place already.
     pub fn room(&mut self, key: K) -> Result<(), AllocError>
@@ -101,7 +102,8 @@ impl<K: TableKey, V, A: Allocator> Table<K, V, A> {
         add_place(&mut self.slots, key)
     }
 
-    /// Puts a row under a key that has a place, and gives back the row that was there. Can't answer want of memory.
+    /// Puts a row under a key that has a place, and gives back the row that was there. Can't answer
+    /// want of memory.
     pub fn put(&mut self, key: &K, row: V) -> Option<V>
         requires { HasPlace K.order self.old key.now }
         ensures before { result ≡ map.get (rows K.order self.old) key.now }

@@ -27,7 +27,8 @@ fn units_of(alloc: Global, numbers: &[u16]) -> Result<List<UnitNo>, Fail> {
     Ok(List::from_vec(listed))
 }
 
-/// The device of a number, with these control units. It is boxed, since whoever holds a record itself is slow to prove.
+/// The device of a number, with these control units. It is boxed, since whoever holds a record
+/// itself is slow to prove.
 fn device_of(alloc: Global, number: u16, units: &[u16]) -> Result<Box<Record>, Fail> {
     let units = units_of(alloc, units)?;
     let fields = DeviceFields {
@@ -79,7 +80,8 @@ fn nobody_names_anything_in_a_new_index(rt: HostRuntime) -> Result<(), Fail> {
     Ok(())
 }
 
-/// The index of the namings of two devices: 4001 with the control units 2000 and twice 1000, then 4000 with 1000.
+/// The index of the namings of two devices: 4001 with the control units 2000 and twice 1000, then
+/// 4000 with 1000.
 fn of_namings(alloc: Global) -> Result<Index, Fail> {
     let mut namings = Vec::new(alloc);
     list_of(alloc, &mut namings, 0x4001, &[0x2000, 0x1000, 0x1000])?;
@@ -157,7 +159,8 @@ fn a_record_that_is_unlinked_names_nothing(rt: HostRuntime) -> Result<(), Fail> 
     Ok(())
 }
 
-/// Links the device 4000 with two control units, unlinks it, and links it again without room being made.
+/// Links the device 4000 with two control units, unlinks it, and links it again without room being
+/// made.
 fn link_again(alloc: Global, index: &mut Index) -> Result<(), Fail> {
     let entry = device_of(alloc, 0x4000, &[0x1000, 0x2000])?;
     add(index, &entry)?;

@@ -30,7 +30,8 @@ fn place(in_css: u8, in_set: u8, device: u16) -> Result<Place, Fail> {
     })
 }
 
-/// Unit 1000 has paths in channel subsystems 0 and 1, unit 2000 one in 1, and unit 3000 one in 2; the devices come out of order.
+/// Unit 1000 has paths in channel subsystems 0 and 1, unit 2000 one in 1, and unit 3000 one in 2;
+/// the devices come out of order.
 const THREE_UNITS: &[u8] = b"         CNTLUNIT CUNUMBR=1000,PATH=((CSS(0),50),(CSS(1),50))
          CNTLUNIT CUNUMBR=2000,PATH=((CSS(1),50))
          CNTLUNIT CUNUMBR=3000,PATH=((CSS(2),50))
@@ -205,7 +206,8 @@ fn give_own(numbers: &mut Numbers, in_css: u8, in_set: u8, number: u16) -> Resul
     give(numbers, &there, number)
 }
 
-/// Gives each of the 65,536 numbers of a channel subsystem and set to the device of the same number.
+/// Gives each of the 65,536 numbers of a channel subsystem and set to the device of the same
+/// number.
 fn give_all(numbers: &mut Numbers, in_css: u8, in_set: u8) -> Result<(), Fail> {
     for number in 0..=u16::MAX {
         give_own(numbers, in_css, in_set, number)?;

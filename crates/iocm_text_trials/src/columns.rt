@@ -174,7 +174,8 @@ fn faults_have_their_lines(rt: HostRuntime) -> Result<(), Fail> {
     Ok(())
 }
 
-/// What reading from a reader whose first reads alone are good gives: the rule that refuses it, how many reads there were, and whether one has failed.
+/// What reading from a reader whose first reads alone are good gives: the rule that refuses it, how
+/// many reads there were, and whether one has failed.
 fn read_halting(alloc: Global, step: usize, good: u64) -> (Option<Rule>, u64, bool) {
     let mut device = Device::new(Halting {
         bytes: b"         ID\n\tBAD\n         ID\n",
@@ -189,7 +190,8 @@ fn read_halting(alloc: Global, step: usize, good: u64) -> (Option<Rule>, u64, bo
 /// How many bytes a read gives at most, and how many reads give 29 bytes and their end.
 const READS: &[(usize, u64)] = &[(8, 5), (1, 30)];
 
-/// After how many good reads, fewer than give all, a read that fails isn't refused by L5, if there is such a number.
+/// After how many good reads, fewer than give all, a read that fails isn't refused by L5, if there
+/// is such a number.
 fn first_not_refused(alloc: Global, step: usize, reads: u64) -> Option<u64> {
     for good in 0..reads {
         if read_halting(alloc, step, good) != (Some(Rule::L5), good + 1, true) {
@@ -208,7 +210,8 @@ fn a_reader_that_fails_in_mid_stream_is_unreadable(rt: HostRuntime) {
     }
 }
 
-/// How many bytes a read gives at most, the limit of reads, and how many cards two lines of 23 bytes give then.
+/// How many bytes a read gives at most, the limit of reads, and how many cards two lines of 23
+/// bytes give then.
 const LIMITS: &[(usize, u64, Option<usize>)] = &[
     (8, 0, None),
     (8, 1, None),
@@ -255,7 +258,8 @@ impl Read for Endless {
     }
 }
 
-/// The rule that refuses what has no end within eight reads, how many reads there were, and whether one has failed.
+/// The rule that refuses what has no end within eight reads, how many reads there were, and whether
+/// one has failed.
 fn read_endlessly(alloc: Global) -> (Option<Rule>, u64, bool) {
     let mut device = Device::new(Endless);
     let answer = read_cards(alloc, &mut device, 8);

@@ -1,4 +1,5 @@
-//! Text and its parts, tried by the calls of the crates that read and write it: there is nothing here to call.
+//! Text and its parts, tried by the calls of the crates that read and write it: there is nothing
+//! here to call.
 //!
 //! What prints itself (`types.rt`), cards and what they are joined to (`columns.rt`), statements
 //! (`statements.rt`), values and the numbers, names and lists in them (`values.rt`), scripts

@@ -77,7 +77,8 @@ const REFUSED: &[(&[u8], &[u8], Rule)] = &[
     (b"CHOOSE", b"A='A,A',A=()", Rule::S2),
 ];
 
-/// The fault of a deck with this statement on line 7, behind one without a fault and before one with a fault.
+/// The fault of a deck with this statement on line 7, behind one without a fault and before one
+/// with a fault.
 fn fault_between(alloc: Global, operation: &[u8], text: &[u8]) -> Option<Fault> {
     let lines: [(usize, &[u8], &[u8]); 3] = [
         (3, b"ID", b"A,A,B==1,C='),'"),

@@ -1,4 +1,5 @@
--- The live records that come along with an edit: the rows of its parts, and others of the same subchannels.
+-- The live records that come along with an edit: the rows of its parts, and others of the same
+-- subchannels.
 use Rattle.std.proofs.Common.{◌≡◌, List, sym, ap, ◌∙◌}
 use Rattle.std.specs.Map.{keys_of}
 use Rattle.std.specs.FinMap.{entries, keys, entries-from_sorted}

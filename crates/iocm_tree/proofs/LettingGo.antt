@@ -59,7 +59,8 @@ module _ {A : Type 0} where
   rotated : (xs : List (Tree A)) (x : Tree A) (n : ℕ) → n ≡ length xs → drop n (xs ++ x ∷ []) ++ take n (xs ++ x ∷ []) ≡ x ∷ xs
   rotated xs x n is = ap (λ ys. ys ++ take n (xs ++ x ∷ [])) (drop_at xs (x ∷ []) n (sym is)) ∙ ap (λ ys. x ∷ ys) (take_at xs (x ∷ []) n (sym is))
 
-  -- a tree beside others is more work than its parts, the first of which is a Row of the others and its last part
+  -- a tree beside others is more work than its parts, the first of which is a Row of the others and
+  -- its last part
   pub work_under : (rest rest_and_last inner fewer pushed turned : List (Tree A)) (tree last under : Tree A) (n : ℕ) → 0 < length rest → nodes (tree_of tree) ≡ nodes_in (plain_parts (parts_of inner)) + 1
       → inner ≡ fewer ++ last ∷ [] → rest_and_last ≡ rest ++ last ∷ [] → tree_of under ≡ row (parts_of rest_and_last)
       → pushed ≡ fewer ++ under ∷ [] → n ≡ length fewer → turned ≡ drop n pushed ++ take n pushed

@@ -1,4 +1,5 @@
--- Rows in the order of their keys: as a finite map where there are none, and others of the same keys.
+-- Rows in the order of their keys: as a finite map where there are none, and others of the same
+-- keys.
 use Rattle.std.proofs.Common.{◌≡◌, Bool, true, ◌&&◌, List, [], ◌∷◌, length, T, refl, sym, ap, subst, ◌∙◌}
 use Rattle.std.proofs.lemmas.Map.Entries.{length-keys_of}
 use Rattle.std.specs.Map.{keys_of}

@@ -1,4 +1,5 @@
--- Trees in memory: what a node is, one part among the parts of a node, and parts that were copied so far.
+-- Trees in memory: what a node is, one part among the parts of a node, and parts that were copied
+-- so far.
 use Rattle.std.proofs.Common.{◌≡◌, ℕ, ◌+◌, ◌<◌, ◌≤◌, List, [], ◌∷◌, ◌++◌, length, get_or, map, take, drop, zero, suc, arith, sym, ap, subst, ◌∙◌, rules, Vec}
 use Rattle.std.proofs.lemmas.List.{take_all, take_more, map-append, at_drop_all}
 use Rattle.iocm_model.specs.Change.Tree.{nodes_of, nodes_in}

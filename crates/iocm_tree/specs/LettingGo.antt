@@ -4,7 +4,8 @@ use Rattle.iocm_model.specs.Change.Tree.{nodes_in}
 use Rattle.iocm_tree.specs.Trees.{CarriedTree, CarriedParts, leaf, row, group, choose, none, part, plain_parts}
 
 abbrev mutual
-  -- the work that is left: a node counts once that is reached by first parts alone, any other one twice, since it may be put under a first part
+  -- the work that is left: a node counts once that is reached by first parts alone, any other one
+  -- twice, since it may be put under a first part
   pub work_of : CarriedTree → ℕ
   work_of (leaf c) = 1
   work_of (row ps) = work_in ps + 1

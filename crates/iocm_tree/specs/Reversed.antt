@@ -2,7 +2,8 @@
 use Rattle.iocm_tree.specs.Trees.{CarriedTree, CarriedParts, leaf, row, group, choose, none, part}
 
 abbrev mutual
-  -- Rows and Groups in reverse order, all the way down; the parts of a Choose stay in their order, and are reversed inside
+  -- Rows and Groups in reverse order, all the way down; the parts of a Choose stay in their order,
+  -- and are reversed inside
   pub reversed : CarriedTree → CarriedTree
   reversed (leaf c) = leaf c
   reversed (row ps) = row (reversed_before ps none)

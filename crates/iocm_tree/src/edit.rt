@@ -22,20 +22,23 @@ pub struct Parts<A: Allocator = Global> {
     pub kept: Vec<(SubId, Live), A>,
     /// Room for the way back: the places whose subchannel numbers it frees, each with its number.
     pub frees: Vec<(Place, u16), A>,
-    /// Room for the way back: a row for each subchannel that it alters and finds with a live record, in the order of
-    /// subchannels. What stands in a row's live record doesn't count: it is overwritten when the edit is performed.
+    /// Room for the way back: a row for each subchannel that it alters and finds with a live
+    /// record, in the order of subchannels. What stands in a row's live record doesn't count: it is
+    /// overwritten when the edit is performed.
     pub meets: Vec<(SubId, Live), A>,
 }
 
-/// One edit of a machine's configuration: its action, the subchannel numbers and the live records that come along, and
-/// room for its way back, which is filled without memory when it is performed. An edit made by hand has no room. Contracts
-/// see it as the model's edit, with the numbers that it frees and the subchannels whose live records it has room for,
-/// whatever its allocator. The room is own.
+/// One edit of a machine's configuration: its action, the subchannel numbers and the live records
+/// that come along, and room for its way back, which is filled without memory when it is performed.
+/// An edit made by hand has no room. Contracts see it as the model's edit, with the numbers that it
+/// frees and the subchannels whose live records it has room for, whatever its allocator. The room
+/// is own.
 pub struct Edit<A: Allocator = Global> {
     parts: Parts<A>,
 }
 
-/// Written by hand, so that how its parts are let go is proved here alone, and not in each crate that lets an edit go.
+/// Written by hand, so that how its parts are let go is proved here alone, and not in each crate
+/// that lets an edit go.
 impl<A: Allocator> Drop for Edit<A> {
     fn drop(self) {
         let Edit { parts } = self;
@@ -66,7 +69,8 @@ impl<A: Allocator> Model for Edit<A> {
 }
 
 impl<A: Allocator + Copy> Edit<A> {
-    /// The edit that adds a record. Nothing comes along, and it has no room for its way back. Can't answer want of memory.
+    /// The edit that adds a record. Nothing comes along, and it has no room for its way back. Can't
+    /// answer want of memory.
     pub fn add(alloc: A, entry: Record<A>) -> Self
         ensures { result ≡ bare (edits.add entry) }
     {
@@ -75,8 +79,8 @@ impl<A: Allocator + Copy> Edit<A> {
         }
     }
 
-    /// The edit that deletes the record of a key. Nothing comes along, and it has no room for its way back. Can't answer
-    /// want of memory.
+    /// The edit that deletes the record of a key. Nothing comes along, and it has no room for its
+    /// way back. Can't answer want of memory.
     pub fn delete(alloc: A, key: Key) -> Self
         ensures { result ≡ bare (edits.delete key) }
     {
@@ -85,8 +89,8 @@ impl<A: Allocator + Copy> Edit<A> {
         }
     }
 
-    /// The edit that replaces the record of a key. Nothing comes along, and it has no room for its way back. Can't answer
-    /// want of memory.
+    /// The edit that replaces the record of a key. Nothing comes along, and it has no room for its
+    /// way back. Can't answer want of memory.
     pub fn modify(alloc: A, entry: Record<A>) -> Self
         ensures { result ≡ bare (edits.modify entry) }
     {
@@ -97,7 +101,8 @@ impl<A: Allocator + Copy> Edit<A> {
 }
 
 impl<A: Allocator> Edit<A> {
-    /// The edit of these parts, whose live records and whose room for them stand in the order of subchannels.
+    /// The edit of these parts, whose live records and whose room for them stand in the order of
+    /// subchannels.
     pub fn from_parts(parts: Parts<A>) -> Self
         requires { HasOrder parts }
         ensures { result ≡ carried_of parts }
@@ -149,15 +154,16 @@ impl<A: Allocator> Edit<A> {
         self.parts.kept.as_slice()
     }
 
-    /// The places whose subchannel numbers performing it frees, each with its number, so far as it has room for them.
+    /// The places whose subchannel numbers performing it frees, each with its number, so far as it
+    /// has room for them.
     pub fn frees(&self) -> &[(Place, u16)]
         ensures { result.now ≡ self.now.frees }
     {
         self.parts.frees.as_slice()
     }
 
-    /// A row for each subchannel whose live record it has room for, in the order of subchannels. The live records in the
-    /// rows don't count.
+    /// A row for each subchannel whose live record it has room for, in the order of subchannels.
+    /// The live records in the rows don't count.
     pub fn meets(&self) -> &[(SubId, Live)]
         ensures subchannels { keys_of result.now ≡ self.now.meets }
         ensures order { AreInOrder result.now }
@@ -165,7 +171,8 @@ impl<A: Allocator> Edit<A> {
         self.parts.meets.as_slice()
     }
 
-    /// Overwrites the live records that come along by others of the same subchannels. Can't answer want of memory.
+    /// Overwrites the live records that come along by others of the same subchannels. Can't answer
+    /// want of memory.
     pub fn set_kept(&mut self, rows: &[(SubId, Live)])
         requires { keys_of rows.now ≡ map.keys self.old.edit.lives }
         ensures lives { map.entries self.new.edit.lives ≡ rows.now }

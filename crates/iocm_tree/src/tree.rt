@@ -23,9 +23,10 @@ const MOST_DEPTH: u32 = 32;
 /// The most leaves of a tree that isn't refused.
 const MOST_LEAVES: u32 = 4096;
 
-/// A change tree: edits of a machine's configuration, and what is done with them together. A leaf has depth 1, as a node
-/// without parts; nodes are numbered in preorder from 0. Contracts see it by `tree_of` as a tree of edits with their room for
-/// the way back, and by `plain_tree` of that as the model's change tree, whatever its allocator. The words are own.
+/// A change tree: edits of a machine's configuration, and what is done with them together. A leaf
+/// has depth 1, as a node without parts; nodes are numbered in preorder from 0. Contracts see it by
+/// `tree_of` as a tree of edits with their room for the way back, and by `plain_tree` of that as
+/// the model's change tree, whatever its allocator. The words are own.
 pub enum Tree<A: Allocator = Global> {
     /// One edit.
     Leaf(Edit<A>),
@@ -75,7 +76,8 @@ impl<A: Allocator> Tree<A> {
         }
     }
 
-    /// An equal tree under another allocator, each edit with the same room for its way back. It calls itself as deep as the tree is.
+    /// An equal tree under another allocator, each edit with the same room for its way back. It
+    /// calls itself as deep as the tree is.
     ///
     /// `AllocError` (M1): memory was wanted.
     pub fn copy_in<B: Allocator + Copy>(&self, alloc: B) -> Result<Tree<B>, AllocError>
@@ -84,8 +86,9 @@ impl<A: Allocator> Tree<A> {
         copying::copy_tree(self, alloc)
     }
 
-    /// The tree in reverse order: Rows and Groups all the way down; the parts of a Choose stay in their order, and are reversed
-    /// inside. It is done in place, so it can't answer want of memory, and calls itself as deep as the tree is.
+    /// The tree in reverse order: Rows and Groups all the way down; the parts of a Choose stay in
+    /// their order, and are reversed inside. It is done in place, so it can't answer want of
+    /// memory, and calls itself as deep as the tree is.
     pub fn reverse(self) -> Self
         ensures { tree_of result ≡ reversed (tree_of self) }
     {
@@ -101,8 +104,8 @@ impl<A: Allocator> Tree<A> {
         limits::depth_within(self, MOST_DEPTH + 1)
     }
 
-    /// Its leaves, 1 to 4,096; 4,097 where there are more. A node without parts counts as one. It calls itself as deep as the
-    /// tree is.
+    /// Its leaves, 1 to 4,096; 4,097 where there are more. A node without parts counts as one. It
+    /// calls itself as deep as the tree is.
     pub fn leaves(&self) -> u32
         ensures { result ≡ min (most_leaves + 1) (leaves_of (plain_tree (tree_of self.now))) }
     {
@@ -117,8 +120,9 @@ impl<A: Allocator> Tree<A> {
         nodes::count_nodes(self)
     }
 
-    /// Why the tree is refused in every state, if it is over a limit: C1 where it is deeper than 32, else C2 where it has more
-    /// than 4,096 leaves; the refusal names no node. It calls itself no deeper than 33 however deep the tree is.
+    /// Why the tree is refused in every state, if it is over a limit: C1 where it is deeper than
+    /// 32, else C2 where it has more than 4,096 leaves; the refusal names no node. It calls itself
+    /// no deeper than 33 however deep the tree is.
     pub fn refusal(&self) -> Option<Refused>
         ensures value { result ≡ limit_refusal (plain_tree (tree_of self.now)) }
         ensures meaning { (s : State) → meaning (plain_tree (tree_of self.now)) s ≡ meaning_unless result (plain_tree (tree_of self.now)) s }
@@ -138,8 +142,8 @@ impl<A: Allocator> Tree<A> {
     }
 }
 
-/// What is still to be let go of these parts and one more tree: the parts of that tree, the first of which is a Row of what
-/// else there is. Can't answer want of memory.
+/// What is still to be let go of these parts and one more tree: the parts of that tree, the first
+/// of which is a Row of what else there is. Can't answer want of memory.
 fn opened<A: Allocator>(rest: Vec<Tree<A>, A>, tree: Tree<A>) -> Vec<Tree<A>, A>
     requires { vec_len rest < vec_capacity rest }
     ensures { work_in (parts_of result.items) < work_in (parts_of (rest.items ++ tree ∷ [])) }

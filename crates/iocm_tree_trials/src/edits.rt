@@ -93,7 +93,8 @@ fn has_no_rows(edit: &Edit, verb: Verb, limit: Option<u16>) -> bool {
     told(edit) == (verb, LIMIT, limit) && row_counts(edit) == [0; 4]
 }
 
-/// Whether an edit modifies the limit and has the rows of those parts, with a parameter in the live record that comes along.
+/// Whether an edit modifies the limit and has the rows of those parts, with a parameter in the live
+/// record that comes along.
 fn has_their_rows(edit: &Edit, image: &Image, parm: u32) -> bool {
     told(edit) == (Verb::Modify, LIMIT, Some(200))
         && edit.places() == [numbered(0x1000, 7)].as_slice()
@@ -102,7 +103,8 @@ fn has_their_rows(edit: &Edit, image: &Image, parm: u32) -> bool {
         && edit.meets() == [live(image, 3, 30)].as_slice()
 }
 
-/// The same of an edit without rows, which is let go: here, and not in the trials, so that they need no proof of it.
+/// The same of an edit without rows, which is let go: here, and not in the trials, so that they
+/// need no proof of it.
 fn is_made_by_hand(edit: Edit, verb: Verb, limit: Option<u16>) -> bool {
     has_no_rows(&edit, verb, limit)
 }

@@ -1,7 +1,9 @@
-//! Change trees as values and as text, tried by the calls of their crates: there is nothing here to call.
+//! Change trees as values and as text, tried by the calls of their crates: there is nothing here to
+//! call.
 //!
-//! Edits (`edits.rt`) and trees (`trees.rt`) as values, the records of a part's statements (`change_records.rt`), trees that are read of a change deck
-//! (`reading.rt`), and trees that are written as one (`writing.rt`). `shown.rt` tells all of a tree as a text.
+//! Edits (`edits.rt`) and trees (`trees.rt`) as values, the records of a part's statements
+//! (`change_records.rt`), trees that are read of a change deck (`reading.rt`), and trees that are
+//! written as one (`writing.rt`). `shown.rt` tells all of a tree as a text.
 #![tactic(auto)]
 
 #[cfg(test)]

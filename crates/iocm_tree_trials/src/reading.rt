@@ -3,7 +3,7 @@ use iocm_columns::{Device, Joined, join, read_cards};
 use iocm_record::{Record, RecordBody};
 use iocm_statements::{Statement, parse};
 use iocm_tree::{Edit, Tree};
-use iocm_treetext::read_tree;
+use iocm_tree_reader::read_tree;
 use iocm_types::{Chpid, Css, DevNo, Fault, Key, Name, SetNo, Text, UnitNo};
 use std::alloc::Global;
 use std::test::Fail;
@@ -61,8 +61,8 @@ fn pair(alloc: Global, name: Name) -> Edit {
     Edit::add(alloc, Record::new(body))
 }
 
-/// The edit of the leaf that a sign stands for: 1 to 4 delete the device of that number, U deletes the control unit 1000, and A and B add the pairs of the
-/// images LPA and LPB.
+/// The edit of the leaf that a sign stands for: 1 to 4 delete the device of that number, U deletes
+/// the control unit 1000, and A and B add the pairs of the images LPA and LPB.
 fn leaf(alloc: Global, sign: u8) -> Option<Edit> {
     match sign {
         b'1' => Some(device(alloc, 1)),

@@ -42,7 +42,8 @@ pub fn show_edit(text: &mut String, edit: &Edit) -> Result<(), Fail> {
     Ok(())
 }
 
-/// Puts the parts of a node, and the signs between them and behind them, before what is still to be shown.
+/// Puts the parts of a node, and the signs between them and behind them, before what is still to be
+/// shown.
 fn put_parts<'a>(items: &mut Vec<Item<'a>>, parts: &'a [Tree]) -> Result<(), AllocError> {
     items.push(Item::Sign("])"))?;
     for back in 0..parts.len() {

@@ -6,7 +6,8 @@ use iocm_types::{At, Css, Key, Refused, Rule, SetNo};
 use std::alloc::{AllocError, Global};
 use std::test::Fail;
 
-/// A leaf that adds the limit of set 0 in channel subsystem 0, which is told from others by the limit.
+/// A leaf that adds the limit of set 0 in channel subsystem 0, which is told from others by the
+/// limit.
 fn leaf(alloc: Global, limit: u16) -> Tree {
     let body = RecordBody::Limit(Css::FIRST, SetNo::FIRST, limit);
     Tree::Leaf(Edit::add(alloc, Record::new(body)))
@@ -111,7 +112,8 @@ fn rows_and_groups_are_reversed(rt: HostRuntime) -> Result<(), Fail> {
     Ok(())
 }
 
-/// The depth of a tree, its leaves and its refusal. The tree is let go here, as below, and not in the trials, so that they need no proof of it.
+/// The depth of a tree, its leaves and its refusal. The tree is let go here, as below, and not in
+/// the trials, so that they need no proof of it.
 fn limits(tree: Tree) -> (u32, u32, Option<Refused>) {
     (tree.depth(), tree.leaves(), tree.refusal())
 }

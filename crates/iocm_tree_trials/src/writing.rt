@@ -46,7 +46,8 @@ DELETE   ONLINE PATH=(CSS(0),51),PARTITION=(LPA)
          END
 ";
 
-/// The same of deletions: of each kind of record, and in other sets and channel subsystems than the first.
+/// The same of deletions: of each kind of record, and in other sets and channel subsystems than the
+/// first.
 const DELETIONS: &[u8] = b"         ROW
 DELETE   IODEVICE ADDRESS=(1000,1)
 DELETE   IODEVICE ADDRESS=(1000,1),SCHSET=2

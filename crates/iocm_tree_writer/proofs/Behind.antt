@@ -2,7 +2,7 @@
 use Rattle.std.proofs.Common.{◌≡◌, ℕ, List, [], ◌∷◌, ◌++◌, Ok, refl, ap, ◌∙◌, append_assoc}
 use Rattle.iocm_types.specs.Fault.{◌>>=◌}
 use Rattle.iocm_statements.specs.declared.statement.Statement.{Statement}
-use Rattle.iocm_treetext.specs.Reading.{Reading, read_next, read_from}
+use Rattle.iocm_tree_reader.specs.Reading.{Reading, read_next, read_from}
 use Rattle.iocm_tree_writer.specs.Again.{as_read}
 use Rattle.iocm_tree_writer.specs.Written.{Line}
 

@@ -30,12 +30,12 @@ use Rattle.iocm_operands.specs.Resource.{mif_of, image_text, images_text}
 use Rattle.iocm_operands.proofs.Grouped.{IsReadAgain, items_by_css_again}
 use Rattle.iocm_operands.proofs.Names.{name_plain, name_again}
 use Rattle.iocm_operands.proofs.Operands.{path_again, number_again, devices_again, set_again}
-use Rattle.iocm_canonical.specs.Again.{placed}
+use Rattle.iocm_deck_writer.specs.Again.{placed}
 use Rattle.iocm_change_records.specs.declared.image_keys.ImageKey.{ImageKey}
 use Rattle.iocm_change_records.specs.Keys.{key_fault, keys_given, keys_unless, keys_of}
 use Rattle.iocm_change_records.specs.ResourceKeys.{image_key, image_key_listed, image_keys, key_of_image}
-use Rattle.iocm_rereading.proofs.LeftOut.{IsInOneCss, names_one_css, plain_in_one, list_in_one}
-use Rattle.iocm_rereading.proofs.OneSubsystem.{hex1_in_one, hex4_in_one, path_in_one, names_one_path, names_in_one, devices_in_one, by_css_in_one, limits_in_one}
+use Rattle.iocm_round_trip.proofs.LeftOut.{IsInOneCss, names_one_css, plain_in_one, list_in_one}
+use Rattle.iocm_round_trip.proofs.OneSubsystem.{hex1_in_one, hex4_in_one, path_in_one, names_one_path, names_in_one, devices_in_one, by_css_in_one, limits_in_one}
 use Rattle.iocm_tree_writer.specs.Again.{as_read}
 use Rattle.iocm_tree_writer.specs.Given.{IsGivenKey, IsImagePlace, IsLimitPlace, IsDevicePlace, IsPair}
 use Rattle.iocm_tree_writer.specs.Leaves.{key_statement}

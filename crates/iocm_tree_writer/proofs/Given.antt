@@ -1,4 +1,5 @@
--- A record that is added or modified is read again of its line: the statement of one record gives this record alone.
+-- A record that is added or modified is read again of its line: the statement of one record gives
+-- this record alone.
 use Rattle.std.proofs.Common.{◌≡◌, ◌≢◌, ℕ, not, Bool, true, false, Option, Some, None, List, [], ◌∷◌, ◌++◌, ◌⊎◌, inl, inr, All, map, Ok, codes, refl, sym, ap, ◌∙◌, subst, append-nil}
 use Rattle.std.proofs.lemmas.Bool.{and_right}
 use Rattle.std.proofs.lemmas.List.Elements.{All-nil, All-cons, All-head}
@@ -21,26 +22,26 @@ use Rattle.iocm_values.proofs.Pieces.{AllWhole, whole_plain}
 use Rattle.iocm_operands.specs.Again.{IsNameSet}
 use Rattle.iocm_operands.specs.ChpidPath.{path_text}
 use Rattle.iocm_operands.specs.ChpidPartition.{rec_texts, partition_text}
-use Rattle.iocm_records.specs.Deck.{is_of_changes, is_repeated, first_fault, records_unless, read_statement, with_statement, read_from, machine_images, nothing_read}
-use Rattle.iocm_records.specs.ResourceRecords.{carried_records}
-use Rattle.iocm_canonical.specs.Again.{placed}
-use Rattle.iocm_canonical.specs.Canonical.{chpid_operands, chpid_statement, is_reconfigurable, shared_words}
-use Rattle.iocm_canonical.specs.Device.{Run, iodevice_statement}
-use Rattle.iocm_canonical.specs.Statement.{Statement, valued}
+use Rattle.iocm_record_reader.specs.Deck.{is_of_changes, is_repeated, first_fault, records_unless, read_statement, with_statement, read_from, machine_images, nothing_read}
+use Rattle.iocm_record_reader.specs.ResourceRecords.{carried_records}
+use Rattle.iocm_deck_writer.specs.Again.{placed}
+use Rattle.iocm_deck_writer.specs.Canonical.{chpid_operands, chpid_statement, is_reconfigurable, shared_words}
+use Rattle.iocm_deck_writer.specs.Device.{Run, iodevice_statement}
+use Rattle.iocm_deck_writer.specs.Statement.{Statement, valued}
 use Rattle.iocm_change_records.specs.Listed.{partition_items, written_shape, shape_of, ungrouped, lacks_lists, wants_lists}
 use Rattle.iocm_change_records.specs.Whole.{alone, path_alone, given}
-use Rattle.iocm_rereading.specs.Again.{expanded}
-use Rattle.iocm_rereading.specs.Given.{IsGiven, IsGivenDevice, IsGivenPath}
-use Rattle.iocm_rereading.specs.Running.{IsGivenRun}
-use Rattle.iocm_rereading.specs.Stating.{IsReadAs, path_records}
-use Rattle.iocm_rereading.proofs.BySubsystem.{images_by_css, limits_are}
-use Rattle.iocm_rereading.proofs.Deck.{nothing_carried}
-use Rattle.iocm_rereading.proofs.Looked.{text_found, text_of}
-use Rattle.iocm_rereading.proofs.OneKey.{deck_has_no_key_twice}
-use Rattle.iocm_rereading.proofs.OperandTexts.{names_clean}
-use Rattle.iocm_rereading.proofs.Reading.{all_are_read}
-use Rattle.iocm_rereading.proofs.Running.{are_runs_of_devices, are_given_runs}
-use Rattle.iocm_rereading.proofs.Stated.{id_again, resource_again, chpid_again, cntlunit_again, iodevice_again}
+use Rattle.iocm_round_trip.specs.Again.{expanded}
+use Rattle.iocm_round_trip.specs.Given.{IsGiven, IsGivenDevice, IsGivenPath}
+use Rattle.iocm_round_trip.specs.Running.{IsGivenRun}
+use Rattle.iocm_round_trip.specs.Stating.{IsReadAs, path_records}
+use Rattle.iocm_round_trip.proofs.BySubsystem.{images_by_css, limits_are}
+use Rattle.iocm_round_trip.proofs.Deck.{nothing_carried}
+use Rattle.iocm_round_trip.proofs.Looked.{text_found, text_of}
+use Rattle.iocm_round_trip.proofs.OneKey.{deck_has_no_key_twice}
+use Rattle.iocm_round_trip.proofs.OperandTexts.{names_clean}
+use Rattle.iocm_round_trip.proofs.Reading.{all_are_read}
+use Rattle.iocm_round_trip.proofs.Running.{are_runs_of_devices, are_given_runs}
+use Rattle.iocm_round_trip.proofs.Stated.{id_again, resource_again, chpid_again, cntlunit_again, iodevice_again}
 use Rattle.iocm_tree.specs.declared.verb.Verb.{Verb}
 use Rattle.iocm_tree_writer.specs.Leaves.{IsDeckRecord, record_statement}
 

@@ -1,4 +1,5 @@
--- A deleted limit is read again: its place has 0, those of the sets before it are empty. Each place is computed.
+-- A deleted limit is read again: its place has 0, those of the sets before it are empty. Each place
+-- is computed.
 use Rattle.std.proofs.Common.{◌≡◌, ℕ, zero, suc, ◌<◌, List, [], ◌∷◌, ◌++◌, Some, replicate, codes, refl, sym, ap, ◌∙◌, arith}
 use Rattle.std.specs.Fmt.{decimal}
 use Rattle.iocm_types.specs.declared.key.Key.TheVariants.{Limit}

@@ -4,8 +4,8 @@ use Rattle.std.proofs.lemmas.Bool.Decides.{nat_tests}
 use Rattle.iocm_types.specs.declared.rule.Rule.TheVariants.{C1, C2}
 use Rattle.iocm_model.specs.Change.Tree.{depth_of, leaves_of, most_depth, most_leaves}
 use Rattle.iocm_tree.specs.Trees.{CarriedTree, plain_tree}
-use Rattle.iocm_treetext.specs.Sizes.{size_of}
-use Rattle.iocm_treetext.proofs.Limits.{over-size}
+use Rattle.iocm_tree_reader.specs.Sizes.{size_of}
+use Rattle.iocm_tree_reader.proofs.Limits.{over-size}
 use Rattle.iocm_tree_writer.proofs.Sizes.{IsWithin}
 
 not_over : (most n : ℕ) → n ≤ most → nat_lt most n ≡ false

@@ -1,4 +1,5 @@
--- The lines of a tree are read as the tree: its leaves one behind the other, and each node closed by its END.
+-- The lines of a tree are read as the tree: its leaves one behind the other, and each node closed
+-- by its END.
 use Rattle.std.proofs.Common.{◌≡◌, ℕ, None, List, [], ◌∷◌, ◌++◌, Result, Ok, refl, sym, ap, ◌∙◌, subst, append_assoc, append-nil}
 use Rattle.iocm_types.specs.declared.fault.Fault.{Fault}
 use Rattle.iocm_types.specs.Fault.{◌>>=◌}
@@ -7,13 +8,13 @@ use Rattle.iocm_statements.specs.declared.operation.Operation.TheVariants as ope
 use Rattle.iocm_statements.specs.declared.statement.Statement.{Statement}
 use Rattle.iocm_tree.specs.Carried.{Carried}
 use Rattle.iocm_tree.specs.Trees.{CarriedTree, CarriedParts, leaf, row, group, choose, none, part, parts_from, plain_parts, plain_tree}
-use Rattle.iocm_treetext.specs.declared.kind.Kind.{Kind}
-use Rattle.iocm_treetext.specs.declared.kind.Kind.TheVariants.{Row, Group, Choose}
-use Rattle.iocm_treetext.specs.Leaves.{edits_of, node_of_edits}
-use Rattle.iocm_treetext.specs.Reading.{OpenNode, Reading, node_of_kind, with_node, opened, tree_so_far, over_limit, unless_over, limited, read_next, read_from, done_by, with_edits}
-use Rattle.iocm_treetext.specs.Sizes.{size_of, size_among, beside, inside, size_of_empty}
-use Rattle.iocm_treetext.proofs.Counting.{among-more, size-node}
-use Rattle.iocm_treetext.proofs.Limits.{over_node, over_opened}
+use Rattle.iocm_tree_reader.specs.declared.kind.Kind.{Kind}
+use Rattle.iocm_tree_reader.specs.declared.kind.Kind.TheVariants.{Row, Group, Choose}
+use Rattle.iocm_tree_reader.specs.Leaves.{edits_of, node_of_edits}
+use Rattle.iocm_tree_reader.specs.Reading.{OpenNode, Reading, node_of_kind, with_node, opened, tree_so_far, over_limit, unless_over, limited, read_next, read_from, done_by, with_edits}
+use Rattle.iocm_tree_reader.specs.Sizes.{size_of, size_among, beside, inside, size_of_empty}
+use Rattle.iocm_tree_reader.proofs.Counting.{among-more, size-node}
+use Rattle.iocm_tree_reader.proofs.Limits.{over_node, over_opened}
 use Rattle.iocm_tree_writer.specs.Again.{as_read, ReadsLeafAgain}
 use Rattle.iocm_tree_writer.specs.Given.{IsGivenEdit, IsGivenTree, AreGivenParts}
 use Rattle.iocm_tree_writer.specs.Written.{Line, action_line, word_line, enclosed, tree_lines, lines_in}

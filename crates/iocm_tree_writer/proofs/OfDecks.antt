@@ -1,14 +1,15 @@
--- Each record of a configuration deck can be added, deleted and, unless it is an Online record, modified.
+-- Each record of a configuration deck can be added, deleted and, unless it is an Online record,
+-- modified.
 use Rattle.std.proofs.Common.{List, [], ◌∷◌, All, subst}
 use Rattle.std.proofs.lemmas.List.Elements.{All-nil, All-cons, All-head, All-tail, All-append, All-map}
 use Rattle.std.proofs.lemmas.Result.{IfOk-at_ok}
 use Rattle.std.specs.List.{flat_map}
 use Rattle.iocm_model.specs.Machine.Record.{Rec, id, resource, image, limit, path, unit, device, online}
-use Rattle.iocm_records.specs.ChpidRecords.{online_to}
-use Rattle.iocm_rereading.specs.Again.{expanded}
-use Rattle.iocm_rereading.specs.Given.{IsGiven}
-use Rattle.iocm_rereading.proofs.GivenRecords.{gives_records}
-use Rattle.iocm_rereading.proofs.Whole.{AreOfDeck, records_are_of_deck}
+use Rattle.iocm_record_reader.specs.ChpidRecords.{online_to}
+use Rattle.iocm_round_trip.specs.Again.{expanded}
+use Rattle.iocm_round_trip.specs.Given.{IsGiven}
+use Rattle.iocm_round_trip.proofs.GivenRecords.{gives_records}
+use Rattle.iocm_round_trip.proofs.Whole.{AreOfDeck, records_are_of_deck}
 use Rattle.iocm_tree_writer.specs.Again.{GivesActions}
 use Rattle.iocm_tree_writer.specs.Given.{IsOfDecks}
 

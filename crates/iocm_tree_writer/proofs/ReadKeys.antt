@@ -32,10 +32,10 @@ use Rattle.iocm_operands.specs.Resource.{mif_of}
 use Rattle.iocm_operands.specs.Unit.{number_of}
 use Rattle.iocm_operands.proofs.Given.{no_value, same_value, step_gave, then_gave, map_gave, test_gave, hex_small, not_zero, every_gave, path_given, number_given, set_given, devices_given}
 use Rattle.iocm_operands.proofs.Ordered.{by_css_gave}
-use Rattle.iocm_records.specs.ChpidRecords.{chpid_path}
-use Rattle.iocm_records.specs.DeviceRecords.{statement_devices, device_set}
-use Rattle.iocm_records.specs.UnitRecords.{unit_number}
-use Rattle.iocm_records.specs.Values.{optional}
+use Rattle.iocm_record_reader.specs.ChpidRecords.{chpid_path}
+use Rattle.iocm_record_reader.specs.DeviceRecords.{statement_devices, device_set}
+use Rattle.iocm_record_reader.specs.UnitRecords.{unit_number}
+use Rattle.iocm_record_reader.specs.Values.{optional}
 use Rattle.iocm_tree.specs.declared.verb.Verb.TheVariants.{Delete}
 use Rattle.iocm_change_records.specs.declared.image_keys.ImageKey.{ImageKey}
 use Rattle.iocm_change_records.specs.declared.limit_keys.LimitSeat.{LimitSeat}
@@ -43,7 +43,7 @@ use Rattle.iocm_change_records.specs.declared.pairs.Pairs.{Pairs}
 use Rattle.iocm_change_records.specs.Keys.{device_keys, pair_keys, keys_given, key_fault, keys_unless, keys_by}
 use Rattle.iocm_change_records.specs.Pairs.{names_listed, pairs_of}
 use Rattle.iocm_change_records.specs.ResourceKeys.{is_empty, image_key, image_key_listed, image_keys, key_of_image, limit_key_at, limit_keys_in, limit_keys, resource_keys, resource_keys_by}
-use Rattle.iocm_rereading.proofs.Fields.{required_gives, optional_gives}
+use Rattle.iocm_round_trip.proofs.Fields.{required_gives, optional_gives}
 use Rattle.iocm_tree_writer.specs.Given.{IsGivenKey, IsImagePlace}
 
 abbrev AreKeys : List Key → Type 0

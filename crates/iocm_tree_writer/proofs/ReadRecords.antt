@@ -1,4 +1,5 @@
--- The records that an ADD or a MODIFY gives are such as decks give, and a MODIFY gives no Online record.
+-- The records that an ADD or a MODIFY gives are such as decks give, and a MODIFY gives no Online
+-- record.
 use Rattle.std.proofs.Common.{◌≡◌, ℕ, ◌||◌, Bool, true, false, cond, Option, Some, None, List, [], ◌∷◌, ◌++◌, All, map, take, Result, Ok, Err, ◌∙◌, subst, append_assoc, append-nil, sym}
 use Rattle.std.proofs.lemmas.List.Elements.{All-nil, All-cons, All-head, All-append, All-map}
 use Rattle.std.proofs.lemmas.Result.{IfOk-weaker}
@@ -17,13 +18,13 @@ use Rattle.iocm_statements.specs.declared.statement.Statement.{Statement}
 use Rattle.iocm_statements.specs.Operands.{Operand}
 use Rattle.iocm_operands.specs.declared.device.Devices.{Devices}
 use Rattle.iocm_operands.specs.Again.{IsImage}
-use Rattle.iocm_records.specs.ChpidRecords.{chpid_path, chpid_partition, chpid_records, kind_of, online_to, path_record}
-use Rattle.iocm_records.specs.Deck.{first_fault, records_unless, statement_records, read_statement, with_records, with_statement, progress_after, read_from, machine_images, nothing_read}
-use Rattle.iocm_records.specs.DeviceRecords.{statement_devices, device_units, device_address, device_set, device_candidates, device_record, iodevice_records, first_device}
-use Rattle.iocm_records.specs.Progress.{Progress, has_key}
-use Rattle.iocm_records.specs.ResourceRecords.{resource_images, resource_limits, carried_records, resource_records}
-use Rattle.iocm_records.specs.UnitRecords.{unit_fields, cntlunit_records}
-use Rattle.iocm_records.specs.Values.{carried_by}
+use Rattle.iocm_record_reader.specs.ChpidRecords.{chpid_path, chpid_partition, chpid_records, kind_of, online_to, path_record}
+use Rattle.iocm_record_reader.specs.Deck.{first_fault, records_unless, statement_records, read_statement, with_records, with_statement, progress_after, read_from, machine_images, nothing_read}
+use Rattle.iocm_record_reader.specs.DeviceRecords.{statement_devices, device_units, device_address, device_set, device_candidates, device_record, iodevice_records, first_device}
+use Rattle.iocm_record_reader.specs.Progress.{Progress, has_key}
+use Rattle.iocm_record_reader.specs.ResourceRecords.{resource_images, resource_limits, carried_records, resource_records}
+use Rattle.iocm_record_reader.specs.UnitRecords.{unit_fields, cntlunit_records}
+use Rattle.iocm_record_reader.specs.Values.{carried_by}
 use Rattle.iocm_tree.specs.declared.verb.Verb.{Verb}
 use Rattle.iocm_tree.specs.declared.verb.Verb.TheVariants.{Add, Modify}
 use Rattle.iocm_change_records.specs.declared.pairs.Pairs.{Pairs}
@@ -32,10 +33,10 @@ use Rattle.iocm_change_records.specs.Pairs.{pairs_of, is_modify, is_beside, onli
 use Rattle.iocm_change_records.specs.Pairs as pairs
 use Rattle.iocm_change_records.specs.Table.{lacks_key, has_key_left_out}
 use Rattle.iocm_change_records.specs.Whole.{alone, path_alone, given}
-use Rattle.iocm_rereading.specs.Given.{IsGiven}
-use Rattle.iocm_rereading.proofs.Fields.{statement_given}
-use Rattle.iocm_rereading.proofs.GivenRecords.{machine_images_given}
-use Rattle.iocm_rereading.proofs.Shown.{AreCarriable, IsCarriable}
+use Rattle.iocm_round_trip.specs.Given.{IsGiven}
+use Rattle.iocm_round_trip.proofs.Fields.{statement_given}
+use Rattle.iocm_round_trip.proofs.GivenRecords.{machine_images_given}
+use Rattle.iocm_round_trip.proofs.Shown.{AreCarriable, IsCarriable}
 use Rattle.iocm_tree_writer.specs.Given.{IsGivenRecord, IsModified}
 use Rattle.iocm_tree_writer.specs.Leaves.{IsDeckRecord}
 use Rattle.iocm_tree_writer.proofs.Writable.{modified_is_given}

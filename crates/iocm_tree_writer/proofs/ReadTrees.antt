@@ -17,14 +17,14 @@ use Rattle.iocm_tree.specs.Carried.{Carried, bare}
 use Rattle.iocm_tree.specs.Trees.{CarriedTree, leaf, parts_from, plain_tree}
 use Rattle.iocm_tree.specs.declared.verb.Verb.{Verb}
 use Rattle.iocm_tree.specs.declared.verb.Verb.TheVariants.{Add, Delete, Modify}
-use Rattle.iocm_treetext.specs.declared.kind.Kind.{Kind}
-use Rattle.iocm_treetext.specs.declared.kind.Kind.TheVariants.{Row, Group, Choose}
-use Rattle.iocm_treetext.specs.Leaves.{edits_of, edits_by, comes_before, with_edit, in_key_order, whole, node_of_edits}
-use Rattle.iocm_treetext.specs.Reading.{OpenNode, Reading, node_of_kind, with_node, opened, ended, with_edits, done_by, tree_so_far, over_limit, unless_over, within_limits, read_next, finished, read_from, read_tree, nothing_read}
+use Rattle.iocm_tree_reader.specs.declared.kind.Kind.{Kind}
+use Rattle.iocm_tree_reader.specs.declared.kind.Kind.TheVariants.{Row, Group, Choose}
+use Rattle.iocm_tree_reader.specs.Leaves.{edits_of, edits_by, comes_before, with_edit, in_key_order, whole, node_of_edits}
+use Rattle.iocm_tree_reader.specs.Reading.{OpenNode, Reading, node_of_kind, with_node, opened, ended, with_edits, done_by, tree_so_far, over_limit, unless_over, within_limits, read_next, finished, read_from, read_tree, nothing_read}
 use Rattle.iocm_change_records.specs.Keys.{keys_of, keys_by}
 use Rattle.iocm_change_records.specs.Verbs.{verb_named}
 use Rattle.iocm_change_records.specs.Whole.{records_of, records_by}
-use Rattle.iocm_rereading.proofs.Shown.{IsCarriable, statements_carriable}
+use Rattle.iocm_round_trip.proofs.Shown.{IsCarriable, statements_carriable}
 use Rattle.iocm_tree_writer.specs.Again.{tree_in}
 use Rattle.iocm_tree_writer.specs.Given.{IsGivenKey, IsGivenRecord, IsModified, IsGivenEdit, IsGivenTree, AreGivenParts, IsTreeOfDecks}
 use Rattle.iocm_tree_writer.proofs.ReadKeys.{keys_are_given}

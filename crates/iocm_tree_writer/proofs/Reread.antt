@@ -16,9 +16,9 @@ use Rattle.iocm_statements.specs.Operation.{operation_name, operation_named}
 use Rattle.iocm_statements.specs.Statement.{statement_of, parsed}
 use Rattle.iocm_tree.specs.declared.verb.Verb.{Verb}
 use Rattle.iocm_tree.specs.declared.verb.Verb.TheVariants.{Add, Delete, Modify}
-use Rattle.iocm_canonical.proofs.Again.{operands_again}
-use Rattle.iocm_rereading.specs.Stating.{CanBeWritten}
-use Rattle.iocm_rereading.proofs.Columns.{statement_is_writable}
+use Rattle.iocm_deck_writer.proofs.Again.{operands_again}
+use Rattle.iocm_round_trip.specs.Stating.{CanBeWritten}
+use Rattle.iocm_round_trip.proofs.Columns.{statement_is_writable}
 use Rattle.iocm_tree_writer.specs.Again.{as_read}
 use Rattle.iocm_tree_writer.specs.Leaves.{verb_name}
 use Rattle.iocm_tree_writer.specs.Written.{Line, line_to_write}

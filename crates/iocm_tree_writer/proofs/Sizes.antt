@@ -1,14 +1,15 @@
--- Where a tree that is put into what was read so far is within the limits, so is one that is no deeper and has no more leaves.
+-- Where a tree that is put into what was read so far is within the limits, so is one that is no
+-- deeper and has no more leaves.
 use Rattle.std.proofs.Common.{◌≡◌, ℕ, ◌≤◌, ◌==◌, nat_lt, Bool, true, false, cond, None, Some, List, [], ◌∷◌, ◌++◌, length, fold, arith, refl}
 use Rattle.std.proofs.lemmas.Bool.Decides.{nat_tests}
 use Rattle.iocm_types.specs.declared.rule.Rule.TheVariants.{C1, C2}
 use Rattle.iocm_model.specs.Change.Tree.{or_one}
 use Rattle.iocm_tree.specs.Trees.{CarriedTree}
-use Rattle.iocm_treetext.specs.declared.kind.Kind.{Kind}
-use Rattle.iocm_treetext.specs.declared.size.Size.{Size}
-use Rattle.iocm_treetext.specs.Reading.{OpenNode, node_of_kind}
-use Rattle.iocm_treetext.specs.Sizes.{size_of, size_among, beside, inside, around, size_with, over, size_of_empty}
-use Rattle.iocm_treetext.proofs.Counting.{depth_among, leaves_among, size-node}
+use Rattle.iocm_tree_reader.specs.declared.kind.Kind.{Kind}
+use Rattle.iocm_tree_reader.specs.declared.size.Size.{Size}
+use Rattle.iocm_tree_reader.specs.Reading.{OpenNode, node_of_kind}
+use Rattle.iocm_tree_reader.specs.Sizes.{size_of, size_among, beside, inside, around, size_with, over, size_of_empty}
+use Rattle.iocm_tree_reader.proofs.Counting.{depth_among, leaves_among, size-node}
 
 -- one size is no more than another
 pub record IsNoMore (a b : Size) : Type 0 where

@@ -11,11 +11,11 @@ use Rattle.iocm_values.specs.NameSet.{names_text}
 use Rattle.iocm_tree.specs.Carried.{bare}
 use Rattle.iocm_tree.specs.Trees.{CarriedTree, plain_tree}
 use Rattle.iocm_tree.specs.declared.verb.Verb.TheVariants.{Add, Modify}
-use Rattle.iocm_treetext.specs.Reading.{with_node, read_from, read_tree}
-use Rattle.iocm_canonical.specs.Again.{placed}
+use Rattle.iocm_tree_reader.specs.Reading.{with_node, read_from, read_tree}
+use Rattle.iocm_deck_writer.specs.Again.{placed}
 use Rattle.iocm_change_records.specs.Whole.{records_of}
-use Rattle.iocm_rereading.proofs.LeftOut.{names_one_css}
-use Rattle.iocm_rereading.proofs.OneSubsystem.{path_in_one, names_one_path}
+use Rattle.iocm_round_trip.proofs.LeftOut.{names_one_css}
+use Rattle.iocm_round_trip.proofs.OneSubsystem.{path_in_one, names_one_path}
 use Rattle.iocm_tree_writer.specs.Again.{as_read, ReadsLeafAgain, GivesTrees, ReadsTreeAgain, ReadsReadTreeAgain}
 use Rattle.iocm_tree_writer.specs.Given.{IsGivenRecord, IsModified, IsPair, IsTreeOfDecks}
 use Rattle.iocm_tree_writer.specs.Leaves.{verb_name}

@@ -19,13 +19,13 @@ use Rattle.iocm_values.specs.declared.texts.CssText.{CssText}
 use Rattle.iocm_values.specs.NameSet.{names_text}
 use Rattle.iocm_tree.specs.Carried.{verb_of}
 use Rattle.iocm_tree.specs.Trees.{CarriedTree, CarriedParts, leaf, row, group, choose, none, part, plain_parts, plain_tree}
-use Rattle.iocm_canonical.specs.Device.{set_operand}
-use Rattle.iocm_canonical.specs.Statement.{valued}
-use Rattle.iocm_rereading.specs.Stating.{CanBeWritten}
-use Rattle.iocm_rereading.proofs.Deck.{nothing_carried}
-use Rattle.iocm_rereading.proofs.Following.{CanFollow, IsOther, can_be_written, value_follows}
-use Rattle.iocm_rereading.proofs.OperandTexts.{path_clean, devices_clean}
-use Rattle.iocm_rereading.proofs.Texts.{IsClean, clean_plain, clean_name, clean_hex1, clean_hex4, clean_list, clean_pair, clean_by_css}
+use Rattle.iocm_deck_writer.specs.Device.{set_operand}
+use Rattle.iocm_deck_writer.specs.Statement.{valued}
+use Rattle.iocm_round_trip.specs.Stating.{CanBeWritten}
+use Rattle.iocm_round_trip.proofs.Deck.{nothing_carried}
+use Rattle.iocm_round_trip.proofs.Following.{CanFollow, IsOther, can_be_written, value_follows}
+use Rattle.iocm_round_trip.proofs.OperandTexts.{path_clean, devices_clean}
+use Rattle.iocm_round_trip.proofs.Texts.{IsClean, clean_plain, clean_name, clean_hex1, clean_hex4, clean_list, clean_pair, clean_by_css}
 use Rattle.iocm_tree_writer.specs.Given.{IsGivenKey, IsGivenRecord, IsModified, IsGivenAction, IsGivenTree, AreGivenParts, IsImagePlace, IsPair}
 use Rattle.iocm_tree_writer.specs.Leaves.{key_statement, record_statement, online_statement}
 use Rattle.iocm_tree_writer.specs.Written.{Line, action_line, word_line, enclosed, tree_lines, lines_in}

@@ -10,10 +10,10 @@ use Rattle.iocm_statements.specs.declared.statement.Statement as read
 use Rattle.iocm_statements.specs.Statement.{parsed}
 use Rattle.iocm_tree.specs.Carried.{bare}
 use Rattle.iocm_tree.specs.Trees.{CarriedTree, plain_tree}
-use Rattle.iocm_treetext.specs.Leaves.{edits_of}
-use Rattle.iocm_treetext.specs.Reading.{read_tree}
-use Rattle.iocm_canonical.specs.Again.{placed}
-use Rattle.iocm_rereading.specs.Again.{records_in}
+use Rattle.iocm_tree_reader.specs.Leaves.{edits_of}
+use Rattle.iocm_tree_reader.specs.Reading.{read_tree}
+use Rattle.iocm_deck_writer.specs.Again.{placed}
+use Rattle.iocm_round_trip.specs.Again.{records_in}
 use Rattle.iocm_tree_writer.specs.Given.{IsGivenAction, IsOfDecks, IsTreeOfDecks}
 use Rattle.iocm_tree_writer.specs.Written.{Line, action_line, written}
 

@@ -1,4 +1,5 @@
--- The trees that decks and change decks give: the conditions under which a tree is written and read again.
+-- The trees that decks and change decks give: the conditions under which a tree is written and read
+-- again.
 use Rattle.std.specs.Prelude.{◌≡◌, ◌≤◌, ◌<◌, ℕ, true, List}
 use Rattle.iocm_types.specs.declared.key.Key.{Key}
 use Rattle.iocm_types.specs.declared.key.Key.TheVariants as key
@@ -7,7 +8,7 @@ use Rattle.iocm_model.specs.Change.Edit.{Action, add, delete, modify}
 use Rattle.iocm_model.specs.Change.Tree.{depth_of, leaves_of, most_depth, most_leaves}
 use Rattle.iocm_model.specs.Machine.Record.{Rec, online, key_of}
 use Rattle.iocm_operands.specs.Again.{IsPath}
-use Rattle.iocm_rereading.specs.Given.{IsGiven}
+use Rattle.iocm_round_trip.specs.Given.{IsGiven}
 use Rattle.iocm_tree.specs.Carried.{Carried, bare}
 use Rattle.iocm_tree.specs.Trees.{CarriedTree, CarriedParts, leaf, row, group, choose, none, part, plain_tree}
 use Rattle.iocm_tree_writer.specs.Leaves.{IsDeckRecord}
@@ -59,7 +60,8 @@ IsGivenAction (add r) = IsGivenRecord r
 IsGivenAction (delete k) = IsGivenKey k
 IsGivenAction (modify r) = IsModified r
 
--- a record of which each action is such: it may be added, its key may be deleted and, unless it is an Online record, it may be modified
+-- a record of which each action is such: it may be added, its key may be deleted and, unless it is
+-- an Online record, it may be modified
 pub record IsOfDecks (r : Rec) : Type 0 where
   pub added : IsGivenAction (add r)
   pub deleted : IsGivenAction (delete (key_of r))

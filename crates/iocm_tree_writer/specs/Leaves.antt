@@ -1,5 +1,6 @@
--- The statement that is written of a leaf: of the record that an edit adds or modifies, or of the key that it deletes. The operands
--- stand in the canonical form; the forms of what is deleted are own.
+-- The statement that is written of a leaf: of the record that an edit adds or modifies, or of the
+-- key that it deletes. The operands stand in the canonical form; the forms of what is deleted are
+-- own.
 use Rattle.std.specs.Prelude.{ℕ, Some, List, [], ◌∷◌, ◌++◌, codes}
 use Rattle.std.specs.Option.{option_map_or}
 use Rattle.iocm_types.specs.declared.key.Key.{Key}
@@ -13,10 +14,10 @@ use Rattle.iocm_tree.specs.declared.verb.Verb.TheVariants.{Add, Delete, Modify}
 use Rattle.iocm_operands.specs.ChpidPath.{path_text}
 use Rattle.iocm_operands.specs.Device.{devices_text}
 use Rattle.iocm_values.specs.NameSet.{names_text}
-use Rattle.iocm_canonical.specs.Canonical.{chpid_statement, cntlunit_statement}
-use Rattle.iocm_canonical.specs.Device.{iodevice_statement, set_operand}
-use Rattle.iocm_canonical.specs.Resource.{resource_operands}
-use Rattle.iocm_canonical.specs.Statement.{Statement, valued}
+use Rattle.iocm_deck_writer.specs.Canonical.{chpid_statement, cntlunit_statement}
+use Rattle.iocm_deck_writer.specs.Device.{iodevice_statement, set_operand}
+use Rattle.iocm_deck_writer.specs.Resource.{resource_operands}
+use Rattle.iocm_deck_writer.specs.Statement.{Statement, valued}
 
 -- that a path is online to an image: PATH=(CSS(0),50),PARTITION=(LPA)
 abbrev pub online_statement : ℕ → ℕ → List ℕ → Statement
@@ -36,12 +37,14 @@ record_statement (unit u) = cntlunit_statement u
 record_statement (device d) = iodevice_statement (record { first = d; count = 1 })
 record_statement (online o) = online_statement o.css o.path o.name
 
--- a record that a configuration deck writes by a statement of its own; an Online record stands there in the lists of its path
+-- a record that a configuration deck writes by a statement of its own; an Online record stands
+-- there in the lists of its path
 abbrev pub IsDeckRecord : Rec → Type 0
 IsDeckRecord (online o) = ⊥
 IsDeckRecord r = Unit {0}
 
--- the statement of a key alone: a deleted image is (*,digit), a deleted limit 0, a deleted device (number,1)
+-- the statement of a key alone: a deleted image is (*,digit), a deleted limit 0, a deleted device
+-- (number,1)
 abbrev pub key_statement : Key → Statement
 key_statement key.Id = record { operation = Id; operands = [] }
 key_statement key.Resource = record { operation = Resource; operands = [] }

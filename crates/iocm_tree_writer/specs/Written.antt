@@ -1,5 +1,6 @@
--- How a change tree is written: a line for each leaf, with its verb in the name field; ROW, GROUP and CHOOSE stand before the lines of
--- their parts, and END behind them. What comes along with an edit isn't written. Own.
+-- How a change tree is written: a line for each leaf, with its verb in the name field; ROW, GROUP
+-- and CHOOSE stand before the lines of their parts, and END behind them. What comes along with an
+-- edit isn't written. Own.
 use Rattle.std.specs.Prelude.{ℕ, List, [], ◌∷◌, ◌++◌, map}
 use Rattle.iocm_columns.specs.declared.joined.Joined.{Joined}
 use Rattle.iocm_model.specs.Change.Edit.{Action}
@@ -7,8 +8,8 @@ use Rattle.iocm_model.specs.Change.Tree.{ChangeTree, Parts, leaf, row, group, ch
 use Rattle.iocm_statements.specs.declared.operation.Operation.{Operation}
 use Rattle.iocm_statements.specs.declared.operation.Operation.TheVariants.{Row, Group, Choose, End}
 use Rattle.iocm_tree.specs.Carried.{verb_of}
-use Rattle.iocm_canonical.specs.Canonical.{to_write}
-use Rattle.iocm_canonical.specs.Statement.{Statement}
+use Rattle.iocm_deck_writer.specs.Canonical.{to_write}
+use Rattle.iocm_deck_writer.specs.Statement.{Statement}
 use Rattle.iocm_tree_writer.specs.Leaves.{action_statement, verb_name}
 
 -- a line of a change deck: what stands in the name field, and a statement

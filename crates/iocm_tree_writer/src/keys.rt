@@ -2,13 +2,13 @@ ghost use Rattle.std.specs.Prelude.{◌≡◌, ◌∷◌, ◌++◌, [], Some, If
 ghost use Rattle.iocm_types.specs.declared.key.Key.TheVariants as key;
 ghost use Rattle.iocm_operands.specs.Device.{devices_text};
 ghost use Rattle.iocm_operands.specs.Resource.{images_text};
-ghost use Rattle.iocm_canonical.specs.Device.{set_operand};
-ghost use Rattle.iocm_canonical.specs.Statement as statements;
+ghost use Rattle.iocm_deck_writer.specs.Device.{set_operand};
+ghost use Rattle.iocm_deck_writer.specs.Statement as statements;
 ghost use Rattle.iocm_tree_writer.specs.Leaves as meaning;
 
 use crate::operands::{online_statement, path_operand, valued};
 use crate::records::record_statement;
-use iocm_canonical::CanonicalStatement;
+use iocm_deck_writer::CanonicalStatement;
 use iocm_record::{Carried, Record, RecordBody};
 use iocm_statements::Operation;
 use iocm_types::{Css, DevNo, Key, Mif, SetNo, Text, UnitNo};

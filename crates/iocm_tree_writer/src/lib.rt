@@ -1,11 +1,13 @@
 //! Change trees: from a tree to the statements of a change deck that writes it.
 //!
-//! `write_tree` gives a statement for each leaf, with its verb in the name field, and ROW, GROUP and CHOOSE with END round the
-//! statements of their parts; `deck_bytes` of `iocm_columns` makes bytes of them. The operands of a record that is added or modified
-//! are those of the canonical deck; what is deleted is written by its key alone. What is written is exactly what
+//! `write_tree` gives a statement for each leaf, with its verb in the name field, and ROW, GROUP
+//! and CHOOSE with END round the statements of their parts; `deck_bytes` of `iocm_columns` makes
+//! bytes of them. The operands of a record that is added or modified are those of the canonical
+//! deck; what is deleted is written by its key alone. What is written is exactly what
 //! `specs/Written.antt` says, and `laws.rt` says that reading what was written gives the same tree.
 //!
-//! Begin with `specs/Written.antt` and `specs/Leaves.antt`, then `tree.rt`; `keys.rt` writes what is deleted.
+//! Begin with `specs/Written.antt` and `specs/Leaves.antt`, then `tree.rt`; `keys.rt` writes what
+//! is deleted.
 #![tactic(auto)]
 
 mod keys;

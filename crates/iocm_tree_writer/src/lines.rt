@@ -4,8 +4,8 @@ ghost use Rattle.iocm_tree_writer.specs.Written as meaning;
 
 use crate::keys::key_statement;
 use crate::records::record_statement;
-use iocm_canonical::{CanonicalStatement, to_write};
 use iocm_columns::Joined;
+use iocm_deck_writer::{CanonicalStatement, to_write};
 use iocm_statements::Operation;
 use iocm_tree::{Edit, Verb};
 use iocm_types::Text;

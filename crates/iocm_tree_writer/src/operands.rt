@@ -3,7 +3,7 @@ ghost use Rattle.iocm_operands.specs.ChpidPath.{path_text};
 ghost use Rattle.iocm_values.specs.NameSet as names;
 ghost use Rattle.iocm_tree_writer.specs.Leaves as meaning;
 
-use iocm_canonical::CanonicalStatement;
+use iocm_deck_writer::CanonicalStatement;
 use iocm_record::Carried;
 use iocm_statements::Operation;
 use iocm_types::{Chpid, Css, Name, Text};
@@ -32,7 +32,8 @@ fn name_operand(alloc: Global, name: Name) -> Result<Carried, AllocError>
     valued(alloc, b"PARTITION", names_text(alloc, &[name])?)
 }
 
-/// The statement that a path is online to an image, or that it isn't any more. Answers the want of memory alone.
+/// The statement that a path is online to an image, or that it isn't any more. Answers the want of
+/// memory alone.
 pub fn online_statement(
     alloc: Global,
     css: Css,

@@ -2,13 +2,13 @@ ghost use Rattle.std.specs.Prelude.{◌≡◌, IfOk};
 ghost use Rattle.iocm_tree_writer.specs.Leaves as meaning;
 
 use crate::operands::online_statement;
-use iocm_canonical::{CanonicalStatement, to_statements};
+use iocm_deck_writer::{CanonicalStatement, to_statements};
 use iocm_record::{Record, RecordBody};
 use iocm_statements::Operation;
 use std::alloc::{AllocError, Allocator, Global};
 
-// The statement of a record that isn't an Online record. A Resource record that carries nothing has none in a deck; here it is RESOURCE
-// without operands.
+// The statement of a record that isn't an Online record. A Resource record that carries nothing has
+// none in a deck; here it is RESOURCE without operands.
 fn deck_statement<A: Allocator>(
     alloc: Global,
     entry: &Record<A>,

@@ -1,12 +1,13 @@
 use iocm_columns::{Device, join, read_cards};
 use iocm_config::Config;
 use iocm_record::Record;
-use iocm_records::from_statements;
+use iocm_record_reader::from_statements;
 use iocm_statements::parse;
 use iocm_types::Key;
 use std::alloc::Global;
 
-/// Two images see four devices over two paths; the second image is a candidate of path 51, which isn't online to it.
+/// Two images see four devices over two paths; the second image is a candidate of path 51, which
+/// isn't online to it.
 pub const BASE: &[u8] = b"         RESOURCE PARTITION=((CSS(0),(LPA,1),(LPB,2)))
          CHPID PATH=(CSS(0),50),SHARED,PARTITION=((LPA,LPB),(=))
          CHPID PATH=(CSS(0),51),SHARED,PARTITION=((LPA),(LPA,LPB))

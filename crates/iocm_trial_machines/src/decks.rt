@@ -1,6 +1,7 @@
 use iocm_trial_decks::BASE;
 
-/// A deck of which a record is taken. Those that are no machine's are of one statement, but for that of the path.
+/// A deck of which a record is taken. Those that are no machine's are of one statement, but for
+/// that of the path.
 #[derive(Clone, Copy, Debug, PartialEq, Eq)]
 pub enum Deck {
     /// The base deck.

@@ -10,7 +10,8 @@ use rand_pcg::Pcg32;
 use std::alloc::Global;
 use std::test::Fail;
 
-/// Two channel subsystems, of two images and of one, with five paths, four control units, and devices in two subchannel sets.
+/// Two channel subsystems, of two images and of one, with five paths, four control units, and
+/// devices in two subchannel sets.
 pub const LARGE: &[u8] = b"         RESOURCE PARTITION=((CSS(0),(LPA,1),(LPB,2)),(CSS(1),(LPC,1)))
          CHPID PATH=(CSS(0),50),SHARED,PARTITION=((LPA,LPB),(=))
          CHPID PATH=(CSS(0),51),SHARED,PARTITION=((LPA),(LPA,LPB))

@@ -6,7 +6,8 @@ use iocm_types::{
 use std::alloc::Global;
 use std::test::Fail;
 
-/// The machine of a deck; memory may be wanted once: the configuration is given back, and the machine is opened then.
+/// The machine of a deck; memory may be wanted once: the configuration is given back, and the
+/// machine is opened then.
 pub fn machine(alloc: Global, deck: &[u8]) -> Result<Plant, Fail> {
     let config = configuration(alloc, deck).ok_or("the deck is not read")?;
     match Plant::open(alloc, config) {
@@ -48,7 +49,8 @@ pub fn enabled(lpm: u8) -> Order {
     })
 }
 
-/// What STORE SUBCHANNEL gives of an enabled subchannel with two paths that are online to its image.
+/// What STORE SUBCHANNEL gives of an enabled subchannel with two paths that are online to its
+/// image.
 pub fn stored(device: u16, bits: ScswBits) -> Io {
     let both = Mask::from_bits(0xC0);
     Io::Stored(Stored {

@@ -1,4 +1,4 @@
-use iocm_canonical::canonical_deck;
+use iocm_deck_writer::canonical_deck;
 use iocm_plant::Plant;
 use iocm_record::RecordBody;
 use iocm_types::{DevNo, Image, Key, Live, NumberCell, Place, SubId, View};
@@ -21,7 +21,8 @@ struct Seen {
     live: Option<Live>,
 }
 
-/// All that a machine shows: the keys of its records, its canonical deck, its numbers, and its subchannels.
+/// All that a machine shows: the keys of its records, its canonical deck, its numbers, and its
+/// subchannels.
 #[derive(Drop)]
 pub struct Sight {
     keys: Vec<Key>,
@@ -76,8 +77,8 @@ fn is_alike(first: &Sight, second: &Sight) -> bool {
         && first.subchannels.len() == second.subchannels.len()
 }
 
-/// Whether a machine of this sight has the same configuration as another, and each image sees each device as it does there; their
-/// numbers may differ, and what subchannels remember.
+/// Whether a machine of this sight has the same configuration as another, and each image sees each
+/// device as it does there; their numbers may differ, and what subchannels remember.
 pub fn sees_alike(first: &Sight, second: &Sight, other: &Plant) -> bool {
     let mut is_so = is_alike(first, second);
     for seen in &first.subchannels {

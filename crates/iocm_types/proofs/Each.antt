@@ -1,4 +1,5 @@
--- The steps of a loop that reads a list item by item: what was gathered, with what the rest gives, is what all gives.
+-- The steps of a loop that reads a list item by item: what was gathered, with what the rest gives,
+-- is what all gives.
 use Rattle.std.proofs.Common.{◌≡◌, ℕ, ◌+◌, ◌<◌, ◌≤◌, List, [], ◌∷◌, ◌++◌, length, get_or, drop, Result, Ok, Err, refl, sym, ap, append_assoc}
 use Rattle.std.proofs.Math.ListN.{drop_of_length-le}
 use Rattle.std.proofs.lemmas.List.{append-nil}

@@ -1,4 +1,5 @@
--- What is found in the entries of a map, what a test says of it, and what is found after each entry was turned into another.
+-- What is found in the entries of a map, what a test says of it, and what is found after each entry
+-- was turned into another.
 use Rattle.std.proofs.Common.{◌≡◌, Bool, true, false, cond, ◌||◌, List, [], ◌∷◌, map, Option, Some, None, is_some, T, refl, sym, ap, subst, ◌∙◌}
 use Rattle.std.proofs.lemmas.Bool.{or_parts}
 use Rattle.std.specs.List.{list_any}

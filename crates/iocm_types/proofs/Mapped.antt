@@ -1,4 +1,5 @@
--- A map made of another map's entries, each turned by f into an entry with another key: a new entry there is a new entry here.
+-- A map made of another map's entries, each turned by f into an entry with another key: a new entry
+-- there is a new entry here.
 use Rattle.std.proofs.Common.{◌≡◌, Bool, true, false, cond, List, [], ◌∷◌, Option, None, Some, refl, sym, ap, ◌∙◌, map}
 use Rattle.std.specs.Ordering.{is_eq, eq_by_cmp}
 use Rattle.std.specs.declared.cmp.Ordering.{Ordering}

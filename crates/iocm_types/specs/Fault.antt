@@ -27,8 +27,8 @@ or_fault fault (Some x) = Ok x
 abbrev pub Fails : {Y : Type 0} → Fault → Result Y Fault → Type 0
 Fails e read = (e ≡ memory) ⊎ (read ≡ Err e)
 
--- what a reader promises: what it gives shows what was to be read, and it refuses what was to be refused,
--- with that fault; only want of memory may come instead
+-- what a reader promises: what it gives shows what was to be read, and it refuses what was to be
+-- refused, with that fault; only want of memory may come instead
 abbrev pub Gives : {X Y : Type 0} → (X → Y) → Result X Fault → Result Y Fault → Type 0
 Gives view (Ok x) read = read ≡ Ok (view x)
 Gives view (Err e) read = Fails e read

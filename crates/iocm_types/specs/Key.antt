@@ -7,7 +7,8 @@ use Rattle.iocm_types.specs.declared.key.Key.{Key}
 use Rattle.iocm_types.specs.declared.key.Key.TheVariants.{Id, Resource, Image, Limit, Path, Unit, Device, Online}
 use Rattle.iocm_types.specs.Print.{hex1, hex2, hex4}
 
--- the place of the kind in the table of records, then the numbers from left to right; of a name its bytes
+-- the place of the kind in the table of records, then the numbers from left to right; of a name its
+-- bytes
 abbrev pub numbers_of : Key → List ℕ
 numbers_of Id = 0 ∷ []
 numbers_of Resource = 1 ∷ []

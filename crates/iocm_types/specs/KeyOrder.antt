@@ -1,5 +1,5 @@
--- The orders of keys, places, number cells and subchannels: the derived `cmp` is the definition, each order is total,
--- and only equal values tie.
+-- The orders of keys, places, number cells and subchannels: the derived `cmp` is the definition,
+-- each order is total, and only equal values tie.
 use Rattle.std.proofs.Common.{◌≡◌, ℕ, List, [], ◌∷◌, get_or, nat_eq, cond, refl, sym, ap, subst, ◌∙◌}
 use Rattle.std.specs.Ordering.{nat_cmp, ordering_then}
 use Rattle.std.specs.declared.cmp.Ordering.{Ordering}

@@ -1,6 +1,7 @@
 use crate::{Io, Refused};
 
-/// What a machine counts: its records, its subchannels, the changes that stand, and those that are undone. Own.
+/// What a machine counts: its records, its subchannels, the changes that stand, and those that are
+/// undone. Own.
 #[derive(Clone, Copy, Debug, PartialEq, Eq)]
 pub struct Counts {
     pub records: u64,
@@ -18,7 +19,8 @@ pub enum Answer {
     Begun(bool),
     /// To a device end: whether a function was in progress, which it ended.
     Ended(bool),
-    /// To an order, a device begin or a device end at a subchannel that the change being tried alters: it was not performed.
+    /// To an order, a device begin or a device end at a subchannel that the change being tried
+    /// alters: it was not performed.
     Held,
     /// A change was accepted, with this number.
     Changed(u64),

@@ -3,7 +3,8 @@ ghost use Rattle.std.specs.Prelude.{◌≡◌};
 use std::fmt;
 use std::marker::Model;
 
-/// The number of a channel path in its channel subsystem, 00 to FF (IOCP User's Guide, CHPID statement).
+/// The number of a channel path in its channel subsystem, 00 to FF (IOCP User's Guide, CHPID
+/// statement).
 #[derive(Clone, Copy, Debug, PartialEq, Eq, PartialOrd, Ord)]
 pub struct Chpid {
     number: u8,

@@ -1,7 +1,7 @@
 use crate::{Chpid, Css};
 
-/// A channel path of a channel subsystem, as a control unit lists it (IOCP User's Guide, PATH keyword of
-/// the CNTLUNIT statement).
+/// A channel path of a channel subsystem, as a control unit lists it (IOCP User's Guide, PATH
+/// keyword of the CNTLUNIT statement).
 #[derive(Clone, Copy, Debug, PartialEq, Eq)]
 pub struct CssPath {
     /// The channel subsystem.

@@ -3,8 +3,8 @@ use std::alloc::{AllocError, AllocFailed};
 
 /// Why a text was refused: the number of the refusal, and the line where the fault stands.
 ///
-/// Lines count from 1, comments and blank lines too. Want of memory (M1) and a device's fault (L5, L6)
-/// stand at no line, and have line 0.
+/// Lines count from 1, comments and blank lines too. Want of memory (M1) and a device's fault (L5,
+/// L6) stand at no line, and have line 0.
 #[derive(Clone, Copy, Debug, PartialEq, Eq)]
 pub struct Fault {
     /// The number of the refusal.

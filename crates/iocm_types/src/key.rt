@@ -5,8 +5,8 @@ use crate::{Chpid, Css, DevNo, Mif, Name, SetNo, UnitNo};
 use std::cmp::Ordering;
 use std::fmt;
 
-/// What a record of a configuration stands under. A configuration has at most one record of each key.
-/// The kinds stand in the order of keys; within a kind the numbers decide, from left to right.
+/// What a record of a configuration stands under. A configuration has at most one record of each
+/// key. The kinds stand in the order of keys; within a kind the numbers decide, from left to right.
 #[derive(Clone, Copy, Debug, PartialEq, Eq, PartialOrd, Ord)]
 pub enum Key {
     /// The ID statement.

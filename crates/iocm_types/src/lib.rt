@@ -1,14 +1,14 @@
 //! The plain types of the manager, which every other crate stands on.
 //!
-//! Small values (`Css`, `Chpid`, `DevNo`, `Name`, ..) are made by `new`, which answers where the value
-//! is out of range; contracts see each as its number, or a name as its bytes. `Key` and `SubId` have the
-//! orders in which everything is listed; `TableKey` gives such an order its name. `Rule` has every refusal
-//! number, `Fault` a refusal with its line. `Text` and `List` own memory under any allocator, and contracts
-//! see the list alone.
+//! Small values (`Css`, `Chpid`, `DevNo`, `Name`, ..) are made by `new`, which answers where the
+//! value is out of range; contracts see each as its number, or a name as its bytes. `Key` and
+//! `SubId` have the orders in which everything is listed; `TableKey` gives such an order its name.
+//! `Rule` has every refusal number, `Fault` a refusal with its line. `Text` and `List` own memory
+//! under any allocator, and contracts see the list alone.
 //!
-//! The definitions in `specs/` that readers share: `Gives`, what a reader promises, and `each`, a list
-//! that is read item by item up to the first fault; the lemmas for such loops are in `proofs/Each.antt`.
-//! Begin with `fault.rt`, `key.rt` and `sub_id.rt`.
+//! The definitions in `specs/` that readers share: `Gives`, what a reader promises, and `each`, a
+//! list that is read item by item up to the first fault; the lemmas for such loops are in
+//! `proofs/Each.antt`. Begin with `fault.rt`, `key.rt` and `sub_id.rt`.
 #![tactic(auto)]
 
 mod answer;

@@ -12,7 +12,8 @@ pub enum Link {
     Long(u16),
 }
 
-/// The link of one path of a control unit, in a channel subsystem (IOCP User's Guide, LINK keyword).
+/// The link of one path of a control unit, in a channel subsystem (IOCP User's Guide, LINK
+/// keyword).
 #[derive(Clone, Copy, Debug, PartialEq, Eq)]
 pub struct CssLink {
     /// The channel subsystem of the path.

@@ -8,8 +8,9 @@ pub enum Function {
     Clear,
 }
 
-/// Where a subchannel is in its work. The phases are own; the Principles of Operation have function,
-/// activity and status control bits for them. In the four between `Idle` and `Pending` the subchannel is busy.
+/// Where a subchannel is in its work. The phases are own; the Principles of Operation have
+/// function, activity and status control bits for them. In the four between `Idle` and `Pending`
+/// the subchannel is busy.
 #[derive(Clone, Copy, Debug, PartialEq, Eq)]
 pub enum Phase {
     /// Nothing is in progress or pending.

@@ -4,8 +4,8 @@ ghost use Rattle.iocm_types.specs.Naming.{named_cmp};
 use crate::{Key, Name};
 use std::cmp::Ordering;
 
-/// What a record names: another record by its key, or the images of a name. That records name each other
-/// so is own.
+/// What a record names: another record by its key, or the images of a name. That records name each
+/// other so is own.
 #[derive(Clone, Copy, Debug, PartialEq, Eq, PartialOrd, Ord)]
 pub enum Named {
     /// The record of this key.

@@ -1,6 +1,7 @@
 use crate::{DevNo, Mask, ScswBits};
 
-/// An order of an image on one of its subchannels (Principles of Operation, chapter on I/O instructions).
+/// An order of an image on one of its subchannels (Principles of Operation, chapter on I/O
+/// instructions).
 #[derive(Clone, Copy, Debug, PartialEq, Eq)]
 pub enum Order {
     /// START SUBCHANNEL.
@@ -15,7 +16,8 @@ pub enum Order {
     Test,
     /// STORE SUBCHANNEL.
     Store,
-    /// MODIFY SUBCHANNEL, with the enabled bit, the logical-path mask and the interruption parameter to be set.
+    /// MODIFY SUBCHANNEL, with the enabled bit, the logical-path mask and the interruption
+    /// parameter to be set.
     Modify(Setting),
 }
 

@@ -1,4 +1,5 @@
-/// How a channel path is used by the images of its channel subsystem (IOCP User's Guide, CHPID statement).
+/// How a channel path is used by the images of its channel subsystem (IOCP User's Guide, CHPID
+/// statement).
 #[derive(Clone, Copy, Debug, PartialEq, Eq)]
 pub enum PathKind {
     /// By one image, for good.

@@ -1,7 +1,7 @@
 use crate::{Css, DevNo, SetNo};
 
-/// Where a device has a subchannel number: it has one in each channel subsystem that reaches it. Places
-/// are ordered by channel subsystem, set and device number. The word is own.
+/// Where a device has a subchannel number: it has one in each channel subsystem that reaches it.
+/// Places are ordered by channel subsystem, set and device number. The word is own.
 #[derive(Clone, Copy, Debug, PartialEq, Eq, PartialOrd, Ord)]
 pub struct Place {
     /// The channel subsystem.
@@ -12,9 +12,9 @@ pub struct Place {
     pub device: DevNo,
 }
 
-/// A subchannel number of a channel subsystem and subchannel set, 0000 to FFFF; it is a device's, or free
-/// (Principles of Operation, subchannel number). Cells are ordered by channel subsystem, set and number.
-/// The word is own.
+/// A subchannel number of a channel subsystem and subchannel set, 0000 to FFFF; it is a device's,
+/// or free (Principles of Operation, subchannel number). Cells are ordered by channel subsystem,
+/// set and number. The word is own.
 #[derive(Clone, Copy, Debug, PartialEq, Eq, PartialOrd, Ord)]
 pub struct NumberCell {
     /// The channel subsystem.

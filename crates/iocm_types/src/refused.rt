@@ -13,8 +13,9 @@ pub enum At {
     Nothing,
 }
 
-/// Why a change was refused: the rule, the node of the change tree where it was refused, counted in preorder
-/// from 0, and what it is about. A refusal that is not of a part of a tree names no node. Own.
+/// Why a change was refused: the rule, the node of the change tree where it was refused, counted in
+/// preorder from 0, and what it is about. A refusal that is not of a part of a tree names no node.
+/// Own.
 #[derive(Clone, Copy, Debug, PartialEq, Eq)]
 pub struct Refused {
     pub rule: Rule,

@@ -1,8 +1,9 @@
 use std::fmt;
 
 /// The number of a refusal, printed as it is called. All refusals of the product are here, with one
-/// numbering: L columns, S statements, V configuration rules, E and B edits, C and M trees and memory,
-/// J undo and redo, O the core, K scripts, Q and G queue and gate, X seats. The numbers are own.
+/// numbering: L columns, S statements, V configuration rules, E and B edits, C and M trees and
+/// memory, J undo and redo, O the core, K scripts, Q and G queue and gate, X seats. The numbers are
+/// own.
 #[derive(Clone, Copy, Debug, PartialEq, Eq)]
 pub enum Rule {
     /// A byte outside printable ASCII.
@@ -43,7 +44,8 @@ pub enum Rule {
     V2,
     /// A path that more images reach than its kind allows.
     V3,
-    /// An image online at a path that isn't there or doesn't list it, or a second one at a dedicated or REC path.
+    /// An image online at a path that isn't there or doesn't list it, or a second one at a
+    /// dedicated or REC path.
     V4,
     /// A control unit with no path, too many, one twice, or one that is not there.
     V5,

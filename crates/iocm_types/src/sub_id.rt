@@ -4,8 +4,8 @@ ghost use Rattle.iocm_types.specs.SubId.{sub_id_cmp};
 use crate::{Image, SetNo};
 use std::cmp::Ordering;
 
-/// The name of a subchannel: whose it is, in which subchannel set, and its number there, 0000 to FFFF
-/// (Principles of Operation, subchannel number; sets: IOCP User's Guide, `SCHSET`).
+/// The name of a subchannel: whose it is, in which subchannel set, and its number there, 0000 to
+/// FFFF (Principles of Operation, subchannel number; sets: IOCP User's Guide, `SCHSET`).
 #[derive(Clone, Copy, Debug, PartialEq, Eq, PartialOrd, Ord)]
 pub struct SubId {
     /// The image that the subchannel is of.

@@ -1,7 +1,8 @@
 use crate::{Key, Naming, NumberCell, Place, SubId};
 
-/// What rows of a table are kept under and looked up by. `Ord` alone says that keys which tie can stand for one
-/// another; tables of finite maps want more: the order has a name that contracts write, and keys that tie are equal.
+/// What rows of a table are kept under and looked up by. `Ord` alone says that keys which tie can
+/// stand for one another; tables of finite maps want more: the order has a name that contracts
+/// write, and keys that tie are equal.
 pub trait TableKey: Ord {
     ghost use Rattle.std.specs.Prelude.{◌≡◌};
     ghost use Rattle.std.specs.declared.cmp.Ordering.{Ordering};

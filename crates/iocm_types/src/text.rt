@@ -44,8 +44,8 @@ impl<A: Allocator> Text<A> {
         })
     }
 
-    /// The first `len` bytes of `bytes`, filled up with `fill` to that length. Answers the want of memory
-    /// alone.
+    /// The first `len` bytes of `bytes`, filled up with `fill` to that length. Answers the want of
+    /// memory alone.
     pub fn padded(alloc: A, bytes: &[u8], len: usize, fill: u8) -> Result<Self, AllocError>
         ensures text { IfOk result (λ text. text ≡ take len bytes.now ++ replicate (len - length bytes.now) fill) }
         ensures len { IfOk result (λ text. length text ≡ len) }

@@ -1,9 +1,10 @@
-//! The rules of control units: their paths (V5), their links (V6), their ranges of unit addresses (V7), and that no two
-//! units answer to one address on a link (V14).
+//! The rules of control units: their paths (V5), their links (V6), their ranges of unit addresses
+//! (V7), and that no two units answer to one address on a link (V14).
 //!
-//! Each rule is a `Wanted`, which `first_wanted` of `iocm_lookup` looks for among the unit records: what it wants is
-//! exactly what the model's predicate says. V14 asks the index of the configuration which units are on a path, and so
-//! compares nobody with everybody; no rule takes memory.
+//! Each rule is a `Wanted`, which `first_wanted` of `iocm_lookup` looks for among the unit records:
+//! what it wants is exactly what the model's predicate says. V14 asks the index of the
+//! configuration which units are on a path, and so compares nobody with everybody; no rule takes
+//! memory.
 //!
 //! Begin with `units.rt`, then `sharing.rt`.
 #![tactic(auto)]

@@ -62,7 +62,8 @@ fn is_linked<A: Allocator>(css: Css, number: Chpid, link: Link, fields: &UnitFie
     false
 }
 
-/// Whether a path with a link is the path of this number of a channel subsystem, and with this link.
+/// Whether a path with a link is the path of this number of a channel subsystem, and with this
+/// link.
 fn is_path_linked(css: Css, path: CssPath, has: Link, number: Chpid, link: Link) -> bool
     ensures { result ≡ ((path.css == css) && ((number == path.path) && model.same_link link has)) }
 {
@@ -84,7 +85,8 @@ fn step(is_in: bool) -> usize
     if is_in { 1 } else { 0 }
 }
 
-/// The link at a place, counted from 0, of those in a channel subsystem; past the end there is none.
+/// The link at a place, counted from 0, of those in a channel subsystem; past the end there is
+/// none.
 fn link_at(css: Css, place: usize, links: &[CssLink]) -> Link
     ensures { result ≡ get_or (model.links_in css links.now) place link.None }
 {

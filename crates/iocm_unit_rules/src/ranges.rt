@@ -9,8 +9,8 @@ use iocm_record::{Record, RecordBody};
 use iocm_types::UnitRange;
 use std::alloc::Allocator;
 
-/// V7: a range of unit addresses passes FF, or two ranges of a unit overlap. Own; unit addresses have eight bits (IOCP User's
-/// Guide, UNITADD keyword).
+/// V7: a range of unit addresses passes FF, or two ranges of a unit overlap. Own; unit addresses
+/// have eight bits (IOCP User's Guide, UNITADD keyword).
 #[derive(Drop)]
 pub struct WrongRanges;
 

@@ -22,8 +22,9 @@ use iocm_record::{Record, RecordBody, UnitFields};
 use iocm_types::{CssPath, Key, Named, UnitRange};
 use std::alloc::Allocator;
 
-/// V14: a unit with a smaller key shares a path on which both have the same link, where none equals none, has the same CUADD,
-/// where an absent one equals 00, and has a range that overlaps one of it. So no address on a link is that of two units. Own.
+/// V14: a unit with a smaller key shares a path on which both have the same link, where none equals
+/// none, has the same CUADD, where an absent one equals 00, and has a range that overlaps one of
+/// it. So no address on a link is that of two units. Own.
 #[derive(Drop)]
 pub struct SharedAddress<'a, I: Allocator> {
     /// The index of the configuration.

@@ -17,8 +17,8 @@ use iocm_record::{Record, RecordBody, UnitFields};
 use iocm_types::{Css, CssLink, CssPath, Key};
 use std::alloc::Allocator;
 
-/// V5: a unit with no path, over eight in one channel subsystem, one twice, or one that isn't there. The limit of eight is that
-/// of the IOCP User's Guide, CNTLUNIT statement; the rest is own.
+/// V5: a unit with no path, over eight in one channel subsystem, one twice, or one that isn't
+/// there. The limit of eight is that of the IOCP User's Guide, CNTLUNIT statement; the rest is own.
 #[derive(Drop)]
 pub struct WrongPaths;
 
@@ -99,8 +99,8 @@ fn is_path_missing<A: Allocator>(config: &Config<A>, paths: &[CssPath]) -> bool
     false
 }
 
-/// V6: in a channel subsystem with links a unit has another number of links than of paths. So the first link is that of the
-/// first path, and so on (IOCP User's Guide, LINK keyword). Own.
+/// V6: in a channel subsystem with links a unit has another number of links than of paths. So the
+/// first link is that of the first path, and so on (IOCP User's Guide, LINK keyword). Own.
 #[derive(Drop)]
 pub struct WrongLinks;
 

@@ -1,5 +1,6 @@
--- Texts that are cut as they were joined: a plain text and a list are whole, and whole texts that commas join are inside of a list.
--- Bytes by their codes: 39 is a quote, 40 and 41 are parentheses, 44 is a comma.
+-- Texts that are cut as they were joined: a plain text and a list are whole, and whole texts that
+-- commas join are inside of a list. Bytes by their codes: 39 is a quote, 40 and 41 are parentheses,
+-- 44 is a comma.
 use Rattle.std.proofs.Common.{◌≡◌, ℕ, suc, ◌==◌, ◌&&◌, not, Bool, true, false, Option, None, Some, List, [], ◌∷◌, ◌++◌, refl, sym, ap, ◌∙◌, append_assoc, append-nil, arith, add-one}
 use Rattle.std.proofs.lemmas.Bool.{and_parts}
 use Rattle.std.proofs.lemmas.Bool.Decides.{nat_tests}

@@ -1,4 +1,5 @@
--- The steps of a loop that reads values item by item: what was gathered, with what the rest gives, is what all gives.
+-- The steps of a loop that reads values item by item: what was gathered, with what the rest gives,
+-- is what all gives.
 use Rattle.std.proofs.Common.{◌≡◌, ℕ, ◌+◌, ◌<◌, ◌≤◌, Option, None, Some, List, [], ◌∷◌, ◌++◌, length, get_or, drop, map, refl, sym, ap, ◌∙◌, append_assoc}
 use Rattle.std.proofs.Math.ListN.{drop_of_length-le}
 use Rattle.std.proofs.lemmas.List.{append-nil, drop_more}

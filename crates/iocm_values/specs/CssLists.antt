@@ -1,5 +1,5 @@
--- Lists by channel subsystem: ((CSS(0),..),(CSS(1),..)), one such group alone, or items alone for CSS 0.
--- IOCP User's Guide, PATH and PARTITION keywords; which forms are taken is own.
+-- Lists by channel subsystem: ((CSS(0),..),(CSS(1),..)), one such group alone, or items alone for
+-- CSS 0. IOCP User's Guide, PATH and PARTITION keywords; which forms are taken is own.
 use Rattle.std.specs.Prelude.{ℕ, ◌==◌, Bool, true, false, is_some, not, if◌then◌else◌, Option, None, Some, List, [], ◌∷◌, filter, length, codes}
 use Rattle.std.specs.List.{flat_map, list_any}
 use Rattle.std.specs.Option.{option_and_then, option_map_or}

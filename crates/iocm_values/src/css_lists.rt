@@ -27,8 +27,8 @@ pub fn is_css(text: &[u8]) -> bool
     inside_css(text).is_some()
 }
 
-/// The channel subsystem of the word `CSS(n)`: n is decimal with any number of leading zeros, 0 to 5.
-/// (IOCP User's Guide, PATH keyword.)
+/// The channel subsystem of the word `CSS(n)`: n is decimal with any number of leading zeros, 0 to
+/// 5. (IOCP User's Guide, PATH keyword.)
 pub fn css_number(text: &[u8]) -> Option<Css>
     ensures { result ≡ meaning.css_number text.now }
 {
@@ -201,8 +201,9 @@ fn in_css_order<T: CssItem>(alloc: Global, items: &[T]) -> Result<Vec<T>, AllocE
     Ok(found)
 }
 
-/// What a list by channel subsystem writes, with channel subsystems ascending, and each one's in the order of the text.
-/// Malformed where the value has none of the three forms, or an item none of the operand's.
+/// What a list by channel subsystem writes, with channel subsystems ascending, and each one's in
+/// the order of the text. Malformed where the value has none of the three forms, or an item none of
+/// the operand's.
 pub fn by_css<T: CssItem>(alloc: Global, value: Value) -> Result<Vec<T>, Unread>
     ensures { Reads (λ v. v.items) result (meaning.by_css T.may_lack T.item T.subsystem (seen value.entry)) }
 {

@@ -74,8 +74,8 @@ fn up_to(limit: u32, value: u64) -> Option<u32>
     }
 }
 
-/// The hexadecimal number that `text` writes: one digit to `digits` digits, 0 to 9 and A to F in upper
-/// case, at most `limit`. `None` for any other text.
+/// The hexadecimal number that `text` writes: one digit to `digits` digits, 0 to 9 and A to F in
+/// upper case, at most `limit`. `None` for any other text.
 pub fn hex(limit: u32, digits: usize, text: &[u8]) -> Option<u32>
     ensures value { result ≡ meaning.hex_of limit digits text.now }
     ensures within { IfSome result (λ n. n ≤ limit) }
@@ -90,8 +90,8 @@ pub fn hex(limit: u32, digits: usize, text: &[u8]) -> Option<u32>
     }
 }
 
-/// The decimal number that `text` writes: one digit or more, with any number of leading zeros, at most
-/// `limit`. `None` for any other text.
+/// The decimal number that `text` writes: one digit or more, with any number of leading zeros, at
+/// most `limit`. `None` for any other text.
 pub fn decimal(limit: u32, text: &[u8]) -> Option<u32>
     ensures value { result ≡ meaning.decimal_of limit text.now }
     ensures within { IfSome result (λ n. n ≤ limit) }

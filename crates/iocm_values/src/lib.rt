@@ -1,9 +1,11 @@
-//! The values of operands: words and lists, lists by channel subsystem, sets of names, numbers. No keyword is named here.
+//! The values of operands: words and lists, lists by channel subsystem, sets of names, numbers. No
+//! keyword is named here.
 //!
-//! A `Value` is a word or a list. A list is opened a level at a time: `items` gives its items, as values that lie where the
-//! text lies, so nothing is copied, and a reader says its forms as patterns of items. A reader answers `Unread` where a value
-//! has none of its forms, and the statement says at which line that is. `words` finds the words of a value at every depth in
-//! one pass. Each call has one exact clause, by the definition of its name in `specs/`.
+//! A `Value` is a word or a list. A list is opened a level at a time: `items` gives its items, as
+//! values that lie where the text lies, so nothing is copied, and a reader says its forms as
+//! patterns of items. A reader answers `Unread` where a value has none of its forms, and the
+//! statement says at which line that is. `words` finds the words of a value at every depth in one
+//! pass. Each call has one exact clause, by the definition of its name in `specs/`.
 //!
 //! Begin with `specs/Value.antt` and `specs/Reading.antt`, then `css_lists.rt`.
 #![tactic(auto)]

@@ -55,7 +55,8 @@ fn put_items(text: &mut Vec<u8>, items: &[Text]) -> Result<(), AllocError>
     Ok(())
 }
 
-/// A list of items as it is written: in parentheses, with commas between them. Answers the want of memory alone.
+/// A list of items as it is written: in parentheses, with commas between them. Answers the want of
+/// memory alone.
 pub fn list_text(alloc: Global, items: &[Text]) -> Result<Text, AllocError>
     ensures { IfOk result (λ text. text ≡ meaning.list_text items.now) }
 {
@@ -130,8 +131,8 @@ pub fn subsystem(number: u8) -> Css
     }
 }
 
-/// A list by channel subsystem as it is written: in groups, with channel subsystems ascending, and each one's items in their
-/// order. Answers the want of memory alone.
+/// A list by channel subsystem as it is written: in groups, with channel subsystems ascending, and
+/// each one's items in their order. Answers the want of memory alone.
 pub fn by_css_text(alloc: Global, items: &[CssText]) -> Result<Text, AllocError>
     ensures { IfOk result (λ text. text ≡ meaning.by_css_text items.now) }
 {

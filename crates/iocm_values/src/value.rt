@@ -7,8 +7,8 @@ ghost use Rattle.iocm_values.specs.Value.{seen};
 use iocm_statements::{Unread, pieces};
 use std::alloc::Global;
 
-/// The value of an operand, or an item of a list: a word, or a list by the text between its parentheses.
-/// The bytes stay where they lie.
+/// The value of an operand, or an item of a list: a word, or a list by the text between its
+/// parentheses. The bytes stay where they lie.
 #[derive(Clone, Copy)]
 pub enum Value<'a> {
     /// A text that isn't in parentheses, such as `50` or `CSS(0)`.
@@ -19,8 +19,8 @@ pub enum Value<'a> {
 
 /// What stands between the parentheses of a text that begins with `(` and ends with `)`.
 ///
-/// In a text whose parentheses match these two may still belong to different pairs, as in `(A)(B)`; what
-/// stands between them then has no pieces.
+/// In a text whose parentheses match these two may still belong to different pairs, as in `(A)(B)`;
+/// what stands between them then has no pieces.
 fn inside<'a>(text: &'a [u8]) -> Option<&'a [u8]>
     ensures { option_copied result ≡ meaning.inside text.now }
 {
@@ -48,7 +48,8 @@ impl<'a> Value<'a> {
         }
     }
 
-    /// The items of a list: `(A,(B,C))` has `A` and `(B,C)`, and `()` has one empty word. A word is malformed.
+    /// The items of a list: `(A,(B,C))` has `A` and `(B,C)`, and `()` has one empty word. A word is
+    /// malformed.
     pub fn items(self, alloc: Global) -> Result<Vec<Value<'a>>, Unread>
         ensures { Reads (λ v. map seen v.items) result (meaning.items (seen self.entry)) }
     {
@@ -73,7 +74,8 @@ impl<'a> Value<'a> {
     }
 }
 
-/// The values between the commas of a text. Malformed where the parentheses do not match or a quote does not end.
+/// The values between the commas of a text. Malformed where the parentheses do not match or a quote
+/// does not end.
 pub fn values<'a>(alloc: Global, text: &'a [u8]) -> Result<Vec<Value<'a>>, Unread>
     ensures { Reads (λ v. map seen v.items) result (meaning.values text.now) }
 {

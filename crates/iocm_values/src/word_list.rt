@@ -40,9 +40,10 @@ fn after(nesting: Nesting, byte: u8) -> Nesting
     nesting.after(byte).unwrap_or(nesting)
 }
 
-/// The words of a text at every depth, in the order of the text: a comma ends a word, and so does a parenthesis that closes a
-/// list. What stands behind a list, as `)X` in `(A)X`, is a word that begins with the parenthesis. `CSS(0,1)` is one word, for a
-/// parenthesis that opens behind a word belongs to it.
+/// The words of a text at every depth, in the order of the text: a comma ends a word, and so does a
+/// parenthesis that closes a list. What stands behind a list, as `)X` in `(A)X`, is a word that
+/// begins with the parenthesis. `CSS(0,1)` is one word, for a parenthesis that opens behind a word
+/// belongs to it.
 #[tactic(auto, using(crate::proofs::Passing::word_steps))]
 pub fn words<'a>(alloc: Global, text: &'a [u8]) -> Result<Vec<&'a [u8]>, AllocError>
     ensures { IfOk result (λ found. map (λ k. k.now) found.items ≡ words text.now) }

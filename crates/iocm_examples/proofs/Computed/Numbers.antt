@@ -1,4 +1,5 @@
--- Numbers at opening, computed once the maps are listed, and after edits, computed on states as lists.
+-- Numbers at opening, computed once the maps are listed, and after edits, computed on states as
+-- lists.
 use Rattle.std.proofs.Common.{◌≡◌, ℕ, List, [], ◌∷◌, refl, ◌∙◌, ap}
 use Rattle.std.specs.FinMap.{entries, get, get-from_entries}
 use Rattle.iocm_types.specs.declared.key.Key.{Key}

@@ -1,4 +1,5 @@
--- The first breaches of decks that break one clause of a rule, and of decks at the bounds, computed.
+-- The first breaches of decks that break one clause of a rule, and of decks at the bounds,
+-- computed.
 use Rattle.std.proofs.Common.{◌≡◌, ◌∙◌, List, Bool, [], ◌∷◌, None, Some, map}
 use Rattle.iocm_types.specs.declared.path_kind.PathKind.TheVariants.{Dedicated, Shared}
 use Rattle.iocm_types.specs.Key.{key_cmp}

@@ -103,7 +103,8 @@ pub live_is : (n : ℕ) (cs : List ListedCall) → AreRight cs → (x : SubId)
     → get (state_at base_opened (run base_opened (calls_from (take n cs)))).lives x ≡ find sub_id_cmp x (left_by (take n cs)).lives
 live_is n cs right x = live_at_is _ _ x (state_is n cs right)
 
--- the cells of the entries after the first calls of a run, but the latest of these entries, are those of its listing
+-- the cells of the entries after the first calls of a run, but the latest of these entries, are
+-- those of its listing
 pub cells_are : (n k : ℕ) (cs : List ListedCall) → AreRight cs
     → store_listing (replay (store_of base_opened) (drop k (marked_entries base_opened (run base_opened (calls_from (take n cs))))))
     ≡ replay_lines (store_in base_listing) (drop k (made_by (take n cs)).marked)

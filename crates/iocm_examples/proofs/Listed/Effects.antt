@@ -1,4 +1,5 @@
--- Effects of edits on states as lists: the cells that edits write, their values, and what writing them does.
+-- Effects of edits on states as lists: the cells that edits write, their values, and what writing
+-- them does.
 use Rattle.std.proofs.Common.{◌≡◌, ℕ, ◌==◌, Option, List, [], ◌∷◌, ◌++◌, map, refl, sym, ap, ◌∙◌}
 use Rattle.std.specs.FinMap.{entries}
 use Rattle.iocm_types.specs.declared.key.Key.{Key}

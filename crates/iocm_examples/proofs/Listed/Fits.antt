@@ -45,7 +45,8 @@ barred_seen e s =
     ∙ ap (λ es. taken_listed es (entries s.numbers) e.places) (records_seen e.action s.config) in
     λ i. is_some (refusal_by_key e.action (is_some (get-entries s.config (action_key e.action) i))) || taken i
 
--- an edit goes back: between the states before and after it, with its inverse, and between the states before and after that
+-- an edit goes back: between the states before and after it, with its inverse, and between the
+-- states before and after that
 abbrev back_between : ListedState → ListedState → ListedEdit → ListedState → ListedState → Bool
 back_between x t f y z = not (barred_listed f y)
     && goes_back_on cell_cmp ◌==◌ (cells_listed x.numbers) (cells_listed t.numbers) (cells_listed y.numbers) (cells_listed z.numbers)

@@ -1,4 +1,5 @@
--- Histories as lists: what each call makes of the lines, of what is staged, of the book and of the answers so far.
+-- Histories as lists: what each call makes of the lines, of what is staged, of the book and of the
+-- answers so far.
 use Rattle.std.proofs.Common.{◌≡◌, ℕ, zero, suc, ◌+◌, ◌-◌, Bool, true, false, Ok, Err, Option, Some, None, List, [], ◌∷◌, map, length, take, refl, sym, ap, subst, ◌∙◌}
 use Rattle.std.specs.List.{fold}
 use Rattle.std.specs.Option.{option_map}
@@ -84,7 +85,8 @@ made_seen opening e h act g did staged = λ i. record {
 
 -- ---- calls
 
--- calls whose trees are of listed edits; an activation or a begin comes with the edits that it performs, if it is accepted
+-- calls whose trees are of listed edits; an activation or a begin comes with the edits that it
+-- performs, if it is accepted
 pub data ListedCall : Type 0 where
   stepping : SubId → Step → ListedCall
   activating : ListedPlan → List ListedEdit → ListedCall

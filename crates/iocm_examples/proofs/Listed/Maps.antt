@@ -1,4 +1,5 @@
--- Finite maps seen as lists of entries in the order of their keys: what each operation does to the list.
+-- Finite maps seen as lists of entries in the order of their keys: what each operation does to the
+-- list.
 use Rattle.std.proofs.Common.{◌≡◌, List, T, sym, ap, ◌∙◌, Bool, true, false, cond, not, Option, None, Some, [], ◌∷◌, ◌++◌, map, filter, refl}
 use Rattle.std.specs.declared.cmp.Ordering.{Ordering}
 use Rattle.std.specs.Cmp.{IsTotalOrder, eq_by_cmp_equiv}

@@ -108,7 +108,8 @@ share_seen f g = λ i. list_any (λ k. is_some (get-entries g.records k i)) (key
 abbrev pub numbers_in_order : List ListedNumbered → List ℕ
 numbers_in_order ds = map (λ (d : ListedNumbered). d.0) ds
 
--- the changes that stand on a change, of the later ones and of the earlier ones that were undone since
+-- the changes that stand on a change, of the later ones and of the earlier ones that were undone
+-- since
 abbrev pub standing_by : ListedChange → List ListedNumbered → List ℕ → Bool → List ℕ
 standing_by c later undone true = numbers_in_order (filter (λ (d : ListedNumbered). share_listed c.effect d.1.effect) later)
 standing_by c later undone false = numbers_in_order later ++ undone

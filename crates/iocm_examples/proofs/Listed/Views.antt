@@ -21,7 +21,8 @@ use Rattle.iocm_model.specs.Machine.View.{row_at, views}
 use Rattle.iocm_model.specs.Operation.State.{views_of}
 use Rattle.iocm_examples.proofs.Listed.Maps.{fold_seen, cond_seen, put_all, entries-from_entries, entries-retain_keys}
 
--- the records of a configuration, the numbers of places, the devices of number cells, and what is seen, as lists
+-- the records of a configuration, the numbers of places, the devices of number cells, and what is
+-- seen, as lists
 abbrev pub Records : Type 0
 Records = List (Key × Rec)
 

@@ -47,7 +47,8 @@ back_by false a c None ul other kept = absurd (nothing (kept refl))
     nothing e = cc
 back_by false a c (Some y) ul other kept = rw other refl
 
--- there and back: where something else was seen in between, the record that is kept, and else the one that is there
+-- there and back: where something else was seen in between, the record that is kept, and else the
+-- one that is there
 pub left_back : (v w : Option View) (k l ul : Option Live) → is_some l ≡ is_some v → is_some ul ≡ is_some w
     → is_some k ≡ is_some (cond (not (option_eq same_view v w)) l None)
     → left_at w v k ul ≡ cond (not (option_eq same_view v w)) k ul

@@ -1,4 +1,5 @@
--- Steps on subchannels that a change doesn't alter, before it or after it; and the state at opening.
+-- Steps on subchannels that a change doesn't alter, before it or after it; and the state at
+-- opening.
 use Rattle.std.proofs.Common.{◌≡◌, Bool, true, false, cond, List, [], ◌∷◌, map, Option, Some, None, refl, sym, ap, ◌∙◌}
 use Rattle.std.specs.List.{list_any}
 use Rattle.std.specs.Option.{option_zip, is_some}
@@ -69,7 +70,8 @@ step_elsewhere : (from lives : Lives) (xs : List SubId) (x : SubId) (step : Step
 step_elsewhere from lives xs x step None off = refl
 step_elsewhere from lives xs x step (Some p) off = put_elsewhere from lives xs x (live_after_step step p.0 p.1) off
 
--- a step passes cells that are overwritten as a state has them, where what is seen at its subchannel stays
+-- a step passes cells that are overwritten as a state has them, where what is seen at its
+-- subchannel stays
 passes : (x : SubId) (step : Step) (from u : State) (w : Cells) → is_among x w.subchannels ≡ false
     → seen_in (with_effect (values_in from w) u) x ≡ seen_in u x → Passes x step (values_in from w) u
 passes x step from u w off seen =

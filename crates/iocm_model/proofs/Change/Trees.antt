@@ -162,7 +162,8 @@ few_performed p s w h =
     let bound = at_most (leaves_of p) within.leaves in
     let few = within.run.few in omega (arith, bound, few)
 
--- where the inverses of so many edits are accepted and the rules hold after them, the inverse tree means what they do
+-- where the inverses of so many edits are accepted and the rules hold after them, the inverse tree
+-- means what they do
 pub inverse_tree_means : (es : List Edit) (s u : State) → length es ≤ most_leaves → AreAccepted (inverses es s) u
     → KeepsTheRules (state_after_all (inverses es s) u) → state_reached (meaning (inverse_tree es s) u) ≡ Some (state_after_all (inverses es s) u)
 inverse_tree_means es s u few accepted rules =

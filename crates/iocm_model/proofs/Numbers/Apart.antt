@@ -1,4 +1,5 @@
--- No number comes twice in a channel subsystem and set: not after a change whose carried numbers are free.
+-- No number comes twice in a channel subsystem and set: not after a change whose carried numbers
+-- are free.
 use Rattle.std.proofs.Common.{◌≡◌, ℕ, Bool, true, false, cond, not, ◌&&◌, ◌||◌, nat_eq, eq-eqb, List, [], ◌∷◌, map, Some, None, is_some, refl, sym, ap, ◌∙◌}
 use Rattle.std.proofs.lemmas.Bool.{or_parts, true_from_ne_false}
 use Rattle.std.specs.List.{filter, fold, list_any}
@@ -127,14 +128,16 @@ module _ (c : Configuration) (n : Numbering) where
   abbrev arriving : List (Place × ℕ) → List (Place × ℕ)
   arriving xs = filter (comes_in c n) xs
 
-  -- numbers m on the way, before these are carried in: none of the carried ones is there, nor comes twice
+  -- numbers m on the way, before these are carried in: none of the carried ones is there, nor comes
+  -- twice
   pub record IsFreeFor (m : Numbering) (xs : List (Place × ℕ)) : Type 0 where
     pub apart : IsApart m
     pub free : (q : Place) (k : ℕ) → get m q ≡ Some k → list_any (same_cell (q, k)) (arriving xs) ≡ false
     pub once : has_cell_twice (arriving xs) ≡ false
     pub old : (p : Place) → is_reached_at c p ≡ true → contains_key m p ≡ false → contains_key n p ≡ false
 
-  -- a number that is there after one was carried in isn't carried again, by whether it is that one's place
+  -- a number that is there after one was carried in isn't carried again, by whether it is that
+  -- one's place
   still_free_by : (m : Numbering) (x : Place × ℕ) (xs : List (Place × ℕ)) (q : Place) (k : ℕ) (b : Bool) → eq_by_cmp place_cmp q x.0 ≡ b
       → list_any (same_cell x) xs ≡ false → (get m q ≡ Some k → list_any (same_cell (q, k)) xs ≡ false)
       → cond b (Some x.1) (get m q) ≡ Some k → list_any (same_cell (q, k)) xs ≡ false
@@ -144,13 +147,15 @@ module _ (c : Configuration) (n : Numbering) where
       ap (λ (y : Place × ℕ). list_any (same_cell y) xs) (λ i. (place i, number i)) ∙ once
   still_free_by m x xs q k false e once free is = free is
 
-  -- a place that has none after one was carried in had none before, by whether it is that one's place
+  -- a place that has none after one was carried in had none before, by whether it is that one's
+  -- place
   still_old_by : (m : Numbering) (x : Place × ℕ) (p : Place) (b : Bool) → eq_by_cmp place_cmp p x.0 ≡ b
       → is_some (cond b (Some x.1) (get m p)) ≡ false → contains_key m p ≡ false
   still_old_by m x p true e none = cc
   still_old_by m x p false e none = none
 
-  -- what is free for the carried places is free for the rest after the first, by whether that comes in
+  -- what is free for the carried places is free for the rest after the first, by whether that comes
+  -- in
   pub step_by : (m : Numbering) (x : Place × ℕ) (xs : List (Place × ℕ)) (b : Bool) → (is_reached_at c x.0 && not (contains_key m x.0)) ≡ b
       → IsFreeFor m (x ∷ xs) → IsFreeFor (cond b (insert m x.0 x.1) m) xs
   step_by m x xs true e h =

@@ -68,7 +68,8 @@ in_cells n apart p number is =
     ∙ found_on cell_cmp cells_total cells_exact place_cmp places_total places_exact to_place to_cell (λ e. refl) (entries cells) (cell p number) p.device
     (sym (get-entries cells (cell p number)) ∙ has_device n apart p number is)
 
--- two answers of which each value of the one is the other's are equal, if the one is there whenever the other is
+-- two answers of which each value of the one is the other's are equal, if the one is there whenever
+-- the other is
 same_answer : (a b : Option ℕ) → ((k : ℕ) → a ≡ Some k → b ≡ Some k) → ((k : ℕ) → b ≡ Some k → is_some a ≡ true) → a ≡ b
 same_answer (Some x) b there here = sym (there x refl)
 same_answer None None there here = refl

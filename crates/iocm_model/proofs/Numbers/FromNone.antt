@@ -1,5 +1,5 @@
--- Opening is renumbering from none: in both each number below that of a place is held by one of a smaller device number, and there is one
--- such numbering.
+-- Opening is renumbering from none: in both each number below that of a place is held by one of a
+-- smaller device number, and there is one such numbering.
 use Rattle.std.proofs.Common.{◌≡◌, ℕ, zero, suc, ◌+◌, ◌<◌, ◌≤◌, Bool, true, false, cond, ◌||◌, ◌⊎◌, inl, inr, nat_eq, eq-eqb, List, [], ◌∷◌, Option, Some, None, is_some, refl, sym, ap, subst, ◌∙◌, arith}
 use Rattle.std.proofs.lemmas.Bool.{cases_lt, or_right}
 use Rattle.std.proofs.Math.Nat.{eq-or-lt_of_le}
@@ -38,7 +38,8 @@ IsGapless n = (p : Place) (number k : ℕ) → get n p ≡ Some number → k < n
 -- ---- there is one such numbering
 
 module _ (n m : Numbering) (apart : IsApart n) (gapless : IsGapless m) where
-  -- a place doesn't have a smaller number in one than in the other, where all of smaller device numbers have the same
+  -- a place doesn't have a smaller number in one than in the other, where all of smaller device
+  -- numbers have the same
   not_smaller : (p : Place) (a b : ℕ) → ((q : Place) → q.device < p.device → get n q ≡ get m q) → get n p ≡ Some a → get m p ≡ Some b → a < b → ⊥
   not_smaller p a b same is was low =
       let w = gapless p b a was low in

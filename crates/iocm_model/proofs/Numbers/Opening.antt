@@ -1,4 +1,5 @@
--- The numbers at opening are those of the configuration, and what the numbers of a configuration are.
+-- The numbers at opening are those of the configuration, and what the numbers of a configuration
+-- are.
 use Rattle.std.proofs.Common.{◌≡◌, ℕ, ◌+◌, List, [], ◌∷◌, ◌++◌, map, is_some, refl, sym, ap, ◌∙◌}
 use Rattle.std.proofs.lemmas.List.{map-append}
 use Rattle.std.specs.List.{flat_map, list_any}

@@ -43,7 +43,8 @@ used_by_a_place n css set number used =
 
 -- ---- the lowest free numbers, one after the other
 
--- a place that holds a number once the lowest free ones are given to some places, and that had one or has a smaller device number
+-- a place that holds a number once the lowest free ones are given to some places, and that had one
+-- or has a smaller device number
 pub record IsHeld (m : Numbering) (ps : List Place) (p : Place) (number : ℕ) : Type 0 where
   pub place : Place
   pub css_is : place.css ≡ p.css
@@ -128,7 +129,8 @@ module _ (c : Configuration) where
       by true e none more = cc
       by false e none more = more none ∙ other_carried_by c n x p _ e
 
--- one that had a number before the lowest free ones were given had one before the change, or brought it along
+-- one that had a number before the lowest free ones were given had one before the change, or
+-- brought it along
 had_one : (c : Configuration) (carried : List (Place × ℕ)) (n : Numbering) (q : Place) → contains_key (before_lowest c carried n) q ≡ true
     → (contains_key n q ≡ true) ⊎ (is_some (find place_cmp q carried) ≡ true)
 had_one c carried n q there = by (find place_cmp q carried) refl

@@ -1,4 +1,5 @@
--- One edit: what it says, and what it does to the configuration, the numbers and the live records. Own.
+-- One edit: what it says, and what it does to the configuration, the numbers and the live records.
+-- Own.
 use Rattle.std.specs.Prelude.{ℕ, nat_eq, Bool, ◌&&◌, not, if◌then◌else◌, Option, None, Some, List}
 use Rattle.std.specs.List.{filter_map}
 use Rattle.std.specs.Option.{option_map, option_eq}
@@ -22,7 +23,8 @@ pub data Action : Type 0 where
   delete : Key → Action
   modify : Rec → Action
 
--- an edit: its action, the places that come along with their numbers, and the live records that come along
+-- an edit: its action, the places that come along with their numbers, and the live records that
+-- come along
 pub record Edit : Type 0 where
   pub action : Action
   pub places : List (Place × ℕ)
@@ -51,8 +53,8 @@ same_view a b = nat_eq a.device b.device && pointwise nat_eq a.paths b.paths && 
 abbrev pub own_live : View → View → Live → Live
 own_live old new l = if pointwise nat_eq old.paths new.paths then l else record l { lpm = new.pim }
 
--- the live record of an altered subchannel that has a view afterwards: the one that comes along; else a fresh one where
--- it is new; else its own (a state with live records has one then)
+-- the live record of an altered subchannel that has a view afterwards: the one that comes along;
+-- else a fresh one where it is new; else its own (a state with live records has one then)
 abbrev pub live_of_altered : Option View → View → Option Live → Option Live → Live
 live_of_altered old new (Some k) l = k
 live_of_altered None new None l = fresh new.pim
@@ -63,7 +65,8 @@ live_of_altered (Some old) new None (Some l) = own_live old new l
 abbrev pub live_after_edit : Option View → View → Option Live → Option Live → Option Live
 live_after_edit old new carried l = if option_eq same_view old (Some new) then l else Some (live_of_altered old new carried l)
 
--- the live records after the views have changed: those of subchannels that have no view any more are gone
+-- the live records after the views have changed: those of subchannels that have no view any more
+-- are gone
 abbrev pub lives_after_edit : Views → Views → Lives → Lives → Lives
 lives_after_edit old new carried lives = from_entries (filter_map
     (λ (e : SubId × View). option_map (λ (l : Live). (e.0, l)) (live_after_edit (get old e.0) e.1 (get carried e.0) (get lives e.0))) (entries new))

@@ -1,4 +1,5 @@
--- Effects: which cells of a state a change wrote, with the value after it; and what writing them does. Own.
+-- Effects: which cells of a state a change wrote, with the value after it; and what writing them
+-- does. Own.
 use Rattle.std.specs.Prelude.{ℕ, ◌==◌, List, [], ◌∷◌, ◌++◌, Option}
 use Rattle.std.specs.FinMap.{FinMap, entries}
 use Rattle.iocm_types.specs.declared.key.Key.{Key}
@@ -20,7 +21,8 @@ pub record Cells : Type 0 where
   pub numbers : List NumberCell
   pub subchannels : List SubId
 
--- cells with their values: records, the devices that have numbers, and live records, absent included
+-- cells with their values: records, the devices that have numbers, and live records, absent
+-- included
 pub record Effect : Type 0 where
   pub records : FinMap key_cmp (Option Rec)
   pub numbers : FinMap cell_cmp (Option ℕ)
@@ -45,7 +47,8 @@ no_cells = record { keys = []; numbers = []; subchannels = [] }
 abbrev pub both_cells : Cells → Cells → Cells
 both_cells v w = record { keys = v.keys ++ w.keys; numbers = v.numbers ++ w.numbers; subchannels = v.subchannels ++ w.subchannels }
 
--- the cells that an edit writes: its key, the number cells that it changes, and the subchannels that it alters
+-- the cells that an edit writes: its key, the number cells that it changes, and the subchannels
+-- that it alters
 abbrev pub cells_written : Edit → State → Cells
 cells_written e s = let t = state_after e s in record {
   keys = action_key e.action ∷ [];

@@ -18,8 +18,8 @@ action_back key None after = delete key
 abbrev pub freed_numbers : Numbering → Numbering → List (Place × ℕ)
 freed_numbers before after = filter (λ (p : Place × ℕ). not (contains_key after p.0)) (entries before)
 
--- the inverse of an edit in a state: the old record, the numbers that were freed, and the live records that altered
--- subchannels had
+-- the inverse of an edit in a state: the old record, the numbers that were freed, and the live
+-- records that altered subchannels had
 abbrev pub inverse_of : Edit → State → Edit
 inverse_of e s = let t = state_after e s in record {
   action = action_back (action_key e.action) (get s.config (action_key e.action)) (record_after e.action);

@@ -17,8 +17,9 @@ parts_of (e ∷ es) = part (leaf e) (parts_of es)
 abbrev pub inverse_tree : List Edit → State → ChangeTree
 inverse_tree es s = row (parts_of (inverses es s))
 
--- a tree takes edits back that were performed from a state on: at every state with the configuration and the numbers after
--- them in which the altered subchannels are quiet, it is accepted, and means that state with the cells that they wrote as these were before
+-- a tree takes edits back that were performed from a state on: at every state with the
+-- configuration and the numbers after them in which the altered subchannels are quiet, it is
+-- accepted, and means that state with the cells that they wrote as these were before
 abbrev pub TakesBack : ChangeTree → List Edit → State → Type 0
 TakesBack p es s = (u : State) → HasConfigAndNumbersOf u (state_after_all es s) → AreQuiet u.lives (cells_written_by_all es s).subchannels
     → state_reached (meaning p u) ≡ Some (with_effect (values_in s (cells_written_by_all es s)) u)

@@ -1,4 +1,5 @@
--- What a change tree means in a state: a state with the edits that were performed, or a refusal with its node. Own.
+-- What a change tree means in a state: a state with the edits that were performed, or a refusal
+-- with its node. Own.
 use Rattle.std.specs.Prelude.{ℕ, ◌+◌, nat_lt, List, [], ◌∷◌, ◌++◌, Option, None, Some, Result, Ok, Err, if◌then◌else◌}
 use Rattle.iocm_types.specs.declared.refused.At.TheVariants.{Key, Nothing}
 use Rattle.iocm_types.specs.declared.refused.Refused.{Refused}
@@ -60,8 +61,9 @@ abbrev pub without_parts : ℕ → Refused
 without_parts n = at_node n (refusal_at E3 Nothing)
 
 abbrev mutual
-  -- a tree whose first node has this number. A Row performs its parts in order, all or none; after a Group the rules hold; a
-  -- Choose performs the first part that is accepted and after which the rules hold
+  -- a tree whose first node has this number. A Row performs its parts in order, all or none; after
+  -- a Group the rules hold; a Choose performs the first part that is accepted and after which the
+  -- rules hold
   pub node_meaning : ChangeTree → ℕ → State → Outcome
   node_meaning (leaf e) n s = unless_refused (refusal_of e s) n e s
   node_meaning (row ps) n s = parts_meaning ps (n + 1) s

@@ -39,7 +39,8 @@ abbrev pub has_cell_twice : List (Place × ℕ) → Bool
 has_cell_twice [] = false
 has_cell_twice (p ∷ ps) = list_any (same_cell p) ps || has_cell_twice ps
 
--- E4: a carried number of a device that comes in is held by a device that stays, or is carried twice
+-- E4: a carried number of a device that comes in is held by a device that stays, or is carried
+-- twice
 abbrev pub is_number_taken : Configuration → Numbering → List (Place × ℕ) → Bool
 is_number_taken c n carried = let arriving = filter (comes_in c n) carried in
     list_any (λ p. list_any (same_cell p) (entries (without_leavers c n))) arriving || has_cell_twice arriving
@@ -61,7 +62,8 @@ first_not_quiet lives xs = find (λ x. is_not_quiet (get lives x)) xs
 abbrev pub refusal_by_subchannel : Option SubId → Option Refused
 refusal_by_subchannel found = option_map (λ x. refusal_at B1 (Subchannel x)) found
 
--- why an edit is refused in a state, if it is: E1 or E2, then E4, then B1 with the least altered subchannel that isn't quiet
+-- why an edit is refused in a state, if it is: E1 or E2, then E4, then B1 with the least altered
+-- subchannel that isn't quiet
 abbrev pub refusal_of : Edit → State → Option Refused
 refusal_of e s =
     option_or (refusal_by_key e.action (contains_key s.config (action_key e.action)))

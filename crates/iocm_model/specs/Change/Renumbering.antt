@@ -36,7 +36,7 @@ with_carried c n carried = if comes_in c n carried then insert n carried.0 carri
 abbrev pub with_lowest : Numbering → Place → Numbering
 with_lowest n p = if contains_key n p then n else insert n p (lowest_free n p.css p.set)
 
--- the numbers after the configuration has become c: leavers, then carried places, then the rest in order of device
--- number, which avoid the places just carried
+-- the numbers after the configuration has become c: leavers, then carried places, then the rest in
+-- order of device number, which avoid the places just carried
 abbrev pub numbers_after : Configuration → List (Place × ℕ) → Numbering → Numbering
 numbers_after c carried n = fold with_lowest (fold (with_carried c) (without_leavers c n) carried) (reached_places c)

@@ -20,8 +20,8 @@ abbrev pub AreKept : List Law → List Rec → Type 0
 AreKept [] records = Unit {0}
 AreKept (law ∷ laws) records = (list_any law.1 records ≡ false) × AreKept laws records
 
--- a breach is the first of some rules: its rule is broken at its key, no record before breaks that rule, and no record
--- breaks a rule before it
+-- a breach is the first of some rules: its rule is broken at its key, no record before breaks that
+-- rule, and no record breaks a rule before it
 pub record IsFirst (laws : List Law) (records : List Rec) (b : Breach) : Type 0 where
   pub before : List Law
   pub law : Law

@@ -1,4 +1,5 @@
--- What one edit promises: which subchannels it alters, what live records these have then, and which one a refusal names.
+-- What one edit promises: which subchannels it alters, what live records these have then, and which
+-- one a refusal names.
 use Rattle.std.specs.Prelude.{◌≡◌, ◌≢◌, ◌↔◌, true, false, None, Some}
 use Rattle.std.specs.FinMap.{get, contains_key}
 use Rattle.std.specs.declared.cmp.Ordering.TheVariants.{Less}
@@ -35,8 +36,9 @@ NamesTheLeast = (e : Edit) (s : State) (x : SubId) → first_not_quiet s.lives (
 abbrev pub NamesNoneWhereQuiet : Type 0
 NamesNoneWhereQuiet = (e : Edit) (s : State) → (first_not_quiet s.lives (altered_by e s) ≡ None) ↔ AreQuiet s.lives (altered_by e s)
 
--- a refusal for a subchannel that isn't quiet: it names the least of those that the edit alters, with no node, and neither the key
--- (E1, E2) nor a carried number (E4) stands in the way of the edit
+-- a refusal for a subchannel that isn't quiet: it names the least of those that the edit alters,
+-- with no node, and neither the key (E1, E2) nor a carried number (E4) stands in the way of the
+-- edit
 pub record IsForTheLeast (e : Edit) (s : State) (why : Refused) : Type 0 where
   pub subchannel : SubId
   pub least : IsLeastNotQuiet e s subchannel
@@ -48,8 +50,8 @@ pub record IsForTheLeast (e : Edit) (s : State) (why : Refused) : Type 0 where
 abbrev pub RefusalNamesTheLeast : Type 0
 RefusalNamesTheLeast = (e : Edit) (s : State) (why : Refused) → refusal_of e s ≡ Some why → why.rule ≡ B1 → IsForTheLeast e s why
 
--- the live record of a subchannel afterwards: gone with its view; the one that comes along; fresh where the view is new; else its own, with
--- LPM equal to PIM where the path list changed
+-- the live record of a subchannel afterwards: gone with its view; the one that comes along; fresh
+-- where the view is new; else its own, with LPM equal to PIM where the path list changed
 pub record HasLiveAfter (e : Edit) (s : State) (x : SubId) : Type 0 where
   pub gone : seen_in (state_after e s) x ≡ None → get (state_after e s).lives x ≡ None
   pub carried : (new : View) (l : Live) → seen_in (state_after e s) x ≡ Some new → get e.lives x ≡ Some l → get (state_after e s).lives x ≡ Some l

@@ -1,4 +1,5 @@
--- What subchannel numbers promise: the lowest that is free, the numbers at opening, after a change, and after it is taken back.
+-- What subchannel numbers promise: the lowest that is free, the numbers at opening, after a change,
+-- and after it is taken back.
 use Rattle.std.specs.Prelude.{◌≡◌, ◌⊎◌, is_some, [], ℕ, ◌<◌, nat_eq, Bool, true, false, length, List, Some, None}
 use Rattle.std.specs.List.{list_any}
 use Rattle.std.specs.FinMap.{get, contains_key, find, empty}
@@ -23,7 +24,8 @@ pub record IsLowestFree (n : Numbering) (css set number : ℕ) : Type 0 where
 abbrev pub LowestFreeIsFree : Type 0
 LowestFreeIsFree = (n : Numbering) (css set : ℕ) → IsLowestFree n css set (lowest_free n css set)
 
--- where fewer numbers than these are given away, it is below them: an arriving device always finds one
+-- where fewer numbers than these are given away, it is below them: an arriving device always finds
+-- one
 abbrev pub LowestFreeIsFound : Type 0
 LowestFreeIsFound = (n : Numbering) (css set most : ℕ) → length (numbers_in n css set) < most → lowest_free n css set < most
 
@@ -42,8 +44,8 @@ abbrev pub CarriedComeBack : Type 0
 CarriedComeBack = (c : Configuration) (carried : List (Place × ℕ)) (n : Numbering) (p : Place) (number : ℕ)
     → is_reached_at c p ≡ true → get n p ≡ None → find place_cmp p carried ≡ Some number → get (numbers_after c carried n) p ≡ Some number
 
--- a place of the same channel subsystem and set that has this number after a change: it had one before, one was carried for it, or its device
--- number is smaller
+-- a place of the same channel subsystem and set that has this number after a change: it had one
+-- before, one was carried for it, or its device number is smaller
 pub record IsHeldBefore (c : Configuration) (carried : List (Place × ℕ)) (n : Numbering) (p : Place) (number : ℕ) : Type 0 where
   pub place : Place
   pub css : place.css ≡ p.css
@@ -51,8 +53,9 @@ pub record IsHeldBefore (c : Configuration) (carried : List (Place × ℕ)) (n :
   pub has : get (numbers_after c carried n) place ≡ Some number
   pub before : (contains_key n place ≡ true) ⊎ ((is_some (find place_cmp place carried) ≡ true) ⊎ (place.device < p.device))
 
--- the rest of those that come in get the lowest free numbers in order of device number: each number below theirs is held by a device that had
--- one, that brought one along, or that has a smaller device number
+-- the rest of those that come in get the lowest free numbers in order of device number: each number
+-- below theirs is held by a device that had one, that brought one along, or that has a smaller
+-- device number
 abbrev pub RestGetTheLowest : Type 0
 RestGetTheLowest = (c : Configuration) (carried : List (Place × ℕ)) (n : Numbering) (p : Place) (number : ℕ) → IsKeyed c
     → get n p ≡ None → find place_cmp p carried ≡ None → get (numbers_after c carried n) p ≡ Some number
@@ -62,7 +65,8 @@ RestGetTheLowest = (c : Configuration) (carried : List (Place × ℕ)) (n : Numb
 abbrev pub OpeningIsFromNone : Type 0
 OpeningIsFromNone = (c : Configuration) → IsKeyed c → numbers_after c [] empty ≡ opening c
 
--- no number comes twice, where none did before and no carried number is taken: they are numbers of the new configuration
+-- no number comes twice, where none did before and no carried number is taken: they are numbers of
+-- the new configuration
 abbrev pub NumbersAfterAreNumbers : Type 0
 NumbersAfterAreNumbers = (before after : Configuration) (carried : List (Place × ℕ)) (n : Numbering) → AreNumbersOf before n
     → is_number_taken after n carried ≡ false → AreNumbersOf after (numbers_after after carried n)

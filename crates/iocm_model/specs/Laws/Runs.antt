@@ -1,4 +1,5 @@
--- What edits promise, one after the other: states that stay sound, what they write, and that they can be taken back.
+-- What edits promise, one after the other: states that stay sound, what they write, and that they
+-- can be taken back.
 use Rattle.std.specs.Prelude.{◌≡◌, List}
 use Rattle.std.specs.List.{list_any}
 use Rattle.std.specs.Ordering.{eq_by_cmp}
@@ -39,9 +40,9 @@ PutsBack = (es : List Edit) (s : State) → IsSound s → with_effect (values_in
 abbrev pub HasSameKeys : Lives → Lives → Type 0
 HasSameKeys a b = (x : SubId) → contains_key a x ≡ contains_key b x
 
--- there and back: where the configuration and the numbers are those after an edit, its inverse gives back the cells that the edit
--- wrote, and for the subchannels that it altered the live records that are kept in it: those from before, or any others of the
--- same subchannels
+-- there and back: where the configuration and the numbers are those after an edit, its inverse
+-- gives back the cells that the edit wrote, and for the subchannels that it altered the live
+-- records that are kept in it: those from before, or any others of the same subchannels
 abbrev pub GoesBack : Type 0
 GoesBack = (e : Edit) (s u : State) (carried : Lives) → IsSound s → HasConfigAndNumbersOf u (state_after e s) → HasSameKeys carried (inverse_of e s).lives
     → state_after (record (inverse_of e s) { lives = carried }) u

@@ -1,4 +1,5 @@
--- What steps promise: states that stay sound, and that a step on a subchannel that a change doesn't alter passes its effect.
+-- What steps promise: states that stay sound, and that a step on a subchannel that a change doesn't
+-- alter passes its effect.
 use Rattle.std.specs.Prelude.{◌≡◌, true, false, List}
 use Rattle.iocm_types.specs.declared.sub_id.SubId.{SubId}
 use Rattle.iocm_model.specs.Operation.State.{State, IsSound, is_among}

@@ -18,8 +18,8 @@ path_named p = Record (Path p.css p.path)
 abbrev pub unit_named : ℕ → Named
 unit_named number = Record (Unit number)
 
--- a device names its units, then the images of its candidates; a unit its paths; a path the images of its
--- access list, then of its candidate list; an online record its path, then its image
+-- a device names its units, then the images of its candidates; a unit its paths; a path the images
+-- of its access list, then of its candidate list; an online record its path, then its image
 abbrev pub named_by : Rec → List Named
 named_by (id carried) = []
 named_by (resource carried) = []

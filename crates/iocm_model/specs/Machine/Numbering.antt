@@ -1,5 +1,5 @@
--- Subchannel numbers: in each channel subsystem and subchannel set the devices that are reached there
--- have one each, the same in every image of the channel subsystem. Own.
+-- Subchannel numbers: in each channel subsystem and subchannel set the devices that are reached
+-- there have one each, the same in every image of the channel subsystem. Own.
 use Rattle.std.specs.Prelude.{◌≡◌, ℕ, ◌+◌, ◌==◌, ◌&&◌, Bool, true, false, not, List, [], ◌∷◌, map, filter, Option, Some}
 use Rattle.std.specs.List.{flat_map, list_any}
 use Rattle.std.specs.Ordering.{eq_by_cmp}
@@ -69,8 +69,8 @@ device_at n cell = get (cells_of n) cell
 abbrev pub numbering_of : FinMap cell_cmp ℕ → Numbering
 numbering_of cells = from_entries (map (λ (e : NumberCell × ℕ). (record { css = e.0.css; set = e.0.set; device = e.1 }, e.0.number)) (entries cells))
 
--- the numbers of a configuration: exactly the devices that a channel subsystem reaches have one there, and
--- no number comes twice in one channel subsystem and set
+-- the numbers of a configuration: exactly the devices that a channel subsystem reaches have one
+-- there, and no number comes twice in one channel subsystem and set
 pub record AreNumbersOf (c : Configuration) (n : Numbering) : Type 0 where
   pub exact : (p : Place) → contains_key n p ≡ is_reached_at c p
   pub apart : (p q : Place) (number : ℕ) → p.css ≡ q.css → p.set ≡ q.set → get n p ≡ Some number → get n q ≡ Some number → p ≡ q

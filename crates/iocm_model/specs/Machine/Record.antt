@@ -1,4 +1,5 @@
--- The records of a configuration, as values: what is read from a deck, checked, changed and written.
+-- The records of a configuration, as values: what is read from a deck, checked, changed and
+-- written.
 use Rattle.std.specs.Prelude.{ℕ, List, Option}
 use Rattle.iocm_types.specs.declared.css_path.CssPath.{CssPath}
 use Rattle.iocm_types.specs.declared.link.CssLink.{CssLink}
@@ -34,8 +35,8 @@ pub record PathRecord : Type 0 where
   pub candidates : List (List ℕ)
   pub carried : List CarriedOperand
 
--- a control unit: its paths and their links in the order of the text with channel subsystems ascending,
--- its ranges of unit addresses, and its CUADD
+-- a control unit: its paths and their links in the order of the text with channel subsystems
+-- ascending, its ranges of unit addresses, and its CUADD
 pub record UnitRecord : Type 0 where
   pub number : ℕ
   pub paths : List CssPath

@@ -1,6 +1,6 @@
--- Which paths an image reaches, and which devices it sees.
--- IOCP User's Guide, CHPID statement (access and candidate list) and IODEVICE statement (candidate list);
--- that a device has one candidate list over all channel subsystems is own.
+-- Which paths an image reaches, and which devices it sees. IOCP User's Guide, CHPID statement
+-- (access and candidate list) and IODEVICE statement (candidate list); that a device has one
+-- candidate list over all channel subsystems is own.
 use Rattle.std.specs.Prelude.{ℕ, Bool, true, false, ◌&&◌, ◌||◌, nat_eq, List, Option, None, Some}
 use Rattle.std.specs.List.{list_any}
 use Rattle.std.specs.Cmp.Lexicographic.{pointwise}
@@ -27,6 +27,7 @@ abbrev pub is_candidate : List ℕ → Option (List (List ℕ)) → Bool
 is_candidate name None = true
 is_candidate name (Some names) = has_name name names
 
--- whether the image sees the device: it is a candidate, and reaches some path of the whole path list
+-- whether the image sees the device: it is a candidate, and reaches some path of the whole path
+-- list
 abbrev pub sees : Lookup → ℕ → List ℕ → DeviceRecord → Bool
 sees c css name d = is_candidate name d.candidates && list_any (reaches c css name) (path_list c css d.units)

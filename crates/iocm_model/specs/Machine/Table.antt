@@ -20,8 +20,8 @@ left2 n = padded_integral (format_spec 32 1 0 2 (2 ^ 64 - 1)) false [] (digits 1
 abbrev pub chpids : List ℕ → List ℕ
 chpids paths = flat_map (λ p. 32 ∷ hex2 p) paths
 
--- a line: channel subsystem in three places, image in two, set in three, number and device in four, the masks
--- in two, then the paths, with blanks between
+-- a line: channel subsystem in three places, image in two, set in three, number and device in four,
+-- the masks in two, then the paths, with blanks between
 abbrev pub line_of : SubId × View → List ℕ
 line_of row = let s = row.0 in let v = row.1 in
     left3 s.image.css ++ (codes " " ++ (left2 s.image.mif ++ (codes " " ++ (left3 s.set ++ (codes " "
@@ -32,6 +32,7 @@ line_of row = let s = row.0 in let v = row.1 in
 abbrev pub heading : List ℕ
 heading = codes "CSS IM SET SUBC DEVN PIM PAM CHPIDS"
 
--- the table: the heading, then a line for each subchannel that has a view, in the order of subchannels
+-- the table: the heading, then a line for each subchannel that has a view, in the order of
+-- subchannels
 abbrev pub table_of : Configuration → Numbering → List ℕ
 table_of c n = heading ++ (10 ∷ flat_map (λ row. line_of row ++ 10 ∷ []) (views c n))

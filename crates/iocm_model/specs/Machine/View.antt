@@ -33,7 +33,8 @@ device_record c set number = option_and_then as_device (c (Device set number))
 abbrev pub image_view : Lookup → ImageRecord → ℕ → ℕ → Option View
 image_view c i set number = option_and_then (view_if_seen c i.css i.name) (device_record c set number)
 
--- the view at a subchannel: its image and the device of its number are there, and the image sees the device
+-- the view at a subchannel: its image and the device of its number are there, and the image sees
+-- the device
 abbrev pub view_at : Configuration → Numbering → SubId → Option View
 view_at c n s = let at = lookup_of c in
     option_and_then (λ (i : ImageRecord). option_and_then (image_view at i s.set)
@@ -46,8 +47,8 @@ row_at c i cell = option_map
     (λ (v : View). (record { image = record { css = i.css; mif = i.mif }; set = cell.0.set; number = cell.0.number }, v))
     (image_view c i cell.0.set cell.1)
 
--- all subchannels that have a view, with their views, in the order of subchannels: image by image, and for
--- each the number cells of its channel subsystem by set and number
+-- all subchannels that have a view, with their views, in the order of subchannels: image by image,
+-- and for each the number cells of its channel subsystem by set and number
 abbrev pub views : Configuration → Numbering → List (SubId × View)
 views c n = flat_map (λ (i : ImageRecord). filter_map (row_at (lookup_of c) i)
     (filter (λ (e : NumberCell × ℕ). e.0.css == i.css) (entries (cells_of n)))) (images_of c)

@@ -1,6 +1,7 @@
--- The seven orders, the device begin and the device end, on a live record and its view.
--- Principles of Operation, START, HALT, CLEAR, CANCEL, TEST, MODIFY and STORE SUBCHANNEL; that condition code 3 is tried before
--- 1, and 1 before 2, that a subchannel without a view counts as not provided, and START's test of the paths, are own.
+-- The seven orders, the device begin and the device end, on a live record and its view. Principles
+-- of Operation, START, HALT, CLEAR, CANCEL, TEST, MODIFY and STORE SUBCHANNEL; that condition code
+-- 3 is tried before 1, and 1 before 2, that a subchannel without a view counts as not provided, and
+-- START's test of the paths, are own.
 use Rattle.std.specs.Prelude.{ℕ, ◌+◌, ◌==◌, ◌||◌, Bool, true, false, not, bit_and, if◌then◌else◌}
 use Rattle.iocm_types.specs.declared.live.Function.{Function}
 use Rattle.iocm_types.specs.declared.live.Function.TheVariants as function
@@ -48,7 +49,8 @@ is_halting_or_clearing phase.Halt = true
 is_halting_or_clearing phase.Clear = true
 is_halting_or_clearing _ = false
 
--- the bit of a function, and the bits of a phase: the function's, a pending start's too, and 8 more while its status is pending
+-- the bit of a function, and the bits of a phase: the function's, a pending start's too, and 8 more
+-- while its status is pending
 abbrev pub function_bit : Function → ℕ
 function_bit function.Start = 1
 function_bit function.Halt = 2
@@ -62,8 +64,8 @@ bits_of phase.Halt = record { 0 = function_bit function.Halt }
 bits_of phase.Clear = record { 0 = function_bit function.Clear }
 bits_of (Pending f) = record { 0 = 8 + function_bit f }
 
--- condition code 3: not enabled, or for START no path that is both available and in the logical-path mask; MODIFY and
--- STORE are there for a subchannel that is not enabled
+-- condition code 3: not enabled, or for START no path that is both available and in the
+-- logical-path mask; MODIFY and STORE are there for a subchannel that is not enabled
 abbrev pub is_not_operational : Order → View → Live → Bool
 is_not_operational Start v l = not l.enabled || (bit_and l.lpm v.pam == 0)
 is_not_operational Halt v l = not l.enabled
@@ -83,8 +85,8 @@ is_status_in_the_way Test p = not (is_pending p)
 is_status_in_the_way Clear p = false
 is_status_in_the_way Store p = false
 
--- condition code 2: a function is in progress; for HALT a halt or clear function; for CANCEL, that no start is pending; CLEAR, TEST
--- and STORE never give it
+-- condition code 2: a function is in progress; for HALT a halt or clear function; for CANCEL, that
+-- no start is pending; CLEAR, TEST and STORE never give it
 abbrev pub is_phase_in_the_way : Order → Phase → Bool
 is_phase_in_the_way Start p = is_busy p
 is_phase_in_the_way (Modify s) p = is_busy p

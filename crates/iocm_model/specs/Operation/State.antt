@@ -1,4 +1,5 @@
--- The state of a channel subsystem: the configuration, the numbers of its devices, and a live record for each subchannel.
+-- The state of a channel subsystem: the configuration, the numbers of its devices, and a live
+-- record for each subchannel.
 use Rattle.std.specs.Prelude.{◌≡◌, Bool, List, map, Option}
 use Rattle.std.specs.List.{list_any}
 use Rattle.std.specs.Ordering.{eq_by_cmp}
@@ -52,8 +53,8 @@ opening_state c = let n = opening c in record { config = c; numbers = n; lives =
 abbrev pub HasLives : State → Type 0
 HasLives s = (x : SubId) → contains_key s.lives x ≡ contains_key (views_in s) x
 
--- what every state of a machine is: its records stand under their own keys, its numbers are those of its configuration, and its
--- live records those of its subchannels
+-- what every state of a machine is: its records stand under their own keys, its numbers are those
+-- of its configuration, and its live records those of its subchannels
 pub record IsSound (s : State) : Type 0 where
   pub keyed : IsKeyed s.config
   pub numbered : AreNumbersOf s.config s.numbers

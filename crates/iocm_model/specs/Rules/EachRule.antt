@@ -1,5 +1,5 @@
--- The fourteen rules that a configuration in use keeps, each as the records that break it. The limits of eight in V5 and V8 are
--- IOCP's; the rules in this form are own.
+-- The fourteen rules that a configuration in use keeps, each as the records that break it. The
+-- limits of eight in V5 and V8 are IOCP's; the rules in this form are own.
 use Rattle.std.specs.Prelude.{ℕ, ◌+◌, ◌==◌, ◌&&◌, ◌||◌, nat_eq, nat_le, nat_lt, Bool, true, false, not, is_none, length, if◌then◌else◌, Option, Some, List, [], ◌∷◌, ◌++◌, map, filter, unwrap_or}
 use Rattle.std.specs.List.{list_any}
 use Rattle.std.specs.Option.{option_map_or}
@@ -88,8 +88,8 @@ abbrev pub is_online_at : ℕ → ℕ → Rec → Bool
 is_online_at css number (online o) = o.css == css && o.path == number
 is_online_at css number _ = false
 
--- V4: the path isn't there or doesn't list the name, or one image uses it at a time and an online record with a smaller
--- key has the same path
+-- V4: the path isn't there or doesn't list the name, or one image uses it at a time and an online
+-- record with a smaller key has the same path
 abbrev pub breaks_v4 : Configuration → Rec → Bool
 breaks_v4 c (online o) = let p = lookup_of c (Path o.css o.path) in
     not (record_lists o.name p) || (is_exclusive p && some_before c (online o) (is_online_at o.css o.path))
@@ -213,7 +213,8 @@ answers_for u (unit other) = share_link u other && (cuadd_or_zero u == cuadd_or_
     && list_any (λ r. list_any (overlap r) other.ranges) u.ranges
 answers_for u _ = false
 
--- V14: a unit with a smaller key shares a path on which both have the same link, has the same CUADD, and a range overlaps
+-- V14: a unit with a smaller key shares a path on which both have the same link, has the same
+-- CUADD, and a range overlaps
 abbrev pub breaks_v14 : Configuration → Rec → Bool
 breaks_v14 c (unit u) = some_before c (unit u) (answers_for u)
 breaks_v14 c _ = false

@@ -1,5 +1,5 @@
 use Rattle.std.proofs.Common.{◌≡◌, map, take}
-use Rattle.iocm_records.specs.ChpidRecords.{online_to}
+use Rattle.iocm_record_reader.specs.ChpidRecords.{online_to}
 use Rattle.iocm_change_records.proofs.pairs.records_in.Given as goal
 
 abbrev pub invariant-loop-name : goal.invariant-loop-name

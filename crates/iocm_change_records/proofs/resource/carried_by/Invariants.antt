@@ -1,5 +1,5 @@
 use Rattle.std.proofs.Common.{◌≡◌, take}
-use Rattle.iocm_records.specs.Values.{carried_by}
+use Rattle.iocm_record_reader.specs.Values.{carried_by}
 use Rattle.iocm_statements.specs.declared.operation.Operation.TheVariants.{Resource}
 use Rattle.iocm_change_records.proofs.resource.carried_by.Given as goal
 

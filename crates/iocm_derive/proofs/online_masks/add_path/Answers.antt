@@ -1,4 +1,5 @@
--- From the first record of a path on, one row after the other, to the end or to the first row that isn't of that path.
+-- From the first record of a path on, one row after the other, to the end or to the first row that
+-- isn't of that path.
 use Rattle.std.proofs.Common.{◌+◌, List, ℕ, is_some, arith, ap, refl, subst, sym, ◌∙◌}
 use Rattle.std.specs.FinMap.{entries, get}
 use Rattle.iocm_types.specs.Key.{key_cmp}

@@ -1,4 +1,5 @@
--- From the first path on, one row after the other, to the end or to the first row that isn't of an online path.
+-- From the first path on, one row after the other, to the end or to the first row that isn't of an
+-- online path.
 use Rattle.std.proofs.Common.{arith, ap, sym, ◌∙◌, refl, ◌&&◌, nat_eq, is_some}
 use Rattle.std.specs.Cmp.Lexicographic.{pointwise}
 use Rattle.std.specs.Ordering.{eq_by_cmp}

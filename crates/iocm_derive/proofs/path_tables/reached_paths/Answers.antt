@@ -1,4 +1,5 @@
--- From the first path on, one row after the other, to the end or to the first row that isn't of a path.
+-- From the first path on, one row after the other, to the end or to the first row that isn't of a
+-- path.
 use Rattle.std.proofs.Common.{arith, ap, sym, ◌∙◌, refl, ◌&&◌, nat_eq, Some}
 use Rattle.std.specs.FinMap.{entries}
 use Rattle.iocm_types.specs.Key.{key_cmp}

@@ -1,4 +1,5 @@
--- The least so far, with what the keys that are left give, is the least of all; and the last key gives none that is less.
+-- The least so far, with what the keys that are left give, is the least of all; and the last key
+-- gives none that is less.
 use Rattle.std.proofs.Common.{◌≡◌, None, drop}
 use Rattle.std.specs.Option.{ForSome}
 use Rattle.iocm_types.specs.Naming.{naming_cmp}

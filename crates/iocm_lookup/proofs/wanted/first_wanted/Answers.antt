@@ -1,4 +1,5 @@
--- From the first key of the kind on: one record more, the first that wants the law, past the kind, and at the end.
+-- From the first key of the kind on: one record more, the first that wants the law, past the kind,
+-- and at the end.
 use Rattle.std.proofs.Common.{◌≡◌, ℕ, true, nat_lt, sym, ap, subst, ◌∙◌}
 use Rattle.std.specs.Map.Iter.{deref_pair}
 use Rattle.std.proofs.lemmas.Map.Iter.{rest_more, rest_all}

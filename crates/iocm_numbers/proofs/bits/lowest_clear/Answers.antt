@@ -1,4 +1,5 @@
--- Of a word that isn't full the lowest bit that isn't set is the first of all, and a full word has none.
+-- Of a word that isn't full the lowest bit that isn't set is the first of all, and a full word has
+-- none.
 use Rattle.std.proofs.Common.{arith, w64, ◌+◌, slice_index_or, sym, ap, ◌∙◌}
 use Rattle.std.specs.Int.{trailing_ones}
 use Rattle.iocm_numbers.proofs.BitWords.{first_clear, one_more_full}

@@ -1,4 +1,5 @@
--- The devices that are left rise from the next number on, and the rows so far with theirs are those at the end.
+-- The devices that are left rise from the next number on, and the rows so far with theirs are those
+-- at the end.
 use Rattle.std.proofs.Common.{◌++◌, drop}
 use Rattle.iocm_model.specs.Machine.Numbering.{numbers_from}
 use Rattle.iocm_numbers.specs.Opening.{numbered}

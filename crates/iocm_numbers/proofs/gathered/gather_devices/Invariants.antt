@@ -1,4 +1,5 @@
--- The devices so far, with those of the records that are left, are all; and what is known of the last units is so.
+-- The devices so far, with those of the records that are left, are all; and what is known of the
+-- last units is so.
 use Rattle.std.proofs.Common.{◌≡◌, ◌++◌, map}
 use Rattle.iocm_model.specs.Machine.Configuration.{lookup_of, devices_of}
 use Rattle.iocm_numbers.specs.Opening.{reach_by, reach_of}

@@ -1,4 +1,5 @@
--- The rows so far have their live records, the others are as they were; what is left to take out gives what all gives.
+-- The rows so far have their live records, the others are as they were; what is left to take out
+-- gives what all gives.
 use Rattle.iocm_seats.proofs.Taking.{IsTaking}
 use Rattle.iocm_seats.proofs.exchanging.take_all.Given as goal
 

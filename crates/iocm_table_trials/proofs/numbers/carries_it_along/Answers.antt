@@ -1,4 +1,5 @@
--- But for the device whose number was taken back, exactly the devices that are reached have one; and the carried number is free.
+-- But for the device whose number was taken back, exactly the devices that are reached have one;
+-- and the carried number is free.
 use Rattle.std.proofs.Common.{false, ap, ◌∙◌, cond, None, is_some}
 use Rattle.std.proofs.lemmas.Bool.{or_parts}
 use Rattle.std.specs.Ordering.{eq_by_cmp}

@@ -1,4 +1,5 @@
--- The steps together are the numbers after the change; where memory was wanted, what was there at the touched places is put back.
+-- The steps together are the numbers after the change; where memory was wanted, what was there at
+-- the touched places is put back.
 use Rattle.std.proofs.Common.{◌≡◌, ℕ, not, sym, ap, subst, ◌∙◌}
 use Rattle.std.specs.List.{fold, filter}
 use Rattle.std.specs.FinMap.{contains_key}

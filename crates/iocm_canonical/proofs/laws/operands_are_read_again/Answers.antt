@@ -1,5 +1,0 @@
-use Rattle.iocm_canonical.proofs.Again.{operands_again}
-use Rattle.iocm_canonical.proofs.laws.operands_are_read_again.Goals as goal
-
-pub returns : goal.returns
-returns c = operands_again

@@ -1,5 +1,0 @@
-use Rattle.iocm_canonical.proofs.Given.{operands_given, carried_given}
-use Rattle.iocm_canonical.proofs.laws.operands_are_written_again.Goals as goal
-
-pub returns : goal.returns
-returns c = record { all = operands_given; carried = carried_given }

@@ -1,7 +1,0 @@
-use Rattle.std.proofs.Common.{◌≡◌, ◌++◌, map, take}
-use Rattle.std.specs.List.{flat_map}
-use Rattle.iocm_canonical.specs.Canonical.{part_statements}
-use Rattle.iocm_canonical.proofs.statements.put_parts.Given as goal
-
-abbrev pub invariant-loop-entry : goal.invariant-loop-entry
-invariant-loop-entry g l = l.statements.items ≡ l.fn.statements.items ++ flat_map part_statements (map (λ k. k.now) (take l.entry-index l.records))

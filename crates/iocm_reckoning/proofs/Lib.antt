@@ -1,9 +1,0 @@
-pub mod TheGreatest
-pub mod Numbered
-pub mod Found
-pub mod UndoMeans
-pub mod InversesWrite
-pub mod RedoMeans
-pub mod StandOn
-pub mod Reckoned
-pub mod Facts

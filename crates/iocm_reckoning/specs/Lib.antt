@@ -1,2 +1,0 @@
-pub mod Reckoning
-pub mod JournalLaws

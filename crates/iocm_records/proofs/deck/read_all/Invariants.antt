@@ -1,6 +1,0 @@
-use Rattle.std.proofs.Common.{◌≡◌, drop}
-use Rattle.iocm_records.specs.Deck.{read_from, nothing_read}
-use Rattle.iocm_records.proofs.deck.read_all.Given as goal
-
-abbrev pub invariant-loop-statement : goal.invariant-loop-statement
-invariant-loop-statement l = read_from l.images l.progress (drop l.statement-index l.statements) ≡ read_from l.images nothing_read l.statements

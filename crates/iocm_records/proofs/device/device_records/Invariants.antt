@@ -1,7 +1,0 @@
-use Rattle.std.proofs.Common.{◌≡◌}
-use Rattle.iocm_records.specs.DeviceRecords.{device_records}
-use Rattle.iocm_record.specs.Meaning.{device_of}
-use Rattle.iocm_records.proofs.device.device_records.Given as goal
-
-abbrev pub invariant-loop-place : goal.invariant-loop-place
-invariant-loop-place l = l.records.items ≡ device_records (device_of l.first) l.address l.place

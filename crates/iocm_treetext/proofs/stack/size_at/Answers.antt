@@ -1,5 +1,0 @@
-use Rattle.iocm_treetext.proofs.Stacks.{size_next}
-use Rattle.iocm_treetext.proofs.stack.size_at.Goals as goal
-
-pub returns : goal.returns
-returns g c = size_next c.args.stack.now c.args.at c.index-stack-at.result c.args.size c.around.result c.requires c.index-stack-at.is c.around.ensures
