@@ -46,7 +46,9 @@ undo_rule = record (new_rule (codes "undo")) { long = Some (codes "undo"); actio
 
 -- `apply`, with its deck, its change deck, the size of its heap and its flag
 abbrev pub apply_app : App
-apply_app = with_rule (with_rule (with_rule (deck_app (codes "apply")) (file_rule (codes "CHANGE"))) heap_rule) undo_rule
+apply_app =
+    with_rule (with_rule (with_rule (deck_app (codes "apply")) (file_rule (codes "CHANGE"))) heap_rule)
+    undo_rule
 
 -- `run`, with its deck, its script, its change decks and the size of their heaps
 abbrev pub run_app : App
@@ -60,7 +62,9 @@ has_globals c = (out-Command c).has_globals
 
 -- the program without its commands: it tells its version, and one of the commands is required
 abbrev pub bare_app : App
-bare_app = record (new_app (codes "iocm")) { top = record (new_app (codes "iocm")).top { subcommand_required = true; has_version = true } }
+bare_app = record (new_app (codes "iocm")) {
+  top = record (new_app (codes "iocm")).top { subcommand_required = true; has_version = true };
+}
 
 -- an application with one more command that reads a deck
 abbrev pub with_deck_command : App → Text → App
@@ -135,7 +139,8 @@ IsApplyOf named deck change size report = (argument_of (codes "DECK") named ≡ 
 
 -- they are so with those of `apply`; any other request has none
 abbrev pub HasChange : Option (Text × List Row) → Request → Type 0
-HasChange named (Apply deck change heap report) = (size : Text) × IsApplyOf named deck.now change.now size report × GivesSize size heap
+HasChange named (Apply deck change heap report) = (size : Text)
+    × IsApplyOf named deck.now change.now size report × GivesSize size heap
 HasChange named _ = ⊤
 
 -- the command and its matches are those of `run` with this deck, this script, these change decks
@@ -171,11 +176,13 @@ mistakes_or_missing words = or_else (mistakes words) (MissingRequiredArgument �
 
 -- the words have no mistake, and state a command and its deck
 abbrev pub StatesDeck : List Text → Type 0
-StatesDeck words = (name deck : Text) × IsDeckCommand name × (mistakes words ≡ []) × (stated words ≡ Some (name, Some deck))
+StatesDeck words = (name deck : Text) × IsDeckCommand name × (mistakes words ≡ [])
+    × (stated words ≡ Some (name, Some deck))
 
 -- they are those of `apply` with a deck, a change deck, a size and a report
 abbrev pub IsApply : Option (Text × List Row) → Type 0
-IsApply named = (deck change size : Text) × (report : Report) × IsApplyOf named deck change size report × IsSizeText size
+IsApply named = (deck change size : Text) × (report : Report) × IsApplyOf named deck change size report
+    × IsSizeText size
 
 -- the words have no mistake, and state `apply` with these
 abbrev pub StatesApply : List Text → Type 0
@@ -212,7 +219,8 @@ AreApplyOptions options = (size : List Text) × IsHeapOption size
 -- the program's name, `apply`, the names of a deck and of a change deck that don't begin with a
 -- hyphen, and options or none
 abbrev pub NamesApply : List Text → Type 0
-NamesApply words = (program deck change : Text) × (options : List Text) × IsPlainName deck × IsPlainName change × AreApplyOptions options
+NamesApply words = (program deck change : Text) × (options : List Text) × IsPlainName deck × IsPlainName change
+    × AreApplyOptions options
     × (words ≡ program ∷ codes "apply" ∷ deck ∷ change ∷ options)
 
 -- the words are the program's name, `run`, these names of a deck, a script and change decks, which

@@ -150,7 +150,8 @@ fn apply_command<'a>(alloc: Global) -> Result<clap::Command<'a>, AllocError>
     ensures local { IfOk result (λ c. has_globals c ≡ false) }
 {
     let about =
-        "Activates a change deck on the machine of a configuration deck and prints the table afterwards, or how to take it back";
+        "Activates a change deck on the machine of a configuration deck and prints the table afterwards, \
+         or how to take it back";
     let help = "A change deck: the file of the statements of a change";
     let change = file(alloc, "CHANGE", help);
     let heap_help = "The heap that the change tree is read in: 16 to 16777216 bytes";
@@ -166,7 +167,8 @@ fn run_command<'a>(alloc: Global) -> Result<clap::Command<'a>, AllocError>
     ensures local { IfOk result (λ c. has_globals c ≡ false) }
 {
     let about =
-        "Runs a script of images and operators on the machine of a configuration deck, and prints the answers and the table afterwards";
+        "Runs a script of images and operators on the machine of a configuration deck, and prints the answers \
+         and the table afterwards";
     let script = file(alloc, "SCRIPT", "A script: the file of its lines");
     let help = "A change deck, which the script names by its place: the first is 1";
     let changes = changes(alloc, "CHANGE", help);
@@ -197,7 +199,8 @@ fn bare_iocm<'a>(alloc: Global) -> Result<clap::Command<'a>, AllocError>
         .version(VERSION)
         .about("Reads I/O configuration decks of a mainframe channel subsystem")
         .after_help(
-            "Exit status: 0 done; 1 refused, for the reason on standard output; 2 command line not understood; 3 a file cannot be read or the output cannot be written.",
+            "Exit status: 0 done; 1 refused, for the reason on standard output; 2 command line not understood; \
+             3 a file cannot be read or the output cannot be written.",
         )
         .subcommand_required(true);
     Ok(program)
@@ -227,16 +230,22 @@ fn iocm<'a>(alloc: Global) -> Result<clap::Command<'a>, AllocError>
 
 /// The value of an argument of the command `name`, where the words name that command.
 fn value_of<'a>(matches: &ArgMatches<'a>, name: &str, argument: &str) -> Option<&'a str>
-    ensures some { IfSome result (λ value. argument_of argument.now (subcommand_rows_of matches.now) ≡ Some (name.now, Some value.now)) }
-    ensures only { (value : Text) → argument_of argument.now (subcommand_rows_of matches.now) ≡ Some (name.now, Some value) → IsSome result }
+    ensures some { IfSome result
+        (λ value. argument_of argument.now (subcommand_rows_of matches.now) ≡ Some (name.now, Some value.now)) }
+    ensures only { (value : Text)
+        → argument_of argument.now (subcommand_rows_of matches.now) ≡ Some (name.now, Some value)
+        → IsSome result }
 {
     matches.subcommand_matches(name)?.get_str(argument)
 }
 
 /// The deck of the command `name`, where the words name that command.
 fn deck_of<'a>(matches: &ArgMatches<'a>, name: &str) -> Option<&'a str>
-    ensures some { IfSome result (λ deck. argument_of (codes "DECK") (subcommand_rows_of matches.now) ≡ Some (name.now, Some deck.now)) }
-    ensures only { (deck : Text) → argument_of (codes "DECK") (subcommand_rows_of matches.now) ≡ Some (name.now, Some deck) → IsSome result }
+    ensures some { IfSome result
+        (λ deck. argument_of (codes "DECK") (subcommand_rows_of matches.now) ≡ Some (name.now, Some deck.now)) }
+    ensures only { (deck : Text)
+        → argument_of (codes "DECK") (subcommand_rows_of matches.now) ≡ Some (name.now, Some deck)
+        → IsSome result }
 {
     value_of(matches, name, "DECK")
 }
@@ -308,7 +317,8 @@ fn apply_in<'a>(matches: &ArgMatches<'a>) -> Option<Request<'a>>
 fn request_in<'a>(matches: &ArgMatches<'a>) -> Option<Request<'a>>
     ensures some { IfSome result (HasRequest (subcommand_rows_of matches.now)) }
     ensures change { IfSome result (HasChange (subcommand_rows_of matches.now)) }
-    ensures only { (name deck : Text) → IsDeckCommand name → argument_of (codes "DECK") (subcommand_rows_of matches.now) ≡ Some (name, Some deck) → IsSome result }
+    ensures only { (name deck : Text) → IsDeckCommand name
+        → argument_of (codes "DECK") (subcommand_rows_of matches.now) ≡ Some (name, Some deck) → IsSome result }
     ensures only_apply { IsApply (subcommand_rows_of matches.now) → IsSome result }
 {
     if let Some(deck) = deck_of(matches, "check") {
@@ -382,12 +392,15 @@ pub fn command_of<'a, S: AsStr>(alloc: Global, words: &'a [S]) -> Result<Command
     ensures arguments { IfOk result (StatesArguments (map S.text words.entry.now)) }
     ensures as_named { IfOk result (IsAsNamed (map S.text words.entry.now)) }
     ensures accepted { IfOk result (λ _. mistakes (map S.text words.entry.now) ≡ []) }
-    ensures understood { IfErr result (λ e. StatesDeck (map S.text words.entry.now) → kind_of e ≡ ErrorKind.OutOfMemory) }
-    ensures understood_apply { IfErr result (λ e. StatesApply (map S.text words.entry.now) → kind_of e ≡ ErrorKind.OutOfMemory) }
+    ensures understood { IfErr result
+        (λ e. StatesDeck (map S.text words.entry.now) → kind_of e ≡ ErrorKind.OutOfMemory) }
+    ensures understood_apply { IfErr result
+        (λ e. StatesApply (map S.text words.entry.now) → kind_of e ≡ ErrorKind.OutOfMemory) }
     ensures understood_run { IfErr result (λ e.
         StatesRun (map S.text words.entry.now) → kind_of e ≡ ErrorKind.OutOfMemory) }
     ensures named { IfErr result (λ e. NamesDeck (map S.text words.entry.now) → kind_of e ≡ ErrorKind.OutOfMemory) }
-    ensures named_apply { IfErr result (λ e. NamesApply (map S.text words.entry.now) → kind_of e ≡ ErrorKind.OutOfMemory) }
+    ensures named_apply { IfErr result
+        (λ e. NamesApply (map S.text words.entry.now) → kind_of e ≡ ErrorKind.OutOfMemory) }
     ensures named_run { IfErr result (λ e. NamesRun (map S.text words.entry.now) → kind_of e ≡ ErrorKind.OutOfMemory) }
     ensures mistaken { IfErr result (HasKind (mistakes_or_missing (map S.text words.entry.now))) }
 {

@@ -30,7 +30,10 @@ image_at mif p = record { css = p.css; mif = mif }
 -- isn't among these, devices in its channel subsystem come in and leave nowhere
 pub record AreAllAffected (c d : Configuration) (places : List Place) (seeing : List images.Image) : Type 0 where
   pub reached : (p : Place) → list_any (eq_by_cmp place_cmp p) places ≡ false → is_reached_at c p ≡ is_reached_at d p
-  pub off_places : (p : Place) (mif : ℕ) → p.css < 6 → list_any (eq_by_cmp place_cmp p) places ≡ false → sight_at c mif p ≡ sight_at d mif p
-  pub off_images : (p : Place) (mif : ℕ) → list_any (eq_by_cmp image_cmp (image_at mif p)) seeing ≡ false → sight_at c mif p ≡ sight_at d mif p
+  pub off_places : (p : Place) (mif : ℕ) → p.css < 6 → list_any (eq_by_cmp place_cmp p) places ≡ false
+      → sight_at c mif p ≡ sight_at d mif p
+  pub off_images : (p : Place) (mif : ℕ) → list_any (eq_by_cmp image_cmp (image_at mif p)) seeing ≡ false
+      → sight_at c mif p ≡ sight_at d mif p
   pub stays : (p : Place) (mif : ℕ) → list_any (eq_by_cmp image_cmp (image_at mif p)) seeing ≡ false
-      → is_some (option_and_then as_image (lookup_of c (Image p.css mif))) ≡ true → is_reached_at c p ≡ is_reached_at d p
+      → is_some (option_and_then as_image (lookup_of c (Image p.css mif))) ≡ true
+      → is_reached_at c p ≡ is_reached_at d p

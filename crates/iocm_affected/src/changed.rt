@@ -42,7 +42,8 @@ pub fn affected_by<A: Allocator, B: Allocator, C: Allocator + Clone>(
 ) -> Result<Affected<C>, AllocError>
     requires index { IsIndexOf config.now.records index.now }
     requires key { ForSome after (λ entry. key_of entry.now ≡ key.now) }
-    ensures all { IfOk result (λ a. AreAllAffected config.now.records (with_value config.now.records key.now (option_copied after.entry)) a.places.items a.images.items) }
+    ensures all { IfOk result (λ a. AreAllAffected config.now.records
+        (with_value config.now.records key.now (option_copied after.entry)) a.places.items a.images.items) }
     ensures places_rise { IfOk result (λ a. IsStrictlySortedBy place_cmp a.places.items) }
     ensures images_rise { IfOk result (λ a. IsStrictlySortedBy image_cmp a.images.items) }
 {

@@ -22,7 +22,8 @@ pub(crate) fn list_led<A: Allocator, B: Allocator, C: Allocator + Clone>(
     before: Option<&Record<A>>,
     after: Option<&Record<A>>,
 ) -> Result<(), AllocError>
-    ensures { OnOk result (listing.AreSamePlaces listed.new.items (listed.old.items ++ listing.led_places index.now key.now (option_copied before.entry) (option_copied after.entry))) }
+    ensures { OnOk result (listing.AreSamePlaces listed.new.items (listed.old.items
+        ++ listing.led_places index.now key.now (option_copied before.entry) (option_copied after.entry))) }
 {
     let all = subsystems();
     match key {
@@ -46,7 +47,8 @@ fn list_of_image<A: Allocator, B: Allocator, C: Allocator>(
     css: Css,
     entry: Option<&Record<A>>,
 ) -> Result<(), AllocError>
-    ensures { OnOk result (listing.AreSamePlaces listed.new.items (listed.old.items ++ listing.places_of_image index.now css (option_copied entry.entry))) }
+    ensures { OnOk result (listing.AreSamePlaces listed.new.items
+        (listed.old.items ++ listing.places_of_image index.now css (option_copied entry.entry))) }
 {
     let Some(entry) = entry else {
         return Ok(());
@@ -66,7 +68,8 @@ fn list_of_name<B: Allocator, C: Allocator>(
     css: Css,
     name: Name,
 ) -> Result<(), AllocError>
-    ensures { OnOk result (listing.AreSamePlaces listed.new.items (listed.old.items ++ listing.places_of_name index.now css name)) }
+    ensures { OnOk result (listing.AreSamePlaces listed.new.items
+        (listed.old.items ++ listing.places_of_name index.now css name)) }
 {
     let users = users_of_name(alloc, index, css, name)?;
     list_on_units(listed, index, css, users.as_slice())
@@ -111,7 +114,8 @@ fn list_on_unit<B: Allocator, C: Allocator>(
     within: &[Css],
     unit: &Key,
 ) -> Result<(), AllocError>
-    ensures { OnOk result (listed.new.items ≡ listed.old.items ++ listing.places_on_unit index.now within.now unit.now) }
+    ensures { OnOk result
+        (listed.new.items ≡ listed.old.items ++ listing.places_on_unit index.now within.now unit.now) }
 {
     match unit {
         Key::Unit(_) => list_of_unit(listed, index, within, unit),
@@ -126,7 +130,8 @@ fn list_of_unit<B: Allocator, C: Allocator>(
     within: &[Css],
     unit: &Key,
 ) -> Result<(), AllocError>
-    ensures { OnOk result (listed.new.items ≡ listed.old.items ++ listing.places_of_unit index.now within.now unit.now) }
+    ensures { OnOk result
+        (listed.new.items ≡ listed.old.items ++ listing.places_of_unit index.now within.now unit.now) }
 {
     for user in index.users_of(Named::Record(*unit)) {
         list_places(listed, within, &user)?;

@@ -28,10 +28,14 @@ use Rattle.iocm_apply.specs.WayBack.{way_back_text}
 abbrev pub change_in : List Card → Result CarriedTree Fault
 change_in cards = statements_in cards >>= read_tree
 
+-- how many subchannels a change altered, and below it a table
+abbrev pub table_below : ℕ → List ℕ → Shown
+table_below altered table = record { text = (changed_text altered ++ 10 ∷ []) ++ table; status = Done }
+
 -- a report of a change: how many subchannels it altered, and the table of the state that it left;
 -- or the deck of the change tree that takes it back
 abbrev pub reported : Report → ℕ → ChangeTree → State → Shown
-reported Table altered back s = record { text = (changed_text altered ++ 10 ∷ []) ++ table_of s.config s.numbers; status = Done }
+reported Table altered back s = table_below altered (table_of s.config s.numbers)
 reported WayBack altered back s = record { text = way_back_text back; status = Done }
 
 -- what is printed of what a change tree means in a state: the report of the edits that were

@@ -18,7 +18,9 @@ device_text p = hex1 p.set ++ (codes "." ++ hex4 p.device)
 
 -- the subchannel number that a device had: * css 0 device 0.1003 had number 0003
 abbrev pub number_remark : Place × ℕ → List ℕ
-number_remark p = codes "* css " ++ (hex1 p.0.css ++ (codes " device " ++ (device_text p.0 ++ (codes " had number " ++ hex4 p.1))))
+number_remark p =
+    codes "* css "
+    ++ (hex1 p.0.css ++ (codes " device " ++ (device_text p.0 ++ (codes " had number " ++ hex4 p.1))))
 
 -- what a subchannel remembered, in the words of STORE's answer:
 -- * subchannel 0.1.0.0003 had lpm C0 ena 0 parm 00000000 scsw 0

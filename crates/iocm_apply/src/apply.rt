@@ -1,8 +1,10 @@
-ghost use Rattle.std.specs.Prelude.{◌≡◌, ◌+◌, ◌^◌, ◌<◌, ◌≤◌, ◌⊎◌, ℕ, List, Ok, Err, Result, false, true, IsOk, IfOk, IfErr, OnOk, IfSome};
+ghost use Rattle.std.specs.Prelude.{◌≡◌, ◌+◌, ◌^◌, ◌<◌, ◌≤◌, ◌⊎◌, ℕ, List, Ok, Err, Result};
+ghost use Rattle.std.specs.Prelude.{false, true, IsOk, IfOk, IfErr, OnOk, IfSome};
 ghost use Rattle.iocm_types.specs.declared.fault.Fault as fault;
 ghost use Rattle.iocm_types.specs.Fault.{memory};
 ghost use Rattle.iocm_columns.specs.declared.card.Card as card;
-ghost use Rattle.iocm_columns.specs.Device.{reader_of, reads_of, unreadable, GivesIfReadable, IsOpen, IsWhole, StopsShort};
+ghost use Rattle.iocm_columns.specs.Device.{reader_of, reads_of, unreadable, GivesIfReadable};
+ghost use Rattle.iocm_columns.specs.Device.{IsOpen, IsWhole, StopsShort};
 ghost use Rattle.iocm_model.specs.Laws.Trees.{KeepsTheRules};
 ghost use Rattle.iocm_model.specs.Change.Meaning.{meaning};
 ghost use Rattle.iocm_tree.specs.Trees.{plain_tree, tree_of};
@@ -53,12 +55,18 @@ pub fn apply_change<R: Read, S: Read, W: Write>(
     requires works { has_failed output.old ≡ false }
     ensures reads { reads_of deck.new ≤ reads_of deck.old + limit }
     ensures reads_change { reads_of change.new ≤ reads_of change.old + limit }
-    ensures known_bytes { IfSome (R.remaining (reader_of deck.old)) (λ bytes. IfSome (S.remaining (reader_of change.old)) (λ lines. IfOk result (SaysIfMemory W.contents output.old output.new (applied report bytes lines)))) }
-    ensures some_bytes { (bytes : List ℕ) × (lines : List ℕ) × IfOk result (SaysIfMemory W.contents output.old output.new (applied report bytes lines)) }
-    ensures whole { IfOk result (λ status. IsWhole deck.new ⊎ Says W.contents output.old output.new (refused memory) status) }
+    ensures known_bytes { IfSome (R.remaining (reader_of deck.old)) (λ bytes.
+        IfSome (S.remaining (reader_of change.old)) (λ lines.
+        IfOk result (SaysIfMemory W.contents output.old output.new (applied report bytes lines)))) }
+    ensures some_bytes { (bytes : List ℕ) × (lines : List ℕ)
+        × IfOk result (SaysIfMemory W.contents output.old output.new (applied report bytes lines)) }
+    ensures whole { IfOk result
+        (λ status. IsWhole deck.new ⊎ Says W.contents output.old output.new (refused memory) status) }
     ensures whole_change { IfOk result (λ status. status ≡ Done → IsWhole change.new) }
     ensures written { OnOk result (has_failed output.new ≡ false) }
-    ensures unreadable { result ≡ Err ConsoleError.Read → StopsShort deck.new (reads_of deck.old + limit) ⊎ StopsShort change.new (reads_of change.old + limit) }
+    ensures unreadable { result ≡ Err ConsoleError.Read
+        → StopsShort deck.new (reads_of deck.old + limit)
+        ⊎ StopsShort change.new (reads_of change.old + limit) }
     ensures first { IfSome (R.remaining (reader_of deck.old)) (λ bytes. IsRefusedDeck bytes
         → result ≡ Err ConsoleError.Read → StopsShort deck.new (reads_of deck.old + limit)) }
     ensures untouched { result ≡ Err ConsoleError.Read → output.new ≡ output.old }
@@ -84,7 +92,8 @@ fn apply_to_deck<W: Write>(
     output: &mut Output<W>,
 ) -> Result<Status, ConsoleError>
     ensures text { (read : Result (List card.Card) fault.Fault) → GivesIfReadable (λ v. v.items) change read
-        → IfOk result (SaysIfMemory W.contents output.old output.new (applied_to report (configuration_in deck.now) read)) }
+        → IfOk result (SaysIfMemory W.contents output.old output.new
+        (applied_to report (configuration_in deck.now) read)) }
     ensures done { IfOk result (λ status. status ≡ Done → IsOk change) }
     ensures works { OnOk result (has_failed output.new ≡ has_failed output.old) }
     ensures unreadable { result ≡ Err ConsoleError.Read → change ≡ Err unreadable }
@@ -157,7 +166,8 @@ fn apply_lines<W: Write>(
     output: &mut Output<W>,
 ) -> Result<Status, ConsoleError>
     requires kept { KeepsTheRules plant.state }
-    ensures text { IfOk result (SaysIfMemory W.contents output.old output.new (tried report plant.state (change_in cards.now))) }
+    ensures text { IfOk result
+        (SaysIfMemory W.contents output.old output.new (tried report plant.state (change_in cards.now))) }
     ensures works { OnOk result (has_failed output.new ≡ has_failed output.old) }
     ensures fault { IfErr result (FailedToWrite output.new) }
 {
@@ -176,7 +186,8 @@ fn apply_tree<W: Write>(
     output: &mut Output<W>,
 ) -> Result<Status, ConsoleError>
     requires kept { KeepsTheRules plant.state }
-    ensures text { IfOk result (SaysIfMemory W.contents output.old output.new (made report plant.state (meaning (plain_tree (tree_of tree.now)) plant.state))) }
+    ensures text { IfOk result (SaysIfMemory W.contents output.old output.new
+        (made report plant.state (meaning (plain_tree (tree_of tree.now)) plant.state))) }
     ensures works { OnOk result (has_failed output.new ≡ has_failed output.old) }
     ensures fault { IfErr result (FailedToWrite output.new) }
 {

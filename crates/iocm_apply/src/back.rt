@@ -32,7 +32,8 @@ fn put_parts<A: Allocator>(
     parts: &Vec<Tree<A>, A>,
     text: &mut Vec<u8>,
 ) -> Result<(), AllocError>
-    ensures { OnOk result (text.new.items ≡ text.old.items ++ meaning.remarks_among (plain_parts (parts_of parts.now.items))) }
+    ensures { OnOk result
+        (text.new.items ≡ text.old.items ++ meaning.remarks_among (plain_parts (parts_of parts.now.items))) }
 {
     for part in parts {
         put_tree(alloc, part, text)?;

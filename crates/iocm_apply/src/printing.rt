@@ -1,7 +1,6 @@
-ghost use Rattle.std.specs.Prelude.{◌≡◌, ◌∷◌, ◌++◌, [], IfOk, IfErr, OnOk};
+ghost use Rattle.std.specs.Prelude.{◌≡◌, IfOk, IfErr, OnOk};
 ghost use Rattle.iocm_model.specs.Machine.Table.{table_of};
 ghost use Rattle.iocm_console.specs.declared.status.Status.TheVariants as status;
-ghost use Rattle.iocm_console.specs.Changed.{changed_text};
 ghost use Rattle.iocm_console.specs.Lines.{celled};
 ghost use Rattle.iocm_console.specs.Opening.{Says, SaysIfMemory};
 ghost use Rattle.iocm_console.specs.Output.{has_failed, FailedToWrite};
@@ -9,7 +8,7 @@ ghost use Rattle.iocm_console.specs.Show.{table_at};
 ghost use Rattle.iocm_tree.specs.Trees.{plain_tree, tree_of};
 ghost use Rattle.std.specs.FinMap.{len};
 ghost use Rattle.iocm_activate.specs.Effects.{effect_in};
-ghost use Rattle.iocm_apply.specs.Apply.{reported};
+ghost use Rattle.iocm_apply.specs.Apply.{reported, table_below};
 ghost use Rattle.iocm_apply.specs.WayBack.{way_back_text};
 
 use crate::back::way_back;
@@ -37,7 +36,8 @@ pub fn print_report<W: Write>(
     plant: &Plant,
     output: &mut Output<W>,
 ) -> Result<Status, ConsoleError>
-    ensures text { IfOk result (SaysIfMemory W.contents output.old output.new (reported report (len (effect_in done.now.effect).lives) (plain_tree (tree_of done.now.inverse)) plant.now.state)) }
+    ensures text { IfOk result (SaysIfMemory W.contents output.old output.new (reported report
+        (len (effect_in done.now.effect).lives) (plain_tree (tree_of done.now.inverse)) plant.now.state)) }
     ensures works { OnOk result (has_failed output.new ≡ has_failed output.old) }
     ensures fault { IfErr result (FailedToWrite output.new) }
 {
@@ -57,7 +57,8 @@ fn print_machine<W: Write>(
     plant: &Plant,
     output: &mut Output<W>,
 ) -> Result<Status, ConsoleError>
-    ensures text { IfOk result (SaysIfMemory W.contents output.old output.new (record { text = (changed_text altered ++ 10 ∷ []) ++ table_of plant.now.state.config plant.now.state.numbers; status = status.Done })) }
+    ensures text { IfOk result (SaysIfMemory W.contents output.old output.new
+        (table_below altered (table_of plant.now.state.config plant.now.state.numbers))) }
     ensures works { OnOk result (has_failed output.new ≡ has_failed output.old) }
     ensures fault { IfErr result (FailedToWrite output.new) }
 {
@@ -75,7 +76,8 @@ fn print_lines<W: Write>(
     cells: &[CellDevice],
     output: &mut Output<W>,
 ) -> Result<Status, ConsoleError>
-    ensures text { IfOk result (Says W.contents output.old output.new (record { text = (changed_text altered ++ 10 ∷ []) ++ (table_at config.now.records (celled cells.now)).text; status = status.Done })) }
+    ensures text { IfOk result (Says W.contents output.old output.new
+        (table_below altered (table_at config.now.records (celled cells.now)).text)) }
     ensures works { OnOk result (has_failed output.new ≡ has_failed output.old) }
     ensures fault { IfErr result (FailedToWrite output.new) }
 {
@@ -92,7 +94,8 @@ fn print_way_back<A: Allocator, W: Write>(
     tree: &Tree<A>,
     output: &mut Output<W>,
 ) -> Result<Status, ConsoleError>
-    ensures text { IfOk result (SaysIfMemory W.contents output.old output.new (record { text = way_back_text (plain_tree (tree_of tree.now)); status = status.Done })) }
+    ensures text { IfOk result (SaysIfMemory W.contents output.old output.new
+        (record { text = way_back_text (plain_tree (tree_of tree.now)); status = status.Done })) }
     ensures works { OnOk result (has_failed output.new ≡ has_failed output.old) }
     ensures fault { IfErr result (FailedToWrite output.new) }
 {

@@ -1,6 +1,7 @@
 -- Names of seats. A name is a list of numbers: the first seat bears the empty one, and the name
 -- that a seat lends is its own first name with the count of those lent before at the end. Own.
-use Rattle.std.specs.Prelude.{◌≡◌, ℕ, zero, suc, ◌<◌, ◌==◌, Bool, true, false, cond, ◌&&◌, ◌||◌, ◌⊎◌, List, [], ◌∷◌, ◌++◌}
+use Rattle.std.specs.Prelude.{◌≡◌, ℕ, zero, suc, ◌<◌, ◌==◌, Bool, true, false}
+use Rattle.std.specs.Prelude.{cond, ◌&&◌, ◌||◌, ◌⊎◌, List, [], ◌∷◌, ◌++◌}
 use mathlib.Core.Option.{some}
 use lib.ListN.{get_elem?}
 use Rattle.iocm_board.specs.declared.view.Borne.{Borne}
@@ -66,7 +67,8 @@ BearsAt all i n = (bs : List Borne) × (get_elem? all i ≡ some bs) × (bears b
 
 -- a name was lent by a seat in a name that it bears
 abbrev pub WasLent : List (List Borne) → Name → Type 0
-WasLent all n = (i : ℕ) × (bs : List Borne) × (p : Name) × (k : ℕ) × (get_elem? all i ≡ some bs) × (bears bs p ≡ true) × (n ≡ child p k) × (k < lent bs p)
+WasLent all n = (i : ℕ) × (bs : List Borne) × (p : Name) × (k : ℕ) × (get_elem? all i ≡ some bs)
+    × (bears bs p ≡ true) × (n ≡ child p k) × (k < lent bs p)
 
 -- no name is borne by two seats; each is the first, or was lent; and the names under which calls
 -- were made are borne

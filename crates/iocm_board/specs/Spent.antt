@@ -11,7 +11,12 @@ no_table = record { words = 0; slots = 0; views_name = 0; atom = 0; block = 0; o
 
 -- a core of nothing, which stands where nothing reads it
 abbrev pub no_core : seen.Core
-no_core = record { opening = record { config = empty; numbers = empty; lives = empty }; history = []; entries = []; room = 0 }
+no_core = record {
+  opening = record { config = empty; numbers = empty; lives = empty };
+  history = [];
+  entries = [];
+  room = 0;
+}
 
 abbrev pub spent : View
 spent = record { origin = no_core; live = false; keeps = false; list = []; names = []; receipts = []; seen = 0 }

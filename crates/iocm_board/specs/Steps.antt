@@ -28,7 +28,8 @@ Publishes s v n w = (n ≡ s.first) × (v.seen ≤ n) × IsAdded s.said v w
 -- receipts are those of all entries since the board was made, each at its number, once: these
 -- entries stand behind those of the board's core
 abbrev pub TellAll : seen.Core → List Made → List Entry → Type 0
-TellAll origin receipts list = (since : List Entry) × (list ≡ origin.entries ++ since) × (receipts ≡ numbered (length origin.entries) since)
+TellAll origin receipts list = (since : List Entry) × (list ≡ origin.entries ++ since)
+    × (receipts ≡ numbered (length origin.entries) since)
 
 -- the receipts of a seat with the list tell all, if it is whole
 abbrev pub HasAll : View → Type 0

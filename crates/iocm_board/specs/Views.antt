@@ -13,7 +13,15 @@ pub record Held : Type 0 where
 
 -- opening: the keeper's seat has the trace, and bears the first name
 abbrev pub first_view : seen.Core → View
-first_view run = record { origin = run; live = true; keeps = true; list = run.entries; names = fresh []; receipts = []; seen = length run.entries }
+first_view run = record {
+  origin = run;
+  live = true;
+  keeps = true;
+  list = run.entries;
+  names = fresh [];
+  receipts = [];
+  seen = length run.entries;
+}
 
 -- look: the seat has seen so many calls
 abbrev pub sees : View → ℕ → View
@@ -50,7 +58,11 @@ takes v w = record v { keeps = true; list = w.list; seen = max v.seen w.seen }
 
 -- publish: one entry more, with its receipt; the seat has seen it
 abbrev pub adds : View → Entry → View
-adds v e = record v { list = v.list ++ e ∷ []; receipts = v.receipts ++ made (length v.list) e ∷ []; seen = suc (length v.list) }
+adds v e = record v {
+  list = v.list ++ e ∷ [];
+  receipts = v.receipts ++ made (length v.list) e ∷ [];
+  seen = suc (length v.list);
+}
 
 -- a caller's seat with a receipt more, which has seen that call
 abbrev pub with_receipt : View → ℕ → Entry → View

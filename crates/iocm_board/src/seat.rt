@@ -28,7 +28,8 @@ impl<B: Identity> Model for Seat<B> {
 
     ghost view = { λ s. record { tag = s.tag; view = s.place.me.0 } };
 
-    ghost invariant = { λ s. (s.place.table_id ≡ B.table s.tag) × (s.place.me.1 ≡ []) × (s.place.me.0.live ≡ true) × (s.place.me.0.origin ≡ B.origin s.tag) };
+    ghost invariant = { λ s. (s.place.table_id ≡ B.table s.tag) × (s.place.me.1 ≡ [])
+        × (s.place.me.0.live ≡ true) × (s.place.me.0.origin ≡ B.origin s.tag) };
 }
 
 impl<B: Identity> Seat<B> {

@@ -11,7 +11,8 @@ use Rattle.iocm_types.specs.Fault.{◌>>=◌, at}
 use Rattle.iocm_tree.specs.declared.verb.Verb.{Verb}
 use Rattle.iocm_tree.specs.declared.verb.Verb.TheVariants.{Delete}
 use Rattle.iocm_statements.specs.declared.operation.Operation.{Operation}
-use Rattle.iocm_statements.specs.declared.operation.Operation.TheVariants.{Id, Resource, Chpid, Cntlunit, Iodevice, Online}
+use Rattle.iocm_statements.specs.declared.operation.Operation.TheVariants.{Id, Resource, Chpid, Cntlunit}
+use Rattle.iocm_statements.specs.declared.operation.Operation.TheVariants.{Iodevice, Online}
 use Rattle.iocm_statements.specs.declared.statement.Statement.{Statement}
 use Rattle.iocm_statements.specs.Operands.{Operand}
 use Rattle.iocm_operands.specs.declared.device.Devices.{Devices}
@@ -46,7 +47,8 @@ keys_given fault Id operands = Ok (key.Id ∷ [])
 keys_given fault Resource operands = resource_keys fault operands
 keys_given fault Chpid operands = chpid_path fault operands >>= λ (p : CssPath). Ok (key.Path p.css p.path ∷ [])
 keys_given fault Cntlunit operands = unit_number fault operands >>= λ number. Ok (key.Unit number ∷ [])
-keys_given fault Iodevice operands = statement_devices fault operands >>= λ d. device_set fault operands >>= λ set. Ok (device_keys set d)
+keys_given fault Iodevice operands = statement_devices fault operands >>= λ d.
+    device_set fault operands >>= λ set. Ok (device_keys set d)
 keys_given fault Online operands = pairs_of fault operands >>= λ pairs. Ok (pair_keys pairs)
 keys_given fault _ operands = Ok []
 

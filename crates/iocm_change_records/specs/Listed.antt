@@ -1,6 +1,7 @@
 -- Whether both lists of a path are written, judged by shape alone: a SHARED or REC path of a change
 -- deck wants both. Own.
-use Rattle.std.specs.Prelude.{ℕ, ◌-◌, ◌&&◌, ◌||◌, nat_le, Bool, not, if◌then◌else◌, List, [], ◌∷◌, length, take, codes, unwrap_or}
+use Rattle.std.specs.Prelude.{ℕ, ◌-◌, ◌&&◌, ◌||◌, nat_le, Bool, not, if◌then◌else◌}
+use Rattle.std.specs.Prelude.{List, [], ◌∷◌, length, take, codes, unwrap_or}
 use Rattle.std.specs.List.{list_any}
 use Rattle.std.specs.Option.{option_and_then}
 use Rattle.iocm_statements.specs.Operands.{Operand, text_under, has_bare}
@@ -32,12 +33,14 @@ values_or_none text = unwrap_or (values text) []
 
 -- the items of a group, which may have parentheses of its own
 abbrev pub ungrouped : List Value → List Value
-ungrouped (list inner ∷ []) = if begins_with_css (values_or_none inner) then behind_css (values_or_none inner) else list inner ∷ []
+ungrouped (list inner ∷ []) =
+    if begins_with_css (values_or_none inner) then behind_css (values_or_none inner) else list inner ∷ []
 ungrouped vs = behind_css vs
 
 -- the items of PARTITION; a word has none
 abbrev pub partition_items : List Operand → List Value
-partition_items operands = unwrap_or (option_and_then (λ text. items (value text)) (text_under (codes "PARTITION") operands)) []
+partition_items operands =
+    unwrap_or (option_and_then (λ text. items (value text)) (text_under (codes "PARTITION") operands)) []
 
 -- what PARTITION shows
 abbrev pub written_shape : List Operand → Shape
@@ -45,7 +48,8 @@ written_shape operands = shape_of (ungrouped (partition_items operands))
 
 -- a path is SHARED or REC by its words, or REC by the last item of PARTITION
 abbrev pub wants_lists : List Operand → Shape → Bool
-wants_lists operands shape = has_bare (codes "SHARED") operands || (has_bare (codes "REC") operands || shape.is_reconfigurable)
+wants_lists operands shape =
+    has_bare (codes "SHARED") operands || (has_bare (codes "REC") operands || shape.is_reconfigurable)
 
 -- a SHARED or REC path whose two lists aren't both written
 abbrev pub lacks_lists : List Operand → Bool

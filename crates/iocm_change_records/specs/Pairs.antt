@@ -1,5 +1,6 @@
 -- ONLINE PATH=(CSS(n),cc),PARTITION=(names): pairs of a path and an image's name. Own.
-use Rattle.std.specs.Prelude.{ℕ, ◌||◌, Bool, true, false, not, if◌then◌else◌, Option, None, Some, List, map, Result, Ok, Err, codes}
+use Rattle.std.specs.Prelude.{ℕ, ◌||◌, Bool, true, false, not, if◌then◌else◌, Option}
+use Rattle.std.specs.Prelude.{None, Some, List, map, Result, Ok, Err, codes}
 use Rattle.std.specs.List.{list_any}
 use Rattle.iocm_types.specs.declared.fault.Fault.{Fault}
 use Rattle.iocm_types.specs.declared.rule.Rule.{Rule}

@@ -1,5 +1,6 @@
 -- The keys of DELETE RESOURCE: images by channel subsystem and digit, limits by their places. Own.
-use Rattle.std.specs.Prelude.{ℕ, ◌==◌, Bool, true, false, nat_lt, if◌then◌else◌, Option, None, Some, List, [], ◌∷◌, ◌++◌, map, filter, length, Result, Ok, codes}
+use Rattle.std.specs.Prelude.{ℕ, ◌==◌, Bool, true, false, nat_lt, if◌then◌else◌, Option, None, Some}
+use Rattle.std.specs.Prelude.{List, [], ◌∷◌, ◌++◌, map, filter, length, Result, Ok, codes}
 use Rattle.std.specs.List.{filter_map}
 use Rattle.std.specs.Option.{option_map}
 use Rattle.iocm_types.specs.declared.fault.Fault.{Fault}
@@ -47,11 +48,13 @@ limit_key_at set p = if nat_lt set 4 then Some (if p.is_empty then None else Som
 
 -- of the places of a channel subsystem the first is that of set 0, and so on
 abbrev pub limit_keys_in : List LimitSeat → ℕ → Option (List Key)
-limit_keys_in places css = option_map (filter_map (λ k. k)) (every_at limit_key_at 0 (filter (λ (p : LimitSeat). p.css == css) places))
+limit_keys_in places css =
+    option_map (filter_map (λ k. k)) (every_at limit_key_at 0 (filter (λ (p : LimitSeat). p.css == css) places))
 
 -- the keys of MAXDEV
 abbrev pub limit_keys : Value → Option (List Key)
-limit_keys v = by_css true limit_seat (λ (p : LimitSeat). p.css) v >>= λ places. gathered (limit_keys_in places) subsystems
+limit_keys v = by_css true limit_seat (λ (p : LimitSeat). p.css) v >>= λ places.
+    gathered (limit_keys_in places) subsystems
 
 -- the keys of images and limits; without PARTITION and MAXDEV that of what RESOURCE carries
 abbrev pub resource_keys_by : Fault → List Operand → Option (List ℕ) → Option (List ℕ) → Result (List Key) Fault
@@ -61,4 +64,5 @@ resource_keys_by f operands _ _ =
     fault.◌>>=◌ (optional f limit_keys [] (codes "MAXDEV") operands) (λ limits. Ok (images ++ limits)))
 
 abbrev pub resource_keys : Fault → List Operand → Result (List Key) Fault
-resource_keys f operands = resource_keys_by f operands (text_under (codes "PARTITION") operands) (text_under (codes "MAXDEV") operands)
+resource_keys f operands =
+    resource_keys_by f operands (text_under (codes "PARTITION") operands) (text_under (codes "MAXDEV") operands)

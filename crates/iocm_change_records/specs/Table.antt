@@ -30,11 +30,13 @@ as_deck_operation operation = operation
 
 -- a value in a form that is left out by name
 abbrev pub is_text_left_out : Operation → List ℕ → List ℕ → Bool
-is_text_left_out operation keyword text = names_several_css text || is_form_left_out (as_deck_operation operation) keyword text
+is_text_left_out operation keyword text =
+    names_several_css text || is_form_left_out (as_deck_operation operation) keyword text
 
 -- the value under one of the words is in such a form
 abbrev pub is_key_left_out : Operation → List Operand → Row → Bool
-is_key_left_out operation operands (keyword, form) = option_map_or (is_text_left_out operation keyword) (text_under keyword operands) false
+is_key_left_out operation operands (keyword, form) =
+    option_map_or (is_text_left_out operation keyword) (text_under keyword operands) false
 
 abbrev pub has_key_left_out : Operation → List Operand → Bool
 has_key_left_out operation operands = list_any (is_key_left_out operation operands) (key_table operation)

@@ -7,7 +7,8 @@ use Rattle.iocm_types.specs.Fault.{◌>>=◌, at}
 use Rattle.iocm_tree.specs.declared.verb.Verb.{Verb}
 use Rattle.iocm_tree.specs.declared.verb.Verb.TheVariants.{Add, Modify}
 use Rattle.iocm_statements.specs.declared.operation.Operation.{Operation}
-use Rattle.iocm_statements.specs.declared.operation.Operation.TheVariants.{Id, Resource, Chpid, Cntlunit, Iodevice, Online}
+use Rattle.iocm_statements.specs.declared.operation.Operation.TheVariants.{Id, Resource, Chpid, Cntlunit}
+use Rattle.iocm_statements.specs.declared.operation.Operation.TheVariants.{Iodevice, Online}
 use Rattle.iocm_statements.specs.declared.statement.Statement.{Statement}
 use Rattle.iocm_model.specs.Machine.Record.{Rec}
 use Rattle.iocm_record_reader.specs.Deck.{deck_records, read_statement, nothing_read}

@@ -140,7 +140,8 @@ fn keys_given(
 }
 
 fn keys_or_fault(alloc: Global, statement: &Statement) -> Result<Vec<Key>, Fault>
-    ensures { Gives (λ v. v.items) result (meaning.keys_unless (meaning.key_fault statement.now.operation statement.now.operands) statement.now) }
+    ensures { Gives (λ v. v.items) result
+        (meaning.keys_unless (meaning.key_fault statement.now.operation statement.now.operands) statement.now) }
 {
     let line = statement.line;
     let operation = statement.operation;

@@ -49,7 +49,8 @@ fn is_form_left_out(
     keyword: &[u8],
     text: &[u8],
 ) -> Result<bool, AllocError>
-    ensures { IfOk result (λ answer. answer ≡ words.is_form_left_out (meaning.as_deck_operation operation) keyword.now text.now) }
+    ensures { IfOk result
+        (λ answer. answer ≡ words.is_form_left_out (meaning.as_deck_operation operation) keyword.now text.now) }
 {
     match operation {
         Operation::Chpid => is_path_left_out(alloc, keyword, text),

@@ -122,7 +122,8 @@ fn limit_keys_of_all(
     places: &[LimitSeat],
     subsystems: &[u8],
 ) -> Result<Vec<Key>, Unread>
-    ensures { Reads (λ v. v.items) result (gathered (meaning.limit_keys_in places.now) (map (λ css. css) subsystems.now)) }
+    ensures { Reads (λ v. v.items) result
+        (gathered (meaning.limit_keys_in places.now) (map (λ css. css) subsystems.now)) }
 {
     let mut found = Vec::new(alloc);
     for css in subsystems {

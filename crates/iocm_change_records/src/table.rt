@@ -114,7 +114,8 @@ fn is_one_left_out(
     operands: &Operands,
     rows: &[Row],
 ) -> Result<bool, AllocError>
-    ensures { IfOk result (λ answer. answer ≡ list_any (meaning.is_key_left_out operation operands.now) (map seen_row rows.now)) }
+    ensures { IfOk result
+        (λ answer. answer ≡ list_any (meaning.is_key_left_out operation operands.now) (map seen_row rows.now)) }
 {
     for row in rows {
         if is_key_left_out(alloc, operation, operands, row)? {

@@ -1,5 +1,6 @@
 -- The columns of a line.
-use Rattle.std.specs.Prelude.{ℕ, ◌-◌, ◌==◌, Bool, not, ◌||◌, List, ◌++◌, length, take, drop, replicate, slice_index, slice_range}
+use Rattle.std.specs.Prelude.{ℕ, ◌-◌, ◌==◌, Bool, not, ◌||◌, List, ◌++◌, length}
+use Rattle.std.specs.Prelude.{take, drop, replicate, slice_index, slice_range}
 use Rattle.std.specs.List.{list_all, position_or_len}
 
 -- a blank column

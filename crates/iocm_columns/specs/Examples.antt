@@ -34,8 +34,14 @@ deck_without_margin =
 
 -- a deck that ends in a continued card
 abbrev pub deck_without_end : List ℕ
-deck_without_end = line (codes "         ID A") ++ line (codes "         ID A,                                                         X") ++ line (codes "*")
+deck_without_end =
+    line (codes "         ID A")
+    ++ line (codes "         ID A,                                                         X")
+    ++ line (codes "*")
 
 -- a deck with a tab on its second line, behind a line of 80 bytes and before one of 81
 abbrev pub deck_with_tab : List ℕ
-deck_with_tab = line (codes "AAAAAAAAAAAAAAAAAAAAAAAAAAAAAAAAAAAAAAAAAAAAAAAAAAAAAAAAAAAAAAAAAAAAAAAAAAAAAAAA") ++ line (9 ∷ []) ++ line (codes "AAAAAAAAAAAAAAAAAAAAAAAAAAAAAAAAAAAAAAAAAAAAAAAAAAAAAAAAAAAAAAAAAAAAAAAAAAAAAAAAA")
+deck_with_tab =
+    line (codes "AAAAAAAAAAAAAAAAAAAAAAAAAAAAAAAAAAAAAAAAAAAAAAAAAAAAAAAAAAAAAAAAAAAAAAAAAAAAAAAA")
+    ++ line (9 ∷ [])
+    ++ line (codes "AAAAAAAAAAAAAAAAAAAAAAAAAAAAAAAAAAAAAAAAAAAAAAAAAAAAAAAAAAAAAAAAAAAAAAAAAAAAAAAAA")

@@ -1,5 +1,6 @@
 -- The operand part of a statement, and how it goes on in continuations.
-use Rattle.std.specs.Prelude.{ℕ, ◌-◌, ◌==◌, Bool, false, not, ◌&&◌, ◌||◌, List, [], ◌∷◌, ◌++◌, length, slice_index, if◌then◌else◌}
+use Rattle.std.specs.Prelude.{ℕ, ◌-◌, ◌==◌, Bool, false, not, ◌&&◌, ◌||◌, List, []}
+use Rattle.std.specs.Prelude.{◌∷◌, ◌++◌, length, slice_index, if◌then◌else◌}
 use Rattle.std.specs.List.{fold}
 use Rattle.iocm_columns.specs.declared.going.Going.{Going}
 use Rattle.iocm_columns.specs.declared.going.Going.TheVariants.{Exactly, AtNext, Ended}
@@ -31,7 +32,8 @@ ends_in_comma text = (slice_index text (length text - 1) == 44) && not (is_quoti
 -- outside quotes; else exactly at column 16, where it ran through column 71; else not at all, and
 -- what follows is remark
 abbrev pub going_of : List ℕ → Bool → Going
-going_of text through = if (length text == 0) || ends_in_comma text then AtNext else (if through then Exactly else Ended)
+going_of text through =
+    if (length text == 0) || ends_in_comma text then AtNext else (if through then Exactly else Ended)
 
 -- a part so far, and how it goes on
 pub record Part : Type 0 where
@@ -40,7 +42,10 @@ pub record Part : Type 0 where
 
 -- a text with the columns that were taken behind it; it ran through where all were taken
 abbrev pub part_with : List ℕ → List ℕ → List ℕ → Part
-part_with text columns taken = record { text = text ++ taken; going = going_of (text ++ taken) (length taken == length columns) }
+part_with text columns taken = record {
+  text = text ++ taken;
+  going = going_of (text ++ taken) (length taken == length columns);
+}
 
 -- a text that goes on in these columns
 abbrev pub part_after : List ℕ → List ℕ → Part

@@ -6,7 +6,8 @@ use Rattle.iocm_columns.specs.declared.going.Going.{Going}
 use Rattle.iocm_columns.specs.declared.going.Going.TheVariants.{Exactly, AtNext, Ended}
 use Rattle.iocm_columns.specs.declared.joined.Joined.{Joined}
 use Rattle.iocm_columns.specs.declared.statement_card.StatementCard.{StatementCard}
-use Rattle.iocm_columns.specs.Columns.{after_blanks, behind_operation, continuation_area, has_margin, is_continued, name_of, operation_of}
+use Rattle.iocm_columns.specs.Columns.{after_blanks, behind_operation, continuation_area}
+use Rattle.iocm_columns.specs.Columns.{has_margin, is_continued, name_of, operation_of}
 use Rattle.iocm_columns.specs.Part.{is_quoting, going_of}
 
 -- a slice at the front of some columns, behind a text: each blank in it is inside quotes, and it
@@ -63,5 +64,6 @@ pub record IsStatementOf (r : StatementCard) (rs : List StatementCard) (joined :
 abbrev pub AreStatementsOf : List StatementCard → List Joined → Type 0
 AreStatementsOf rs [] = rs ≡ []
 AreStatementsOf rs (joined ∷ others) =
-    (first : StatementCard) × (more : List StatementCard) × (rest : List StatementCard) × (rs ≡ first ∷ (more ++ rest)) × IsContinuedBy first more
+    (first : StatementCard) × (more : List StatementCard) × (rest : List StatementCard)
+    × (rs ≡ first ∷ (more ++ rest)) × IsContinuedBy first more
     × IsStatementOf first more joined × AreStatementsOf rest others

@@ -32,7 +32,12 @@ part_of r rs = fold with_continuation (part_after [] (behind_operation r.columns
 -- a card and its continuations as a statement
 abbrev pub statement_of : List StatementCard → Joined
 statement_of [] = record { line = 0; name = []; operation = []; text = [] }
-statement_of (r ∷ rs) = record { line = r.line; name = name_of r.columns; operation = operation_of r.columns; text = (part_of r rs).text }
+statement_of (r ∷ rs) = record {
+  line = r.line;
+  name = name_of r.columns;
+  operation = operation_of r.columns;
+  text = (part_of r rs).text;
+}
 
 -- the statements of some cards, unless there is a fault between them
 abbrev pub unless_fault : Option Fault → List StatementCard → Result (List Joined) Fault

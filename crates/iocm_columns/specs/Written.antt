@@ -1,7 +1,9 @@
 -- How statements are written: name, operation and operand part in their columns, and what passes
 -- column 71 in continuations. IOCP User's Guide, on coding the statements. Bytes by their codes: 88
 -- is X, 10 ends a line, 32 is a blank.
-use Rattle.std.specs.Prelude.{◌≡◌, ◌≢◌, ◌≤◌, ◌<◌, ℕ, ◌+◌, ◌-◌, ◌==◌, max, Bool, not, ◌&&◌, false, IsTrue, if◌then◌else◌, List, [], ◌∷◌, ◌++◌, length, map, replicate, slice_index, Ok}
+use Rattle.std.specs.Prelude.{◌≡◌, ◌≢◌, ◌≤◌, ◌<◌, ℕ, ◌+◌, ◌-◌, ◌==◌, max, Bool, not}
+use Rattle.std.specs.Prelude.{◌&&◌, false, IsTrue, if◌then◌else◌, List, [], ◌∷◌}
+use Rattle.std.specs.Prelude.{◌++◌, length, map, replicate, slice_index, Ok}
 use Rattle.std.specs.List.{flat_map, list_all}
 use Rattle.iocm_columns.specs.declared.joined.Joined.{Joined}
 use Rattle.iocm_columns.specs.Cards.{is_printable}

@@ -1,5 +1,6 @@
 ghost use Rattle.std.specs.Prelude.{◌≡◌, IfOk};
-ghost use Rattle.iocm_columns.specs.Columns.{columns_of, is_continued, has_margin, is_skipped, name_of, operation_of, behind_operation, continuation_area};
+ghost use Rattle.iocm_columns.specs.Columns.{columns_of, is_continued, has_margin, is_skipped, name_of};
+ghost use Rattle.iocm_columns.specs.Columns.{operation_of, behind_operation, continuation_area};
 
 use crate::words::{are_blank, skip_blanks, split_word};
 use iocm_types::Text;

@@ -1,6 +1,8 @@
-ghost use Rattle.std.specs.Prelude.{◌≡◌, ◌-◌, ◌+◌, ◌^◌, ◌<◌, ◌≤◌, ◌⊎◌, ◌==◌, true, length, take, vec_len, IfOk, IfErr, IfSome, OnOk, Ok};
+ghost use Rattle.std.specs.Prelude.{◌≡◌, ◌-◌, ◌+◌, ◌^◌, ◌<◌, ◌≤◌, ◌⊎◌, ◌==◌, true, length};
+ghost use Rattle.std.specs.Prelude.{take, vec_len, IfOk, IfErr, IfSome, OnOk, Ok};
 ghost use Rattle.std.specs.Io.KnownBytes.{Consumes, IsAtEnd};
-ghost use Rattle.iocm_columns.specs.Device.{reader_of, reads_of, has_failed, has_ended, unreadable, IsOpen, IsWhole, StopsShort};
+ghost use Rattle.iocm_columns.specs.Device.{reader_of, reads_of, has_failed, has_ended};
+ghost use Rattle.iocm_columns.specs.Device.{unreadable, IsOpen, IsWhole, StopsShort};
 ghost use Rattle.iocm_types.specs.Fault.{memory};
 
 use iocm_types::{Fault, Rule};

@@ -1,4 +1,5 @@
-ghost use Rattle.std.specs.Prelude.{◌≡◌, ◌<◌, ◌≤◌, ◌==◌, false, ◌+◌, [], ◌∷◌, length, All, IfNone, IfSome, MatchOption, take, drop};
+ghost use Rattle.std.specs.Prelude.{◌≡◌, ◌<◌, ◌≤◌, ◌==◌, false, ◌+◌, [], ◌∷◌, length};
+ghost use Rattle.std.specs.Prelude.{All, IfNone, IfSome, MatchOption, take, drop};
 ghost use Rattle.std.specs.List.{list_all, position};
 ghost use Rattle.std.specs.Str.Lines.{lines, strip_carriage_return};
 ghost use Rattle.iocm_types.specs.Fault.{Gives};

@@ -1,6 +1,7 @@
 ghost use Rattle.std.specs.Prelude.{◌≡◌, ◌≤◌, [], length, take, IfOk, OnOk};
 ghost use Rattle.std.specs.List.{fold};
-ghost use Rattle.iocm_columns.specs.Part.{switched, is_quoting, ends, front, going_of, ends_in_comma, part_after, continued};
+ghost use Rattle.iocm_columns.specs.Part.{switched, is_quoting, ends, front, going_of};
+ghost use Rattle.iocm_columns.specs.Part.{ends_in_comma, part_after, continued};
 
 use crate::going::Going;
 use crate::words::skip_blanks;

@@ -1,6 +1,7 @@
 ghost use Rattle.std.specs.Prelude.{◌≡◌, ◌+◌, ◌^◌, ◌<◌, ◌≤◌, ◌⊎◌, ℕ, List, IfSome, Err};
 ghost use Rattle.iocm_columns.specs.Cards.{cards_of};
-ghost use Rattle.iocm_columns.specs.Device.{reader_of, reads_of, unreadable, GivesIfReadable, IsOpen, IsUnread, IsWhole, StopsShort};
+ghost use Rattle.iocm_columns.specs.Device.{reader_of, reads_of, unreadable, GivesIfReadable};
+ghost use Rattle.iocm_columns.specs.Device.{IsOpen, IsUnread, IsWhole, StopsShort};
 
 use crate::lines::cards;
 use crate::{Card, Device};

@@ -1,6 +1,8 @@
 ghost use Rattle.std.specs.Prelude.{◌≡◌, IfOk};
 ghost use Rattle.iocm_types.specs.Fault.{Gives};
-ghost use Rattle.iocm_columns.specs.StatementCards.{continuation_fault, first_continuation_fault, margin_fault, statement_card, statement_cards};
+ghost use Rattle.iocm_columns.specs.StatementCards.{continuation_fault, first_continuation_fault};
+ghost use Rattle.iocm_columns.specs.StatementCards.{margin_fault, statement_card};
+ghost use Rattle.iocm_columns.specs.StatementCards.{statement_cards};
 
 use crate::Card;
 use crate::columns::Columns;

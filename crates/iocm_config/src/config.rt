@@ -34,7 +34,8 @@ impl<A: Allocator> Model for Config<A> {
 
     ghost Value = { Stored };
 
-    ghost coded = { code_by (Configuration × List Key) (coded× (map.code (Prim.hlevel codes) (Prim.hlevel codes)) (coded_list (Prim.hlevel codes)))
+    ghost coded = { code_by (Configuration × List Key)
+        (coded× (map.code (Prim.hlevel codes) (Prim.hlevel codes)) (coded_list (Prim.hlevel codes)))
         (λ s. (s.records, s.places)) (λ p. record { records = p.0; places = p.1 }) (λ _. refl) };
 
     ghost view = { λ c. record { records = rows key_cmp c.table; places = c.table.places } };

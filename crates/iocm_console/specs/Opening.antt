@@ -68,4 +68,5 @@ Says contents old new what status = Prints contents old new what.text × (status
 
 -- so it did, or it printed only that memory is wanted
 abbrev pub SaysIfMemory : {W : Type 0} → (W → Option (List ℕ)) → Output W → Output W → Shown → Status → Type 0
-SaysIfMemory contents old new what status = Says contents old new what status ⊎ Says contents old new (refused memory) status
+SaysIfMemory contents old new what status = Says contents old new what status
+    ⊎ Says contents old new (refused memory) status

@@ -40,7 +40,9 @@ breach_line b = breach_text b ++ 10 ∷ []
 
 -- a subchannel by its channel subsystem, image, set and number
 abbrev pub subchannel_text : SubId → List ℕ
-subchannel_text s = hex1 s.image.css ++ (codes "." ++ (hex1 s.image.mif ++ (codes "." ++ (hex1 s.set ++ (codes "." ++ hex4 s.number)))))
+subchannel_text s =
+    hex1 s.image.css
+    ++ (codes "." ++ (hex1 s.image.mif ++ (codes "." ++ (hex1 s.set ++ (codes "." ++ hex4 s.number)))))
 
 -- where in a change tree it was refused, in decimal
 abbrev pub node_text : Option ℕ → List ℕ

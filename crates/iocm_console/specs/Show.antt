@@ -9,7 +9,10 @@ use Rattle.iocm_console.specs.Opening.{Shown}
 
 -- the table of a configuration at some number cells
 abbrev pub table_at : Configuration → CellDevices → Shown
-table_at c cells = record { text = (heading ++ 10 ∷ []) ++ record_lines (lookup_of c) cells (records_of c); status = Done }
+table_at c cells = record {
+  text = (heading ++ 10 ∷ []) ++ record_lines (lookup_of c) cells (records_of c);
+  status = Done;
+}
 
 -- the table of a configuration with its numbers
 abbrev pub table_done : Configuration → Numbering → Shown

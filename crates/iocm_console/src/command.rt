@@ -1,4 +1,5 @@
-ghost use Rattle.std.specs.Prelude.{◌≡◌, ◌+◌, ◌^◌, ◌<◌, ◌≤◌, ◌⊎◌, ℕ, List, Ok, Err, false, true, IfOk, IfErr, OnOk, IfSome};
+ghost use Rattle.std.specs.Prelude.{◌≡◌, ◌+◌, ◌^◌, ◌<◌, ◌≤◌, ◌⊎◌, ℕ, List, Ok, Err};
+ghost use Rattle.std.specs.Prelude.{false, true, IfOk, IfErr, OnOk, IfSome};
 ghost use Rattle.iocm_types.specs.Fault.{memory};
 ghost use Rattle.iocm_model.specs.Machine.Numbering as model;
 ghost use Rattle.iocm_columns.specs.Device.{reader_of, reads_of, IsOpen, IsWhole, StopsShort};
@@ -48,9 +49,12 @@ pub fn answer_deck<R: Read, W: Write>(
     requires room { reads_of device.old + limit < 2 ^ 64 }
     requires works { has_failed output.old ≡ false }
     ensures reads { reads_of device.new ≤ reads_of device.old + limit }
-    ensures known_bytes { IfSome (R.remaining (reader_of device.old)) (λ bytes. IfOk result (SaysIfMemory W.contents output.old output.new (answered command bytes))) }
-    ensures some_bytes { (bytes : List ℕ) × IfOk result (SaysIfMemory W.contents output.old output.new (answered command bytes)) }
-    ensures whole { IfOk result (λ status. IsWhole device.new ⊎ Says W.contents output.old output.new (refused memory) status) }
+    ensures known_bytes { IfSome (R.remaining (reader_of device.old))
+        (λ bytes. IfOk result (SaysIfMemory W.contents output.old output.new (answered command bytes))) }
+    ensures some_bytes { (bytes : List ℕ)
+        × IfOk result (SaysIfMemory W.contents output.old output.new (answered command bytes)) }
+    ensures whole { IfOk result
+        (λ status. IsWhole device.new ⊎ Says W.contents output.old output.new (refused memory) status) }
     ensures written { OnOk result (has_failed output.new ≡ false) }
     ensures unreadable { result ≡ Err ConsoleError.Read → StopsShort device.new (reads_of device.old + limit) }
     ensures untouched { result ≡ Err ConsoleError.Read → output.new ≡ output.old }
@@ -69,7 +73,8 @@ fn answer_cards<W: Write>(
     cards: &[Card],
     output: &mut Output<W>,
 ) -> Result<Status, ConsoleError>
-    ensures text { IfOk result (SaysIfMemory W.contents output.old output.new (opened_or_refused (shown_by command) (configuration_in cards.now))) }
+    ensures text { IfOk result (SaysIfMemory W.contents output.old output.new
+        (opened_or_refused (shown_by command) (configuration_in cards.now))) }
     ensures works { OnOk result (has_failed output.new ≡ has_failed output.old) }
     ensures fault { IfErr result (FailedToWrite output.new) }
 {
@@ -87,7 +92,8 @@ fn answer_opened<W: Write>(
     config: &Config,
     output: &mut Output<W>,
 ) -> Result<Status, ConsoleError>
-    ensures text { IfOk result (SaysIfMemory W.contents output.old output.new (opened (shown_by command) config.now.records)) }
+    ensures text { IfOk result
+        (SaysIfMemory W.contents output.old output.new (opened (shown_by command) config.now.records)) }
     ensures works { OnOk result (has_failed output.new ≡ has_failed output.old) }
     ensures fault { IfErr result (FailedToWrite output.new) }
 {
@@ -106,7 +112,8 @@ fn answer_kept<W: Write>(
     config: &Config,
     output: &mut Output<W>,
 ) -> Result<Status, ConsoleError>
-    ensures text { IfOk result (SaysIfMemory W.contents output.old output.new (shown_by command config.now.records (model.opening config.now.records))) }
+    ensures text { IfOk result (SaysIfMemory W.contents output.old output.new
+        (shown_by command config.now.records (model.opening config.now.records))) }
     ensures works { OnOk result (has_failed output.new ≡ has_failed output.old) }
     ensures fault { IfErr result (FailedToWrite output.new) }
 {
@@ -123,7 +130,8 @@ fn show_opened<W: Write>(
     config: &Config,
     output: &mut Output<W>,
 ) -> Result<Status, ConsoleError>
-    ensures text { IfOk result (SaysIfMemory W.contents output.old output.new (table_done config.now.records (model.opening config.now.records))) }
+    ensures text { IfOk result (SaysIfMemory W.contents output.old output.new
+        (table_done config.now.records (model.opening config.now.records))) }
     ensures works { OnOk result (has_failed output.new ≡ has_failed output.old) }
     ensures fault { IfErr result (FailedToWrite output.new) }
 {

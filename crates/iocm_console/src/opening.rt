@@ -5,7 +5,8 @@ ghost use Rattle.iocm_model.specs.Machine.Numbering as model;
 ghost use Rattle.iocm_model.specs.Rules.FirstBreach.{first_breach};
 ghost use Rattle.iocm_columns.specs.Device.{unreadable};
 ghost use Rattle.iocm_console.specs.Output.{has_failed, FailedToWrite};
-ghost use Rattle.iocm_console.specs.Opening.{configuration_in, records_in, statements_in, refused, breached, declined, Says};
+ghost use Rattle.iocm_console.specs.Opening.{configuration_in, records_in, statements_in};
+ghost use Rattle.iocm_console.specs.Opening.{refused, breached, declined, Says};
 
 use crate::{ConsoleError, Output, Status};
 use iocm_columns::{Card, join};

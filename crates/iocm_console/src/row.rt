@@ -22,7 +22,8 @@ pub fn write_heading<W: Write>(writer: &mut W) -> io::Result<()>
 
 /// Writes the line of a subchannel, with its end, as one piece. Can't answer want of memory.
 pub fn write_row<W: Write>(writer: &mut W, id: SubId, view: &View) -> io::Result<()>
-    ensures { OnOk result (Appends (W.contents writer.old) (W.contents writer.new) (line_of (id, view.now) ++ 10 ∷ [])) }
+    ensures { OnOk result
+        (Appends (W.contents writer.old) (W.contents writer.new) (line_of (id, view.now) ++ 10 ∷ [])) }
 {
     let mut line = ArrayVec::new();
     put_line(&mut line, id, view);

@@ -32,7 +32,8 @@ pub fn write_table<A: Allocator, B: Allocator, C: Allocator + Drop, W: Write>(
     config: &Config<A>,
     numbers: &Numbers<B>,
 ) -> Result<Status, ConsoleError>
-    ensures text { IfOk result (SaysIfMemory W.contents output.old output.new (table_done config.now.records numbers.now.numbers)) }
+    ensures text { IfOk result
+        (SaysIfMemory W.contents output.old output.new (table_done config.now.records numbers.now.numbers)) }
     ensures works { OnOk result (has_failed output.new ≡ has_failed output.old) }
     ensures fault { IfErr result (FailedToWrite output.new) }
 {
@@ -49,7 +50,8 @@ pub fn write_lines<A: Allocator, W: Write>(
     config: &Config<A>,
     cells: &[CellDevice],
 ) -> Result<Status, ConsoleError>
-    ensures text { IfOk result (Says W.contents output.old output.new (table_at config.now.records (celled cells.now))) }
+    ensures text { IfOk result
+        (Says W.contents output.old output.new (table_at config.now.records (celled cells.now))) }
     ensures works { OnOk result (has_failed output.new ≡ has_failed output.old) }
     ensures fault { IfErr result (FailedToWrite output.new) }
 {
@@ -65,7 +67,8 @@ fn write_rows<A: Allocator, W: Write>(
     config: &Config<A>,
     cells: &[CellDevice],
 ) -> Result<(), ConsoleError>
-    ensures text { OnOk result (Prints W.contents output.old output.new (record_lines (lookup_of config.now.records) (celled cells.now) (records_of config.now.records))) }
+    ensures text { OnOk result (Prints W.contents output.old output.new
+        (record_lines (lookup_of config.now.records) (celled cells.now) (records_of config.now.records))) }
     ensures works { OnOk result (has_failed output.new ≡ has_failed output.old) }
     ensures fault { IfErr result (FailedToWrite output.new) }
 {
@@ -82,7 +85,8 @@ fn write_record<A: Allocator, W: Write>(
     entry: &Record<A>,
     cells: &[CellDevice],
 ) -> Result<(), ConsoleError>
-    ensures text { OnOk result (Prints W.contents output.old output.new (record_lines (lookup_of config.now.records) (celled cells.now) (entry.now ∷ []))) }
+    ensures text { OnOk result (Prints W.contents output.old output.new
+        (record_lines (lookup_of config.now.records) (celled cells.now) (entry.now ∷ []))) }
     ensures works { OnOk result (has_failed output.new ≡ has_failed output.old) }
     ensures fault { IfErr result (FailedToWrite output.new) }
 {
@@ -107,7 +111,8 @@ fn write_image<A: Allocator, W: Write>(
     image: &NamedImage,
     cells: &[CellDevice],
 ) -> Result<(), ConsoleError>
-    ensures text { OnOk result (Prints W.contents output.old output.new (image_lines (lookup_of config.now.records) (image_record image.now) (celled cells.now))) }
+    ensures text { OnOk result (Prints W.contents output.old output.new
+        (image_lines (lookup_of config.now.records) (image_record image.now) (celled cells.now))) }
     ensures works { OnOk result (has_failed output.new ≡ has_failed output.old) }
     ensures fault { IfErr result (FailedToWrite output.new) }
 {
@@ -121,7 +126,8 @@ fn write_cells<A: Allocator, W: Write>(
     sight: &mut ImageSight<'_, A>,
     cells: &[CellDevice],
 ) -> Result<(), ConsoleError>
-    ensures text { OnOk result (Prints W.contents output.old output.new (image_lines (lookup_of sight.old.records) sight.old.image (celled cells.now))) }
+    ensures text { OnOk result (Prints W.contents output.old output.new
+        (image_lines (lookup_of sight.old.records) sight.old.image (celled cells.now))) }
     ensures same { sight.new ≡ sight.old }
     ensures works { OnOk result (has_failed output.new ≡ has_failed output.old) }
     ensures fault { IfErr result (FailedToWrite output.new) }
@@ -139,7 +145,8 @@ fn write_cell<A: Allocator, W: Write>(
     sight: &mut ImageSight<'_, A>,
     place: CellDevice,
 ) -> Result<(), ConsoleError>
-    ensures text { OnOk result (Prints W.contents output.old output.new (image_lines (lookup_of sight.old.records) sight.old.image (celled (place ∷ [])))) }
+    ensures text { OnOk result (Prints W.contents output.old output.new
+        (image_lines (lookup_of sight.old.records) sight.old.image (celled (place ∷ [])))) }
     ensures same { sight.new ≡ sight.old }
     ensures works { OnOk result (has_failed output.new ≡ has_failed output.old) }
     ensures fault { IfErr result (FailedToWrite output.new) }
@@ -159,7 +166,8 @@ fn write_seen<A: Allocator, W: Write>(
     place: CellDevice,
 ) -> Result<(), ConsoleError>
     requires { place.cell.css ≡ sight.old.image.css }
-    ensures text { OnOk result (Prints W.contents output.old output.new (image_lines (lookup_of sight.old.records) sight.old.image (celled (place ∷ [])))) }
+    ensures text { OnOk result (Prints W.contents output.old output.new
+        (image_lines (lookup_of sight.old.records) sight.old.image (celled (place ∷ [])))) }
     ensures same { sight.new ≡ sight.old }
     ensures works { OnOk result (has_failed output.new ≡ has_failed output.old) }
     ensures fault { IfErr result (FailedToWrite output.new) }

@@ -201,7 +201,9 @@ const BASE: &[Line] = &[
 ];
 
 const BASE_RECORDS: &str =
-    "; image 0.1 LPA; image 0.2 LPB; path 0.50 shared LPA LPB / LPA LPB; online 0.50.LPA; online 0.50.LPB; path 0.51 shared LPA / LPA LPB; online 0.51.LPA; unit 1000 0.50 0.51 00+16; device 0.1000 1000 at 00; device 0.1001 1000 at 01; device 0.1002 1000 at 02; device 0.1003 1000 at 03";
+    "; image 0.1 LPA; image 0.2 LPB; path 0.50 shared LPA LPB / LPA LPB; online 0.50.LPA; online 0.50.LPB\
+     ; path 0.51 shared LPA / LPA LPB; online 0.51.LPA; unit 1000 0.50 0.51 00+16; device 0.1000 1000 at 00\
+     ; device 0.1001 1000 at 01; device 0.1002 1000 at 02; device 0.1003 1000 at 03";
 
 /// A deck whose images stand behind the path that names none.
 const IMAGES_LAST: &[Line] = &[
@@ -210,7 +212,8 @@ const IMAGES_LAST: &[Line] = &[
 ];
 
 const IMAGES_LAST_RECORDS: &str =
-    "; path 0.50 shared LPA LPB / LPA LPB; online 0.50.LPA; online 0.50.LPB; image 0.1 LPA; image 0.2 LPB; image 1.1 LPC";
+    "; path 0.50 shared LPA LPB / LPA LPB; online 0.50.LPA; online 0.50.LPB\
+     ; image 0.1 LPA; image 0.2 LPB; image 1.1 LPC";
 
 #[test]
 fn reads_the_records_of_a_deck(rt: HostRuntime) -> Result<(), Fail> {

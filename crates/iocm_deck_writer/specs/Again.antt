@@ -65,7 +65,8 @@ pub record AreGivenBy (text : List ℕ) (operands : List Operand) : Type 0 where
 
 -- what is read of any operand part can be written, and is written as it was
 abbrev pub WritesOperandsAgain : Type 0
-WritesOperandsAgain = (line : ℕ) (text : List ℕ) (operands : List Operand) → operands_of line text ≡ Ok operands → AreGivenBy text operands
+WritesOperandsAgain = (line : ℕ) (text : List ℕ) (operands : List Operand) → operands_of line text ≡ Ok operands
+    → AreGivenBy text operands
 
 -- so can what a statement of any operation carries of it
 abbrev pub WritesCarriedAgain : Type 0

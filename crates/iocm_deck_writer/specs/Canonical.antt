@@ -66,7 +66,8 @@ part_statements _ = []
 -- the statements of records in the order of keys
 abbrev pub canonical : List Rec → List Statement
 canonical records =
-    flat_map id_statements records ++ (resource_statements records ++ (flat_map part_statements records ++ iodevice_statements records))
+    flat_map id_statements records
+    ++ (resource_statements records ++ (flat_map part_statements records ++ iodevice_statements records))
 
 -- an operand as it stands in the operand part
 abbrev pub operand_text : CarriedOperand → List ℕ
@@ -74,7 +75,12 @@ operand_text o = option_map_or (λ keyword. keyword ++ 61 ∷ o.text) o.keyword 
 
 -- a statement that is to be written, which stands at no line yet and has no name
 abbrev pub to_write : Statement → Joined
-to_write s = record { line = 0; name = []; operation = operation_name s.operation; text = join_with_byte 44 (map operand_text s.operands) }
+to_write s = record {
+  line = 0;
+  name = [];
+  operation = operation_name s.operation;
+  text = join_with_byte 44 (map operand_text s.operands);
+}
 
 -- the bytes of the canonical deck of a configuration
 abbrev pub canonical_deck : Configuration → List ℕ

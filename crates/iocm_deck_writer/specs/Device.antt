@@ -1,6 +1,7 @@
 -- The IODEVICE statements of a configuration: devices that follow each other are joined in one
 -- statement, as many as can be.
-use Rattle.std.specs.Prelude.{ℕ, ◌+◌, ◌==◌, ◌&&◌, nat_eq, Bool, true, false, if◌then◌else◌, Option, None, Some, List, [], ◌∷◌, ◌++◌, map, codes}
+use Rattle.std.specs.Prelude.{ℕ, ◌+◌, ◌==◌, ◌&&◌, nat_eq, Bool, true, false, if◌then◌else◌}
+use Rattle.std.specs.Prelude.{Option, None, Some, List, [], ◌∷◌, ◌++◌, map, codes}
 use Rattle.std.specs.List.{flat_map}
 use Rattle.std.specs.Option.{option_map}
 use Rattle.std.specs.Cmp.Lexicographic.{pointwise}
@@ -34,7 +35,9 @@ same_candidates _ _ = false
 
 -- two devices are alike in all but their numbers and unit addresses
 abbrev pub are_alike : DeviceRecord → DeviceRecord → Bool
-are_alike a b = (a.set == b.set) && pointwise nat_eq a.units b.units && same_candidates a.candidates b.candidates && pointwise same_operand a.carried b.carried
+are_alike a b =
+    (a.set == b.set) && pointwise nat_eq a.units b.units && same_candidates a.candidates b.candidates
+    && pointwise same_operand a.carried b.carried
 
 -- a run of devices that one statement writes: the first, and how many there are
 pub record Run : Type 0 where
@@ -44,7 +47,9 @@ pub record Run : Type 0 where
 -- a device is the next of a run: its number and its unit address are those of the first and the
 -- count, and all else is alike
 abbrev pub continues : Run → DeviceRecord → Bool
-continues r d = (d.number == r.first.number + r.count) && (d.unit_address == r.first.unit_address + r.count) && are_alike r.first d
+continues r d =
+    (d.number == r.first.number + r.count) && (d.unit_address == r.first.unit_address + r.count)
+    && are_alike r.first d
 
 -- a run and those that follow it: a device that continues the run makes it longer, another one
 -- begins a run

@@ -8,10 +8,14 @@ pub record Statement : Type 0 where
   pub operation : Operation
   pub operands : List CarriedOperand
 
--- an operand with its keyword, if it has a value
+-- an operand with its keyword
+abbrev pub keyed : List ℕ → List ℕ → CarriedOperand
+keyed keyword text = record { keyword = Some keyword; text = text }
+
+-- the same, if it has a value
 abbrev pub valued : List ℕ → Option (List ℕ) → List CarriedOperand
 valued keyword None = []
-valued keyword (Some text) = record { keyword = Some keyword; text = text } ∷ []
+valued keyword (Some text) = keyed keyword text ∷ []
 
 -- a word alone
 abbrev pub alone : List ℕ → CarriedOperand

@@ -19,7 +19,8 @@ fn path_text(alloc: Global, path: CssPath) -> Result<Text, AllocError>
 
 // The word REC of a reconfigurable path.
 fn put_rec(alloc: Global, items: &mut Vec<Text>, kind: PathKind) -> Result<(), AllocError>
-    ensures { OnOk result (items.new.items ≡ items.old.items ++ partition_operand.rec_texts (meaning.is_reconfigurable kind)) }
+    ensures { OnOk result
+        (items.new.items ≡ items.old.items ++ partition_operand.rec_texts (meaning.is_reconfigurable kind)) }
 {
     match kind {
         PathKind::Reconfigurable => items.push(Text::from_slice(alloc, b"REC")?)?,
@@ -35,7 +36,8 @@ fn partition_text(
     candidates: &[Name],
     kind: PathKind,
 ) -> Result<Text, AllocError>
-    ensures { IfOk result (λ text. text ≡ partition_operand.partition_text access.now candidates.now (meaning.is_reconfigurable kind)) }
+    ensures { IfOk result (λ text. text
+        ≡ partition_operand.partition_text access.now candidates.now (meaning.is_reconfigurable kind)) }
 {
     let mut items = vec![in alloc; names_text(alloc, access)?, names_text(alloc, candidates)?]?;
     put_rec(alloc, &mut items, kind)?;

@@ -73,7 +73,8 @@ fn are_alike<A: Allocator>(a: &DeviceFields<A>, b: &DeviceFields<A>) -> bool
 // Whether a device is the next of a run of so many.
 fn continues<A: Allocator>(first: &DeviceFields<A>, count: usize, device: &DeviceFields<A>) -> bool
     requires { count < 2 ^ 63 }
-    ensures { result ≡ meaning.continues (record { first = fields.device_of first.now; count = count }) (fields.device_of device.now) }
+    ensures { result ≡ meaning.continues (record { first = fields.device_of first.now; count = count })
+        (fields.device_of device.now) }
 {
     let number = usize::from(first.number.number());
     let address = usize::from(first.unit_address);
@@ -136,7 +137,8 @@ fn iodevice_operands<A: Allocator>(
     first: &DeviceFields<A>,
     count: usize,
 ) -> Result<Vec<Carried>, AllocError>
-    ensures { IfOk result (λ operands. operands.items ≡ meaning.iodevice_operands (record { first = fields.device_of first.now; count = count })) }
+    ensures { IfOk result (λ operands. operands.items
+        ≡ meaning.iodevice_operands (record { first = fields.device_of first.now; count = count })) }
 {
     let mut operands = Vec::new(alloc);
     let devices = devices_text(alloc, first.number, count)?;
@@ -158,7 +160,8 @@ fn iodevice_statement<A: Allocator>(
     first: &DeviceFields<A>,
     count: usize,
 ) -> Result<CanonicalStatement, AllocError>
-    ensures { IfOk result (λ s. s ≡ meaning.iodevice_statement (record { first = fields.device_of first.now; count = count })) }
+    ensures { IfOk result
+        (λ s. s ≡ meaning.iodevice_statement (record { first = fields.device_of first.now; count = count })) }
 {
     let mut operands = iodevice_operands(alloc, first, count)?;
     put_carried(alloc, &mut operands, first.carried.as_slice())?;
@@ -170,7 +173,8 @@ fn put_device<'a, A: Allocator>(
     entry: &'a Record<A>,
     devices: &mut Vec<&'a DeviceFields<A>>,
 ) -> Result<(), AllocError>
-    ensures { OnOk result (map (λ d. fields.device_of d.now) devices.new.items ≡ map (λ d. fields.device_of d.now) devices.old.items ++ meaning.devices_of entry.now) }
+    ensures { OnOk result (map (λ d. fields.device_of d.now) devices.new.items
+        ≡ map (λ d. fields.device_of d.now) devices.old.items ++ meaning.devices_of entry.now) }
 {
     match entry.body() {
         RecordBody::Device(device) => devices.push(device)?,
@@ -183,7 +187,8 @@ fn devices_in<'a, A: Allocator>(
     alloc: Global,
     records: &[&'a Record<A>],
 ) -> Result<Vec<&'a DeviceFields<A>>, AllocError>
-    ensures { IfOk result (λ devices. map (λ d. fields.device_of d.now) devices.items ≡ flat_map meaning.devices_of (map (λ k. k.now) records.now)) }
+    ensures { IfOk result (λ devices. map (λ d. fields.device_of d.now) devices.items
+        ≡ flat_map meaning.devices_of (map (λ k. k.now) records.now)) }
 {
     let mut devices = Vec::new(alloc);
     for entry in records {
@@ -200,7 +205,8 @@ fn put_runs<A: Allocator>(
     statements: &mut Vec<CanonicalStatement>,
 ) -> Result<(), AllocError>
     ensures { OnOk result (statements.new.items ≡ statements.old.items ++ map meaning.iodevice_statement
-        (meaning.runs_from (record { first = fields.device_of first.now; count = 1 }) (map (λ d. fields.device_of d.now) devices.now))) }
+        (meaning.runs_from (record { first = fields.device_of first.now; count = 1 })
+        (map (λ d. fields.device_of d.now) devices.now))) }
 {
     let mut run = first;
     let mut count = 1;
@@ -224,7 +230,8 @@ pub fn put_iodevices<A: Allocator>(
     records: &[&Record<A>],
     statements: &mut Vec<CanonicalStatement>,
 ) -> Result<(), AllocError>
-    ensures { OnOk result (statements.new.items ≡ statements.old.items ++ meaning.iodevice_statements (map (λ k. k.now) records.now)) }
+    ensures { OnOk result (statements.new.items
+        ≡ statements.old.items ++ meaning.iodevice_statements (map (λ k. k.now) records.now)) }
 {
     let devices = devices_in(alloc, records)?;
     if devices.is_empty() {

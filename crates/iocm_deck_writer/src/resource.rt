@@ -5,7 +5,6 @@ ghost use Rattle.iocm_model.specs.Machine.Record.{LimitRecord};
 ghost use Rattle.iocm_operands.specs.Limits as limits_operand;
 ghost use Rattle.iocm_operands.specs.Resource as images_operand;
 ghost use Rattle.iocm_deck_writer.specs.Resource as meaning;
-ghost use Rattle.iocm_deck_writer.specs.Statement.{if_any};
 
 use crate::CanonicalStatement;
 use crate::operands::{put_carried, put_valued};
@@ -46,7 +45,8 @@ fn is_limit_at(css: Css, set: u8, limit: LimitEntry) -> bool
 // The limit of a set of a channel subsystem, if it has one.
 #[tactic(auto, using(crate::proofs::Rest::find_goes_on, crate::proofs::Rest::find_here, crate::proofs::Rest::find_ends))]
 fn limit_at(limits: &[LimitEntry], css: Css, set: u8) -> Option<u16>
-    ensures { result ≡ option_map (λ (l : LimitRecord). l.limit) (find (limits_operand.is_limit_at css set) limits.now) }
+    ensures { result
+        ≡ option_map (λ (l : LimitRecord). l.limit) (find (limits_operand.is_limit_at css set) limits.now) }
 {
     for limit in limits {
         if is_limit_at(css, set, *limit) {
@@ -127,7 +127,7 @@ fn limits_text(alloc: Global, limits: &[LimitEntry]) -> Result<Text, AllocError>
 }
 
 fn images_value(alloc: Global, images: &[ImageEntry]) -> Result<Option<Text>, AllocError>
-    ensures { IfOk result (λ text. text ≡ if_any images.now (images_operand.images_text images.now)) }
+    ensures { IfOk result (λ text. text ≡ meaning.images_given images.now) }
 {
     if images.is_empty() {
         return Ok(None);
@@ -136,7 +136,7 @@ fn images_value(alloc: Global, images: &[ImageEntry]) -> Result<Option<Text>, Al
 }
 
 fn limits_value(alloc: Global, limits: &[LimitEntry]) -> Result<Option<Text>, AllocError>
-    ensures { IfOk result (λ text. text ≡ if_any limits.now (limits_operand.limits_text limits.now)) }
+    ensures { IfOk result (λ text. text ≡ meaning.limits_given limits.now) }
 {
     if limits.is_empty() {
         return Ok(None);
@@ -211,7 +211,8 @@ fn partition_value<A: Allocator>(
     alloc: Global,
     records: &[&Record<A>],
 ) -> Result<Option<Text>, AllocError>
-    ensures { IfOk result (λ text. text ≡ if_any (flat_map meaning.images_of (map (λ k. k.now) records.now)) (images_operand.images_text (flat_map meaning.images_of (map (λ k. k.now) records.now)))) }
+    ensures { IfOk result (λ text. text
+        ≡ meaning.images_given (flat_map meaning.images_of (map (λ k. k.now) records.now))) }
 {
     let images = images_in(alloc, records)?;
     images_value(alloc, &images)
@@ -222,7 +223,8 @@ fn maxdev_value<A: Allocator>(
     alloc: Global,
     records: &[&Record<A>],
 ) -> Result<Option<Text>, AllocError>
-    ensures { IfOk result (λ text. text ≡ if_any (flat_map meaning.limits_of (map (λ k. k.now) records.now)) (limits_operand.limits_text (flat_map meaning.limits_of (map (λ k. k.now) records.now)))) }
+    ensures { IfOk result (λ text. text
+        ≡ meaning.limits_given (flat_map meaning.limits_of (map (λ k. k.now) records.now))) }
 {
     let limits = limits_in(alloc, records)?;
     limits_value(alloc, &limits)
@@ -247,7 +249,8 @@ fn put_all_carried<A: Allocator>(
     operands: &mut Vec<Carried>,
     records: &[&Record<A>],
 ) -> Result<(), AllocError>
-    ensures { OnOk result (operands.new.items ≡ operands.old.items ++ flat_map meaning.resource_carried (map (λ k. k.now) records.now)) }
+    ensures { OnOk result (operands.new.items
+        ≡ operands.old.items ++ flat_map meaning.resource_carried (map (λ k. k.now) records.now)) }
 {
     for entry in records {
         put_resource_carried(alloc, operands, entry)?;
@@ -259,9 +262,7 @@ fn resource_operands<A: Allocator>(
     alloc: Global,
     records: &[&Record<A>],
 ) -> Result<Vec<Carried>, AllocError>
-    ensures { IfOk result (λ operands. operands.items ≡
-        meaning.resource_operands (flat_map meaning.images_of (map (λ k. k.now) records.now)) (flat_map meaning.limits_of (map (λ k. k.now) records.now))
-        ++ flat_map meaning.resource_carried (map (λ k. k.now) records.now)) }
+    ensures { IfOk result (λ operands. operands.items ≡ meaning.operands_given (map (λ k. k.now) records.now)) }
 {
     let mut operands = Vec::new(alloc);
     let partition = partition_value(alloc, records)?;
@@ -278,7 +279,8 @@ pub fn put_resource<A: Allocator>(
     records: &[&Record<A>],
     statements: &mut Vec<CanonicalStatement>,
 ) -> Result<(), AllocError>
-    ensures { OnOk result (statements.new.items ≡ statements.old.items ++ meaning.resource_statements (map (λ k. k.now) records.now)) }
+    ensures { OnOk result (statements.new.items
+        ≡ statements.old.items ++ meaning.resource_statements (map (λ k. k.now) records.now)) }
 {
     let operands = resource_operands(alloc, records)?;
     if operands.is_empty() {

@@ -73,7 +73,8 @@ fn put_ids<A: Allocator>(
     records: &[&Record<A>],
     statements: &mut Vec<CanonicalStatement>,
 ) -> Result<(), AllocError>
-    ensures { OnOk result (statements.new.items ≡ statements.old.items ++ flat_map meaning.id_statements (map (λ k. k.now) records.now)) }
+    ensures { OnOk result (statements.new.items
+        ≡ statements.old.items ++ flat_map meaning.id_statements (map (λ k. k.now) records.now)) }
 {
     for entry in records {
         put_id(alloc, entry, statements)?;
@@ -86,7 +87,8 @@ fn put_parts<A: Allocator>(
     records: &[&Record<A>],
     statements: &mut Vec<CanonicalStatement>,
 ) -> Result<(), AllocError>
-    ensures { OnOk result (statements.new.items ≡ statements.old.items ++ flat_map meaning.part_statements (map (λ k. k.now) records.now)) }
+    ensures { OnOk result (statements.new.items
+        ≡ statements.old.items ++ flat_map meaning.part_statements (map (λ k. k.now) records.now)) }
 {
     for entry in records {
         put_part(alloc, entry, statements)?;

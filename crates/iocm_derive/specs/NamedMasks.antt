@@ -18,4 +18,6 @@ IsAdded old name bit new = (n : List ℕ) → mask_in n new ≡ mask_in n old + 
 
 -- the row at a place is this name's, or free
 abbrev pub IsOpenAt : List NamedMask → ℕ → List ℕ → Type 0
-IsOpenAt rows place name = (place < 16) × ((row : NamedMask) → row ≡ slice_index_or rows place row → (nat_eq row.bits 0 || pointwise nat_eq name row.name) ≡ true)
+IsOpenAt rows place name = (place < 16)
+    × ((row : NamedMask) → row ≡ slice_index_or rows place row
+    → (nat_eq row.bits 0 || pointwise nat_eq name row.name) ≡ true)

@@ -78,9 +78,11 @@ fn view_by_paths<A: Allocator>(
     paths: &Paths,
 ) -> Option<View>
     requires device { image.now.sight.now.device ≡ Some (device_of device.now) }
-    requires paths { paths.now ≡ view_paths (lookup_of image.now.sight.now.records) image.now.sight.now.cell.css device.now.units }
+    requires paths { paths.now
+        ≡ view_paths (lookup_of image.now.sight.now.records) image.now.sight.now.cell.css device.now.units }
     requires candidate { sight.is_candidate image.now.name device.now.candidates ≡ true }
-    ensures { result ≡ model.view_if_seen (lookup_of image.now.sight.now.records) image.now.sight.now.cell.css image.now.name (device_of device.now) }
+    ensures { result ≡ model.view_if_seen (lookup_of image.now.sight.now.records) image.now.sight.now.cell.css
+        image.now.name (device_of device.now) }
 {
     let pim = installed_paths(image, paths);
     if !is_reached(image, device.units.as_slice(), paths, pim) {
@@ -103,8 +105,11 @@ fn is_reached<A: Allocator, R: Reach<A>>(
     pim: Mask,
 ) -> bool
     requires paths { paths.now ≡ view_paths (lookup_of (R.records reach.now)) (R.subsystem reach.now) units.now }
-    requires pim { pim ≡ installed (lookup_of (R.records reach.now)) (R.subsystem reach.now) (R.called reach.now) paths.now }
-    ensures { result ≡ list_any (sight.reaches (lookup_of (R.records reach.now)) (R.subsystem reach.now) (R.called reach.now)) (path_list (lookup_of (R.records reach.now)) (R.subsystem reach.now) units.now) }
+    requires pim { pim
+        ≡ installed (lookup_of (R.records reach.now)) (R.subsystem reach.now) (R.called reach.now) paths.now }
+    ensures { result ≡ list_any
+        (sight.reaches (lookup_of (R.records reach.now)) (R.subsystem reach.now) (R.called reach.now))
+        (path_list (lookup_of (R.records reach.now)) (R.subsystem reach.now) units.now) }
 {
     if pim.bits() != 0 {
         return true;

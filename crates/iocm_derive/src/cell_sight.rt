@@ -54,14 +54,22 @@ impl<'a, A: Allocator> Model for CellSight<'a, A> {
 
     ghost Value = { SightedCell };
 
-    ghost coded = { code_by (Configuration × (place.NumberCell × std_words.Option DeviceRecord)) (coded× (map.code (Prim.hlevel codes) (Prim.hlevel codes)) (coded× (Prim.hlevel codes) (Prim.hlevel codes)))
-        (λ s. (s.records, (s.cell, s.device))) (λ p. record { records = p.0; cell = p.1.0; device = p.1.1 }) (λ _. refl) };
+    ghost coded = { code_by (Configuration × (place.NumberCell × std_words.Option DeviceRecord))
+        (coded× (map.code (Prim.hlevel codes) (Prim.hlevel codes)) (coded× (Prim.hlevel codes) (Prim.hlevel codes)))
+        (λ s. (s.records, (s.cell, s.device)))
+        (λ p. record { records = p.0; cell = p.1.0; device = p.1.1 })
+        (λ _. refl) };
 
-    ghost view = { λ s. record { records = s.config.now.records; cell = s.cell; device = option_map device_of (option_copied s.device) } };
+    ghost view = { λ s. record {
+      records = s.config.now.records;
+      cell = s.cell;
+      device = option_map device_of (option_copied s.device);
+    } };
 
-    ghost invariant = { λ s. (s.paths ≡ paths_of (lookup_of s.config.now.records) s.cell.css (option_map device_of (option_copied s.device)))
-        × AllByRecursion (λ row. IfSome row (λ r. IsRecordOf s.config.now.records s.cell.css r.number r.entry.now)) s.records
-        × IfSome s.online (λ masks. AreOnlineMasks s.config.now.records s.cell.css s.paths masks) };
+    ghost invariant = { λ s. let c = s.config.now.records in let css = s.cell.css in
+        (s.paths ≡ paths_of (lookup_of c) css (option_map device_of (option_copied s.device)))
+        × AllByRecursion (λ row. IfSome row (λ r. IsRecordOf c css r.number r.entry.now)) s.records
+        × IfSome s.online (λ masks. AreOnlineMasks c css s.paths masks) };
 }
 
 impl<'a, A: Allocator> CellSight<'a, A> {
@@ -99,9 +107,14 @@ impl<'a, A: Allocator> CellSight<'a, A> {
         paths: Paths,
         online: Option<[NamedMask; 16]>,
     ) -> Self
-        requires paths { paths ≡ paths_of (lookup_of config.now.records) cell.css (option_map device_of (option_copied device)) }
+        requires paths { paths
+            ≡ paths_of (lookup_of config.now.records) cell.css (option_map device_of (option_copied device)) }
         requires online { IfSome online (λ masks. AreOnlineMasks config.now.records cell.css paths masks) }
-        ensures { result ≡ record { records = config.entry.now.records; cell = cell; device = option_map device_of (option_copied device.entry) } }
+        ensures { result ≡ record {
+          records = config.entry.now.records;
+          cell = cell;
+          device = option_map device_of (option_copied device.entry);
+        } }
     {
         let records = path_records(config, cell.css, &paths);
         CellSight {
@@ -138,7 +151,8 @@ impl<'a, A: Allocator> CellSight<'a, A> {
 
     /// The path-available mask of the image of a name over the first eight paths of the device.
     pub fn pam(&self, name: Name) -> Mask
-        ensures { result ≡ available (lookup_of self.now.records) self.now.cell.css name (paths_of (lookup_of self.now.records) self.now.cell.css self.now.device) }
+        ensures { result ≡ available (lookup_of self.now.records) self.now.cell.css name
+            (paths_of (lookup_of self.now.records) self.now.cell.css self.now.device) }
     {
         // For the proof alone: it is a name.
         let _ = name.as_bytes();
@@ -169,7 +183,8 @@ fn device_in<'a, A: Allocator, B: Allocator>(
     numbers: &Numbers<B>,
     cell: &NumberCell,
 ) -> Option<&'a DeviceFields<A>>
-    ensures { option_map device_of (option_copied result) ≡ cell_device config.entry.now.records numbers.now.numbers cell.now }
+    ensures { option_map device_of (option_copied result)
+        ≡ cell_device config.entry.now.records numbers.now.numbers cell.now }
 {
     let device = numbers.device_at(*cell)?;
     find_device(config, cell.set, device)

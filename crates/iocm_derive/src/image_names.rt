@@ -72,7 +72,8 @@ impl<'a, A: Allocator> ImageNames<'a, A> {
 
 /// The name in a record under a key, if the key is that of this image.
 fn name_under<A: Allocator>(under: &Key, entry: &Record<A>, image: &Image) -> Option<Name>
-    ensures { IfSome result (λ name. (under.now ≡ keys.Image image.now.css image.now.mif) × (option_map (λ (i : ImageRecord). i.name) (as_image entry.now) ≡ Some name)) }
+    ensures { IfSome result (λ name. (under.now ≡ keys.Image image.now.css image.now.mif)
+        × (option_map (λ (i : ImageRecord). i.name) (as_image entry.now) ≡ Some name)) }
 {
     match under {
         Key::Image(css, mif) if *css == image.css && *mif == image.mif => name_in(entry),

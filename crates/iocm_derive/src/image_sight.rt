@@ -40,10 +40,14 @@ impl<'a, A: Allocator> Model for ImageSight<'a, A> {
 
     ghost Value = { Sighted };
 
-    ghost coded = { code_by (Configuration × ImageRecord) (coded× (map.code (Prim.hlevel codes) (Prim.hlevel codes)) (Prim.hlevel codes))
+    ghost coded = { code_by (Configuration × ImageRecord)
+        (coded× (map.code (Prim.hlevel codes) (Prim.hlevel codes)) (Prim.hlevel codes))
         (λ s. (s.records, s.image)) (λ p. record { records = p.0; image = p.1 }) (λ _. refl) };
 
-    ghost view = { λ s. record { records = s.config.now.records; image = record { css = s.image.css; mif = s.image.mif; name = s.name } } };
+    ghost view = { λ s. record {
+      records = s.config.now.records;
+      image = record { css = s.image.css; mif = s.image.mif; name = s.name };
+    } };
 
     ghost invariant = { λ s. IsSighted s.config.now.records s.image.css s.name s.tables s.walk s.last };
 }
@@ -51,7 +55,10 @@ impl<'a, A: Allocator> Model for ImageSight<'a, A> {
 impl<'a, A: Allocator> ImageSight<'a, A> {
     /// The image of this name in a configuration.
     pub fn new(config: &'a Config<A>, image: Image, name: Name) -> Self
-        ensures { result ≡ record { records = config.entry.now.records; image = record { css = image.css; mif = image.mif; name = name } } }
+        ensures { result ≡ record {
+          records = config.entry.now.records;
+          image = record { css = image.css; mif = image.mif; name = name };
+        } }
     {
         let records = ImageRecords::new(config, image.css, name);
         ImageSight {
@@ -88,7 +95,8 @@ impl<'a, A: Allocator> ImageSight<'a, A> {
     /// The device of a number in a set, if there is one. It is looked for behind the last one
     /// first.
     fn find_next(&mut self, set: SetNo, device: DevNo) -> Option<&'a DeviceFields<A>>
-        ensures device { option_map device_of (option_copied result) ≡ model.device_record (lookup_of self.old.records) set device }
+        ensures device { option_map device_of (option_copied result)
+            ≡ model.device_record (lookup_of self.old.records) set device }
         ensures same { self.new ≡ self.old }
     {
         if let Some((key, entry)) = self.walk.next() {

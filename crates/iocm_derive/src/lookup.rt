@@ -23,7 +23,8 @@ pub fn find_device<A: Allocator>(
     set: SetNo,
     device: DevNo,
 ) -> Option<&DeviceFields<A>>
-    ensures { option_map meaning.device_of (option_copied result) ≡ device_record (lookup_of config.now.records) set device }
+    ensures { option_map meaning.device_of (option_copied result)
+        ≡ device_record (lookup_of config.now.records) set device }
 {
     device_fields(config.get(&Key::Device(set, device))?)
 }
@@ -45,7 +46,8 @@ pub fn device_under<'a, A: Allocator>(
     set: SetNo,
     device: DevNo,
 ) -> Option<&'a DeviceFields<A>>
-    ensures { IfSome result (λ fields. (under.now ≡ key.Device set device) × (as_device entry.entry.now ≡ Some (meaning.device_of fields.now))) }
+    ensures { IfSome result (λ fields. (under.now ≡ key.Device set device)
+        × (as_device entry.entry.now ≡ Some (meaning.device_of fields.now))) }
 {
     match under {
         Key::Device(of_set, number) if *of_set == set && *number == device => device_fields(entry),

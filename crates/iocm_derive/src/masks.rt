@@ -23,7 +23,8 @@ pub fn pam<A: Allocator>(config: &Config<A>, css: Css, name: Name, paths: &Paths
 
 /// The mask of the paths that an image reaches.
 pub fn installed_paths<A: Allocator, R: Reach<A>>(reach: &R, paths: &Paths) -> Mask
-    ensures { result ≡ installed (lookup_of (R.records reach.now)) (R.subsystem reach.now) (R.called reach.now) paths.now }
+    ensures { result
+        ≡ installed (lookup_of (R.records reach.now)) (R.subsystem reach.now) (R.called reach.now) paths.now }
 {
     let mut bit = 128u8;
     let mut bits = 0u8;
@@ -36,7 +37,8 @@ pub fn installed_paths<A: Allocator, R: Reach<A>>(reach: &R, paths: &Paths) -> M
 
 /// The mask of the paths that are online to an image.
 pub fn available_paths<A: Allocator, R: Reach<A>>(reach: &R, paths: &Paths) -> Mask
-    ensures { result ≡ available (lookup_of (R.records reach.now)) (R.subsystem reach.now) (R.called reach.now) paths.now }
+    ensures { result
+        ≡ available (lookup_of (R.records reach.now)) (R.subsystem reach.now) (R.called reach.now) paths.now }
 {
     let mut bit = 128u8;
     let mut bits = 0u8;

@@ -1,10 +1,8 @@
-ghost use Rattle.std.specs.Prelude.{◌≡◌, ℕ, ◌+◌, ◌<◌, List, IfSome, IsTrue, MatchBool, ⊤, if◌then◌else◌};
+ghost use Rattle.std.specs.Prelude.{◌≡◌, ℕ, ◌+◌, ◌<◌, List, IfSome, IsTrue, MatchBool, ⊤};
 ghost use Rattle.iocm_types.specs.Name.{is_name};
 ghost use Rattle.iocm_types.specs.declared.key.Key.TheVariants as keys;
-ghost use Rattle.iocm_model.specs.Machine.Configuration.{lookup_of};
-ghost use Rattle.iocm_model.specs.Machine.Mask.{is_online};
 ghost use Rattle.iocm_derive.specs.NamedMasks.{mask_in};
-ghost use Rattle.iocm_derive.specs.OnlineMasks.{least, online_name, AreOnlineMasks};
+ghost use Rattle.iocm_derive.specs.OnlineMasks.{least, online_name, AreOnlineMasks, IsPathAdded};
 
 use crate::named_masks::{NamedMask, add_bit};
 use iocm_config::Config;
@@ -43,7 +41,7 @@ fn add_path<A: Allocator>(
     bit: u8,
 ) -> bool
     requires { (n : List ℕ) → IsTrue (is_name n) → mask_in n masks.old + bit < 256 }
-    ensures { MatchBool result ((n : List ℕ) → IsTrue (is_name n) → mask_in n masks.new ≡ mask_in n masks.old + (if is_online (lookup_of config.now.records) css n path then bit else 0)) ⊤ }
+    ensures { MatchBool result (IsPathAdded config.now.records css path bit masks.old masks.new) ⊤ }
 {
     // The names stand in order, so that the next one's row is mostly the next.
     let mut near = 0usize;

@@ -21,7 +21,8 @@ pub fn path_records<'a, A: Allocator>(
     css: Css,
     paths: &Paths,
 ) -> [Option<PathRecord<'a, A>>; 8]
-    ensures { AllByRecursion (λ row. IfSome row (λ r. IsRecordOf config.entry.now.records css r.number r.entry.now)) result }
+    ensures { AllByRecursion
+        (λ row. IfSome row (λ r. IsRecordOf config.entry.now.records css r.number r.entry.now)) result }
 {
     let mut records = [None, None, None, None, None, None, None, None];
     let mut place = 0usize;

@@ -30,7 +30,8 @@ pub fn sees<A: Allocator>(config: &Config<A>, image: Image, set: SetNo, device: 
 
 /// Whether an image sees a device that is there.
 fn sees_device<A: Allocator, R: Reach<A>>(reach: &R, device: &DeviceFields<A>) -> bool
-    ensures { result ≡ model.sees (lookup_of (R.records reach.now)) (R.subsystem reach.now) (R.called reach.now) (device_of device.now) }
+    ensures { result ≡ model.sees (lookup_of (R.records reach.now)) (R.subsystem reach.now) (R.called reach.now)
+        (device_of device.now) }
 {
     is_candidate(device.candidates.as_ref(), reach.name())
         && reaches_units(reach, device.units.as_slice())
@@ -55,7 +56,9 @@ pub fn has_name(names: &[Name], name: Name) -> bool
 
 /// Whether an image reaches one of the paths of these units.
 pub fn reaches_units<A: Allocator, R: Reach<A>>(reach: &R, units: &[UnitNo]) -> bool
-    ensures { result ≡ list_any (model.reaches (lookup_of (R.records reach.now)) (R.subsystem reach.now) (R.called reach.now)) (path_list (lookup_of (R.records reach.now)) (R.subsystem reach.now) units.now) }
+    ensures { result ≡ list_any
+        (model.reaches (lookup_of (R.records reach.now)) (R.subsystem reach.now) (R.called reach.now))
+        (path_list (lookup_of (R.records reach.now)) (R.subsystem reach.now) units.now) }
 {
     for unit in units {
         if reaches_any(reach, find_paths(reach.config(), *unit)) {
@@ -67,7 +70,9 @@ pub fn reaches_units<A: Allocator, R: Reach<A>>(reach: &R, units: &[UnitNo]) -> 
 
 /// Whether an image reaches one of these paths that are in its channel subsystem.
 fn reaches_any<A: Allocator, R: Reach<A>>(reach: &R, paths: &[CssPath]) -> bool
-    ensures { result ≡ list_any (model.reaches (lookup_of (R.records reach.now)) (R.subsystem reach.now) (R.called reach.now)) (paths_in (R.subsystem reach.now) paths.now) }
+    ensures { result ≡ list_any
+        (model.reaches (lookup_of (R.records reach.now)) (R.subsystem reach.now) (R.called reach.now))
+        (paths_in (R.subsystem reach.now) paths.now) }
 {
     let css = reach.css();
     for path in paths {

@@ -53,7 +53,8 @@ pub fn view_by<A: Allocator, R: Reach<A>>(
 ) -> Option<View>
     requires units { by.now.units.now ≡ device.now.units }
     requires seen { IsSeenBy (lookup_of (R.records reach.now)) (R.subsystem reach.now) (R.called reach.now) by.now }
-    ensures { result ≡ model.view_if_seen (lookup_of (R.records reach.now)) (R.subsystem reach.now) (R.called reach.now) (device_of device.now) }
+    ensures { result ≡ model.view_if_seen (lookup_of (R.records reach.now)) (R.subsystem reach.now)
+        (R.called reach.now) (device_of device.now) }
 {
     if !is_candidate(device.candidates.as_ref(), reach.name()) {
         return None;

@@ -41,7 +41,8 @@ pub fn image_view<A: Allocator>(
     set: SetNo,
     device: DevNo,
 ) -> Option<View>
-    ensures { result ≡ model.image_view (lookup_of config.now.records) (record { css = image.css; mif = image.mif; name = name }) set device }
+    ensures { result ≡ model.image_view (lookup_of config.now.records)
+        (record { css = image.css; mif = image.mif; name = name }) set device }
 {
     named_view(config, image.css, name, set, device)
 }
@@ -54,7 +55,8 @@ fn named_view<A: Allocator>(
     set: SetNo,
     device: DevNo,
 ) -> Option<View>
-    ensures { result ≡ option_and_then (model.view_if_seen (lookup_of config.now.records) css name) (model.device_record (lookup_of config.now.records) set device) }
+    ensures { result ≡ option_and_then (model.view_if_seen (lookup_of config.now.records) css name)
+        (model.device_record (lookup_of config.now.records) set device) }
 {
     let fields = find_device(config, set, device)?;
     view_if_seen(&ImageRecords::new(config, css, name), fields)
@@ -62,7 +64,8 @@ fn named_view<A: Allocator>(
 
 /// The view of a device, if the image sees it.
 fn view_if_seen<A: Allocator, R: Reach<A>>(reach: &R, device: &DeviceFields<A>) -> Option<View>
-    ensures { result ≡ model.view_if_seen (lookup_of (R.records reach.now)) (R.subsystem reach.now) (R.called reach.now) (device_of device.now) }
+    ensures { result ≡ model.view_if_seen (lookup_of (R.records reach.now)) (R.subsystem reach.now)
+        (R.called reach.now) (device_of device.now) }
 {
     if !is_candidate(device.candidates.as_ref(), reach.name()) {
         return None;

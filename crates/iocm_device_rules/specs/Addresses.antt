@@ -27,11 +27,13 @@ met_with (Some a) met b = (b == a) || met b
 -- of some keys the first whose address was met, or is that of a key before it
 abbrev pub first_clash : (Key → Option ℕ) → (ℕ → Bool) → List Key → Option Key
 first_clash address met [] = None
-first_clash address met (k ∷ ks) = if is_met met (address k) then Some k else first_clash address (met_with (address k) met) ks
+first_clash address met (k ∷ ks) =
+    if is_met met (address k) then Some k else first_clash address (met_with (address k) met) ks
 
 -- of the users of a unit the first with the address of one before it
 abbrev pub clash_on : Lookup → Namings → ℕ → Option Key
-clash_on c index number = first_clash (λ k. address_in (c k)) (λ a. false) (users_in (thing.Record (key.Unit number)) index)
+clash_on c index number =
+    first_clash (λ k. address_in (c k)) (λ a. false) (users_in (thing.Record (key.Unit number)) index)
 
 -- that of a unit record
 abbrev pub clash_of : Lookup → Namings → Rec → Option Key

@@ -19,8 +19,10 @@ IsOnlyAt keys c is_so = (key : Key) (r : Rec) → lookup_of c key ≡ Some r →
 
 -- of two devices with one unit address and a common unit one is at these keys
 abbrev pub AreClashesAt : List Key → Configuration → Type 0
-AreClashesAt keys c = (key other : Key) (d e : DeviceRecord) → lookup_of c key ≡ Some (device d) → lookup_of c other ≡ Some (device e)
-    → (stands_before (device e) (device d) && answers_on d.unit_address d.units (device e)) ≡ true → (is_one_of key keys || is_one_of other keys) ≡ true
+AreClashesAt keys c = (key other : Key) (d e : DeviceRecord) → lookup_of c key ≡ Some (device d)
+    → lookup_of c other ≡ Some (device e)
+    → (stands_before (device e) (device d) && answers_on d.unit_address d.units (device e)) ≡ true
+    → (is_one_of key keys || is_one_of other keys) ≡ true
 
 -- whether the record at a key is so
 abbrev pub is_so_at : (Rec → Bool) → Lookup → Key → Bool

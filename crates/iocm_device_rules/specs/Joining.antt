@@ -1,6 +1,7 @@
 -- The path lists of a device, one for each channel subsystem, while the paths of its units are
 -- joined.
-use Rattle.std.specs.Prelude.{◌≡◌, ℕ, ◌<◌, ◌++◌, ◌||◌, nat_lt, Bool, true, false, List, [], length, get_or, Option, Some}
+use Rattle.std.specs.Prelude.{◌≡◌, ℕ, ◌<◌, ◌++◌, ◌||◌, nat_lt, Bool, true, false}
+use Rattle.std.specs.Prelude.{List, [], length, get_or, Option, Some}
 use Rattle.iocm_types.specs.declared.css_path.CssPath.{CssPath}
 use Rattle.iocm_model.specs.Machine.Record.{Rec, unit}
 use Rattle.iocm_model.specs.Rules.EachRule.{has_twice}

@@ -1,5 +1,4 @@
 ghost use Rattle.std.specs.Prelude.{◌≡◌, ℕ, false, None, Some, get_or};
-ghost use Rattle.std.specs.Option.{option_map};
 ghost use Rattle.std.specs.Ordering.{is_lt};
 ghost use Rattle.iocm_types.specs.declared.key.Key.TheVariants as key;
 ghost use Rattle.iocm_types.specs.declared.named.Named.TheVariants as thing;
@@ -7,10 +6,10 @@ ghost use Rattle.iocm_types.specs.Key.{key_cmp};
 ghost use Rattle.iocm_types.specs.Naming.{naming_cmp};
 ghost use Rattle.iocm_table.specs.Slots.{rows};
 ghost use Rattle.iocm_index.specs.Namings.{users_in};
-ghost use Rattle.iocm_model.specs.Machine.Record.{key_of};
 ghost use Rattle.iocm_model.specs.Machine.Configuration.{lookup_of, records_of};
 ghost use Rattle.iocm_model.specs.Rules.EachRule.{breaks_v8, breaks_v10};
 ghost use Rattle.iocm_model.specs.Rules.FirstBreach.{first_record};
+ghost use Rattle.iocm_lookup.specs.First.{first_key};
 ghost use Rattle.iocm_lookup.specs.Indexed.{IsIndexOf};
 ghost use Rattle.iocm_device_rules.specs.Addresses as addresses;
 
@@ -33,7 +32,7 @@ pub fn first_address_twice<A: Allocator, I: Allocator>(
 ) -> Option<Key>
     requires index { IsIndexOf config.now.records index.now }
     requires units { first_record (breaks_v8 config.now.records) (records_of config.now.records) ≡ None }
-    ensures { result ≡ option_map key_of (first_record (breaks_v10 config.now.records) (records_of config.now.records)) }
+    ensures { result ≡ first_key (breaks_v10 config.now.records) config.now.records }
 {
     config.has_own_keys();
     least_clash(config, index)
@@ -41,7 +40,10 @@ pub fn first_address_twice<A: Allocator, I: Allocator>(
 
 /// The least of the devices that have, on one of their units, the address of one before them.
 fn least_clash<A: Allocator, I: Allocator>(config: &Config<A>, index: &Index<I>) -> Option<Key>
-    ensures { result ≡ addresses.least_of (addresses.clash_of (lookup_of config.now.records) (rows naming_cmp index.now)) None (records_of config.now.records) }
+    ensures { result ≡ addresses.least_of
+        (addresses.clash_of (lookup_of config.now.records) (rows naming_cmp index.now))
+        None
+        (records_of config.now.records) }
 {
     let mut least = None;
     for (_, entry) in config.walk() {

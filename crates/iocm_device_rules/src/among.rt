@@ -1,11 +1,10 @@
 ghost use Rattle.std.specs.Prelude.{◌≡◌, true, None, Some};
-ghost use Rattle.std.specs.Option.{option_map, ForSome};
+ghost use Rattle.std.specs.Option.{ForSome};
 ghost use Rattle.iocm_types.specs.Naming.{naming_cmp};
 ghost use Rattle.iocm_table.specs.Slots.{rows};
-ghost use Rattle.iocm_model.specs.Machine.Record.{key_of};
-ghost use Rattle.iocm_model.specs.Machine.Configuration.{lookup_of, records_of};
+ghost use Rattle.iocm_model.specs.Machine.Configuration.{lookup_of};
 ghost use Rattle.iocm_model.specs.Rules.EachRule.{breaks_v10};
-ghost use Rattle.iocm_model.specs.Rules.FirstBreach.{first_record};
+ghost use Rattle.iocm_lookup.specs.First.{first_key};
 ghost use Rattle.iocm_lookup.specs.Indexed.{IsIndexOf};
 ghost use Rattle.iocm_device_rules.specs.Addresses as addresses;
 ghost use Rattle.iocm_device_rules.specs.Among as among;
@@ -29,7 +28,7 @@ pub fn first_wanted_among<A: Allocator, W: Wanted<A>>(
 ) -> Option<Key>
     requires fits { W.fits wanted.now config.now.records }
     requires only { among.IsOnlyAt keys.now config.now.records (W.wants wanted.now config.now.records) }
-    ensures { result ≡ option_map key_of (first_record (W.wants wanted.now config.now.records) (records_of config.now.records)) }
+    ensures { result ≡ first_key (W.wants wanted.now config.now.records) config.now.records }
 {
     config.has_own_keys();
     least_wanted(config, wanted, keys)
@@ -43,7 +42,8 @@ fn least_wanted<A: Allocator, W: Wanted<A>>(
     keys: &[Key],
 ) -> Option<Key>
     requires { W.fits wanted.now config.now.records }
-    ensures { result ≡ addresses.least_of (among.key_if (W.wants wanted.now config.now.records) (lookup_of config.now.records)) None keys.now }
+    ensures { result ≡ addresses.least_of
+        (among.key_if (W.wants wanted.now config.now.records) (lookup_of config.now.records)) None keys.now }
 {
     let mut least = None;
     for key in keys {
@@ -91,7 +91,7 @@ pub fn first_address_twice_among<A: Allocator, I: Allocator>(
 ) -> Option<Key>
     requires index { IsIndexOf config.now.records index.now }
     requires clashes { among.AreClashesAt keys.now config.now.records }
-    ensures { result ≡ option_map key_of (first_record (breaks_v10 config.now.records) (records_of config.now.records)) }
+    ensures { result ≡ first_key (breaks_v10 config.now.records) config.now.records }
 {
     config.has_own_keys();
     least_clash_among(config, index, keys)
@@ -105,7 +105,8 @@ fn least_clash_among<A: Allocator, I: Allocator>(
     index: &Index<I>,
     keys: &[Key],
 ) -> Option<Key>
-    ensures { result ≡ addresses.least_of (addresses.clash_at (lookup_of config.now.records) (rows naming_cmp index.now)) None keys.now }
+    ensures { result ≡ addresses.least_of
+        (addresses.clash_at (lookup_of config.now.records) (rows naming_cmp index.now)) None keys.now }
 {
     let mut least = None;
     let mut last = None;
@@ -125,8 +126,11 @@ fn lesser_with<A: Allocator, I: Allocator>(
     last: Option<&Key>,
     key: &Key,
 ) -> Option<Key>
-    requires { ForSome last (λ other. addresses.lesser least (addresses.clash_at (lookup_of config.now.records) (rows naming_cmp index.now) other.now) ≡ least) }
-    ensures { result ≡ addresses.lesser least (addresses.clash_at (lookup_of config.now.records) (rows naming_cmp index.now) key.now) }
+    requires { ForSome last (λ other.
+        addresses.lesser least (addresses.clash_at (lookup_of config.now.records) (rows naming_cmp index.now) other.now)
+        ≡ least) }
+    ensures { result ≡ addresses.lesser least
+        (addresses.clash_at (lookup_of config.now.records) (rows naming_cmp index.now) key.now) }
 {
     if let Some(other) = last {
         if is_on_its_units(config, key, other) {
@@ -138,7 +142,9 @@ fn lesser_with<A: Allocator, I: Allocator>(
 
 /// Whether the devices at two keys are on the same units.
 fn is_on_its_units<A: Allocator>(config: &Config<A>, key: &Key, other: &Key) -> bool
-    ensures { result ≡ true → addresses.units_in (lookup_of config.now.records key.now) ≡ addresses.units_in (lookup_of config.now.records other.now) }
+    ensures { result ≡ true
+        → addresses.units_in (lookup_of config.now.records key.now)
+        ≡ addresses.units_in (lookup_of config.now.records other.now) }
 {
     match (config.get(key), config.get(other)) {
         (Some(entry), Some(last)) => are_on_same_units(entry, last),
@@ -177,7 +183,8 @@ fn clash_on_units<A: Allocator, I: Allocator>(
     index: &Index<I>,
     units: &[UnitNo],
 ) -> Option<Key>
-    ensures { result ≡ addresses.least_of (addresses.clash_on (lookup_of config.now.records) (rows naming_cmp index.now)) None units.now }
+    ensures { result ≡ addresses.least_of
+        (addresses.clash_on (lookup_of config.now.records) (rows naming_cmp index.now)) None units.now }
 {
     let mut least = None;
     for unit in units {

@@ -30,7 +30,8 @@ impl<A: Allocator> Wanted<A> for WrongUnits {
 
     ghost place = { 6 };
 
-    ghost of_kind = { λ s c. only_devices (breaks_v8 c) (λ _. refl) (λ _. refl) (λ _. refl) (λ _. refl) (λ _. refl) (λ _. refl) (λ _. refl) };
+    ghost of_kind = { λ s c. only_devices (breaks_v8 c)
+        (λ _. refl) (λ _. refl) (λ _. refl) (λ _. refl) (λ _. refl) (λ _. refl) (λ _. refl) };
 
     fn kind(&self) -> Kind {
         Kind::Device
@@ -113,7 +114,8 @@ impl<A: Allocator> Wanted<A> for AddressNotHeld {
 
     ghost place = { 6 };
 
-    ghost of_kind = { λ s c. only_devices (breaks_v9 c) (λ _. refl) (λ _. refl) (λ _. refl) (λ _. refl) (λ _. refl) (λ _. refl) (λ _. refl) };
+    ghost of_kind = { λ s c. only_devices (breaks_v9 c)
+        (λ _. refl) (λ _. refl) (λ _. refl) (λ _. refl) (λ _. refl) (λ _. refl) (λ _. refl) };
 
     fn kind(&self) -> Kind {
         Kind::Device
@@ -132,7 +134,8 @@ impl<A: Allocator> Wanted<A> for AddressNotHeld {
 /// Whether one of these units that is there lacks an address.
 #[tactic(auto, using(iocm_types::proofs::Any::any_steps))]
 fn is_address_lacked<A: Allocator>(config: &Config<A>, address: u8, units: &[UnitNo]) -> bool
-    ensures { result ≡ list_any (λ number. model.lacks_address address (lookup_of config.now.records (key.Unit number))) units.now }
+    ensures { result ≡ list_any
+        (λ number. model.lacks_address address (lookup_of config.now.records (key.Unit number))) units.now }
 {
     for unit in units {
         if lacks_address(config, address, *unit) {
@@ -177,7 +180,8 @@ impl<A: Allocator> Wanted<A> for CandidateOfNoImage {
 
     ghost place = { 6 };
 
-    ghost of_kind = { λ s c. only_devices (breaks_v12 c) (λ _. refl) (λ _. refl) (λ _. refl) (λ _. refl) (λ _. refl) (λ _. refl) (λ _. refl) };
+    ghost of_kind = { λ s c. only_devices (breaks_v12 c)
+        (λ _. refl) (λ _. refl) (λ _. refl) (λ _. refl) (λ _. refl) (λ _. refl) (λ _. refl) };
 
     fn kind(&self) -> Kind {
         Kind::Device

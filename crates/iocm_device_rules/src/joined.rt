@@ -30,7 +30,8 @@ impl<A: Allocator> Wanted<A> for WrongPathList {
 
     ghost place = { 6 };
 
-    ghost of_kind = { λ s c. only_devices (breaks_v11 c) (λ _. refl) (λ _. refl) (λ _. refl) (λ _. refl) (λ _. refl) (λ _. refl) (λ _. refl) };
+    ghost of_kind = { λ s c. only_devices (breaks_v11 c)
+        (λ _. refl) (λ _. refl) (λ _. refl) (λ _. refl) (λ _. refl) (λ _. refl) (λ _. refl) };
 
     fn kind(&self) -> Kind {
         Kind::Device
@@ -51,7 +52,8 @@ impl<A: Allocator> Wanted<A> for WrongPathList {
 /// Whether in some channel subsystem the path list of a device on these units is over eight or has
 /// a path twice. Each unit is looked up once.
 fn is_list_wrong<A: Allocator>(config: &Config<A>, units: &[UnitNo]) -> bool
-    ensures { result ≡ list_any (λ css. is_wrong_list (path_list (lookup_of config.now.records) css units.now)) numbering.subsystems }
+    ensures { result ≡ list_any (λ css. is_wrong_list (path_list (lookup_of config.now.records) css units.now))
+        numbering.subsystems }
 {
     let mut lists = no_paths();
     for unit in units {

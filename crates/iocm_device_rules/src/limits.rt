@@ -1,13 +1,10 @@
-ghost use Rattle.std.specs.Prelude.{◌≡◌, false, nat_le, Some};
-ghost use Rattle.std.specs.FinMap.{get, entries};
+ghost use Rattle.std.specs.Prelude.{◌≡◌, Some};
+ghost use Rattle.std.specs.FinMap.{entries};
 ghost use Rattle.std.specs.List.{list_any};
-ghost use Rattle.std.specs.Option.{option_map, option_map_or};
-ghost use Rattle.iocm_types.specs.declared.key.Key.TheVariants as key;
-ghost use Rattle.iocm_model.specs.Machine.Configuration.{lookup_of, records_of};
+ghost use Rattle.iocm_model.specs.Machine.Configuration.{lookup_of};
 ghost use Rattle.iocm_model.specs.Machine.Numbering as numbering;
-ghost use Rattle.iocm_model.specs.Machine.Record.{key_of};
 ghost use Rattle.iocm_model.specs.Rules.EachRule as model;
-ghost use Rattle.iocm_model.specs.Rules.FirstBreach.{first_record};
+ghost use Rattle.iocm_lookup.specs.First.{first_key};
 ghost use Rattle.iocm_device_rules.specs.Past as past;
 
 use iocm_config::Config;
@@ -36,7 +33,8 @@ impl<'a, A: Allocator, N: Allocator> Wanted<A> for NumberPastLimit<'a, N> {
 
     ghost place = { 6 };
 
-    ghost of_kind = { λ s c. only_devices (breaks_v13 c s.numbers.now.numbers) (λ _. refl) (λ _. refl) (λ _. refl) (λ _. refl) (λ _. refl) (λ _. refl) (λ _. refl) };
+    ghost of_kind = { λ s c. only_devices (breaks_v13 c s.numbers.now.numbers)
+        (λ _. refl) (λ _. refl) (λ _. refl) (λ _. refl) (λ _. refl) (λ _. refl) (λ _. refl) };
 
     fn kind(&self) -> Kind {
         Kind::Device
@@ -59,7 +57,7 @@ pub fn first_past_limit<A: Allocator, N: Allocator>(
     config: &Config<A>,
     numbers: &Numbers<N>,
 ) -> Option<Key>
-    ensures { result ≡ option_map key_of (first_record (model.breaks_v13 config.now.records numbers.now.numbers) (records_of config.now.records)) }
+    ensures { result ≡ first_key (model.breaks_v13 config.now.records numbers.now.numbers) config.now.records }
 {
     if !is_any_past_limit(config, numbers) {
         return None;
@@ -69,7 +67,8 @@ pub fn first_past_limit<A: Allocator, N: Allocator>(
 
 /// Whether a number that is given away is at or above the limit of its channel subsystem and set.
 fn is_any_past_limit<A: Allocator, N: Allocator>(config: &Config<A>, numbers: &Numbers<N>) -> bool
-    ensures { result ≡ list_any (past.is_past (lookup_of config.now.records)) (entries (numbering.cells_of numbers.now.numbers)) }
+    ensures { result ≡ list_any (past.is_past (lookup_of config.now.records))
+        (entries (numbering.cells_of numbers.now.numbers)) }
 {
     let mut last = first_limit(config);
     for (cell, _) in numbers.cells() {
@@ -91,7 +90,7 @@ pub(crate) struct SetLimit {
 
 /// The limit of the first set of the first channel subsystem.
 pub(crate) fn first_limit<A: Allocator>(config: &Config<A>) -> SetLimit
-    ensures { result.limit ≡ model.limit_or_default result.set (lookup_of config.now.records (key.Limit result.css result.set)) }
+    ensures { result.limit ≡ past.limit_there (lookup_of config.now.records) result.css result.set }
 {
     SetLimit {
         css: Css::FIRST,
@@ -107,10 +106,10 @@ pub(crate) fn limit_of_cell<A: Allocator>(
     last: &SetLimit,
     cell: &NumberCell,
 ) -> SetLimit
-    requires { last.now.limit ≡ model.limit_or_default last.now.set (lookup_of config.now.records (key.Limit last.now.css last.now.set)) }
+    requires { last.now.limit ≡ past.limit_there (lookup_of config.now.records) last.now.css last.now.set }
     ensures css { result.css ≡ cell.now.css }
     ensures set { result.set ≡ cell.now.set }
-    ensures limit { result.limit ≡ model.limit_or_default cell.now.set (lookup_of config.now.records (key.Limit cell.now.css cell.now.set)) }
+    ensures limit { result.limit ≡ past.limit_there (lookup_of config.now.records) cell.now.css cell.now.set }
 {
     let limit = if cell.css == last.css && cell.set == last.set {
         last.limit
@@ -132,7 +131,8 @@ fn is_past_limit<A: Allocator, N: Allocator>(
     set: SetNo,
     device: DevNo,
 ) -> bool
-    ensures { result ≡ list_any (λ css. option_map_or (nat_le (model.limit_or_default set (lookup_of config.now.records (key.Limit css set)))) (get numbers.now.numbers (record { css = css; set = set; device = device })) false) numbering.subsystems }
+    ensures { result ≡ list_any
+        (past.is_device_past (lookup_of config.now.records) numbers.now.numbers set device) numbering.subsystems }
 {
     let all = subsystems();
     for css in all.as_slice() {
@@ -151,7 +151,7 @@ fn is_past_limit_in<A: Allocator, N: Allocator>(
     set: SetNo,
     device: DevNo,
 ) -> bool
-    ensures { result ≡ option_map_or (nat_le (model.limit_or_default set (lookup_of config.now.records (key.Limit css set)))) (get numbers.now.numbers (record { css = css; set = set; device = device })) false }
+    ensures { result ≡ past.is_device_past (lookup_of config.now.records) numbers.now.numbers set device css }
 {
     match numbers.number_of(Place { css, set, device }) {
         Some(number) => limit_in(config, css, set) <= number,
@@ -161,7 +161,7 @@ fn is_past_limit_in<A: Allocator, N: Allocator>(
 
 /// Below which number the subchannels of a set stay in a channel subsystem.
 fn limit_in<A: Allocator>(config: &Config<A>, css: Css, set: SetNo) -> u16
-    ensures { result ≡ model.limit_or_default set (lookup_of config.now.records (key.Limit css set)) }
+    ensures { result ≡ past.limit_there (lookup_of config.now.records) css set }
 {
     match config.get(&Key::Limit(css, set)) {
         Some(entry) => limit_of(entry, set),

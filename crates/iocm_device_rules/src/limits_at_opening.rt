@@ -1,11 +1,9 @@
 ghost use Rattle.std.specs.Prelude.{◌≡◌, IfOk};
 ghost use Rattle.std.specs.List.{list_any};
-ghost use Rattle.std.specs.Option.{option_map};
-ghost use Rattle.iocm_model.specs.Machine.Configuration.{lookup_of, records_of};
+ghost use Rattle.iocm_model.specs.Machine.Configuration.{lookup_of};
 ghost use Rattle.iocm_model.specs.Machine.Numbering as numbering;
-ghost use Rattle.iocm_model.specs.Machine.Record.{key_of};
 ghost use Rattle.iocm_model.specs.Rules.EachRule as model;
-ghost use Rattle.iocm_model.specs.Rules.FirstBreach.{first_record};
+ghost use Rattle.iocm_lookup.specs.First.{first_key};
 ghost use Rattle.iocm_numbers.specs.Opening.{rows_at_opening};
 ghost use Rattle.iocm_device_rules.specs.Past as past;
 
@@ -24,7 +22,8 @@ pub fn first_past_limit_at_opening<A: Allocator, B: Allocator + Copy>(
     alloc: B,
     config: &Config<A>,
 ) -> Result<Option<Key>, AllocError>
-    ensures { IfOk result (λ past. past ≡ option_map key_of (first_record (model.breaks_v13 config.now.records (numbering.opening config.now.records)) (records_of config.now.records))) }
+    ensures { IfOk result (λ past. past ≡ first_key
+        (model.breaks_v13 config.now.records (numbering.opening config.now.records)) config.now.records) }
 {
     if !is_any_past_at_opening(alloc, config)? {
         return Ok(None);
@@ -38,7 +37,8 @@ fn is_any_past_at_opening<A: Allocator, B: Allocator + Copy>(
     alloc: B,
     config: &Config<A>,
 ) -> Result<bool, AllocError>
-    ensures { IfOk result (λ answer. answer ≡ list_any (past.is_row_past (lookup_of config.now.records)) (rows_at_opening config.now.records)) }
+    ensures { IfOk result (λ answer. answer
+        ≡ list_any (past.is_row_past (lookup_of config.now.records)) (rows_at_opening config.now.records)) }
 {
     let rows = opening_rows(alloc, config)?;
     Ok(is_any_row_past(config, rows.as_slice()))

@@ -28,7 +28,14 @@ css_path number = record { css = 0; path = number }
 
 -- one of the four devices, which have the last digits of their numbers as unit addresses
 abbrev pub device_record : ℕ → DeviceRecord
-device_record place = record { set = 0; number = 0x1000 + place; units = 0x1000 ∷ []; unit_address = place; candidates = None; carried = [] }
+device_record place = record {
+  set = 0;
+  number = 0x1000 + place;
+  units = 0x1000 ∷ [];
+  unit_address = place;
+  candidates = None;
+  carried = [];
+}
 
 abbrev pub online_record : ℕ → List ℕ → Rec
 online_record number name = online (record { css = 0; path = number; name = name })
@@ -38,7 +45,14 @@ abbrev pub deck_with : List (List ℕ) → List ℕ → List Rec
 deck_with candidates paths =
     image (record { css = 0; mif = 1; name = lpa }) ∷ image (record { css = 0; mif = 2; name = lpb })
     ∷ path_record 0x50 (lpa ∷ lpb ∷ []) (lpa ∷ lpb ∷ []) ∷ path_record 0x51 (lpa ∷ []) candidates
-    ∷ unit (record { number = 0x1000; paths = map css_path paths; ranges = record { start = 0; count = 16 } ∷ []; links = []; cuadd = None; carried = [] })
+    ∷ unit (record {
+      number = 0x1000;
+      paths = map css_path paths;
+      ranges = record { start = 0; count = 16 } ∷ [];
+      links = [];
+      cuadd = None;
+      carried = [];
+    })
     ∷ device (device_record 0) ∷ device (device_record 1) ∷ device (device_record 2) ∷ device (device_record 3)
     ∷ online_record 0x50 lpa ∷ online_record 0x50 lpb ∷ online_record 0x51 lpa ∷ []
 
@@ -70,7 +84,14 @@ unit_on number paths cuadd = unit (record {
 -- a device of set 0 on unit 1000 with this unit address
 abbrev pub device_on_1000 : ℕ → ℕ → Rec
 device_on_1000 number address =
-    device (record { set = 0; number = number; units = 0x1000 ∷ []; unit_address = address; candidates = None; carried = [] })
+    device (record {
+      set = 0;
+      number = number;
+      units = 0x1000 ∷ [];
+      unit_address = address;
+      candidates = None;
+      carried = [];
+    })
 
 -- the key of a device of set 0
 abbrev pub device_key : ℕ → Key

@@ -13,7 +13,16 @@ use Rattle.iocm_examples.specs.BaseDeck.{base}
 
 -- the example deck with a device 2000 of this set
 abbrev pub deck_of_set : ℕ → List Rec
-deck_of_set set = device (record { set = set; number = 0x2000; units = 0x1000 ∷ []; unit_address = 4; candidates = None; carried = [] }) ∷ base
+deck_of_set set =
+    device (record {
+      set = set;
+      number = 0x2000;
+      units = 0x1000 ∷ [];
+      unit_address = 4;
+      candidates = None;
+      carried = [];
+    })
+    ∷ base
 
 -- the device alone has a number, this one
 abbrev pub number_of_2000 : ℕ → ℕ → List (Place × ℕ)

@@ -26,7 +26,8 @@ AnInverse = inverse_of delete_1001 base_opened ≡ record {
 }
 
 -- the cells that an effect writes, with their values in order
-pub record Writes (f : Effect) (records : List (Key × Option Rec)) (numbers : List (NumberCell × Option ℕ)) (lives : List (SubId × Option Live))
+pub record Writes (f : Effect) (records : List (Key × Option Rec)) (numbers : List (NumberCell × Option ℕ))
+    (lives : List (SubId × Option Live))
     : Type 0 where
   pub of_records : entries f.records ≡ records
   pub of_numbers : entries f.numbers ≡ numbers
@@ -36,9 +37,11 @@ pub record Writes (f : Effect) (records : List (Key × Option Rec)) (numbers : L
 -- it; a device that is deleted takes its record, its number and two live records away; and what an
 -- effect writes is what its edits do
 pub record Effects : Type 0 where
-  pub online : Writes (effect_of (online_51 ∷ []) base_opened) ((key.Online 0 0x51 lpb, Some (online_record 0x51 lpb)) ∷ []) []
+  pub online : Writes (effect_of (online_51 ∷ []) base_opened)
+      ((key.Online 0 0x51 lpb, Some (online_record 0x51 lpb)) ∷ []) []
       ((subchannel 2 0, Some (fresh 0xC0)) ∷ (subchannel 2 1, Some (fresh 0xC0)) ∷ (subchannel 2 2, Some (fresh 0xC0))
       ∷ (subchannel 2 3, Some (fresh 0xC0)) ∷ [])
   pub deleted : Writes (effect_of (delete_1001 ∷ []) base_opened) ((device_key 0x1001, None) ∷ [])
       ((record { css = 0; set = 0; number = 1 }, None) ∷ []) ((subchannel 1 1, None) ∷ (subchannel 2 1, None) ∷ [])
-  pub replayed : with_effect (effect_of one_for_another base_opened) base_opened ≡ state_after_all one_for_another base_opened
+  pub replayed : with_effect (effect_of one_for_another base_opened) base_opened
+      ≡ state_after_all one_for_another base_opened

@@ -12,7 +12,15 @@ use Rattle.iocm_examples.specs.Orders.{seen_by_lpa, enabled_in, Does, Refuses}
 -- STORE shows these bits, whatever the phase, and leaves it
 abbrev pub Stores : Phase → ℕ → Type 0
 Stores phase bits = Does seen_by_lpa (enabled_in phase) Store
-    (Stored (record { device = 0x1002; pim = 0xC0; pam = 0xC0; lpm = 0x80; enabled = true; parm = 7; bits = record { 0 = bits } }))
+    (Stored (record {
+      device = 0x1002;
+      pim = 0xC0;
+      pam = 0xC0;
+      lpm = 0x80;
+      enabled = true;
+      parm = 7;
+      bits = record { 0 = bits };
+    }))
     (enabled_in phase)
 
 -- TEST gives these bits of a status that is pending, and takes it

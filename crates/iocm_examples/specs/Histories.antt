@@ -49,7 +49,8 @@ after n script = state_at base_opened (history_of (take n script))
 
 -- the marks of the entries after the first calls of a script, in order
 abbrev pub marks_after : ℕ → Script → List Mark
-marks_after n script = reverse (map (λ (l : MarkedEntry). l.mark) (marked_entries base_opened (history_of (take n script))))
+marks_after n script =
+    reverse (map (λ (l : MarkedEntry). l.mark) (marked_entries base_opened (history_of (take n script))))
 
 -- the number of a device of set 0 in channel subsystem 0
 abbrev pub number_of : ℕ → State → Option ℕ
@@ -87,7 +88,15 @@ refused_at_root rule place = Refused (at_node 0 (refusal_at rule place))
 -- the enabled bit and the parameter
 abbrev pub stored : ℕ → ℕ → ℕ → Bool → ℕ → Answer
 stored device pam lpm enabled parm =
-    Io (Stored (record { device = device; pim = 0xC0; pam = pam; lpm = lpm; enabled = enabled; parm = parm; bits = record { 0 = 0 } }))
+    Io (Stored (record {
+      device = device;
+      pim = 0xC0;
+      pam = pam;
+      lpm = lpm;
+      enabled = enabled;
+      parm = parm;
+      bits = record { 0 = 0 };
+    }))
 
 -- a device that comes in
 abbrev pub add_2000 : Edit
@@ -154,7 +163,8 @@ steps_elsewhere =
 pub record StepsElsewhere : Type 0 where
   pub answers : Answers steps_elsewhere
   pub marks : marks_after 6 steps_elsewhere ≡ kept ∷ kept ∷ undone_with 1 ∷ kept ∷ kept ∷ kept ∷ []
-  pub live : get (after 6 steps_elsewhere).lives (subchannel 1 2) ≡ Some (record { enabled = true; lpm = 0x80; parm = 7; phase = Idle })
+  pub live : get (after 6 steps_elsewhere).lives (subchannel 1 2)
+      ≡ Some (record { enabled = true; lpm = 0x80; parm = 7; phase = Idle })
 
 -- the device of a subchannel with status pending is not deleted until TEST takes the status
 abbrev pub pending_status : Script
@@ -334,5 +344,7 @@ pub record UndoneInTurn : Type 0 where
   pub answers : Answers undone_in_turn
   pub both_undone : marks_after 7 undone_in_turn
       ≡ undone_with 1 ∷ undone_with 1 ∷ undone_with 2 ∷ undone_with 2 ∷ kept ∷ undone_with 1 ∷ kept ∷ []
-  pub first_redone : marks_after 8 undone_in_turn ≡ kept ∷ kept ∷ undone_with 2 ∷ undone_with 2 ∷ kept ∷ kept ∷ kept ∷ kept ∷ []
-  pub both_redone : marks_after 10 undone_in_turn ≡ kept ∷ kept ∷ kept ∷ kept ∷ kept ∷ lost ∷ kept ∷ kept ∷ lost ∷ kept ∷ []
+  pub first_redone : marks_after 8 undone_in_turn
+      ≡ kept ∷ kept ∷ undone_with 2 ∷ undone_with 2 ∷ kept ∷ kept ∷ kept ∷ kept ∷ []
+  pub both_redone : marks_after 10 undone_in_turn
+      ≡ kept ∷ kept ∷ kept ∷ kept ∷ kept ∷ lost ∷ kept ∷ kept ∷ lost ∷ kept ∷ []

@@ -19,7 +19,9 @@ eight_paths = 0x50 ∷ 0x51 ∷ 0x52 ∷ 0x53 ∷ 0x54 ∷ 0x55 ∷ 0x56 ∷ 0x5
 
 -- a unit on these paths, of which LPB reaches path 58 alone and has it online
 abbrev pub unit_of : List ℕ → List Rec
-unit_of paths = unit_on 0x1000 paths None ∷ map path_of_lpa eight_paths ++ (path_record 0x58 (lpb ∷ []) [] ∷ map online_to_lpa eight_paths)
+unit_of paths =
+    unit_on 0x1000 paths None ∷ map path_of_lpa eight_paths
+    ++ (path_record 0x58 (lpb ∷ []) [] ∷ map online_to_lpa eight_paths)
     ++ (online_record 0x58 lpb ∷ [])
 
 -- what an image sees of device 1000

@@ -17,11 +17,14 @@ use Rattle.iocm_model.specs.Change.Tree.{leaf, row}
 use Rattle.iocm_model.specs.Change.InverseTree.{parts_of}
 use Rattle.iocm_model.specs.Operation.Orders.{fresh}
 use Rattle.iocm_examples.specs.BaseDeck.{base, place_of, css_path, device_on_1000, device_key, subchannel}
-use Rattle.iocm_examples.specs.Edits.{base_opened, modified, Performs, IsRefused, IsTakenBack, add_0fff, one_for_another}
+use Rattle.iocm_examples.specs.Edits.{base_opened, modified, Performs, IsRefused}
+use Rattle.iocm_examples.specs.Edits.{IsTakenBack, add_0fff, one_for_another}
 
 -- at opening the four devices have the numbers 0 to 3 in channel subsystem 0, and none elsewhere
 abbrev pub BaseNumbers : Type 0
-BaseNumbers = entries (opening (configuration_of base)) ≡ place_of 0x1000 0 ∷ place_of 0x1001 1 ∷ place_of 0x1002 2 ∷ place_of 0x1003 3 ∷ []
+BaseNumbers =
+    entries (opening (configuration_of base))
+    ≡ place_of 0x1000 0 ∷ place_of 0x1001 1 ∷ place_of 0x1002 2 ∷ place_of 0x1003 3 ∷ []
 
 -- a device that comes in gets the lowest free number, and the others keep theirs though its device
 -- number is the smallest: in each image one subchannel is new, with a fresh live record
@@ -39,7 +42,8 @@ pub record ANumberIsUsedAgain : Type 0 where
   pub accepted : Performs (row (parts_of one_for_another)) one_for_another base_opened
   pub numbers : entries (state_after_all one_for_another base_opened).numbers
       ≡ place_of 0x1000 0 ∷ place_of 0x1002 2 ∷ place_of 0x1003 3 ∷ place_of 0x2000 1 ∷ []
-  pub altered : altered_between base_opened (state_after_all one_for_another base_opened) ≡ subchannel 1 1 ∷ subchannel 2 1 ∷ []
+  pub altered : altered_between base_opened (state_after_all one_for_another base_opened)
+      ≡ subchannel 1 1 ∷ subchannel 2 1 ∷ []
   pub taken_back : IsTakenBack one_for_another base_opened
 
 -- device 2000 comes in, and these places come along with their numbers
@@ -70,7 +74,15 @@ pub record ANumberComesAlong : Type 0 where
 -- that path, too
 abbrev pub second_subsystem : List Rec
 second_subsystem = image (record { css = 1; mif = 1; name = codes "LPC" })
-    ∷ path (record { css = 1; number = 0x50; kind = Shared; access = codes "LPC" ∷ []; candidates = []; carried = [] }) ∷ base
+    ∷ path (record {
+      css = 1;
+      number = 0x50;
+      kind = Shared;
+      access = codes "LPC" ∷ [];
+      candidates = [];
+      carried = [];
+    })
+    ∷ base
 
 unfoldable pub second_opened : State
 second_opened = opening_state (configuration_of second_subsystem)

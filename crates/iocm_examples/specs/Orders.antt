@@ -11,7 +11,8 @@ use Rattle.iocm_types.specs.declared.order.Io.{Io}
 use Rattle.iocm_types.specs.declared.order.Io.TheVariants.{Code, Status, Stored}
 use Rattle.iocm_types.specs.declared.view.View.{View}
 use Rattle.iocm_types.specs.declared.live.Function.TheVariants as function
-use Rattle.iocm_model.specs.Operation.Orders.{fresh, answer_of, live_after, live_after_device_begin, live_after_device_end}
+use Rattle.iocm_model.specs.Operation.Orders.{fresh, answer_of, live_after, live_after_device_begin}
+use Rattle.iocm_model.specs.Operation.Orders.{live_after_device_end}
 
 -- LPA's view of 1002, and LPB's, to which path 51 isn't available
 abbrev pub seen_by_lpa : View
@@ -42,7 +43,15 @@ pub record AnOperation : Type 0 where
   pub ended : live_after_device_end (enabled_in StartActive) ≡ enabled_in (Pending function.Start)
   pub tested : Does seen_by_lpa (enabled_in (Pending function.Start)) Test (Status (record { 0 = 9 })) (enabled_in Idle)
   pub stored : Does seen_by_lpa (enabled_in Idle) Store
-      (Stored (record { device = 0x1002; pim = 0xC0; pam = 0xC0; lpm = 0x80; enabled = true; parm = 7; bits = record { 0 = 0 } }))
+      (Stored (record {
+        device = 0x1002;
+        pim = 0xC0;
+        pam = 0xC0;
+        lpm = 0x80;
+        enabled = true;
+        parm = 7;
+        bits = record { 0 = 0 };
+      }))
       (enabled_in Idle)
 
 -- an order that isn't accepted gives its condition code and leaves the subchannel as it was

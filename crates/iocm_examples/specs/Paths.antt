@@ -22,12 +22,15 @@ base_enabled = enabled_at (subchannel 2 0) 0x40 base_opened
 -- was, and what START lacked is there
 pub record APathComesOnline : Type 0 where
   pub accepted : Performs (leaf online_51) (online_51 ∷ []) base_enabled
-  pub seen : seen_in (state_after_all (online_51 ∷ []) base_enabled) (subchannel 2 0) ≡ a_view 0x1000 (0x50 ∷ 0x51 ∷ []) 0xC0 0xC0
+  pub seen : seen_in (state_after_all (online_51 ∷ []) base_enabled) (subchannel 2 0)
+      ≡ a_view 0x1000 (0x50 ∷ 0x51 ∷ []) 0xC0 0xC0
   pub altered : (cells_written_by_all (online_51 ∷ []) base_enabled).subchannels
       ≡ subchannel 2 0 ∷ subchannel 2 1 ∷ subchannel 2 2 ∷ subchannel 2 3 ∷ []
   pub live : get (state_after_all (online_51 ∷ []) base_enabled).lives (subchannel 2 0) ≡ Some (enabled_with 0x40)
   pub before : answer_in base_enabled (subchannel 2 0) (order orders.Start) ≡ answers.Io (io.Code 3)
-  pub afterwards : answer_in (state_after_all (online_51 ∷ []) base_enabled) (subchannel 2 0) (order orders.Start) ≡ answers.Io (io.Code 0)
+  pub afterwards :
+      answer_in (state_after_all (online_51 ∷ []) base_enabled) (subchannel 2 0) (order orders.Start)
+      ≡ answers.Io (io.Code 0)
 
 -- live records come along for two subchannels of 1000: LPB's is altered and gets its own, and LPA's
 -- isn't and stays as it was
@@ -40,8 +43,10 @@ online_51_with_lives = record {
 
 pub record LiveRecordsComeAlong : Type 0 where
   pub accepted : Performs (leaf online_51_with_lives) (online_51_with_lives ∷ []) base_opened
-  pub altered : get (state_after_all (online_51_with_lives ∷ []) base_opened).lives (subchannel 2 0) ≡ Some (enabled_with 0x40)
-  pub unaltered : get (state_after_all (online_51_with_lives ∷ []) base_opened).lives (subchannel 1 0) ≡ Some (fresh 0xC0)
+  pub altered : get (state_after_all (online_51_with_lives ∷ []) base_opened).lives (subchannel 2 0)
+      ≡ Some (enabled_with 0x40)
+  pub unaltered : get (state_after_all (online_51_with_lives ∷ []) base_opened).lives (subchannel 1 0)
+      ≡ Some (fresh 0xC0)
 
 -- the unit's paths the other way round
 abbrev pub turned : Edit
@@ -51,6 +56,7 @@ turned = modified (unit_on 0x1000 (0x51 ∷ 0x50 ∷ []) None)
 -- subchannel stays enabled; it has its old mask again where that is taken back
 pub record APathListIsTurned : Type 0 where
   pub accepted : Performs (leaf turned) (turned ∷ []) base_enabled
-  pub seen : seen_in (state_after_all (turned ∷ []) base_enabled) (subchannel 2 0) ≡ a_view 0x1000 (0x51 ∷ 0x50 ∷ []) 0xC0 0x40
+  pub seen : seen_in (state_after_all (turned ∷ []) base_enabled) (subchannel 2 0)
+      ≡ a_view 0x1000 (0x51 ∷ 0x50 ∷ []) 0xC0 0x40
   pub live : get (state_after_all (turned ∷ []) base_enabled).lives (subchannel 2 0) ≡ Some (enabled_with 0xC0)
   pub taken_back : IsTakenBack (turned ∷ []) base_enabled

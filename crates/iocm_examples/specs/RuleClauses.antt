@@ -18,7 +18,15 @@ abbrev pub lpc : List ℕ
 lpc = codes "LPC"
 
 abbrev pub second_path : ℕ → Rec
-second_path number = path (record { css = 1; number = number; kind = Shared; access = lpc ∷ []; candidates = lpc ∷ []; carried = [] })
+second_path number =
+    path (record {
+      css = 1;
+      number = number;
+      kind = Shared;
+      access = lpc ∷ [];
+      candidates = lpc ∷ [];
+      carried = [];
+    })
 
 abbrev pub image_lpc : Rec
 image_lpc = image (record { css = 1; mif = 1; name = lpc })
@@ -44,7 +52,14 @@ online_at_no_path = online_record 0x52 lpa ∷ base
 -- a path of this kind that lists LPA and LPB, and is online to both
 abbrev pub online_to_both : PathKind → List Rec
 online_to_both kind =
-    path (record { css = 0; number = 0x52; kind = kind; access = lpa ∷ lpb ∷ []; candidates = lpa ∷ lpb ∷ []; carried = [] })
+    path (record {
+      css = 0;
+      number = 0x52;
+      kind = kind;
+      access = lpa ∷ lpb ∷ [];
+      candidates = lpa ∷ lpb ∷ [];
+      carried = [];
+    })
     ∷ online_record 0x52 lpa ∷ online_record 0x52 lpb ∷ base
 
 -- V4: of two that are online at a dedicated path the second breaks the rule, and at a shared path
@@ -64,7 +79,8 @@ device_on units = device (record (device_record 0) { units = units }) ∷ base
 abbrev pub five_and : List ℕ → List Rec
 five_and more = device (record (device_record 0) { units = 0x1000 ∷ 0x1001 ∷ [] })
     ∷ unit_on 0x1000 (0x50 ∷ 0x51 ∷ 0x52 ∷ 0x53 ∷ 0x54 ∷ []) None ∷ unit_on 0x1001 more (Some 1)
-    ∷ shared_path 0x52 ∷ shared_path 0x53 ∷ shared_path 0x54 ∷ shared_path 0x55 ∷ shared_path 0x56 ∷ shared_path 0x57 ∷ shared_path 0x58 ∷ base
+    ∷ shared_path 0x52 ∷ shared_path 0x53 ∷ shared_path 0x54 ∷ shared_path 0x55 ∷ shared_path 0x56
+    ∷ shared_path 0x57 ∷ shared_path 0x58 ∷ base
 
 -- V12: device 1000 with a candidate of channel subsystem 1
 abbrev pub candidate_elsewhere : List Rec
@@ -76,13 +92,15 @@ eight = 0x50 ∷ 0x51 ∷ 0x52 ∷ 0x53 ∷ 0x54 ∷ 0x55 ∷ 0x56 ∷ 0x57 ∷ 
 
 abbrev pub eight_in_both : List Rec
 eight_in_both = unit_of_both 0x1000 eight eight None ∷ image_lpc ∷ map second_path eight
-    ++ (shared_path 0x52 ∷ shared_path 0x53 ∷ shared_path 0x54 ∷ shared_path 0x55 ∷ shared_path 0x56 ∷ shared_path 0x57 ∷ base)
+    ++ (shared_path 0x52 ∷ shared_path 0x53 ∷ shared_path 0x54 ∷ shared_path 0x55 ∷ shared_path 0x56
+    ∷ shared_path 0x57 ∷ base)
 
 -- V14: two units that share a path of channel subsystem 1 alone, the first without CUADD and the
 -- second with this
 abbrev pub sharing_elsewhere : Option ℕ → List Rec
 sharing_elsewhere cuadd =
-    unit_of_both 0x1000 (0x50 ∷ 0x51 ∷ []) (0x60 ∷ []) None ∷ unit_of_both 0x1001 [] (0x60 ∷ []) cuadd ∷ image_lpc ∷ second_path 0x60 ∷ base
+    unit_of_both 0x1000 (0x50 ∷ 0x51 ∷ []) (0x60 ∷ []) None ∷ unit_of_both 0x1001 [] (0x60 ∷ []) cuadd
+    ∷ image_lpc ∷ second_path 0x60 ∷ base
 
 -- each is the first rule that is broken
 pub record BrokenByOneClause : Type 0 where

@@ -14,7 +14,8 @@ use Rattle.iocm_model.specs.Machine.Record.{Rec, image, limit, path, unit, devic
 use Rattle.iocm_model.specs.Machine.Configuration.{configuration_of}
 use Rattle.iocm_model.specs.Machine.Numbering.{opening}
 use Rattle.iocm_model.specs.Rules.FirstBreach.{Breach, first_breach}
-use Rattle.iocm_examples.specs.BaseDeck.{lpa, lpb, base, base_without_candidate, path_record, css_path, device_record, online_record, shared_path, unit_on}
+use Rattle.iocm_examples.specs.BaseDeck.{lpa, lpb, base, base_without_candidate, path_record, css_path}
+use Rattle.iocm_examples.specs.BaseDeck.{device_record, online_record, shared_path, unit_on}
 
 -- the first breach of a deck, with its numbers at opening
 abbrev pub first_breach_at_opening : List Rec → Option Breach
@@ -35,7 +36,15 @@ BaseKeepsTheRules = first_breach_at_opening base ≡ None
 -- a path that only one image may use, and that lists two
 abbrev pub two_on_a_dedicated_path : List Rec
 two_on_a_dedicated_path =
-    path (record { css = 0; number = 0x52; kind = Dedicated; access = lpa ∷ lpb ∷ []; candidates = lpa ∷ lpb ∷ []; carried = [] }) ∷ base
+    path (record {
+      css = 0;
+      number = 0x52;
+      kind = Dedicated;
+      access = lpa ∷ lpb ∷ [];
+      candidates = lpa ∷ lpb ∷ [];
+      carried = [];
+    })
+    ∷ base
 
 abbrev pub ADedicatedPathOfTwo : Type 0
 ADedicatedPathOfTwo = BreaksFirst two_on_a_dedicated_path V3 (Path 0 0x52)
@@ -44,19 +53,31 @@ ADedicatedPathOfTwo = BreaksFirst two_on_a_dedicated_path V3 (Path 0 0x52)
 abbrev pub nine_paths : List Rec
 nine_paths =
     unit_on 0x1000 (0x50 ∷ 0x51 ∷ 0x52 ∷ 0x53 ∷ 0x54 ∷ 0x55 ∷ 0x56 ∷ 0x57 ∷ 0x58 ∷ []) None
-    ∷ shared_path 0x52 ∷ shared_path 0x53 ∷ shared_path 0x54 ∷ shared_path 0x55 ∷ shared_path 0x56 ∷ shared_path 0x57 ∷ shared_path 0x58 ∷ base
+    ∷ shared_path 0x52 ∷ shared_path 0x53 ∷ shared_path 0x54 ∷ shared_path 0x55 ∷ shared_path 0x56
+    ∷ shared_path 0x57 ∷ shared_path 0x58 ∷ base
 
 abbrev pub AUnitOnNinePaths : Type 0
 AUnitOnNinePaths = BreaksFirst nine_paths V5 (Unit 0x1000)
 
 -- a path that one image uses at a time, with two in its access list
 abbrev pub two_with_access : List Rec
-two_with_access = path (record { css = 0; number = 0x52; kind = Reconfigurable; access = lpa ∷ lpb ∷ []; candidates = []; carried = [] }) ∷ base
+two_with_access =
+    path (record {
+      css = 0;
+      number = 0x52;
+      kind = Reconfigurable;
+      access = lpa ∷ lpb ∷ [];
+      candidates = [];
+      carried = [];
+    })
+    ∷ base
 
 -- nine units on one path, each but the first with a CUADD of its own, and a device of all nine
 abbrev pub nine_units : List Rec
 nine_units =
-    device (record (device_record 0) { units = 0x1000 ∷ 0x1001 ∷ 0x1002 ∷ 0x1003 ∷ 0x1004 ∷ 0x1005 ∷ 0x1006 ∷ 0x1007 ∷ 0x1008 ∷ [] })
+    device (record (device_record 0) {
+      units = 0x1000 ∷ 0x1001 ∷ 0x1002 ∷ 0x1003 ∷ 0x1004 ∷ 0x1005 ∷ 0x1006 ∷ 0x1007 ∷ 0x1008 ∷ [];
+    })
     ∷ unit_on 0x1000 (0x50 ∷ []) None ∷ unit_apart 1 ∷ unit_apart 2 ∷ unit_apart 3 ∷ unit_apart 4 ∷ unit_apart 5
     ∷ unit_apart 6 ∷ unit_apart 7 ∷ unit_apart 8 ∷ base
 
@@ -88,7 +109,15 @@ online_without_access = online_record 0x51 lpb ∷ base_without_candidate
 
 -- a path that one image uses at a time, online to two
 abbrev pub online_to_two : List Rec
-online_to_two = path (record { css = 0; number = 0x52; kind = Reconfigurable; access = lpa ∷ []; candidates = lpb ∷ []; carried = [] })
+online_to_two =
+    path (record {
+      css = 0;
+      number = 0x52;
+      kind = Reconfigurable;
+      access = lpa ∷ [];
+      candidates = lpb ∷ [];
+      carried = [];
+    })
     ∷ online_record 0x52 lpa ∷ online_record 0x52 lpb ∷ base
 
 -- the unit without a path, and with one path twice
@@ -101,7 +130,15 @@ one_path_twice = unit_on 0x1000 (0x50 ∷ 0x50 ∷ []) None ∷ base
 -- the unit with these ranges and links, on both paths
 abbrev pub unit_with : List UnitRange → List CssLink → List Rec
 unit_with ranges links =
-    unit (record { number = 0x1000; paths = map css_path (0x50 ∷ 0x51 ∷ []); ranges = ranges; links = links; cuadd = None; carried = [] }) ∷ base
+    unit (record {
+      number = 0x1000;
+      paths = map css_path (0x50 ∷ 0x51 ∷ []);
+      ranges = ranges;
+      links = links;
+      cuadd = None;
+      carried = [];
+    })
+    ∷ base
 
 -- one link for two paths
 abbrev pub one_link : List Rec
@@ -120,7 +157,9 @@ address_used_again = device (record (device_record 3) { unit_address = 0 }) ∷ 
 
 -- device 1000 on two units that share path 51
 abbrev pub path_by_two_units : List Rec
-path_by_two_units = device (record (device_record 0) { units = 0x1000 ∷ 0x1001 ∷ [] }) ∷ unit_on 0x1001 (0x51 ∷ []) (Some 1) ∷ base
+path_by_two_units =
+    device (record (device_record 0) { units = 0x1000 ∷ 0x1001 ∷ [] }) ∷ unit_on 0x1001 (0x51 ∷ []) (Some 1)
+    ∷ base
 
 -- device 1000 with a candidate that is no image
 abbrev pub candidate_is_nobody : List Rec
@@ -139,7 +178,8 @@ linked_to l = unit (record {
   links = record { css = 0; link = l } ∷ [];
   cuadd = None;
   carried = [];
-}) ∷ unit_with (record { start = 0; count = 16 } ∷ []) (record { css = 0; link = link.Short 1 } ∷ record { css = 0; link = link.Short 2 } ∷ [])
+}) ∷ unit_with (record { start = 0; count = 16 } ∷ [])
+    (record { css = 0; link = link.Short 1 } ∷ record { css = 0; link = link.Short 2 } ∷ [])
 
 -- the other rules, each where it is the first that is broken
 pub record TheOtherRules : Type 0 where
@@ -164,7 +204,8 @@ pub record TheOtherRules : Type 0 where
 abbrev pub eight_paths : List Rec
 eight_paths =
     unit_on 0x1000 (0x50 ∷ 0x51 ∷ 0x52 ∷ 0x53 ∷ 0x54 ∷ 0x55 ∷ 0x56 ∷ 0x57 ∷ []) None
-    ∷ shared_path 0x52 ∷ shared_path 0x53 ∷ shared_path 0x54 ∷ shared_path 0x55 ∷ shared_path 0x56 ∷ shared_path 0x57 ∷ base
+    ∷ shared_path 0x52 ∷ shared_path 0x53 ∷ shared_path 0x54 ∷ shared_path 0x55 ∷ shared_path 0x56
+    ∷ shared_path 0x57 ∷ base
 
 abbrev pub limit_of_four : List Rec
 limit_of_four = limit (record { css = 0; set = 0; limit = 4 }) ∷ base
@@ -174,7 +215,9 @@ range_to_the_end = unit_with (record { start = 0; count = 16 } ∷ record { star
 
 -- a device with the unit address of 1000, on another unit with a CUADD of its own
 abbrev pub address_on_another_unit : List Rec
-address_on_another_unit = device (record (device_record 0) { number = 0x2000; units = 0x1001 ∷ [] }) ∷ unit_on 0x1001 (0x51 ∷ []) (Some 1) ∷ base
+address_on_another_unit =
+    device (record (device_record 0) { number = 0x2000; units = 0x1001 ∷ [] })
+    ∷ unit_on 0x1001 (0x51 ∷ []) (Some 1) ∷ base
 
 -- there no rule is broken
 pub record AtTheBounds : Type 0 where

@@ -17,9 +17,11 @@ use Rattle.iocm_history.specs.Entry.{activate, undo, redo, show}
 use Rattle.iocm_history.specs.Store.{NumberCells, store_of}
 use Rattle.iocm_history.specs.MarkedEntry.{kept, undone_with}
 use Rattle.iocm_history.specs.Account.{replay, marked_entries}
-use Rattle.iocm_examples.specs.BaseDeck.{lpa, lpb, path_record, css_path, device_on_1000, device_key, subchannel, unit_on}
+use Rattle.iocm_examples.specs.BaseDeck.{lpa, lpb, path_record, css_path, device_on_1000}
+use Rattle.iocm_examples.specs.BaseDeck.{device_key, subchannel, unit_on}
 use Rattle.iocm_examples.specs.Edits.{base_opened, added, deleted, modified, add_0fff, online_51}
-use Rattle.iocm_examples.specs.Histories.{Script, history_of, Answers, after, marks_after, number_of, change_by, orders, enables, code, refused}
+use Rattle.iocm_examples.specs.Histories.{Script, history_of, Answers, after, marks_after, number_of}
+use Rattle.iocm_examples.specs.Histories.{change_by, orders, enables, code, refused}
 
 -- a device that comes in
 abbrev pub add_1004 : Edit
@@ -170,7 +172,14 @@ unit_of_lpa = added (path_record 0x52 (lpa ∷ []) []) ∷ added (unit_on 0x2000
 
 abbrev pub unseen_device : ℕ → ℕ → Rec
 unseen_device number address =
-    device (record { set = 0; number = number; units = 0x2000 ∷ []; unit_address = address; candidates = Some (lpb ∷ []); carried = [] })
+    device (record {
+      set = 0;
+      number = number;
+      units = 0x2000 ∷ [];
+      unit_address = address;
+      candidates = Some (lpb ∷ []);
+      carried = [];
+    })
 
 -- one such device takes the number that another gave up, and frees it again: that number alone the
 -- changes have in common
@@ -191,7 +200,14 @@ a_number_in_common =
 -- a unit with these paths, all of which are its own
 abbrev pub unit_with : ℕ → List CssPath → Rec
 unit_with number paths =
-    unit (record { number = number; paths = paths; ranges = record { start = 0; count = 16 } ∷ []; links = []; cuadd = None; carried = [] })
+    unit (record {
+      number = number;
+      paths = paths;
+      ranges = record { start = 0; count = 16 } ∷ [];
+      links = [];
+      cuadd = None;
+      carried = [];
+    })
 
 -- path 50 of channel subsystem 1
 abbrev pub path_of_css_1 : CssPath
@@ -207,7 +223,14 @@ device_on_two =
     ∷ path_record 0x53 (lpa ∷ []) []
     ∷ unit_with 0x2000 (css_path 0x52 ∷ path_of_css_1 ∷ [])
     ∷ unit_with 0x2001 (css_path 0x53 ∷ [])
-    ∷ device (record { set = 0; number = 0x3000; units = 0x2000 ∷ 0x2001 ∷ []; unit_address = 0; candidates = None; carried = [] })
+    ∷ device (record {
+      set = 0;
+      number = 0x3000;
+      units = 0x2000 ∷ 0x2001 ∷ [];
+      unit_address = 0;
+      candidates = None;
+      carried = [];
+    })
     ∷ []
 
 -- the second unit gets that path, and number 7 comes along for the device there
@@ -233,7 +256,18 @@ two_numbers_for_a_while =
     ∷ (change_by (modified (unit_with 0x2001 (css_path 0x53 ∷ []))), Changed 4)
     ∷ (orders (of_lpc 0) Store, code 3)
     ∷ (undo 2, Undone 2)
-    ∷ (orders (of_lpc 0) Store, Io (Stored (record { device = 0x3000; pim = 0x80; pam = 0; lpm = 0x80; enabled = false; parm = 0; bits = record { 0 = 0 } })))
+    ∷ (
+      orders (of_lpc 0) Store,
+      Io (Stored (record {
+        device = 0x3000;
+        pim = 0x80;
+        pam = 0;
+        lpm = 0x80;
+        enabled = false;
+        parm = 0;
+        bits = record { 0 = 0 };
+      })),
+    )
     ∷ (orders (of_lpc 7) Store, code 3)
     ∷ (undo 4, refused J2 (Change 2))
     ∷ []
@@ -244,7 +278,9 @@ device_of number cells = get cells (record { css = 1; set = 0; number = number }
 
 -- the number cells once change 2 is undone, before change 4 is played
 abbrev pub cells_before_the_last : NumberCells
-cells_before_the_last = (replay (store_of base_opened) (drop 3 (marked_entries base_opened (history_of (take 6 two_numbers_for_a_while))))).numbers
+cells_before_the_last =
+    (replay (store_of base_opened)
+    (drop 3 (marked_entries base_opened (history_of (take 6 two_numbers_for_a_while))))).numbers
 
 -- the device keeps 0 there, and has 7 besides
 pub record TwoNumbersForAWhile : Type 0 where

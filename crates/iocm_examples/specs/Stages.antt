@@ -1,7 +1,8 @@
 -- Worked runs in which changes are made in stages, as they are stated by hand.
 use Rattle.std.specs.Prelude.{◌≡◌, true, false, [], ◌∷◌, None, Some}
 use Rattle.std.specs.FinMap.{get}
-use Rattle.iocm_types.specs.declared.answer.Answer.TheVariants.{Held, Changed, Staged, Left, Aborted, Undone, Redone, Ended}
+use Rattle.iocm_types.specs.declared.answer.Answer.TheVariants.{Held, Changed, Staged, Left, Aborted}
+use Rattle.iocm_types.specs.declared.answer.Answer.TheVariants.{Undone, Redone, Ended}
 use Rattle.iocm_types.specs.declared.order.Order.TheVariants.{Start, Test, Store}
 use Rattle.iocm_types.specs.declared.refused.At.TheVariants.{Nothing}
 use Rattle.iocm_types.specs.declared.rule.Rule.TheVariants.{J3, O1, O2}
@@ -10,7 +11,8 @@ use Rattle.iocm_model.specs.Change.Tree.{leaf, group, choose}
 use Rattle.iocm_history.specs.Entry.{activate, begin, advance, commit, abort, undo, redo, show}
 use Rattle.iocm_examples.specs.BaseDeck.{device_on_1000, device_key, subchannel}
 use Rattle.iocm_examples.specs.Edits.{base_opened, deleted, add_0fff}
-use Rattle.iocm_examples.specs.Histories.{Script, Answers, after, number_of, change_by, orders, ends, enables, code, status, refused, stored}
+use Rattle.iocm_examples.specs.Histories.{Script, Answers, after, number_of, change_by, orders}
+use Rattle.iocm_examples.specs.Histories.{ends, enables, code, status, refused, stored}
 use Rattle.iocm_examples.specs.Trees.{exchange}
 
 -- while a change of 1003 is staged its subchannels are held, others go on, and undo is refused; an

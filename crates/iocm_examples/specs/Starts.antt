@@ -10,7 +10,8 @@ use Rattle.iocm_model.specs.Operation.Step.{device_begin}
 use Rattle.iocm_history.specs.Entry.{Call, at, begin}
 use Rattle.iocm_examples.specs.BaseDeck.{device_key, subchannel}
 use Rattle.iocm_examples.specs.Edits.{deleted}
-use Rattle.iocm_examples.specs.Histories.{Script, change_by, orders, ends, enables, code, status, refused_at_root, stored}
+use Rattle.iocm_examples.specs.Histories.{Script, change_by, orders, ends, enables}
+use Rattle.iocm_examples.specs.Histories.{code, status, refused_at_root, stored}
 
 -- the device of a subchannel begins
 abbrev pub becomes_active : SubId → Call

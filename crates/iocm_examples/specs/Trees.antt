@@ -13,18 +13,22 @@ use Rattle.iocm_model.specs.Change.Tree.{ChangeTree, Parts, leaf, row, group, ch
 use Rattle.iocm_model.specs.Change.InverseTree.{parts_of, inverse_tree}
 use Rattle.iocm_model.specs.Change.Meaning.{state_reached, meaning}
 use Rattle.iocm_examples.specs.BaseDeck.{unit_on, device_on_1000, device_key, subchannel}
-use Rattle.iocm_examples.specs.Edits.{base_opened, added, deleted, modified, Performs, IsRefused, IsTakenBack, add_0fff, one_for_another, add_1000, started_at, base_started}
+use Rattle.iocm_examples.specs.Edits.{base_opened, added, deleted, modified, Performs, IsRefused, IsTakenBack}
+use Rattle.iocm_examples.specs.Edits.{add_0fff, one_for_another, add_1000, started_at, base_started}
 
 -- two devices change their unit addresses by way of a third one
 abbrev pub exchange : List Edit
-exchange = modified (device_on_1000 0x1002 0x05) ∷ modified (device_on_1000 0x1003 0x02) ∷ modified (device_on_1000 0x1002 0x03) ∷ []
+exchange =
+    modified (device_on_1000 0x1002 0x05) ∷ modified (device_on_1000 0x1003 0x02)
+    ∷ modified (device_on_1000 0x1002 0x03) ∷ []
 
 pub record AnExchange : Type 0 where
   pub accepted : Performs (group (parts_of exchange)) exchange base_opened
   pub first : get (state_after_all exchange base_opened).config (device_key 0x1002) ≡ Some (device_on_1000 0x1002 0x03)
   pub second : get (state_after_all exchange base_opened).config (device_key 0x1003) ≡ Some (device_on_1000 0x1003 0x02)
   pub altered : (cells_written_by_all exchange base_opened).subchannels ≡ []
-  pub put_back : with_effect (values_in base_opened (cells_written_by_all exchange base_opened)) (state_after_all exchange base_opened) ≡ base_opened
+  pub put_back : with_effect (values_in base_opened (cells_written_by_all exchange base_opened))
+      (state_after_all exchange base_opened) ≡ base_opened
   pub taken_back : IsTakenBack exchange base_opened
 
 -- a unit on a path that isn't there
@@ -46,15 +50,18 @@ pub record NodesOfBreaches : Type 0 where
 -- a Row may break a rule on its way, a Group in it may not; a Choose goes on after a part that
 -- breaks one
 pub record WhereRulesHold : Type 0 where
-  pub on_the_way : Performs (row (parts_of (unit_2000 ∷ deleted (key.Unit 0x2000) ∷ []))) (unit_2000 ∷ deleted (key.Unit 0x2000) ∷ []) base_opened
-  pub in_group : BreaksAt (row (part (group (parts_of (unit_2000 ∷ []))) (part (leaf (deleted (key.Unit 0x2000))) none))) 1
+  pub on_the_way : Performs (row (parts_of (unit_2000 ∷ deleted (key.Unit 0x2000) ∷ [])))
+      (unit_2000 ∷ deleted (key.Unit 0x2000) ∷ []) base_opened
+  pub in_group : BreaksAt
+      (row (part (group (parts_of (unit_2000 ∷ []))) (part (leaf (deleted (key.Unit 0x2000))) none))) 1
   pub chosen : Performs (choose (parts_of (unit_2000 ∷ add_0fff ∷ []))) (add_0fff ∷ []) base_opened
 
 -- nodes are counted in preorder: a Group of two is nodes 1 to 3 here, so that the part after it is
 -- node 4
 abbrev pub AfterAGroup : Type 0
 AfterAGroup = IsRefused
-    (row (part (group (parts_of one_for_another)) (part (leaf add_1000) none))) E1 4 (at.Key (device_key 0x1000)) base_opened
+    (row (part (group (parts_of one_for_another)) (part (leaf add_1000) none))) E1 4
+    (at.Key (device_key 0x1000)) base_opened
 
 -- a Group without parts is accepted, and performs nothing; a Choose without parts is refused
 pub record EmptyNodes : Type 0 where
@@ -93,5 +100,6 @@ started_there = started_at (subchannel 1 4) base_grown
 -- an edit is taken back later, and the live records that it didn't alter are kept as they are then;
 -- where one that it altered is busy, that is refused, at the leaf of the inverse tree
 pub record TakenBackLater : Type 0 where
-  pub elsewhere : state_reached (meaning (inverse_tree (add_0fff ∷ []) base_opened) started_elsewhere) ≡ Some base_started
+  pub elsewhere : state_reached (meaning (inverse_tree (add_0fff ∷ []) base_opened) started_elsewhere)
+      ≡ Some base_started
   pub there : IsRefused (inverse_tree (add_0fff ∷ []) base_opened) B1 1 (at.Subchannel (subchannel 1 4)) started_there

@@ -26,7 +26,9 @@ BaseViews = (view_if_seen (found_in base) 0 lpa (device_record 2) ≡ a_view 0x1
 
 -- an image that is no candidate of a path doesn't reach it; the path stays in its list
 abbrev pub ViewsWithoutCandidate : Type 0
-ViewsWithoutCandidate = view_if_seen (found_in base_without_candidate) 0 lpb (device_record 0) ≡ a_view 0x1000 (0x50 ∷ 0x51 ∷ []) 0x80 0x80
+ViewsWithoutCandidate =
+    view_if_seen (found_in base_without_candidate) 0 lpb (device_record 0)
+    ≡ a_view 0x1000 (0x50 ∷ 0x51 ∷ []) 0x80 0x80
 
 -- paths stand in the order of the unit's list, and the masks with them
 abbrev pub TurnedViews : Type 0
@@ -35,7 +37,8 @@ TurnedViews = (view_if_seen (found_in base_turned) 0 lpa (device_record 0) ≡ a
 
 -- another channel subsystem reaches nothing, and another image sees nothing
 abbrev pub Unseen : Type 0
-Unseen = (path_list (found_in base) 1 (0x1000 ∷ []) ≡ []) × (view_if_seen (found_in base) 1 lpa (device_record 0) ≡ None)
+Unseen = (path_list (found_in base) 1 (0x1000 ∷ []) ≡ [])
+    × (view_if_seen (found_in base) 1 lpa (device_record 0) ≡ None)
     × (view_if_seen (found_in base) 0 (lpa) (record (device_record 0) { candidates = Some [] }) ≡ None)
 
 -- a line of the table: an image, a number and its device, with both paths installed and these

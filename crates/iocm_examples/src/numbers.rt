@@ -1,4 +1,5 @@
-ghost use Rattle.iocm_examples.specs.Numbers.{BaseNumbers, ADeviceComesIn, ANumberIsUsedAgain, ANumberComesAlong, ASecondSubsystem};
+ghost use Rattle.iocm_examples.specs.Numbers.{BaseNumbers, ADeviceComesIn, ANumberIsUsedAgain};
+ghost use Rattle.iocm_examples.specs.Numbers.{ANumberComesAlong, ASecondSubsystem};
 
 /// The numbers of the example deck at opening, and those that devices get and free by edits of it,
 /// with the subchannels that are altered, computed.

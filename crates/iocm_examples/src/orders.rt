@@ -1,4 +1,5 @@
-ghost use Rattle.iocm_examples.specs.Orders.{AnOperation, NotOperational, StatusInTheWay, BusyWithAnother, APendingStart};
+ghost use Rattle.iocm_examples.specs.Orders.{AnOperation, NotOperational, StatusInTheWay};
+ghost use Rattle.iocm_examples.specs.Orders.{BusyWithAnother, APendingStart};
 ghost use Rattle.iocm_examples.specs.FunctionsInProgress.{BitsOfPhases, HaltAndClear};
 
 /// Orders and their condition codes on one subchannel, computed.

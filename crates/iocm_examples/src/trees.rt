@@ -1,4 +1,5 @@
-ghost use Rattle.iocm_examples.specs.Trees.{AnExchange, NodesOfBreaches, WhereRulesHold, AfterAGroup, EmptyNodes, LimitsOfTrees, TakenBackLater};
+ghost use Rattle.iocm_examples.specs.Trees.{AnExchange, NodesOfBreaches, WhereRulesHold, AfterAGroup};
+ghost use Rattle.iocm_examples.specs.Trees.{EmptyNodes, LimitsOfTrees, TakenBackLater};
 
 /// Change trees, the edits that they perform, and the nodes that refusals name, computed.
 pub fn trees_are_as_worked()

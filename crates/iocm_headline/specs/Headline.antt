@@ -31,6 +31,7 @@ pub record LeavesTheRunWithout (opening : State) (h : History) (n : ℕ) (left :
 
 -- at each place of a trace that two threads made together, an accepted undo left that
 abbrev pub AnUndoAmongThreads : Type 0
-AnUndoAmongThreads = (core : seen.Core) (first second : List Call) (t : Together) → IsInUse core.opening → IsOneRun core first second t
+AnUndoAmongThreads = (core : seen.Core) (first second : List Call) (t : Together) → IsInUse core.opening
+    → IsOneRun core first second t
     → (later h : History) (n : ℕ) → history_of t.closed ≡ later ++ undo_entry n ∷ h
     → LeavesTheRunWithout core.opening h n (state_at core.opening (undo_entry n ∷ h))

@@ -17,9 +17,12 @@ use iocm_core::{Closed, Core};
 pub fn close_and_tell(core: Core) -> Closed
     ensures state { result.plant.state ≡ state_at core.opening core.history }
     ensures history { history_in result.trace.changes.items result.trace.entries.items ≡ core.history }
-    ensures undone { (n : ℕ) (h : History) → core.history ≡ undo_entry n ∷ h → LeavesTheRunWithout core.opening h n result.plant.state }
-    ensures answered { (later h : History) (e : Entry) (n : ℕ) → core.history ≡ later ++ e ∷ h → e.call ≡ undo n → UndoAnswered core.opening h n e }
-    ensures taken_back { (n : ℕ) (c : change.Change) → change_at n (marked_entries core.opening core.history) ≡ Some c → IsTakenBackByItsInverse c }
+    ensures undone { (n : ℕ) (h : History) → core.history ≡ undo_entry n ∷ h
+        → LeavesTheRunWithout core.opening h n result.plant.state }
+    ensures answered { (later h : History) (e : Entry) (n : ℕ) → core.history ≡ later ++ e ∷ h → e.call ≡ undo n
+        → UndoAnswered core.opening h n e }
+    ensures taken_back { (n : ℕ) (c : change.Change)
+        → change_at n (marked_entries core.opening core.history) ≡ Some c → IsTakenBackByItsInverse c }
 {
     // For the proof alone: the history is legal.
     core.is_legal();

@@ -9,7 +9,8 @@ use Rattle.iocm_model.specs.Change.Meaning.{meaning}
 use Rattle.iocm_history.specs.Entry.{Call, at, activate, commit, undo, History}
 use Rattle.iocm_history.specs.Store.{Store, store_of, state_of, store_with}
 use Rattle.iocm_history.specs.Change.{change_of}
-use Rattle.iocm_history.specs.MarkedEntry.{Act, step, change, undoing, nothing, kept, MarkedEntry, effect_of_entry, entries_after}
+use Rattle.iocm_history.specs.MarkedEntry.{Act, step, change, undoing, nothing, kept, MarkedEntry}
+use Rattle.iocm_history.specs.MarkedEntry.{effect_of_entry, entries_after}
 use Rattle.iocm_history.specs.Stage.{Stage, stage_after}
 
 -- marked entries, the latest first, played from a store: each overwrites its cells

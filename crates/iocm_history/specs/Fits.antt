@@ -1,6 +1,7 @@
 -- Whether a change fits a state: its inverse edits, performed there whether subchannels are quiet
 -- or not, take back edit by edit just what the edits did, and the rules hold at the end. Own.
-use Rattle.std.specs.Prelude.{◌==◌, Bool, false, ◌&&◌, ◌||◌, not, if◌then◌else◌, Option, None, Some, List, [], ◌∷◌, ◌++◌}
+use Rattle.std.specs.Prelude.{◌==◌, Bool, false, ◌&&◌, ◌||◌, not, if◌then◌else◌}
+use Rattle.std.specs.Prelude.{Option, None, Some, List, [], ◌∷◌, ◌++◌}
 use Rattle.std.specs.List.{list_all}
 use Rattle.std.specs.Option.{option_eq, option_and_then, is_some}
 use Rattle.std.specs.declared.cmp.Ordering.{Ordering}
@@ -21,9 +22,11 @@ goes_back_at same old new here there =
     if option_eq same old new then option_eq same here there else option_eq same here new && option_eq same there old
 
 -- all cells of these maps
-abbrev pub goes_back : {K X : Type 0} {R : K → K → Ordering} → (X → X → Bool) → FinMap R X → FinMap R X → FinMap R X → FinMap R X → Bool
+abbrev pub goes_back : {K X : Type 0} {R : K → K → Ordering} → (X → X → Bool) → FinMap R X → FinMap R X
+    → FinMap R X → FinMap R X → Bool
 goes_back same old new here there =
-    list_all (λ key. goes_back_at same (get old key) (get new key) (get here key) (get there key)) (keys old ++ (keys new ++ (keys here ++ keys there)))
+    list_all (λ key. goes_back_at same (get old key) (get new key) (get here key) (get there key))
+    (keys old ++ (keys new ++ (keys here ++ keys there)))
 
 -- an edit that is refused though every subchannel be quiet: by its key (E1, E2), or for a number
 -- that is taken (E4)

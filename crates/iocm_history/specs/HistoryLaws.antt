@@ -26,13 +26,18 @@ StatesStayInUse = (opening : State) (h : History) → IsInUse opening → IsLega
 -- a step that isn't held is done in the state now
 abbrev pub StepsStep : Type 0
 StepsStep = (opening : State) (h : History) (x : SubId) (made : Step) → IsInUse opening → IsLegal opening h
-    → state_at opening (plain_entry (at x made) (answer_in (state_at opening h) x made) ∷ h) ≡ after_step x made (state_at opening h)
+    → state_at opening (plain_entry (at x made) (answer_in (state_at opening h) x made) ∷ h)
+    ≡ after_step x made (state_at opening h)
+
+-- the activation of a change: what its edits write
+abbrev pub activation_of : ChangeTree → ℕ → Performed → State → Entry
+activation_of p n done s = record { call = activate p; answer = Changed n; effect = effect_of done.edits s }
 
 -- an accepted activation leaves what its tree means in the state now
 abbrev pub ActivationsDoWhatTheyMean : Type 0
-ActivationsDoWhatTheyMean = (opening : State) (h : History) (p : ChangeTree) (n : ℕ) (done : Performed) → IsInUse opening → IsLegal opening h
-    → meaning p (state_at opening h) ≡ Ok done
-    → state_at opening (record { call = activate p; answer = Changed n; effect = effect_of done.edits (state_at opening h) } ∷ h) ≡ done.state
+ActivationsDoWhatTheyMean = (opening : State) (h : History) (p : ChangeTree) (n : ℕ) (done : Performed)
+    → IsInUse opening → IsLegal opening h → meaning p (state_at opening h) ≡ Ok done
+    → state_at opening (activation_of p n done (state_at opening h) ∷ h) ≡ done.state
 
 -- the answers that tell that the state stays: a call was refused, or held; it began, advanced or
 -- aborted a change in stages; it showed counts
@@ -47,5 +52,6 @@ LeavesTheState _ = ⊥
 
 -- after these the state is the one before
 abbrev pub OtherCallsLeaveTheState : Type 0
-OtherCallsLeaveTheState = (opening : State) (h : History) (e : Entry) → IsInUse opening → IsLegal opening (e ∷ h) → LeavesTheState e.answer
+OtherCallsLeaveTheState = (opening : State) (h : History) (e : Entry) → IsInUse opening
+    → IsLegal opening (e ∷ h) → LeavesTheState e.answer
     → state_at opening (e ∷ h) ≡ state_at opening h

@@ -1,6 +1,7 @@
 -- What a journal has to keep: where changes are found in a legal history, which stand on a change,
 -- and what undo and redo mean there.
-use Rattle.std.specs.Prelude.{◌≡◌, ◌≤◌, ℕ, ◌+◌, nat_lt, nat_le, length, true, false, ◌&&◌, not, if◌then◌else◌, None, Some, List, ◌∷◌, ◌++◌}
+use Rattle.std.specs.Prelude.{◌≡◌, ◌≤◌, ℕ, ◌+◌, nat_lt, nat_le, length, true, false}
+use Rattle.std.specs.Prelude.{◌&&◌, not, if◌then◌else◌, None, Some, List, ◌∷◌, ◌++◌}
 use Rattle.std.specs.List.{list_any}
 use Rattle.std.specs.FinMap.{get}
 use Rattle.iocm_types.specs.declared.answer.Answer.TheVariants.{Changed}
@@ -29,7 +30,8 @@ use Rattle.iocm_history.specs.Reckoning.{last_undone, shares}
 
 -- each change that was accepted is there, by its number
 abbrev pub EachChangeIsThere : Type 0
-EachChangeIsThere = (opening : State) (h : History) (n : ℕ) → IsInUse opening → IsLegal opening h → 1 ≤ n → n ≤ (journal_of h).count
+EachChangeIsThere = (opening : State) (h : History) (n : ℕ) → IsInUse opening → IsLegal opening h → 1 ≤ n
+    → n ≤ (journal_of h).count
     → (c : Change) × (change_at n (marked_entries opening h) ≡ Some c)
 
 -- and no other
@@ -39,19 +41,22 @@ OnlyTheseAreThere = (opening : State) (h : History) (n : ℕ) (c : Change) → I
 
 -- a change that is there stays as it is, whatever entry comes
 abbrev pub ChangesStayThere : Type 0
-ChangesStayThere = (opening : State) (h : History) (e : Entry) (n : ℕ) → IsInUse opening → IsLegal opening (e ∷ h) → n ≤ (journal_of h).count
+ChangesStayThere = (opening : State) (h : History) (e : Entry) (n : ℕ) → IsInUse opening
+    → IsLegal opening (e ∷ h) → n ≤ (journal_of h).count
     → change_at n (marked_entries opening (e ∷ h)) ≡ change_at n (marked_entries opening h)
 
 -- an accepted activation is the change that its tree means in the state now
 abbrev pub ActivationsAreThere : Type 0
-ActivationsAreThere = (opening : State) (h : History) (p : ChangeTree) (f : Effect) → IsInUse opening → IsLegal opening h
+ActivationsAreThere = (opening : State) (h : History) (p : ChangeTree) (f : Effect) → IsInUse opening
+    → IsLegal opening h
     → let n = (journal_of h).count + 1 in
     change_at n (marked_entries opening (record { call = activate p; answer = Changed n; effect = f } ∷ h))
     ≡ Some (change_of (meaning p (state_at opening h)) (state_at opening h))
 
 -- an accepted Commit is the staged change
 abbrev pub CommitsAreThere : Type 0
-CommitsAreThere = (opening : State) (h : History) (g : Stage) (f : Effect) → IsInUse opening → IsLegal opening h → stage_of opening h ≡ Some g
+CommitsAreThere = (opening : State) (h : History) (g : Stage) (f : Effect) → IsInUse opening → IsLegal opening h
+    → stage_of opening h ≡ Some g
     → let n = (journal_of h).count + 1 in
     change_at n (marked_entries opening (record { call = commit; answer = Changed n; effect = f } ∷ h)) ≡ Some g.change
 
@@ -59,7 +64,9 @@ CommitsAreThere = (opening : State) (h : History) (g : Stage) (f : Effect) → I
 
 -- a number that is the greatest of some is found, and none where there is none
 abbrev pub TheGreatestIsFound : Type 0
-TheGreatestIsFound = (ns : List ℕ) → ((k : ℕ) → IsGreatestOf k ns → greatest ns ≡ Some k) × (((k : ℕ) → is_in k ns ≡ false) → greatest ns ≡ None)
+TheGreatestIsFound = (ns : List ℕ)
+    → ((k : ℕ) → IsGreatestOf k ns → greatest ns ≡ Some k)
+    × (((k : ℕ) → is_in k ns ≡ false) → greatest ns ≡ None)
 
 -- on a change that fits stand the later ones that stand and wrote a cell that it wrote
 abbrev pub LaterStandOnIt : Type 0
@@ -82,10 +89,12 @@ OthersStandOnIt = (opening : State) (h : History) (n m : ℕ) (c : Change) → I
 -- where an undo may be accepted, it is, and does what the inverse tree of its change means
 abbrev pub UndoMeansTheUndo : Type 0
 UndoMeansTheUndo = (opening : State) (h : History) (n : ℕ) (c : Change) → IsInUse opening → IsLegal opening h
-    → stage_of opening h ≡ None → is_in n (journal_of h).standing ≡ true → stands_on n (marked_entries opening h) (state_at opening h) ≡ None
+    → stage_of opening h ≡ None → is_in n (journal_of h).standing ≡ true
+    → stands_on n (marked_entries opening h) (state_at opening h) ≡ None
     → not_quiet_of n (state_at opening h) (account opening h) ≡ None → change_at n (marked_entries opening h) ≡ Some c
     → IsLegal opening (undo_entry n ∷ h)
-    × (state_reached (meaning (inverse_tree c.edits c.from) (state_at opening h)) ≡ Some (state_at opening (undo_entry n ∷ h)))
+    × (state_reached (meaning (inverse_tree c.edits c.from) (state_at opening h))
+    ≡ Some (state_at opening (undo_entry n ∷ h)))
 
 -- where a redo may be accepted, with no undo or redo of its change since the last undo, it is, and
 -- does what any tree means that takes back what the undo did
@@ -93,7 +102,8 @@ abbrev pub RedoMeansTheRedo : Type 0
 RedoMeansTheRedo = (opening : State) (h between : History) (n : ℕ) (c : Change) (t : ChangeTree) → IsInUse opening
     → let now = between ++ undo_entry n ∷ h in
     IsLegal opening now → list_any (λ (e : Entry). undoes_or_redoes n e.answer) between ≡ false
-    → is_last_undone n (journal_of now).undone ≡ true → stage_of opening now ≡ None → not_quiet_of n (state_at opening now) (account opening now) ≡ None
+    → is_last_undone n (journal_of now).undone ≡ true → stage_of opening now ≡ None
+    → not_quiet_of n (state_at opening now) (account opening now) ≡ None
     → change_at n (marked_entries opening h) ≡ Some c → TakesBack t (inverses c.edits c.from) (state_at opening h)
     → IsLegal opening (redo_entry n ∷ now)
     × (state_reached (meaning t (state_at opening now)) ≡ Some (state_at opening (redo_entry n ∷ now)))
@@ -102,7 +112,8 @@ RedoMeansTheRedo = (opening : State) (h between : History) (n : ℕ) (c : Change
 
 -- no more changes were accepted than entries came
 abbrev pub ChangesAreEntries : Type 0
-ChangesAreEntries = (opening : State) (h : History) → IsInUse opening → IsLegal opening h → (journal_of h).count ≤ length h
+ChangesAreEntries = (opening : State) (h : History) → IsInUse opening → IsLegal opening h
+    → (journal_of h).count ≤ length h
 
 -- changes that stand were accepted
 abbrev pub StandingWereAccepted : Type 0
@@ -112,12 +123,14 @@ StandingWereAccepted = (opening : State) (h : History) (n : ℕ) → IsInUse ope
 -- and so were changes that are undone; these don't stand
 abbrev pub UndoneWereAccepted : Type 0
 UndoneWereAccepted = (opening : State) (h : History) (n : ℕ) → IsInUse opening → IsLegal opening h
-    → is_in n (journal_of h).undone ≡ true → (1 ≤ n) × (n ≤ (journal_of h).count) × (is_in n (journal_of h).standing ≡ false)
+    → is_in n (journal_of h).undone ≡ true
+    → (1 ≤ n) × (n ≤ (journal_of h).count) × (is_in n (journal_of h).standing ≡ false)
 
 -- without a change that stands, one less stands
 abbrev pub OneLessStands : Type 0
 OneLessStands = (opening : State) (h : History) (n : ℕ) → IsInUse opening → IsLegal opening h
-    → is_in n (journal_of h).standing ≡ true → length (without n (journal_of h).standing) + 1 ≡ length (journal_of h).standing
+    → is_in n (journal_of h).standing ≡ true
+    → length (without n (journal_of h).standing) + 1 ≡ length (journal_of h).standing
 
 -- without a change that is undone, one less is undone
 abbrev pub OneLessIsUndone : Type 0
@@ -147,5 +160,6 @@ pub record IsReadyIn (c : Change) (s : State) : Type 0 where
 
 -- what is staged is ready
 abbrev pub StagesAreReady : Type 0
-StagesAreReady = (opening : State) (h : History) (g : Stage) → IsInUse opening → IsLegal opening h → stage_of opening h ≡ Some g
+StagesAreReady = (opening : State) (h : History) (g : Stage) → IsInUse opening → IsLegal opening h
+    → stage_of opening h ≡ Some g
     → IsReadyIn g.change (state_at opening h)

@@ -41,7 +41,8 @@ replay_anew s (l ∷ ls) = done_anew_if_kept l.mark l.act (replay_anew s ls)
 -- each accepted undo is of the latest change that stands
 abbrev pub UndoesTheLatest : History → Type 0
 UndoesTheLatest [] = Unit {0}
-UndoesTheLatest (e ∷ h) = ((n : ℕ) → e.answer ≡ Undone n → greatest (journal_of h).standing ≡ Some n) × UndoesTheLatest h
+UndoesTheLatest (e ∷ h) = ((n : ℕ) → e.answer ≡ Undone n → greatest (journal_of h).standing ≡ Some n)
+    × UndoesTheLatest h
 
 -- then the state is that of the entries decided anew
 abbrev pub StepsMayBeDecidedAnew : Type 0
@@ -52,7 +53,8 @@ StepsMayBeDecidedAnew = (opening : State) (h : History) → IsInUse opening → 
 -- least of its subchannels that isn't quiet; memory lacks
 pub data HasToWait (opening : State) (h : History) (n : ℕ) (e : Entry) : Type 0 where
   for_the_stage : stage_of opening h ≢ None → e.answer ≡ Refused (refusal_at O1 Nothing) → HasToWait opening h n e
-  for_quiet : (x : SubId) → WaitsFor opening h n x → e.answer ≡ Refused (refusal_at B1 (Subchannel x)) → HasToWait opening h n e
+  for_quiet : (x : SubId) → WaitsFor opening h n x → e.answer ≡ Refused (refusal_at B1 (Subchannel x))
+      → HasToWait opening h n e
   for_memory : e.answer ≡ Refused (refusal_at M1 Nothing) → HasToWait opening h n e
 
 -- nothing stands on the latest standing change: its undo is accepted, or has to wait
@@ -64,7 +66,8 @@ LatestIsNeverBlocked = (opening : State) (h : History) (n : ℕ) → IsInUse ope
 
 -- what stands on a standing change stands too, and is later: nothing that was undone is in the way
 abbrev pub OnlyLaterStandingChangesStandOn : Type 0
-OnlyLaterStandingChangesStandOn = (opening : State) (h : History) (n m : ℕ) (c : Change) → IsInUse opening → IsLegal opening h → UndoesTheLatest h
+OnlyLaterStandingChangesStandOn = (opening : State) (h : History) (n m : ℕ) (c : Change) → IsInUse opening
+    → IsLegal opening h → UndoesTheLatest h
     → is_in n (journal_of h).standing ≡ true → change_at n (marked_entries opening h) ≡ Some c
     → is_in m (standing_on n c (marked_entries opening h) (fits c (state_at opening h))) ≡ true
     → (is_in m (journal_of h).standing ≡ true) × (n < m)

@@ -1,8 +1,10 @@
 -- Which entry a call makes after a history, and legal histories. Own.
-use Rattle.std.specs.Prelude.{◌≡◌, ◌⊎◌, ℕ, ◌+◌, ◌==◌, length, Bool, true, false, if◌then◌else◌, Option, None, Some, List, [], ◌∷◌, Ok, Err}
+use Rattle.std.specs.Prelude.{◌≡◌, ◌⊎◌, ℕ, ◌+◌, ◌==◌, length, Bool, true, false, if◌then◌else◌}
+use Rattle.std.specs.Prelude.{Option, None, Some, List, [], ◌∷◌, Ok, Err}
 use Rattle.std.specs.FinMap.{len}
 use Rattle.iocm_types.specs.declared.answer.Answer.{Answer}
-use Rattle.iocm_types.specs.declared.answer.Answer.TheVariants.{Held, Changed, Staged, Left, Aborted, Undone, Redone, Shown, Refused}
+use Rattle.iocm_types.specs.declared.answer.Answer.TheVariants.{Held, Changed, Staged, Left, Aborted}
+use Rattle.iocm_types.specs.declared.answer.Answer.TheVariants.{Undone, Redone, Shown, Refused}
 use Rattle.iocm_types.specs.declared.refused.At.TheVariants.{Subchannel, Nothing}
 use Rattle.iocm_types.specs.declared.refused.At.TheVariants as place
 use Rattle.iocm_types.specs.declared.rule.Rule.TheVariants.{J1, J2, J3, B1, M1, O1, O2}
@@ -13,7 +15,8 @@ use Rattle.iocm_model.specs.Change.Runs.{effect_of}
 use Rattle.iocm_model.specs.Change.Tree.{ChangeTree}
 use Rattle.iocm_model.specs.Change.Meaning.{Outcome, meaning}
 use Rattle.iocm_model.specs.Operation.Step.{answer_in}
-use Rattle.iocm_history.specs.Entry.{Call, at, activate, begin, advance, commit, abort, undo, redo, show, Entry, History, plain_entry}
+use Rattle.iocm_history.specs.Entry.{Call, at, activate, begin, advance, commit, abort}
+use Rattle.iocm_history.specs.Entry.{undo, redo, show, Entry, History, plain_entry}
 use Rattle.iocm_history.specs.Change.{effect_of_change}
 use Rattle.iocm_history.specs.MarkedEntry.{altered_by_change}
 use Rattle.iocm_history.specs.Stage.{Stage, once_more, is_held, left_of}
@@ -95,7 +98,13 @@ redo_answer n b not_quiet =
 
 -- what a machine counts
 abbrev pub show_answer : State → Journal → Answer
-show_answer s b = Shown (record { records = len s.config; subchannels = len (views_in s); standing = length b.standing; undone = length b.undone })
+show_answer s b =
+    Shown (record {
+      records = len s.config;
+      subchannels = len (views_in s);
+      standing = length b.standing;
+      undone = length b.undone;
+    })
 
 -- the least subchannel of a change that isn't quiet in a state
 abbrev pub not_quiet_of : ℕ → State → Account → Option SubId
@@ -109,7 +118,9 @@ entry_in s b a (begin p) = unless_staged a.stage (begin p) (begun p (meaning p s
 entry_in s b a advance = plain_entry advance (advance_answer a.stage)
 entry_in s b a commit = commit_entry (b.count + 1) a.stage
 entry_in s b a abort = plain_entry abort (abort_answer a.stage)
-entry_in s b a (undo n) = unless_staged a.stage (undo n) (plain_entry (undo n) (undo_answer n b.standing (stands_on n a.entries s) (not_quiet_of n s a)))
+entry_in s b a (undo n) =
+    unless_staged a.stage (undo n)
+    (plain_entry (undo n) (undo_answer n b.standing (stands_on n a.entries s) (not_quiet_of n s a)))
 entry_in s b a (redo n) = unless_staged a.stage (redo n) (plain_entry (redo n) (redo_answer n b (not_quiet_of n s a)))
 entry_in s b a show = unless_staged a.stage show (plain_entry show (show_answer s b))
 

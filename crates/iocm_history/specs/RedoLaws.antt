@@ -37,7 +37,8 @@ abbrev pub RedoTakesUndoBack : Type 0
 RedoTakesUndoBack = (opening : State) (h between : History) (n : ℕ) → IsRedone opening h between n
     → let ls = marked_entries opening (between ++ undo_entry n ∷ h) in
     state_at opening (redo_entry n ∷ between ++ undo_entry n ∷ h)
-    ≡ state_of (replay (replay (store_of opening) (marked_entries opening h)) (struck_steps (altered_by_change n ls) lost (take (length between) ls)))
+    ≡ state_of (replay (replay (store_of opening) (marked_entries opening h))
+    (struck_steps (altered_by_change n ls) lost (take (length between) ls)))
 
 -- before it the configuration and the numbers are those that the undo left
 abbrev pub RedoFindsWhatTheUndoLeft : Type 0
@@ -49,4 +50,5 @@ abbrev pub RedoPutsTheCellsForward : Type 0
 RedoPutsTheCellsForward = (opening : State) (h between : History) (n : ℕ) (c : Change) → IsRedone opening h between n
     → change_at n (marked_entries opening h) ≡ Some c
     → store_of (state_at opening (redo_entry n ∷ between ++ undo_entry n ∷ h))
-    ≡ store_with (values_in (state_at opening h) (cells_of_change c)) (store_of (state_at opening (between ++ undo_entry n ∷ h)))
+    ≡ store_with (values_in (state_at opening h) (cells_of_change c))
+    (store_of (state_at opening (between ++ undo_entry n ∷ h)))

@@ -37,7 +37,8 @@ abbrev pub steps_of : History → History
 steps_of h = filter (λ (e : Entry). is_done e.call e.answer) h
 
 -- a change was begun, and an entry came, with no end of a stage between
-pub record IsStagedUntil (opening : State) (h : History) (p : ChangeTree) (k : ℕ) (between : History) (e : Entry) : Type 0 where
+pub record IsStagedUntil (opening : State) (h : History) (p : ChangeTree) (k : ℕ) (between : History)
+    (e : Entry) : Type 0 where
   pub used : IsInUse opening
   pub legal : IsLegal opening (e ∷ between ++ begin_entry p k ∷ h)
   pub unended : list_any (λ (e : Entry). ends_a_stage e.answer) between ≡ false
@@ -57,11 +58,14 @@ commit_of n done s = record { call = commit; answer = Changed n; effect = effect
 
 -- a Commit does the edits that the tree performed at its Begin, in the state that the other steps
 -- leave
-pub record DoesTheEdits (opening : State) (h between : History) (p : ChangeTree) (k n : ℕ) (done : Performed) : Type 0 where
+pub record DoesTheEdits (opening : State) (h between : History) (p : ChangeTree) (k n : ℕ) (done : Performed) :
+    Type 0 where
   pub legal : IsLegal opening (steps_of between ++ h)
   pub state : state_at opening (commit_of n done (state_at opening h) ∷ between ++ begin_entry p k ∷ h)
       ≡ state_after_all done.edits (state_at opening (steps_of between ++ h))
 
 abbrev pub CommitDoesTheEdits : Type 0
-CommitDoesTheEdits = (opening : State) (h between : History) (p : ChangeTree) (k n : ℕ) (done : Performed) → meaning p (state_at opening h) ≡ Ok done
-    → IsStagedUntil opening h p k between (commit_of n done (state_at opening h)) → DoesTheEdits opening h between p k n done
+CommitDoesTheEdits = (opening : State) (h between : History) (p : ChangeTree) (k n : ℕ) (done : Performed)
+    → meaning p (state_at opening h) ≡ Ok done
+    → IsStagedUntil opening h p k between (commit_of n done (state_at opening h))
+    → DoesTheEdits opening h between p k n done

@@ -1,5 +1,6 @@
 -- Which changes stand on a change, and so have to be undone before it. Own.
-use Rattle.std.specs.Prelude.{ℕ, nat_lt, max, fold, map, filter, Bool, true, false, ◌&&◌, not, if◌then◌else◌, Option, None, Some, List, [], ◌∷◌, ◌++◌}
+use Rattle.std.specs.Prelude.{ℕ, nat_lt, max, fold, map, filter, Bool, true, false, ◌&&◌, not}
+use Rattle.std.specs.Prelude.{if◌then◌else◌, Option, None, Some, List, [], ◌∷◌, ◌++◌}
 use Rattle.iocm_model.specs.Operation.State.{State}
 use Rattle.iocm_history.specs.Change.{Change, effect_of_change, share_a_cell}
 use Rattle.iocm_history.specs.Fits.{fits}
@@ -51,7 +52,9 @@ numbers_of changes = map (λ (d : Numbered). d.0) changes
 -- the changes that stand on a change. If it fits: the later ones that wrote a cell that it wrote.
 -- If it doesn't: all later ones, and the earlier ones that were undone since
 abbrev pub standing_on : ℕ → Change → List MarkedEntry → Bool → List ℕ
-standing_on n c ls true = numbers_of (filter (λ (d : Numbered). share_a_cell (effect_of_change c) (effect_of_change d.1)) (changes_in (since n ls)))
+standing_on n c ls true =
+    numbers_of (filter (λ (d : Numbered). share_a_cell (effect_of_change c) (effect_of_change d.1))
+    (changes_in (since n ls)))
 standing_on n c ls false = numbers_of (changes_in (since n ls)) ++ undone_since n ls
 
 -- the greatest of some numbers

@@ -17,7 +17,8 @@ use Rattle.iocm_history.specs.Change.{values_before, altered}
 use Rattle.iocm_history.specs.Entry.{undo, Entry, History, plain_entry}
 use Rattle.iocm_history.specs.Fits.{fits}
 use Rattle.iocm_history.specs.Store.{Store, store_of, store_with}
-use Rattle.iocm_history.specs.MarkedEntry.{Mark, undone_with, MarkedEntry, is_change, is_step_on, struck_if, without_change, altered_by_change, change_at}
+use Rattle.iocm_history.specs.MarkedEntry.{Mark, undone_with, MarkedEntry, is_change, is_step_on, struck_if}
+use Rattle.iocm_history.specs.MarkedEntry.{without_change, altered_by_change, change_at}
 use Rattle.iocm_history.specs.Account.{replay, marked_entries, stage_of, state_at}
 use Rattle.iocm_history.specs.StandsOn.{since, standing_on, stands_on}
 use Rattle.iocm_history.specs.Journal.{is_in, journal_of}
@@ -41,36 +42,44 @@ before n (l ∷ ls) = if is_change n l.act then ls else before n ls
 -- without the steps on the subchannels that it altered
 abbrev pub UndoLeavesTheRunWithout : Type 0
 UndoLeavesTheRunWithout = (m : Store) (n : ℕ) (ls : List MarkedEntry)
-    → replay m (without_change n ls) ≡ replay (replay m (before n ls)) (struck_steps (altered_by_change n ls) (undone_with n) (since n ls))
+    → replay m (without_change n ls)
+    ≡ replay (replay m (before n ls)) (struck_steps (altered_by_change n ls) (undone_with n) (since n ls))
 
 -- an undo puts the cells that the change wrote back as they were before it, and leaves all others
 abbrev pub UndoPutsTheCellsBack : Type 0
-UndoPutsTheCellsBack = (opening : State) (h : History) (n : ℕ) (c : change.Change) → IsInUse opening → IsLegal opening (undo_entry n ∷ h)
+UndoPutsTheCellsBack = (opening : State) (h : History) (n : ℕ) (c : change.Change) → IsInUse opening
+    → IsLegal opening (undo_entry n ∷ h)
     → change_at n (marked_entries opening h) ≡ Some c
     → store_of (state_at opening (undo_entry n ∷ h)) ≡ store_with (values_before c) (store_of (state_at opening h))
 
 -- that is what the inverses of its edits do, performed in the state now, where each is accepted
 abbrev pub UndoDoesWhatTheInversesDo : Type 0
-UndoDoesWhatTheInversesDo = (opening : State) (h : History) (n : ℕ) (c : change.Change) → IsInUse opening → IsLegal opening (undo_entry n ∷ h)
+UndoDoesWhatTheInversesDo = (opening : State) (h : History) (n : ℕ) (c : change.Change) → IsInUse opening
+    → IsLegal opening (undo_entry n ∷ h)
     → change_at n (marked_entries opening h) ≡ Some c
     → AreAccepted (inverses c.edits c.from) (state_at opening h)
     × (state_at opening (undo_entry n ∷ h) ≡ state_after_all (inverses c.edits c.from) (state_at opening h))
 
 -- and what its inverse tree means in the state now
 abbrev pub UndoDoesWhatTheInverseTreeDoes : Type 0
-UndoDoesWhatTheInverseTreeDoes = (opening : State) (h : History) (n : ℕ) (c : change.Change) → IsInUse opening → IsLegal opening (undo_entry n ∷ h)
+UndoDoesWhatTheInverseTreeDoes = (opening : State) (h : History) (n : ℕ) (c : change.Change) → IsInUse opening
+    → IsLegal opening (undo_entry n ∷ h)
     → change_at n (marked_entries opening h) ≡ Some c
-    → state_reached (meaning (inverse_tree c.edits c.from) (state_at opening h)) ≡ Some (state_at opening (undo_entry n ∷ h))
+    → state_reached (meaning (inverse_tree c.edits c.from) (state_at opening h))
+    ≡ Some (state_at opening (undo_entry n ∷ h))
 
 -- a standing change is there
 abbrev pub StandingChangesAreThere : Type 0
-StandingChangesAreThere = (opening : State) (h : History) (n : ℕ) → IsInUse opening → IsLegal opening h → is_in n (journal_of h).standing ≡ true
+StandingChangesAreThere = (opening : State) (h : History) (n : ℕ) → IsInUse opening → IsLegal opening h
+    → is_in n (journal_of h).standing ≡ true
     → (c : change.Change) × (change_at n (marked_entries opening h) ≡ Some c)
 
 -- a standing change on which nothing stands fits: so where one doesn't fit, J2 has a change to name
 abbrev pub StandingChangesFit : Type 0
-StandingChangesFit = (opening : State) (h : History) (n : ℕ) (c : change.Change) → IsInUse opening → IsLegal opening h → is_in n (journal_of h).standing ≡ true
-    → change_at n (marked_entries opening h) ≡ Some c → stands_on n (marked_entries opening h) (state_at opening h) ≡ None → fits c (state_at opening h) ≡ true
+StandingChangesFit = (opening : State) (h : History) (n : ℕ) (c : change.Change) → IsInUse opening
+    → IsLegal opening h → is_in n (journal_of h).standing ≡ true
+    → change_at n (marked_entries opening h) ≡ Some c
+    → stands_on n (marked_entries opening h) (state_at opening h) ≡ None → fits c (state_at opening h) ≡ true
 
 -- of the subchannels that the change altered this is the least that isn't quiet
 pub record WaitsFor (opening : State) (h : History) (n : ℕ) (x : SubId) : Type 0 where
@@ -88,14 +97,17 @@ pub record IsGreatestOf (k : ℕ) (ns : List ℕ) : Type 0 where
 -- that stands on it; this is the least of its subchannels that isn't quiet; memory lacks
 pub data IsRefusedFor (opening : State) (h : History) (n : ℕ) (e : Entry) : Type 0 where
   staged : stage_of opening h ≢ None → e.answer ≡ Refused (refusal_at O1 Nothing) → IsRefusedFor opening h n e
-  not_standing : is_in n (journal_of h).standing ≡ false → e.answer ≡ Refused (refusal_at J1 Nothing) → IsRefusedFor opening h n e
+  not_standing : is_in n (journal_of h).standing ≡ false → e.answer ≡ Refused (refusal_at J1 Nothing)
+      → IsRefusedFor opening h n e
   stood_on : (k : ℕ) (c : change.Change) → change_at n (marked_entries opening h) ≡ Some c
       → IsGreatestOf k (standing_on n c (marked_entries opening h) (fits c (state_at opening h)))
       → e.answer ≡ Refused (refusal_at J2 (Change k)) → IsRefusedFor opening h n e
-  waits : (x : SubId) → WaitsFor opening h n x → e.answer ≡ Refused (refusal_at B1 (Subchannel x)) → IsRefusedFor opening h n e
+  waits : (x : SubId) → WaitsFor opening h n x → e.answer ≡ Refused (refusal_at B1 (Subchannel x))
+      → IsRefusedFor opening h n e
   lacks_memory : e.answer ≡ Refused (refusal_at M1 Nothing) → IsRefusedFor opening h n e
 
 -- an undo is accepted, or refused for one of these
 abbrev pub UndoIsRefusedOnlyFor : Type 0
-UndoIsRefusedOnlyFor = (opening : State) (h : History) (n : ℕ) (e : Entry) → IsInUse opening → IsLegal opening (e ∷ h) → e.call ≡ undo n
+UndoIsRefusedOnlyFor = (opening : State) (h : History) (n : ℕ) (e : Entry) → IsInUse opening
+    → IsLegal opening (e ∷ h) → e.call ≡ undo n
     → (e.answer ≡ Undone n) ⊎ IsRefusedFor opening h n e

@@ -22,7 +22,8 @@ impl<A: Allocator + Clone> Index<A> {
     ///
     /// `AllocError` (M1): memory was wanted.
     pub fn from_namings<B: Allocator>(alloc: A, namings: Vec<Naming, B>) -> Result<Self, AllocError>
-        ensures linked { IfOk result (λ index. (n : naming.Naming) → is_linked index n ≡ list_any (eq_by_cmp naming_cmp n) namings.items) }
+        ensures linked { IfOk result (λ index. (n : naming.Naming)
+            → is_linked index n ≡ list_any (eq_by_cmp naming_cmp n) namings.items) }
         ensures places { IfOk result (λ index. index.places ≡ finmap.keys (rows naming_cmp index)) }
     {
         let distinct = sort_apart(namings)?;
@@ -53,7 +54,8 @@ pub fn list_namings<B: Allocator, C: Allocator>(
 /// nothing to the second; it compares far less where a thing has many users.
 fn sort_apart<B: Allocator>(mut namings: Vec<Naming, B>) -> Result<Vec<Naming, B>, AllocError>
     ensures order { IfOk result (λ distinct. IsStrictlySortedBy naming_cmp distinct.items) }
-    ensures same { IfOk result (λ distinct. (n : naming.Naming) → list_any (eq_by_cmp naming_cmp n) distinct.items ≡ list_any (eq_by_cmp naming_cmp n) namings.items) }
+    ensures same { IfOk result (λ distinct. (n : naming.Naming)
+        → list_any (eq_by_cmp naming_cmp n) distinct.items ≡ list_any (eq_by_cmp naming_cmp n) namings.items) }
 {
     namings.sort_by(|naming, other| naming.named.order(other.named))?;
     namings.sort()?;

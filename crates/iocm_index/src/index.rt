@@ -56,7 +56,8 @@ impl<A: Allocator> Index<A> {
         ensures rows { rows naming_cmp self.new ≡ rows naming_cmp self.old }
         ensures ok { OnOk result (HavePlaces self.new (namings_of entry.now)) }
         ensures kept { (n : naming.Naming) → HasPlace naming_cmp self.old n → HasPlace naming_cmp self.new n }
-        ensures no_more { (n : naming.Naming) → HasPlace naming_cmp self.new n → HasPlace naming_cmp self.old n ⊎ IsTrue (is_naming_of entry.now n) }
+        ensures no_more { (n : naming.Naming) → HasPlace naming_cmp self.new n
+            → HasPlace naming_cmp self.old n ⊎ IsTrue (is_naming_of entry.now n) }
         ensures succeeds { HavePlaces self.old (namings_of entry.now) → IsOk result }
     {
         for place in 0..entry.names_len() {
@@ -69,7 +70,8 @@ impl<A: Allocator> Index<A> {
     /// of memory.
     pub fn link<B: Allocator>(&mut self, entry: &Record<B>)
         requires { HavePlaces self.old (namings_of entry.now) }
-        ensures linked { (n : naming.Naming) → is_linked self.new n ≡ (is_naming_of entry.now n || is_linked self.old n) }
+        ensures linked { (n : naming.Naming)
+            → is_linked self.new n ≡ (is_naming_of entry.now n || is_linked self.old n) }
         ensures places { self.new.places ≡ self.old.places }
     {
         for place in 0..entry.names_len() {
@@ -80,7 +82,8 @@ impl<A: Allocator> Index<A> {
     /// Takes the namings of a record out, and no others. Their places stay. Can't answer want of
     /// memory.
     pub fn unlink<B: Allocator>(&mut self, entry: &Record<B>)
-        ensures linked { (n : naming.Naming) → is_linked self.new n ≡ (not (is_naming_of entry.now n) && is_linked self.old n) }
+        ensures linked { (n : naming.Naming)
+            → is_linked self.new n ≡ (not (is_naming_of entry.now n) && is_linked self.old n) }
         ensures places { self.new.places ≡ self.old.places }
     {
         for place in 0..entry.names_len() {

@@ -77,7 +77,8 @@ impl<A: Allocator> Index<A> {
     /// among them.
     pub fn users_of(&self, named: Named) -> Users<'_>
         ensures users { result ≡ users_in named (rows naming_cmp self.now) }
-        ensures named { (k : key_type.Key) → list_any (eq_by_cmp key_cmp k) result ≡ is_linked self.now (naming k named) }
+        ensures named { (k : key_type.Key)
+            → list_any (eq_by_cmp key_cmp k) result ≡ is_linked self.now (naming k named) }
         ensures rise { IsStrictlySortedBy key_cmp result }
     {
         let rows = self.from_first(&named);

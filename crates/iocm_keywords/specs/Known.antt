@@ -23,11 +23,17 @@ seen_row r = (r.word.now, r.form)
 -- the words that each statement knows
 abbrev pub table : Operation → List Row
 table Resource = (codes "PARTITION", form.Optional) ∷ (codes "MAXDEV", form.Optional) ∷ []
-table Chpid = (codes "PATH", form.Required) ∷ (codes "SHARED", form.Bare) ∷ (codes "REC", form.Bare) ∷ (codes "PARTITION", form.Optional)
+table Chpid =
+    (codes "PATH", form.Required) ∷ (codes "SHARED", form.Bare) ∷ (codes "REC", form.Bare)
+    ∷ (codes "PARTITION", form.Optional)
     ∷ (codes "NOTPART", form.LeftOut) ∷ []
-table Cntlunit = (codes "CUNUMBR", form.Required) ∷ (codes "PATH", form.Optional) ∷ (codes "UNITADD", form.Optional) ∷ (codes "LINK", form.Optional)
+table Cntlunit =
+    (codes "CUNUMBR", form.Required) ∷ (codes "PATH", form.Optional) ∷ (codes "UNITADD", form.Optional)
+    ∷ (codes "LINK", form.Optional)
     ∷ (codes "CUADD", form.Optional) ∷ []
-table Iodevice = (codes "ADDRESS", form.Required) ∷ (codes "CUNUMBR", form.Optional) ∷ (codes "UNITADD", form.Optional) ∷ (codes "SCHSET", form.Optional)
+table Iodevice =
+    (codes "ADDRESS", form.Required) ∷ (codes "CUNUMBR", form.Optional) ∷ (codes "UNITADD", form.Optional)
+    ∷ (codes "SCHSET", form.Optional)
     ∷ (codes "PARTITION", form.Optional) ∷ (codes "NOTPART", form.LeftOut) ∷ []
 table _ = []
 

@@ -1,3 +1,4 @@
+pub mod First
 pub mod Images
 pub mod Indexed
 pub mod Kinds

@@ -1,7 +1,9 @@
 -- Of which kind the records are that a test can pass.
 use Rattle.std.specs.Prelude.{◌≡◌, Bool, true, false, List}
 use Rattle.std.proofs.Common.{refl}
-use Rattle.iocm_model.specs.Machine.Record.{Rec, CarriedOperand, ImageRecord, LimitRecord, PathRecord, UnitRecord, DeviceRecord, OnlineRecord, id, resource, image, limit, path, unit, device, online, key_of}
+use Rattle.iocm_model.specs.Machine.Record.{Rec, CarriedOperand, ImageRecord, LimitRecord, PathRecord}
+use Rattle.iocm_model.specs.Machine.Record.{UnitRecord, DeviceRecord, OnlineRecord, id, resource}
+use Rattle.iocm_model.specs.Machine.Record.{image, limit, path, unit, device, online, key_of}
 use Rattle.iocm_lookup.specs.Kinds.{kind_of}
 
 -- no other records pass
@@ -29,7 +31,8 @@ NoDevices test = (x : DeviceRecord) → test (device x) ≡ false
 abbrev pub NoOnline : (Rec → Bool) → Type 0
 NoOnline test = (x : OnlineRecord) → test (online x) ≡ false
 
-pub only_images : (test : Rec → Bool) → NoIds test → NoResources test → NoLimits test → NoPaths test → NoUnits test → NoDevices test → NoOnline test
+pub only_images : (test : Rec → Bool) → NoIds test → NoResources test → NoLimits test → NoPaths test
+    → NoUnits test → NoDevices test → NoOnline test
     → (r : Rec) → test r ≡ true → kind_of (key_of r) ≡ 2
 only_images test a b c d e f g (id x) h = let no = a x in cc
 only_images test a b c d e f g (resource x) h = let no = b x in cc
@@ -40,7 +43,8 @@ only_images test a b c d e f g (unit x) h = let no = e x in cc
 only_images test a b c d e f g (device x) h = let no = f x in cc
 only_images test a b c d e f g (online x) h = let no = g x in cc
 
-pub only_paths : (test : Rec → Bool) → NoIds test → NoResources test → NoImages test → NoLimits test → NoUnits test → NoDevices test → NoOnline test
+pub only_paths : (test : Rec → Bool) → NoIds test → NoResources test → NoImages test → NoLimits test
+    → NoUnits test → NoDevices test → NoOnline test
     → (r : Rec) → test r ≡ true → kind_of (key_of r) ≡ 4
 only_paths test a b c d e f g (id x) h = let no = a x in cc
 only_paths test a b c d e f g (resource x) h = let no = b x in cc
@@ -51,7 +55,8 @@ only_paths test a b c d e f g (unit x) h = let no = e x in cc
 only_paths test a b c d e f g (device x) h = let no = f x in cc
 only_paths test a b c d e f g (online x) h = let no = g x in cc
 
-pub only_units : (test : Rec → Bool) → NoIds test → NoResources test → NoImages test → NoLimits test → NoPaths test → NoDevices test → NoOnline test
+pub only_units : (test : Rec → Bool) → NoIds test → NoResources test → NoImages test → NoLimits test
+    → NoPaths test → NoDevices test → NoOnline test
     → (r : Rec) → test r ≡ true → kind_of (key_of r) ≡ 5
 only_units test a b c d e f g (id x) h = let no = a x in cc
 only_units test a b c d e f g (resource x) h = let no = b x in cc
@@ -62,7 +67,8 @@ only_units test a b c d e f g (unit x) h = refl
 only_units test a b c d e f g (device x) h = let no = f x in cc
 only_units test a b c d e f g (online x) h = let no = g x in cc
 
-pub only_devices : (test : Rec → Bool) → NoIds test → NoResources test → NoImages test → NoLimits test → NoPaths test → NoUnits test → NoOnline test
+pub only_devices : (test : Rec → Bool) → NoIds test → NoResources test → NoImages test → NoLimits test
+    → NoPaths test → NoUnits test → NoOnline test
     → (r : Rec) → test r ≡ true → kind_of (key_of r) ≡ 6
 only_devices test a b c d e f g (id x) h = let no = a x in cc
 only_devices test a b c d e f g (resource x) h = let no = b x in cc
@@ -73,7 +79,8 @@ only_devices test a b c d e f g (unit x) h = let no = f x in cc
 only_devices test a b c d e f g (device x) h = refl
 only_devices test a b c d e f g (online x) h = let no = g x in cc
 
-pub only_online : (test : Rec → Bool) → NoIds test → NoResources test → NoImages test → NoLimits test → NoPaths test → NoUnits test → NoDevices test
+pub only_online : (test : Rec → Bool) → NoIds test → NoResources test → NoImages test → NoLimits test
+    → NoPaths test → NoUnits test → NoDevices test
     → (r : Rec) → test r ≡ true → kind_of (key_of r) ≡ 7
 only_online test a b c d e f g (id x) h = let no = a x in cc
 only_online test a b c d e f g (resource x) h = let no = b x in cc

@@ -26,7 +26,8 @@ impl<A: Allocator> Wanted<A> for NamedIn {
 
     ghost place = { 2 };
 
-    ghost of_kind = { λ s c. only_images (is_named_in s.css s.name) (λ _. refl) (λ _. refl) (λ _. refl) (λ _. refl) (λ _. refl) (λ _. refl) (λ _. refl) };
+    ghost of_kind = { λ s c. only_images (is_named_in s.css s.name)
+        (λ _. refl) (λ _. refl) (λ _. refl) (λ _. refl) (λ _. refl) (λ _. refl) (λ _. refl) };
 
     fn kind(&self) -> Kind {
         Kind::Image
@@ -57,7 +58,8 @@ impl<A: Allocator> Wanted<A> for Named {
 
     ghost place = { 2 };
 
-    ghost of_kind = { λ s c. only_images (is_image_named s.name) (λ _. refl) (λ _. refl) (λ _. refl) (λ _. refl) (λ _. refl) (λ _. refl) (λ _. refl) };
+    ghost of_kind = { λ s c. only_images (is_image_named s.name)
+        (λ _. refl) (λ _. refl) (λ _. refl) (λ _. refl) (λ _. refl) (λ _. refl) (λ _. refl) };
 
     fn kind(&self) -> Kind {
         Kind::Image

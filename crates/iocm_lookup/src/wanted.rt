@@ -1,9 +1,9 @@
 ghost use Rattle.std.specs.Prelude.{◌≡◌, ℕ, true, false, Bool};
 ghost use Rattle.std.specs.List.{list_any};
-ghost use Rattle.std.specs.Option.{option_map, ForSome};
+ghost use Rattle.std.specs.Option.{ForSome};
 ghost use Rattle.iocm_model.specs.Machine.Record.{Rec, key_of};
 ghost use Rattle.iocm_model.specs.Machine.Configuration.{Configuration, records_of};
-ghost use Rattle.iocm_model.specs.Rules.FirstBreach.{first_record};
+ghost use Rattle.iocm_lookup.specs.First.{first_key};
 ghost use Rattle.iocm_lookup.specs.Kinds as kinds;
 
 use crate::kind::Kind;
@@ -48,7 +48,7 @@ pub trait Wanted<A: Allocator> {
 /// the records of its kind; one that is known to be like the one before it isn't looked at again.
 pub fn first_wanted<A: Allocator, W: Wanted<A>>(config: &Config<A>, wanted: &W) -> Option<Key>
     requires { W.fits wanted.now config.now.records }
-    ensures { result ≡ option_map key_of (first_record (W.wants wanted.now config.now.records) (records_of config.now.records)) }
+    ensures { result ≡ first_key (W.wants wanted.now config.now.records) config.now.records }
 {
     config.has_own_keys();
     let kind = wanted.kind();

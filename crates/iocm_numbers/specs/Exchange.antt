@@ -28,11 +28,14 @@ ExchangeLeads = (n m : Numbering) → Agree n m → exchanged n (freed_numbers n
 
 -- and what is given fits in, where the other gives no number twice
 abbrev pub RowsFitIn : Type 0
-RowsFitIn = (n m : Numbering) → Agree n m → HasNoNumberTwice m → FitIn (without_rows n (freed_numbers n m)) (freed_numbers m n)
+RowsFitIn = (n m : Numbering) → Agree n m → HasNoNumberTwice m
+    → FitIn (without_rows n (freed_numbers n m)) (freed_numbers m n)
 
 -- and has room, where each number of the other has
 abbrev pub RowsHaveRoom : Type 0
-RowsHaveRoom = (now : Numbered) (n m : Numbering) → ((p : Place) (number : ℕ) → get m p ≡ Some number → HasRoom now p number) → HaveRoom now (freed_numbers m n)
+RowsHaveRoom = (now : Numbered) (n m : Numbering)
+    → ((p : Place) (number : ℕ) → get m p ≡ Some number → HasRoom now p number)
+    → HaveRoom now (freed_numbers m n)
 
 -- the numbers before and after a change of the configuration agree
 abbrev pub ChangesAgree : Type 0

@@ -17,5 +17,6 @@ cells_at n ps = filter_map (λ p. option_map (cell_at p) (get n p)) ps
 
 -- the number cell of a place that has a number is among those of any places of which it is one
 abbrev pub CellsAreListed : Type 0
-CellsAreListed = (n : Numbering) (ps : List Place) (p : Place) (k : ℕ) → list_any (eq_by_cmp place_cmp p) ps ≡ true → get n p ≡ Some k
+CellsAreListed = (n : Numbering) (ps : List Place) (p : Place) (k : ℕ)
+    → list_any (eq_by_cmp place_cmp p) ps ≡ true → get n p ≡ Some k
     → list_any (eq_by_cmp cell_cmp (cell_at p k)) (cells_at n ps) ≡ true

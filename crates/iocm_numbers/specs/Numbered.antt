@@ -43,7 +43,8 @@ pub record HasSameRoom (n m : Numbered) : Type 0 where
 
 -- no number comes twice in a channel subsystem and set
 abbrev pub HasNoNumberTwice : Numbering → Type 0
-HasNoNumberTwice n = (p q : Place) (number : ℕ) → p.css ≡ q.css → p.set ≡ q.set → get n p ≡ Some number → get n q ≡ Some number → p ≡ q
+HasNoNumberTwice n = (p q : Place) (number : ℕ) → p.css ≡ q.css → p.set ≡ q.set → get n p ≡ Some number
+    → get n q ≡ Some number → p ≡ q
 
 -- the devices that have numbers have device numbers of 16 bits
 abbrev pub HasSmallDevices : Numbering → Type 0

@@ -36,4 +36,5 @@ rows_of css ds = flat_map (λ set. numbers_from css set 0 (numbered css set ds))
 
 -- the rows of all channel subsystems, those that are reached at opening
 abbrev pub rows_at_opening : Configuration → List (Place × ℕ)
-rows_at_opening c = flat_map (λ css. flat_map (λ set. numbers_from css set 0 (reached_devices c css set)) sets) subsystems
+rows_at_opening c =
+    flat_map (λ css. flat_map (λ set. numbers_from css set 0 (reached_devices c css set)) sets) subsystems

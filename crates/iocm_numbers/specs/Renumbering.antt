@@ -1,5 +1,5 @@
 -- The three steps of numbering after a change, at the places that it may touch.
-use Rattle.std.specs.Prelude.{◌≡◌, true, false, not, ◌&&◌, if◌then◌else◌, List, [], ◌∷◌}
+use Rattle.std.specs.Prelude.{◌≡◌, ℕ, Bool, true, false, not, ◌&&◌, if◌then◌else◌, List, [], ◌∷◌, fold}
 use Rattle.std.specs.List.{list_any}
 use Rattle.std.specs.Ordering.{eq_by_cmp}
 use Rattle.std.specs.declared.cmp.Ordering.TheVariants.{Less}
@@ -8,7 +8,11 @@ use Rattle.iocm_types.specs.declared.place.Place.{Place}
 use Rattle.iocm_types.specs.Place.{place_cmp}
 use Rattle.iocm_model.specs.Machine.Configuration.{Configuration}
 use Rattle.iocm_model.specs.Machine.Numbering.{Numbering, is_reached_at}
-use Rattle.iocm_model.specs.Change.Renumbering.{with_lowest}
+use Rattle.iocm_model.specs.Change.Renumbering.{with_carried, with_lowest}
+
+-- a device is reached at a place and has no number there yet
+abbrev pub needs_number : Configuration → Numbering → Place → Bool
+needs_number c n p = is_reached_at c p && not (contains_key n p)
 
 -- a device that isn't reached at a place loses its number
 abbrev pub left_by : Configuration → Numbering → Place → Numbering
@@ -17,6 +21,10 @@ left_by c n p = if is_reached_at c p then n else remove n p
 -- a device that is reached at a place and has no number there gets the lowest free one
 abbrev pub filled_by : Configuration → Numbering → Place → Numbering
 filled_by c n p = if is_reached_at c p then with_lowest n p else n
+
+-- what comes in gets the number that it has carried along, and the rest of it the lowest free ones
+abbrev pub given_by : Configuration → List (Place × ℕ) → List Place → Numbering → Numbering
+given_by c carried touched n = fold (filled_by c) (fold (with_carried c) n carried) touched
 
 -- places rise strictly: each is before all behind it
 abbrev pub Rise : List Place → Type 0
@@ -30,4 +38,4 @@ AreAllTouched c n ps = (p : Place) → list_any (eq_by_cmp place_cmp p) ps ≡ f
 
 -- only devices that are reached and had no number have another now
 abbrev pub ChangesComersAlone : Configuration → Numbering → Numbering → Type 0
-ChangesComersAlone c old new = (p : Place) → (is_reached_at c p && not (contains_key old p)) ≡ false → get new p ≡ get old p
+ChangesComersAlone c old new = (p : Place) → needs_number c old p ≡ false → get new p ≡ get old p

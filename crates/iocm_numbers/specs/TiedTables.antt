@@ -22,7 +22,8 @@ bit_of css set number = (css * 4 + set) * 65536 + number
 abbrev pub AreNotedToo : List (Place × ℕ) → List ℕ → List ℕ → Type 0
 AreNotedToo rows old new = (css set number : ℕ) → css < 6 → set < 4 → number < 65536
     → is_bit_set new (bit_of css set number)
-    ≡ (is_bit_set old (bit_of css set number) || is_some (find cell_cmp (record { css = css; set = set; number = number }) (cells_in rows)))
+    ≡ (is_bit_set old (bit_of css set number)
+    || is_some (find cell_cmp (record { css = css; set = set; number = number }) (cells_in rows)))
 
 -- the words in which a number is noted that is given away
 abbrev pub all_words : ℕ
@@ -36,4 +37,5 @@ pub record AreTied (places : Stored Place ℕ) (cells : Stored NumberCell ℕ) (
   pub small : HasSmallDevices (rows place_cmp places)
   pub whole : length words ≡ all_words
   pub bits : (css set number : ℕ) → css < 6 → set < 4 → number < 65536
-      → is_bit_set words (bit_of css set number) ≡ contains_key (rows cell_cmp cells) (record { css = css; set = set; number = number })
+      → is_bit_set words (bit_of css set number)
+      ≡ contains_key (rows cell_cmp cells) (record { css = css; set = set; number = number })

@@ -1,4 +1,5 @@
-ghost use Rattle.std.specs.Prelude.{◌≡◌, ◌≢◌, ◌<◌, ◌≤◌, ◌+◌, ◌*◌, true, false, length, ℕ, IfSome, IfOk, IsNone, replicate};
+ghost use Rattle.std.specs.Prelude.{◌≡◌, ◌≢◌, ◌<◌, ◌≤◌, ◌+◌, ◌*◌, true, false, length};
+ghost use Rattle.std.specs.Prelude.{ℕ, IfSome, IfOk, IsNone, replicate};
 ghost use Rattle.iocm_numbers.specs.Bits.{is_bit_set, IsLowestClear, AreAllSet};
 
 use std::alloc::{AllocError, Allocator};

@@ -24,7 +24,8 @@ impl<A: Allocator> Numbers<A> {
         freed: &[(Place, u16)],
         given: &[(Place, u16)],
     ) -> Result<Vec<NumberChange, B>, AllocError>
-        ensures { IfOk result (λ changes. (n : Numbering) → WereBefore n self.now.numbers freed.now given.now → changes.items ≡ changes_between n self.now.numbers) }
+        ensures { IfOk result (λ changes. (n : Numbering) → WereBefore n self.now.numbers freed.now given.now
+            → changes.items ≡ changes_between n self.now.numbers) }
     {
         // For the proof alone: no number comes twice.
         self.are_apart();
@@ -40,7 +41,8 @@ impl<A: Allocator> Numbers<A> {
         alloc: C,
         holders: &Table<NumberCell, Option<DevNo>, B>,
     ) -> Result<Vec<NumberChange, C>, AllocError>
-        ensures { IfOk result (λ changes. changes.items ≡ map (change_from self.now.numbers) (entries (rows cell_cmp holders.now))) }
+        ensures { IfOk result (λ changes. changes.items
+            ≡ map (change_from self.now.numbers) (entries (rows cell_cmp holders.now))) }
     {
         let mut changes = Vec::new(alloc);
         for (cell, before) in holders.walk() {

@@ -24,7 +24,8 @@ pub fn gather_devices<A: Allocator, B: Allocator>(
     alloc: B,
     config: &Config<A>,
 ) -> Result<Vec<DeviceReach, B>, AllocError>
-    ensures { IfOk result (λ devices. devices.items ≡ map (reach_of (lookup_of config.now.records)) (devices_of config.now.records)) }
+    ensures { IfOk result (λ devices. devices.items
+        ≡ map (reach_of (lookup_of config.now.records)) (devices_of config.now.records)) }
 {
     let mut devices = Vec::new(alloc);
     let mut last = UnitsReach {

@@ -40,7 +40,8 @@ pub fn sort_apart<B: Allocator>(
     mut cells: Vec<NumberCell, B>,
 ) -> Result<Vec<NumberCell, B>, AllocError>
     ensures order { IfOk result (λ sorted. IsStrictlySortedBy cell_cmp sorted.items) }
-    ensures same { IfOk result (λ sorted. (c : number_cell.NumberCell) → list_any (eq_by_cmp cell_cmp c) sorted.items ≡ list_any (eq_by_cmp cell_cmp c) cells.items) }
+    ensures same { IfOk result (λ sorted. (c : number_cell.NumberCell)
+        → list_any (eq_by_cmp cell_cmp c) sorted.items ≡ list_any (eq_by_cmp cell_cmp c) cells.items) }
 {
     cells.sort()?;
     cells.dedup();

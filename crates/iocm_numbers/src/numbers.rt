@@ -1,10 +1,12 @@
-ghost use Rattle.std.specs.Prelude.{◌≡◌, ◌⊎◌, ◌<◌, ◌≤◌, [], ℕ, None, IsSome, IsNone, IfSome, Some, IfOk, OnOk, IsOk, length};
+ghost use Rattle.std.specs.Prelude.{◌≡◌, ◌⊎◌, ◌<◌, ◌≤◌, [], ℕ, None, IsSome, IsNone};
+ghost use Rattle.std.specs.Prelude.{IfSome, Some, IfOk, OnOk, IsOk, length};
 ghost use Rattle.std.specs.FinMap as map;
 ghost use Rattle.iocm_types.specs.declared.place.NumberCell as cell_type;
 ghost use Rattle.iocm_types.specs.declared.place.Place as place_type;
 ghost use Rattle.iocm_model.specs.Machine.Numbering.{cells_of, device_at};
 ghost use Rattle.iocm_model.specs.Change.Renumbering as renumbering;
-ghost use Rattle.iocm_numbers.specs.Numbered.{cell_at, HasCellRoom, HasNoNumberTwice, HasPlaceRoom, HasRoom, HasSameRoom, HasSmallDevices, KeepsRoom};
+ghost use Rattle.iocm_numbers.specs.Numbered.{cell_at, HasCellRoom, HasNoNumberTwice, HasPlaceRoom};
+ghost use Rattle.iocm_numbers.specs.Numbered.{HasRoom, HasSameRoom, HasSmallDevices, KeepsRoom};
 ghost use Rattle.iocm_numbers.specs.TiedTables as tied;
 
 use crate::bits::{clear_bit, clear_words, lowest_clear, set_bit};
@@ -41,10 +43,17 @@ impl<A: Allocator> Model for Numbers<A> {
     ghost Value = { Numbered };
 
     ghost coded = { code_by (Numbering × (List Place × List NumberCell))
-        (coded× (map.code (Prim.hlevel codes) coded_ℕ) (coded× (coded_list (Prim.hlevel codes)) (coded_list (Prim.hlevel codes))))
-        (λ s. (s.numbers, (s.place_room, s.cell_room))) (λ p. record { numbers = p.0; place_room = p.1.0; cell_room = p.1.1 }) (λ _. refl) };
+        (coded× (map.code (Prim.hlevel codes) coded_ℕ)
+        (coded× (coded_list (Prim.hlevel codes)) (coded_list (Prim.hlevel codes))))
+        (λ s. (s.numbers, (s.place_room, s.cell_room)))
+        (λ p. record { numbers = p.0; place_room = p.1.0; cell_room = p.1.1 })
+        (λ _. refl) };
 
-    ghost view = { λ n. record { numbers = rows place_cmp n.places; place_room = n.places.places; cell_room = n.cells.places } };
+    ghost view = { λ n. record {
+      numbers = rows place_cmp n.places;
+      place_room = n.places.places;
+      cell_room = n.cells.places;
+    } };
 
     ghost invariant = { λ n. AreTied n.places n.cells n.words.items };
 }
@@ -128,8 +137,10 @@ impl<A: Allocator> Numbers<A> {
         ensures numbers { self.new.numbers ≡ self.old.numbers }
         ensures ok { OnOk result (HasRoom self.new place number) }
         ensures kept { KeepsRoom self.old self.new }
-        ensures no_more_places { (p : place_type.Place) → HasPlaceRoom self.new p → HasPlaceRoom self.old p ⊎ (p ≡ place) }
-        ensures no_more_cells { (c : cell_type.NumberCell) → HasCellRoom self.new c → HasCellRoom self.old c ⊎ (c ≡ cell_at place number) }
+        ensures no_more_places { (p : place_type.Place) → HasPlaceRoom self.new p
+            → HasPlaceRoom self.old p ⊎ (p ≡ place) }
+        ensures no_more_cells { (c : cell_type.NumberCell) → HasCellRoom self.new c
+            → HasCellRoom self.old c ⊎ (c ≡ cell_at place number) }
         ensures succeeds { HasRoom self.old place number → IsOk result }
     {
         let cell = cell_of(&place, number);

@@ -1,12 +1,12 @@
-ghost use Rattle.std.specs.Prelude.{◌≡◌, true, false, not, ◌&&◌, None, fold, IfOk, OnOk, OnErr};
-ghost use Rattle.std.specs.FinMap as map;
-ghost use Rattle.iocm_model.specs.Machine.Numbering.{is_reached_at, device_at};
+ghost use Rattle.std.specs.Prelude.{◌≡◌, true, false, None, fold, IfOk, OnOk, OnErr};
+ghost use Rattle.iocm_model.specs.Machine.Numbering.{device_at};
 ghost use Rattle.iocm_model.specs.Change.Renumbering.{without_leavers, with_carried, numbers_after};
 ghost use Rattle.iocm_model.specs.Change.Refusal.{is_number_taken};
 ghost use Rattle.iocm_model.specs.Change.Inverse.{freed_numbers};
 ghost use Rattle.iocm_numbers.specs.Numbered.{cell_at, HasSameRoom, KeepsRoom};
 ghost use Rattle.iocm_numbers.specs.PutBack.{numbers_at};
-ghost use Rattle.iocm_numbers.specs.Renumbering.{left_by, filled_by, AreAllTouched, ChangesComersAlone, Rise};
+ghost use Rattle.iocm_numbers.specs.Renumbering.{left_by, filled_by, given_by, needs_number};
+ghost use Rattle.iocm_numbers.specs.Renumbering.{AreAllTouched, ChangesComersAlone, Rise};
 
 use crate::reached::is_place_reached;
 use crate::{Numbers, Renumbered};
@@ -36,7 +36,8 @@ impl<A: Allocator> Numbers<A> {
         requires rise { Rise touched.now }
         requires all { AreAllTouched config.now.records self.old.numbers touched.now }
         requires free { is_number_taken config.now.records self.old.numbers carried.now ≡ false }
-        ensures numbers { OnOk result (self.new.numbers ≡ numbers_after config.now.records carried.now self.old.numbers) }
+        ensures numbers { OnOk result
+            (self.new.numbers ≡ numbers_after config.now.records carried.now self.old.numbers) }
         ensures same { OnErr result (self.new.numbers ≡ self.old.numbers) }
         ensures room { KeepsRoom self.old self.new }
         ensures freed { IfOk result (λ r. r.freed.items ≡ freed_numbers self.old.numbers self.new.numbers) }
@@ -75,7 +76,8 @@ impl<A: Allocator> Numbers<A> {
         A: Clone,
         requires stay { without_leavers config.now.records self.old.numbers ≡ self.old.numbers }
         requires free { is_number_taken config.now.records self.old.numbers carried.now ≡ false }
-        ensures numbers { OnOk result (self.new.numbers ≡ fold (filled_by config.now.records) (fold (with_carried config.now.records) self.old.numbers carried.now) touched.now) }
+        ensures numbers { OnOk result (self.new.numbers
+            ≡ given_by config.now.records carried.now touched.now self.old.numbers) }
         ensures others { ChangesComersAlone config.now.records self.old.numbers self.new.numbers }
         ensures room { KeepsRoom self.old self.new }
         ensures listed { IfOk result (λ rows. rows.items ≡ numbers_at self.new.numbers listed.now) }
@@ -95,7 +97,8 @@ impl<A: Allocator> Numbers<A> {
         A: Clone,
         requires stay { without_leavers config.now.records self.old.numbers ≡ self.old.numbers }
         requires free { is_number_taken config.now.records self.old.numbers carried.now ≡ false }
-        ensures numbers { OnOk result (self.new.numbers ≡ fold (filled_by config.now.records) (fold (with_carried config.now.records) self.old.numbers carried.now) touched.now) }
+        ensures numbers { OnOk result (self.new.numbers
+            ≡ given_by config.now.records carried.now touched.now self.old.numbers) }
         ensures others { ChangesComersAlone config.now.records self.old.numbers self.new.numbers }
         ensures room { KeepsRoom self.old self.new }
     {
@@ -133,7 +136,8 @@ impl<A: Allocator> Numbers<A> {
         A: Clone,
         requires stay { without_leavers config.now.records self.old.numbers ≡ self.old.numbers }
         requires free { is_number_taken config.now.records self.old.numbers carried.now ≡ false }
-        ensures numbers { OnOk result (self.new.numbers ≡ fold (with_carried config.now.records) self.old.numbers carried.now) }
+        ensures numbers { OnOk result
+            (self.new.numbers ≡ fold (with_carried config.now.records) self.old.numbers carried.now) }
         ensures others { ChangesComersAlone config.now.records self.old.numbers self.new.numbers }
         ensures room { KeepsRoom self.old self.new }
     {
@@ -153,8 +157,10 @@ impl<A: Allocator> Numbers<A> {
     ) -> Result<(), AllocError>
     where
         A: Clone,
-        requires { (is_reached_at config.now.records place.now && not (map.contains_key self.old.numbers place.now)) ≡ true → device_at self.old.numbers (cell_at place.now number) ≡ None }
-        ensures numbers { OnOk result (self.new.numbers ≡ with_carried config.now.records self.old.numbers (place.now, number)) }
+        requires { needs_number config.now.records self.old.numbers place.now ≡ true
+            → device_at self.old.numbers (cell_at place.now number) ≡ None }
+        ensures numbers { OnOk result
+            (self.new.numbers ≡ with_carried config.now.records self.old.numbers (place.now, number)) }
         ensures same { OnErr result (self.new.numbers ≡ self.old.numbers) }
         ensures room { KeepsRoom self.old self.new }
     {
@@ -175,7 +181,8 @@ impl<A: Allocator> Numbers<A> {
     ) -> Result<(), AllocError>
     where
         A: Clone,
-        ensures numbers { OnOk result (self.new.numbers ≡ fold (filled_by config.now.records) self.old.numbers touched.now) }
+        ensures numbers { OnOk result
+            (self.new.numbers ≡ fold (filled_by config.now.records) self.old.numbers touched.now) }
         ensures others { ChangesComersAlone config.now.records self.old.numbers self.new.numbers }
         ensures room { KeepsRoom self.old self.new }
     {
@@ -214,7 +221,7 @@ impl<A: Allocator> Numbers<A> {
 
     /// Whether a device comes in at a place: it is reached there and has no number yet.
     pub(crate) fn comes_in<B: Allocator>(&self, config: &Config<B>, place: &Place) -> bool
-        ensures { result ≡ (is_reached_at config.now.records place.now && not (map.contains_key self.now.numbers place.now)) }
+        ensures { result ≡ needs_number config.now.records self.now.numbers place.now }
     {
         is_place_reached(config, *place) && self.number_of(*place).is_none()
     }

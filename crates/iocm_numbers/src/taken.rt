@@ -40,7 +40,9 @@ impl<A: Allocator> Numbers<A> {
 
     /// Whether a device that stays holds a number with which another comes in.
     fn is_one_held<B: Allocator>(&self, config: &Config<B>, carried: &[(Place, u16)]) -> bool
-        ensures { result ≡ list_any (λ row. list_any (same_cell row) (entries (without_leavers config.now.records self.now.numbers))) (filter (comes_in config.now.records self.now.numbers) carried.now) }
+        ensures { result ≡ list_any
+            (λ row. list_any (same_cell row) (entries (without_leavers config.now.records self.now.numbers)))
+            (filter (comes_in config.now.records self.now.numbers) carried.now) }
     {
         for row in carried {
             if self.comes_in(config, &row.0) && self.is_held(config, row) {
@@ -52,7 +54,8 @@ impl<A: Allocator> Numbers<A> {
 
     /// Whether a device that stays holds the number of a row.
     fn is_held<B: Allocator>(&self, config: &Config<B>, row: &(Place, u16)) -> bool
-        ensures { result ≡ list_any (same_cell row.now) (entries (without_leavers config.now.records self.now.numbers)) }
+        ensures { result
+            ≡ list_any (same_cell row.now) (entries (without_leavers config.now.records self.now.numbers)) }
     {
         // For the proof alone: no number comes twice.
         self.are_apart();
@@ -70,7 +73,8 @@ impl<A: Allocator> Numbers<A> {
         carried: &[(Place, u16)],
     ) -> Result<bool, AllocError>
         ensures none { carried.now ≡ [] → IsOk result }
-        ensures twice { IfOk result (λ twice. twice ≡ has_cell_twice (filter (comes_in config.now.records self.now.numbers) carried.now)) }
+        ensures twice { IfOk result (λ twice. twice
+            ≡ has_cell_twice (filter (comes_in config.now.records self.now.numbers) carried.now)) }
     {
         let mut seen = Table::new(alloc);
         for row in carried {
@@ -89,8 +93,10 @@ impl<A: Allocator> Numbers<A> {
         seen: &mut Table<NumberCell, (), C>,
         row: &(Place, u16),
     ) -> Result<bool, AllocError>
-        ensures again { IfOk result (λ again. again ≡ (comes_in config.now.records self.now.numbers row.now && is_noted (rows cell_cmp seen.old) row.now)) }
-        ensures noted { OnOk result (rows cell_cmp seen.new ≡ with_noted config.now.records self.now.numbers (rows cell_cmp seen.old) row.now) }
+        ensures again { IfOk result (λ again. again ≡ (comes_in config.now.records self.now.numbers row.now
+            && is_noted (rows cell_cmp seen.old) row.now)) }
+        ensures noted { OnOk result (rows cell_cmp seen.new
+            ≡ with_noted config.now.records self.now.numbers (rows cell_cmp seen.old) row.now) }
     {
         if !self.comes_in(config, &row.0) {
             return Ok(false);
@@ -103,7 +109,8 @@ impl<A: Allocator> Numbers<A> {
 
 /// Whether a device stays in the channel subsystem and set of a place.
 fn is_device_kept<B: Allocator>(config: &Config<B>, place: &Place, device: DevNo) -> bool
-    ensures { result ≡ is_reached_at config.now.records (record { css = place.now.css; set = place.now.set; device = device }) }
+    ensures { result ≡ is_reached_at config.now.records
+        (record { css = place.now.css; set = place.now.set; device = device }) }
 {
     let kept = Place {
         css: place.css,

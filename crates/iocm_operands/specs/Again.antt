@@ -16,10 +16,12 @@ use Rattle.iocm_values.specs.Value.{value}
 use Rattle.iocm_operands.specs.declared.device.Devices.{Devices}
 use Rattle.iocm_operands.specs.ChpidPath.{path_of, path_text}
 use Rattle.iocm_operands.specs.ChpidPartition.{partition_of, partition_text}
-use Rattle.iocm_operands.specs.Device.{candidates_of, devices_of, devices_text, units_of, units_text, first_address, set_of}
+use Rattle.iocm_operands.specs.Device.{candidates_of, devices_of, devices_text, units_of}
+use Rattle.iocm_operands.specs.Device.{units_text, first_address, set_of}
 use Rattle.iocm_operands.specs.Limits.{limits_of, limits_text}
 use Rattle.iocm_operands.specs.Resource.{images_of, images_text}
-use Rattle.iocm_operands.specs.Unit.{number_of, cuadd_of, ranges_of, ranges_text, paths_of, paths_text, links_of, links_text}
+use Rattle.iocm_operands.specs.Unit.{number_of, cuadd_of, ranges_of, ranges_text}
+use Rattle.iocm_operands.specs.Unit.{paths_of, paths_text, links_of, links_text}
 
 -- a path of a channel subsystem 0 to 5, with a number up to FF
 pub record IsPath (p : CssPath) : Type 0 where
@@ -41,7 +43,8 @@ ReadsCuaddAgain = (address : ℕ) → address < 256 → cuadd_of (value (hex2 ad
 -- UNITADD of IODEVICE: the address of the first of so many devices, up to FF; the last one's is not
 -- past FF
 abbrev pub ReadsFirstAddressAgain : Type 0
-ReadsFirstAddressAgain = (count first : ℕ) → first < 256 → first + count ≤ 256 → first_address count (value (hex2 first)) ≡ Some first
+ReadsFirstAddressAgain = (count first : ℕ) → first < 256 → first + count ≤ 256
+    → first_address count (value (hex2 first)) ≡ Some first
 
 -- SCHSET, 0 to 3
 abbrev pub ReadsSetAgain : Type 0
@@ -59,7 +62,8 @@ ReadsDevicesAgain = (d : Devices) → AreDevices d → devices_of (value (device
 
 -- CUNUMBR of IODEVICE: a unit or more, in their order
 abbrev pub ReadsUnitsAgain : Type 0
-ReadsUnitsAgain = (units : List ℕ) → units ≢ [] → All (λ unit. unit ≤ 65534) units → units_of (value (units_text units)) ≡ Some units
+ReadsUnitsAgain = (units : List ℕ) → units ≢ [] → All (λ unit. unit ≤ 65534) units
+    → units_of (value (units_text units)) ≡ Some units
 
 -- 1 to 256 unit addresses, the first up to FF
 pub record IsRange (r : UnitRange) : Type 0 where
@@ -69,7 +73,8 @@ pub record IsRange (r : UnitRange) : Type 0 where
 
 -- UNITADD of CNTLUNIT: a range or more, in their order
 abbrev pub ReadsRangesAgain : Type 0
-ReadsRangesAgain = (ranges : List UnitRange) → ranges ≢ [] → All IsRange ranges → ranges_of (value (ranges_text ranges)) ≡ Some ranges
+ReadsRangesAgain = (ranges : List UnitRange) → ranges ≢ [] → All IsRange ranges
+    → ranges_of (value (ranges_text ranges)) ≡ Some ranges
 
 -- a set of names: names, ascending, each once
 pub record IsNameSet (names : List (List ℕ)) : Type 0 where
@@ -82,7 +87,8 @@ ReadsCandidatesAgain = (names : List (List ℕ)) → IsNameSet names → candida
 
 -- PARTITION of CHPID, whichever channel subsystem the path is of
 abbrev pub ReadsPartitionAgain : Type 0
-ReadsPartitionAgain = (css : ℕ) (access candidates : List (List ℕ)) (is_reconfigurable : Bool) → IsNameSet access → IsNameSet candidates
+ReadsPartitionAgain = (css : ℕ) (access candidates : List (List ℕ)) (is_reconfigurable : Bool)
+    → IsNameSet access → IsNameSet candidates
     → partition_of css (value (partition_text access candidates is_reconfigurable))
     ≡ Some (record { access = access; candidates = Some candidates; is_reconfigurable = is_reconfigurable })
 
@@ -94,7 +100,8 @@ pub record AreByCss {A : Type 0} (css_of : A → ℕ) (Is : A → Type 0) (xs : 
 
 -- PATH of CNTLUNIT, in the order of the paths of each channel subsystem
 abbrev pub ReadsPathsAgain : Type 0
-ReadsPathsAgain = (paths : List CssPath) → AreByCss (λ (p : CssPath). p.css) IsPath paths → paths_of (value (paths_text paths)) ≡ Some paths
+ReadsPathsAgain = (paths : List CssPath) → AreByCss (λ (p : CssPath). p.css) IsPath paths
+    → paths_of (value (paths_text paths)) ≡ Some paths
 
 -- a link of two digits is up to FF, one of four digits up to FFFF
 abbrev pub IsWithinDigits : Link → Type 0
@@ -109,7 +116,8 @@ pub record IsLink (l : CssLink) : Type 0 where
 
 -- LINK of CNTLUNIT, in the order of the links of each channel subsystem
 abbrev pub ReadsLinksAgain : Type 0
-ReadsLinksAgain = (links : List CssLink) → AreByCss (λ (l : CssLink). l.css) IsLink links → links_of (value (links_text links)) ≡ Some links
+ReadsLinksAgain = (links : List CssLink) → AreByCss (λ (l : CssLink). l.css) IsLink links
+    → links_of (value (links_text links)) ≡ Some links
 
 -- an image of a channel subsystem 0 to 5, with a MIF image ID 1 to F and a name
 pub record IsImage (i : ImageRecord) : Type 0 where
@@ -120,7 +128,8 @@ pub record IsImage (i : ImageRecord) : Type 0 where
 
 -- PARTITION of RESOURCE, in the order of the images of each channel subsystem
 abbrev pub ReadsImagesAgain : Type 0
-ReadsImagesAgain = (images : List ImageRecord) → AreByCss (λ (i : ImageRecord). i.css) IsImage images → images_of (value (images_text images)) ≡ Some images
+ReadsImagesAgain = (images : List ImageRecord) → AreByCss (λ (i : ImageRecord). i.css) IsImage images
+    → images_of (value (images_text images)) ≡ Some images
 
 -- a limit, up to 65535, of a subchannel set 0 to 3 in a channel subsystem 0 to 5
 pub record IsLimit (l : LimitRecord) : Type 0 where
@@ -131,7 +140,9 @@ pub record IsLimit (l : LimitRecord) : Type 0 where
 -- limits: the channel subsystems ascend, and in each the sets ascend, with one limit a set
 pub record AreLimits (limits : List LimitRecord) : Type 0 where
   pub by_css : AreByCss (λ (l : LimitRecord). l.css) IsLimit limits
-  pub sets : (css : ℕ) → css < 6 → IsStrictlyIncreasing (map (λ (l : LimitRecord). l.set) (filter (λ (l : LimitRecord). l.css == css) limits))
+  pub sets : (css : ℕ) → css < 6
+      → IsStrictlyIncreasing
+      (map (λ (l : LimitRecord). l.set) (filter (λ (l : LimitRecord). l.css == css) limits))
 
 -- MAXDEV of RESOURCE
 abbrev pub ReadsLimitsAgain : Type 0

@@ -1,6 +1,7 @@
 -- PARTITION of CHPID: the access and the candidate list of a path, in the group of its channel
 -- subsystem or without. IOCP User's Guide, CHPID statement; the forms are own.
-use Rattle.std.specs.Prelude.{ℕ, ◌==◌, ◌-◌, ◌&&◌, ◌||◌, Bool, true, false, not, if◌then◌else◌, Option, None, Some, List, [], ◌∷◌, length, take, slice_get, codes}
+use Rattle.std.specs.Prelude.{ℕ, ◌==◌, ◌-◌, ◌&&◌, ◌||◌, Bool, true, false, not, if◌then◌else◌, Option}
+use Rattle.std.specs.Prelude.{None, Some, List, [], ◌∷◌, length, take, slice_get, codes}
 use Rattle.std.specs.List.{list_any}
 use Rattle.std.specs.Option.{option_map, option_map_or}
 use Rattle.std.specs.Str.{bytes_eq}
@@ -26,7 +27,8 @@ without_group css items = if begins_with_css items then own_items css items else
 
 -- the same where the group has parentheses of its own, ((CSS(n),..))
 abbrev pub without_groups : ℕ → List Value → Option (List Value)
-without_groups css (list inner ∷ []) = values inner >>= λ items. if begins_with_css items then own_items css items else Some (list inner ∷ [])
+without_groups css (list inner ∷ []) = values inner >>= λ items.
+    if begins_with_css items then own_items css items else Some (list inner ∷ [])
 without_groups css items = without_group css items
 
 -- a list, `0` or `=`
@@ -54,14 +56,16 @@ candidates_listed access v = if is_same_list v then Some access else names_liste
 
 -- an access list alone; an access and a candidate list
 abbrev pub listed : Bool → List Value → Option Partition
-listed rec (first ∷ []) = names_listed first >>= λ access. Some (record { access = access; candidates = None; is_reconfigurable = rec })
+listed rec (first ∷ []) = names_listed first >>= λ access.
+    Some (record { access = access; candidates = None; is_reconfigurable = rec })
 listed rec (first ∷ second ∷ []) = names_listed first >>= λ access. candidates_listed access second >>= λ candidates.
     Some (record { access = access; candidates = Some candidates; is_reconfigurable = rec })
 listed rec _ = None
 
 -- names alone are the access list
 abbrev pub named : Bool → List Value → Option Partition
-named rec items = names_of items >>= λ access. Some (record { access = access; candidates = None; is_reconfigurable = rec })
+named rec items = names_of items >>= λ access.
+    Some (record { access = access; candidates = None; is_reconfigurable = rec })
 
 abbrev pub lists : Bool → List Value → Option Partition
 lists rec items = if list_any is_list_form items then listed rec items else named rec items
@@ -88,4 +92,5 @@ rec_texts is_reconfigurable = if is_reconfigurable then codes "REC" ∷ [] else 
 
 -- the lists as they are written, always both: (access,candidates), or (access,candidates,REC)
 abbrev pub partition_text : List (List ℕ) → List (List ℕ) → Bool → List ℕ
-partition_text access candidates is_reconfigurable = list_text (names_text access ∷ names_text candidates ∷ rec_texts is_reconfigurable)
+partition_text access candidates is_reconfigurable =
+    list_text (names_text access ∷ names_text candidates ∷ rec_texts is_reconfigurable)

@@ -1,6 +1,7 @@
 -- The values of IODEVICE: addresses, units, the first unit address, subchannel set, candidates.
 -- IOCP User's Guide, IODEVICE statement; the forms and the most devices of a statement are own.
-use Rattle.std.specs.Prelude.{ℕ, ◌+◌, ◌||◌, nat_le, Bool, is_some, if◌then◌else◌, Option, None, Some, List, [], ◌∷◌, map, codes}
+use Rattle.std.specs.Prelude.{ℕ, ◌+◌, ◌||◌, nat_le, Bool, is_some, if◌then◌else◌}
+use Rattle.std.specs.Prelude.{Option, None, Some, List, [], ◌∷◌, map, codes}
 use Rattle.std.specs.Fmt.{decimal}
 use Rattle.std.specs.List.{filter_map}
 use Rattle.std.specs.Option.{option_map}
@@ -19,7 +20,8 @@ use Rattle.iocm_values.specs.Words.{words}
 
 -- no device number is past FFFF
 abbrev pub devices_within : ℕ → ℕ → Option Devices
-devices_within first count = if nat_le (first + count) 65536 then Some (record { first = first; count = count }) else None
+devices_within first count =
+    if nat_le (first + count) 65536 then Some (record { first = first; count = count }) else None
 
 -- (number) with one device, or (number,count) with a count of 1 to 4096
 abbrev pub devices_listed : List Value → Option Devices
@@ -40,7 +42,8 @@ units_of v = items_or_one v >>= every unit_item
 
 -- the unit address of the first of so many devices; the last one is not past FF
 abbrev pub first_address : ℕ → Value → Option ℕ
-first_address count v = word_text v >>= hex_of 255 2 >>= λ first. if nat_le (first + count) 256 then Some first else None
+first_address count v =
+    word_text v >>= hex_of 255 2 >>= λ first. if nat_le (first + count) 256 then Some first else None
 
 -- a subchannel set, 0 to 3 in decimal
 abbrev pub set_of : Value → Option ℕ
@@ -56,7 +59,8 @@ candidate_word text = if is_no_name text then Some None else option_map Some (na
 
 -- names, lists of them and CSS(n), nested at will
 abbrev pub candidates_listed : List ℕ → Option (List (List ℕ))
-candidates_listed inner = option_map (λ names. name_set (filter_map (λ n. n) names)) (every candidate_word (words inner))
+candidates_listed inner =
+    option_map (λ names. name_set (filter_map (λ n. n) names)) (every candidate_word (words inner))
 
 -- a name alone, or `0` for none
 abbrev pub candidate_alone : List ℕ → Option (List (List ℕ))

@@ -30,7 +30,8 @@ GivesCuadd = (v : Value) (address : ℕ) → cuadd_of v ≡ Some address → add
 
 -- UNITADD of IODEVICE
 abbrev pub GivesFirstAddress : Type 0
-GivesFirstAddress = (count : ℕ) (v : Value) (first : ℕ) → first_address count v ≡ Some first → (first < 256) × (first + count ≤ 256)
+GivesFirstAddress = (count : ℕ) (v : Value) (first : ℕ) → first_address count v ≡ Some first
+    → (first < 256) × (first + count ≤ 256)
 
 -- SCHSET
 abbrev pub GivesSet : Type 0
@@ -63,15 +64,18 @@ GivesPartition = (css : ℕ) (v : Value) (p : Partition) → partition_of css v 
 
 -- PATH of CNTLUNIT
 abbrev pub GivesPaths : Type 0
-GivesPaths = (v : Value) (paths : List CssPath) → paths_of v ≡ Some paths → AreByCss (λ (p : CssPath). p.css) IsPath paths
+GivesPaths = (v : Value) (paths : List CssPath) → paths_of v ≡ Some paths
+    → AreByCss (λ (p : CssPath). p.css) IsPath paths
 
 -- LINK of CNTLUNIT
 abbrev pub GivesLinks : Type 0
-GivesLinks = (v : Value) (links : List CssLink) → links_of v ≡ Some links → AreByCss (λ (l : CssLink). l.css) IsLink links
+GivesLinks = (v : Value) (links : List CssLink) → links_of v ≡ Some links
+    → AreByCss (λ (l : CssLink). l.css) IsLink links
 
 -- PARTITION of RESOURCE, where (*,digit) gives no image: there may be none
 abbrev pub GivesImages : Type 0
-GivesImages = (v : Value) (images : List ImageRecord) → images_of v ≡ Some images → images ≢ [] → AreByCss (λ (i : ImageRecord). i.css) IsImage images
+GivesImages = (v : Value) (images : List ImageRecord) → images_of v ≡ Some images → images ≢ []
+    → AreByCss (λ (i : ImageRecord). i.css) IsImage images
 
 -- MAXDEV of RESOURCE, where an empty place gives no limit: there may be none
 abbrev pub GivesLimits : Type 0

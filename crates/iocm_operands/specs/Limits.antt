@@ -1,6 +1,7 @@
 -- MAXDEV of RESOURCE: the limits of the subchannel sets.
 -- IOCP User's Guide, RESOURCE statement; that empty and absent places give no record is own.
-use Rattle.std.specs.Prelude.{ℕ, suc, ◌==◌, ◌&&◌, nat_lt, Bool, true, max, if◌then◌else◌, Option, None, Some, List, [], map, filter, fold, length}
+use Rattle.std.specs.Prelude.{ℕ, suc, ◌==◌, ◌&&◌, nat_lt, Bool, true, max, if◌then◌else◌}
+use Rattle.std.specs.Prelude.{Option, None, Some, List, [], map, filter, fold, length}
 use Rattle.std.specs.Fmt.{decimal}
 use Rattle.std.specs.List.{filter_map, find, flat_map, range_with_len}
 use Rattle.std.specs.Option.{option_map, option_map_or}
@@ -23,11 +24,13 @@ limit_item css v = word_text v >>= limit_of >>= λ l. Some (record { css = css; 
 
 -- the limit of a subchannel set, 0 to 3, if its place has one
 abbrev pub limit_at : ℕ → LimitPlace → Option (Option LimitRecord)
-limit_at set p = if nat_lt set 4 then Some (option_map (λ l. record { css = p.css; set = set; limit = l }) p.limit) else None
+limit_at set p =
+    if nat_lt set 4 then Some (option_map (λ l. record { css = p.css; set = set; limit = l }) p.limit) else None
 
 -- of the places of a channel subsystem the first is that of set 0, and so on
 abbrev pub limits_in : List LimitPlace → ℕ → Option (List LimitRecord)
-limits_in places css = option_map (filter_map (λ l. l)) (every_at limit_at 0 (filter (λ (p : LimitPlace). p.css == css) places))
+limits_in places css =
+    option_map (filter_map (λ l. l)) (every_at limit_at 0 (filter (λ (p : LimitPlace). p.css == css) places))
 
 -- the limits of MAXDEV, a list by channel subsystem whose groups may lack items
 abbrev pub limits_of : Value → Option (List LimitRecord)
@@ -39,11 +42,15 @@ is_limit_at css set l = (l.css == css) && (l.set == set)
 
 -- the place of a set, empty where it has no limit
 abbrev pub place_text : List LimitRecord → ℕ → ℕ → CssText
-place_text limits css set = record { css = css; text = option_map_or (λ (l : LimitRecord). decimal l.limit) (find (is_limit_at css set) limits) [] }
+place_text limits css set = record {
+  css = css;
+  text = option_map_or (λ (l : LimitRecord). decimal l.limit) (find (is_limit_at css set) limits) [];
+}
 
 -- how many places a channel subsystem has: up to its last limit
 abbrev pub count_places : List LimitRecord → ℕ → ℕ
-count_places limits css = fold max 0 (map (λ (l : LimitRecord). suc l.set) (filter (λ (l : LimitRecord). l.css == css) limits))
+count_places limits css =
+    fold max 0 (map (λ (l : LimitRecord). suc l.set) (filter (λ (l : LimitRecord). l.css == css) limits))
 
 abbrev pub places_in : List LimitRecord → ℕ → List CssText
 places_in limits css = map (place_text limits css) (range_with_len 0 (count_places limits css))

@@ -54,7 +54,8 @@ links_of v = by_css false link_item (λ (l : CssLink). l.css) v
 -- (start) with one address, or (start,count)
 abbrev pub range_listed : List Value → Option UnitRange
 range_listed (word start ∷ []) = option_map (λ n. record { start = n; count = 1 }) (unit_address start)
-range_listed (word start ∷ word count ∷ []) = unit_address start >>= λ n. count_of 256 count >>= λ c. Some (record { start = n; count = c })
+range_listed (word start ∷ word count ∷ []) = unit_address start >>= λ n. count_of 256 count >>= λ c.
+    Some (record { start = n; count = c })
 range_listed _ = None
 
 -- the same, or start alone

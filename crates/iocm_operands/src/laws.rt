@@ -2,28 +2,50 @@
 //! nothing.
 ghost use Rattle.std.specs.Prelude.{◌≡◌, true, false, [], ◌∷◌, codes};
 ghost use Rattle.iocm_types.specs.declared.link.Link.TheVariants as link;
-ghost use Rattle.iocm_operands.specs.Again.{ReadsPathAgain, ReadsNumberAgain, ReadsCuaddAgain, ReadsFirstAddressAgain, ReadsSetAgain, ReadsDevicesAgain, ReadsUnitsAgain, ReadsRangesAgain, ReadsCandidatesAgain, ReadsPartitionAgain, ReadsPathsAgain, ReadsLinksAgain, ReadsImagesAgain, ReadsLimitsAgain};
+ghost use Rattle.iocm_operands.specs.Again.{ReadsPathAgain, ReadsNumberAgain, ReadsCuaddAgain};
+ghost use Rattle.iocm_operands.specs.Again.{ReadsFirstAddressAgain, ReadsSetAgain};
+ghost use Rattle.iocm_operands.specs.Again.{ReadsDevicesAgain, ReadsUnitsAgain, ReadsRangesAgain};
+ghost use Rattle.iocm_operands.specs.Again.{ReadsCandidatesAgain, ReadsPartitionAgain};
+ghost use Rattle.iocm_operands.specs.Again.{ReadsPathsAgain, ReadsLinksAgain};
+ghost use Rattle.iocm_operands.specs.Again.{ReadsImagesAgain, ReadsLimitsAgain};
 ghost use Rattle.iocm_operands.specs.ChpidPath.{path_text};
 ghost use Rattle.iocm_operands.specs.ChpidPartition.{partition_text};
 ghost use Rattle.iocm_operands.specs.Device.{devices_text, units_text};
 ghost use Rattle.iocm_operands.specs.Limits.{limits_text};
 ghost use Rattle.iocm_operands.specs.Resource.{images_text};
 ghost use Rattle.iocm_operands.specs.Unit.{paths_text, ranges_text, links_text};
-ghost use Rattle.iocm_operands.specs.Given.{GivesPath, GivesNumber, GivesCuadd, GivesFirstAddress, GivesSet, GivesDevices, GivesUnits, GivesRanges, GivesCandidates, GivesPartition, GivesPaths, GivesLinks, GivesImages, GivesLimits};
+ghost use Rattle.iocm_operands.specs.Given.{GivesPath, GivesNumber, GivesCuadd, GivesFirstAddress};
+ghost use Rattle.iocm_operands.specs.Given.{GivesSet, GivesDevices, GivesUnits, GivesRanges};
+ghost use Rattle.iocm_operands.specs.Given.{GivesCandidates, GivesPartition, GivesPaths};
+ghost use Rattle.iocm_operands.specs.Given.{GivesLinks, GivesImages, GivesLimits};
 ghost use Rattle.iocm_values.specs.NameSet.{names_text};
 
 /// Worked examples: each operand as it is written.
 pub fn operands_are_written()
-    ensures images { images_text (record { css = 0; mif = 1; name = codes "LPA" } ∷ record { css = 0; mif = 15; name = codes "LPB" } ∷ record { css = 4; mif = 10; name = codes "LPC" } ∷ [])
+    ensures images { images_text
+        (record { css = 0; mif = 1; name = codes "LPA" }
+        ∷ record { css = 0; mif = 15; name = codes "LPB" }
+        ∷ record { css = 4; mif = 10; name = codes "LPC" } ∷ [])
         ≡ codes "((CSS(0),(LPA,1),(LPB,F)),(CSS(4),(LPC,A)))" }
-    ensures limits { limits_text (record { css = 0; set = 1; limit = 5 } ∷ record { css = 5; set = 0; limit = 65535 } ∷ record { css = 5; set = 3; limit = 0 } ∷ [])
+    ensures limits { limits_text
+        (record { css = 0; set = 1; limit = 5 }
+        ∷ record { css = 5; set = 0; limit = 65535 }
+        ∷ record { css = 5; set = 3; limit = 0 } ∷ [])
         ≡ codes "((CSS(0),,5),(CSS(5),65535,,,0))" }
     ensures path { path_text (record { css = 0; path = 80 }) ≡ codes "(CSS(0),50)" }
-    ensures partition { partition_text (codes "LPA" ∷ []) (codes "LPA" ∷ codes "LPB" ∷ []) true ≡ codes "((LPA),(LPA,LPB),REC)" }
+    ensures partition { partition_text (codes "LPA" ∷ []) (codes "LPA" ∷ codes "LPB" ∷ []) true
+        ≡ codes "((LPA),(LPA,LPB),REC)" }
     ensures no_access { partition_text [] (codes "LPA" ∷ []) false ≡ codes "(0,(LPA))" }
-    ensures paths { paths_text (record { css = 0; path = 80 } ∷ record { css = 0; path = 5 } ∷ record { css = 3; path = 255 } ∷ []) ≡ codes "((CSS(0),50,05),(CSS(3),FF))" }
-    ensures ranges { ranges_text (record { start = 0; count = 16 } ∷ record { start = 32; count = 8 } ∷ []) ≡ codes "((00,16),(20,8))" }
-    ensures links { links_text (record { css = 1; link = link.Short 26 } ∷ record { css = 1; link = link.None } ∷ record { css = 1; link = link.Long 26 } ∷ []) ≡ codes "((CSS(1),1A,**,001A))" }
+    ensures paths { paths_text
+        (record { css = 0; path = 80 } ∷ record { css = 0; path = 5 } ∷ record { css = 3; path = 255 } ∷ [])
+        ≡ codes "((CSS(0),50,05),(CSS(3),FF))" }
+    ensures ranges { ranges_text (record { start = 0; count = 16 } ∷ record { start = 32; count = 8 } ∷ [])
+        ≡ codes "((00,16),(20,8))" }
+    ensures links { links_text
+        (record { css = 1; link = link.Short 26 }
+        ∷ record { css = 1; link = link.None }
+        ∷ record { css = 1; link = link.Long 26 } ∷ [])
+        ≡ codes "((CSS(1),1A,**,001A))" }
     ensures devices { devices_text (record { first = 4096; count = 4 }) ≡ codes "(1000,4)" }
     ensures units { units_text (4096 ∷ 4097 ∷ []) ≡ codes "(1000,1001)" }
     ensures no_names { names_text [] ≡ codes "0" }

@@ -145,7 +145,8 @@ pub fn images_of(alloc: Global, value: Value) -> Result<Vec<ImageEntry>, Unread>
 }
 
 fn add_image(names: &mut Vec<Name>, css: Css, image: ImageEntry) -> Result<(), AllocError>
-    ensures { OnOk result (names.new.items ≡ fold with_name names.old.items (map (λ (i : ImageRecord). i.name) (filter (λ (i : ImageRecord). i.css == css) (image ∷ [])))) }
+    ensures { OnOk result (names.new.items ≡ fold with_name names.old.items
+        (map (λ (i : ImageRecord). i.name) (filter (λ (i : ImageRecord). i.css == css) (image ∷ [])))) }
 {
     if image.css.number() != css.number() {
         return Ok(());

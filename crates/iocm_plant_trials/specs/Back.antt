@@ -8,4 +8,5 @@ use Rattle.iocm_plant.specs.Between.{StandsAsBefore}
 -- taken from a machine that stands as it does now, an edit leaves one that stands as it did before.
 -- Own.
 abbrev pub LeadsBack : Carried → Operating → Operating → Type 0
-LeadsBack i before now = (p q : Operating) → StandsAsBefore now p → q.state ≡ state_after i.edit p.state → q.room ≡ p.room → StandsAsBefore before q
+LeadsBack i before now = (p q : Operating) → StandsAsBefore now p → q.state ≡ state_after i.edit p.state
+    → q.room ≡ p.room → StandsAsBefore before q

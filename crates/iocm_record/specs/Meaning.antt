@@ -1,22 +1,45 @@
 -- What the fields of a record mean: a record of the model, with no allocator in it.
-use Rattle.iocm_model.specs.Machine.Record.{Rec, PathRecord, UnitRecord, DeviceRecord, id, resource, image, limit, path, unit, device, online}
+use Rattle.iocm_model.specs.Machine.Record.{Rec, PathRecord, UnitRecord, DeviceRecord, id, resource}
+use Rattle.iocm_model.specs.Machine.Record.{image, limit, path, unit, device, online}
 use Rattle.iocm_record.specs.declared.record.PathFields.{PathFields}
 use Rattle.iocm_record.specs.declared.record.UnitFields.{UnitFields}
 use Rattle.iocm_record.specs.declared.record.DeviceFields.{DeviceFields}
 use Rattle.iocm_record.specs.declared.record.RecordBody.{RecordBody}
-use Rattle.iocm_record.specs.declared.record.RecordBody.TheVariants.{Id, Resource, Image, Limit, Path, Unit, Device, Online}
+use Rattle.iocm_record.specs.declared.record.RecordBody.TheVariants.{Id, Resource, Image, Limit}
+use Rattle.iocm_record.specs.declared.record.RecordBody.TheVariants.{Path, Unit, Device, Online}
 
 -- the path of these fields
 abbrev pub path_of : {A : Type 0} → PathFields A → PathRecord
-path_of p = record { css = p.css; number = p.number; kind = p.kind; access = p.access; candidates = p.candidates; carried = p.carried.items }
+path_of p = record {
+  css = p.css;
+  number = p.number;
+  kind = p.kind;
+  access = p.access;
+  candidates = p.candidates;
+  carried = p.carried.items;
+}
 
 -- the control unit of these fields
 abbrev pub unit_of : {A : Type 0} → UnitFields A → UnitRecord
-unit_of u = record { number = u.number; paths = u.paths; ranges = u.ranges; links = u.links; cuadd = u.cuadd; carried = u.carried.items }
+unit_of u = record {
+  number = u.number;
+  paths = u.paths;
+  ranges = u.ranges;
+  links = u.links;
+  cuadd = u.cuadd;
+  carried = u.carried.items;
+}
 
 -- the device of these fields
 abbrev pub device_of : {A : Type 0} → DeviceFields A → DeviceRecord
-device_of d = record { set = d.set; number = d.number; units = d.units; unit_address = d.unit_address; candidates = d.candidates; carried = d.carried.items }
+device_of d = record {
+  set = d.set;
+  number = d.number;
+  units = d.units;
+  unit_address = d.unit_address;
+  candidates = d.candidates;
+  carried = d.carried.items;
+}
 
 -- the record of these fields
 abbrev pub record_of : {A : Type 0} → RecordBody A → Rec

@@ -54,7 +54,8 @@ pub fn device_names<A: Allocator>(
     candidates: &Option<List<Name, A>>,
     place: usize,
 ) -> Option<Named>
-    ensures { result ≡ slice_get (map names.unit_named units.now ++ map names.image_named (unwrap_or candidates.now [])) place }
+    ensures { result ≡ slice_get
+        (map names.unit_named units.now ++ map names.image_named (unwrap_or candidates.now [])) place }
 {
     if place < units.len() {
         return unit_at(units, place);

@@ -23,7 +23,8 @@ chpid_path fault operands = required fault path_of (codes "PATH") operands
 
 -- PARTITION of a path, if it is there
 abbrev pub chpid_partition : Fault → ℕ → List Operand → Result (Option Partition) Fault
-chpid_partition fault css operands = optional fault (λ v. option_map Some (partition_of css v)) None (codes "PARTITION") operands
+chpid_partition fault css operands =
+    optional fault (λ v. option_map Some (partition_of css v)) None (codes "PARTITION") operands
 
 -- how a path is used, by the words SHARED and REC; both are malformed
 abbrev pub kind_by : Bool → Bool → Option PathKind
@@ -37,7 +38,8 @@ abbrev pub has_rec : Option Partition → Bool
 has_rec partition = option_map_or (λ (p : Partition). p.is_reconfigurable) partition false
 
 abbrev pub kind_of : List Operand → Option Partition → Option PathKind
-kind_of operands partition = kind_by (has_bare (codes "SHARED") operands) (has_bare (codes "REC") operands || has_rec partition)
+kind_of operands partition =
+    kind_by (has_bare (codes "SHARED") operands) (has_bare (codes "REC") operands || has_rec partition)
 
 -- the candidates where none are listed: of a SHARED or REC path all images of its channel
 -- subsystem, else the access list
@@ -68,7 +70,14 @@ online_to css number name = online (record { css = css; path = number; name = na
 -- the record of a path alone
 abbrev pub path_record : CssPath → PathKind → Lists → List CarriedOperand → Rec
 path_record p kind lists carried =
-    path (record { css = p.css; number = p.path; kind = kind; access = lists.access; candidates = lists.candidates; carried = carried })
+    path (record {
+      css = p.css;
+      number = p.path;
+      kind = kind;
+      access = lists.access;
+      candidates = lists.candidates;
+      carried = carried;
+    })
 
 -- the record of a path, and one for each image that it is online to
 abbrev pub path_records : CssPath → PathKind → Lists → List CarriedOperand → List Rec

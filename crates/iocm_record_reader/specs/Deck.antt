@@ -1,9 +1,12 @@
 -- What a configuration deck means: the records of its statements, or the first fault.
 -- IOCP User's Guide; the order of faults is own.
-use Rattle.std.specs.Prelude.{ℕ, ◌||◌, Bool, true, false, if◌then◌else◌, Option, None, Some, List, [], ◌∷◌, ◌++◌, Result, Ok, Err, codes, unwrap_or}
+use Rattle.std.specs.Prelude.{◌≡◌, ℕ, ◌||◌, Bool, true, false, if◌then◌else◌, Option, None, Some}
+use Rattle.std.specs.Prelude.{List, [], ◌∷◌, ◌++◌, Result, Ok, Err, codes, unwrap_or}
 use Rattle.std.specs.List.{list_any}
 use Rattle.std.specs.Option.{option_and_then}
+use Rattle.std.specs.BTreeSet.{BTreeSet}
 use Rattle.iocm_types.specs.declared.fault.Fault.{Fault}
+use Rattle.iocm_types.specs.declared.key.Key.{Key}
 use Rattle.iocm_types.specs.declared.rule.Rule.{Rule}
 use Rattle.iocm_types.specs.declared.rule.Rule.TheVariants.{S1, S3, S4, S5, S7, S8}
 use Rattle.iocm_types.specs.Fault.{◌>>=◌, at}
@@ -16,7 +19,7 @@ use Rattle.iocm_keywords.specs.Known.{lacks_required, is_other_form}
 use Rattle.iocm_keywords.specs.LeftOut.{is_left_out}
 use Rattle.iocm_operands.specs.Resource.{images_of}
 use Rattle.iocm_values.specs.Value.{value}
-use Rattle.iocm_record_reader.specs.Progress.{Progress, has_key}
+use Rattle.iocm_record_reader.specs.Progress.{Progress, has_key, IsKept}
 use Rattle.iocm_record_reader.specs.Values.{carried_by}
 use Rattle.iocm_record_reader.specs.ResourceRecords.{resource_records}
 use Rattle.iocm_record_reader.specs.ChpidRecords.{chpid_records}
@@ -82,12 +85,27 @@ read_statement images p s = records_unless (first_fault p s) images s
 -- records with further ones behind them, if each brings a key that isn't there
 unfoldable pub with_records : Fault → List Rec → List Rec → Result (List Rec) Fault
 with_records fault records [] = Ok records
-with_records fault records (r ∷ rs) = if has_key records (key_of r) then Err fault else with_records fault (records ++ r ∷ []) rs
+with_records fault records (r ∷ rs) =
+    if has_key records (key_of r) then Err fault else with_records fault (records ++ r ∷ []) rs
+
+-- some records go behind all records of which a set has the keys, and the set has theirs then
+abbrev pub GoBehind : Fault → BTreeSet Key → List Rec → BTreeSet Key → Type 0
+GoBehind fault old found new = (earlier : List Rec) → IsKept old earlier
+    → IsKept new (earlier ++ found) × (with_records fault earlier found ≡ Ok (earlier ++ found))
+
+-- behind all those records they bring a key twice
+abbrev pub AreRefusedBehind : Fault → BTreeSet Key → List Rec → Type 0
+AreRefusedBehind fault keys found = (earlier : List Rec) → IsKept keys earlier
+    → with_records fault earlier found ≡ Err fault
 
 -- what was read, with the records of a further statement
 abbrev pub with_statement : Fault → Progress → Operation → List Rec → Result Progress Fault
 with_statement fault p operation rs = with_records fault p.records rs >>= λ records.
-    Ok (record { has_id = p.has_id || is_id operation; has_resource = p.has_resource || is_resource operation; records = records })
+    Ok (record {
+      has_id = p.has_id || is_id operation;
+      has_resource = p.has_resource || is_resource operation;
+      records = records;
+    })
 
 -- what was read, with a further statement
 abbrev pub progress_after : List ImageRecord → Progress → Statement → Result Progress Fault
@@ -100,7 +118,8 @@ read_from images p (s ∷ ss) = progress_after images p s >>= λ q. read_from im
 
 -- the images that a RESOURCE statement gives, or none where it has a fault
 abbrev pub images_or_none : Statement → List ImageRecord
-images_or_none s = unwrap_or (option_and_then (λ text. images_of (value text)) (text_under (codes "PARTITION") s.operands)) []
+images_or_none s =
+    unwrap_or (option_and_then (λ text. images_of (value text)) (text_under (codes "PARTITION") s.operands)) []
 
 -- the images of a machine, which defaults look at wherever the RESOURCE statement stands; a
 -- RESOURCE statement with a fault refuses the deck, and then they are of no account

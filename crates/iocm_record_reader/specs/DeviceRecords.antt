@@ -22,7 +22,8 @@ device_units fault operands = optional fault units_of [] (codes "CUNUMBR") opera
 
 -- the unit address of the first of so many devices, if UNITADD is there
 abbrev pub device_address : Fault → ℕ → List Operand → Result (Option ℕ) Fault
-device_address fault count operands = optional fault (λ v. option_map Some (first_address count v)) None (codes "UNITADD") operands
+device_address fault count operands =
+    optional fault (λ v. option_map Some (first_address count v)) None (codes "UNITADD") operands
 
 -- without SCHSET set 0
 abbrev pub device_set : Fault → List Operand → Result ℕ Fault
@@ -30,7 +31,8 @@ device_set fault operands = optional fault set_of 0 (codes "SCHSET") operands
 
 -- the candidates, if PARTITION is there
 abbrev pub device_candidates : Fault → List Operand → Result (Option (List (List ℕ))) Fault
-device_candidates fault operands = optional fault (λ v. option_map Some (candidates_of v)) None (codes "PARTITION") operands
+device_candidates fault operands =
+    optional fault (λ v. option_map Some (candidates_of v)) None (codes "PARTITION") operands
 
 -- the unit address of the device at a place: one more for each device, or the last two digits of
 -- its number

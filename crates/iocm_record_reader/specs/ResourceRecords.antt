@@ -25,5 +25,6 @@ carried_records [] = []
 carried_records (c ∷ cs) = resource (c ∷ cs) ∷ []
 
 abbrev pub resource_records : Fault → List Operand → Result (List Rec) Fault
-resource_records fault operands = resource_images fault operands >>= λ images. resource_limits fault operands >>= λ limits.
+resource_records fault operands =
+    resource_images fault operands >>= λ images. resource_limits fault operands >>= λ limits.
     Ok (carried_records (carried_by Resource operands) ++ (map image images ++ map limit limits))

@@ -37,8 +37,16 @@ unit_cuadd fault operands = optional fault (λ v. option_map Some (cuadd_of v)) 
 abbrev pub unit_fields : Fault → List Operand → Result UnitRecord Fault
 unit_fields fault operands =
     unit_number fault operands >>= λ number. unit_paths fault operands >>= λ paths.
-    unit_ranges fault operands >>= λ ranges. unit_links fault operands >>= λ links. unit_cuadd fault operands >>= λ cuadd.
-    Ok (record { number = number; paths = paths; ranges = ranges; links = links; cuadd = cuadd; carried = carried_by Cntlunit operands })
+    unit_ranges fault operands >>= λ ranges. unit_links fault operands >>= λ links.
+    unit_cuadd fault operands >>= λ cuadd.
+    Ok (record {
+      number = number;
+      paths = paths;
+      ranges = ranges;
+      links = links;
+      cuadd = cuadd;
+      carried = carried_by Cntlunit operands;
+    })
 
 abbrev pub cntlunit_records : Fault → List Operand → Result (List Rec) Fault
 cntlunit_records fault operands = unit_fields fault operands >>= λ (u : UnitRecord). Ok (unit u ∷ [])

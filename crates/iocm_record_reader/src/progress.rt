@@ -1,13 +1,14 @@
-ghost use Rattle.std.specs.Prelude.{◌≡◌, ◌⊎◌, ◌++◌, ◌∷◌, [], List, Bool, true, false, Ok, Err, not, IfOk, IfErr, OnOk, if◌then◌else◌};
+ghost use Rattle.std.specs.Prelude.{◌≡◌, ◌⊎◌, ◌∷◌, [], Bool, true, false};
+ghost use Rattle.std.specs.Prelude.{not, IfOk, IfErr, OnOk, if◌then◌else◌};
 ghost use Rattle.std.specs.Ordering.{is_eq};
 ghost use Rattle.iocm_types.specs.Fault.{memory, Gives};
 ghost use Rattle.iocm_types.specs.Key.{key_cmp};
 ghost use Rattle.iocm_types.specs.declared.key.Key.{Key};
-ghost use Rattle.iocm_model.specs.Machine.Record.{Rec};
 ghost use Rattle.iocm_model.specs.Machine.Configuration.{HasNoKeyTwice};
 ghost use Rattle.iocm_record_reader.specs.Deck as deck;
-ghost use Rattle.iocm_record_reader.specs.Deck.{with_records, with_statement, nothing_read};
-ghost use Rattle.iocm_record_reader.specs.Progress.{has_claimed, IsKept};
+ghost use Rattle.iocm_record_reader.specs.Deck.{AreRefusedBehind, GoBehind};
+ghost use Rattle.iocm_record_reader.specs.Deck.{with_statement, nothing_read};
+ghost use Rattle.iocm_record_reader.specs.Progress.{has_claimed};
 
 use iocm_record::Record;
 use iocm_statements::Operation;
@@ -19,7 +20,8 @@ use std::marker::Model;
 // Puts a key into a set of keys, and answers whether it is new there.
 fn claim(keys: &mut BTreeSet<Key>, key: Key) -> Result<bool, AllocError>
     ensures added { IfOk result (λ added. added ≡ not (has_claimed keys.old key)) }
-    ensures keys { OnOk result ((q : Key) → has_claimed keys.new q ≡ (if is_eq (key_cmp key q) then true else has_claimed keys.old q)) }
+    ensures keys { OnOk result ((q : Key)
+        → has_claimed keys.new q ≡ (if is_eq (key_cmp key q) then true else has_claimed keys.old q)) }
 {
     Ok(keys.insert(key)?)
 }
@@ -28,8 +30,9 @@ fn claim(keys: &mut BTreeSet<Key>, key: Key) -> Result<bool, AllocError>
 ///
 /// Answers `fault` at a key that is there already, and M1 without memory.
 pub fn claim_keys(keys: &mut BTreeSet<Key>, found: &[Record], fault: Fault) -> Result<(), Fault>
-    ensures claimed { OnOk result ((earlier : List Rec) → IsKept keys.old earlier → IsKept keys.new (earlier ++ found.now) × (with_records fault earlier found.now ≡ Ok (earlier ++ found.now))) }
-    ensures refused { IfErr result (λ e. (e ≡ memory) ⊎ ((e ≡ fault) × ((earlier : List Rec) → IsKept keys.old earlier → with_records fault earlier found.now ≡ Err fault))) }
+    ensures claimed { OnOk result (GoBehind fault keys.old found.now keys.new) }
+    ensures refused { IfErr result (λ e. (e ≡ memory)
+        ⊎ ((e ≡ fault) × AreRefusedBehind fault keys.old found.now)) }
 {
     for entry in found {
         let is_new = claim(keys, entry.key())?;

@@ -33,7 +33,8 @@ GivesRecords = (bytes : List ℕ) (records : List Rec) → records_in bytes ≡ 
 
 -- what is written of a configuration of such records is read as its deck
 abbrev pub ReadsDeckAgain : Type 0
-ReadsDeckAgain = (c : Configuration) → IsKeyed c → All IsGiven (records_of c) → records_in (canonical_deck c) ≡ Ok (deck_of (records_of c))
+ReadsDeckAgain = (c : Configuration) → IsKeyed c → All IsGiven (records_of c)
+    → records_in (canonical_deck c) ≡ Ok (deck_of (records_of c))
 
 -- a configuration that was read from a deck is that of its deck
 abbrev pub IsOfItsDeck : Type 0
@@ -45,4 +46,5 @@ abbrev pub configuration_in : List ℕ → Result Configuration Fault
 configuration_in bytes = records_in bytes >>= λ records. Ok (configuration_of records)
 
 abbrev pub ReadsConfigurationAgain : Type 0
-ReadsConfigurationAgain = (bytes : List ℕ) (c : Configuration) → configuration_in bytes ≡ Ok c → configuration_in (canonical_deck c) ≡ Ok c
+ReadsConfigurationAgain = (bytes : List ℕ) (c : Configuration) → configuration_in bytes ≡ Ok c
+    → configuration_in (canonical_deck c) ≡ Ok c

@@ -7,7 +7,8 @@ use Rattle.iocm_types.specs.declared.css_path.CssPath.{CssPath}
 use Rattle.iocm_types.specs.declared.link.CssLink.{CssLink}
 use Rattle.iocm_columns.specs.Cards.{is_printable}
 use Rattle.iocm_columns.specs.Part.{is_quoting}
-use Rattle.iocm_model.specs.Machine.Record.{Rec, CarriedOperand, PathRecord, UnitRecord, DeviceRecord, id, resource, image, limit, path, unit, device, online}
+use Rattle.iocm_model.specs.Machine.Record.{Rec, CarriedOperand, PathRecord, UnitRecord, DeviceRecord}
+use Rattle.iocm_model.specs.Machine.Record.{id, resource, image, limit, path, unit, device, online}
 use Rattle.iocm_statements.specs.declared.operation.Operation.{Operation}
 use Rattle.iocm_statements.specs.declared.operation.Operation.TheVariants.{Id, Resource, Chpid, Cntlunit, Iodevice}
 use Rattle.iocm_statements.specs.Operands.{Operand}

@@ -6,7 +6,8 @@ use Rattle.iocm_types.specs.declared.fault.Fault.{Fault}
 use Rattle.iocm_types.specs.Fault.{◌>>=◌}
 use Rattle.iocm_columns.specs.Statements.{joined_of}
 use Rattle.iocm_columns.specs.Written.{deck_bytes}
-use Rattle.iocm_model.specs.Machine.Record.{Rec, CarriedOperand, ImageRecord, LimitRecord, PathRecord, UnitRecord, id, image, limit, path, unit, device}
+use Rattle.iocm_model.specs.Machine.Record.{Rec, CarriedOperand, ImageRecord, LimitRecord, PathRecord}
+use Rattle.iocm_model.specs.Machine.Record.{UnitRecord, id, image, limit, path, unit, device}
 use Rattle.iocm_statements.specs.declared.operation.Operation.{Operation}
 use Rattle.iocm_statements.specs.declared.operation.Operation.TheVariants.{Id, Resource}
 use Rattle.iocm_statements.specs.declared.statement.Statement as read
@@ -64,15 +65,18 @@ pub record HasNoFault (operation : Operation) (operands : List Operand) : Type 0
 pub record IsReadAs (s : Statement) (records : List Rec) : Type 0 where
   pub written : CanBeWritten s
   pub no_fault : HasNoFault s.operation (placed 0 s.operands)
-  pub is_read : (fault : Fault) (images : List ImageRecord) → statement_records fault images s.operation (placed 0 s.operands) ≡ Ok records
+  pub is_read : (fault : Fault) (images : List ImageRecord)
+      → statement_records fault images s.operation (placed 0 s.operands) ≡ Ok records
 
 -- each statement of the canonical deck
 abbrev pub ReadsIdAgain : Type 0
-ReadsIdAgain = (carried : List CarriedOperand) → AreCarriedBy Id carried → IsReadAs (record { operation = Id; operands = carried }) (id carried ∷ [])
+ReadsIdAgain = (carried : List CarriedOperand) → AreCarriedBy Id carried
+    → IsReadAs (record { operation = Id; operands = carried }) (id carried ∷ [])
 
 abbrev pub ReadsResourceAgain : Type 0
 ReadsResourceAgain = (images : List ImageRecord) (limits : List LimitRecord) (carried : List CarriedOperand)
-    → (images ≢ [] → AreByCss (λ (i : ImageRecord). i.css) IsImage images) → (limits ≢ [] → AreLimits limits) → AreCarriedBy Resource carried
+    → (images ≢ [] → AreByCss (λ (i : ImageRecord). i.css) IsImage images) → (limits ≢ [] → AreLimits limits)
+    → AreCarriedBy Resource carried
     → IsReadAs (record { operation = Resource; operands = resource_operands images limits ++ carried })
     (carried_records carried ++ (map image images ++ map limit limits))
 

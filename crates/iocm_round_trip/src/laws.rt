@@ -2,7 +2,9 @@
 //! nothing.
 ghost use Rattle.iocm_round_trip.specs.Again.{GivesRecords, IsOfItsDeck, ReadsConfigurationAgain, ReadsDeckAgain};
 ghost use Rattle.iocm_round_trip.specs.Running.{AreGivenRuns, AreMaximal, AreRunsOfDevices};
-ghost use Rattle.iocm_round_trip.specs.Stating.{ReadsChpidAgain, ReadsCntlunitAgain, ReadsIdAgain, ReadsIodeviceAgain, ReadsResourceAgain, ReadsStatementsAgain};
+ghost use Rattle.iocm_round_trip.specs.Stating.{ReadsChpidAgain, ReadsCntlunitAgain, ReadsIdAgain};
+ghost use Rattle.iocm_round_trip.specs.Stating.{ReadsIodeviceAgain, ReadsResourceAgain};
+ghost use Rattle.iocm_round_trip.specs.Stating.{ReadsStatementsAgain};
 
 /// Runs of devices stand for the devices, in their order, and no two neighbours could be one. Runs
 /// of devices that decks give are such.

@@ -1,14 +1,15 @@
 -- The rules from each one on.
 use Rattle.std.specs.Prelude.{◌≡◌, Bool, Option, List, [], ◌∷◌}
-use Rattle.std.specs.Option.{option_map}
 use Rattle.iocm_types.specs.declared.rule.Rule.{Rule}
 use Rattle.iocm_types.specs.declared.rule.Rule.TheVariants.{V1, V2, V3, V4, V5, V6, V7, V8, V9, V10, V11, V12, V13, V14}
 use Rattle.iocm_types.specs.declared.key.Key.{Key}
-use Rattle.iocm_model.specs.Machine.Record.{Rec, key_of}
-use Rattle.iocm_model.specs.Machine.Configuration.{Configuration, records_of}
+use Rattle.iocm_model.specs.Machine.Record.{Rec}
+use Rattle.iocm_model.specs.Machine.Configuration.{Configuration}
 use Rattle.iocm_model.specs.Machine.Numbering.{Numbering}
-use Rattle.iocm_model.specs.Rules.EachRule.{breaks_v1, breaks_v2, breaks_v3, breaks_v4, breaks_v5, breaks_v6, breaks_v7, breaks_v8, breaks_v9, breaks_v10, breaks_v11, breaks_v12, breaks_v13, breaks_v14}
-use Rattle.iocm_model.specs.Rules.FirstBreach.{first_record}
+use Rattle.iocm_model.specs.Rules.EachRule.{breaks_v1, breaks_v2, breaks_v3, breaks_v4, breaks_v5}
+use Rattle.iocm_model.specs.Rules.EachRule.{breaks_v6, breaks_v7, breaks_v8, breaks_v9, breaks_v10}
+use Rattle.iocm_model.specs.Rules.EachRule.{breaks_v11, breaks_v12, breaks_v13, breaks_v14}
+use Rattle.iocm_lookup.specs.First.{first_key}
 
 -- rules, each with the records that break it
 abbrev pub Laws : Type 0
@@ -58,4 +59,4 @@ from_v1 c n = (V1, breaks_v1 c) ∷ from_v2 c n
 
 -- what V13 answers with this numbering
 abbrev pub IsFirstPast : Configuration → Numbering → Option Key → Type 0
-IsFirstPast c n past = past ≡ option_map key_of (first_record (breaks_v13 c n) (records_of c))
+IsFirstPast c n past = past ≡ first_key (breaks_v13 c n) c

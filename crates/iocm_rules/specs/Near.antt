@@ -40,5 +40,6 @@ keys_edited es = map (λ (e : Edit). action_key e.action) es
 
 -- edits of devices and online records alone leave it so but for their keys
 abbrev pub NearEditsKeepTheRest : Type 0
-NearEditsKeepTheRest = (es : List Edit) (s : State) (keys : List Key) → IsSound s → first_breach s.config s.numbers ≡ None → keys ≡ keys_edited es → AreNear keys
+NearEditsKeepTheRest = (es : List Edit) (s : State) (keys : List Key) → IsSound s
+    → first_breach s.config s.numbers ≡ None → keys ≡ keys_edited es → AreNear keys
     → KeptBut keys (state_after_all es s).config (state_after_all es s).numbers

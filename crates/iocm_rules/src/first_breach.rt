@@ -64,7 +64,8 @@ fn from_v1<A: Allocator, I: Allocator>(
     index: &Index<I>,
 ) -> Option<Breach>
     requires index { IsIndexOf config.now.records index.now }
-    ensures { (n : Numbering) → laws.IsFirstPast config.now.records n past → result ≡ first_breach_of (laws.from_v1 config.now.records n) (records_of config.now.records) }
+    ensures { (n : Numbering) → laws.IsFirstPast config.now.records n past
+        → result ≡ first_breach_of (laws.from_v1 config.now.records n) (records_of config.now.records) }
 {
     match first_wanted(config, &NameTwice) {
         Some(key) => Some(Breach {
@@ -82,7 +83,8 @@ fn from_v2<A: Allocator, I: Allocator>(
     index: &Index<I>,
 ) -> Option<Breach>
     requires index { IsIndexOf config.now.records index.now }
-    ensures { (n : Numbering) → laws.IsFirstPast config.now.records n past → result ≡ first_breach_of (laws.from_v2 config.now.records n) (records_of config.now.records) }
+    ensures { (n : Numbering) → laws.IsFirstPast config.now.records n past
+        → result ≡ first_breach_of (laws.from_v2 config.now.records n) (records_of config.now.records) }
 {
     match first_wanted(config, &NameOfNoImage) {
         Some(key) => Some(Breach {
@@ -100,7 +102,8 @@ fn from_v3<A: Allocator, I: Allocator>(
     index: &Index<I>,
 ) -> Option<Breach>
     requires index { IsIndexOf config.now.records index.now }
-    ensures { (n : Numbering) → laws.IsFirstPast config.now.records n past → result ≡ first_breach_of (laws.from_v3 config.now.records n) (records_of config.now.records) }
+    ensures { (n : Numbering) → laws.IsFirstPast config.now.records n past
+        → result ≡ first_breach_of (laws.from_v3 config.now.records n) (records_of config.now.records) }
 {
     match first_wanted(config, &TooManyNames) {
         Some(key) => Some(Breach {
@@ -118,7 +121,8 @@ fn from_v4<A: Allocator, I: Allocator>(
     index: &Index<I>,
 ) -> Option<Breach>
     requires index { IsIndexOf config.now.records index.now }
-    ensures { (n : Numbering) → laws.IsFirstPast config.now.records n past → result ≡ first_breach_of (laws.from_v4 config.now.records n) (records_of config.now.records) }
+    ensures { (n : Numbering) → laws.IsFirstPast config.now.records n past
+        → result ≡ first_breach_of (laws.from_v4 config.now.records n) (records_of config.now.records) }
 {
     match first_wanted(config, &WrongOnline { index }) {
         Some(key) => Some(Breach {
@@ -136,7 +140,8 @@ fn from_v5<A: Allocator, I: Allocator>(
     index: &Index<I>,
 ) -> Option<Breach>
     requires index { IsIndexOf config.now.records index.now }
-    ensures { (n : Numbering) → laws.IsFirstPast config.now.records n past → result ≡ first_breach_of (laws.from_v5 config.now.records n) (records_of config.now.records) }
+    ensures { (n : Numbering) → laws.IsFirstPast config.now.records n past
+        → result ≡ first_breach_of (laws.from_v5 config.now.records n) (records_of config.now.records) }
 {
     match first_wanted(config, &WrongPaths) {
         Some(key) => Some(Breach {
@@ -154,7 +159,8 @@ fn from_v6<A: Allocator, I: Allocator>(
     index: &Index<I>,
 ) -> Option<Breach>
     requires index { IsIndexOf config.now.records index.now }
-    ensures { (n : Numbering) → laws.IsFirstPast config.now.records n past → result ≡ first_breach_of (laws.from_v6 config.now.records n) (records_of config.now.records) }
+    ensures { (n : Numbering) → laws.IsFirstPast config.now.records n past
+        → result ≡ first_breach_of (laws.from_v6 config.now.records n) (records_of config.now.records) }
 {
     match first_wanted(config, &WrongLinks) {
         Some(key) => Some(Breach {
@@ -172,7 +178,8 @@ fn from_v7<A: Allocator, I: Allocator>(
     index: &Index<I>,
 ) -> Option<Breach>
     requires index { IsIndexOf config.now.records index.now }
-    ensures { (n : Numbering) → laws.IsFirstPast config.now.records n past → result ≡ first_breach_of (laws.from_v7 config.now.records n) (records_of config.now.records) }
+    ensures { (n : Numbering) → laws.IsFirstPast config.now.records n past
+        → result ≡ first_breach_of (laws.from_v7 config.now.records n) (records_of config.now.records) }
 {
     match first_wanted(config, &WrongRanges) {
         Some(key) => Some(Breach {
@@ -190,7 +197,8 @@ fn from_v8<A: Allocator, I: Allocator>(
     index: &Index<I>,
 ) -> Option<Breach>
     requires index { IsIndexOf config.now.records index.now }
-    ensures { (n : Numbering) → laws.IsFirstPast config.now.records n past → result ≡ first_breach_of (laws.from_v8 config.now.records n) (records_of config.now.records) }
+    ensures { (n : Numbering) → laws.IsFirstPast config.now.records n past
+        → result ≡ first_breach_of (laws.from_v8 config.now.records n) (records_of config.now.records) }
 {
     match first_wanted(config, &WrongUnits) {
         Some(key) => Some(Breach {
@@ -209,7 +217,8 @@ fn from_v9<A: Allocator, I: Allocator>(
 ) -> Option<Breach>
     requires index { IsIndexOf config.now.records index.now }
     requires units { first_record (breaks_v8 config.now.records) (records_of config.now.records) ≡ None }
-    ensures { (n : Numbering) → laws.IsFirstPast config.now.records n past → result ≡ first_breach_of (laws.from_v9 config.now.records n) (records_of config.now.records) }
+    ensures { (n : Numbering) → laws.IsFirstPast config.now.records n past
+        → result ≡ first_breach_of (laws.from_v9 config.now.records n) (records_of config.now.records) }
 {
     match first_wanted(config, &AddressNotHeld) {
         Some(key) => Some(Breach {
@@ -228,7 +237,8 @@ fn from_v10<A: Allocator, I: Allocator>(
 ) -> Option<Breach>
     requires index { IsIndexOf config.now.records index.now }
     requires units { first_record (breaks_v8 config.now.records) (records_of config.now.records) ≡ None }
-    ensures { (n : Numbering) → laws.IsFirstPast config.now.records n past → result ≡ first_breach_of (laws.from_v10 config.now.records n) (records_of config.now.records) }
+    ensures { (n : Numbering) → laws.IsFirstPast config.now.records n past
+        → result ≡ first_breach_of (laws.from_v10 config.now.records n) (records_of config.now.records) }
 {
     match first_address_twice(config, index) {
         Some(key) => Some(Breach {
@@ -246,7 +256,8 @@ fn from_v11<A: Allocator, I: Allocator>(
     index: &Index<I>,
 ) -> Option<Breach>
     requires index { IsIndexOf config.now.records index.now }
-    ensures { (n : Numbering) → laws.IsFirstPast config.now.records n past → result ≡ first_breach_of (laws.from_v11 config.now.records n) (records_of config.now.records) }
+    ensures { (n : Numbering) → laws.IsFirstPast config.now.records n past
+        → result ≡ first_breach_of (laws.from_v11 config.now.records n) (records_of config.now.records) }
 {
     match first_wanted(config, &WrongPathList) {
         Some(key) => Some(Breach {
@@ -264,7 +275,8 @@ fn from_v12<A: Allocator, I: Allocator>(
     index: &Index<I>,
 ) -> Option<Breach>
     requires index { IsIndexOf config.now.records index.now }
-    ensures { (n : Numbering) → laws.IsFirstPast config.now.records n past → result ≡ first_breach_of (laws.from_v12 config.now.records n) (records_of config.now.records) }
+    ensures { (n : Numbering) → laws.IsFirstPast config.now.records n past
+        → result ≡ first_breach_of (laws.from_v12 config.now.records n) (records_of config.now.records) }
 {
     match first_wanted(config, &CandidateOfNoImage) {
         Some(key) => Some(Breach {
@@ -282,7 +294,8 @@ fn from_v13<A: Allocator, I: Allocator>(
     index: &Index<I>,
 ) -> Option<Breach>
     requires index { IsIndexOf config.now.records index.now }
-    ensures { (n : Numbering) → laws.IsFirstPast config.now.records n past → result ≡ first_breach_of (laws.from_v13 config.now.records n) (records_of config.now.records) }
+    ensures { (n : Numbering) → laws.IsFirstPast config.now.records n past
+        → result ≡ first_breach_of (laws.from_v13 config.now.records n) (records_of config.now.records) }
 {
     match past {
         Some(key) => Some(Breach {
@@ -296,7 +309,8 @@ fn from_v13<A: Allocator, I: Allocator>(
 /// The first breach of V14.
 fn from_v14<A: Allocator, I: Allocator>(config: &Config<A>, index: &Index<I>) -> Option<Breach>
     requires index { IsIndexOf config.now.records index.now }
-    ensures { (n : Numbering) → result ≡ first_breach_of (laws.from_v14 config.now.records n) (records_of config.now.records) }
+    ensures { (n : Numbering)
+        → result ≡ first_breach_of (laws.from_v14 config.now.records n) (records_of config.now.records) }
 {
     match first_wanted(config, &SharedAddress { index }) {
         Some(key) => Some(Breach {

@@ -20,7 +20,8 @@ impl<A: Allocator> Wanted<A> for NameTwice {
 
     ghost place = { 2 };
 
-    ghost of_kind = { λ s c. only_images (breaks_v1 c) (λ _. refl) (λ _. refl) (λ _. refl) (λ _. refl) (λ _. refl) (λ _. refl) (λ _. refl) };
+    ghost of_kind = { λ s c. only_images (breaks_v1 c)
+        (λ _. refl) (λ _. refl) (λ _. refl) (λ _. refl) (λ _. refl) (λ _. refl) (λ _. refl) };
 
     fn kind(&self) -> Kind {
         Kind::Image
@@ -58,7 +59,8 @@ impl<A: Allocator> Wanted<A> for NamedBefore {
 
     ghost place = { 2 };
 
-    ghost of_kind = { λ s c. only_images (is_named_before s.key s.name) (λ _. refl) (λ _. refl) (λ _. refl) (λ _. refl) (λ _. refl) (λ _. refl) (λ _. refl) };
+    ghost of_kind = { λ s c. only_images (is_named_before s.key s.name)
+        (λ _. refl) (λ _. refl) (λ _. refl) (λ _. refl) (λ _. refl) (λ _. refl) (λ _. refl) };
 
     fn kind(&self) -> Kind {
         Kind::Image

@@ -24,7 +24,8 @@ impl<A: Allocator> Wanted<A> for NameOfNoImage {
 
     ghost place = { 4 };
 
-    ghost of_kind = { λ s c. only_paths (breaks_v2 c) (λ _. refl) (λ _. refl) (λ _. refl) (λ _. refl) (λ _. refl) (λ _. refl) (λ _. refl) };
+    ghost of_kind = { λ s c. only_paths (breaks_v2 c)
+        (λ _. refl) (λ _. refl) (λ _. refl) (λ _. refl) (λ _. refl) (λ _. refl) (λ _. refl) };
 
     fn kind(&self) -> Kind {
         Kind::Path
@@ -50,7 +51,8 @@ fn lists_stranger<A: Allocator>(
     access: &[Name],
     candidates: &[Name],
 ) -> bool
-    ensures { result ≡ list_any (λ name. not (model.is_image_in config.now.records css name)) (access.now ++ candidates.now) }
+    ensures { result ≡ list_any (λ name. not (model.is_image_in config.now.records css name))
+        (access.now ++ candidates.now) }
 {
     has_stranger(config, css, access) || has_stranger(config, css, candidates)
 }
@@ -85,7 +87,8 @@ impl<A: Allocator> Wanted<A> for TooManyNames {
 
     ghost place = { 4 };
 
-    ghost of_kind = { λ s c. only_paths (breaks_v3 c) (λ _. refl) (λ _. refl) (λ _. refl) (λ _. refl) (λ _. refl) (λ _. refl) (λ _. refl) };
+    ghost of_kind = { λ s c. only_paths (breaks_v3 c)
+        (λ _. refl) (λ _. refl) (λ _. refl) (λ _. refl) (λ _. refl) (λ _. refl) (λ _. refl) };
 
     fn kind(&self) -> Kind {
         Kind::Path
@@ -128,7 +131,8 @@ fn has_two_names(access: &[Name], candidates: &[Name]) -> bool
 
 /// Whether one of these names differs from one in two lists.
 fn any_differs_in(names: &[Name], access: &[Name], candidates: &[Name]) -> bool
-    ensures { result ≡ (list_any (λ a. list_any (λ b. not (model.same_name a b)) access.now) names.now || list_any (λ a. list_any (λ b. not (model.same_name a b)) candidates.now) names.now) }
+    ensures { result ≡ (list_any (λ a. list_any (λ b. not (model.same_name a b)) access.now) names.now
+        || list_any (λ a. list_any (λ b. not (model.same_name a b)) candidates.now) names.now) }
 {
     any_differs(names, access) || any_differs(names, candidates)
 }

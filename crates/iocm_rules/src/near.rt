@@ -49,7 +49,8 @@ fn near_v4<A: Allocator, N: Allocator, I: Allocator>(
 ) -> Option<Breach>
     requires index { IsIndexOf config.now.records index.now }
     requires near { KeptBut keys.now config.now.records numbers.now.numbers }
-    ensures { result ≡ first_breach_of (laws.from_v4 config.now.records numbers.now.numbers) (records_of config.now.records) }
+    ensures { result ≡ first_breach_of (laws.from_v4 config.now.records numbers.now.numbers)
+        (records_of config.now.records) }
 {
     config.has_own_keys();
     match first_wrong_online_among(config, index, keys) {
@@ -70,7 +71,8 @@ fn near_v8<A: Allocator, N: Allocator, I: Allocator>(
 ) -> Option<Breach>
     requires index { IsIndexOf config.now.records index.now }
     requires near { KeptBut keys.now config.now.records numbers.now.numbers }
-    ensures { result ≡ first_breach_of (laws.from_v8 config.now.records numbers.now.numbers) (records_of config.now.records) }
+    ensures { result ≡ first_breach_of (laws.from_v8 config.now.records numbers.now.numbers)
+        (records_of config.now.records) }
 {
     config.has_own_keys();
     match first_wanted_among(config, &WrongUnits, keys) {
@@ -91,7 +93,8 @@ fn near_v9<A: Allocator, N: Allocator, I: Allocator>(
 ) -> Option<Breach>
     requires index { IsIndexOf config.now.records index.now }
     requires near { KeptBut keys.now config.now.records numbers.now.numbers }
-    ensures { result ≡ first_breach_of (laws.from_v9 config.now.records numbers.now.numbers) (records_of config.now.records) }
+    ensures { result ≡ first_breach_of (laws.from_v9 config.now.records numbers.now.numbers)
+        (records_of config.now.records) }
 {
     config.has_own_keys();
     match first_wanted_among(config, &AddressNotHeld, keys) {
@@ -112,7 +115,8 @@ fn near_v10<A: Allocator, N: Allocator, I: Allocator>(
 ) -> Option<Breach>
     requires index { IsIndexOf config.now.records index.now }
     requires near { KeptBut keys.now config.now.records numbers.now.numbers }
-    ensures { result ≡ first_breach_of (laws.from_v10 config.now.records numbers.now.numbers) (records_of config.now.records) }
+    ensures { result ≡ first_breach_of (laws.from_v10 config.now.records numbers.now.numbers)
+        (records_of config.now.records) }
 {
     config.has_own_keys();
     match first_address_twice_among(config, index, keys) {
@@ -131,7 +135,8 @@ fn near_v11<A: Allocator, N: Allocator>(
     keys: &[Key],
 ) -> Option<Breach>
     requires { KeptBut keys.now config.now.records numbers.now.numbers }
-    ensures { result ≡ first_breach_of (laws.from_v11 config.now.records numbers.now.numbers) (records_of config.now.records) }
+    ensures { result ≡ first_breach_of (laws.from_v11 config.now.records numbers.now.numbers)
+        (records_of config.now.records) }
 {
     config.has_own_keys();
     match first_wanted_among(config, &WrongPathList, keys) {
@@ -150,7 +155,8 @@ fn near_v12<A: Allocator, N: Allocator>(
     keys: &[Key],
 ) -> Option<Breach>
     requires { KeptBut keys.now config.now.records numbers.now.numbers }
-    ensures { result ≡ first_breach_of (laws.from_v12 config.now.records numbers.now.numbers) (records_of config.now.records) }
+    ensures { result ≡ first_breach_of (laws.from_v12 config.now.records numbers.now.numbers)
+        (records_of config.now.records) }
 {
     config.has_own_keys();
     match first_wanted_among(config, &CandidateOfNoImage, keys) {
@@ -169,7 +175,8 @@ fn near_v13<A: Allocator, N: Allocator>(
     keys: &[Key],
 ) -> Option<Breach>
     requires { KeptBut keys.now config.now.records numbers.now.numbers }
-    ensures { result ≡ first_breach_of (laws.from_v13 config.now.records numbers.now.numbers) (records_of config.now.records) }
+    ensures { result ≡ first_breach_of (laws.from_v13 config.now.records numbers.now.numbers)
+        (records_of config.now.records) }
 {
     config.has_own_keys();
     match first_wanted_among(config, &NumberPastLimit { numbers }, keys) {

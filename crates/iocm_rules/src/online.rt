@@ -37,7 +37,8 @@ impl<'a, A: Allocator, I: Allocator> Wanted<A> for WrongOnline<'a, I> {
 
     ghost place = { 7 };
 
-    ghost of_kind = { λ s c. only_online (breaks_v4 c) (λ _. refl) (λ _. refl) (λ _. refl) (λ _. refl) (λ _. refl) (λ _. refl) (λ _. refl) };
+    ghost of_kind = { λ s c. only_online (breaks_v4 c)
+        (λ _. refl) (λ _. refl) (λ _. refl) (λ _. refl) (λ _. refl) (λ _. refl) (λ _. refl) };
 
     fn kind(&self) -> Kind {
         Kind::Online
@@ -104,7 +105,8 @@ fn has_name(names: &[Name], name: Name) -> bool
 
 /// Whether a path is online to an image whose name is smaller.
 fn is_online_before<I: Allocator>(index: &Index<I>, css: Css, path: Chpid, name: Name) -> bool
-    ensures { result ≡ list_any (onlines.is_online_before (key.Online css path name)) (users_in (thing.Record (key.Path css path)) (rows naming_cmp index.now)) }
+    ensures { result ≡ list_any (onlines.is_online_before (key.Online css path name))
+        (users_in (thing.Record (key.Path css path)) (rows naming_cmp index.now)) }
 {
     let own = Key::Online(css, path, name);
     for user in index.users_of(Named::Record(Key::Path(css, path))) {

@@ -1,14 +1,12 @@
 ghost use Rattle.std.specs.Prelude.{◌≡◌, None};
-ghost use Rattle.std.specs.Option.{option_map};
 ghost use Rattle.iocm_types.specs.declared.key.Key.TheVariants as key;
 ghost use Rattle.iocm_types.specs.declared.named.Named.TheVariants as thing;
 ghost use Rattle.iocm_types.specs.Naming.{naming_cmp};
 ghost use Rattle.iocm_table.specs.Slots.{rows};
 ghost use Rattle.iocm_index.specs.Namings.{users_in};
-ghost use Rattle.iocm_model.specs.Machine.Record.{key_of};
-ghost use Rattle.iocm_model.specs.Machine.Configuration.{lookup_of, records_of};
+ghost use Rattle.iocm_model.specs.Machine.Configuration.{lookup_of};
 ghost use Rattle.iocm_model.specs.Rules.EachRule.{breaks_v4};
-ghost use Rattle.iocm_model.specs.Rules.FirstBreach.{first_record};
+ghost use Rattle.iocm_lookup.specs.First.{first_key};
 ghost use Rattle.iocm_lookup.specs.Indexed.{IsIndexOf};
 ghost use Rattle.iocm_device_rules.specs.Addresses.{least_of};
 ghost use Rattle.iocm_rules.specs.Onlines as onlines;
@@ -30,7 +28,7 @@ pub fn first_wrong_online_among<A: Allocator, I: Allocator>(
 ) -> Option<Key>
     requires index { IsIndexOf config.now.records index.now }
     requires paths { onlines.AreOnPathsOf keys.now config.now.records }
-    ensures { result ≡ option_map key_of (first_record (breaks_v4 config.now.records) (records_of config.now.records)) }
+    ensures { result ≡ first_key (breaks_v4 config.now.records) config.now.records }
 {
     config.has_own_keys();
     least_on_paths(config, index, keys)
@@ -44,7 +42,11 @@ fn least_on_paths<A: Allocator, I: Allocator>(
     keys: &[Key],
 ) -> Option<Key>
     requires { IsIndexOf config.now.records index.now }
-    ensures { result ≡ least_of (onlines.first_on_path (breaks_v4 config.now.records) (lookup_of config.now.records) (rows naming_cmp index.now)) None keys.now }
+    ensures { result ≡ least_of
+        (onlines.first_on_path (breaks_v4 config.now.records) (lookup_of config.now.records)
+        (rows naming_cmp index.now))
+        None
+        keys.now }
 {
     let mut least = None;
     for key in keys {
@@ -60,7 +62,8 @@ fn first_on_path<A: Allocator, I: Allocator>(
     key: &Key,
 ) -> Option<Key>
     requires { IsIndexOf config.now.records index.now }
-    ensures { result ≡ onlines.first_on_path (breaks_v4 config.now.records) (lookup_of config.now.records) (rows naming_cmp index.now) key.now }
+    ensures { result ≡ onlines.first_on_path (breaks_v4 config.now.records) (lookup_of config.now.records)
+        (rows naming_cmp index.now) key.now }
 {
     match key {
         Key::Online(css, path, _) => first_wrong_user(config, index, *css, *path),
@@ -76,7 +79,8 @@ fn first_wrong_user<A: Allocator, I: Allocator>(
     path: Chpid,
 ) -> Option<Key>
     requires { IsIndexOf config.now.records index.now }
-    ensures { result ≡ onlines.first_so (breaks_v4 config.now.records) (lookup_of config.now.records) (users_in (thing.Record (key.Path css path)) (rows naming_cmp index.now)) }
+    ensures { result ≡ onlines.first_so (breaks_v4 config.now.records) (lookup_of config.now.records)
+        (users_in (thing.Record (key.Path css path)) (rows naming_cmp index.now)) }
 {
     for user in index.users_of(Named::Record(Key::Path(css, path))) {
         if is_wanted_at(config, &WrongOnline { index }, &user) {

@@ -8,7 +8,8 @@ use Rattle.iocm_history.specs.Legal.{entry_of, IsLegal}
 use Rattle.iocm_history.specs.RedoLaws.{IsRedone}
 use Rattle.iocm_examples.specs.BaseDeck.{device_key, subchannel}
 use Rattle.iocm_examples.specs.Edits.{base_opened, deleted, add_0fff}
-use Rattle.iocm_examples.specs.Histories.{Script, Answers, history_of, change_by, orders, enables, code, stored, steps_elsewhere, a_path_undone, undone_in_turn}
+use Rattle.iocm_examples.specs.Histories.{Script, Answers, history_of, change_by, orders, enables, code}
+use Rattle.iocm_examples.specs.Histories.{stored, steps_elsewhere, a_path_undone, undone_in_turn}
 use Rattle.iocm_examples.specs.SelectiveUndo.{cells_apart}
 use Rattle.iocm_runs.specs.UndoneRun.{IsUndoneAlone, IsRunWithout}
 use Rattle.iocm_runs.specs.RedoneRun.{IsRedoneAlone, IsRunWithoutBoth}
@@ -62,17 +63,23 @@ a_deletion_in_stages =
 
 pub record ADeletionInStages : Type 0 where
   pub answers : Answers a_deletion_in_stages
-  pub met : IsUndoneInStages base_opened (first 0 a_deletion_in_stages) (latest_of_first 2 3 a_deletion_in_stages) (latest_of_first 2 6 a_deletion_in_stages)
+  pub met : IsUndoneInStages base_opened (first 0 a_deletion_in_stages)
+      (latest_of_first 2 3 a_deletion_in_stages) (latest_of_first 2 6 a_deletion_in_stages)
       (leaf (deleted (device_key 0x1003))) 1 1 (entry_after 3 a_deletion_in_stages commit)
-  pub run : IsRunWithoutStages base_opened (first 0 a_deletion_in_stages) (latest_of_first 2 3 a_deletion_in_stages) (latest_of_first 2 6 a_deletion_in_stages)
+  pub run : IsRunWithoutStages base_opened (first 0 a_deletion_in_stages)
+      (latest_of_first 2 3 a_deletion_in_stages) (latest_of_first 2 6 a_deletion_in_stages)
       (leaf (deleted (device_key 0x1003))) 1 1 (entry_after 3 a_deletion_in_stages commit)
 
 -- the first of two devices is undone under the second
 abbrev pub UnderALaterChange : Type 0
-UnderALaterChange = IsUndoneLater base_opened (first 0 cells_apart) (latest_of_first 1 2 cells_apart) (entry_after 0 cells_apart (change_by add_0fff)) 1
+UnderALaterChange =
+    IsUndoneLater base_opened (first 0 cells_apart) (latest_of_first 1 2 cells_apart)
+    (entry_after 0 cells_apart (change_by add_0fff)) 1
 
 -- what is left of that without the first is no legal history: the second has a number that it would
 -- not get
 abbrev pub NoRunWithoutTheFirst : Type 0
 NoRunWithoutTheFirst =
-    IsLegal base_opened (run_with_the_later (entry_after 0 cells_apart (change_by add_0fff)) (latest_of_first 1 2 cells_apart) (first 0 cells_apart)) → ⊥
+    IsLegal base_opened (run_with_the_later (entry_after 0 cells_apart (change_by add_0fff))
+    (latest_of_first 1 2 cells_apart) (first 0 cells_apart))
+    → ⊥

@@ -18,7 +18,8 @@ use Rattle.iocm_history.specs.Stage.{Stage}
 -- the inverse tree of edits that are accepted one after the other takes them back. The rules held
 -- before them, and there are no more of them than a tree may have leaves
 abbrev pub InversesOfEditsTakeBack : Type 0
-InversesOfEditsTakeBack = (es : List Edit) (s : State) → IsSound s → KeepsTheRules s → AreAccepted es s → length es ≤ most_leaves
+InversesOfEditsTakeBack = (es : List Edit) (s : State) → IsSound s → KeepsTheRules s → AreAccepted es s
+    → length es ≤ most_leaves
     → TakesBack (inverse_tree es s) es s
 
 -- the inverse tree of a change takes its edits back, at every state with the configuration and the

@@ -58,6 +58,7 @@ pub record IsUndoneLater (opening : State) (h since : History) (e : Entry) (n : 
 
 -- where what is left is legal, it leads to the state after the undo
 abbrev pub LegalRunsWithoutLeadThere : Type 0
-LegalRunsWithoutLeadThere = (opening : State) (h since : History) (e : Entry) (n : ℕ) → IsUndoneLater opening h since e n
+LegalRunsWithoutLeadThere = (opening : State) (h since : History) (e : Entry) (n : ℕ)
+    → IsUndoneLater opening h since e n
     → IsLegal opening (run_with_the_later e since h)
     → state_at opening (undo_entry n ∷ since ++ e ∷ h) ≡ state_at opening (run_with_the_later e since h)

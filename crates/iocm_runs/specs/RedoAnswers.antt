@@ -34,16 +34,20 @@ pub record IsPast (n : ℕ) (b : Journal) : Type 0 where
 -- its subchannels that isn't quiet; else it is redone. Or memory lacks
 pub data RedoAnswered (opening : State) (h : History) (n : ℕ) (e : Entry) : Type 0 where
   staged : stage_of opening h ≢ None → e.answer ≡ Refused (refusal_at O1 Nothing) → RedoAnswered opening h n e
-  not_undone : stage_of opening h ≡ None → IsNotUndone n (journal_of h) → e.answer ≡ Refused (refusal_at J1 Nothing) → RedoAnswered opening h n e
-  past : stage_of opening h ≡ None → IsPast n (journal_of h) → e.answer ≡ Refused (refusal_at J3 Nothing) → RedoAnswered opening h n e
+  not_undone : stage_of opening h ≡ None → IsNotUndone n (journal_of h)
+      → e.answer ≡ Refused (refusal_at J1 Nothing) → RedoAnswered opening h n e
+  past : stage_of opening h ≡ None → IsPast n (journal_of h) → e.answer ≡ Refused (refusal_at J3 Nothing)
+      → RedoAnswered opening h n e
   not_last : stage_of opening h ≡ None → is_in n (journal_of h).undone ≡ true → (WasUndoneLast n (journal_of h) → ⊥)
       → e.answer ≡ Refused (refusal_at J3 Nothing) → RedoAnswered opening h n e
   waits : stage_of opening h ≡ None → WasUndoneLast n (journal_of h) → (x : SubId) → WaitsFor opening h n x
       → e.answer ≡ Refused (refusal_at B1 (Subchannel x)) → RedoAnswered opening h n e
   redone : stage_of opening h ≡ None → WasUndoneLast n (journal_of h)
-      → AreQuiet (state_at opening h).lives (altered_by_change n (marked_entries opening h)) → e.answer ≡ Redone n → RedoAnswered opening h n e
+      → AreQuiet (state_at opening h).lives (altered_by_change n (marked_entries opening h))
+      → e.answer ≡ Redone n → RedoAnswered opening h n e
   lacks_memory : e.answer ≡ Refused (refusal_at M1 Nothing) → RedoAnswered opening h n e
 
 abbrev pub RedoIsAnsweredInOrder : Type 0
-RedoIsAnsweredInOrder = (opening : State) (h : History) (n : ℕ) (e : Entry) → IsInUse opening → IsLegal opening (e ∷ h) → e.call ≡ redo n
+RedoIsAnsweredInOrder = (opening : State) (h : History) (n : ℕ) (e : Entry) → IsInUse opening
+    → IsLegal opening (e ∷ h) → e.call ≡ redo n
     → RedoAnswered opening h n e

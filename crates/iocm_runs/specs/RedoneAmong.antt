@@ -15,7 +15,8 @@ use Rattle.iocm_history.specs.RedoLaws.{redo_entry, IsRedone}
 abbrev pub steps_that_count : History → List MarkedEntry → History
 steps_that_count [] ls = []
 steps_that_count (e ∷ h) [] = []
-steps_that_count (e ∷ h) (l ∷ ls) = if is_done e.call e.answer && is_kept l.mark then e ∷ steps_that_count h ls else steps_that_count h ls
+steps_that_count (e ∷ h) (l ∷ ls) =
+    if is_done e.call e.answer && is_kept l.mark then e ∷ steps_that_count h ls else steps_that_count h ls
 
 -- what is left of a history without an undo and its redo: what was before the undo, and of what
 -- came between the steps that count after the redo
@@ -27,9 +28,11 @@ run_that_counts opening n between h =
 -- the redo. What was before the undo is marked as it was then
 pub record IsRunThatCounts (opening : State) (h between : History) (n : ℕ) : Type 0 where
   pub legal : IsLegal opening (run_that_counts opening n between h)
-  pub state : state_at opening (redo_entry n ∷ between ++ undo_entry n ∷ h) ≡ state_at opening (run_that_counts opening n between h)
+  pub state : state_at opening (redo_entry n ∷ between ++ undo_entry n ∷ h)
+      ≡ state_at opening (run_that_counts opening n between h)
   pub since : List MarkedEntry
   pub marks : marked_entries opening (redo_entry n ∷ between ++ undo_entry n ∷ h) ≡ since ++ marked_entries opening h
 
 abbrev pub RunsThatCountAreRuns : Type 0
-RunsThatCountAreRuns = (opening : State) (h between : History) (n : ℕ) → IsRedone opening h between n → IsRunThatCounts opening h between n
+RunsThatCountAreRuns = (opening : State) (h between : History) (n : ℕ) → IsRedone opening h between n
+    → IsRunThatCounts opening h between n

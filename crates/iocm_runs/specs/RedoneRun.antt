@@ -26,10 +26,13 @@ run_without_both opening n between h = steps_off (altered_by_change n (marked_en
 -- the redo; after it the same changes stand, and the same are undone, in the same order
 pub record IsRunWithoutBoth (opening : State) (h between : History) (n : ℕ) : Type 0 where
   pub legal : IsLegal opening (run_without_both opening n between h)
-  pub state : state_at opening (redo_entry n ∷ between ++ undo_entry n ∷ h) ≡ state_at opening (run_without_both opening n between h)
+  pub state : state_at opening (redo_entry n ∷ between ++ undo_entry n ∷ h)
+      ≡ state_at opening (run_without_both opening n between h)
   pub standing : (k : ℕ) → is_in k (journal_of (redo_entry n ∷ between ++ undo_entry n ∷ h)).standing
       ≡ is_in k (journal_of (run_without_both opening n between h)).standing
-  pub undone : (journal_of (redo_entry n ∷ between ++ undo_entry n ∷ h)).undone ≡ (journal_of (run_without_both opening n between h)).undone
+  pub undone : (journal_of (redo_entry n ∷ between ++ undo_entry n ∷ h)).undone
+      ≡ (journal_of (run_without_both opening n between h)).undone
 
 abbrev pub RedoneRunsAreRuns : Type 0
-RedoneRunsAreRuns = (opening : State) (h between : History) (n : ℕ) → IsRedoneAlone opening h between n → IsRunWithoutBoth opening h between n
+RedoneRunsAreRuns = (opening : State) (h between : History) (n : ℕ) → IsRedoneAlone opening h between n
+    → IsRunWithoutBoth opening h between n

@@ -15,7 +15,8 @@ use Rattle.iocm_runs.specs.RunWithout.{leaves_changes, altered_by, steps_off}
 
 -- a change was begun, and committed with no end of a stage between; it was undone, with no change
 -- accepted, undone or redone between
-pub record IsUndoneInStages (opening : State) (h between since : History) (p : ChangeTree) (k n : ℕ) (e : Entry) : Type 0 where
+pub record IsUndoneInStages (opening : State) (h between since : History) (p : ChangeTree) (k n : ℕ) (e : Entry)
+    : Type 0 where
   pub used : IsInUse opening
   pub legal : IsLegal opening (undo_entry n ∷ since ++ (e ∷ between ++ begin_entry p k ∷ h))
   pub committed : e.call ≡ commit
@@ -29,9 +30,11 @@ abbrev pub run_without_stages : Entry → History → History → History → Hi
 run_without_stages e since between h = steps_off (altered_by e) since ++ (steps_of between ++ h)
 
 -- that run is legal, with the same answers, and leads to the state after the undo
-pub record IsRunWithoutStages (opening : State) (h between since : History) (p : ChangeTree) (k n : ℕ) (e : Entry) : Type 0 where
+pub record IsRunWithoutStages (opening : State) (h between since : History) (p : ChangeTree) (k n : ℕ)
+    (e : Entry) : Type 0 where
   pub legal : IsLegal opening (run_without_stages e since between h)
-  pub state : state_at opening (undo_entry n ∷ since ++ (e ∷ between ++ begin_entry p k ∷ h)) ≡ state_at opening (run_without_stages e since between h)
+  pub state : state_at opening (undo_entry n ∷ since ++ (e ∷ between ++ begin_entry p k ∷ h))
+      ≡ state_at opening (run_without_stages e since between h)
 
 abbrev pub StagedRunsAreRuns : Type 0
 StagedRunsAreRuns = (opening : State) (h between since : History) (p : ChangeTree) (k n : ℕ) (e : Entry)

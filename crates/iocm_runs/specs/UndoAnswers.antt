@@ -32,15 +32,18 @@ pub record IsFree (opening : State) (h : History) (n : ℕ) : Type 0 where
 -- subchannels that isn't quiet; else it is undone. Or memory lacks
 pub data UndoAnswered (opening : State) (h : History) (n : ℕ) (e : Entry) : Type 0 where
   staged : stage_of opening h ≢ None → e.answer ≡ Refused (refusal_at O1 Nothing) → UndoAnswered opening h n e
-  not_standing : stage_of opening h ≡ None → is_in n (journal_of h).standing ≡ false → e.answer ≡ Refused (refusal_at J1 Nothing) → UndoAnswered opening h n e
+  not_standing : stage_of opening h ≡ None → is_in n (journal_of h).standing ≡ false
+      → e.answer ≡ Refused (refusal_at J1 Nothing) → UndoAnswered opening h n e
   stood_on : MayStart opening h n → (k : ℕ) (c : change.Change) → change_at n (marked_entries opening h) ≡ Some c
       → IsGreatestOf k (standing_on n c (marked_entries opening h) (fits c (state_at opening h)))
       → e.answer ≡ Refused (refusal_at J2 (Change k)) → UndoAnswered opening h n e
-  waits : IsFree opening h n → (x : SubId) → WaitsFor opening h n x → e.answer ≡ Refused (refusal_at B1 (Subchannel x)) → UndoAnswered opening h n e
+  waits : IsFree opening h n → (x : SubId) → WaitsFor opening h n x
+      → e.answer ≡ Refused (refusal_at B1 (Subchannel x)) → UndoAnswered opening h n e
   undone : IsFree opening h n → AreQuiet (state_at opening h).lives (altered_by_change n (marked_entries opening h))
       → e.answer ≡ Undone n → UndoAnswered opening h n e
   lacks_memory : e.answer ≡ Refused (refusal_at M1 Nothing) → UndoAnswered opening h n e
 
 abbrev pub UndoIsAnsweredInOrder : Type 0
-UndoIsAnsweredInOrder = (opening : State) (h : History) (n : ℕ) (e : Entry) → IsInUse opening → IsLegal opening (e ∷ h) → e.call ≡ undo n
+UndoIsAnsweredInOrder = (opening : State) (h : History) (n : ℕ) (e : Entry) → IsInUse opening
+    → IsLegal opening (e ∷ h) → e.call ≡ undo n
     → UndoAnswered opening h n e

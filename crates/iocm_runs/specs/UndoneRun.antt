@@ -24,4 +24,5 @@ pub record IsRunWithout (opening : State) (h since : History) (e : Entry) (n : �
   pub state : state_at opening (undo_entry n ∷ since ++ e ∷ h) ≡ state_at opening (run_without e since h)
 
 abbrev pub UndoneRunsAreRuns : Type 0
-UndoneRunsAreRuns = (opening : State) (h since : History) (e : Entry) (n : ℕ) → IsUndoneAlone opening h since e n → IsRunWithout opening h since e n
+UndoneRunsAreRuns = (opening : State) (h since : History) (e : Entry) (n : ℕ)
+    → IsUndoneAlone opening h since e n → IsRunWithout opening h since e n

@@ -96,7 +96,8 @@ fn is_same(change: &ViewChange, wanted: &ViewChange) -> bool {
 
 /// Whether a subchannel is the only one that has a seat.
 fn is_alone(seats: &Table<SubId, Seat>, there: &SubId) -> bool
-    ensures { result ≡ true → (x : sub_id.SubId) → eq_by_cmp sub_id_cmp x there.now ≡ false → get (rows sub_id_cmp seats.now) x ≡ None }
+    ensures { result ≡ true → (x : sub_id.SubId) → eq_by_cmp sub_id_cmp x there.now ≡ false
+        → get (rows sub_id_cmp seats.now) x ≡ None }
 {
     seats.len() == 1 && seats.get(there).is_some()
 }

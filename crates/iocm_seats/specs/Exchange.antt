@@ -32,15 +32,19 @@ exchanged w seats out back = fold (given w) (fold remove seats out) back
 -- that is altered and has a view afterwards comes with a live record
 pub record IsExchange (v w : Views) (out : List SubId) (back : List (SubId × Live)) : Type 0 where
   pub out_exactly : (x : SubId) → is_among x out ≡ (not (option_eq same_view (get v x) (get w x)) && is_some (get v x))
-  pub back_exactly : (x : SubId) → is_some (find sub_id_cmp x back) ≡ (not (option_eq same_view (get v x) (get w x)) && is_some (get w x))
+  pub back_exactly : (x : SubId)
+      → is_some (find sub_id_cmp x back) ≡ (not (option_eq same_view (get v x) (get w x)) && is_some (get w x))
   pub apart : T (is_sorted sub_id_cmp back)
 
 -- seats that are so exchanged show the new views, and have the live records after an edit that
 -- brings these
 abbrev pub ExchangedSeatsShow : Type 0
-ExchangedSeatsShow = (seats : Seats) (w : Views) (out : List SubId) (back : List (SubId × Live)) → IsExchange (views_seated seats) w out back
+ExchangedSeatsShow = (seats : Seats) (w : Views) (out : List SubId) (back : List (SubId × Live))
+    → IsExchange (views_seated seats) w out back
     → views_seated (exchanged w seats out back) ≡ w
 
 abbrev pub ExchangedSeatsLive : Type 0
-ExchangedSeatsLive = (seats : Seats) (w : Views) (out : List SubId) (back : List (SubId × Live)) → IsExchange (views_seated seats) w out back
-    → lives_seated (exchanged w seats out back) ≡ lives_after_edit (views_seated seats) w (from_sorted back) (lives_seated seats)
+ExchangedSeatsLive = (seats : Seats) (w : Views) (out : List SubId) (back : List (SubId × Live))
+    → IsExchange (views_seated seats) w out back
+    → lives_seated (exchanged w seats out back)
+    ≡ lives_after_edit (views_seated seats) w (from_sorted back) (lives_seated seats)

@@ -11,7 +11,8 @@ use Rattle.iocm_seats.specs.Seated.{fresh_seat}
 
 -- the seats of an image at some number cells, of which those of its channel subsystem count
 unfoldable pub image_seats : Lookup → ImageRecord → List (NumberCell × ℕ) → List (SubId × Seat)
-image_seats c i cells = map fresh_seat (filter_map (row_at c i) (filter (λ (e : NumberCell × ℕ). e.0.css == i.css) cells))
+image_seats c i cells =
+    map fresh_seat (filter_map (row_at c i) (filter (λ (e : NumberCell × ℕ). e.0.css == i.css) cells))
 
 -- the seats of the images among some records
 unfoldable pub record_seats : Lookup → List (NumberCell × ℕ) → List Rec → List (SubId × Seat)

@@ -21,11 +21,18 @@ use Rattle.iocm_seats.specs.Changes.{changes_between}
 -- that an edit leaves it
 abbrev pub seat_after : Option Seat → Option View → Option Live → Option Seat
 seat_after old new kept =
-    option_map (λ (w : View). record { view = w; live = live_of_altered (option_map (λ (s : Seat). s.view) old) w kept (option_map (λ (s : Seat). s.live) old) }) new
+    option_map
+    (λ (w : View). record {
+      view = w;
+      live = live_of_altered (option_map (λ (s : Seat). s.view) old) w kept
+          (option_map (λ (s : Seat). s.live) old);
+    })
+    new
 
 -- the seats after a change at one subchannel
 abbrev pub settled : Lives → Seats → ViewChange → Seats
-settled kept seats ch = with_value seats ch.subchannel (seat_after (get seats ch.subchannel) ch.after (get kept ch.subchannel))
+settled kept seats ch =
+    with_value seats ch.subchannel (seat_after (get seats ch.subchannel) ch.after (get kept ch.subchannel))
 
 -- the seats after changes
 abbrev pub settled_all : Lives → Seats → List ViewChange → Seats
@@ -37,11 +44,14 @@ HavePlaces t changes = AllByRecursion (λ ch. HasPlace sub_id_cmp t ch.subchanne
 
 -- the subchannels at which something is seen afterwards
 abbrev pub subchannels_left : List ViewChange → List SubId
-subchannels_left changes = map (λ (ch : ViewChange). ch.subchannel) (filter (λ (ch : ViewChange). is_some ch.after) changes)
+subchannels_left changes =
+    map (λ (ch : ViewChange). ch.subchannel) (filter (λ (ch : ViewChange). is_some ch.after) changes)
 
 -- the live records at the subchannels of changes, those of subchannels that have one
 abbrev pub lives_met : Lives → List ViewChange → List (SubId × Live)
-lives_met lives changes = filter_map (λ (ch : ViewChange). option_map (λ (l : Live). (ch.subchannel, l)) (get lives ch.subchannel)) changes
+lives_met lives changes =
+    filter_map (λ (ch : ViewChange). option_map (λ (l : Live). (ch.subchannel, l)) (get lives ch.subchannel))
+    changes
 
 -- this live record at the subchannels of changes
 abbrev pub met_at : Live → List ViewChange → List (SubId × Live)
@@ -59,8 +69,10 @@ first_busy (row ∷ met) = if is_not_quiet (Some row.1) then Some row.0 else fir
 -- seats that are settled by all changes between what they show and other views show these, and have
 -- the live records after an edit
 abbrev pub SettledSeatsShow : Type 0
-SettledSeatsShow = (seats : Seats) (w : Views) (kept : Lives) → views_seated (settled_all kept seats (changes_between (views_seated seats) w)) ≡ w
+SettledSeatsShow = (seats : Seats) (w : Views) (kept : Lives)
+    → views_seated (settled_all kept seats (changes_between (views_seated seats) w)) ≡ w
 
 abbrev pub SettledSeatsLive : Type 0
 SettledSeatsLive = (seats : Seats) (w : Views) (kept : Lives)
-    → lives_seated (settled_all kept seats (changes_between (views_seated seats) w)) ≡ lives_after_edit (views_seated seats) w kept (lives_seated seats)
+    → lives_seated (settled_all kept seats (changes_between (views_seated seats) w))
+    ≡ lives_after_edit (views_seated seats) w kept (lives_seated seats)

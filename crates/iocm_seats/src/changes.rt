@@ -1,5 +1,5 @@
 ghost use Rattle.std.specs.Prelude.{◌≡◌, [], ◌∷◌, ◌++◌, map, None, Some, IfOk, OnOk};
-ghost use Rattle.std.specs.List.{filter_map, cons_option};
+ghost use Rattle.std.specs.List.{cons_option};
 ghost use Rattle.std.specs.List.Sorted.{IsStrictlySortedBy};
 ghost use Rattle.std.specs.Option.{option_copied, option_eq, option_and_then};
 ghost use Rattle.std.specs.FinMap.{get};
@@ -14,8 +14,7 @@ ghost use Rattle.iocm_derive.specs.SightedCells.{sighted_cell, seen_there};
 ghost use Rattle.iocm_model.specs.Operation.State.{views_of};
 ghost use Rattle.iocm_seats.specs.Seated.{views_seated, lives_seated};
 ghost use Rattle.iocm_seats.specs.Settling.{lives_met, met_at};
-ghost use Rattle.iocm_seats.specs.Changes as spec;
-ghost use Rattle.iocm_seats.specs.Changes.{candidates, change_from, changes_between, AreCandidates};
+ghost use Rattle.iocm_seats.specs.Changes.{candidates, changes_at, change_from, changes_between, AreCandidates};
 ghost use Rattle.iocm_seats.specs.Sights.{AreSights, cells_of_sights};
 
 use crate::{Seat, ViewChange};
@@ -69,9 +68,14 @@ pub fn list_changes<A: Allocator, B: Allocator, C: Allocator, D: Allocator + Clo
 ) -> Result<Altered<D>, AllocError>
     requires images { IsStrictlySortedBy image_cmp images.now }
     requires cells { IsStrictlySortedBy cell_cmp cells.now }
-    requires all { AreCandidates (get (views_seated (rows sub_id_cmp tried.now.seats.now))) (model.view_at tried.now.config.now.records tried.now.numbers.now.numbers) (candidates images.now cells.now) }
-    ensures changes { IfOk result (λ altered. altered.changes.items ≡ changes_between (views_seated (rows sub_id_cmp tried.now.seats.now)) (views_of tried.now.config.now.records tried.now.numbers.now.numbers)) }
-    ensures met { IfOk result (λ altered. altered.met.items ≡ lives_met (lives_seated (rows sub_id_cmp tried.now.seats.now)) altered.changes.items) }
+    requires all { AreCandidates (get (views_seated (rows sub_id_cmp tried.now.seats.now)))
+        (model.view_at tried.now.config.now.records tried.now.numbers.now.numbers)
+        (candidates images.now cells.now) }
+    ensures changes { IfOk result (λ altered. altered.changes.items ≡ changes_between
+        (views_seated (rows sub_id_cmp tried.now.seats.now))
+        (views_of tried.now.config.now.records tried.now.numbers.now.numbers)) }
+    ensures met { IfOk result (λ altered. altered.met.items
+        ≡ lives_met (lives_seated (rows sub_id_cmp tried.now.seats.now)) altered.changes.items) }
 {
     // For the proof alone: each record stands under its own key.
     tried.config.has_own_keys();
@@ -87,7 +91,8 @@ fn sight_cells<'a, A: Allocator, B: Allocator, C: Allocator, D: Allocator>(
     images: &[Image],
     cells: &[NumberCell],
 ) -> Result<Vec<CellSight<'a, B>, D>, AllocError>
-    ensures { IfOk result (λ sights. sights.items ≡ map (sighted_cell tried.now.config.now.records tried.now.numbers.now.numbers) cells.now) }
+    ensures { IfOk result (λ sights. sights.items
+        ≡ map (sighted_cell tried.now.config.now.records tried.now.numbers.now.numbers) cells.now) }
 {
     let mut sights = Vec::new(alloc);
     for cell in cells {
@@ -119,8 +124,11 @@ fn list_at_images<A: Allocator, B: Allocator, C: Allocator, D: Allocator + Clone
 ) -> Result<Altered<D>, AllocError>
     requires keyed { IsKeyed tried.now.config.now.records }
     requires sights { AreSights tried.now.config.now.records tried.now.numbers.now.numbers sights.now }
-    ensures changes { IfOk result (λ altered. altered.changes.items ≡ filter_map (spec.change_at (get (views_seated (rows sub_id_cmp tried.now.seats.now))) (model.view_at tried.now.config.now.records tried.now.numbers.now.numbers)) (candidates images.now (cells_of_sights sights.now))) }
-    ensures met { IfOk result (λ altered. altered.met.items ≡ lives_met (lives_seated (rows sub_id_cmp tried.now.seats.now)) altered.changes.items) }
+    ensures changes { IfOk result (λ altered. altered.changes.items ≡ changes_at
+        (rows sub_id_cmp tried.now.seats.now) tried.now.config.now.records tried.now.numbers.now.numbers
+        (candidates images.now (cells_of_sights sights.now))) }
+    ensures met { IfOk result (λ altered. altered.met.items
+        ≡ lives_met (lives_seated (rows sub_id_cmp tried.now.seats.now)) altered.changes.items) }
 {
     let mut altered = Altered {
         changes: Vec::new(alloc.clone()?),
@@ -144,12 +152,16 @@ fn list_at_cells<A: Allocator, B: Allocator, C: Allocator, D: Allocator>(
     named: &NamedImage,
     sights: &[CellSight<'_, B>],
 ) -> Result<(), AllocError>
-    requires met { altered.old.met.items ≡ lives_met (lives_seated (rows sub_id_cmp tried.now.seats.now)) altered.old.changes.items }
+    requires met { altered.old.met.items
+        ≡ lives_met (lives_seated (rows sub_id_cmp tried.now.seats.now)) altered.old.changes.items }
     requires keyed { IsKeyed tried.now.config.now.records }
     requires name { named.now.name ≡ name_at (lookup_of tried.now.config.now.records) named.now.image }
     requires sights { AreSights tried.now.config.now.records tried.now.numbers.now.numbers sights.now }
-    ensures changes { OnOk result (altered.new.changes.items ≡ altered.old.changes.items ++ filter_map (spec.change_at (get (views_seated (rows sub_id_cmp tried.now.seats.now))) (model.view_at tried.now.config.now.records tried.now.numbers.now.numbers)) (candidates (named.now.image ∷ []) (cells_of_sights sights.now))) }
-    ensures met { OnOk result (altered.new.met.items ≡ lives_met (lives_seated (rows sub_id_cmp tried.now.seats.now)) altered.new.changes.items) }
+    ensures changes { OnOk result (altered.new.changes.items ≡ altered.old.changes.items ++ changes_at
+        (rows sub_id_cmp tried.now.seats.now) tried.now.config.now.records tried.now.numbers.now.numbers
+        (candidates (named.now.image ∷ []) (cells_of_sights sights.now))) }
+    ensures met { OnOk result (altered.new.met.items
+        ≡ lives_met (lives_seated (rows sub_id_cmp tried.now.seats.now)) altered.new.changes.items) }
 {
     for sight in sights {
         list_at_cell(altered, tried, named, sight)?;
@@ -165,12 +177,17 @@ fn list_at_cell<A: Allocator, B: Allocator, C: Allocator, D: Allocator>(
     named: &NamedImage,
     sight: &CellSight<'_, B>,
 ) -> Result<(), AllocError>
-    requires met { altered.old.met.items ≡ lives_met (lives_seated (rows sub_id_cmp tried.now.seats.now)) altered.old.changes.items }
+    requires met { altered.old.met.items
+        ≡ lives_met (lives_seated (rows sub_id_cmp tried.now.seats.now)) altered.old.changes.items }
     requires keyed { IsKeyed tried.now.config.now.records }
     requires name { named.now.name ≡ name_at (lookup_of tried.now.config.now.records) named.now.image }
-    requires sight { sight.now ≡ sighted_cell tried.now.config.now.records tried.now.numbers.now.numbers sight.now.cell }
-    ensures changes { OnOk result (altered.new.changes.items ≡ altered.old.changes.items ++ filter_map (spec.change_at (get (views_seated (rows sub_id_cmp tried.now.seats.now))) (model.view_at tried.now.config.now.records tried.now.numbers.now.numbers)) (candidates (named.now.image ∷ []) (sight.now.cell ∷ []))) }
-    ensures met { OnOk result (altered.new.met.items ≡ lives_met (lives_seated (rows sub_id_cmp tried.now.seats.now)) altered.new.changes.items) }
+    requires sight { sight.now
+        ≡ sighted_cell tried.now.config.now.records tried.now.numbers.now.numbers sight.now.cell }
+    ensures changes { OnOk result (altered.new.changes.items ≡ altered.old.changes.items ++ changes_at
+        (rows sub_id_cmp tried.now.seats.now) tried.now.config.now.records tried.now.numbers.now.numbers
+        (candidates (named.now.image ∷ []) (sight.now.cell ∷ []))) }
+    ensures met { OnOk result (altered.new.met.items
+        ≡ lives_met (lives_seated (rows sub_id_cmp tried.now.seats.now)) altered.new.changes.items) }
 {
     let cell = sight.cell();
     if cell.css != named.image.css {
@@ -207,8 +224,10 @@ fn list_seated<D: Allocator>(
     seat: &Seat,
     after: Option<View>,
 ) -> Result<(), AllocError>
-    ensures changes { OnOk result (altered.new.changes.items ≡ altered.old.changes.items ++ cons_option (change_from (Some seat.now.view) after subchannel.now) []) }
-    ensures met { OnOk result (altered.new.met.items ≡ altered.old.met.items ++ met_at seat.now.live (cons_option (change_from (Some seat.now.view) after subchannel.now) [])) }
+    ensures changes { OnOk result (altered.new.changes.items
+        ≡ altered.old.changes.items ++ cons_option (change_from (Some seat.now.view) after subchannel.now) []) }
+    ensures met { OnOk result (altered.new.met.items ≡ altered.old.met.items
+        ++ met_at seat.now.live (cons_option (change_from (Some seat.now.view) after subchannel.now) [])) }
 {
     let before = Some(seat.view.to_view());
     if is_same(before.as_ref(), after.as_ref()) {
@@ -230,7 +249,8 @@ fn list_new<D: Allocator>(
     subchannel: &SubId,
     after: Option<View>,
 ) -> Result<(), AllocError>
-    ensures changes { OnOk result (altered.new.changes.items ≡ altered.old.changes.items ++ cons_option (change_from None after subchannel.now) []) }
+    ensures changes { OnOk result (altered.new.changes.items
+        ≡ altered.old.changes.items ++ cons_option (change_from None after subchannel.now) []) }
     ensures met { altered.new.met.items ≡ altered.old.met.items }
 {
     if after.is_none() {

@@ -29,7 +29,9 @@ pub fn exchange<A: Allocator, B: Allocator, C: Allocator>(
 )
     requires apart { T (is_sorted sub_id_cmp out.old) }
     requires places { AllByRecursion (λ row. HasPlace sub_id_cmp seats.old row.0) back.now }
-    ensures seats { rows sub_id_cmp seats.new ≡ exchanged (views_of config.now.records numbers.now.numbers) (rows sub_id_cmp seats.old) (keys_of out.old) back.now }
+    ensures seats { rows sub_id_cmp seats.new
+        ≡ exchanged (views_of config.now.records numbers.now.numbers) (rows sub_id_cmp seats.old)
+        (keys_of out.old) back.now }
     ensures out { out.new ≡ map (met (lives_seated (rows sub_id_cmp seats.old))) out.old }
     ensures places { seats.new.places ≡ seats.old.places }
 {
@@ -68,7 +70,8 @@ fn give_all<A: Allocator, B: Allocator, C: Allocator>(
     back: &[(SubId, Live)],
 )
     requires { AllByRecursion (λ row. HasPlace sub_id_cmp seats.old row.0) back.now }
-    ensures seats { rows sub_id_cmp seats.new ≡ fold (given (views_of config.now.records numbers.now.numbers)) (rows sub_id_cmp seats.old) back.now }
+    ensures seats { rows sub_id_cmp seats.new
+        ≡ fold (given (views_of config.now.records numbers.now.numbers)) (rows sub_id_cmp seats.old) back.now }
     ensures places { seats.new.places ≡ seats.old.places }
 {
     // For the proof alone: each record stands under its own key.
@@ -86,7 +89,8 @@ fn give_one<A: Allocator, B: Allocator, C: Allocator>(
     row: &(SubId, Live),
 )
     requires { HasPlace sub_id_cmp seats.old row.now.0 }
-    ensures seats { rows sub_id_cmp seats.new ≡ given (views_of config.now.records numbers.now.numbers) (rows sub_id_cmp seats.old) row.now }
+    ensures seats { rows sub_id_cmp seats.new
+        ≡ given (views_of config.now.records numbers.now.numbers) (rows sub_id_cmp seats.old) row.now }
     ensures places { seats.new.places ≡ seats.old.places }
 {
     // For the proof alone: each record stands under its own key.

@@ -13,7 +13,8 @@ use std::alloc::{AllocError, Allocator};
 /// The first of the subchannels of some changes whose live record isn't quiet, if there is one, by
 /// the live records that they meet.
 pub fn first_not_quiet(met: &[(SubId, Live)]) -> Option<SubId>
-    ensures { (lives : Lives) (changes : List changed.ViewChange) → met.now ≡ lives_met lives changes → result ≡ refusal.first_not_quiet lives (map (λ ch. ch.subchannel) changes) }
+    ensures { (lives : Lives) (changes : List changed.ViewChange) → met.now ≡ lives_met lives changes
+        → result ≡ refusal.first_not_quiet lives (map (λ ch. ch.subchannel) changes) }
 {
     first_busy(met)
 }

@@ -27,7 +27,8 @@ pub fn open_seats<A: Allocator, B: Allocator, C: Allocator + Clone>(
     config: &Config<A>,
     numbers: &Numbers<B>,
 ) -> Result<Table<SubId, Seat, C>, AllocError>
-    ensures { IfOk result (λ seats. rows sub_id_cmp seats ≡ from_entries (map fresh_seat (views config.now.records numbers.now.numbers))) }
+    ensures { IfOk result (λ seats. rows sub_id_cmp seats
+        ≡ from_entries (map fresh_seat (views config.now.records numbers.now.numbers))) }
 {
     // For the proof alone: each record stands under its own key, so no subchannel is listed twice.
     config.has_own_keys();
@@ -57,7 +58,9 @@ fn list_record<A: Allocator, B: Allocator, C: Allocator>(
     numbers: &Numbers<B>,
     entry: &Record<A>,
 ) -> Result<(), AllocError>
-    ensures { OnOk result (listed.new.items ≡ listed.old.items ++ record_seats (lookup_of config.now.records) (entries (cells_of numbers.now.numbers)) (entry.now ∷ [])) }
+    ensures { OnOk result (listed.new.items ≡ listed.old.items
+        ++ record_seats (lookup_of config.now.records) (entries (cells_of numbers.now.numbers))
+        (entry.now ∷ [])) }
 {
     match entry.body() {
         RecordBody::Image(css, mif, name) => {
@@ -80,7 +83,8 @@ fn list_image<A: Allocator, B: Allocator, C: Allocator>(
     sight: &mut ImageSight<'_, A>,
     numbers: &Numbers<B>,
 ) -> Result<(), AllocError>
-    ensures { OnOk result (listed.new.items ≡ listed.old.items ++ image_seats (lookup_of sight.old.records) sight.old.image (entries (cells_of numbers.now.numbers))) }
+    ensures { OnOk result (listed.new.items ≡ listed.old.items
+        ++ image_seats (lookup_of sight.old.records) sight.old.image (entries (cells_of numbers.now.numbers))) }
 {
     for (cell, device) in numbers.cells() {
         list_cell(listed, sight, *cell, *device)?;
@@ -96,7 +100,8 @@ fn list_cell<A: Allocator, C: Allocator>(
     cell: NumberCell,
     device: DevNo,
 ) -> Result<(), AllocError>
-    ensures rows { OnOk result (listed.new.items ≡ listed.old.items ++ image_seats (lookup_of sight.old.records) sight.old.image ((cell, device) ∷ [])) }
+    ensures rows { OnOk result (listed.new.items
+        ≡ listed.old.items ++ image_seats (lookup_of sight.old.records) sight.old.image ((cell, device) ∷ [])) }
     ensures same { sight.new ≡ sight.old }
 {
     let image = sight.image();
@@ -115,7 +120,8 @@ fn list_seen<A: Allocator, C: Allocator>(
     device: DevNo,
 ) -> Result<(), AllocError>
     requires { cell.css ≡ sight.old.image.css }
-    ensures rows { OnOk result (listed.new.items ≡ listed.old.items ++ image_seats (lookup_of sight.old.records) sight.old.image ((cell, device) ∷ [])) }
+    ensures rows { OnOk result (listed.new.items
+        ≡ listed.old.items ++ image_seats (lookup_of sight.old.records) sight.old.image ((cell, device) ∷ [])) }
     ensures same { sight.new ≡ sight.old }
 {
     let subchannel = SubId {

@@ -61,7 +61,8 @@ pub fn settle_all<A: Allocator, B: Allocator>(
     kept: &Table<SubId, Live, B>,
 )
     requires { HavePlaces seats.old changes.now }
-    ensures seats { rows sub_id_cmp seats.new ≡ settled_all (rows sub_id_cmp kept.now) (rows sub_id_cmp seats.old) changes.now }
+    ensures seats { rows sub_id_cmp seats.new
+        ≡ settled_all (rows sub_id_cmp kept.now) (rows sub_id_cmp seats.old) changes.now }
     ensures places { seats.new.places ≡ seats.old.places }
 {
     for change in changes {
@@ -73,7 +74,9 @@ pub fn settle_all<A: Allocator, B: Allocator>(
 /// searched once.
 fn settle<A: Allocator>(seats: &mut Table<SubId, Seat, A>, change: &ViewChange, own: Option<Live>)
     requires { HasPlace sub_id_cmp seats.old change.now.subchannel }
-    ensures seats { rows sub_id_cmp seats.new ≡ with_value (rows sub_id_cmp seats.old) change.now.subchannel (seat_after (get (rows sub_id_cmp seats.old) change.now.subchannel) change.now.after own) }
+    ensures seats { rows sub_id_cmp seats.new
+        ≡ with_value (rows sub_id_cmp seats.old) change.now.subchannel
+        (seat_after (get (rows sub_id_cmp seats.old) change.now.subchannel) change.now.after own) }
     ensures places { seats.new.places ≡ seats.old.places }
 {
     let Some(view) = &change.after else {

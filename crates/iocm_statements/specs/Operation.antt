@@ -2,7 +2,9 @@
 use Rattle.std.specs.Prelude.{◌≡◌, ℕ, List, if◌then◌else◌, Option, None, Some, codes}
 use Rattle.std.specs.Str.{bytes_eq}
 use Rattle.iocm_statements.specs.declared.operation.Operation.{Operation}
-use Rattle.iocm_statements.specs.declared.operation.Operation.TheVariants.{Id, Resource, Chpid, Cntlunit, Iodevice, Online, Row, Group, Choose, End}
+use Rattle.iocm_statements.specs.declared.operation.Operation.TheVariants.{Id, Resource, Chpid, Cntlunit}
+use Rattle.iocm_statements.specs.declared.operation.Operation.TheVariants.{Iodevice, Online, Row}
+use Rattle.iocm_statements.specs.declared.operation.Operation.TheVariants.{Group, Choose, End}
 
 -- the operation of this name, if there is one
 abbrev pub operation_named : List ℕ → Option Operation

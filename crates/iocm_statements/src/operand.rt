@@ -3,7 +3,8 @@ ghost use Rattle.std.specs.List.{list_all};
 ghost use Rattle.iocm_types.specs.Fault.{Gives};
 ghost use Rattle.iocm_types.specs.Each.{each};
 ghost use Rattle.iocm_statements.specs.Nesting.{start};
-ghost use Rattle.iocm_statements.specs.Operands.{equals_from, is_keyword_byte, is_keyword, keyword_operand, operand_of, operand_texts};
+ghost use Rattle.iocm_statements.specs.Operands.{equals_from, is_keyword_byte, is_keyword, keyword_operand};
+ghost use Rattle.iocm_statements.specs.Operands.{operand_of, operand_texts};
 
 use crate::OperandKey;
 use crate::nesting::Nesting;

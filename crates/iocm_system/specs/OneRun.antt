@@ -31,6 +31,7 @@ pub record IsOneRun (core : seen.Core) (first second : List Call) (t : Together)
   pub of_second : AreTaken second made_second t.second
   pub since : List Entry
   pub trace : t.closed.trace.entries.items ≡ core.entries ++ since
-  pub receipts : merged (gained made_second t.second.receipts.items) (gained made_first t.first.receipts.items) ≡ numbered (length core.entries) since
+  pub receipts : merged (gained made_second t.second.receipts.items) (gained made_first t.first.receipts.items)
+      ≡ numbered (length core.entries) since
   pub legal : IsLegal core.opening (history_of t.closed)
   pub state : t.closed.plant.state ≡ state_at core.opening (history_of t.closed)

@@ -19,7 +19,13 @@ pub record Sight : Type 0 where
   pub seen : ℕ
 
 abbrev pub sight_of : Held → Sight
-sight_of h = record { tag = h.tag; origin = h.view.origin; names = h.view.names; receipts = h.view.receipts; seen = h.view.seen }
+sight_of h = record {
+  tag = h.tag;
+  origin = h.view.origin;
+  names = h.view.names;
+  receipts = h.view.receipts;
+  seen = h.view.seen;
+}
 
 -- a seat is a caller's, at a board that was made with this core: it has no list, and bears a name
 pub record IsCaller (origin : seen.Core) (v : View) : Type 0 where

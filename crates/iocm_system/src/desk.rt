@@ -53,9 +53,14 @@ impl<B: Identity> Desk<B> {
         requires caller { IsCaller (B.origin me.old.tag) me.old.view }
         ensures asked { IfOk result (λ r. r.asked ≡ asked_by call) }
         ensures recorded { IfOk result (λ r. IsRecorded self.old (call_in call) r.answer self.new) }
-        ensures entry { IfOk result (λ r. (r.number ≡ length self.old.entries) × (self.new.entries ≡ self.old.entries ++ record { call = call; answer = r.answer } ∷ [])) }
-        ensures receipt { IfOk result (λ r. (me.old.view.seen ≤ r.number) × (me.new ≡ record me.old { view = with_receipt me.old.view r.number (record { call = call; answer = r.answer }) })) }
-        ensures back { IfErr result (λ b. (b.call ≡ call) × (self.new ≡ self.old) × IsBackAt (B.origin board.now.tag).room b.rule me.old me.new) }
+        ensures entry { IfOk result (λ r. (r.number ≡ length self.old.entries)
+            × (self.new.entries ≡ self.old.entries ++ record { call = call; answer = r.answer } ∷ [])) }
+        ensures receipt { IfOk result (λ r. (me.old.view.seen ≤ r.number)
+            × (me.new ≡ record me.old {
+              view = with_receipt me.old.view r.number (record { call = call; answer = r.answer });
+            })) }
+        ensures back { IfErr result (λ b. (b.call ≡ call) × (self.new ≡ self.old)
+            × IsBackAt (B.origin board.now.tag).room b.rule me.old me.new) }
     {
         if !board.is_mine(&self.keeper) {
             return Err(Back {

@@ -30,7 +30,13 @@ impl<B: Identity> System<B> {
         requires board { keeper.tag ≡ board.tag }
         requires keeper { keeper.view ≡ first_view core }
         ensures system { result.0.board.tag ≡ board.tag }
-        ensures caller { result.1 ≡ record { tag = board.tag; origin = core; names = fresh []; receipts = []; seen = length core.entries } }
+        ensures caller { result.1 ≡ record {
+          tag = board.tag;
+          origin = core;
+          names = fresh [];
+          receipts = [];
+          seen = length core.entries;
+        } }
     {
         // For the proof alone: the seat knows the core of its board.
         keeper.is_known();

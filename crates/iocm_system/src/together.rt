@@ -64,11 +64,13 @@ fn run_named<B: Identity + Send + Sync, R: Threads + Wait + Sync>(
         rt,
         || -> Turn<B>
             requires { one.tag ≡ shared.now.board.tag }
-            ensures { IsTurn first.items one result.caller result.ran.receipts.items (handed_back result.ran.back ++ result.ran.left.items) }
+            ensures { IsTurn first.items one result.caller result.ran.receipts.items
+                (handed_back result.ran.back ++ result.ran.left.items) }
         { in_turn(rt, &Open, shared, one, first) },
         || -> Turn<B>
             requires { two.tag ≡ shared.now.board.tag }
-            ensures { IsTurn second.items two result.caller result.ran.receipts.items (handed_back result.ran.back ++ result.ran.left.items) }
+            ensures { IsTurn second.items two result.caller result.ran.receipts.items
+                (handed_back result.ran.back ++ result.ran.left.items) }
         { in_turn(rt, &Open, shared, two, second) },
     );
     let Turn {

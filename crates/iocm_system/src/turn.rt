@@ -42,7 +42,8 @@ pub fn in_turn<B: Identity, R: Wait, G: Gate>(
     mut calls: VecDeque<Call>,
 ) -> Turn<B>
     requires mine { me.tag ≡ system.now.board.tag }
-    ensures turn { IsTurn calls.items me result.caller result.ran.receipts.items (handed_back result.ran.back ++ result.ran.left.items) }
+    ensures turn { IsTurn calls.items me result.caller result.ran.receipts.items
+        (handed_back result.ran.back ++ result.ran.left.items) }
     ensures ends { result.ran.back ≡ None → result.ran.left.items ≡ [] }
     ensures why { IfSome result.ran.back (λ b. EndsATurn b.rule result.caller) }
 {

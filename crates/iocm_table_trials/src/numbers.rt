@@ -333,7 +333,8 @@ fn exchange(
     place: &Place,
     number: u16,
 ) -> Result<(), Fail>
-    ensures { OnOk result (numbers.new.numbers ≡ map.insert (without_rows numbers.old.numbers out.now) place.now number) }
+    ensures { OnOk result
+        (numbers.new.numbers ≡ map.insert (without_rows numbers.old.numbers out.now) place.now number) }
 {
     numbers.exchange(out, &[]);
     see_free(numbers, place, number)?;

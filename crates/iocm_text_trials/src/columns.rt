@@ -107,7 +107,8 @@ const PARTS: &[&[u8]] = &[
 ];
 
 const PARTS_SHOWN: &[u8] =
-    b"1|DEV1|IODEVICE|ADDRESS=(1000,4),CUNUMBR=(1000),NOTE='RUNS TO COLUMN 71 IN QUOTES, AND GOES ON'\n7||CHPID|PATH=50\n";
+    b"1|DEV1|IODEVICE|ADDRESS=(1000,4),CUNUMBR=(1000),NOTE='RUNS TO COLUMN 71 IN QUOTES, AND GOES ON'\n\
+      7||CHPID|PATH=50\n";
 
 #[test]
 fn a_part_goes_on_in_each_of_the_three_ways(rt: HostRuntime) -> Result<(), Fail> {

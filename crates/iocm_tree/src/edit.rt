@@ -59,9 +59,16 @@ impl<A: Allocator> Model for Edit<A> {
     ghost Value = { Carried };
 
     ghost coded = { code_by (edits.Action × (List (Place × ℕ) × (Lives × (List (Place × ℕ) × List SubId))))
-        (coded× (Prim.hlevel codes) (coded× (coded_list (Prim.hlevel codes)) (coded× (map.code (Prim.hlevel codes) (Prim.hlevel codes)) (coded× (coded_list (Prim.hlevel codes)) (coded_list (Prim.hlevel codes))))))
+        (coded× (Prim.hlevel codes) (coded× (coded_list (Prim.hlevel codes))
+        (coded× (map.code (Prim.hlevel codes) (Prim.hlevel codes))
+        (coded× (coded_list (Prim.hlevel codes)) (coded_list (Prim.hlevel codes))))))
         (λ c. (c.edit.action, (c.edit.places, (c.edit.lives, (c.frees, c.meets)))))
-        (λ p. record { edit = record { action = p.0; places = p.1.0; lives = p.1.1.0 }; frees = p.1.1.1.0; meets = p.1.1.1.1 }) (λ _. refl) };
+        (λ p. record {
+          edit = record { action = p.0; places = p.1.0; lives = p.1.1.0 };
+          frees = p.1.1.1.0;
+          meets = p.1.1.1.1;
+        })
+        (λ _. refl) };
 
     ghost view = { λ e. carried_of e.parts };
 

@@ -66,7 +66,8 @@ impl<A: Allocator> Tree<A> {
 
     /// The parts of a Row, a Group or a Choose; none of a leaf, and its edit is let go.
     pub fn into_parts(self) -> Option<Vec<Tree<A>, A>>
-        ensures { MatchOption result (parts_in (tree_of self) ≡ None) (λ parts. parts_in (tree_of self) ≡ Some (parts_of parts.items)) }
+        ensures { MatchOption result (parts_in (tree_of self) ≡ None)
+            (λ parts. parts_in (tree_of self) ≡ Some (parts_of parts.items)) }
     {
         match self {
             Tree::Leaf(_) => None,
@@ -125,7 +126,9 @@ impl<A: Allocator> Tree<A> {
     /// no deeper than 33 however deep the tree is.
     pub fn refusal(&self) -> Option<Refused>
         ensures value { result ≡ limit_refusal (plain_tree (tree_of self.now)) }
-        ensures meaning { (s : State) → meaning (plain_tree (tree_of self.now)) s ≡ meaning_unless result (plain_tree (tree_of self.now)) s }
+        ensures meaning { (s : State)
+            → meaning (plain_tree (tree_of self.now)) s
+            ≡ meaning_unless result (plain_tree (tree_of self.now)) s }
     {
         let rule = if self.depth() > MOST_DEPTH {
             Rule::C1

@@ -26,9 +26,14 @@ OneIsTheTree = read_tree (statement (codes "DELETE") Id 1 ∷ []) ≡ Ok (leaf (
 -- two statements at the top, the first a GROUP with two parts
 abbrev pub NodesAreNested : Type 0
 NodesAreNested =
-    read_tree (statement [] Group 1 ∷ statement (codes "DELETE") Resource 2 ∷ statement [] Choose 3 ∷ statement [] End 4 ∷ statement [] End 5
+    read_tree (statement [] Group 1
+    ∷ statement (codes "DELETE") Resource 2
+    ∷ statement [] Choose 3
+    ∷ statement [] End 4
+    ∷ statement [] End 5
     ∷ statement (codes "DELETE") Id 6 ∷ [])
-    ≡ Ok (row (parts_from (group (parts_from (leaf (bare (delete key.Resource)) ∷ choose (parts_from []) ∷ [])) ∷ leaf (bare (delete key.Id)) ∷ [])))
+    ≡ Ok (row (parts_from (group (parts_from (leaf (bare (delete key.Resource)) ∷ choose (parts_from []) ∷ []))
+    ∷ leaf (bare (delete key.Id)) ∷ [])))
 
 -- the END of a GROUP is missing, while that of the CHOOSE in it is there
 abbrev pub EndIsMissing : Type 0

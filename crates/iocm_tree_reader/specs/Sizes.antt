@@ -18,7 +18,10 @@ size_of t = record { depth = min most (depth_of (plain_tree t)); leaves = min mo
 
 -- the size of trees beside each other; none has depth 0 and no leaves
 abbrev pub size_among : List CarriedTree → Size
-size_among ts = record { depth = min most (depth_in (plain_parts (parts_from ts))); leaves = min most (leaves_in (plain_parts (parts_from ts))) }
+size_among ts = record {
+  depth = min most (depth_in (plain_parts (parts_from ts)));
+  leaves = min most (leaves_in (plain_parts (parts_from ts)));
+}
 
 -- of trees beside each other
 abbrev pub beside : Size → Size → Size

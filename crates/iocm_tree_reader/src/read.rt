@@ -36,7 +36,8 @@ fn put_within<A: Allocator>(
     node: Node<A>,
     line: usize,
 ) -> Result<Reading<A>, Fault>
-    ensures { Gives seen result (meaning.within_limits line (meaning.with_node (node_seen node) (nodes_seen reading.top) (stack_seen reading.stack.items))) }
+    ensures { Gives seen result (meaning.within_limits line
+        (meaning.with_node (node_seen node) (nodes_seen reading.top) (stack_seen reading.stack.items))) }
 {
     match over_putting(&reading, &node) {
         Some(rule) => Err(Fault { rule, line }),
@@ -47,7 +48,8 @@ fn put_within<A: Allocator>(
 // The innermost open node is closed.
 #[tactic(auto, using(crate::proofs::Stacks::stack_steps))]
 fn close_within<A: Allocator>(reading: Reading<A>, line: usize) -> Result<Reading<A>, Fault>
-    ensures { Gives seen result (meaning.limited line (meaning.ended line (nodes_seen reading.top) (stack_seen reading.stack.items))) }
+    ensures { Gives seen result
+        (meaning.limited line (meaning.ended line (nodes_seen reading.top) (stack_seen reading.stack.items))) }
 {
     let Reading { top, mut stack } = reading;
     match stack.pop() {
@@ -74,7 +76,8 @@ fn give_within<A: Allocator + Copy>(
     edits: Vec<Edit<A>, A>,
     line: usize,
 ) -> Result<Reading<A>, Fault>
-    ensures { Gives seen result (meaning.within_limits line (meaning.with_node (leaves.node_of_edits edits.items) (nodes_seen reading.top) (stack_seen reading.stack.items))) }
+    ensures { Gives seen result (meaning.within_limits line (meaning.with_node
+        (leaves.node_of_edits edits.items) (nodes_seen reading.top) (stack_seen reading.stack.items))) }
 {
     match over_giving(&reading, edits.as_slice()) {
         Some(rule) => Err(Fault { rule, line }),
@@ -100,7 +103,8 @@ fn edits_within<A: Allocator + Copy>(
     reading: Reading<A>,
     statement: &Statement,
 ) -> Result<Reading<A>, Fault>
-    ensures { Gives seen result (meaning.limited statement.now.line (meaning.with_edits statement.now (nodes_seen reading.top) (stack_seen reading.stack.items))) }
+    ensures { Gives seen result (meaning.limited statement.now.line
+        (meaning.with_edits statement.now (nodes_seen reading.top) (stack_seen reading.stack.items))) }
 {
     let edits = edits_of(global, alloc, statement)?;
     give_within(alloc, reading, edits, statement.line)

@@ -32,7 +32,8 @@ fn around<A: Allocator>(size: Size, open: &OpenNode<A>) -> Size
 // The size round the open node at a place, with what is inside it.
 fn size_at<A: Allocator>(stack: &[OpenNode<A>], at: usize, size: Size) -> Size
     requires { at < length stack.now }
-    ensures { fold sizes.around size (stack_seen (take (at + 1) stack.now)) ≡ fold sizes.around result (stack_seen (take at stack.now)) }
+    ensures { fold sizes.around size (stack_seen (take (at + 1) stack.now))
+        ≡ fold sizes.around result (stack_seen (take at stack.now)) }
 {
     around(size, &stack[at])
 }
@@ -62,7 +63,8 @@ fn size_with<A: Allocator>(reading: &Reading<A>, size: Size) -> Size
 }
 
 fn over_with<A: Allocator>(reading: &Reading<A>, size: Size) -> Option<Rule>
-    ensures { result ≡ sizes.over (sizes.size_with size (nodes_seen reading.now.top) (stack_seen reading.now.stack.items)) }
+    ensures { result
+        ≡ sizes.over (sizes.size_with size (nodes_seen reading.now.top) (stack_seen reading.now.stack.items)) }
 {
     over(size_with(reading, size))
 }
@@ -77,7 +79,8 @@ pub fn over_opening<A: Allocator>(reading: &Reading<A>, kind: Kind, line: usize)
 
 /// The limit that the tree so far is over, if it is over one, where a node is put into it.
 pub fn over_putting<A: Allocator>(reading: &Reading<A>, node: &Node<A>) -> Option<Rule>
-    ensures { result ≡ meaning.over_limit (meaning.tree_so_far (meaning.with_node (node_seen node.now) (nodes_seen reading.now.top) (stack_seen reading.now.stack.items))) }
+    ensures { result ≡ meaning.over_limit (meaning.tree_so_far (meaning.with_node (node_seen node.now)
+        (nodes_seen reading.now.top) (stack_seen reading.now.stack.items))) }
 {
     over_with(reading, node.size)
 }
@@ -85,7 +88,8 @@ pub fn over_putting<A: Allocator>(reading: &Reading<A>, node: &Node<A>) -> Optio
 /// The limit that the tree so far is over, if it is over one, where what so many edits give is put
 /// into it. The order of the edits doesn't count.
 pub fn over_giving<A: Allocator>(reading: &Reading<A>, edits: &[Edit<A>]) -> Option<Rule>
-    ensures { result ≡ meaning.over_limit (meaning.tree_so_far (meaning.with_node (leaves.node_of_edits edits.now) (nodes_seen reading.now.top) (stack_seen reading.now.stack.items))) }
+    ensures { result ≡ meaning.over_limit (meaning.tree_so_far (meaning.with_node
+        (leaves.node_of_edits edits.now) (nodes_seen reading.now.top) (stack_seen reading.now.stack.items))) }
 {
     over_with(reading, size_of_edits(edits.len()))
 }
@@ -94,7 +98,8 @@ pub fn over_giving<A: Allocator>(reading: &Reading<A>, edits: &[Edit<A>]) -> Opt
 /// Answers the want of memory alone.
 #[tactic(auto, using(crate::proofs::Stacks::stack_steps))]
 pub fn put_node<A: Allocator>(reading: Reading<A>, node: Node<A>) -> Result<Reading<A>, AllocError>
-    ensures { IfOk result (λ after. seen after ≡ meaning.with_node (node_seen node) (nodes_seen reading.top) (stack_seen reading.stack.items)) }
+    ensures { IfOk result (λ after. seen after
+        ≡ meaning.with_node (node_seen node) (nodes_seen reading.top) (stack_seen reading.stack.items)) }
 {
     let Reading { top, mut stack } = reading;
     match stack.pop() {

@@ -19,7 +19,12 @@ use Rattle.iocm_tree_writer.specs.Written.{Line, action_line, written}
 
 -- what is read of a line that stands at this line of the deck
 abbrev pub as_read : ℕ → Line → read.Statement
-as_read line l = record { name = l.name; operation = l.statement.operation; operands = placed 0 l.statement.operands; line = line }
+as_read line l = record {
+  name = l.name;
+  operation = l.statement.operation;
+  operands = placed 0 l.statement.operands;
+  line = line;
+}
 
 -- the line of an action is read as the edit of this action alone
 abbrev pub ReadsLeafAgain : Type 0
@@ -43,4 +48,5 @@ ReadsTreeAgain = (t : CarriedTree) → IsTreeOfDecks t → tree_in (deck_bytes (
 
 -- so is what is written of a tree that was read
 abbrev pub ReadsReadTreeAgain : Type 0
-ReadsReadTreeAgain = (bytes : List ℕ) (t : CarriedTree) → tree_in bytes ≡ Ok t → tree_in (deck_bytes (written (plain_tree t))) ≡ Ok t
+ReadsReadTreeAgain = (bytes : List ℕ) (t : CarriedTree) → tree_in bytes ≡ Ok t
+    → tree_in (deck_bytes (written (plain_tree t))) ≡ Ok t

@@ -8,7 +8,8 @@ use Rattle.iocm_types.specs.declared.key.Key.TheVariants as key
 use Rattle.iocm_types.specs.Print.{hex4}
 use Rattle.iocm_model.specs.Change.Edit.{Action, action_key, record_after}
 use Rattle.iocm_model.specs.Machine.Record.{Rec, id, resource, image, limit, path, unit, device, online}
-use Rattle.iocm_statements.specs.declared.operation.Operation.TheVariants.{Id, Resource, Chpid, Cntlunit, Iodevice, Online}
+use Rattle.iocm_statements.specs.declared.operation.Operation.TheVariants.{Id, Resource, Chpid, Cntlunit}
+use Rattle.iocm_statements.specs.declared.operation.Operation.TheVariants.{Iodevice, Online}
 use Rattle.iocm_tree.specs.declared.verb.Verb.{Verb}
 use Rattle.iocm_tree.specs.declared.verb.Verb.TheVariants.{Add, Delete, Modify}
 use Rattle.iocm_operands.specs.ChpidPath.{path_text}
@@ -23,7 +24,9 @@ use Rattle.iocm_deck_writer.specs.Statement.{Statement, valued}
 abbrev pub online_statement : ℕ → ℕ → List ℕ → Statement
 online_statement css number name = record {
   operation = Online;
-  operands = valued (codes "PATH") (Some (path_text (record { css = css; path = number }))) ++ valued (codes "PARTITION") (Some (names_text (name ∷ [])));
+  operands =
+      valued (codes "PATH") (Some (path_text (record { css = css; path = number })))
+      ++ valued (codes "PARTITION") (Some (names_text (name ∷ [])));
 }
 
 -- the statement of one record, in the canonical form
@@ -50,11 +53,19 @@ key_statement key.Id = record { operation = Id; operands = [] }
 key_statement key.Resource = record { operation = Resource; operands = [] }
 key_statement (key.Image css mif) = record_statement (image (record { css = css; mif = mif; name = codes "*" }))
 key_statement (key.Limit css set) = record_statement (limit (record { css = css; set = set; limit = 0 }))
-key_statement (key.Path css number) = record { operation = Chpid; operands = valued (codes "PATH") (Some (path_text (record { css = css; path = number }))) }
-key_statement (key.Unit number) = record { operation = Cntlunit; operands = valued (codes "CUNUMBR") (Some (hex4 number)) }
+key_statement (key.Path css number) = record {
+  operation = Chpid;
+  operands = valued (codes "PATH") (Some (path_text (record { css = css; path = number })));
+}
+key_statement (key.Unit number) = record {
+  operation = Cntlunit;
+  operands = valued (codes "CUNUMBR") (Some (hex4 number));
+}
 key_statement (key.Device set number) = record {
   operation = Iodevice;
-  operands = valued (codes "ADDRESS") (Some (devices_text (record { first = number; count = 1 }))) ++ valued (codes "SCHSET") (set_operand set);
+  operands =
+      valued (codes "ADDRESS") (Some (devices_text (record { first = number; count = 1 })))
+      ++ valued (codes "SCHSET") (set_operand set);
 }
 key_statement (key.Online css number name) = online_statement css number name
 

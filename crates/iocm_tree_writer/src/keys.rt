@@ -1,4 +1,4 @@
-ghost use Rattle.std.specs.Prelude.{◌≡◌, ◌∷◌, ◌++◌, [], Some, IfOk, OnOk, codes};
+ghost use Rattle.std.specs.Prelude.{◌≡◌, ◌∷◌, ◌++◌, [], IfOk, OnOk, codes};
 ghost use Rattle.iocm_types.specs.declared.key.Key.TheVariants as key;
 ghost use Rattle.iocm_operands.specs.Device.{devices_text};
 ghost use Rattle.iocm_operands.specs.Resource.{images_text};
@@ -29,7 +29,8 @@ fn with_operand(
 
 // PARTITION of an image whose name isn't said: ((CSS(0),(*,1))).
 fn image_operand(alloc: Global, css: Css, mif: Mif) -> Result<Carried, AllocError>
-    ensures { IfOk result (λ operand. operand ≡ record { keyword = Some (codes "PARTITION"); text = images_text (record { css = css; mif = mif; name = codes "*" } ∷ []) }) }
+    ensures { IfOk result (λ operand. operand
+        ≡ statements.keyed (codes "PARTITION") (images_text (record { css = css; mif = mif; name = codes "*" } ∷ []))) }
 {
     let parts = vec![in alloc; Text::from_slice(alloc, b"*")?, printed(alloc, &mif)?]?;
     let item = CssText {
@@ -62,7 +63,8 @@ fn unit_statement(alloc: Global, unit: UnitNo) -> Result<CanonicalStatement, All
 
 // ADDRESS of one device.
 fn address_operand(alloc: Global, number: DevNo) -> Result<Carried, AllocError>
-    ensures { IfOk result (λ operand. operand ≡ record { keyword = Some (codes "ADDRESS"); text = devices_text (record { first = number; count = 1 }) }) }
+    ensures { IfOk result (λ operand. operand
+        ≡ statements.keyed (codes "ADDRESS") (devices_text (record { first = number; count = 1 }))) }
 {
     let count = 1usize;
     let items = vec![in alloc; printed(alloc, &number)?, printed(alloc, &count)?]?;
@@ -71,7 +73,8 @@ fn address_operand(alloc: Global, number: DevNo) -> Result<Carried, AllocError>
 
 // SCHSET, unless it is set 0, behind the other operands.
 fn put_set(alloc: Global, operands: &mut Vec<Carried>, set: SetNo) -> Result<(), AllocError>
-    ensures { OnOk result (operands.new.items ≡ operands.old.items ++ statements.valued (codes "SCHSET") (set_operand set)) }
+    ensures { OnOk result
+        (operands.new.items ≡ operands.old.items ++ statements.valued (codes "SCHSET") (set_operand set)) }
 {
     if set.number() == 0 {
         return Ok(());

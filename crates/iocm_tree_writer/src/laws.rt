@@ -1,6 +1,7 @@
 //! What holds of the definitions themselves. Each law is the contract of a function that does
 //! nothing.
-ghost use Rattle.iocm_tree_writer.specs.Again.{GivesActions, GivesTrees, ReadsLeafAgain, ReadsReadTreeAgain, ReadsTreeAgain};
+ghost use Rattle.iocm_tree_writer.specs.Again.{GivesActions, GivesTrees, ReadsLeafAgain};
+ghost use Rattle.iocm_tree_writer.specs.Again.{ReadsReadTreeAgain, ReadsTreeAgain};
 
 /// The line of a leaf is read as its edit alone: of each kind of record that is added or modified,
 /// and of each kind of key that is deleted. Each record of a configuration deck may be added,

@@ -59,7 +59,8 @@ pub fn put_edit<A: Allocator>(
     edit: &Edit<A>,
     deck: &mut Vec<Joined>,
 ) -> Result<(), AllocError>
-    ensures { OnOk result (deck.new.items ≡ deck.old.items ++ meaning.line_to_write (meaning.action_line edit.now.edit.action) ∷ []) }
+    ensures { OnOk result (deck.new.items
+        ≡ deck.old.items ++ meaning.line_to_write (meaning.action_line edit.now.edit.action) ∷ []) }
 {
     deck.push(edit_to_write(alloc, edit)?)?;
     Ok(())
@@ -71,7 +72,8 @@ pub fn put_word(
     operation: Operation,
     deck: &mut Vec<Joined>,
 ) -> Result<(), AllocError>
-    ensures { OnOk result (deck.new.items ≡ deck.old.items ++ meaning.line_to_write (meaning.word_line operation) ∷ []) }
+    ensures { OnOk result
+        (deck.new.items ≡ deck.old.items ++ meaning.line_to_write (meaning.word_line operation) ∷ []) }
 {
     deck.push(Joined {
         line: 0,

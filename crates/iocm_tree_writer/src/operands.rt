@@ -1,6 +1,7 @@
-ghost use Rattle.std.specs.Prelude.{◌≡◌, ◌∷◌, [], Some, IfOk, codes};
+ghost use Rattle.std.specs.Prelude.{◌≡◌, ◌∷◌, [], IfOk, codes};
 ghost use Rattle.iocm_operands.specs.ChpidPath.{path_text};
 ghost use Rattle.iocm_values.specs.NameSet as names;
+ghost use Rattle.iocm_deck_writer.specs.Statement as statements;
 ghost use Rattle.iocm_tree_writer.specs.Leaves as meaning;
 
 use iocm_deck_writer::CanonicalStatement;
@@ -12,14 +13,15 @@ use std::alloc::{AllocError, Global};
 
 /// An operand with its keyword. Answers the want of memory alone.
 pub fn valued(alloc: Global, keyword: &[u8], text: Text) -> Result<Carried, AllocError>
-    ensures { IfOk result (λ operand. operand ≡ record { keyword = Some keyword.now; text = text }) }
+    ensures { IfOk result (λ operand. operand ≡ statements.keyed keyword.now text) }
 {
     Ok(Carried::new(Some(Text::from_slice(alloc, keyword)?), text))
 }
 
 /// PATH of a channel path. Answers the want of memory alone.
 pub fn path_operand(alloc: Global, css: Css, number: Chpid) -> Result<Carried, AllocError>
-    ensures { IfOk result (λ operand. operand ≡ record { keyword = Some (codes "PATH"); text = path_text (record { css = css; path = number }) }) }
+    ensures { IfOk result (λ operand. operand
+        ≡ statements.keyed (codes "PATH") (path_text (record { css = css; path = number }))) }
 {
     let items = vec![in alloc; css_text(alloc, css)?, printed(alloc, &number)?]?;
     valued(alloc, b"PATH", list_text(alloc, &items)?)
@@ -27,7 +29,7 @@ pub fn path_operand(alloc: Global, css: Css, number: Chpid) -> Result<Carried, A
 
 // PARTITION of one image.
 fn name_operand(alloc: Global, name: Name) -> Result<Carried, AllocError>
-    ensures { IfOk result (λ operand. operand ≡ record { keyword = Some (codes "PARTITION"); text = names.names_text (name ∷ []) }) }
+    ensures { IfOk result (λ operand. operand ≡ statements.keyed (codes "PARTITION") (names.names_text (name ∷ []))) }
 {
     valued(alloc, b"PARTITION", names_text(alloc, &[name])?)
 }

@@ -33,7 +33,8 @@ fn put_node<A: Allocator>(
     parts: &Vec<Tree<A>, A>,
     deck: &mut Vec<Joined>,
 ) -> Result<(), AllocError>
-    ensures { OnOk result (deck.new.items ≡ deck.old.items ++ map meaning.line_to_write (meaning.enclosed operation (meaning.lines_in (plain_parts (parts_of parts.now.items))))) }
+    ensures { OnOk result (deck.new.items ≡ deck.old.items ++ map meaning.line_to_write
+        (meaning.enclosed operation (meaning.lines_in (plain_parts (parts_of parts.now.items))))) }
 {
     put_word(alloc, operation, deck)?;
     put_parts(alloc, parts, deck)?;
@@ -47,7 +48,8 @@ fn put_parts<A: Allocator>(
     parts: &Vec<Tree<A>, A>,
     deck: &mut Vec<Joined>,
 ) -> Result<(), AllocError>
-    ensures { OnOk result (deck.new.items ≡ deck.old.items ++ meaning.written_in (plain_parts (parts_of parts.now.items))) }
+    ensures { OnOk result
+        (deck.new.items ≡ deck.old.items ++ meaning.written_in (plain_parts (parts_of parts.now.items))) }
 {
     for part in parts {
         put_tree(alloc, part, deck)?;

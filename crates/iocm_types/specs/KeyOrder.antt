@@ -69,7 +69,8 @@ from_second (x ∷ xs) = xs
 abbrev key_by : List ℕ → Key
 key_by xs =
     let kind = get_or xs 0 0 in let a = get_or xs 1 0 in let b = get_or xs 2 0 in
-    cond (nat_eq kind 0) Id (cond (nat_eq kind 1) Resource (cond (nat_eq kind 2) (Image a b) (cond (nat_eq kind 3) (Limit a b)
+    cond (nat_eq kind 0) Id (cond (nat_eq kind 1) Resource
+    (cond (nat_eq kind 2) (Image a b) (cond (nat_eq kind 3) (Limit a b)
     (cond (nat_eq kind 4) (Path a b) (cond (nat_eq kind 5) (Unit a) (cond (nat_eq kind 6) (Device a b)
     (Online a b (from_second (from_second (from_second xs))))))))))
 
@@ -85,13 +86,18 @@ key_back (Online css path name) = refl
 
 pub keys_exact : IsAntisymmetric key_cmp
 keys_exact x y e =
-    sym (key_back x) ∙ ap key_by (slice_cmp-IsAntisymmetric nat_cmp-IsAntisymmetric (numbers_of x) (numbers_of y) e) ∙ key_back y
+    sym (key_back x)
+    ∙ ap key_by (slice_cmp-IsAntisymmetric nat_cmp-IsAntisymmetric (numbers_of x) (numbers_of y) e)
+    ∙ key_back y
 
 same_numbers : (a b c d e f : ℕ) → ordering_then (nat_cmp a b) (ordering_then (nat_cmp c d) (nat_cmp e f)) ≡ Equal
     → (a ≡ b) × (c ≡ d) × (e ≡ f)
 same_numbers a b c d e f is =
-    let rest = second_ties _ _ is in
-    (nat_cmp-IsAntisymmetric a b (first_ties _ _ is), nat_cmp-IsAntisymmetric c d (first_ties _ _ rest), nat_cmp-IsAntisymmetric e f (second_ties _ _ rest))
+    let rest = second_ties _ _ is in (
+      nat_cmp-IsAntisymmetric a b (first_ties _ _ is),
+      nat_cmp-IsAntisymmetric c d (first_ties _ _ rest),
+      nat_cmp-IsAntisymmetric e f (second_ties _ _ rest),
+    )
 
 -- the derived order of places is the definition
 pub derived_place_cmp : ◌≡◌ {A = Place → Place → Ordering} of_places.ghosts.cmp place_cmp
@@ -112,7 +118,8 @@ derived_cell_cmp = refl
 
 pub cells_total : IsTotalOrder cell_cmp
 cells_total = then_total (on_total (λ (c : NumberCell). c.css) nat_cmp_total)
-    (then_total (on_total (λ (c : NumberCell). c.set) nat_cmp_total) (on_total (λ (c : NumberCell). c.number) nat_cmp_total))
+    (then_total (on_total (λ (c : NumberCell). c.set) nat_cmp_total)
+    (on_total (λ (c : NumberCell). c.number) nat_cmp_total))
 
 pub cells_exact : IsAntisymmetric cell_cmp
 cells_exact x y e =
@@ -124,7 +131,9 @@ pub derived_sub_id_cmp : ◌≡◌ {A = SubId → SubId → Ordering} of_subchan
 derived_sub_id_cmp = refl
 
 pub images_total : IsTotalOrder image_cmp
-images_total = then_total (on_total (λ (i : images.Image). i.css) nat_cmp_total) (on_total (λ (i : images.Image). i.mif) nat_cmp_total)
+images_total =
+    then_total (on_total (λ (i : images.Image). i.css) nat_cmp_total)
+    (on_total (λ (i : images.Image). i.mif) nat_cmp_total)
 
 pub images_exact : IsAntisymmetric image_cmp
 images_exact x y e =
@@ -168,15 +177,17 @@ pub derived_naming_cmp : ◌≡◌ {A = Naming → Naming → Ordering} of_namin
 derived_naming_cmp = λ i a b. ordering_then (derived_named_at a.named b.named i) (derived_at a.user b.user i)
 
 abbrev named_by_numbers : List ℕ → Named
-named_by_numbers xs = cond (nat_eq (get_or xs 0 0) 0) (named.Record (key_by (from_second xs))) (named.Image (from_second xs))
+named_by_numbers xs =
+    cond (nat_eq (get_or xs 0 0) 0) (named.Record (key_by (from_second xs))) (named.Image (from_second xs))
 
 named_back : (n : Named) → named_by_numbers (numbers_of_named n) ≡ n
 named_back (named.Record key) = ap named.Record (key_back key)
 named_back (named.Image name) = refl
 
 pub named_exact : IsAntisymmetric named_cmp
-named_exact x y e = sym (named_back x)
-    ∙ ap named_by_numbers (slice_cmp-IsAntisymmetric nat_cmp-IsAntisymmetric (numbers_of_named x) (numbers_of_named y) e) ∙ named_back y
+named_exact x y e =
+    let numbers = slice_cmp-IsAntisymmetric nat_cmp-IsAntisymmetric (numbers_of_named x) (numbers_of_named y) e in
+    sym (named_back x) ∙ ap named_by_numbers numbers ∙ named_back y
 
 pub namings_exact : IsAntisymmetric naming_cmp
 namings_exact x y e =

@@ -1,5 +1,7 @@
 -- The names of images.
-use Rattle.std.specs.Prelude.{◌≡◌, ℕ, ◌-◌, ◌≤◌, Bool, false, ◌&&◌, ◌||◌, not, nat_le, nat_eq, IsTrue, List, [], ◌∷◌, ◌++◌, length, take, drop, replicate, codes, Option, Some, None, if◌then◌else◌}
+use Rattle.std.specs.Prelude.{◌≡◌, ℕ, ◌-◌, ◌≤◌, Bool, false, ◌&&◌, ◌||◌, not, nat_le}
+use Rattle.std.specs.Prelude.{nat_eq, IsTrue, List, [], ◌∷◌, ◌++◌, length, take, drop}
+use Rattle.std.specs.Prelude.{replicate, codes, Option, Some, None, if◌then◌else◌}
 use Rattle.std.specs.List.{list_all}
 use Rattle.std.specs.Cmp.Lexicographic.{pointwise}
 use Rattle.std.proofs.Common.{arith, refl}
@@ -20,7 +22,9 @@ begins_with_letter (b ∷ bs) = is_letter b
 
 -- a letter, then letters and digits, one to eight in all, and not REC
 abbrev pub is_name : List ℕ → Bool
-is_name bytes = begins_with_letter bytes && list_all is_letter_or_digit bytes && nat_le (length bytes) 8 && not (pointwise nat_eq bytes (codes "REC"))
+is_name bytes =
+    begins_with_letter bytes && list_all is_letter_or_digit bytes && nat_le (length bytes) 8
+    && not (pointwise nat_eq bytes (codes "REC"))
 
 -- the name of these bytes, if they are one
 abbrev pub name_of : List ℕ → Option (List ℕ)
@@ -38,5 +42,6 @@ pub len_back : (bytes : List ℕ) (len : ℕ) → IsPadded bytes len → length 
 len_back bytes len h = length-take-le len bytes (let w = h.within in let e = h.eight in omega arith)
 
 -- the name, filled up with zeros, gives the bytes back
-pub bytes_back : (bytes : List ℕ) (len : ℕ) → IsPadded bytes len → take len bytes ++ replicate (8 - length (take len bytes)) 0 ≡ bytes
+pub bytes_back : (bytes : List ℕ) (len : ℕ) → IsPadded bytes len
+    → take len bytes ++ replicate (8 - length (take len bytes)) 0 ≡ bytes
 bytes_back bytes len h = rw (len_back bytes len h, ← h.zeros, take-append-drop) refl

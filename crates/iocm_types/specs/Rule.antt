@@ -1,7 +1,12 @@
 -- The refusal numbers as they are printed.
 use Rattle.std.specs.Prelude.{ℕ, List, codes}
 use Rattle.iocm_types.specs.declared.rule.Rule.{Rule}
-use Rattle.iocm_types.specs.declared.rule.Rule.TheVariants.{L1, L2, L3, L4, L5, L6, S1, S2, S3, S4, S5, S6, S7, S8, S9, S10, V1, V2, V3, V4, V5, V6, V7, V8, V9, V10, V11, V12, V13, V14, E1, E2, E3, E4, B1, J1, J2, J3, O1, O2, O3, K1, K2, K3, Q1, G1, C1, C2, M1, X1}
+use Rattle.iocm_types.specs.declared.rule.Rule.TheVariants.{L1, L2, L3, L4, L5, L6}
+use Rattle.iocm_types.specs.declared.rule.Rule.TheVariants.{S1, S2, S3, S4, S5, S6, S7, S8, S9, S10}
+use Rattle.iocm_types.specs.declared.rule.Rule.TheVariants.{V1, V2, V3, V4, V5, V6, V7}
+use Rattle.iocm_types.specs.declared.rule.Rule.TheVariants.{V8, V9, V10, V11, V12, V13, V14}
+use Rattle.iocm_types.specs.declared.rule.Rule.TheVariants.{E1, E2, E3, E4, B1, J1, J2, J3}
+use Rattle.iocm_types.specs.declared.rule.Rule.TheVariants.{O1, O2, O3, K1, K2, K3, Q1, G1, C1, C2, M1, X1}
 
 -- a refusal's number, as a text
 abbrev pub rule_text : Rule → List ℕ

@@ -10,4 +10,5 @@ image_cmp a b = ordering_then (nat_cmp a.css b.css) (nat_cmp a.mif b.mif)
 
 -- by image, then by subchannel set, then by number
 abbrev pub sub_id_cmp : SubId → SubId → Ordering
-sub_id_cmp a b = ordering_then (image_cmp a.image b.image) (ordering_then (nat_cmp a.set b.set) (nat_cmp a.number b.number))
+sub_id_cmp a b =
+    ordering_then (image_cmp a.image b.image) (ordering_then (nat_cmp a.set b.set) (nat_cmp a.number b.number))

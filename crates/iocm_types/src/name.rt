@@ -26,7 +26,8 @@ impl Model for Name {
 
     ghost inverse = { λ xs. record { bytes = xs ++ replicate (8 - length xs) 0; len = length xs } };
 
-    ghost inverse_ok = { λ n h. λ i. record { bytes = bytes_back n.bytes n.len h i; len = len_back n.bytes n.len h i } };
+    ghost inverse_ok = { λ n h. λ i.
+        record { bytes = bytes_back n.bytes n.len h i; len = len_back n.bytes n.len h i } };
 }
 
 impl Name {

@@ -1,10 +1,10 @@
-ghost use Rattle.std.specs.Prelude.{◌≡◌, ◌≤◌, ◌&&◌, ℕ, ◌==◌, get_or, if◌then◌else◌};
+ghost use Rattle.std.specs.Prelude.{◌≡◌, ◌≤◌, ◌&&◌, ◌==◌, get_or, if◌then◌else◌};
 ghost use Rattle.std.specs.List.{list_any};
-ghost use Rattle.iocm_types.specs.declared.link.Link as link_type;
 ghost use Rattle.iocm_types.specs.declared.link.Link.TheVariants as link;
 ghost use Rattle.iocm_model.specs.Rules.EachRule as model;
 ghost use Rattle.iocm_model.specs.Machine.Numbering as numbering;
 ghost use Rattle.iocm_record.specs.Meaning.{unit_of};
+ghost use Rattle.iocm_unit_rules.specs.Links as unit_links;
 
 use iocm_lookup::subsystems;
 use iocm_record::UnitFields;
@@ -27,7 +27,8 @@ pub fn shares_link<A: Allocator>(fields: &UnitFields<A>, other: &UnitFields<A>) 
 
 /// Whether two units share a path of a channel subsystem on which both have the same link.
 fn shares_link_in<A: Allocator>(css: Css, fields: &UnitFields<A>, other: &UnitFields<A>) -> bool
-    ensures { result ≡ list_any (λ (p : ℕ × link_type.Link). list_any (λ (q : ℕ × link_type.Link). (p.0 == q.0) && model.same_link p.1 q.1) (model.linked_paths css (unit_of other.now))) (model.linked_paths css (unit_of fields.now)) }
+    ensures { result ≡ list_any (unit_links.is_on_link css (unit_of other.now))
+        (model.linked_paths css (unit_of fields.now)) }
 {
     let links = fields.links.as_slice();
     let mut ordinal = 0;
@@ -42,14 +43,14 @@ fn shares_link_in<A: Allocator>(css: Css, fields: &UnitFields<A>, other: &UnitFi
 
 /// Whether a path is of a channel subsystem, and a unit has it with this link.
 fn is_path_shared<A: Allocator>(css: Css, path: CssPath, link: Link, other: &UnitFields<A>) -> bool
-    ensures { result ≡ ((path.css == css) && list_any (λ (q : ℕ × link_type.Link). (path.path == q.0) && model.same_link link q.1) (model.linked_paths css (unit_of other.now))) }
+    ensures { result ≡ ((path.css == css) && unit_links.is_on_link css (unit_of other.now) (path.path, link)) }
 {
     path.css == css && is_linked(css, path.path, link, other)
 }
 
 /// Whether a unit has a path of a channel subsystem with this link.
 fn is_linked<A: Allocator>(css: Css, number: Chpid, link: Link, fields: &UnitFields<A>) -> bool
-    ensures { result ≡ list_any (λ (q : ℕ × link_type.Link). (number == q.0) && model.same_link link q.1) (model.linked_paths css (unit_of fields.now)) }
+    ensures { result ≡ unit_links.is_on_link css (unit_of fields.now) (number, link) }
 {
     let links = fields.links.as_slice();
     let mut ordinal = 0;

@@ -25,7 +25,8 @@ impl<A: Allocator> Wanted<A> for WrongRanges {
 
     ghost place = { 5 };
 
-    ghost of_kind = { λ s c. only_units (breaks_v7 c) (λ _. refl) (λ _. refl) (λ _. refl) (λ _. refl) (λ _. refl) (λ _. refl) (λ _. refl) };
+    ghost of_kind = { λ s c. only_units (breaks_v7 c)
+        (λ _. refl) (λ _. refl) (λ _. refl) (λ _. refl) (λ _. refl) (λ _. refl) (λ _. refl) };
 
     fn kind(&self) -> Kind {
         Kind::Unit

@@ -1,11 +1,7 @@
 ghost use Rattle.std.specs.Prelude.{◌≡◌, ◌==◌, ◌&&◌, Some};
 ghost use Rattle.std.specs.List.{list_any};
-ghost use Rattle.iocm_types.specs.declared.css_path.CssPath as css_path;
-ghost use Rattle.iocm_types.specs.declared.key.Key.TheVariants as key;
-ghost use Rattle.iocm_types.specs.declared.named.Named.TheVariants as thing;
 ghost use Rattle.iocm_types.specs.Naming.{naming_cmp};
 ghost use Rattle.iocm_table.specs.Slots.{rows};
-ghost use Rattle.iocm_index.specs.Namings.{users_in};
 ghost use Rattle.iocm_model.specs.Machine.Configuration.{lookup_of};
 ghost use Rattle.iocm_model.specs.Machine.Record.{unit};
 ghost use Rattle.iocm_model.specs.Rules.EachRule as model;
@@ -43,7 +39,8 @@ impl<'a, A: Allocator, I: Allocator> Wanted<A> for SharedAddress<'a, I> {
 
     ghost place = { 5 };
 
-    ghost of_kind = { λ s c. only_units (breaks_v14 c) (λ _. refl) (λ _. refl) (λ _. refl) (λ _. refl) (λ _. refl) (λ _. refl) (λ _. refl) };
+    ghost of_kind = { λ s c. only_units (breaks_v14 c)
+        (λ _. refl) (λ _. refl) (λ _. refl) (λ _. refl) (λ _. refl) (λ _. refl) (λ _. refl) };
 
     fn kind(&self) -> Kind {
         Kind::Unit
@@ -77,7 +74,9 @@ fn is_shared_on_any<A: Allocator, I: Allocator>(
     index: &Index<I>,
     fields: &UnitFields<A>,
 ) -> bool
-    ensures { result ≡ list_any (λ (p : css_path.CssPath). list_any (sharing.clashes_before (lookup_of config.now.records) (unit_of fields.now)) (users_in (thing.Record (key.Path p.css p.path)) (rows naming_cmp index.now))) fields.now.paths }
+    ensures { result ≡ list_any
+        (sharing.clashes_on (lookup_of config.now.records) (rows naming_cmp index.now) (unit_of fields.now))
+        fields.now.paths }
 {
     for path in fields.paths.as_slice() {
         if is_shared_on(config, index, fields, *path) {
@@ -94,7 +93,8 @@ fn is_shared_on<A: Allocator, I: Allocator>(
     fields: &UnitFields<A>,
     path: CssPath,
 ) -> bool
-    ensures { result ≡ list_any (sharing.clashes_before (lookup_of config.now.records) (unit_of fields.now)) (users_in (thing.Record (key.Path path.css path.path)) (rows naming_cmp index.now)) }
+    ensures { result ≡ sharing.clashes_on (lookup_of config.now.records) (rows naming_cmp index.now)
+        (unit_of fields.now) path }
 {
     for user in index.users_of(Named::Record(Key::Path(path.css, path.path))) {
         if clashes_before(config, fields, &user) {
@@ -140,7 +140,8 @@ fn answers_for<A: Allocator>(fields: &UnitFields<A>, other: &UnitFields<A>) -> b
 
 /// Whether two units have the same CUADD, and ranges that overlap.
 fn answers_on_one_link<A: Allocator>(fields: &UnitFields<A>, other: &UnitFields<A>) -> bool
-    ensures { result ≡ ((model.cuadd_or_zero (unit_of fields.now) == model.cuadd_or_zero (unit_of other.now)) && list_any (λ r. list_any (model.overlap r) other.now.ranges) fields.now.ranges) }
+    ensures { result ≡ ((model.cuadd_or_zero (unit_of fields.now) == model.cuadd_or_zero (unit_of other.now))
+        && list_any (λ r. list_any (model.overlap r) other.now.ranges) fields.now.ranges) }
 {
     cuadd_or_zero(fields) == cuadd_or_zero(other)
         && any_overlap(fields.ranges.as_slice(), other.ranges.as_slice())

@@ -1,4 +1,4 @@
-ghost use Rattle.std.specs.Prelude.{◌≡◌, ◌==◌, ◌&&◌, filter, nat_lt, not, is_none, length};
+ghost use Rattle.std.specs.Prelude.{◌≡◌, ◌==◌, filter, nat_lt, is_none, length};
 ghost use Rattle.std.specs.List.{list_any};
 ghost use Rattle.iocm_types.specs.declared.css_path.CssPath as css_path;
 ghost use Rattle.iocm_types.specs.declared.link.CssLink as css_link;
@@ -9,6 +9,7 @@ ghost use Rattle.iocm_model.specs.Machine.PathList.{paths_in};
 ghost use Rattle.iocm_model.specs.Machine.Record.{unit};
 ghost use Rattle.iocm_model.specs.Rules.EachRule as model;
 ghost use Rattle.iocm_record.specs.Meaning.{unit_of};
+ghost use Rattle.iocm_unit_rules.specs.Links as unit_links;
 
 use crate::path_lists::{count_in, has_path_twice};
 use iocm_config::Config;
@@ -33,7 +34,8 @@ impl<A: Allocator> Wanted<A> for WrongPaths {
 
     ghost place = { 5 };
 
-    ghost of_kind = { λ s c. only_units (breaks_v5 c) (λ _. refl) (λ _. refl) (λ _. refl) (λ _. refl) (λ _. refl) (λ _. refl) (λ _. refl) };
+    ghost of_kind = { λ s c. only_units (breaks_v5 c)
+        (λ _. refl) (λ _. refl) (λ _. refl) (λ _. refl) (λ _. refl) (λ _. refl) (λ _. refl) };
 
     fn kind(&self) -> Kind {
         Kind::Unit
@@ -89,7 +91,8 @@ fn is_path_twice(paths: &[CssPath]) -> bool
 /// Whether one of these paths isn't there.
 #[tactic(auto, using(iocm_types::proofs::Any::any_steps))]
 fn is_path_missing<A: Allocator>(config: &Config<A>, paths: &[CssPath]) -> bool
-    ensures { result ≡ list_any (λ (p : css_path.CssPath). is_none (lookup_of config.now.records (key.Path p.css p.path))) paths.now }
+    ensures { result ≡ list_any
+        (λ (p : css_path.CssPath). is_none (lookup_of config.now.records (key.Path p.css p.path))) paths.now }
 {
     for path in paths {
         if config.get(&Key::Path(path.css, path.path)).is_none() {
@@ -115,7 +118,8 @@ impl<A: Allocator> Wanted<A> for WrongLinks {
 
     ghost place = { 5 };
 
-    ghost of_kind = { λ s c. only_units (breaks_v6 c) (λ _. refl) (λ _. refl) (λ _. refl) (λ _. refl) (λ _. refl) (λ _. refl) (λ _. refl) };
+    ghost of_kind = { λ s c. only_units (breaks_v6 c)
+        (λ _. refl) (λ _. refl) (λ _. refl) (λ _. refl) (λ _. refl) (λ _. refl) (λ _. refl) };
 
     fn kind(&self) -> Kind {
         Kind::Unit
@@ -134,7 +138,7 @@ impl<A: Allocator> Wanted<A> for WrongLinks {
 /// Whether there are other than as many links as paths in a channel subsystem with links.
 #[tactic(auto, using(iocm_types::proofs::Any::any_steps))]
 fn has_wrong_links(paths: &[CssPath], links: &[CssLink]) -> bool
-    ensures { result ≡ list_any (λ css. not (length (model.links_in css links.now) == 0) && not (length (model.links_in css links.now) == length (paths_in css paths.now))) numbering.subsystems }
+    ensures { result ≡ list_any (unit_links.has_other_links paths.now links.now) numbering.subsystems }
 {
     let all = subsystems();
     for css in all.as_slice() {
@@ -147,7 +151,7 @@ fn has_wrong_links(paths: &[CssPath], links: &[CssLink]) -> bool
 
 /// Whether there are links in a channel subsystem, and other than as many as paths.
 fn has_other_links(css: Css, paths: &[CssPath], links: &[CssLink]) -> bool
-    ensures { result ≡ (not (length (model.links_in css links.now) == 0) && not (length (model.links_in css links.now) == length (paths_in css paths.now))) }
+    ensures { result ≡ unit_links.has_other_links paths.now links.now css }
 {
     let count = count_links(css, links);
     count != 0 && count != count_in(css, paths)

@@ -1,6 +1,7 @@
 -- Lists by channel subsystem: ((CSS(0),..),(CSS(1),..)), one such group alone, or items alone for
 -- CSS 0. IOCP User's Guide, PATH and PARTITION keywords; which forms are taken is own.
-use Rattle.std.specs.Prelude.{ℕ, ◌==◌, Bool, true, false, is_some, not, if◌then◌else◌, Option, None, Some, List, [], ◌∷◌, filter, length, codes}
+use Rattle.std.specs.Prelude.{ℕ, ◌==◌, Bool, true, false, is_some, not, if◌then◌else◌, Option}
+use Rattle.std.specs.Prelude.{None, Some, List, [], ◌∷◌, filter, length, codes}
 use Rattle.std.specs.List.{flat_map, list_any}
 use Rattle.std.specs.Option.{option_and_then, option_map_or}
 use Rattle.iocm_values.specs.Digits.{decimal_of}
@@ -30,7 +31,8 @@ has_items may_lack items = if may_lack then true else not (length items == 0)
 
 -- the items behind CSS(n), each read for the channel subsystem n
 abbrev pub group : {A : Type 0} → Bool → (ℕ → Value → Option A) → List Value → Option (List A)
-group may_lack read (word css ∷ items) = if has_items may_lack items then (css_number css >>= λ n. every (read n) items) else None
+group may_lack read (word css ∷ items) =
+    if has_items may_lack items then (css_number css >>= λ n. every (read n) items) else None
 group may_lack read _ = None
 
 -- such a group in parentheses

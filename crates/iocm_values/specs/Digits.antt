@@ -1,5 +1,6 @@
 -- Numbers in operands: hexadecimal in upper case, and decimal.
-use Rattle.std.specs.Prelude.{ℕ, ◌+◌, ◌-◌, ◌*◌, ◌==◌, ◌&&◌, ◌||◌, nat_le, Bool, not, if◌then◌else◌, Option, None, Some, List, length, fold}
+use Rattle.std.specs.Prelude.{ℕ, ◌+◌, ◌-◌, ◌*◌, ◌==◌, ◌&&◌, ◌||◌, nat_le, Bool, not}
+use Rattle.std.specs.Prelude.{if◌then◌else◌, Option, None, Some, List, length, fold}
 use Rattle.std.specs.List.{list_all}
 
 -- 0 to 9

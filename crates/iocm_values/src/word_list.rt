@@ -1,4 +1,5 @@
-ghost use Rattle.std.specs.Prelude.{◌≡◌, ◌<◌, ◌≤◌, ◌+◌, ◌^◌, ◌==◌, map, [], ◌∷◌, ◌++◌, unwrap_or, if◌then◌else◌, IfOk, OnOk};
+ghost use Rattle.std.specs.Prelude.{◌≡◌, ◌<◌, ◌≤◌, ◌+◌, ◌^◌, ◌==◌, map, [], ◌∷◌};
+ghost use Rattle.std.specs.Prelude.{◌++◌, unwrap_or, if◌then◌else◌, IfOk, OnOk};
 ghost use Rattle.iocm_statements.specs.Nesting.{step};
 ghost use Rattle.iocm_values.specs.Words as meaning;
 ghost use Rattle.iocm_values.specs.Words.{words, ended};

@@ -63,13 +63,16 @@ live_of_altered (Some old) new None (Some l) = own_live old new l
 
 -- the live record of a subchannel that has a view afterwards: as it was where the view is
 abbrev pub live_after_edit : Option View → View → Option Live → Option Live → Option Live
-live_after_edit old new carried l = if option_eq same_view old (Some new) then l else Some (live_of_altered old new carried l)
+live_after_edit old new carried l =
+    if option_eq same_view old (Some new) then l else Some (live_of_altered old new carried l)
 
 -- the live records after the views have changed: those of subchannels that have no view any more
 -- are gone
 abbrev pub lives_after_edit : Views → Views → Lives → Lives → Lives
 lives_after_edit old new carried lives = from_entries (filter_map
-    (λ (e : SubId × View). option_map (λ (l : Live). (e.0, l)) (live_after_edit (get old e.0) e.1 (get carried e.0) (get lives e.0))) (entries new))
+    (λ (e : SubId × View). option_map (λ (l : Live). (e.0, l))
+    (live_after_edit (get old e.0) e.1 (get carried e.0) (get lives e.0)))
+    (entries new))
 
 -- the state after an edit, refused or not
 abbrev pub state_after : Edit → State → State

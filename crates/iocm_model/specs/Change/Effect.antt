@@ -30,7 +30,11 @@ pub record Effect : Type 0 where
 
 -- these cells as they are in a state
 abbrev pub values_in : State → Cells → Effect
-values_in s w = record { records = cells_at s.config w.keys; numbers = cells_at (cells_of s.numbers) w.numbers; lives = cells_at s.lives w.subchannels }
+values_in s w = record {
+  records = cells_at s.config w.keys;
+  numbers = cells_at (cells_of s.numbers) w.numbers;
+  lives = cells_at s.lives w.subchannels;
+}
 
 -- the state with an effect: these cells are overwritten
 abbrev pub with_effect : Effect → State → State
@@ -45,7 +49,11 @@ abbrev pub no_cells : Cells
 no_cells = record { keys = []; numbers = []; subchannels = [] }
 
 abbrev pub both_cells : Cells → Cells → Cells
-both_cells v w = record { keys = v.keys ++ w.keys; numbers = v.numbers ++ w.numbers; subchannels = v.subchannels ++ w.subchannels }
+both_cells v w = record {
+  keys = v.keys ++ w.keys;
+  numbers = v.numbers ++ w.numbers;
+  subchannels = v.subchannels ++ w.subchannels;
+}
 
 -- the cells that an edit writes: its key, the number cells that it changes, and the subchannels
 -- that it alters

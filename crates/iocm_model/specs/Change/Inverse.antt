@@ -6,7 +6,8 @@ use Rattle.iocm_types.specs.declared.place.Place.{Place}
 use Rattle.iocm_model.specs.Machine.Record.{Rec}
 use Rattle.iocm_model.specs.Machine.Numbering.{Numbering}
 use Rattle.iocm_model.specs.Operation.State.{State}
-use Rattle.iocm_model.specs.Change.Edit.{Action, add, delete, modify, Edit, action_key, record_after, state_after, is_altered}
+use Rattle.iocm_model.specs.Change.Edit.{Action, add, delete, modify, Edit, action_key}
+use Rattle.iocm_model.specs.Change.Edit.{record_after, state_after, is_altered}
 
 -- what brings the old record of a key back
 abbrev pub action_back : Key → Option Rec → Option Rec → Action

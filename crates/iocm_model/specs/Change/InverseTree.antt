@@ -21,5 +21,6 @@ inverse_tree es s = row (parts_of (inverses es s))
 -- configuration and the numbers after them in which the altered subchannels are quiet, it is
 -- accepted, and means that state with the cells that they wrote as these were before
 abbrev pub TakesBack : ChangeTree → List Edit → State → Type 0
-TakesBack p es s = (u : State) → HasConfigAndNumbersOf u (state_after_all es s) → AreQuiet u.lives (cells_written_by_all es s).subchannels
+TakesBack p es s = (u : State) → HasConfigAndNumbersOf u (state_after_all es s)
+    → AreQuiet u.lives (cells_written_by_all es s).subchannels
     → state_reached (meaning p u) ≡ Some (with_effect (values_in s (cells_written_by_all es s)) u)

@@ -21,4 +21,6 @@ module _ {K X : Type 0} {R : K → K → Ordering} where
 
   -- the keys at which two maps differ, in order
   abbrev pub differing : (X → X → Bool) → FinMap R X → FinMap R X → List K
-  differing same m n = filter (λ key. not (option_eq same (get m key) (get n key))) (keys (from_entries {R = R} (entries m ++ entries n)))
+  differing same m n =
+      filter (λ key. not (option_eq same (get m key) (get n key)))
+      (keys (from_entries {R = R} (entries m ++ entries n)))

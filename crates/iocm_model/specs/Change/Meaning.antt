@@ -8,7 +8,8 @@ use Rattle.iocm_model.specs.Rules.FirstBreach.{Breach, first_breach}
 use Rattle.iocm_model.specs.Operation.State.{State}
 use Rattle.iocm_model.specs.Change.Edit.{Edit, state_after}
 use Rattle.iocm_model.specs.Change.Refusal.{refusal_at, refusal_of}
-use Rattle.iocm_model.specs.Change.Tree.{ChangeTree, Parts, leaf, row, group, choose, none, part, leaves_of, depth_of, nodes_of, most_depth, most_leaves}
+use Rattle.iocm_model.specs.Change.Tree.{ChangeTree, Parts, leaf, row, group, choose, none, part}
+use Rattle.iocm_model.specs.Change.Tree.{leaves_of, depth_of, nodes_of, most_depth, most_leaves}
 
 -- what was done: the state that was reached, and the edits that were performed, in order
 pub record Performed : Type 0 where
@@ -78,7 +79,8 @@ abbrev mutual
   -- the first part that is accepted; where there is none, the last refusal
   pub choice_meaning : Parts → ℕ → Refused → State → Outcome
   choice_meaning none n last s = Err last
-  choice_meaning (part p ps) n last s = or_else (if_rules_hold n (node_meaning p n s)) (λ why. choice_meaning ps (n + nodes_of p) why s)
+  choice_meaning (part p ps) n last s =
+      or_else (if_rules_hold n (node_meaning p n s)) (λ why. choice_meaning ps (n + nodes_of p) why s)
 
 -- a whole tree: the limits on depth (C1) and leaves (C2), then the root, then the rules
 abbrev pub meaning : ChangeTree → State → Outcome

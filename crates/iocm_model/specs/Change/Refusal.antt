@@ -1,5 +1,6 @@
 -- When an edit is refused. Own.
-use Rattle.std.specs.Prelude.{◌≡◌, ℕ, ◌==◌, Bool, true, false, ◌&&◌, ◌||◌, not, if◌then◌else◌, Option, None, Some, List, [], ◌∷◌, filter}
+use Rattle.std.specs.Prelude.{◌≡◌, ℕ, ◌==◌, Bool, true, false, ◌&&◌, ◌||◌, not, if◌then◌else◌}
+use Rattle.std.specs.Prelude.{Option, None, Some, List, [], ◌∷◌, filter}
 use Rattle.std.specs.List.{list_any, find}
 use Rattle.std.specs.Option.{option_map, option_or}
 use Rattle.std.specs.FinMap.{get, entries, contains_key}
@@ -67,5 +68,7 @@ refusal_by_subchannel found = option_map (λ x. refusal_at B1 (Subchannel x)) fo
 abbrev pub refusal_of : Edit → State → Option Refused
 refusal_of e s =
     option_or (refusal_by_key e.action (contains_key s.config (action_key e.action)))
-    (option_or (if is_number_taken (config_after e.action s.config) s.numbers e.places then Some (refusal_at E4 (Key (action_key e.action))) else None)
+    (option_or
+    (if is_number_taken (config_after e.action s.config) s.numbers e.places
+    then Some (refusal_at E4 (Key (action_key e.action))) else None)
     (refusal_by_subchannel (first_not_quiet s.lives (altered_by e s))))

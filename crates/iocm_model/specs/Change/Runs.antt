@@ -20,7 +20,8 @@ AreAccepted (e ∷ es) s = (refusal_of e s ≡ None) × AreAccepted es (state_af
 -- of edits, one after the other, none carries a number that is taken
 abbrev pub CarryFreeNumbers : List Edit → State → Type 0
 CarryFreeNumbers [] s = Unit {0}
-CarryFreeNumbers (e ∷ es) s = (is_number_taken (config_after e.action s.config) s.numbers e.places ≡ false) × CarryFreeNumbers es (state_after e s)
+CarryFreeNumbers (e ∷ es) s = (is_number_taken (config_after e.action s.config) s.numbers e.places ≡ false)
+    × CarryFreeNumbers es (state_after e s)
 
 -- the cells that they write, also where one puts back what another wrote
 abbrev pub cells_written_by_all : List Edit → State → Cells

@@ -39,7 +39,8 @@ pub record IsFirst (laws : List Law) (records : List Rec) (b : Breach) : Type 0 
 
 -- a breach that is answered is the first
 abbrev pub AnswersTheFirst : Type 0
-AnswersTheFirst = (c : Configuration) (n : Numbering) (b : Breach) → first_breach c n ≡ Some b → IsFirst (rules_of c n) (records_of c) b
+AnswersTheFirst = (c : Configuration) (n : Numbering) (b : Breach) → first_breach c n ≡ Some b
+    → IsFirst (rules_of c n) (records_of c) b
 
 -- none is answered exactly where every rule is kept
 abbrev pub AnswersNone : Type 0
@@ -59,4 +60,5 @@ pub record IsLeast (c : Configuration) (n : Numbering) (b : Breach) : Type 0 whe
 
 -- the one that is answered is, where each record stands under its own key
 abbrev pub AnswersTheLeast : Type 0
-AnswersTheLeast = (c : Configuration) (n : Numbering) (b : Breach) → IsKeyed c → first_breach c n ≡ Some b → IsLeast c n b
+AnswersTheLeast = (c : Configuration) (n : Numbering) (b : Breach) → IsKeyed c → first_breach c n ≡ Some b
+    → IsLeast c n b

@@ -17,8 +17,10 @@ BitsSay test paths mask = (j : ℕ) → j < 8 → bit_at mask (7 - j) ≡ (if pa
 
 -- path-installed: the image reaches the path
 abbrev pub InstalledBits : Type 0
-InstalledBits = (c : Lookup) (css : ℕ) (name paths : List ℕ) → BitsSay (reaches c css name) paths (installed c css name paths)
+InstalledBits = (c : Lookup) (css : ℕ) (name paths : List ℕ)
+    → BitsSay (reaches c css name) paths (installed c css name paths)
 
 -- path-available: the path is online to the image
 abbrev pub AvailableBits : Type 0
-AvailableBits = (c : Lookup) (css : ℕ) (name paths : List ℕ) → BitsSay (is_online c css name) paths (available c css name paths)
+AvailableBits = (c : Lookup) (css : ℕ) (name paths : List ℕ)
+    → BitsSay (is_online c css name) paths (available c css name paths)

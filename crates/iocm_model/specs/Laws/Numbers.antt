@@ -6,7 +6,8 @@ use Rattle.std.specs.FinMap.{get, contains_key, find, empty}
 use Rattle.iocm_types.specs.declared.place.Place.{Place}
 use Rattle.iocm_types.specs.declared.key.Key.TheVariants.{Device}
 use Rattle.iocm_types.specs.Place.{place_cmp}
-use Rattle.iocm_model.specs.Machine.Numbering.{Numbering, is_record_reached, is_reached_at, opening, cells_of, numbering_of, AreNumbersOf}
+use Rattle.iocm_model.specs.Machine.Numbering.{Numbering, is_record_reached, is_reached_at, opening}
+use Rattle.iocm_model.specs.Machine.Numbering.{cells_of, numbering_of, AreNumbersOf}
 use Rattle.iocm_model.specs.Change.Renumbering.{numbers_in, lowest_free, numbers_after}
 use Rattle.iocm_model.specs.Machine.Configuration.{Configuration, IsKeyed, lookup_of}
 use Rattle.iocm_model.specs.Change.Refusal.{is_number_taken}
@@ -27,7 +28,8 @@ LowestFreeIsFree = (n : Numbering) (css set : ℕ) → IsLowestFree n css set (l
 -- where fewer numbers than these are given away, it is below them: an arriving device always finds
 -- one
 abbrev pub LowestFreeIsFound : Type 0
-LowestFreeIsFound = (n : Numbering) (css set most : ℕ) → length (numbers_in n css set) < most → lowest_free n css set < most
+LowestFreeIsFound = (n : Numbering) (css set most : ℕ) → length (numbers_in n css set) < most
+    → lowest_free n css set < most
 
 -- exactly the devices that the new configuration reaches have a number
 abbrev pub NumbersAfterAreExact : Type 0
@@ -42,16 +44,19 @@ StayersKeepTheirs = (c : Configuration) (carried : List (Place × ℕ)) (n : Num
 -- those that come in with a carried place get it; of several for one place the first counts
 abbrev pub CarriedComeBack : Type 0
 CarriedComeBack = (c : Configuration) (carried : List (Place × ℕ)) (n : Numbering) (p : Place) (number : ℕ)
-    → is_reached_at c p ≡ true → get n p ≡ None → find place_cmp p carried ≡ Some number → get (numbers_after c carried n) p ≡ Some number
+    → is_reached_at c p ≡ true → get n p ≡ None → find place_cmp p carried ≡ Some number
+    → get (numbers_after c carried n) p ≡ Some number
 
 -- a place of the same channel subsystem and set that has this number after a change: it had one
 -- before, one was carried for it, or its device number is smaller
-pub record IsHeldBefore (c : Configuration) (carried : List (Place × ℕ)) (n : Numbering) (p : Place) (number : ℕ) : Type 0 where
+pub record IsHeldBefore (c : Configuration) (carried : List (Place × ℕ)) (n : Numbering) (p : Place)
+    (number : ℕ) : Type 0 where
   pub place : Place
   pub css : place.css ≡ p.css
   pub set : place.set ≡ p.set
   pub has : get (numbers_after c carried n) place ≡ Some number
-  pub before : (contains_key n place ≡ true) ⊎ ((is_some (find place_cmp place carried) ≡ true) ⊎ (place.device < p.device))
+  pub before : (contains_key n place ≡ true)
+      ⊎ ((is_some (find place_cmp place carried) ≡ true) ⊎ (place.device < p.device))
 
 -- the rest of those that come in get the lowest free numbers in order of device number: each number
 -- below theirs is held by a device that had one, that brought one along, or that has a smaller
@@ -68,12 +73,14 @@ OpeningIsFromNone = (c : Configuration) → IsKeyed c → numbers_after c [] emp
 -- no number comes twice, where none did before and no carried number is taken: they are numbers of
 -- the new configuration
 abbrev pub NumbersAfterAreNumbers : Type 0
-NumbersAfterAreNumbers = (before after : Configuration) (carried : List (Place × ℕ)) (n : Numbering) → AreNumbersOf before n
+NumbersAfterAreNumbers = (before after : Configuration) (carried : List (Place × ℕ)) (n : Numbering)
+    → AreNumbersOf before n
     → is_number_taken after n carried ≡ false → AreNumbersOf after (numbers_after after carried n)
 
 -- with the places that were freed the old numbers come back, whatever was carried
 abbrev pub RenumberingGoesBack : Type 0
-RenumberingGoesBack = (before after : Configuration) (carried : List (Place × ℕ)) (n : Numbering) → AreNumbersOf before n
+RenumberingGoesBack = (before after : Configuration) (carried : List (Place × ℕ)) (n : Numbering)
+    → AreNumbersOf before n
     → let there = numbers_after after carried n in numbers_after before (freed_numbers n there) there ≡ n
 
 -- none of the places that were freed is taken when the change is taken back

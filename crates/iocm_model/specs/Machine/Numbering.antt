@@ -38,11 +38,16 @@ is_record_reached c css _ = false
 -- the devices of a set that are reached, in the order of their numbers
 abbrev pub reached_devices : Configuration → ℕ → ℕ → List ℕ
 reached_devices c css set =
-    map (λ (d : DeviceRecord). d.number) (filter (λ (d : DeviceRecord). d.set == set && is_reached (lookup_of c) css d) (devices_of c))
+    map (λ (d : DeviceRecord). d.number)
+    (filter (λ (d : DeviceRecord). d.set == set && is_reached (lookup_of c) css d) (devices_of c))
 
 -- the places of all devices that are reached, by channel subsystem, set and device number
 abbrev pub reached_places : Configuration → List Place
-reached_places c = flat_map (λ css. flat_map (λ set. map (λ d. record { css = css; set = set; device = d }) (reached_devices c css set)) sets) subsystems
+reached_places c =
+    flat_map
+    (λ css. flat_map
+    (λ set. map (λ d. record { css = css; set = set; device = d }) (reached_devices c css set)) sets)
+    subsystems
 
 -- whether a place is that of a device that is reached
 abbrev pub is_reached_at : Configuration → Place → Bool
@@ -55,11 +60,15 @@ numbers_from css set n (d ∷ ds) = (record { css = css; set = set; device = d }
 
 -- at opening: 0, 1, 2, .. in order of device number, in each channel subsystem and set
 abbrev pub opening : Configuration → Numbering
-opening c = from_entries (flat_map (λ css. flat_map (λ set. numbers_from css set 0 (reached_devices c css set)) sets) subsystems)
+opening c =
+    from_entries
+    (flat_map (λ css. flat_map (λ set. numbers_from css set 0 (reached_devices c css set)) sets) subsystems)
 
 -- the number cells: which device each number is
 abbrev pub cells_of : Numbering → FinMap cell_cmp ℕ
-cells_of n = from_entries (map (λ (e : Place × ℕ). (record { css = e.0.css; set = e.0.set; number = e.1 }, e.0.device)) (entries n))
+cells_of n =
+    from_entries (map (λ (e : Place × ℕ). (record { css = e.0.css; set = e.0.set; number = e.1 }, e.0.device))
+    (entries n))
 
 -- the device that has a number
 abbrev pub device_at : Numbering → NumberCell → Option ℕ
@@ -67,10 +76,14 @@ device_at n cell = get (cells_of n) cell
 
 -- the numbering in which these cells are given away
 abbrev pub numbering_of : FinMap cell_cmp ℕ → Numbering
-numbering_of cells = from_entries (map (λ (e : NumberCell × ℕ). (record { css = e.0.css; set = e.0.set; device = e.1 }, e.0.number)) (entries cells))
+numbering_of cells =
+    from_entries (map
+    (λ (e : NumberCell × ℕ). (record { css = e.0.css; set = e.0.set; device = e.1 }, e.0.number))
+    (entries cells))
 
 -- the numbers of a configuration: exactly the devices that a channel subsystem reaches have one
 -- there, and no number comes twice in one channel subsystem and set
 pub record AreNumbersOf (c : Configuration) (n : Numbering) : Type 0 where
   pub exact : (p : Place) → contains_key n p ≡ is_reached_at c p
-  pub apart : (p q : Place) (number : ℕ) → p.css ≡ q.css → p.set ≡ q.set → get n p ≡ Some number → get n q ≡ Some number → p ≡ q
+  pub apart : (p q : Place) (number : ℕ) → p.css ≡ q.css → p.set ≡ q.set → get n p ≡ Some number
+      → get n q ≡ Some number → p ≡ q

@@ -25,7 +25,8 @@ chpids paths = flat_map (λ p. 32 ∷ hex2 p) paths
 abbrev pub line_of : SubId × View → List ℕ
 line_of row = let s = row.0 in let v = row.1 in
     left3 s.image.css ++ (codes " " ++ (left2 s.image.mif ++ (codes " " ++ (left3 s.set ++ (codes " "
-    ++ (hex4 s.number ++ (codes " " ++ (hex4 v.device ++ (codes " " ++ (hex2 v.pim ++ (codes "  " ++ (hex2 v.pam ++ (codes " "
+    ++ (hex4 s.number ++ (codes " " ++ (hex4 v.device ++ (codes " "
+    ++ (hex2 v.pim ++ (codes "  " ++ (hex2 v.pam ++ (codes " "
     ++ chpids v.paths)))))))))))))
 
 -- the heading

@@ -44,7 +44,8 @@ view_at c n s = let at = lookup_of c in
 -- the subchannel of an image at a number cell, with its view, if there is one
 abbrev pub row_at : Lookup → ImageRecord → NumberCell × ℕ → Option (SubId × View)
 row_at c i cell = option_map
-    (λ (v : View). (record { image = record { css = i.css; mif = i.mif }; set = cell.0.set; number = cell.0.number }, v))
+    (λ (v : View).
+    (record { image = record { css = i.css; mif = i.mif }; set = cell.0.set; number = cell.0.number }, v))
     (image_view c i cell.0.set cell.1)
 
 -- all subchannels that have a view, with their views, in the order of subchannels: image by image,

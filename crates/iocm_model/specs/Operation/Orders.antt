@@ -107,7 +107,16 @@ code_of o v l =
 -- what an order with condition code 0 answers
 abbrev pub answer_if_accepted : Order → View → Live → Io
 answer_if_accepted Test v l = Status (bits_of l.phase)
-answer_if_accepted Store v l = Stored (record { device = v.device; pim = v.pim; pam = v.pam; lpm = l.lpm; enabled = l.enabled; parm = l.parm; bits = bits_of l.phase })
+answer_if_accepted Store v l =
+    Stored (record {
+      device = v.device;
+      pim = v.pim;
+      pam = v.pam;
+      lpm = l.lpm;
+      enabled = l.enabled;
+      parm = l.parm;
+      bits = bits_of l.phase;
+    })
 answer_if_accepted _ v l = Code 0
 
 -- what it leaves

@@ -47,7 +47,8 @@ fresh_row row = (row.0, fresh row.1.pim)
 
 -- at opening: the first numbers, and a fresh live record for each subchannel that has a view
 abbrev pub opening_state : Configuration → State
-opening_state c = let n = opening c in record { config = c; numbers = n; lives = from_entries (map fresh_row (views c n)) }
+opening_state c =
+    let n = opening c in record { config = c; numbers = n; lives = from_entries (map fresh_row (views c n)) }
 
 -- exactly the subchannels that have a view have a live record
 abbrev pub HasLives : State → Type 0

@@ -11,7 +11,8 @@ use Rattle.iocm_types.specs.declared.answer.Answer.{Answer}
 use Rattle.iocm_types.specs.declared.answer.Answer.TheVariants as answers
 use Rattle.iocm_types.specs.declared.sub_id.SubId.{SubId}
 use Rattle.iocm_types.specs.declared.view.View.{View}
-use Rattle.iocm_model.specs.Operation.Orders.{is_busy, is_start_pending, answer_of, live_after, live_after_device_begin, live_after_device_end}
+use Rattle.iocm_model.specs.Operation.Orders.{is_busy, is_start_pending, answer_of, live_after}
+use Rattle.iocm_model.specs.Operation.Orders.{live_after_device_begin, live_after_device_end}
 use Rattle.iocm_model.specs.Operation.State.{State, Lives, seen_in}
 
 -- a step

@@ -1,6 +1,8 @@
 -- The fourteen rules that a configuration in use keeps, each as the records that break it. The
 -- limits of eight in V5 and V8 are IOCP's; the rules in this form are own.
-use Rattle.std.specs.Prelude.{ℕ, ◌+◌, ◌==◌, ◌&&◌, ◌||◌, nat_eq, nat_le, nat_lt, Bool, true, false, not, is_none, length, if◌then◌else◌, Option, Some, List, [], ◌∷◌, ◌++◌, map, filter, unwrap_or}
+use Rattle.std.specs.Prelude.{ℕ, ◌+◌, ◌==◌, ◌&&◌, ◌||◌, nat_eq, nat_le, nat_lt, Bool}
+use Rattle.std.specs.Prelude.{true, false, not, is_none, length, if◌then◌else◌, Option}
+use Rattle.std.specs.Prelude.{Some, List, [], ◌∷◌, ◌++◌, map, filter, unwrap_or}
 use Rattle.std.specs.List.{list_any}
 use Rattle.std.specs.Option.{option_map_or}
 use Rattle.std.specs.Ordering.{is_lt}
@@ -15,7 +17,8 @@ use Rattle.iocm_types.specs.declared.path_kind.PathKind.TheVariants.{Dedicated, 
 use Rattle.iocm_types.specs.declared.key.Key.TheVariants.{Path, Unit, Limit}
 use Rattle.iocm_types.specs.Key.{key_cmp}
 use Rattle.iocm_types.specs.declared.link.Link.TheVariants as link
-use Rattle.iocm_model.specs.Machine.Record.{Rec, ImageRecord, UnitRecord, image, limit, path, unit, device, online, key_of}
+use Rattle.iocm_model.specs.Machine.Record.{Rec, ImageRecord, UnitRecord, image, limit}
+use Rattle.iocm_model.specs.Machine.Record.{path, unit, device, online, key_of}
 use Rattle.iocm_model.specs.Machine.Configuration.{Configuration, lookup_of, records_of, images_of}
 use Rattle.iocm_model.specs.Machine.PathList.{paths_in, path_list}
 use Rattle.iocm_model.specs.Machine.Sight.{record_lists}
@@ -149,7 +152,8 @@ breaks_v9 c _ = false
 
 -- a device with this unit address on one of these units
 abbrev pub answers_on : ℕ → List ℕ → Rec → Bool
-answers_on address units (device d) = (d.unit_address == address) && list_any (λ number. list_any (nat_eq number) units) d.units
+answers_on address units (device d) =
+    (d.unit_address == address) && list_any (λ number. list_any (nat_eq number) units) d.units
 answers_on address units _ = false
 
 -- V10: a device with a smaller key has the same unit address and a common unit
@@ -159,7 +163,10 @@ breaks_v10 c _ = false
 
 -- V11: in some channel subsystem the path list is over eight or has a path twice
 abbrev pub breaks_v11 : Configuration → Rec → Bool
-breaks_v11 c (device d) = list_any (λ css. let paths = path_list (lookup_of c) css d.units in nat_lt 8 (length paths) || has_twice paths) subsystems
+breaks_v11 c (device d) =
+    list_any
+    (λ css. let paths = path_list (lookup_of c) css d.units in nat_lt 8 (length paths) || has_twice paths)
+    subsystems
 breaks_v11 c _ = false
 
 -- V12: a candidate is no image of any channel subsystem
@@ -177,8 +184,10 @@ limit_or_default set _ = default_limit set
 
 -- V13: in some channel subsystem the number is at or above the limit
 abbrev pub breaks_v13 : Configuration → Numbering → Rec → Bool
-breaks_v13 c n (device d) = list_any (λ css. option_map_or (nat_le (limit_or_default d.set (lookup_of c (Limit css d.set))))
-    (get n (record { css = css; set = d.set; device = d.number })) false) subsystems
+breaks_v13 c n (device d) = list_any
+    (λ css. option_map_or (nat_le (limit_or_default d.set (lookup_of c (Limit css d.set))))
+    (get n (record { css = css; set = d.set; device = d.number })) false)
+    subsystems
 breaks_v13 c n _ = false
 
 -- one link: none equals none, and two digits and four digits are two links
@@ -200,8 +209,11 @@ linked_paths css u = with_links (paths_in css u.paths) (links_in css u.links)
 
 -- two units share a path on which both have the same link
 abbrev pub share_link : UnitRecord → UnitRecord → Bool
-share_link a b = list_any (λ css. list_any (λ (p : ℕ × Link). list_any (λ (q : ℕ × Link). (p.0 == q.0) && same_link p.1 q.1)
-    (linked_paths css b)) (linked_paths css a)) subsystems
+share_link a b = list_any
+    (λ css. list_any
+    (λ (p : ℕ × Link). list_any (λ (q : ℕ × Link). (p.0 == q.0) && same_link p.1 q.1)
+    (linked_paths css b))
+    (linked_paths css a)) subsystems
 
 -- the address of a unit; absent is 00
 abbrev pub cuadd_or_zero : UnitRecord → ℕ

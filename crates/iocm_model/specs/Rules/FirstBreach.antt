@@ -6,12 +6,16 @@ use Rattle.iocm_types.specs.declared.key.Key.{Key}
 use Rattle.iocm_model.specs.Machine.Record.{Rec, key_of}
 use Rattle.iocm_model.specs.Machine.Configuration.{Configuration, records_of}
 use Rattle.iocm_model.specs.Machine.Numbering.{Numbering}
-use Rattle.iocm_model.specs.Rules.EachRule.{breaks_v1, breaks_v2, breaks_v3, breaks_v4, breaks_v5, breaks_v6, breaks_v7, breaks_v8, breaks_v9, breaks_v10, breaks_v11, breaks_v12, breaks_v13, breaks_v14}
+use Rattle.iocm_model.specs.Rules.EachRule.{breaks_v1, breaks_v2, breaks_v3, breaks_v4, breaks_v5}
+use Rattle.iocm_model.specs.Rules.EachRule.{breaks_v6, breaks_v7, breaks_v8, breaks_v9, breaks_v10}
+use Rattle.iocm_model.specs.Rules.EachRule.{breaks_v11, breaks_v12, breaks_v13, breaks_v14}
 
 -- the rules in their order, each with the records that break it
 abbrev pub rules_of : Configuration → Numbering → List (Rule × (Rec → Bool))
-rules_of c n = (V1, breaks_v1 c) ∷ (V2, breaks_v2 c) ∷ (V3, breaks_v3 c) ∷ (V4, breaks_v4 c) ∷ (V5, breaks_v5 c) ∷ (V6, breaks_v6 c)
-    ∷ (V7, breaks_v7 c) ∷ (V8, breaks_v8 c) ∷ (V9, breaks_v9 c) ∷ (V10, breaks_v10 c) ∷ (V11, breaks_v11 c) ∷ (V12, breaks_v12 c)
+rules_of c n =
+    (V1, breaks_v1 c) ∷ (V2, breaks_v2 c) ∷ (V3, breaks_v3 c) ∷ (V4, breaks_v4 c)
+    ∷ (V5, breaks_v5 c) ∷ (V6, breaks_v6 c) ∷ (V7, breaks_v7 c) ∷ (V8, breaks_v8 c)
+    ∷ (V9, breaks_v9 c) ∷ (V10, breaks_v10 c) ∷ (V11, breaks_v11 c) ∷ (V12, breaks_v12 c)
     ∷ (V13, breaks_v13 c n) ∷ (V14, breaks_v14 c) ∷ []
 
 -- a rule that is broken, and the key of the record that breaks it
