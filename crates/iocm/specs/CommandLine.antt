@@ -112,9 +112,9 @@ abbrev pub HasCommand : Option (Text × List Row) → Command → Type 0
 HasCommand named command = argument_of (codes "DECK") named ≡ Some (words_of command)
 
 -- the change deck of a request, if it has one
-abbrev pub change_of : Request → Option Text
-change_of (Apply deck change heap report) = Some change.now
-change_of _ = None
+abbrev pub change_deck_of : Request → Option Text
+change_deck_of (Apply deck change heap report) = Some change.now
+change_deck_of _ = None
 
 -- a text that gives the size of a heap: a decimal number of 16 to 16777216
 abbrev pub IsSizeText : Text → Type 0

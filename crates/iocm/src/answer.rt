@@ -7,7 +7,7 @@ ghost use Rattle.iocm_console.specs.Output.{has_failed};
 ghost use Rattle.iocm_console.specs.Opening.{refused, Says, SaysIfMemory};
 ghost use Rattle.iocm_apply.specs.Apply.{IsRefusedDeck};
 ghost use Rattle.iocm.specs.Answer.{printed};
-ghost use Rattle.iocm.specs.CommandLine.{change_of};
+ghost use Rattle.iocm.specs.CommandLine.{change_deck_of};
 
 use crate::command::Request;
 use iocm_apply::apply_change;
@@ -38,18 +38,18 @@ pub fn print_answer<R: Read, S: Read, W: Write>(
     ensures reads { reads_of deck.new ≤ reads_of deck.old + limit }
     ensures reads_change { reads_of change.new ≤ reads_of change.old + limit }
     ensures known_bytes { IfSome (R.remaining (reader_of deck.old)) (λ bytes. (lines : List ℕ)
-        → (IsSome (change_of request.entry) → S.remaining (reader_of change.old) ≡ Some lines)
+        → (IsSome (change_deck_of request.entry) → S.remaining (reader_of change.old) ≡ Some lines)
         → IfOk result (SaysIfMemory W.contents output.old output.new (printed request.entry bytes lines))) }
     ensures some_bytes { (bytes : List ℕ) × (lines : List ℕ)
         × IfOk result (SaysIfMemory W.contents output.old output.new (printed request.entry bytes lines)) }
     ensures whole { IfOk result (λ status. IsWhole deck.new
         ⊎ Says W.contents output.old output.new (refused memory) status) }
     ensures whole_change { IfOk result (λ status. status ≡ Done
-        → IsSome (change_of request.entry) → IsWhole change.new) }
+        → IsSome (change_deck_of request.entry) → IsWhole change.new) }
     ensures written { OnOk result (has_failed output.new ≡ false) }
-    ensures untouched { change_of request.entry ≡ None → change.new ≡ change.old }
+    ensures untouched { change_deck_of request.entry ≡ None → change.new ≡ change.old }
     ensures unreadable { result ≡ Err ConsoleError.Read → StopsShort deck.new (reads_of deck.old + limit)
-        ⊎ (IsSome (change_of request.entry) × StopsShort change.new (reads_of change.old + limit)) }
+        ⊎ (IsSome (change_deck_of request.entry) × StopsShort change.new (reads_of change.old + limit)) }
     ensures first { IfSome (R.remaining (reader_of deck.old)) (λ bytes. IsRefusedDeck bytes
         → result ≡ Err ConsoleError.Read → StopsShort deck.new (reads_of deck.old + limit)) }
     ensures unwritten { result ≡ Err ConsoleError.Read → output.new ≡ output.old }

@@ -2,7 +2,7 @@ ghost use Rattle.std.specs.Prelude.{◌≡◌, [], List, Some, IsSome, IfOk, IfE
 ghost use Rattle.clap.specs.Walk.{texts};
 ghost use Rattle.clap.specs.Words.{HasKind, Text, app_of, kind_of, rule_of, subcommand_rows_of};
 ghost use Rattle.iocm_apply.specs.declared.report.Report.{Report};
-ghost use Rattle.iocm.specs.CommandLine.{iocm_app, apply_app, argument_of, arguments_of, bare_app, change_of};
+ghost use Rattle.iocm.specs.CommandLine.{iocm_app, apply_app, argument_of, arguments_of, bare_app, change_deck_of};
 ghost use Rattle.iocm.specs.CommandLine.{changes_rule, deck_app, decks_app, file_rule, flag_text, has_globals};
 ghost use Rattle.iocm.specs.CommandLine.{heap_rule, request_words, run_app, undo_rule};
 ghost use Rattle.iocm.specs.CommandLine.{stated, with_deck_command, mistakes, mistakes_or_missing, GivesSize};
@@ -71,7 +71,7 @@ impl<'a> Request<'a> {
 
     /// The name of the file that the change deck is in, of a command that has one.
     pub fn change(self) -> Option<&'a str>
-        ensures { option_map (λ change. change.now) result ≡ change_of self.entry }
+        ensures { option_map (λ change. change.now) result ≡ change_deck_of self.entry }
     {
         match self {
             Request::Check { .. } | Request::Show { .. } | Request::Write { .. } => None,

@@ -1,7 +1,7 @@
 pub mod Agreement
 pub mod Chains
-pub mod Distinct
 pub mod GroupWalks
 pub mod InRange
 pub mod Leading
+pub mod SameKeys
 pub mod Unaffected

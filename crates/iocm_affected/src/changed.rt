@@ -9,12 +9,11 @@ ghost use Rattle.iocm_lookup.specs.Indexed.{IsIndexOf};
 ghost use Rattle.iocm_affected.specs.Affected.{AreAllAffected};
 
 use crate::images::led_images;
-use crate::order::in_order;
 use crate::places::list_led;
 use iocm_config::Config;
 use iocm_index::Index;
 use iocm_record::Record;
-use iocm_types::{Image, Key, Place};
+use iocm_types::{Image, Key, Place, sorted_once};
 use std::alloc::{AllocError, Allocator, Global};
 
 /// The places and the images that a change may affect: at other places, and to other images,
@@ -58,6 +57,7 @@ pub fn affected_by<A: Allocator, B: Allocator, C: Allocator + Clone>(
         after,
     )?;
     let images = led_images(alloc, config, key)?;
-    let places = in_order(listed)?;
+    // A device may be met on two of its units.
+    let places = sorted_once(listed)?;
     Ok(Affected { places, images })
 }

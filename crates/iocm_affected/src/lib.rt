@@ -16,7 +16,6 @@
 
 mod changed;
 mod images;
-mod order;
 mod places;
 mod users;
 

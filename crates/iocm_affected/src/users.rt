@@ -2,9 +2,8 @@ ghost use Rattle.std.specs.Prelude.{◌≡◌, ◌++◌, IfOk, OnOk};
 ghost use Rattle.iocm_affected.specs.Listing as listing;
 ghost use Rattle.iocm_types.specs.declared.named.Named.TheVariants as named;
 
-use crate::order::each_key_once;
 use iocm_index::Index;
-use iocm_types::{Css, Key, Name, Named};
+use iocm_types::{Css, Key, Name, Named, sorted_once};
 use std::alloc::{AllocError, Allocator};
 
 /// The users of the paths of a channel subsystem that name an image, each once. Units are among
@@ -19,7 +18,7 @@ pub(crate) fn users_of_name<B: Allocator, C: Allocator>(
 ) -> Result<Vec<Key, C>, AllocError>
     ensures { IfOk result (λ users. listing.AreSameKeys users.items (listing.users_of_name index.now css name)) }
 {
-    each_key_once(all_users_of_name(alloc, index, css, name)?)
+    sorted_once(all_users_of_name(alloc, index, css, name)?)
 }
 
 /// The same users, each however often.

@@ -1,17 +1,16 @@
 -- The keys of DELETE RESOURCE: images by channel subsystem and digit, limits by their places. Own.
-use Rattle.std.specs.Prelude.{ℕ, ◌==◌, Bool, true, false, nat_lt, if◌then◌else◌, Option, None, Some}
-use Rattle.std.specs.Prelude.{List, [], ◌∷◌, ◌++◌, map, filter, length, Result, Ok, codes}
-use Rattle.std.specs.List.{filter_map}
+use Rattle.std.specs.Prelude.{ℕ, ◌==◌, Bool, true, false, if◌then◌else◌, Option, None, Some, List}
+use Rattle.std.specs.Prelude.{[], ◌∷◌, ◌++◌, map, length, Result, Ok, codes}
 use Rattle.std.specs.Option.{option_map}
 use Rattle.iocm_types.specs.declared.fault.Fault.{Fault}
 use Rattle.iocm_types.specs.declared.key.Key.{Key}
 use Rattle.iocm_types.specs.declared.key.Key.TheVariants.{Resource, Image, Limit}
 use Rattle.iocm_types.specs.Fault as fault
-use Rattle.iocm_model.specs.Machine.Numbering.{subsystems}
 use Rattle.iocm_statements.specs.Operands.{Operand, text_under}
 use Rattle.iocm_operands.specs.Resource.{mif_of}
 use Rattle.iocm_values.specs.CssLists.{by_css}
-use Rattle.iocm_values.specs.Reading.{◌>>=◌, every_at, gathered}
+use Rattle.iocm_values.specs.Reading.{◌>>=◌}
+use Rattle.iocm_values.specs.SetPlaces.{by_set}
 use Rattle.iocm_values.specs.Value.{Value, word, list, items}
 use Rattle.iocm_record_reader.specs.Values.{optional}
 use Rattle.iocm_change_records.specs.declared.image_keys.ImageKey.{ImageKey}
@@ -42,19 +41,13 @@ image_keys v = option_map (map key_of_image) (by_css false image_key (λ (i : Im
 abbrev pub limit_seat : ℕ → Value → Option LimitSeat
 limit_seat css v = Some (record { css = css; is_empty = is_empty v })
 
--- the key of a place of set 0 to 3
-abbrev pub limit_key_at : ℕ → LimitSeat → Option (Option Key)
-limit_key_at set p = if nat_lt set 4 then Some (if p.is_empty then None else Some (Limit p.css set)) else None
+-- the key of the place of a set, unless it is empty
+abbrev pub limit_key_in : ℕ → LimitSeat → Option Key
+limit_key_in set p = if p.is_empty then None else Some (Limit p.css set)
 
--- of the places of a channel subsystem the first is that of set 0, and so on
-abbrev pub limit_keys_in : List LimitSeat → ℕ → Option (List Key)
-limit_keys_in places css =
-    option_map (filter_map (λ k. k)) (every_at limit_key_at 0 (filter (λ (p : LimitSeat). p.css == css) places))
-
--- the keys of MAXDEV
+-- the keys of MAXDEV: of the places of a channel subsystem the first is that of set 0, and so on
 abbrev pub limit_keys : Value → Option (List Key)
-limit_keys v = by_css true limit_seat (λ (p : LimitSeat). p.css) v >>= λ places.
-    gathered (limit_keys_in places) subsystems
+limit_keys v = by_set true limit_seat limit_key_in (λ (p : LimitSeat). p.css) v
 
 -- the keys of images and limits; without PARTITION and MAXDEV that of what RESOURCE carries
 abbrev pub resource_keys_by : Fault → List Operand → Option (List ℕ) → Option (List ℕ) → Result (List Key) Fault

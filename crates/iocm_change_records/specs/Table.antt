@@ -1,13 +1,13 @@
 -- The operands by which a statement says which records it is about: all that a DELETE looks at, and
 -- all that ONLINE knows. Own.
-use Rattle.std.specs.Prelude.{ℕ, ◌||◌, Bool, false, List, [], ◌∷◌, codes}
+use Rattle.std.specs.Prelude.{Bool, false, List, [], ◌∷◌, codes}
 use Rattle.std.specs.List.{list_any}
 use Rattle.std.specs.Option.{option_map_or}
 use Rattle.iocm_statements.specs.declared.operation.Operation.{Operation}
 use Rattle.iocm_statements.specs.declared.operation.Operation.TheVariants.{Resource, Chpid, Cntlunit, Iodevice, Online}
 use Rattle.iocm_statements.specs.Operands.{Operand, text_under, has_bare}
 use Rattle.iocm_keywords.specs.Known.{Row, is_missing}
-use Rattle.iocm_keywords.specs.LeftOut.{names_several_css, is_form_left_out}
+use Rattle.iocm_keywords.specs.LeftOut.{is_text_left_out}
 use Rattle.iocm_keywords.specs.declared.known.Form.TheVariants as form
 
 -- the words that give keys, and whether they are required
@@ -28,15 +28,10 @@ abbrev pub as_deck_operation : Operation → Operation
 as_deck_operation Online = Chpid
 as_deck_operation operation = operation
 
--- a value in a form that is left out by name
-abbrev pub is_text_left_out : Operation → List ℕ → List ℕ → Bool
-is_text_left_out operation keyword text =
-    names_several_css text || is_form_left_out (as_deck_operation operation) keyword text
-
--- the value under one of the words is in such a form
+-- the value under one of the words is in a form that is left out by name
 abbrev pub is_key_left_out : Operation → List Operand → Row → Bool
-is_key_left_out operation operands (keyword, form) =
-    option_map_or (is_text_left_out operation keyword) (text_under keyword operands) false
+is_key_left_out operation operands (keyword, form) = option_map_or
+    (is_text_left_out (as_deck_operation operation) keyword) (text_under keyword operands) false
 
 abbrev pub has_key_left_out : Operation → List Operand → Bool
 has_key_left_out operation operands = list_any (is_key_left_out operation operands) (key_table operation)

@@ -1,12 +1,12 @@
 ghost use Rattle.std.specs.Prelude.{◌≡◌, map, IfOk};
 ghost use Rattle.iocm_statements.specs.Unread.{Reads};
-ghost use Rattle.iocm_operands.specs.Resource.{mif_of};
 ghost use Rattle.iocm_values.specs.Value.{seen};
 ghost use Rattle.iocm_change_records.specs.ResourceKeys as meaning;
 
+use iocm_operands::mif_of;
 use iocm_statements::Unread;
 use iocm_types::{Css, Key, Mif};
-use iocm_values::{CssItem, Value, by_css, hex};
+use iocm_values::{CssItem, Value, by_css};
 use std::alloc::{AllocError, Global};
 
 /// Which image a DELETE is about.
@@ -16,14 +16,6 @@ pub struct ImageKey {
     pub css: Css,
     /// Its MIF image ID there.
     pub mif: Mif,
-}
-
-// A MIF image ID, one digit 1 to F.
-fn mif_of(text: &[u8]) -> Option<Mif>
-    ensures { result ≡ mif_of text.now }
-{
-    let mif = hex(15, 1, text)?;
-    Mif::new(mif as u8)
 }
 
 /// Whether an item is empty.

@@ -1,20 +1,18 @@
-ghost use Rattle.std.specs.Prelude.{◌≡◌, ◌≤◌, ◌+◌, IfOk, [], ◌∷◌, map};
+ghost use Rattle.std.specs.Prelude.{◌≡◌, ◌≤◌, ◌+◌, IfOk, map};
 ghost use Rattle.iocm_types.specs.Fault.{Gives};
 ghost use Rattle.iocm_types.specs.declared.key.Key.TheVariants.{Online};
 ghost use Rattle.iocm_statements.specs.declared.operation.Operation.TheVariants.{Iodevice};
-ghost use Rattle.iocm_record_reader.specs.DeviceRecords.{statement_devices, device_set};
-ghost use Rattle.iocm_record_reader.specs.UnitRecords as units;
 ghost use Rattle.iocm_change_records.specs.Keys as meaning;
 
-use crate::pairs::{pairs_of, written_path};
+use crate::pairs::pairs_of;
 use crate::resource_keys::resource_keys;
 use crate::table::{has_bare_key, has_key_left_out, lacks_key};
 use crate::verbs::verb_named;
-use iocm_operands::{Devices, devices_of, number_of, set_of};
-use iocm_statements::{Operands, Operation, Statement, or_malformed};
+use iocm_operands::Devices;
+use iocm_record_reader::{chpid_path, device_set, statement_devices, unit_number};
+use iocm_statements::{Operands, Operation, Statement};
 use iocm_tree::Verb;
-use iocm_types::{Chpid, Css, DevNo, Fault, Key, Name, Rule, SetNo, UnitNo};
-use iocm_values::Value;
+use iocm_types::{Chpid, Css, DevNo, Fault, Key, Name, Rule, SetNo};
 use std::alloc::{AllocError, Global};
 
 // What is wrong with a DELETE before its values are read: S3, S5 or S4.
@@ -35,38 +33,6 @@ fn key_fault(
         return Ok(Some(Rule::S4));
     }
     Ok(None)
-}
-
-fn only(alloc: Global, key: Key) -> Result<Vec<Key>, AllocError>
-    ensures { IfOk result (λ keys. keys.items ≡ key ∷ []) }
-{
-    let mut keys = Vec::new(alloc);
-    keys.push(key)?;
-    Ok(keys)
-}
-
-fn written_unit(operands: &Operands, malformed: Fault) -> Result<UnitNo, Fault>
-    ensures { Gives (λ n. n) result (units.unit_number malformed operands.now) }
-{
-    let text = operands.get(b"CUNUMBR").ok_or(malformed)?;
-    number_of(Value::new(text)).ok_or(malformed)
-}
-
-fn written_devices(alloc: Global, operands: &Operands, malformed: Fault) -> Result<Devices, Fault>
-    ensures value { Gives (λ d. d) result (statement_devices malformed operands.now) }
-    ensures within { IfOk result (λ d. (d.first + d.count ≤ 65536) × (d.count ≤ 4096)) }
-{
-    let text = operands.get(b"ADDRESS").ok_or(malformed)?;
-    or_malformed(devices_of(alloc, Value::new(text)), malformed)
-}
-
-fn written_set(operands: &Operands, malformed: Fault) -> Result<SetNo, Fault>
-    ensures { Gives (λ s. s) result (device_set malformed operands.now) }
-{
-    match operands.get(b"SCHSET") {
-        Some(text) => set_of(Value::new(text)).ok_or(malformed),
-        None => Ok(SetNo::FIRST),
-    }
 }
 
 // A key for each device.
@@ -90,8 +56,8 @@ fn written_device_keys(
 ) -> Result<Vec<Key>, Fault>
     ensures { Gives (λ v. v.items) result (meaning.keys_given malformed Iodevice operands.now) }
 {
-    let devices = written_devices(alloc, operands, malformed)?;
-    let set = written_set(operands, malformed)?;
+    let devices = statement_devices(alloc, operands, malformed)?;
+    let set = device_set(operands, malformed)?;
     Ok(device_keys(alloc, set, devices)?)
 }
 
@@ -115,15 +81,15 @@ fn keys_given(
     ensures { Gives (λ v. v.items) result (meaning.keys_given malformed operation operands.now) }
 {
     match operation {
-        Operation::Id => Ok(only(alloc, Key::Id)?),
+        Operation::Id => Ok(vec![in alloc; Key::Id]?),
         Operation::Resource => resource_keys(alloc, operands, malformed),
         Operation::Chpid => {
-            let path = written_path(alloc, operands, malformed)?;
-            Ok(only(alloc, Key::Path(path.css, path.path))?)
+            let path = chpid_path(alloc, operands, malformed)?;
+            Ok(vec![in alloc; Key::Path(path.css, path.path)]?)
         }
         Operation::Cntlunit => {
-            let unit = written_unit(operands, malformed)?;
-            Ok(only(alloc, Key::Unit(unit))?)
+            let unit = unit_number(operands, malformed)?;
+            Ok(vec![in alloc; Key::Unit(unit)]?)
         }
         Operation::Iodevice => written_device_keys(alloc, operands, malformed),
         Operation::Online => {

@@ -13,11 +13,9 @@
 
 mod image_keys;
 mod keys;
-mod left_out;
 mod limit_keys;
 mod listed;
 mod pairs;
-mod resource;
 mod resource_keys;
 mod table;
 mod verbs;

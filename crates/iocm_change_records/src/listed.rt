@@ -1,10 +1,9 @@
 ghost use Rattle.std.specs.Prelude.{◌≡◌, [], map, IfOk, unwrap_or};
-ghost use Rattle.std.specs.List.{list_any};
-ghost use Rattle.iocm_operands.specs.ChpidPartition as partition;
 ghost use Rattle.iocm_values.specs.Value as values;
 ghost use Rattle.iocm_values.specs.Value.{seen};
 ghost use Rattle.iocm_change_records.specs.Listed as meaning;
 
+use iocm_operands::{ends_with_rec, has_list_form};
 use iocm_statements::{Operands, Unread};
 use iocm_values::{Value, begins_with_css, values};
 use std::alloc::{AllocError, Global};
@@ -18,28 +17,6 @@ pub struct Shape {
     pub has_both_lists: bool,
 }
 
-// A list, `0` or `=`.
-fn is_list_form(value: Value) -> bool
-    ensures { result ≡ partition.is_list_form (seen value.entry) }
-{
-    match value {
-        Value::Word(text) => text == b"0".as_slice() || text == b"=".as_slice(),
-        Value::List(_) => true,
-    }
-}
-
-#[tactic(auto, using(iocm_values::proofs::Looking::any_steps))]
-fn has_list_form(items: &[Value]) -> bool
-    ensures { result ≡ list_any partition.is_list_form (map seen items.now) }
-{
-    for item in items {
-        if is_list_form(*item) {
-            return true;
-        }
-    }
-    false
-}
-
 fn are_both_lists(items: &[Value]) -> bool
     ensures { result ≡ meaning.are_both_lists (map seen items.now) }
 {
@@ -47,24 +24,6 @@ fn are_both_lists(items: &[Value]) -> bool
         return false;
     }
     has_list_form(items)
-}
-
-fn is_rec(value: Value) -> bool
-    ensures { result ≡ partition.is_rec (seen value.entry) }
-{
-    match value {
-        Value::Word(text) => text == b"REC".as_slice(),
-        Value::List(_) => false,
-    }
-}
-
-fn ends_with_rec(items: &[Value]) -> bool
-    ensures { result ≡ partition.ends_with_rec (map seen items.now) }
-{
-    match items.last() {
-        Some(item) => is_rec(*item),
-        None => false,
-    }
 }
 
 // What items without a group round them show.

@@ -1,21 +1,18 @@
-ghost use Rattle.std.specs.Prelude.{◌≡◌, map, codes, IfOk};
+ghost use Rattle.std.specs.Prelude.{◌≡◌, codes, IfOk};
 ghost use Rattle.std.specs.List.{list_any};
 ghost use Rattle.iocm_types.specs.Fault.{Gives};
 ghost use Rattle.iocm_statements.specs.Unread.{Reads};
-ghost use Rattle.iocm_values.specs.NameSet as names;
-ghost use Rattle.iocm_values.specs.Reading.{every};
 ghost use Rattle.iocm_values.specs.Value.{seen};
-ghost use Rattle.iocm_record_reader.specs.ChpidRecords.{chpid_path, online_to};
 ghost use Rattle.iocm_record_reader.specs.Values.{required};
 ghost use Rattle.iocm_change_records.specs.Pairs as meaning;
 
 use crate::table::{has_key_left_out, lacks_key};
-use iocm_operands::path_of;
-use iocm_record::{Record, RecordBody};
+use iocm_record::Record;
+use iocm_record_reader::{add_online, chpid_path};
 use iocm_statements::{OperandKey, Operands, Operation, Statement, Unread, or_malformed};
 use iocm_tree::Verb;
-use iocm_types::{Chpid, Css, CssPath, Fault, List, Name, Rule};
-use iocm_values::Value;
+use iocm_types::{CssPath, Fault, List, Name, Rule};
+use iocm_values::{Value, read_names};
 use std::alloc::{AllocError, Global};
 
 /// What an ONLINE statement is about: a path, and names in the order of the text.
@@ -25,32 +22,6 @@ pub struct Pairs {
     pub path: CssPath,
     /// The names; one that stands twice is there twice.
     pub names: List<Name>,
-}
-
-/// The path of PATH, which is required. Answers `malformed` where it isn't there or has none of its
-/// forms, and M1 without memory.
-pub fn written_path(alloc: Global, operands: &Operands, malformed: Fault) -> Result<CssPath, Fault>
-    ensures { Gives (λ p. p) result (chpid_path malformed operands.now) }
-{
-    let text = operands.get(b"PATH").ok_or(malformed)?;
-    or_malformed(path_of(alloc, Value::new(text)), malformed)
-}
-
-fn name_item(value: Value) -> Option<Name>
-    ensures { result ≡ names.name_item (seen value.entry) }
-{
-    Name::new(value.word()?)
-}
-
-#[tactic(auto, using(iocm_values::proofs::Reading::every_steps))]
-fn read_names(alloc: Global, items: &[Value]) -> Result<Vec<Name>, Unread>
-    ensures { Reads (λ v. v.items) result (every names.name_item (map seen items.now)) }
-{
-    let mut names = Vec::new(alloc);
-    for item in items {
-        names.push(name_item(*item).ok_or(Unread::Malformed)?)?;
-    }
-    Ok(names)
 }
 
 // A list of one or more names, in the order of the text.
@@ -73,7 +44,7 @@ fn written_names(alloc: Global, operands: &Operands, malformed: Fault) -> Result
 pub fn pairs_of(alloc: Global, operands: &Operands, malformed: Fault) -> Result<Pairs, Fault>
     ensures { Gives (λ p. p) result (meaning.pairs_of malformed operands.now) }
 {
-    let path = written_path(alloc, operands, malformed)?;
+    let path = chpid_path(alloc, operands, malformed)?;
     let names = written_names(alloc, operands, malformed)?;
     Ok(Pairs { path, names })
 }
@@ -127,22 +98,6 @@ fn online_fault(alloc: Global, verb: Verb, operands: &Operands) -> Result<Option
     Ok(None)
 }
 
-// A record for each name.
-fn records_in(
-    alloc: Global,
-    css: Css,
-    path: Chpid,
-    names: &[Name],
-) -> Result<Vec<Record>, AllocError>
-    ensures { IfOk result (λ records. records.items ≡ map (online_to css path) names.now) }
-{
-    let mut records = Vec::new(alloc);
-    for name in names {
-        records.push(Record::new(RecordBody::Online(css, path, *name)))?;
-    }
-    Ok(records)
-}
-
 /// What an ONLINE statement adds, a record for each name, or its first fault: S3, S5, which MODIFY
 /// is too, or S4.
 pub fn online_records(
@@ -161,10 +116,8 @@ pub fn online_records(
         line,
     };
     let pairs = pairs_of(alloc, &statement.operands, malformed)?;
-    Ok(records_in(
-        alloc,
-        pairs.path.css,
-        pairs.path.path,
-        pairs.names.as_slice(),
-    )?)
+    let mut records = Vec::new(alloc);
+    let path = pairs.path;
+    add_online(&mut records, path.css, path.path, pairs.names.as_slice())?;
+    Ok(records)
 }

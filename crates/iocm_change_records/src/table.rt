@@ -1,10 +1,9 @@
 ghost use Rattle.std.specs.Prelude.{◌≡◌, map, IfOk};
 ghost use Rattle.std.specs.List.{list_any};
-ghost use Rattle.iocm_keywords.specs.Known.{seen_row, is_missing};
+ghost use Rattle.iocm_keywords.specs.Known.{seen_row};
 ghost use Rattle.iocm_change_records.specs.Table as meaning;
 
-use crate::left_out::is_text_left_out;
-use iocm_keywords::{Form, Row};
+use iocm_keywords::{Form, Row, is_one_missing, is_text_left_out};
 use iocm_statements::{Operands, Operation};
 use std::alloc::{AllocError, Global};
 
@@ -68,29 +67,21 @@ fn key_table(operation: Operation) -> &'static [Row<'static>]
     }
 }
 
-fn is_missing(operands: &Operands, row: &Row) -> bool
-    ensures { result ≡ is_missing operands.now (seen_row row.now) }
-{
-    row.form == Form::Required && operands.get(row.word).is_none()
-}
-
-#[tactic(auto, using(iocm_values::proofs::Looking::any_steps))]
-fn is_one_missing(operands: &Operands, rows: &[Row]) -> bool
-    ensures { result ≡ list_any (is_missing operands.now) (map seen_row rows.now) }
-{
-    for row in rows {
-        if is_missing(operands, row) {
-            return true;
-        }
-    }
-    false
-}
-
 /// Whether an operand that a statement's keys need isn't there.
 pub fn lacks_key(operation: Operation, operands: &Operands) -> bool
     ensures { result ≡ meaning.lacks_key operation operands.now }
 {
     is_one_missing(operands, key_table(operation))
+}
+
+// PATH of ONLINE has the forms of a CHPID's PATH.
+fn as_deck_operation(operation: Operation) -> Operation
+    ensures { result ≡ meaning.as_deck_operation operation }
+{
+    match operation {
+        Operation::Online => Operation::Chpid,
+        _ => operation,
+    }
 }
 
 fn is_key_left_out(
@@ -102,7 +93,7 @@ fn is_key_left_out(
     ensures { IfOk result (λ answer. answer ≡ meaning.is_key_left_out operation operands.now (seen_row row.now)) }
 {
     match operands.get(row.word) {
-        Some(text) => is_text_left_out(alloc, operation, row.word, text),
+        Some(text) => is_text_left_out(alloc, as_deck_operation(operation), row.word, text),
         None => Ok(false),
     }
 }

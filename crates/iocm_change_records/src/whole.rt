@@ -4,10 +4,9 @@ ghost use Rattle.iocm_change_records.specs.Whole as meaning;
 
 use crate::listed::lacks_lists;
 use crate::pairs::online_records;
-use crate::resource::resource_records;
 use crate::verbs::verb_named;
 use iocm_record::Record;
-use iocm_record_reader::from_statements;
+use iocm_record_reader::{Progress, from_statements, read_statement};
 use iocm_statements::{Operation, Statement};
 use iocm_tree::Verb;
 use iocm_types::{Fault, Rule};
@@ -41,7 +40,7 @@ fn given(alloc: Global, verb: Verb, statement: &Statement) -> Result<Vec<Record>
 {
     match statement.operation {
         Operation::Id => alone(alloc, statement),
-        Operation::Resource => resource_records(alloc, statement),
+        Operation::Resource => read_statement(alloc, &[], &Progress::new(alloc), statement),
         Operation::Chpid => path_alone(alloc, statement),
         Operation::Cntlunit => alone(alloc, statement),
         Operation::Iodevice => alone(alloc, statement),

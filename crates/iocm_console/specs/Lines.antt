@@ -8,7 +8,7 @@ use Rattle.iocm_model.specs.Machine.Record.{Rec, ImageRecord}
 use Rattle.iocm_model.specs.Machine.Configuration.{Lookup, as_image}
 use Rattle.iocm_model.specs.Machine.Table.{line_of}
 use Rattle.iocm_model.specs.Machine.View.{row_at}
-use Rattle.iocm_console.specs.declared.table.NamedImage.{NamedImage}
+use Rattle.iocm_console.specs.declared.table.PrintedImage.{PrintedImage}
 use Rattle.iocm_console.specs.declared.cells.CellDevice.{CellDevice}
 
 -- number cells with their devices
@@ -32,5 +32,5 @@ unfoldable pub record_lines : Lookup → CellDevices → List Rec → List ℕ
 record_lines c cells records = flat_map (λ i. image_lines c i cells) (filter_map as_image records)
 
 -- the record of an image
-abbrev pub image_record : NamedImage → ImageRecord
+abbrev pub image_record : PrintedImage → ImageRecord
 image_record i = record { css = i.image.css; mif = i.image.mif; name = i.name }

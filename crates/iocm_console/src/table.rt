@@ -18,7 +18,7 @@ use std::io::Write;
 
 /// An image and its name.
 #[derive(Clone, Copy)]
-struct NamedImage {
+struct PrintedImage {
     image: Image,
     name: Name,
 }
@@ -96,7 +96,7 @@ fn write_record<A: Allocator, W: Write>(
                 css: *css,
                 mif: *mif,
             };
-            let named = NamedImage { image, name: *name };
+            let named = PrintedImage { image, name: *name };
             write_image(output, config, &named, cells)
         }
         _ => Ok(()),
@@ -108,7 +108,7 @@ fn write_record<A: Allocator, W: Write>(
 fn write_image<A: Allocator, W: Write>(
     output: &mut Output<W>,
     config: &Config<A>,
-    image: &NamedImage,
+    image: &PrintedImage,
     cells: &[CellDevice],
 ) -> Result<(), ConsoleError>
     ensures text { OnOk result (Prints W.contents output.old output.new

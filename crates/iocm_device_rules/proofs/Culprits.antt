@@ -31,9 +31,11 @@ use Rattle.iocm_lookup.specs.Indexed.{names, IsIndexOf}
 use Rattle.iocm_lookup.proofs.Anys.{or_later}
 use Rattle.iocm_lookup.proofs.Members.{record_found, record_there}
 use Rattle.iocm_lookup.proofs.Walks.{first_of_any}
-use Rattle.iocm_device_rules.specs.Addresses.{address_in, clash_on, clash_of, least_of}
-use Rattle.iocm_device_rules.proofs.Clashes.{IsAtMost, IsClash, IsBefore, less_key, first_is_clash, clash_has_first, least_at_most, least_is_given, IsGiver}
-use Rattle.iocm_device_rules.proofs.Firsts.{IsSoAt, least_so_is_first, records_are_there}
+use Rattle.iocm_lookup.specs.Among.{least_of}
+use Rattle.iocm_lookup.proofs.AtMost.{IsAtMost, least_at_most, least_is_given, IsGiver}
+use Rattle.iocm_lookup.proofs.Firsts.{IsSoAt, least_so_is_first, records_are_there}
+use Rattle.iocm_device_rules.specs.Addresses.{address_in, clash_on, clash_of}
+use Rattle.iocm_device_rules.proofs.Clashes.{IsClash, IsBefore, less_key, first_is_clash, clash_has_first}
 
 -- ---- tests
 

@@ -1,9 +1,7 @@
 pub mod Clashes
+pub mod ClashesAmong
 pub mod Culprits
-pub mod Firsts
 pub mod JoinedPaths
-pub mod LeastAmong
-pub mod Leasts
 pub mod LikeDevices
 pub mod PastLimits
 pub mod UnitNumbers

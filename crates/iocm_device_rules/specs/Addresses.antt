@@ -1,13 +1,12 @@
 -- Devices with one unit address on a unit, and the least that has that of another before it.
 use Rattle.std.specs.Prelude.{ℕ, ◌==◌, ◌||◌, Bool, false, if◌then◌else◌, Option, None, Some, List, [], ◌∷◌}
-use Rattle.std.specs.Ordering.{is_lt}
 use Rattle.iocm_types.specs.declared.key.Key.{Key}
 use Rattle.iocm_types.specs.declared.key.Key.TheVariants as key
 use Rattle.iocm_types.specs.declared.named.Named.TheVariants as thing
-use Rattle.iocm_types.specs.Key.{key_cmp}
 use Rattle.iocm_model.specs.Machine.Record.{Rec, unit, device}
 use Rattle.iocm_model.specs.Machine.Configuration.{Lookup}
 use Rattle.iocm_index.specs.Namings.{Namings, users_in}
+use Rattle.iocm_lookup.specs.Among.{least_of}
 
 -- the unit address of a device that is there
 abbrev pub address_in : Option Rec → Option ℕ
@@ -39,17 +38,6 @@ clash_on c index number =
 abbrev pub clash_of : Lookup → Namings → Rec → Option Key
 clash_of c index (unit u) = clash_on c index u.number
 clash_of c index _ = None
-
--- the lesser of two keys
-abbrev pub lesser : Option Key → Option Key → Option Key
-lesser None b = b
-lesser (Some a) None = Some a
-lesser (Some a) (Some b) = if is_lt (key_cmp b a) then Some b else Some a
-
--- the least of what these give, and of a key
-abbrev pub least_of : {A : Type 0} → (A → Option Key) → Option Key → List A → Option Key
-least_of gives least [] = least
-least_of gives least (x ∷ xs) = least_of gives (lesser least (gives x)) xs
 
 -- the units of a device that is there
 abbrev pub units_in : Option Rec → List ℕ

@@ -1,20 +1,19 @@
 ghost use Rattle.std.specs.Prelude.{◌≡◌, ℕ, false, None, Some, get_or};
-ghost use Rattle.std.specs.Ordering.{is_lt};
 ghost use Rattle.iocm_types.specs.declared.key.Key.TheVariants as key;
 ghost use Rattle.iocm_types.specs.declared.named.Named.TheVariants as thing;
-ghost use Rattle.iocm_types.specs.Key.{key_cmp};
 ghost use Rattle.iocm_types.specs.Naming.{naming_cmp};
 ghost use Rattle.iocm_table.specs.Slots.{rows};
-ghost use Rattle.iocm_index.specs.Namings.{users_in};
 ghost use Rattle.iocm_model.specs.Machine.Configuration.{lookup_of, records_of};
 ghost use Rattle.iocm_model.specs.Rules.EachRule.{breaks_v8, breaks_v10};
 ghost use Rattle.iocm_model.specs.Rules.FirstBreach.{first_record};
-ghost use Rattle.iocm_lookup.specs.First.{first_key};
+ghost use Rattle.iocm_lookup.specs.Among.{least_of};
 ghost use Rattle.iocm_lookup.specs.Indexed.{IsIndexOf};
 ghost use Rattle.iocm_device_rules.specs.Addresses as addresses;
+ghost use Rattle.iocm_lookup.specs.First.{first_key};
 
 use iocm_config::Config;
 use iocm_index::Index;
+use iocm_lookup::lesser;
 use iocm_record::{Record, RecordBody};
 use iocm_types::{Key, Named, UnitNo};
 use std::alloc::Allocator;
@@ -40,9 +39,7 @@ pub fn first_address_twice<A: Allocator, I: Allocator>(
 
 /// The least of the devices that have, on one of their units, the address of one before them.
 fn least_clash<A: Allocator, I: Allocator>(config: &Config<A>, index: &Index<I>) -> Option<Key>
-    ensures { result ≡ addresses.least_of
-        (addresses.clash_of (lookup_of config.now.records) (rows naming_cmp index.now))
-        None
+    ensures { result ≡ least_of (addresses.clash_of (lookup_of config.now.records) (rows naming_cmp index.now)) None
         (records_of config.now.records) }
 {
     let mut least = None;
@@ -50,29 +47,6 @@ fn least_clash<A: Allocator, I: Allocator>(config: &Config<A>, index: &Index<I>)
         least = lesser(least, clash_of(config, index, entry));
     }
     least
-}
-
-/// The lesser of two keys, where both are there.
-pub fn lesser(least: Option<Key>, other: Option<Key>) -> Option<Key>
-    ensures { result ≡ addresses.lesser least other }
-{
-    let Some(key) = least else {
-        return other;
-    };
-    let Some(found) = other else {
-        return Some(key);
-    };
-    if is_before(&found, &key) {
-        Some(found)
-    } else {
-        Some(key)
-    }
-}
-
-fn is_before(key: &Key, other: &Key) -> bool
-    ensures { result ≡ is_lt (key_cmp key.now other.now) }
-{
-    key.order(*other).is_lt()
 }
 
 /// Of a unit's devices the first with the address of one before it; of other records none.

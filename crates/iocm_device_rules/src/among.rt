@@ -4,80 +4,20 @@ ghost use Rattle.iocm_types.specs.Naming.{naming_cmp};
 ghost use Rattle.iocm_table.specs.Slots.{rows};
 ghost use Rattle.iocm_model.specs.Machine.Configuration.{lookup_of};
 ghost use Rattle.iocm_model.specs.Rules.EachRule.{breaks_v10};
-ghost use Rattle.iocm_lookup.specs.First.{first_key};
+ghost use Rattle.iocm_lookup.specs.Among as lookup;
 ghost use Rattle.iocm_lookup.specs.Indexed.{IsIndexOf};
 ghost use Rattle.iocm_device_rules.specs.Addresses as addresses;
 ghost use Rattle.iocm_device_rules.specs.Among as among;
+ghost use Rattle.iocm_lookup.specs.First.{first_key};
 
-use crate::addresses::{first_clash, lesser};
+use crate::addresses::first_clash;
 use crate::alike::are_on_same_units;
 use iocm_config::Config;
 use iocm_index::Index;
-use iocm_lookup::Wanted;
+use iocm_lookup::lesser;
 use iocm_record::{Record, RecordBody};
 use iocm_types::{Key, UnitNo};
 use std::alloc::Allocator;
-
-/// The key of the first record that is looked for, if there is one, where no record at another key
-/// than these can be. The keys come in any order, also several times, and one may have no record.
-/// The time is that of one look at the record of each.
-pub fn first_wanted_among<A: Allocator, W: Wanted<A>>(
-    config: &Config<A>,
-    wanted: &W,
-    keys: &[Key],
-) -> Option<Key>
-    requires fits { W.fits wanted.now config.now.records }
-    requires only { among.IsOnlyAt keys.now config.now.records (W.wants wanted.now config.now.records) }
-    ensures { result ≡ first_key (W.wants wanted.now config.now.records) config.now.records }
-{
-    config.has_own_keys();
-    least_wanted(config, wanted, keys)
-}
-
-/// The least of some keys whose record is looked for.
-#[tactic(auto, using(crate::proofs::Leasts::least_steps))]
-fn least_wanted<A: Allocator, W: Wanted<A>>(
-    config: &Config<A>,
-    wanted: &W,
-    keys: &[Key],
-) -> Option<Key>
-    requires { W.fits wanted.now config.now.records }
-    ensures { result ≡ addresses.least_of
-        (among.key_if (W.wants wanted.now config.now.records) (lookup_of config.now.records)) None keys.now }
-{
-    let mut least = None;
-    for key in keys {
-        least = lesser(least, key_if_wanted(config, wanted, key));
-    }
-    least
-}
-
-/// A key, if the record there is looked for.
-fn key_if_wanted<A: Allocator, W: Wanted<A>>(
-    config: &Config<A>,
-    wanted: &W,
-    key: &Key,
-) -> Option<Key>
-    requires { W.fits wanted.now config.now.records }
-    ensures { result ≡ among.key_if (W.wants wanted.now config.now.records) (lookup_of config.now.records) key.now }
-{
-    if is_wanted_at(config, wanted, key) {
-        Some(*key)
-    } else {
-        None
-    }
-}
-
-/// Whether the record at a key is there, and is looked for.
-pub fn is_wanted_at<A: Allocator, W: Wanted<A>>(config: &Config<A>, wanted: &W, key: &Key) -> bool
-    requires { W.fits wanted.now config.now.records }
-    ensures { result ≡ among.is_so_at (W.wants wanted.now config.now.records) (lookup_of config.now.records) key.now }
-{
-    match config.get(key) {
-        Some(entry) => wanted.is_wanted(config, entry),
-        None => false,
-    }
-}
 
 /// V10, as `first_address_twice` answers it, where of two devices with one unit address and a
 /// common unit one is at these keys.
@@ -99,14 +39,14 @@ pub fn first_address_twice_among<A: Allocator, I: Allocator>(
 
 /// The least device that has, on a unit of the device at one of some keys, the address of one
 /// before it. A device on the same units as the one before it is not looked at again.
-#[tactic(auto, using(crate::proofs::Leasts::least_steps))]
+#[tactic(auto, using(iocm_lookup::proofs::Leasts::least_steps))]
 fn least_clash_among<A: Allocator, I: Allocator>(
     config: &Config<A>,
     index: &Index<I>,
     keys: &[Key],
 ) -> Option<Key>
-    ensures { result ≡ addresses.least_of
-        (addresses.clash_at (lookup_of config.now.records) (rows naming_cmp index.now)) None keys.now }
+    ensures { result ≡ lookup.least_of (addresses.clash_at (lookup_of config.now.records)
+        (rows naming_cmp index.now)) None keys.now }
 {
     let mut least = None;
     let mut last = None;
@@ -126,11 +66,10 @@ fn lesser_with<A: Allocator, I: Allocator>(
     last: Option<&Key>,
     key: &Key,
 ) -> Option<Key>
-    requires { ForSome last (λ other.
-        addresses.lesser least (addresses.clash_at (lookup_of config.now.records) (rows naming_cmp index.now) other.now)
-        ≡ least) }
-    ensures { result ≡ addresses.lesser least
-        (addresses.clash_at (lookup_of config.now.records) (rows naming_cmp index.now) key.now) }
+    requires { ForSome last (λ other. lookup.lesser least
+        (addresses.clash_at (lookup_of config.now.records) (rows naming_cmp index.now) other.now) ≡ least) }
+    ensures { result ≡ lookup.lesser least (addresses.clash_at (lookup_of config.now.records)
+        (rows naming_cmp index.now) key.now) }
 {
     if let Some(other) = last {
         if is_on_its_units(config, key, other) {
@@ -177,14 +116,14 @@ fn units_of<A: Allocator>(entry: &Record<A>) -> &[UnitNo]
 }
 
 /// The least clash on these units.
-#[tactic(auto, using(crate::proofs::Leasts::least_steps))]
+#[tactic(auto, using(iocm_lookup::proofs::Leasts::least_steps))]
 fn clash_on_units<A: Allocator, I: Allocator>(
     config: &Config<A>,
     index: &Index<I>,
     units: &[UnitNo],
 ) -> Option<Key>
-    ensures { result ≡ addresses.least_of
-        (addresses.clash_on (lookup_of config.now.records) (rows naming_cmp index.now)) None units.now }
+    ensures { result ≡ lookup.least_of (addresses.clash_on (lookup_of config.now.records)
+        (rows naming_cmp index.now)) None units.now }
 {
     let mut least = None;
     for unit in units {

@@ -8,7 +8,7 @@ ghost use Rattle.iocm_record.specs.Meaning.{device_of};
 
 use crate::alike::are_on_same_units;
 use iocm_config::Config;
-use iocm_lookup::{Kind, Wanted, is_image};
+use iocm_lookup::{RecordKind, Wanted, is_image};
 use iocm_record::{DeviceFields, Record, RecordBody};
 use iocm_types::{Key, List, Name, UnitNo};
 use iocm_unit_rules::is_address_held;
@@ -33,8 +33,8 @@ impl<A: Allocator> Wanted<A> for WrongUnits {
     ghost of_kind = { λ s c. only_devices (breaks_v8 c)
         (λ _. refl) (λ _. refl) (λ _. refl) (λ _. refl) (λ _. refl) (λ _. refl) (λ _. refl) };
 
-    fn kind(&self) -> Kind {
-        Kind::Device
+    fn kind(&self) -> RecordKind {
+        RecordKind::Device
     }
 
     fn is_wanted(&self, config: &Config<A>, entry: &Record<A>) -> bool {
@@ -117,8 +117,8 @@ impl<A: Allocator> Wanted<A> for AddressNotHeld {
     ghost of_kind = { λ s c. only_devices (breaks_v9 c)
         (λ _. refl) (λ _. refl) (λ _. refl) (λ _. refl) (λ _. refl) (λ _. refl) (λ _. refl) };
 
-    fn kind(&self) -> Kind {
-        Kind::Device
+    fn kind(&self) -> RecordKind {
+        RecordKind::Device
     }
 
     fn is_wanted(&self, config: &Config<A>, entry: &Record<A>) -> bool {
@@ -183,8 +183,8 @@ impl<A: Allocator> Wanted<A> for CandidateOfNoImage {
     ghost of_kind = { λ s c. only_devices (breaks_v12 c)
         (λ _. refl) (λ _. refl) (λ _. refl) (λ _. refl) (λ _. refl) (λ _. refl) (λ _. refl) };
 
-    fn kind(&self) -> Kind {
-        Kind::Device
+    fn kind(&self) -> RecordKind {
+        RecordKind::Device
     }
 
     fn is_wanted(&self, config: &Config<A>, entry: &Record<A>) -> bool {

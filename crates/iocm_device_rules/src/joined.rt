@@ -8,7 +8,7 @@ ghost use Rattle.iocm_device_rules.specs.Joining.{AreRight, AreJoined, IsWrongWi
 
 use crate::alike::are_on_same_units;
 use iocm_config::Config;
-use iocm_lookup::{Kind, Wanted};
+use iocm_lookup::{RecordKind, Wanted};
 use iocm_record::{Record, RecordBody};
 use iocm_types::{Chpid, CssPath, Key, Paths, UnitNo};
 use std::alloc::Allocator;
@@ -33,8 +33,8 @@ impl<A: Allocator> Wanted<A> for WrongPathList {
     ghost of_kind = { λ s c. only_devices (breaks_v11 c)
         (λ _. refl) (λ _. refl) (λ _. refl) (λ _. refl) (λ _. refl) (λ _. refl) (λ _. refl) };
 
-    fn kind(&self) -> Kind {
-        Kind::Device
+    fn kind(&self) -> RecordKind {
+        RecordKind::Device
     }
 
     fn is_wanted(&self, config: &Config<A>, entry: &Record<A>) -> bool {

@@ -9,8 +9,8 @@
 //! at opening, for which no table has to be made.
 //!
 //! Where only records at some keys can break a rule, since only these were changed,
-//! `first_wanted_among` and `first_address_twice_among` answer the same, and look at these keys
-//! alone.
+//! `first_wanted_among` of `iocm_lookup` and `first_address_twice_among` answer the same, and look
+//! at these keys alone.
 //!
 //! Begin with `devices.rt`, then `addresses.rt`, then `among.rt`.
 #![tactic(auto)]
@@ -23,8 +23,8 @@ mod joined;
 mod limits;
 mod limits_at_opening;
 
-pub use addresses::{first_address_twice, lesser};
-pub use among::{first_address_twice_among, first_wanted_among, is_wanted_at};
+pub use addresses::first_address_twice;
+pub use among::first_address_twice_among;
 pub use devices::{AddressNotHeld, CandidateOfNoImage, WrongUnits};
 pub use joined::WrongPathList;
 pub use limits::{NumberPastLimit, first_past_limit};

@@ -8,7 +8,7 @@ ghost use Rattle.iocm_lookup.specs.First.{first_key};
 ghost use Rattle.iocm_device_rules.specs.Past as past;
 
 use iocm_config::Config;
-use iocm_lookup::{Kind, Wanted, first_wanted, subsystems};
+use iocm_lookup::{RecordKind, Wanted, first_wanted, subsystems};
 use iocm_numbers::Numbers;
 use iocm_record::{Record, RecordBody};
 use iocm_types::{Css, DevNo, Key, NumberCell, Place, SetNo};
@@ -36,8 +36,8 @@ impl<'a, A: Allocator, N: Allocator> Wanted<A> for NumberPastLimit<'a, N> {
     ghost of_kind = { λ s c. only_devices (breaks_v13 c s.numbers.now.numbers)
         (λ _. refl) (λ _. refl) (λ _. refl) (λ _. refl) (λ _. refl) (λ _. refl) (λ _. refl) };
 
-    fn kind(&self) -> Kind {
-        Kind::Device
+    fn kind(&self) -> RecordKind {
+        RecordKind::Device
     }
 
     fn is_wanted(&self, config: &Config<A>, entry: &Record<A>) -> bool {

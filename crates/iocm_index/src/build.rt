@@ -12,7 +12,7 @@ use crate::Index;
 use crate::index::naming_at;
 use iocm_record::Record;
 use iocm_table::Table;
-use iocm_types::Naming;
+use iocm_types::{Naming, sorted_once};
 use std::alloc::{AllocError, Allocator};
 
 impl<A: Allocator + Clone> Index<A> {
@@ -58,9 +58,7 @@ fn sort_apart<B: Allocator>(mut namings: Vec<Naming, B>) -> Result<Vec<Naming, B
         → list_any (eq_by_cmp naming_cmp n) distinct.items ≡ list_any (eq_by_cmp naming_cmp n) namings.items) }
 {
     namings.sort_by(|naming, other| naming.named.order(other.named))?;
-    namings.sort()?;
-    namings.dedup();
-    Ok(namings)
+    sorted_once(namings)
 }
 
 /// A row for each naming.

@@ -62,9 +62,13 @@ is_form_left_out Chpid keyword text = bytes_eq keyword (codes "PATH") && names_s
 is_form_left_out Iodevice keyword text = bytes_eq keyword (codes "SCHSET") && is_list (value text)
 is_form_left_out _ keyword text = false
 
--- the value of a known keyword in a form that is left out
+-- the value of a keyword in a form that is left out
+abbrev pub is_text_left_out : Operation → List ℕ → List ℕ → Bool
+is_text_left_out operation keyword text = names_several_css text || is_form_left_out operation keyword text
+
+-- an operand with such a value
 abbrev pub is_value_left_out : Operation → Operand → Bool
-is_value_left_out operation o = has_value o && (names_several_css o.1 || is_form_left_out operation (word_of o) o.1)
+is_value_left_out operation o = has_value o && is_text_left_out operation (word_of o) o.1
 
 -- a word that is left out in every form, or a value that is
 abbrev pub is_left_out_as : Option Form → Operation → Operand → Bool

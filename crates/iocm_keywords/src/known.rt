@@ -170,8 +170,9 @@ fn is_missing(operands: &Operands, row: &Row) -> bool
     row.form == Form::Required && operands.get(row.word).is_none()
 }
 
+/// Whether the operand of a row that is required isn't there.
 #[tactic(auto, using(iocm_values::proofs::Looking::any_steps))]
-fn is_one_missing(operands: &Operands, rows: &[Row]) -> bool
+pub fn is_one_missing(operands: &Operands, rows: &[Row]) -> bool
     ensures { result ≡ list_any (meaning.is_missing operands.now) (map seen_row rows.now) }
 {
     for row in rows {

@@ -54,6 +54,22 @@ fn is_form_left_out(
     }
 }
 
+/// Whether the value of a keyword is in a form that is left out by name: it names several channel
+/// subsystems in one `CSS(..)`, several paths of a CHPID, or several subchannel sets.
+pub fn is_text_left_out(
+    alloc: Global,
+    operation: Operation,
+    keyword: &[u8],
+    text: &[u8],
+) -> Result<bool, AllocError>
+    ensures { IfOk result (λ answer. answer ≡ meaning.is_text_left_out operation keyword.now text.now) }
+{
+    if names_several_css(alloc, text)? {
+        return Ok(true);
+    }
+    is_form_left_out(alloc, operation, keyword, text)
+}
+
 fn is_value_left_out(
     alloc: Global,
     operation: Operation,
@@ -65,10 +81,7 @@ fn is_value_left_out(
     if !has_value(key) {
         return Ok(false);
     }
-    if names_several_css(alloc, text)? {
-        return Ok(true);
-    }
-    is_form_left_out(alloc, operation, word_of(key, text), text)
+    is_text_left_out(alloc, operation, word_of(key, text), text)
 }
 
 fn is_left_out(

@@ -15,7 +15,6 @@ mod laws;
 mod left_out;
 mod nested_css;
 
-pub use known::{Form, Row, has_other_form, is_carried, lacks_required, table};
+pub use known::{Form, Row, has_other_form, is_carried, is_one_missing, lacks_required, table};
 pub use laws::subsystems_are_named_as_worked;
-pub use left_out::has_left_out;
-pub use nested_css::names_several_css;
+pub use left_out::{has_left_out, is_text_left_out};

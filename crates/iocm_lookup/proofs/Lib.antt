@@ -1,4 +1,8 @@
 pub mod Anys
+pub mod AtMost
+pub mod Firsts
+pub mod LeastAmong
+pub mod Leasts
 pub mod Linking
 pub mod Members
 pub mod NamedImages

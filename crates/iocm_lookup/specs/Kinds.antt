@@ -4,8 +4,8 @@ use Rattle.std.specs.Ordering.{is_le}
 use Rattle.iocm_types.specs.declared.key.Key.{Key}
 use Rattle.iocm_types.specs.declared.key.Key.TheVariants as key
 use Rattle.iocm_types.specs.Key.{key_cmp}
-use Rattle.iocm_lookup.specs.declared.kind.Kind.{Kind}
-use Rattle.iocm_lookup.specs.declared.kind.Kind.TheVariants as kind
+use Rattle.iocm_lookup.specs.declared.kind.RecordKind.{RecordKind}
+use Rattle.iocm_lookup.specs.declared.kind.RecordKind.TheVariants as kind
 
 -- the place of a key's kind
 abbrev pub kind_of : Key → ℕ
@@ -19,7 +19,7 @@ kind_of (key.Device set number) = 6
 kind_of (key.Online css path name) = 7
 
 -- the place of a kind that is looked for
-abbrev pub place_of : Kind → ℕ
+abbrev pub place_of : RecordKind → ℕ
 place_of kind.Image = 2
 place_of kind.Path = 4
 place_of kind.Unit = 5

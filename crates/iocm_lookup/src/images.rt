@@ -1,7 +1,7 @@
 ghost use Rattle.std.specs.Prelude.{◌≡◌};
 ghost use Rattle.iocm_model.specs.Rules.EachRule as model;
 
-use crate::kind::Kind;
+use crate::kind::RecordKind;
 use crate::wanted::{Wanted, is_any_wanted};
 use iocm_config::Config;
 use iocm_record::{Record, RecordBody};
@@ -29,8 +29,8 @@ impl<A: Allocator> Wanted<A> for NamedIn {
     ghost of_kind = { λ s c. only_images (is_named_in s.css s.name)
         (λ _. refl) (λ _. refl) (λ _. refl) (λ _. refl) (λ _. refl) (λ _. refl) (λ _. refl) };
 
-    fn kind(&self) -> Kind {
-        Kind::Image
+    fn kind(&self) -> RecordKind {
+        RecordKind::Image
     }
 
     fn is_wanted(&self, _config: &Config<A>, entry: &Record<A>) -> bool {
@@ -61,8 +61,8 @@ impl<A: Allocator> Wanted<A> for Named {
     ghost of_kind = { λ s c. only_images (is_image_named s.name)
         (λ _. refl) (λ _. refl) (λ _. refl) (λ _. refl) (λ _. refl) (λ _. refl) (λ _. refl) };
 
-    fn kind(&self) -> Kind {
-        Kind::Image
+    fn kind(&self) -> RecordKind {
+        RecordKind::Image
     }
 
     fn is_wanted(&self, _config: &Config<A>, entry: &Record<A>) -> bool {

@@ -6,7 +6,7 @@ use iocm_types::{Chpid, Css, DevNo, Key, SetNo, UnitNo};
 
 /// The kinds of records that are looked for, in the order of keys. Own.
 #[derive(Clone, Copy, Debug, PartialEq, Eq)]
-pub enum Kind {
+pub enum RecordKind {
     /// Image records.
     Image,
     /// Path records.
@@ -19,7 +19,7 @@ pub enum Kind {
     Online,
 }
 
-impl Kind {
+impl RecordKind {
     /// A key that none of this kind stands before, and none of an earlier kind behind that a
     /// machine can have.
     pub(crate) fn first(self) -> Key
@@ -27,11 +27,11 @@ impl Kind {
         ensures near { IsBehindEarlier result (kinds.place_of self) }
     {
         match self {
-            Kind::Image => Key::Resource,
-            Kind::Path => Key::Path(Css::FIRST, Chpid::new(0)),
-            Kind::Unit => first_unit(),
-            Kind::Device => Key::Device(SetNo::FIRST, DevNo::new(0)),
-            Kind::Online => last_device(),
+            RecordKind::Image => Key::Resource,
+            RecordKind::Path => Key::Path(Css::FIRST, Chpid::new(0)),
+            RecordKind::Unit => first_unit(),
+            RecordKind::Device => Key::Device(SetNo::FIRST, DevNo::new(0)),
+            RecordKind::Online => last_device(),
         }
     }
 
@@ -47,11 +47,11 @@ impl Kind {
         ensures { result ≡ kinds.place_of self }
     {
         match self {
-            Kind::Image => 2,
-            Kind::Path => 4,
-            Kind::Unit => 5,
-            Kind::Device => 6,
-            Kind::Online => 7,
+            RecordKind::Image => 2,
+            RecordKind::Path => 4,
+            RecordKind::Unit => 5,
+            RecordKind::Device => 6,
+            RecordKind::Online => 7,
         }
     }
 }

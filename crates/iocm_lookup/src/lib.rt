@@ -2,7 +2,8 @@
 //!
 //! By key `Config::get` answers. By kind `first_wanted` does, the key of the first record that is
 //! `Wanted`: it walks over the records of one kind alone, which stand side by side in the order of
-//! keys. Who names a thing an `Index` answers; `index_of` builds that of a configuration.
+//! keys. `first_wanted_among` answers the same where only records at some keys can be wanted. Who
+//! names a thing an `Index` answers; `index_of` builds that of a configuration.
 //!
 //! What the layer above may rely on: what `first_wanted` answers is the first of all records, since
 //! a `Wanted` says of which kind those are that it looks for; and a naming is in the index exactly
@@ -12,14 +13,16 @@
 //! Begin with `wanted.rt`, then `specs/Indexed.antt`.
 #![tactic(auto)]
 
+mod among;
 mod images;
 mod indexing;
 mod kind;
 mod subsystem;
 mod wanted;
 
+pub use among::{first_wanted_among, is_wanted_at, lesser};
 pub use images::{is_image, is_image_in};
 pub use indexing::index_of;
-pub use kind::Kind;
+pub use kind::RecordKind;
 pub use subsystem::subsystems;
 pub use wanted::{Wanted, first_wanted, is_any_wanted};

@@ -6,7 +6,7 @@ ghost use Rattle.iocm_model.specs.Machine.Configuration.{Configuration, records_
 ghost use Rattle.iocm_lookup.specs.First.{first_key};
 ghost use Rattle.iocm_lookup.specs.Kinds as kinds;
 
-use crate::kind::Kind;
+use crate::kind::RecordKind;
 use iocm_config::Config;
 use iocm_record::Record;
 use iocm_types::Key;
@@ -24,7 +24,7 @@ pub trait Wanted<A: Allocator> {
     ghost place: { ℕ };
 
     /// The kind of the records that are looked for.
-    fn kind(&self) -> Kind
+    fn kind(&self) -> RecordKind
         ensures { kinds.place_of result ≡ place };
 
     /// Whether a record of the configuration is one.

@@ -22,7 +22,7 @@ use Rattle.iocm_model.proofs.Numbers.Cells.{IsApart, place, has_number, has_devi
 use Rattle.iocm_numbers.specs.declared.number_change.NumberChange.{NumberChange}
 use Rattle.iocm_numbers.specs.Exchange.{Agree}
 use Rattle.iocm_numbers.specs.Numbered.{cell_at}
-use Rattle.iocm_numbers.specs.NumberChanges.{Holders, with_given, with_freed, change_of, change_from, changes_between, WereBefore}
+use Rattle.iocm_numbers.specs.NumberChanges.{Holders, with_given, with_freed, number_change, change_from, changes_between, WereBefore}
 
 -- ---- cells that are noted
 
@@ -193,9 +193,9 @@ entries_made es up =
     ap entries (same_map cells_total cells_exact (from_entries es) (from_sorted es) (λ q. get-from_entries cells_total es q ∙ sym (get-from_sorted cell_cmp es q up)))
     ∙ entries-from_sorted cell_cmp es up
 
-changes_each : (n m : Numbering) (cs : List NumberCell) → map (change_from m) (map (λ c. (c, device_at n c)) cs) ≡ map (change_of n m) cs
+changes_each : (n m : Numbering) (cs : List NumberCell) → map (change_from m) (map (λ c. (c, device_at n c)) cs) ≡ map (number_change n m) cs
 changes_each n m [] = refl
-changes_each n m (c ∷ cs) = ap (λ xs. change_of n m c ∷ xs) (changes_each n m cs)
+changes_each n m (c ∷ cs) = ap (λ xs. number_change n m c ∷ xs) (changes_each n m cs)
 
 -- the changes of the cells that are noted are all
 pub changes_are : (n m : Numbering) (freed given : List (Place × ℕ)) (start first second : Holders) (changes : List NumberChange) → IsApart m → WereBefore n m freed given

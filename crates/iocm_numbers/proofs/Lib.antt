@@ -4,7 +4,6 @@ pub mod CellsThere
 pub mod ChangedCells
 pub mod Counting
 pub mod Differing
-pub mod EachOnce
 pub mod Exchanging
 pub mod FirstPlaces
 pub mod FirstRows

@@ -13,12 +13,12 @@ use Rattle.iocm_numbers.specs.Exchange.{Agree}
 use Rattle.iocm_numbers.specs.Numbered.{cell_at, HasNoNumberTwice}
 
 -- a number cell, with the device that it has in the one and in the other
-abbrev pub change_of : Numbering → Numbering → NumberCell → NumberChange
-change_of n m cell = record { cell = cell; before = device_at n cell; after = device_at m cell }
+abbrev pub number_change : Numbering → Numbering → NumberCell → NumberChange
+number_change n m cell = record { cell = cell; before = device_at n cell; after = device_at m cell }
 
 -- the number cells that have another device in the other, or one in one of them alone, in order
 abbrev pub changes_between : Numbering → Numbering → List NumberChange
-changes_between n m = map (change_of n m) (differing ◌==◌ (cells_of n) (cells_of m))
+changes_between n m = map (number_change n m) (differing ◌==◌ (cells_of n) (cells_of m))
 
 -- numbers as they were before a change that freed the numbers of these rows and gave those: no
 -- number came twice, and those that stay kept theirs

@@ -8,7 +8,7 @@ ghost use Rattle.iocm_numbers.specs.LookedAt.{cells_at};
 
 use crate::Numbers;
 use crate::numbers::cell_of;
-use iocm_types::{NumberCell, Place};
+use iocm_types::{NumberCell, Place, sorted_once};
 use std::alloc::{AllocError, Allocator};
 
 impl<A: Allocator> Numbers<A> {
@@ -36,14 +36,10 @@ impl<A: Allocator> Numbers<A> {
 /// The same number cells in order, each once.
 ///
 /// `AllocError` (M1): memory was wanted.
-pub fn sort_apart<B: Allocator>(
-    mut cells: Vec<NumberCell, B>,
-) -> Result<Vec<NumberCell, B>, AllocError>
+pub fn sort_apart<B: Allocator>(cells: Vec<NumberCell, B>) -> Result<Vec<NumberCell, B>, AllocError>
     ensures order { IfOk result (λ sorted. IsStrictlySortedBy cell_cmp sorted.items) }
     ensures same { IfOk result (λ sorted. (c : number_cell.NumberCell)
         → list_any (eq_by_cmp cell_cmp c) sorted.items ≡ list_any (eq_by_cmp cell_cmp c) cells.items) }
 {
-    cells.sort()?;
-    cells.dedup();
-    Ok(cells)
+    sorted_once(cells)
 }

@@ -1,4 +1,3 @@
-mod Filtering
 pub mod Given
 pub mod Grouped
 mod Images

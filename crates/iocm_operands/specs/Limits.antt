@@ -1,17 +1,17 @@
 -- MAXDEV of RESOURCE: the limits of the subchannel sets.
 -- IOCP User's Guide, RESOURCE statement; that empty and absent places give no record is own.
-use Rattle.std.specs.Prelude.{ℕ, suc, ◌==◌, ◌&&◌, nat_lt, Bool, true, max, if◌then◌else◌}
-use Rattle.std.specs.Prelude.{Option, None, Some, List, [], map, filter, fold, length}
+use Rattle.std.specs.Prelude.{ℕ, suc, ◌==◌, ◌&&◌, Bool, true, max, if◌then◌else◌, Option, None}
+use Rattle.std.specs.Prelude.{Some, List, [], map, filter, fold, length}
 use Rattle.std.specs.Fmt.{decimal}
-use Rattle.std.specs.List.{filter_map, find, flat_map, range_with_len}
+use Rattle.std.specs.List.{find, flat_map, range_with_len}
 use Rattle.std.specs.Option.{option_map, option_map_or}
 use Rattle.iocm_model.specs.Machine.Record.{LimitRecord}
 use Rattle.iocm_model.specs.Machine.Numbering.{subsystems}
 use Rattle.iocm_operands.specs.declared.limits.LimitPlace.{LimitPlace}
 use Rattle.iocm_values.specs.declared.texts.CssText.{CssText}
-use Rattle.iocm_values.specs.CssLists.{by_css}
 use Rattle.iocm_values.specs.Digits.{decimal_of}
-use Rattle.iocm_values.specs.Reading.{◌>>=◌, every_at, gathered}
+use Rattle.iocm_values.specs.Reading.{◌>>=◌}
+use Rattle.iocm_values.specs.SetPlaces.{place_at, set_places_in, by_set}
 use Rattle.iocm_values.specs.Texts.{by_css_text}
 use Rattle.iocm_values.specs.Value.{Value, word_text}
 
@@ -22,19 +22,21 @@ limit_of text = if length text == 0 then Some None else option_map Some (decimal
 abbrev pub limit_item : ℕ → Value → Option LimitPlace
 limit_item css v = word_text v >>= limit_of >>= λ l. Some (record { css = css; limit = l })
 
--- the limit of a subchannel set, 0 to 3, if its place has one
+-- the limit of a subchannel set, if its place has one
+abbrev pub limit_in_set : ℕ → LimitPlace → Option LimitRecord
+limit_in_set set p = option_map (λ l. record { css = p.css; set = set; limit = l }) p.limit
+
+-- the same of a set that is 0 to 3
 abbrev pub limit_at : ℕ → LimitPlace → Option (Option LimitRecord)
-limit_at set p =
-    if nat_lt set 4 then Some (option_map (λ l. record { css = p.css; set = set; limit = l }) p.limit) else None
+limit_at set p = place_at limit_in_set set p
 
 -- of the places of a channel subsystem the first is that of set 0, and so on
 abbrev pub limits_in : List LimitPlace → ℕ → Option (List LimitRecord)
-limits_in places css =
-    option_map (filter_map (λ l. l)) (every_at limit_at 0 (filter (λ (p : LimitPlace). p.css == css) places))
+limits_in places css = set_places_in limit_in_set (λ (p : LimitPlace). p.css) places css
 
 -- the limits of MAXDEV, a list by channel subsystem whose groups may lack items
 abbrev pub limits_of : Value → Option (List LimitRecord)
-limits_of v = by_css true limit_item (λ (p : LimitPlace). p.css) v >>= λ places. gathered (limits_in places) subsystems
+limits_of v = by_set true limit_item limit_in_set (λ (p : LimitPlace). p.css) v
 
 -- a limit is that of a set of a channel subsystem
 abbrev pub is_limit_at : ℕ → ℕ → LimitRecord → Bool

@@ -83,6 +83,7 @@ fn without_groups<'a>(
     }
 }
 
+// A list, `0` or `=`.
 fn is_list_form(value: Value) -> bool
     ensures { result ≡ meaning.is_list_form (seen value.entry) }
 {
@@ -92,8 +93,9 @@ fn is_list_form(value: Value) -> bool
     }
 }
 
+/// Whether one of the items is a list, `0` or `=`.
 #[tactic(auto, using(iocm_values::proofs::Looking::any_steps))]
-fn has_list_form(items: &[Value]) -> bool
+pub fn has_list_form(items: &[Value]) -> bool
     ensures { result ≡ list_any meaning.is_list_form (map seen items.now) }
 {
     for item in items {
@@ -189,7 +191,8 @@ fn is_rec(value: Value) -> bool
     }
 }
 
-fn ends_with_rec(items: &[Value]) -> bool
+/// Whether the last item is REC.
+pub fn ends_with_rec(items: &[Value]) -> bool
     ensures { result ≡ meaning.ends_with_rec (map seen items.now) }
 {
     match items.last() {

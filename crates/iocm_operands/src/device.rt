@@ -1,5 +1,4 @@
 ghost use Rattle.std.specs.Prelude.{◌≡◌, ◌≤◌, ◌+◌, map, IfOk, IfSome};
-ghost use Rattle.std.specs.List.{filter_map};
 ghost use Rattle.iocm_statements.specs.Unread.{Reads};
 ghost use Rattle.iocm_operands.specs.Device as meaning;
 ghost use Rattle.iocm_values.specs.Reading.{every};
@@ -7,8 +6,10 @@ ghost use Rattle.iocm_values.specs.Value.{seen};
 
 use iocm_statements::Unread;
 use iocm_types::{List, Name, SetNo, UnitNo};
-use iocm_values::{Value, count_of, css_number, decimal, hex, set_of_names, unit_number, words};
-use std::alloc::{AllocError, Global};
+use iocm_values::{
+    Value, count_of, css_number, decimal, hex, set_of_names, those_there, unit_number, words,
+};
+use std::alloc::Global;
 
 /// The devices of a statement: the number of the first, and how many there are.
 #[derive(Clone, Copy)]
@@ -136,26 +137,12 @@ fn read_candidates(alloc: Global, texts: &[&[u8]]) -> Result<Vec<Option<Name>>, 
     Ok(names)
 }
 
-#[tactic(auto, using(crate::proofs::Filtering::filter_maps))]
-fn names_there(alloc: Global, names: &[Option<Name>]) -> Result<Vec<Name>, AllocError>
-    ensures { IfOk result (λ found. found.items ≡ filter_map (λ n. n) names.now) }
-{
-    let mut found = Vec::new(alloc);
-    for name in names {
-        match *name {
-            Some(name) => found.push(name)?,
-            None => continue,
-        }
-    }
-    Ok(found)
-}
-
 fn candidates_listed(alloc: Global, inner: &[u8]) -> Result<List<Name>, Unread>
     ensures { Reads (λ v. v) result (meaning.candidates_listed inner.now) }
 {
     let words = words(alloc, inner)?;
     let names = read_candidates(alloc, &words)?;
-    let names = names_there(alloc, &names)?;
+    let names = those_there(alloc, &names)?;
     Ok(List::from_vec(set_of_names(alloc, &names)?))
 }
 

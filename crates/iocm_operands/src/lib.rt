@@ -17,7 +17,7 @@ mod limits;
 mod resource;
 mod unit;
 
-pub use chpid_partition::{Partition, partition_of};
+pub use chpid_partition::{Partition, ends_with_rec, has_list_form, partition_of};
 pub use chpid_path::path_of;
 pub use device::{Devices, candidates_of, devices_of, first_address, set_of, units_of};
 pub use laws::{
@@ -27,5 +27,5 @@ pub use laws::{
     units_are_read_again, what_is_read_can_be_written,
 };
 pub use limits::{LimitEntry, limits_of};
-pub use resource::{ImageEntry, images_of, names_in};
+pub use resource::{ImageEntry, images_of, mif_of, names_in};
 pub use unit::{all_addresses, cuadd_of, links_of, number_of, paths_of, ranges_of};

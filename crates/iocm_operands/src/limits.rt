@@ -1,15 +1,12 @@
-ghost use Rattle.std.specs.Prelude.{◌≡◌, ◌==◌, IfOk, filter, map};
-ghost use Rattle.std.specs.List.{filter_map};
+ghost use Rattle.std.specs.Prelude.{◌≡◌};
 ghost use Rattle.iocm_statements.specs.Unread.{Reads};
-ghost use Rattle.iocm_operands.specs.declared.limits.LimitPlace.{LimitPlace};
 ghost use Rattle.iocm_operands.specs.Limits as meaning;
-ghost use Rattle.iocm_values.specs.Reading.{every_at, gathered};
 ghost use Rattle.iocm_values.specs.Value.{seen};
 
 use iocm_statements::Unread;
 use iocm_types::{Css, SetNo};
-use iocm_values::{CssItem, Value, by_css, decimal};
-use std::alloc::{AllocError, Global};
+use iocm_values::{CssItem, SetItem, Value, by_set, decimal};
+use std::alloc::Global;
 use std::marker::Model;
 
 /// Below which number the subchannels of a set stay in a channel subsystem. Contracts see the
@@ -85,79 +82,17 @@ impl CssItem for LimitPlace {
     }
 }
 
-// The limit of a subchannel set, 0 to 3, if its place has one.
-fn limit_at(set: usize, place: LimitPlace) -> Option<Option<LimitEntry>>
-    ensures { result ≡ meaning.limit_at set place }
-{
-    if set >= 4 {
-        return None;
-    }
-    let set = SetNo::new(set as u8)?;
-    let css = place.css;
-    Some(place.limit.map(|limit| LimitEntry { css, set, limit }))
-}
+impl SetItem for LimitPlace {
+    ghost use Rattle.iocm_operands.specs.Limits as meaning;
 
-fn places_in(alloc: Global, places: &[LimitPlace], css: u8) -> Result<Vec<LimitPlace>, AllocError>
-    ensures { IfOk result (λ found. found.items ≡ filter (λ (p : LimitPlace). p.css == css) places.now) }
-{
-    let mut found = Vec::new(alloc);
-    for place in places {
-        if place.css.number() != css {
-            continue;
-        }
-        found.push(*place)?;
-    }
-    Ok(found)
-}
+    type Entry = LimitEntry;
 
-#[tactic(auto, using(iocm_values::proofs::Reading::place_steps))]
-fn read_limits(alloc: Global, places: &[LimitPlace]) -> Result<Vec<Option<LimitEntry>>, Unread>
-    ensures { Reads (λ v. v.items) result (every_at meaning.limit_at 0 places.now) }
-{
-    let mut limits = Vec::new(alloc);
-    for (set, place) in places.iter().enumerate() {
-        limits.push(limit_at(set, *place).ok_or(Unread::Malformed)?)?;
-    }
-    Ok(limits)
-}
+    ghost in_set = { meaning.limit_in_set };
 
-#[tactic(auto, using(crate::proofs::Filtering::filter_maps))]
-fn limits_there(alloc: Global, limits: &[Option<LimitEntry>]) -> Result<Vec<LimitEntry>, AllocError>
-    ensures { IfOk result (λ found. found.items ≡ filter_map (λ l. l) limits.now) }
-{
-    let mut found = Vec::new(alloc);
-    for limit in limits {
-        match *limit {
-            Some(limit) => found.push(limit)?,
-            None => continue,
-        }
+    fn in_set(self, set: SetNo) -> Option<LimitEntry> {
+        let css = self.css;
+        self.limit.map(|limit| LimitEntry { css, set, limit })
     }
-    Ok(found)
-}
-
-// Of the places of a channel subsystem the first is that of set 0, and so on.
-fn limits_in(alloc: Global, places: &[LimitPlace], css: u8) -> Result<Vec<LimitEntry>, Unread>
-    ensures { Reads (λ v. v.items) result (meaning.limits_in places.now css) }
-{
-    let own = places_in(alloc, places, css)?;
-    let limits = read_limits(alloc, &own)?;
-    Ok(limits_there(alloc, &limits)?)
-}
-
-#[tactic(auto, using(iocm_values::proofs::Reading::gathered_steps))]
-fn limits_of_all(
-    alloc: Global,
-    places: &[LimitPlace],
-    subsystems: &[u8],
-) -> Result<Vec<LimitEntry>, Unread>
-    ensures { Reads (λ v. v.items) result (gathered (meaning.limits_in places.now) (map (λ css. css) subsystems.now)) }
-{
-    let mut found = Vec::new(alloc);
-    for css in subsystems {
-        let mut limits = limits_in(alloc, places, *css)?;
-        found.append(&mut limits)?;
-    }
-    Ok(found)
 }
 
 /// The limits of MAXDEV, a list by channel subsystem: decimal numbers for the subchannel sets 0 to
@@ -165,7 +100,5 @@ fn limits_of_all(
 pub fn limits_of(alloc: Global, value: Value) -> Result<Vec<LimitEntry>, Unread>
     ensures { Reads (λ v. v.items) result (meaning.limits_of (seen value.entry)) }
 {
-    let places: Vec<LimitPlace> = by_css(alloc, value)?;
-    let subsystems = [0, 1, 2, 3, 4, 5];
-    limits_of_all(alloc, &places, &subsystems)
+    by_set::<LimitPlace>(alloc, value)
 }

@@ -44,8 +44,8 @@ pub struct ImagePlace {
     pub name: Option<Name>,
 }
 
-// A MIF image ID, one digit 1 to F.
-fn mif_of(text: &[u8]) -> Option<Mif>
+/// A MIF image ID, one digit 1 to F.
+pub fn mif_of(text: &[u8]) -> Option<Mif>
     ensures { result ≡ meaning.mif_of text.now }
 {
     let mif = hex(15, 1, text)?;
@@ -121,7 +121,7 @@ fn image_at(place: ImagePlace) -> Option<ImageEntry>
     })
 }
 
-#[tactic(auto, using(crate::proofs::Filtering::filter_maps))]
+#[tactic(auto, using(iocm_values::proofs::Filtering::filter_maps))]
 fn images_at(alloc: Global, places: &[ImagePlace]) -> Result<Vec<ImageEntry>, AllocError>
     ensures { IfOk result (λ images. images.items ≡ filter_map meaning.image_at places.now) }
 {

@@ -19,7 +19,9 @@ pub struct Lists {
     pub candidates: List<Name>,
 }
 
-fn chpid_path(alloc: Global, operands: &Operands, malformed: Fault) -> Result<CssPath, Fault>
+/// The path of PATH, which is required. Answers `malformed` where it isn't there or has none of its
+/// forms, and M1 without memory.
+pub fn chpid_path(alloc: Global, operands: &Operands, malformed: Fault) -> Result<CssPath, Fault>
     ensures { Gives (λ p. p) result (meaning.chpid_path malformed operands.now) }
 {
     let text = operands.get(b"PATH").ok_or(malformed)?;
@@ -128,8 +130,8 @@ fn lists_of(
     }
 }
 
-// Puts a record for each name behind the others: the path is online to its image.
-fn add_online(
+/// Puts a record for each name behind the others: the path is online to its image.
+pub fn add_online(
     records: &mut Vec<Record>,
     css: Css,
     path: Chpid,

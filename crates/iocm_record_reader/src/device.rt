@@ -11,7 +11,13 @@ use iocm_types::{DevNo, Fault, List, Name, SetNo, UnitNo};
 use iocm_values::Value;
 use std::alloc::{AllocError, Global};
 
-fn statement_devices(alloc: Global, operands: &Operands, malformed: Fault) -> Result<Devices, Fault>
+/// The devices of ADDRESS, which is required. Answers `malformed` where it isn't there or has none
+/// of its forms, and M1 without memory.
+pub fn statement_devices(
+    alloc: Global,
+    operands: &Operands,
+    malformed: Fault,
+) -> Result<Devices, Fault>
     ensures value { Gives (λ d. d) result (meaning.statement_devices malformed operands.now) }
     ensures within { IfOk result (λ d. (d.first + d.count ≤ 65536) × (d.count ≤ 4096)) }
 {
@@ -42,7 +48,9 @@ fn device_address(operands: &Operands, count: u32, malformed: Fault) -> Result<O
     }
 }
 
-fn device_set(operands: &Operands, malformed: Fault) -> Result<SetNo, Fault>
+/// The subchannel set of SCHSET, or set 0 where it isn't there. Answers `malformed` where it is
+/// none.
+pub fn device_set(operands: &Operands, malformed: Fault) -> Result<SetNo, Fault>
     ensures { Gives (λ s. s) result (meaning.device_set malformed operands.now) }
 {
     match operands.get(b"SCHSET") {

@@ -2,8 +2,9 @@
 //!
 //! `from_statements` reads the statements of a configuration deck: it gives what `Deck.antt` in
 //! `specs/` says of them, or the first fault with its line. What a record is stands in
-//! `iocm_record`; the operands of each statement are read by `iocm_operands`. Begin with
-//! `specs/Deck.antt`, then `deck.rt`.
+//! `iocm_record`; the operands of each statement are read by `iocm_operands`. The other calls serve
+//! the statements of change decks: `read_statement`, one statement as a deck has it, and operands
+//! that they have too. Begin with `specs/Deck.antt`, then `deck.rt`.
 #![tactic(auto)]
 
 mod chpid;
@@ -15,4 +16,8 @@ mod resource;
 mod statements;
 mod unit;
 
-pub use deck::from_statements;
+pub use chpid::{add_online, chpid_path};
+pub use deck::{from_statements, read_statement};
+pub use device::{device_set, statement_devices};
+pub use progress::Progress;
+pub use unit::unit_number;

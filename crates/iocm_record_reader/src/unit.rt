@@ -11,7 +11,8 @@ use iocm_types::{CssLink, CssPath, Fault, List, UnitNo, UnitRange};
 use iocm_values::Value;
 use std::alloc::Global;
 
-fn unit_number(operands: &Operands, malformed: Fault) -> Result<UnitNo, Fault>
+/// The number of CUNUMBR, which is required. Answers `malformed` where it isn't there or isn't one.
+pub fn unit_number(operands: &Operands, malformed: Fault) -> Result<UnitNo, Fault>
     ensures { Gives (λ n. n) result (meaning.unit_number malformed operands.now) }
 {
     let text = operands.get(b"CUNUMBR").ok_or(malformed)?;

@@ -46,6 +46,10 @@ node_of (Tree-F.Choose ps) = choose (parts_from ps.items)
 abbrev pub tree_of : {A : Type 0} → Tree A → CarriedTree
 tree_of {A} = fold-Tree A CarriedTree node_of
 
+-- the same as the model's change tree
+abbrev pub plain : {A : Type 0} → Tree A → model.ChangeTree
+plain t = plain_tree (tree_of t)
+
 -- the trees that stand in memory as the parts of a node
 abbrev pub parts_of : {A : Type 0} → List (Tree A) → CarriedParts
 parts_of trees = parts_from (map tree_of trees)

@@ -14,7 +14,7 @@ mod nodes;
 mod reversal;
 
 use crate::Edit;
-use iocm_types::{At, Refused, Rule};
+use iocm_types::{Refused, Rule};
 use std::alloc::{AllocError, Allocator, Global};
 
 /// The most depth of a tree that isn't refused.
@@ -137,11 +137,7 @@ impl<A: Allocator> Tree<A> {
         } else {
             return None;
         };
-        Some(Refused {
-            rule,
-            node: None,
-            at: At::Nothing,
-        })
+        Some(Refused::of(rule))
     }
 }
 

@@ -5,8 +5,8 @@ use Rattle.iocm_model.specs.Change.Tree.{depth_of, depth_in, leaves_of, leaves_i
 use Rattle.iocm_tree.proofs.Trees.{tree-Row, tree-Group, tree-Choose}
 use Rattle.iocm_tree.specs.Trees.{CarriedTree, row, parts_from, plain_tree, plain_parts, tree_of}
 use Rattle.iocm_tree.specs.declared.tree.Tree.{Tree}
-use Rattle.iocm_tree_reader.specs.declared.kind.Kind.{Kind}
-use Rattle.iocm_tree_reader.specs.declared.kind.Kind.TheVariants.{Row, Group, Choose}
+use Rattle.iocm_tree_reader.specs.declared.kind.NodeKind.{NodeKind}
+use Rattle.iocm_tree_reader.specs.declared.kind.NodeKind.TheVariants.{Row, Group, Choose}
 use Rattle.iocm_tree_reader.specs.declared.size.Size.{Size}
 use Rattle.iocm_tree_reader.specs.Leaves.{whole}
 use Rattle.iocm_tree_reader.specs.Reading.{node_of_kind}
@@ -55,7 +55,7 @@ capped_more a = omega arith
 of_parts : (ts : List CarriedTree) → size_of (row (parts_from ts)) ≡ inside (size_among ts)
 of_parts ts = same_size _ _ _ _ (capped_more (depth_among ts)) (capped_one (leaves_among ts))
 
-pub size-node : (kind : Kind) (ts : List CarriedTree) → size_of (node_of_kind kind ts) ≡ inside (size_among ts)
+pub size-node : (kind : NodeKind) (ts : List CarriedTree) → size_of (node_of_kind kind ts) ≡ inside (size_among ts)
 size-node Row ts = of_parts ts
 size-node Group ts = of_parts ts
 size-node Choose ts = of_parts ts
@@ -74,7 +74,7 @@ counted_more xs ys t s a is counted one =
     ap (λ z. beside z a) counted ∙ ap (beside (size_among (map tree_of xs))) one
     ∙ sym (ap size_among (seen_more xs ys t is) ∙ among-more (map tree_of xs) (tree_of t))
 
-pub counted_node : {A : Type 0} (kind : Kind) (t : Tree A) (xs : List (Tree A)) (s : Size) → tree_of t ≡ node_of_kind kind (map tree_of xs)
+pub counted_node : {A : Type 0} (kind : NodeKind) (t : Tree A) (xs : List (Tree A)) (s : Size) → tree_of t ≡ node_of_kind kind (map tree_of xs)
     → s ≡ size_among (map tree_of xs) → inside s ≡ size_of (tree_of t)
 counted_node kind t xs s is counted = ap inside counted ∙ sym (ap size_of is ∙ size-node kind (map tree_of xs))
 

@@ -7,8 +7,8 @@ use Rattle.iocm_model.specs.Change.Tree.{depth_of, leaves_of}
 use Rattle.iocm_tree.specs.Carried.{Carried}
 use Rattle.iocm_tree.specs.Trees.{CarriedTree, leaf, plain_tree}
 use Rattle.iocm_tree_reader.proofs.Counting.{among-more, size-node, same_size, depth_among, leaves_among}
-use Rattle.iocm_tree_reader.specs.declared.kind.Kind.{Kind}
-use Rattle.iocm_tree_reader.specs.declared.kind.Kind.TheVariants.{Row, Group, Choose}
+use Rattle.iocm_tree_reader.specs.declared.kind.NodeKind.{NodeKind}
+use Rattle.iocm_tree_reader.specs.declared.kind.NodeKind.TheVariants.{Row, Group, Choose}
 use Rattle.iocm_tree_reader.specs.declared.size.Size.{Size}
 use Rattle.iocm_tree_reader.specs.Leaves.{comes_before, with_edit, in_key_order, node_of_edits, whole}
 use Rattle.iocm_tree_reader.specs.Reading.{OpenNode, Reading, node_of_kind, with_node, opened, closed_behind, tree_so_far, over_limit}
@@ -50,7 +50,7 @@ so_far-node t top (o ∷ os) =
     ap (λ ts. whole (top ++ fold closed_behind (node_of_kind o.kind ts ∷ []) os)) (append-nil (o.parts ++ t ∷ []))
     ∙ ap (λ ts. whole (top ++ ts)) (closed-one (node_of_kind o.kind (o.parts ++ t ∷ [])) os)
 
-so_far-opened : (kind : Kind) (line : ℕ) (r : Reading) → tree_so_far (opened kind line r) ≡ whole (r.top ++ nested (node_of_kind kind []) r.open_nodes ∷ [])
+so_far-opened : (kind : NodeKind) (line : ℕ) (r : Reading) → tree_so_far (opened kind line r) ≡ whole (r.top ++ nested (node_of_kind kind []) r.open_nodes ∷ [])
 so_far-opened kind line r = ap (λ ts. whole (r.top ++ ts)) (closed-one (node_of_kind kind []) r.open_nodes)
 
 if_some : {X : Type 0} (n : ℕ) (a b : X) → (if suc n == 0 then a else b) ≡ b
@@ -73,12 +73,12 @@ over_node t size top os is =
     ∙ over-size (whole (top ++ nested t os ∷ []))
     ∙ ap over_limit (sym (so_far-node t top os))
 
-empty-size : (kind : Kind) → size_of (node_of_kind kind []) ≡ size_of_empty
+empty-size : (kind : NodeKind) → size_of (node_of_kind kind []) ≡ size_of_empty
 empty-size Row = refl
 empty-size Group = refl
 empty-size Choose = refl
 
-pub over_opened : (kind : Kind) (line : ℕ) (top : List CarriedTree) (os : List OpenNode)
+pub over_opened : (kind : NodeKind) (line : ℕ) (top : List CarriedTree) (os : List OpenNode)
     → over (size_with size_of_empty top os) ≡ over_limit (tree_so_far (opened kind line (record { top = top; open_nodes = os })))
 over_opened kind line top os =
     ap (λ s. over (size_with s top os)) (sym (empty-size kind))

@@ -10,13 +10,13 @@ use Rattle.iocm_statements.specs.declared.operation.Operation.{Operation}
 use Rattle.iocm_statements.specs.declared.operation.Operation.TheVariants as operation
 use Rattle.iocm_statements.specs.declared.statement.Statement.{Statement}
 use Rattle.iocm_tree.specs.Trees.{CarriedTree, row, group, choose, parts_from, plain_tree}
-use Rattle.iocm_tree_reader.specs.declared.kind.Kind.{Kind}
-use Rattle.iocm_tree_reader.specs.declared.kind.Kind.TheVariants.{Row, Group, Choose}
+use Rattle.iocm_tree_reader.specs.declared.kind.NodeKind.{NodeKind}
+use Rattle.iocm_tree_reader.specs.declared.kind.NodeKind.TheVariants.{Row, Group, Choose}
 use Rattle.iocm_tree_reader.specs.Leaves.{edits_of, node_of_edits, whole}
 
 -- an open node: what it is, the line of its statement, and its parts so far
 pub record OpenNode : Type 0 where
-  pub kind : Kind
+  pub kind : NodeKind
   pub line : ℕ
   pub parts : List CarriedTree
 
@@ -27,7 +27,7 @@ pub record Reading : Type 0 where
   pub open_nodes : List OpenNode
 
 -- a node of these parts
-abbrev pub node_of_kind : Kind → List CarriedTree → CarriedTree
+abbrev pub node_of_kind : NodeKind → List CarriedTree → CarriedTree
 node_of_kind Row parts = row (parts_from parts)
 node_of_kind Group parts = group (parts_from parts)
 node_of_kind Choose parts = choose (parts_from parts)
@@ -38,7 +38,7 @@ with_node node top [] = record { top = top ++ node ∷ []; open_nodes = [] }
 with_node node top (o ∷ os) = record { top = top; open_nodes = record o { parts = o.parts ++ node ∷ [] } ∷ os }
 
 -- a node is opened
-abbrev pub opened : Kind → ℕ → Reading → Reading
+abbrev pub opened : NodeKind → ℕ → Reading → Reading
 opened kind line r = record { top = r.top; open_nodes = record { kind = kind; line = line; parts = [] } ∷ r.open_nodes }
 
 -- the innermost open node is closed, if one is open

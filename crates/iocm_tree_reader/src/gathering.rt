@@ -5,7 +5,7 @@ ghost use Rattle.iocm_tree_reader.specs.Reading as meaning;
 ghost use Rattle.iocm_tree_reader.specs.Views.{node_seen, nodes_seen};
 
 use crate::size::{beside, inside, size_of_empty, size_of_none};
-use crate::{Kind, Node, Nodes};
+use crate::{Node, NodeKind, Nodes};
 use iocm_tree::{Edit, Tree};
 use std::alloc::{AllocError, Allocator};
 
@@ -34,19 +34,19 @@ pub fn with_node<A: Allocator>(nodes: Nodes<A>, node: Node<A>) -> Result<Nodes<A
 }
 
 #[tactic(auto, using(crate::proofs::Counting::tree_steps))]
-fn tree_of_kind<A: Allocator>(kind: Kind, trees: Vec<Tree<A>, A>) -> Tree<A>
+fn tree_of_kind<A: Allocator>(kind: NodeKind, trees: Vec<Tree<A>, A>) -> Tree<A>
     ensures { tree_of result ≡ meaning.node_of_kind kind (map tree_of trees.items) }
 {
     match kind {
-        Kind::Row => Tree::Row(trees),
-        Kind::Group => Tree::Group(trees),
-        Kind::Choose => Tree::Choose(trees),
+        NodeKind::Row => Tree::Row(trees),
+        NodeKind::Group => Tree::Group(trees),
+        NodeKind::Choose => Tree::Choose(trees),
     }
 }
 
 /// A node of these parts. Can't answer want of memory.
 #[tactic(auto, using(crate::proofs::Counting::counting_steps))]
-pub fn node_of_kind<A: Allocator>(kind: Kind, parts: Nodes<A>) -> Node<A>
+pub fn node_of_kind<A: Allocator>(kind: NodeKind, parts: Nodes<A>) -> Node<A>
     ensures { node_seen result ≡ meaning.node_of_kind kind (nodes_seen parts) }
 {
     let Nodes { trees, size } = parts;
@@ -64,7 +64,7 @@ pub fn whole<A: Allocator>(nodes: Nodes<A>) -> Node<A>
     let Nodes { mut trees, size } = nodes;
     if trees.len() != 1 {
         return Node {
-            tree: tree_of_kind(Kind::Row, trees),
+            tree: tree_of_kind(NodeKind::Row, trees),
             size: inside(size),
         };
     }

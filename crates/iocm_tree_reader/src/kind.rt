@@ -1,6 +1,6 @@
 /// What a node is that a statement opens. The words are own.
 #[derive(Clone, Copy, Debug, PartialEq, Eq)]
-pub enum Kind {
+pub enum NodeKind {
     /// The parts are performed in order, all or none.
     Row,
     /// A Row after which the rules hold.

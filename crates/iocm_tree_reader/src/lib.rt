@@ -23,7 +23,7 @@ mod size;
 mod stack;
 
 pub use examples::worked_decks_are_read;
-pub use kind::Kind;
+pub use kind::NodeKind;
 pub use node::Node;
 pub use nodes::Nodes;
 pub use read::read_tree;

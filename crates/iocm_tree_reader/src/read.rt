@@ -9,7 +9,7 @@ use crate::gathering::{leaves_of, node_of_kind, whole};
 use crate::leaves::edits_of;
 use crate::order::in_key_order;
 use crate::stack::{nothing_read, open_node, over_giving, over_opening, over_putting, put_node};
-use crate::{Kind, Node, OpenNode, Reading};
+use crate::{Node, NodeKind, OpenNode, Reading};
 use iocm_statements::{Operation, Statement};
 use iocm_tree::{Edit, Tree};
 use iocm_types::{Fault, Rule};
@@ -19,7 +19,7 @@ use std::alloc::{AllocError, Allocator, Global};
 fn open_within<A: Allocator + Copy>(
     alloc: A,
     reading: Reading<A>,
-    kind: Kind,
+    kind: NodeKind,
     line: usize,
 ) -> Result<Reading<A>, Fault>
     ensures { Gives seen result (meaning.within_limits line (meaning.opened kind line (seen reading))) }
@@ -120,9 +120,9 @@ fn read_next<A: Allocator + Copy>(
 {
     let line = statement.line;
     match statement.operation {
-        Operation::Row => open_within(alloc, reading, Kind::Row, line),
-        Operation::Group => open_within(alloc, reading, Kind::Group, line),
-        Operation::Choose => open_within(alloc, reading, Kind::Choose, line),
+        Operation::Row => open_within(alloc, reading, NodeKind::Row, line),
+        Operation::Group => open_within(alloc, reading, NodeKind::Group, line),
+        Operation::Choose => open_within(alloc, reading, NodeKind::Choose, line),
         Operation::End => close_within(reading, line),
         Operation::Id => edits_within(global, alloc, reading, statement),
         Operation::Resource => edits_within(global, alloc, reading, statement),

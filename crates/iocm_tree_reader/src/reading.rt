@@ -1,11 +1,11 @@
-use crate::{Kind, Nodes};
+use crate::{NodeKind, Nodes};
 use std::alloc::{Allocator, Global};
 
 /// An open node: its statement has come, and its END hasn't.
 #[derive(Drop)]
 pub struct OpenNode<A: Allocator = Global> {
     /// What it is.
-    pub kind: Kind,
+    pub kind: NodeKind,
     /// The line of its statement.
     pub line: usize,
     /// Its parts so far.

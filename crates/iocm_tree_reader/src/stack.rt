@@ -7,7 +7,7 @@ ghost use Rattle.iocm_tree_reader.specs.Views.{node_seen, nodes_seen, open_seen,
 
 use crate::gathering::{no_nodes, node_of_kind, with_node};
 use crate::size::{beside, inside, over, size_of_edits, size_of_empty};
-use crate::{Kind, Node, OpenNode, Reading, Size};
+use crate::{Node, NodeKind, OpenNode, Reading, Size};
 use iocm_tree::Edit;
 use iocm_types::Rule;
 use std::alloc::{AllocError, Allocator};
@@ -70,7 +70,7 @@ fn over_with<A: Allocator>(reading: &Reading<A>, size: Size) -> Option<Rule>
 }
 
 /// The limit that the tree so far is over, if it is over one, where a node is opened.
-pub fn over_opening<A: Allocator>(reading: &Reading<A>, kind: Kind, line: usize) -> Option<Rule>
+pub fn over_opening<A: Allocator>(reading: &Reading<A>, kind: NodeKind, line: usize) -> Option<Rule>
     ensures { result ≡ meaning.over_limit (meaning.tree_so_far (meaning.opened kind line (seen reading.now))) }
 {
     let _node = (kind, line);
@@ -121,7 +121,7 @@ pub fn put_node<A: Allocator>(reading: Reading<A>, node: Node<A>) -> Result<Read
 pub fn open_node<A: Allocator + Copy>(
     alloc: A,
     reading: Reading<A>,
-    kind: Kind,
+    kind: NodeKind,
     line: usize,
 ) -> Result<Reading<A>, AllocError>
     ensures { IfOk result (λ after. seen after ≡ meaning.opened kind line (seen reading)) }

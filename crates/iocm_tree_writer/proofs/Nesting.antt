@@ -8,8 +8,8 @@ use Rattle.iocm_statements.specs.declared.operation.Operation.TheVariants as ope
 use Rattle.iocm_statements.specs.declared.statement.Statement.{Statement}
 use Rattle.iocm_tree.specs.Carried.{Carried}
 use Rattle.iocm_tree.specs.Trees.{CarriedTree, CarriedParts, leaf, row, group, choose, none, part, parts_from, plain_parts, plain_tree}
-use Rattle.iocm_tree_reader.specs.declared.kind.Kind.{Kind}
-use Rattle.iocm_tree_reader.specs.declared.kind.Kind.TheVariants.{Row, Group, Choose}
+use Rattle.iocm_tree_reader.specs.declared.kind.NodeKind.{NodeKind}
+use Rattle.iocm_tree_reader.specs.declared.kind.NodeKind.TheVariants.{Row, Group, Choose}
 use Rattle.iocm_tree_reader.specs.Leaves.{edits_of, node_of_edits}
 use Rattle.iocm_tree_reader.specs.Reading.{OpenNode, Reading, node_of_kind, with_node, opened, tree_so_far, over_limit, unless_over, limited, read_next, read_from, done_by, with_edits}
 use Rattle.iocm_tree_reader.specs.Sizes.{size_of, size_among, beside, inside, size_of_empty}
@@ -26,7 +26,7 @@ use Rattle.iocm_tree_writer.proofs.Stated.{IsOfRecords, line_is_of_records}
 abbrev reading : List CarriedTree → List OpenNode → Reading
 reading top os = record { top = top; open_nodes = os }
 
-abbrev open_node : Kind → ℕ → List CarriedTree → OpenNode
+abbrev open_node : NodeKind → ℕ → List CarriedTree → OpenNode
 open_node kind line parts = record { kind = kind; line = line; parts = parts }
 
 -- ---- a statement within the limits
@@ -51,12 +51,12 @@ edits_done operation.Choose s r is = absurd is
 edits_done operation.End s r is = absurd is
 
 -- an operation that opens a node
-abbrev opening : Kind → Operation
+abbrev opening : NodeKind → Operation
 opening Row = operation.Row
 opening Group = operation.Group
 opening Choose = operation.Choose
 
-opens : (kind : Kind) (s : Statement) (r : Reading) → done_by (opening kind) s r ≡ Ok (opened kind s.line r)
+opens : (kind : NodeKind) (s : Statement) (r : Reading) → done_by (opening kind) s r ≡ Ok (opened kind s.line r)
 opens Row s r = refl
 opens Group s r = refl
 opens Choose s r = refl
@@ -78,20 +78,20 @@ leaf_is_put leaf_again c is top os within = puts_one (action_line c.edit.action)
 
 -- ---- nodes
 
-opening_is_read : (kind : Kind) (line : ℕ) (top : List CarriedTree) (os : List OpenNode) → IsWithin size_of_empty top os
+opening_is_read : (kind : NodeKind) (line : ℕ) (top : List CarriedTree) (os : List OpenNode) → IsWithin size_of_empty top os
     → read_next (reading top os) (as_read line (word_line (opening kind))) ≡ Ok (opened kind line (reading top os))
 opening_is_read kind line top os within =
     goes_in line (opened kind line (reading top os)) _ (opens kind (as_read line (word_line (opening kind))) (reading top os))
     (sym (over_opened kind line top os) ∙ within)
 
-end_is_put : (kind : Kind) (line : ℕ) (parts top : List CarriedTree) (os : List OpenNode) → IsWithin (size_of (node_of_kind kind parts)) top os
+end_is_put : (kind : NodeKind) (line : ℕ) (parts top : List CarriedTree) (os : List OpenNode) → IsWithin (size_of (node_of_kind kind parts)) top os
     → Puts (word_line operation.End ∷ []) (reading top (open_node kind line parts ∷ os)) (with_node (node_of_kind kind parts) top os)
 end_is_put kind line parts top os within =
     puts_one (word_line operation.End) (reading top (open_node kind line parts ∷ os)) (with_node (node_of_kind kind parts) top os)
     (λ n. goes_in n (with_node (node_of_kind kind parts) top os) (Ok (with_node (node_of_kind kind parts) top os)) refl (node_within (node_of_kind kind parts) top os within))
 
 -- lines between an operation and its END
-enclosed_are_put : (kind : Kind) (lines : List Line) (parts top : List CarriedTree) (os : List OpenNode)
+enclosed_are_put : (kind : NodeKind) (lines : List Line) (parts top : List CarriedTree) (os : List OpenNode)
     → IsWithin (size_of (node_of_kind kind parts)) top os
     → ((line : ℕ) → Puts lines (reading top (open_node kind line [] ∷ os)) (reading top (open_node kind line parts ∷ os)))
     → Puts (enclosed (opening kind) lines) (reading top os) (with_node (node_of_kind kind parts) top os)
@@ -117,7 +117,7 @@ parts_again none = refl
 parts_again (part p ps) = ap (part p) (parts_again ps)
 
 -- a part that goes into an open node is within the limits where the node with it is
-part_within : (kind : Kind) (line : ℕ) (before : List CarriedTree) (p : CarriedTree) (top : List CarriedTree) (os : List OpenNode)
+part_within : (kind : NodeKind) (line : ℕ) (before : List CarriedTree) (p : CarriedTree) (top : List CarriedTree) (os : List OpenNode)
     → IsWithin (size_of (node_of_kind kind (before ++ p ∷ []))) top os → IsWithin (size_of p) top (open_node kind line before ∷ os)
 part_within kind line before p top os within =
     let same : size_of (node_of_kind kind (before ++ p ∷ [])) ≡ inside (beside (size_among before) (size_of p)) =
@@ -125,13 +125,13 @@ part_within kind line before p top os within =
     subst (λ size. IsWithin size top os) same within
 
 -- the same with further parts behind it
-next_within : (kind : Kind) (before : List CarriedTree) (p : CarriedTree) (others top : List CarriedTree) (os : List OpenNode)
+next_within : (kind : NodeKind) (before : List CarriedTree) (p : CarriedTree) (others top : List CarriedTree) (os : List OpenNode)
     → IsWithin (size_of (node_of_kind kind (before ++ p ∷ others))) top os → IsWithin (size_of (node_of_kind kind ((before ++ p ∷ []) ++ others))) top os
 next_within kind before p others top os within =
     subst (λ parts. IsWithin (size_of (node_of_kind kind parts)) top os) (sym (append_assoc before (p ∷ []) others)) within
 
 -- lines between an operation and its END are put as the node of the parts
-closed_are_put : (kind : Kind) (t : CarriedTree) (ps : CarriedParts) → node_of_kind kind (trees_in ps) ≡ t → (top : List CarriedTree) (os : List OpenNode)
+closed_are_put : (kind : NodeKind) (t : CarriedTree) (ps : CarriedParts) → node_of_kind kind (trees_in ps) ≡ t → (top : List CarriedTree) (os : List OpenNode)
     → IsWithin (size_of t) top os
     → (IsWithin (size_of (node_of_kind kind (trees_in ps))) top os
     → (line : ℕ) → Puts (lines_in (plain_parts ps)) (reading top (open_node kind line [] ∷ os)) (reading top (open_node kind line (trees_in ps) ∷ os)))
@@ -152,7 +152,7 @@ mutual
   tree_is_put leaf_again (choose ps) is top os within =
       closed_are_put Choose (choose ps) ps (ap choose (parts_again ps)) top os within (λ here line. parts_are_put leaf_again ps is Choose line [] top os here)
 
-  parts_are_put : ReadsLeafAgain → (ps : CarriedParts) → AreGivenParts ps → (kind : Kind) (line : ℕ) (before top : List CarriedTree) (os : List OpenNode)
+  parts_are_put : ReadsLeafAgain → (ps : CarriedParts) → AreGivenParts ps → (kind : NodeKind) (line : ℕ) (before top : List CarriedTree) (os : List OpenNode)
       → IsWithin (size_of (node_of_kind kind (before ++ trees_in ps))) top os
       → Puts (lines_in (plain_parts ps)) (reading top (open_node kind line before ∷ os)) (reading top (open_node kind line (before ++ trees_in ps) ∷ os))
   parts_are_put leaf_again none are kind line before top os within =

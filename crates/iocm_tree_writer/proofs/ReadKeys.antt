@@ -37,12 +37,13 @@ use Rattle.iocm_record_reader.specs.DeviceRecords.{statement_devices, device_set
 use Rattle.iocm_record_reader.specs.UnitRecords.{unit_number}
 use Rattle.iocm_record_reader.specs.Values.{optional}
 use Rattle.iocm_tree.specs.declared.verb.Verb.TheVariants.{Delete}
+use Rattle.iocm_values.specs.SetPlaces.{place_at, set_places_in}
 use Rattle.iocm_change_records.specs.declared.image_keys.ImageKey.{ImageKey}
 use Rattle.iocm_change_records.specs.declared.limit_keys.LimitSeat.{LimitSeat}
 use Rattle.iocm_change_records.specs.declared.pairs.Pairs.{Pairs}
 use Rattle.iocm_change_records.specs.Keys.{device_keys, pair_keys, keys_given, key_fault, keys_unless, keys_by}
 use Rattle.iocm_change_records.specs.Pairs.{names_listed, pairs_of}
-use Rattle.iocm_change_records.specs.ResourceKeys.{is_empty, image_key, image_key_listed, image_keys, key_of_image, limit_key_at, limit_keys_in, limit_keys, resource_keys, resource_keys_by}
+use Rattle.iocm_change_records.specs.ResourceKeys.{is_empty, image_key, image_key_listed, image_keys, key_of_image, limit_key_in, limit_keys, resource_keys, resource_keys_by}
 use Rattle.iocm_round_trip.proofs.Fields.{required_gives, optional_gives}
 use Rattle.iocm_tree_writer.specs.Given.{IsGivenKey, IsImagePlace}
 
@@ -143,6 +144,14 @@ keys_kept [] are = All-nil IsGivenKey
 keys_kept (None ∷ all) are = keys_kept all (All-tail IsKeyIfAny None all are)
 keys_kept (Some k ∷ all) are =
     All-cons IsGivenKey k (filter_map (λ x. x) all) (All-head IsKeyIfAny (Some k) all are k refl) (keys_kept all (All-tail IsKeyIfAny (Some k) all are))
+
+-- the key of the place of a set, 0 to 3
+abbrev limit_key_at : ℕ → LimitSeat → Option (Option Key)
+limit_key_at set p = place_at limit_key_in set p
+
+-- the keys of the places of a channel subsystem
+abbrev limit_keys_in : List LimitSeat → ℕ → Option (List Key)
+limit_keys_in places css = set_places_in limit_key_in (λ (p : LimitSeat). p.css) places css
 
 place_is_key : (set : ℕ) (p : LimitSeat) (found : Option Key) → p.css < 6 → limit_key_at set p ≡ Some found → IsKeyIfAny found
 place_is_key set p found small e =

@@ -17,8 +17,8 @@ use Rattle.iocm_tree.specs.Carried.{Carried, bare}
 use Rattle.iocm_tree.specs.Trees.{CarriedTree, leaf, parts_from, plain_tree}
 use Rattle.iocm_tree.specs.declared.verb.Verb.{Verb}
 use Rattle.iocm_tree.specs.declared.verb.Verb.TheVariants.{Add, Delete, Modify}
-use Rattle.iocm_tree_reader.specs.declared.kind.Kind.{Kind}
-use Rattle.iocm_tree_reader.specs.declared.kind.Kind.TheVariants.{Row, Group, Choose}
+use Rattle.iocm_tree_reader.specs.declared.kind.NodeKind.{NodeKind}
+use Rattle.iocm_tree_reader.specs.declared.kind.NodeKind.TheVariants.{Row, Group, Choose}
 use Rattle.iocm_tree_reader.specs.Leaves.{edits_of, edits_by, comes_before, with_edit, in_key_order, whole, node_of_edits}
 use Rattle.iocm_tree_reader.specs.Reading.{OpenNode, Reading, node_of_kind, with_node, opened, ended, with_edits, done_by, tree_so_far, over_limit, unless_over, within_limits, read_next, finished, read_from, read_tree, nothing_read}
 use Rattle.iocm_change_records.specs.Keys.{keys_of, keys_by}
@@ -73,7 +73,7 @@ whole_given [] are = tt
 whole_given (t ∷ []) are = All-head IsGivenTree t [] are
 whole_given (t ∷ u ∷ ts) are = parts_given (t ∷ u ∷ ts) are
 
-kind_given : (kind : Kind) (ts : List CarriedTree) → All IsGivenTree ts → IsGivenTree (node_of_kind kind ts)
+kind_given : (kind : NodeKind) (ts : List CarriedTree) → All IsGivenTree ts → IsGivenTree (node_of_kind kind ts)
 kind_given Row ts are = parts_given ts are
 kind_given Group ts are = parts_given ts are
 kind_given Choose ts are = parts_given ts are
@@ -102,7 +102,7 @@ node_given t top (o ∷ os) is first second = record {
       (one_more o.parts t (All-head HasGivenParts o os second) is) (All-tail HasGivenParts o os second);
 }
 
-opened_given : (kind : Kind) (line : ℕ) (r : Reading) → HasGiven r → HasGiven (opened kind line r)
+opened_given : (kind : NodeKind) (line : ℕ) (r : Reading) → HasGiven r → HasGiven (opened kind line r)
 opened_given kind line r has = record {
   top = has.top;
   open_nodes = All-cons HasGivenParts (record { kind = kind; line = line; parts = [] }) r.open_nodes (All-nil IsGivenTree) has.open_nodes;

@@ -5,7 +5,7 @@ use Rattle.std.proofs.lemmas.Bool.Decides.{nat_tests}
 use Rattle.iocm_types.specs.declared.rule.Rule.TheVariants.{C1, C2}
 use Rattle.iocm_model.specs.Change.Tree.{or_one}
 use Rattle.iocm_tree.specs.Trees.{CarriedTree}
-use Rattle.iocm_tree_reader.specs.declared.kind.Kind.{Kind}
+use Rattle.iocm_tree_reader.specs.declared.kind.NodeKind.{NodeKind}
 use Rattle.iocm_tree_reader.specs.declared.size.Size.{Size}
 use Rattle.iocm_tree_reader.specs.Reading.{OpenNode, node_of_kind}
 use Rattle.iocm_tree_reader.specs.Sizes.{size_of, size_among, beside, inside, around, size_with, over, size_of_empty}
@@ -95,7 +95,7 @@ among_front xs ys =
     record { depth = omega arith; leaves = omega arith }
 
 -- a node of the first parts
-pub front_no_more : (kind : Kind) (xs ys : List CarriedTree) → IsNoMore (size_of (node_of_kind kind xs)) (size_of (node_of_kind kind (xs ++ ys)))
+pub front_no_more : (kind : NodeKind) (xs ys : List CarriedTree) → IsNoMore (size_of (node_of_kind kind xs)) (size_of (node_of_kind kind (xs ++ ys)))
 front_no_more kind xs ys =
     rw (size-node kind xs, size-node kind (xs ++ ys)) (inside_no_more (size_among xs) (size_among (xs ++ ys)) (among_front xs ys))
 
@@ -103,5 +103,5 @@ empty_no_more : (s : Size) → IsNoMore size_of_empty (inside s)
 empty_no_more s = record { depth = omega arith; leaves = one_no_more 0 s.leaves (omega arith) }
 
 -- a node without parts
-pub none_no_more : (kind : Kind) (xs : List CarriedTree) → IsNoMore size_of_empty (size_of (node_of_kind kind xs))
+pub none_no_more : (kind : NodeKind) (xs : List CarriedTree) → IsNoMore size_of_empty (size_of (node_of_kind kind xs))
 none_no_more kind xs = rw (size-node kind xs) (empty_no_more (size_among xs))

@@ -5,6 +5,7 @@ pub mod Found
 pub mod Giving
 pub mod Lists
 pub mod Mapped
+pub mod Once
 pub mod Orderings
 pub mod Padding
 pub mod Parts

@@ -1,3 +1,5 @@
+ghost use Rattle.std.specs.Prelude.{◌≡◌};
+
 use crate::{Key, Rule, SubId};
 
 /// What a refusal is about. Own.
@@ -30,4 +32,32 @@ impl Refused {
         node: None,
         at: At::Nothing,
     };
+
+    /// A refusal of the whole, about nothing that could be named.
+    pub fn of(rule: Rule) -> Self
+        ensures { result ≡ record { rule = rule; node = None; at = At.Nothing } }
+    {
+        Refused::about(rule, At::Nothing)
+    }
+
+    /// A refusal that names no node.
+    pub fn about(rule: Rule, at: At) -> Self
+        ensures { result ≡ record { rule = rule; node = None; at = at } }
+    {
+        Refused {
+            rule,
+            node: None,
+            at,
+        }
+    }
+
+    /// The same refusal, with the node of the change tree where it came.
+    pub fn at_node(self, node: u64) -> Self
+        ensures { result ≡ record self { node = Some node } }
+    {
+        Refused {
+            node: Some(node),
+            ..self
+        }
+    }
 }

@@ -4,7 +4,7 @@ ghost use Rattle.iocm_types.specs.declared.unit_range.UnitRange as range;
 ghost use Rattle.iocm_model.specs.Rules.EachRule as model;
 
 use iocm_config::Config;
-use iocm_lookup::{Kind, Wanted};
+use iocm_lookup::{RecordKind, Wanted};
 use iocm_record::{Record, RecordBody};
 use iocm_types::UnitRange;
 use std::alloc::Allocator;
@@ -28,8 +28,8 @@ impl<A: Allocator> Wanted<A> for WrongRanges {
     ghost of_kind = { λ s c. only_units (breaks_v7 c)
         (λ _. refl) (λ _. refl) (λ _. refl) (λ _. refl) (λ _. refl) (λ _. refl) (λ _. refl) };
 
-    fn kind(&self) -> Kind {
-        Kind::Unit
+    fn kind(&self) -> RecordKind {
+        RecordKind::Unit
     }
 
     fn is_wanted(&self, _config: &Config<A>, entry: &Record<A>) -> bool {

@@ -13,7 +13,7 @@ use crate::links::shares_link;
 use crate::ranges::overlaps_any;
 use iocm_config::Config;
 use iocm_index::Index;
-use iocm_lookup::{Kind, Wanted};
+use iocm_lookup::{RecordKind, Wanted};
 use iocm_record::{Record, RecordBody, UnitFields};
 use iocm_types::{CssPath, Key, Named, UnitRange};
 use std::alloc::Allocator;
@@ -42,8 +42,8 @@ impl<'a, A: Allocator, I: Allocator> Wanted<A> for SharedAddress<'a, I> {
     ghost of_kind = { λ s c. only_units (breaks_v14 c)
         (λ _. refl) (λ _. refl) (λ _. refl) (λ _. refl) (λ _. refl) (λ _. refl) (λ _. refl) };
 
-    fn kind(&self) -> Kind {
-        Kind::Unit
+    fn kind(&self) -> RecordKind {
+        RecordKind::Unit
     }
 
     fn is_wanted(&self, config: &Config<A>, entry: &Record<A>) -> bool {

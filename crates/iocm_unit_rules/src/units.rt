@@ -13,7 +13,7 @@ ghost use Rattle.iocm_unit_rules.specs.Links as unit_links;
 
 use crate::path_lists::{count_in, has_path_twice};
 use iocm_config::Config;
-use iocm_lookup::{Kind, Wanted, subsystems};
+use iocm_lookup::{RecordKind, Wanted, subsystems};
 use iocm_record::{Record, RecordBody, UnitFields};
 use iocm_types::{Css, CssLink, CssPath, Key};
 use std::alloc::Allocator;
@@ -37,8 +37,8 @@ impl<A: Allocator> Wanted<A> for WrongPaths {
     ghost of_kind = { λ s c. only_units (breaks_v5 c)
         (λ _. refl) (λ _. refl) (λ _. refl) (λ _. refl) (λ _. refl) (λ _. refl) (λ _. refl) };
 
-    fn kind(&self) -> Kind {
-        Kind::Unit
+    fn kind(&self) -> RecordKind {
+        RecordKind::Unit
     }
 
     fn is_wanted(&self, config: &Config<A>, entry: &Record<A>) -> bool {
@@ -121,8 +121,8 @@ impl<A: Allocator> Wanted<A> for WrongLinks {
     ghost of_kind = { λ s c. only_units (breaks_v6 c)
         (λ _. refl) (λ _. refl) (λ _. refl) (λ _. refl) (λ _. refl) (λ _. refl) (λ _. refl) };
 
-    fn kind(&self) -> Kind {
-        Kind::Unit
+    fn kind(&self) -> RecordKind {
+        RecordKind::Unit
     }
 
     fn is_wanted(&self, _config: &Config<A>, entry: &Record<A>) -> bool {

@@ -1,3 +1,4 @@
+pub mod Filtering
 pub mod Joined
 pub mod Levels
 pub mod Looking

@@ -3,6 +3,7 @@ pub mod Digits
 pub mod NameSet
 pub mod Numbers
 pub mod Reading
+pub mod SetPlaces
 pub mod Texts
 pub mod Value
 pub mod Words

@@ -187,6 +187,15 @@ fn add_css<T: CssItem>(items: &[T], css: u8, found: &mut Vec<T>) -> Result<(), A
     Ok(())
 }
 
+/// The items of one channel subsystem, in their order.
+pub fn in_css<T: CssItem>(alloc: Global, items: &[T], css: u8) -> Result<Vec<T>, AllocError>
+    ensures { IfOk result (λ found. found.items ≡ filter (λ x. T.subsystem x == css) items.now) }
+{
+    let mut found = Vec::new(alloc);
+    add_css(items, css, &mut found)?;
+    Ok(found)
+}
+
 // The items with channel subsystems ascending, and each one's in their order.
 fn in_css_order<T: CssItem>(alloc: Global, items: &[T]) -> Result<Vec<T>, AllocError>
     ensures { IfOk result (λ found. found.items ≡ meaning.in_css_order T.subsystem items.now) }

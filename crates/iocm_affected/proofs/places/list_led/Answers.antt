@@ -9,7 +9,7 @@ use Rattle.iocm_table.specs.Slots.{Stored}
 use Rattle.iocm_model.specs.Machine.Numbering.{subsystems}
 use Rattle.iocm_model.specs.Machine.Record.{Rec}
 use Rattle.iocm_affected.specs.Listing.{places_on_unit, places_of_path, led_places}
-use Rattle.iocm_affected.proofs.Distinct.{same_lists}
+use Rattle.iocm_affected.proofs.SameKeys.{same_lists}
 use Rattle.iocm_affected.proofs.places.list_led.Goals as goal
 
 module _ (t : Stored Naming (Unit {0})) (k : Key) (before after : Option Rec) where

@@ -2,7 +2,7 @@
 use Rattle.std.proofs.Common.{◌≡◌, [], ◌∷◌, ◌++◌, ap, ◌∙◌}
 use Rattle.std.proofs.lemmas.Result.{on_ok_weaker}
 use Rattle.iocm_affected.specs.Listing.{places_on_unit, places_on_units, users_of_name, places_of_name}
-use Rattle.iocm_affected.proofs.Distinct.{same_parts, same_behind, same_lists}
+use Rattle.iocm_affected.proofs.SameKeys.{same_parts, same_behind, same_lists}
 use Rattle.iocm_affected.proofs.places.list_of_name.Goals as goal
 
 pub returns : goal.returns

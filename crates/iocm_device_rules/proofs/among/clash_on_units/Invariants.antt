@@ -3,7 +3,8 @@ use Rattle.std.proofs.Common.{◌≡◌, None, drop}
 use Rattle.iocm_types.specs.Naming.{naming_cmp}
 use Rattle.iocm_table.specs.Slots.{rows}
 use Rattle.iocm_model.specs.Machine.Configuration.{lookup_of}
-use Rattle.iocm_device_rules.specs.Addresses.{clash_on, least_of}
+use Rattle.iocm_lookup.specs.Among.{least_of}
+use Rattle.iocm_device_rules.specs.Addresses.{clash_on}
 use Rattle.iocm_device_rules.proofs.among.clash_on_units.Given as goal
 
 abbrev pub invariant-loop-unit : goal.invariant-loop-unit

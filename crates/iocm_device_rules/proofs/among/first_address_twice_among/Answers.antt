@@ -1,5 +1,5 @@
 use Rattle.std.proofs.Common.{◌∙◌}
-use Rattle.iocm_device_rules.proofs.LeastAmong.{least_clash_is_first}
+use Rattle.iocm_device_rules.proofs.ClashesAmong.{least_clash_is_first}
 use Rattle.iocm_device_rules.proofs.among.first_address_twice_among.Goals as goal
 
 pub returns : goal.returns

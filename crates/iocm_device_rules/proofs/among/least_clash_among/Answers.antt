@@ -3,8 +3,9 @@ use Rattle.std.proofs.Common.{◌≡◌, ◌+◌, drop, sym, ap, ◌∙◌}
 use Rattle.iocm_types.specs.Naming.{naming_cmp}
 use Rattle.iocm_table.specs.Slots.{rows}
 use Rattle.iocm_model.specs.Machine.Configuration.{lookup_of}
-use Rattle.iocm_device_rules.specs.Addresses.{clash_at, lesser, least_of}
-use Rattle.iocm_device_rules.proofs.Leasts.{least_goes_on, lesser_again}
+use Rattle.iocm_lookup.specs.Among.{lesser, least_of}
+use Rattle.iocm_lookup.proofs.Leasts.{least_goes_on, lesser_again}
+use Rattle.iocm_device_rules.specs.Addresses.{clash_at}
 use Rattle.iocm_device_rules.proofs.among.least_clash_among.Goals as goal
 
 pub loop-key-preserved : goal.loop-key-preserved

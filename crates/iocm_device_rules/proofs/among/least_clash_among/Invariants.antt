@@ -5,7 +5,8 @@ use Rattle.std.specs.Option.{ForSome}
 use Rattle.iocm_types.specs.Naming.{naming_cmp}
 use Rattle.iocm_table.specs.Slots.{rows}
 use Rattle.iocm_model.specs.Machine.Configuration.{lookup_of}
-use Rattle.iocm_device_rules.specs.Addresses.{clash_at, lesser, least_of}
+use Rattle.iocm_lookup.specs.Among.{lesser, least_of}
+use Rattle.iocm_device_rules.specs.Addresses.{clash_at}
 use Rattle.iocm_device_rules.proofs.among.least_clash_among.Given as goal
 
 abbrev pub invariant-loop-key : goal.invariant-loop-key

@@ -1,9 +1,12 @@
-use Rattle.iocm_index.proofs.Sorting.{in_order, same_ones}
+-- Namings that were sorted first by what is named are the same.
+use Rattle.std.proofs.Common.{sym, ◌∙◌}
+use Rattle.std.specs.Ordering.{eq_by_cmp}
+use Rattle.std.proofs.lemmas.List.Sorted.{list_any-IsPermutation}
+use Rattle.std.proofs.lemmas.Result.{IfOk-weaker}
+use Rattle.iocm_types.specs.Naming.{naming_cmp}
 use Rattle.iocm_index.proofs.build.sort_apart.Goals as goal
 
-pub returns-clause-order : goal.returns-clause-order
-returns-clause-order g c = in_order c.sort.new.self.items c.dedup.new.self.items c.dedup.ensures.filtered c.in_ok-sort.ensures.sorted
-
 pub returns-clause-same : goal.returns-clause-same
-returns-clause-same g c = same_ones c.args.namings.items c.sort_by.new.self.items c.sort.new.self.items c.dedup.new.self.items
-    c.sort_by.ensures.permutation c.sort.ensures.permutation c.dedup.ensures.filtered
+returns-clause-same g c = IfOk-weaker c.sorted_once.result _ _
+    (λ once same n. same n ∙ sym (list_any-IsPermutation (eq_by_cmp naming_cmp n) c.args.namings.items c.sort_by.new.self.items c.sort_by.ensures.permutation))
+    c.sorted_once.ensures.same

@@ -1,5 +1,5 @@
 use Rattle.std.proofs.Common.{◌≡◌, ◌≢◌, ◌∙◌, length, sym, arith}
-use Rattle.iocm_tree_reader.specs.declared.kind.Kind.TheVariants.{Row}
+use Rattle.iocm_tree_reader.specs.declared.kind.NodeKind.TheVariants.{Row}
 use Rattle.iocm_tree_reader.proofs.Counting.{counted_node, counted_only, only_item, whole_several}
 use Rattle.iocm_tree_reader.proofs.gathering.whole.Goals as goal
 

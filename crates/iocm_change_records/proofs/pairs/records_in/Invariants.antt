@@ -1,6 +1,0 @@
-use Rattle.std.proofs.Common.{◌≡◌, map, take}
-use Rattle.iocm_record_reader.specs.ChpidRecords.{online_to}
-use Rattle.iocm_change_records.proofs.pairs.records_in.Given as goal
-
-abbrev pub invariant-loop-name : goal.invariant-loop-name
-invariant-loop-name l = l.records.items ≡ map (online_to l.css l.path) (take l.name-index l.names)

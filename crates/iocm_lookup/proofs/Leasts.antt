@@ -1,0 +1,39 @@
+-- The steps of a loop that takes the least of what the items of a list give, and what need not be
+-- taken.
+use Rattle.std.proofs.Common.{◌≡◌, ℕ, ◌+◌, ◌<◌, ◌≤◌, Bool, true, false, cond, Option, None, Some, List, length, get_or, drop, refl, sym, ap}
+use Rattle.std.proofs.Math.ListN.{drop_of_length-le}
+use Rattle.std.specs.Ordering.{is_lt}
+use Rattle.iocm_types.specs.declared.key.Key.{Key}
+use Rattle.iocm_types.specs.Key.{key_cmp}
+use Rattle.iocm_types.proofs.Lists.{drop-item}
+use Rattle.iocm_lookup.specs.Among.{lesser, least_of}
+
+module _ {A : Type 0} (gives : A → Option Key) (xs : List A) (i : ℕ) (least : Option Key) where
+  -- one item more
+  pub least_goes_on : (x : A) → i < length xs → x ≡ get_or xs i x → least_of gives (lesser least (gives x)) (drop (i + 1) xs) ≡ least_of gives least (drop i xs)
+  least_goes_on x within item = sym (ap (least_of gives least) (drop-item xs i x within item))
+
+  -- at the end all were taken
+  pub least_done : length xs ≤ i → least_of gives least (drop i xs) ≡ least
+  least_done past = ap (least_of gives least) (drop_of_length-le xs past)
+
+pub ruleset least_steps = (least_goes_on, least_done)
+
+-- to take a key again changes nothing
+pub lesser_again : (o p : Option Key) → lesser (lesser o p) p ≡ lesser o p
+lesser_again None None = refl
+lesser_again None (Some b) = by (is_lt (key_cmp b b))
+  where
+    by : (t : Bool) → cond t (Some b) (Some b) ≡ Some b
+    by true = refl
+    by false = refl
+lesser_again (Some a) None = refl
+lesser_again (Some a) (Some b) = by (is_lt (key_cmp b a)) refl (is_lt (key_cmp b b))
+  where
+    itself : (t : Bool) → cond t (Some b) (Some b) ≡ Some b
+    itself true = refl
+    itself false = refl
+
+    by : (t : Bool) → is_lt (key_cmp b a) ≡ t → (u : Bool) → lesser (cond t (Some b) (Some a)) (Some b) ≡ cond t (Some b) (Some a)
+    by true is u = itself (is_lt (key_cmp b b))
+    by false is u = ap (λ t. cond t (Some b) (Some a)) is
