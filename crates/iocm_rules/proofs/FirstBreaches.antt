@@ -1,33 +1,57 @@
--- The first breach of some rules, by what the first of them answers.
-use Rattle.std.proofs.Common.{◌≡◌, Bool, Option, None, Some, List, [], ◌∷◌, refl, sym, ap}
+-- What is found of rules, each tried by itself, is the first breach of them.
+use Rattle.std.proofs.Common.{◌≡◌, true, false, is_some, Option, None, Some, List, [], ◌∷◌, ◌++◌, refl, ap, ◌∙◌}
 use Rattle.std.specs.Option.{option_map}
 use Rattle.iocm_types.specs.declared.rule.Rule.{Rule}
 use Rattle.iocm_types.specs.declared.key.Key.{Key}
 use Rattle.iocm_model.specs.Machine.Record.{Rec, key_of}
-use Rattle.iocm_model.specs.Rules.FirstBreach.{first_record, first_breach_of, breach_or}
+use Rattle.iocm_model.specs.Rules.FirstBreach.{Breach, first_record, first_breach_of, breach_or}
+use Rattle.iocm_rules.specs.Check.{Laws}
+use Rattle.iocm_rules.specs.Found.{found_or, first_found}
 
-module _ (rule : Rule) (breaks : Rec → Bool) (rules : List (Rule × (Rec → Bool))) (records : List Rec) where
-  here_by : (o : Option Rec) (key : Key) → option_map key_of o ≡ Some key → breach_or rule o (first_breach_of rules records) ≡ Some (record { rule = rule; key = key })
-  here_by (Some r) key is = let same : key_of r ≡ key = cc in ap (λ (k : Key). Some (record { rule = rule; key = k })) same
-  here_by None key is = cc
+-- ---- each of some rules
 
-  later_by : (o : Option Rec) → option_map key_of o ≡ None → breach_or rule o (first_breach_of rules records) ≡ first_breach_of rules records
-  later_by (Some r) is = cc
-  later_by None is = refl
+-- of each rule the key of the first record that breaks it
+abbrev pub AreFound : List (Rule × Option Key) → Laws → List Rec → Type 0
+AreFound [] [] records = Unit {0}
+AreFound (f ∷ fs) (l ∷ ls) records =
+    (f.0 ≡ l.0) × ((f.1 ≡ option_map key_of (first_record l.1 records)) × AreFound fs ls records)
+AreFound _ _ records = ⊥
 
-  -- a record that breaks the first rule
-  pub breach_here : (key : Key) → option_map key_of (first_record breaks records) ≡ Some key
-      → first_breach_of ((rule, breaks) ∷ rules) records ≡ Some (record { rule = rule; key = key })
-  unfolding first_breach_of
-  breach_here key is = here_by (first_record breaks records) key is
-
-  -- none that does
-  pub breach_later : option_map key_of (first_record breaks records) ≡ None → first_breach_of ((rule, breaks) ∷ rules) records ≡ first_breach_of rules records
-  unfolding first_breach_of
-  breach_later is = later_by (first_record breaks records) is
-
--- the last rule, if none breaks it
-pub breach_none : (rule : Rule) (breaks : Rec → Bool) (records : List Rec) → option_map key_of (first_record breaks records) ≡ None
-    → None ≡ first_breach_of ((rule, breaks) ∷ []) records
+pub found_is : (fs : List (Rule × Option Key)) (ls : Laws) (records : List Rec) → AreFound fs ls records
+    → first_found fs ≡ first_breach_of ls records
 unfolding first_breach_of
-breach_none rule breaks records is = sym (later_by rule breaks [] records (first_record breaks records) is)
+found_is [] [] records all = refl
+found_is [] (l ∷ ls) records all = absurd all
+found_is (f ∷ fs) [] records all = absurd all
+found_is (f ∷ fs) (l ∷ ls) records all =
+    (λ i. found_or (all.0 i) (all.1.0 i) (found_is fs ls records all.1.1 i)) ∙ by (first_record l.1 records)
+  where
+    by : (o : Option Rec) → found_or l.0 (option_map key_of o) (first_breach_of ls records) ≡ breach_or l.0 o (first_breach_of ls records)
+    by None = refl
+    by (Some r) = refl
+
+-- ---- rules and further ones
+
+abbrev pub else_breach : Option Breach → Option Breach → Option Breach
+else_breach (Some b) further = Some b
+else_breach None further = further
+
+pub behind : (ls more : Laws) (records : List Rec)
+    → first_breach_of (ls ++ more) records ≡ else_breach (first_breach_of ls records) (first_breach_of more records)
+unfolding first_breach_of
+behind [] more records = refl
+behind (l ∷ ls) more records = ap (breach_or l.0 (first_record l.1 records)) (behind ls more records) ∙ by (first_record l.1 records)
+  where
+    by : (o : Option Rec) → breach_or l.0 o (else_breach (first_breach_of ls records) (first_breach_of more records))
+        ≡ else_breach (breach_or l.0 o (first_breach_of ls records)) (first_breach_of more records)
+    by None = refl
+    by (Some r) = refl
+
+-- by whether one was found before
+pub found_before : (first further : Option Breach) → is_some first ≡ true → else_breach first further ≡ first
+found_before None further is = cc
+found_before (Some b) further is = refl
+
+pub none_before : (first further : Option Breach) → is_some first ≡ false → else_breach first further ≡ further
+none_before None further is = refl
+none_before (Some b) further is = cc

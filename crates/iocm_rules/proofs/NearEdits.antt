@@ -28,7 +28,7 @@ use Rattle.iocm_model.proofs.Maps.Cells.{get_with_value}
 use Rattle.iocm_model.proofs.Numbers.Changed.{numbers_after_are_exact, stayers_keep_theirs}
 use Rattle.iocm_model.proofs.Numbers.InOrder.{IsAt, is_at, is_one_of as is_there}
 use Rattle.iocm_model.proofs.Numbers.Opening.{reached_places_are_of_devices}
-use Rattle.iocm_device_rules.specs.Among.{is_one_of}
+use Rattle.iocm_lookup.specs.Among.{is_one_of}
 use Rattle.iocm_rules.specs.Near.{is_near_key, AreNear, keys_edited, NearEditsKeepTheRest}
 
 -- ---- places

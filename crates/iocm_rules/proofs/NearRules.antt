@@ -1,7 +1,7 @@
 -- Where since the rules held only devices and online records at some keys were changed, no other
 -- rule than V4 and V8 to V13 can be broken, and these only by those records, or by others that
 -- clash with them.
-use Rattle.std.proofs.Common.{◌≡◌, ℕ, Bool, true, false, not, ◌&&◌, ◌||◌, ◌==◌, eq-eqb, nat_le, nat_lt, length, is_none, unwrap_or, None, Some, List, [], ◌++◌, refl, sym, ap, ◌∙◌}
+use Rattle.std.proofs.Common.{◌≡◌, ℕ, Bool, true, false, not, ◌&&◌, ◌||◌, ◌==◌, eq-eqb, nat_le, nat_lt, length, is_none, unwrap_or, Option, None, Some, List, [], ◌∷◌, ◌++◌, refl, sym, ap, ◌∙◌}
 use Rattle.std.proofs.lemmas.Bool.{false≢true, or_right}
 use Rattle.std.specs.List.{list_any, flat_map}
 use Rattle.std.specs.Option.{option_map, option_map_or}
@@ -9,26 +9,27 @@ use Rattle.std.specs.FinMap.{get}
 use Rattle.iocm_types.specs.declared.css_path.CssPath.{CssPath}
 use Rattle.iocm_types.specs.declared.key.Key.{Key}
 use Rattle.iocm_types.specs.declared.key.Key.TheVariants as key
-use Rattle.iocm_types.specs.declared.rule.Rule.TheVariants.{V1, V2, V3, V5, V6, V7, V14}
+use Rattle.iocm_types.specs.declared.rule.Rule.TheVariants.{V1, V2, V3, V4, V5, V6, V7, V8, V9, V10, V11, V12, V13, V14}
 use Rattle.iocm_model.specs.Machine.Record.{Rec, DeviceRecord, OnlineRecord, id, resource, image, limit, path, unit, device, online, key_of}
 use Rattle.iocm_model.specs.Machine.Configuration.{Configuration, IsKeyed, records_of}
 use Rattle.iocm_model.specs.Machine.Numbering.{Numbering, subsystems}
 use Rattle.iocm_model.specs.Machine.PathList.{paths_in, unit_record_paths}
 use Rattle.iocm_model.specs.Machine.Sight.{record_lists}
 use Rattle.iocm_model.specs.Rules.EachRule.{breaks_v1, breaks_v2, breaks_v3, breaks_v4, breaks_v5, breaks_v6, breaks_v7, breaks_v8, breaks_v9, breaks_v10, breaks_v11, breaks_v12, breaks_v13, breaks_v14, stands_before, some_before, has_twice, is_image_named, is_image_in, is_image, is_exclusive, is_online_at, lacks_address, limit_or_default, answers_on, answers_for}
-use Rattle.iocm_model.specs.Rules.FirstBreach.{first_record, first_breach_of, rules_of}
+use Rattle.iocm_model.specs.Rules.FirstBreach.{first_record, first_breach, rules_of}
 use Rattle.iocm_model.specs.Laws.Breaches.{AreKept}
 use Rattle.iocm_model.proofs.Machine.OwnKeys.{keyed_own}
 use Rattle.iocm_model.proofs.Rules.FirstBreach.{silent}
 use Rattle.iocm_lookup.specs.Images.{is_named_in}
 use Rattle.iocm_lookup.proofs.Members.{same_tests, record_found, record_there, key_there}
 use Rattle.iocm_lookup.proofs.NamedImages.{image_of_name, image_in_subsystem}
-use Rattle.iocm_device_rules.specs.Among.{is_one_of, IsOnlyAt, AreClashesAt}
-use Rattle.iocm_device_rules.proofs.Firsts.{least_so_is_first}
-use Rattle.iocm_rules.specs.Check.{from_v2, from_v3, from_v4, from_v5, from_v6, from_v7, from_v8, from_v14}
+use Rattle.iocm_lookup.specs.Among.{is_one_of, IsOnlyAt}
+use Rattle.iocm_lookup.proofs.Firsts.{least_so_is_first}
+use Rattle.iocm_device_rules.specs.Among.{AreClashesAt}
+use Rattle.iocm_rules.specs.Found.{first_found}
 use Rattle.iocm_rules.specs.Near.{is_near_key, KeptBut}
 use Rattle.iocm_rules.specs.Onlines.{is_key_at_path, AreOnPathsOf}
-use Rattle.iocm_rules.proofs.FirstBreaches.{breach_later, breach_none}
+use Rattle.iocm_rules.proofs.FirstBreaches.{found_is}
 
 second : (a b : Bool) → (a && b) ≡ true → b ≡ true
 second true b h = h
@@ -264,16 +265,55 @@ module _ (keys : List Key) (c : Configuration) (n : Numbering) (keyed : IsKeyed 
 
   -- ---- breaches
 
-  -- the rules before V4 are kept
-  pub from_v4_on : first_breach_of (rules_of c n) (records_of c) ≡ first_breach_of (from_v4 c n) (records_of c)
-  from_v4_on = breach_later V1 (breaks_v1 c) (from_v2 c n) (records_of c) v1_kept ∙ breach_later V2 (breaks_v2 c) (from_v3 c n) (records_of c) v2_kept
-      ∙ breach_later V3 (breaks_v3 c) (from_v4 c n) (records_of c) v3_kept
-
-  -- so are those between it and V8
-  pub from_v8_on : first_breach_of (from_v5 c n) (records_of c) ≡ first_breach_of (from_v8 c n) (records_of c)
-  from_v8_on = breach_later V5 (breaks_v5 c) (from_v6 c n) (records_of c) v5_kept ∙ breach_later V6 (breaks_v6 c) (from_v7 c n) (records_of c) v6_kept
-      ∙ breach_later V7 (breaks_v7 c) (from_v8 c n) (records_of c) v7_kept
-
-  -- and V14
-  pub none_from_v14 : None ≡ first_breach_of (from_v14 c n) (records_of c)
-  none_from_v14 = breach_none V14 (breaks_v14 c) (records_of c) v14_kept
+  -- the rules of which something was found, and those that are kept
+  pub near_found : (v4 v8 v9 v10 v11 v12 v13 : Option Key)
+      → v4 ≡ option_map key_of (first_record (breaks_v4 c) (records_of c)) → v8 ≡ option_map key_of (first_record (breaks_v8 c) (records_of c))
+      → v9 ≡ option_map key_of (first_record (breaks_v9 c) (records_of c)) → v10 ≡ option_map key_of (first_record (breaks_v10 c) (records_of c))
+      → v11 ≡ option_map key_of (first_record (breaks_v11 c) (records_of c)) → v12 ≡ option_map key_of (first_record (breaks_v12 c) (records_of c))
+      → v13 ≡ option_map key_of (first_record (breaks_v13 c n) (records_of c))
+      → first_found ((V4, v4) ∷ (V8, v8) ∷ (V9, v9) ∷ (V10, v10) ∷ (V11, v11) ∷ (V12, v12) ∷ (V13, v13) ∷ []) ≡ first_breach c n
+  near_found v4 v8 v9 v10 v11 v12 v13 is4 is8 is9 is10 is11 is12 is13 =
+      found_is ((V1, None) ∷ (V2, None) ∷ (V3, None) ∷ (V4, v4) ∷ (V5, None) ∷ (V6, None) ∷ (V7, None) ∷ (V8, v8) ∷ (V9, v9) ∷ (V10, v10)
+      ∷ (V11, v11) ∷ (V12, v12) ∷ (V13, v13) ∷ (V14, None) ∷ []) (rules_of c n) (records_of c) (
+        refl,
+        (
+          sym v1_kept,
+          (
+            refl,
+            (
+              sym v2_kept,
+              (
+                refl,
+                (
+                  sym v3_kept,
+                  (
+                    refl,
+                    (
+                      is4,
+                      (
+                        refl,
+                        (
+                          sym v5_kept,
+                          (
+                            refl,
+                            (
+                              sym v6_kept,
+                              (
+                                refl,
+                                (
+                                  sym v7_kept,
+                                  (refl, (is8, (refl, (is9, (refl, (is10, (refl, (is11, (refl, (is12, (refl, (is13, (refl, (sym v14_kept, tt)))))))))))))),
+                                ),
+                              ),
+                            ),
+                          ),
+                        ),
+                      ),
+                    ),
+                  ),
+                ),
+              ),
+            ),
+          ),
+        ),
+      )

@@ -26,11 +26,10 @@ use Rattle.iocm_model.specs.Rules.EachRule.{breaks_v4}
 use Rattle.iocm_model.specs.Rules.FirstBreach.{first_record}
 use Rattle.iocm_lookup.specs.Indexed.{names, IsIndexOf}
 use Rattle.iocm_lookup.proofs.Members.{own_path, key_found}
-use Rattle.iocm_device_rules.specs.Addresses.{least_of}
-use Rattle.iocm_device_rules.specs.Among.{is_so_at}
-use Rattle.iocm_device_rules.proofs.Clashes.{IsAtMost, first_not_behind}
-use Rattle.iocm_device_rules.proofs.Firsts.{IsSoAt, least_so_is_first}
-use Rattle.iocm_device_rules.proofs.LeastAmong.{each_given_holds, least_among, so_at, at_so}
+use Rattle.iocm_lookup.specs.Among.{least_of, is_so_at}
+use Rattle.iocm_lookup.proofs.AtMost.{IsAtMost, first_not_behind}
+use Rattle.iocm_lookup.proofs.Firsts.{IsSoAt, least_so_is_first}
+use Rattle.iocm_lookup.proofs.LeastAmong.{each_given_holds, least_among, so_at, at_so}
 use Rattle.iocm_rules.specs.Onlines.{is_key_at_path, AreOnPathsOf, first_so, first_on_path}
 
 -- ---- of some keys the first whose record is so

@@ -13,7 +13,7 @@ use Rattle.iocm_model.specs.Machine.Numbering.{Numbering}
 use Rattle.iocm_model.specs.Rules.FirstBreach.{first_breach}
 use Rattle.iocm_model.specs.Change.Maps.{with_value}
 use Rattle.iocm_model.proofs.Maps.Cells.{get_with_value}
-use Rattle.iocm_device_rules.specs.Among.{is_one_of}
+use Rattle.iocm_lookup.specs.Among.{is_one_of}
 use Rattle.iocm_rules.specs.Near.{is_near_key, KeptBut}
 
 module _ (c d : Configuration) (n : Numbering) (k : Key) (o : Option Rec) (keyed : IsKeyed c) (held : first_breach c n ≡ None) (near : is_near_key k ≡ true)

@@ -11,7 +11,7 @@ use Rattle.iocm_model.specs.Rules.FirstBreach.{first_breach}
 use Rattle.iocm_model.specs.Operation.State.{State, IsSound}
 use Rattle.iocm_model.specs.Change.Edit.{Edit, action_key}
 use Rattle.iocm_model.specs.Change.Runs.{state_after_all}
-use Rattle.iocm_device_rules.specs.Among.{is_one_of}
+use Rattle.iocm_lookup.specs.Among.{is_one_of}
 
 -- the key of a device, or of an online record
 abbrev pub is_near_key : Key → Bool

@@ -10,7 +10,7 @@ use Rattle.iocm_index.specs.Namings.{Namings, users_in}
 use Rattle.iocm_model.specs.Machine.Record.{Rec, OnlineRecord, online}
 use Rattle.iocm_model.specs.Machine.Configuration.{Configuration, Lookup, lookup_of}
 use Rattle.iocm_model.specs.Rules.EachRule.{breaks_v4}
-use Rattle.iocm_device_rules.specs.Among.{is_so_at}
+use Rattle.iocm_lookup.specs.Among.{is_so_at}
 
 -- the key of an online record
 abbrev pub is_online_key : Key → Bool

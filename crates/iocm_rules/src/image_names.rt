@@ -1,5 +1,5 @@
 use iocm_config::Config;
-use iocm_lookup::{Kind, Wanted, is_any_wanted};
+use iocm_lookup::{RecordKind, Wanted, is_any_wanted};
 use iocm_record::{Record, RecordBody};
 use iocm_types::{Key, Name};
 use std::alloc::Allocator;
@@ -23,8 +23,8 @@ impl<A: Allocator> Wanted<A> for NameTwice {
     ghost of_kind = { λ s c. only_images (breaks_v1 c)
         (λ _. refl) (λ _. refl) (λ _. refl) (λ _. refl) (λ _. refl) (λ _. refl) (λ _. refl) };
 
-    fn kind(&self) -> Kind {
-        Kind::Image
+    fn kind(&self) -> RecordKind {
+        RecordKind::Image
     }
 
     fn is_wanted(&self, config: &Config<A>, entry: &Record<A>) -> bool {
@@ -62,8 +62,8 @@ impl<A: Allocator> Wanted<A> for NamedBefore {
     ghost of_kind = { λ s c. only_images (is_named_before s.key s.name)
         (λ _. refl) (λ _. refl) (λ _. refl) (λ _. refl) (λ _. refl) (λ _. refl) (λ _. refl) };
 
-    fn kind(&self) -> Kind {
-        Kind::Image
+    fn kind(&self) -> RecordKind {
+        RecordKind::Image
     }
 
     fn is_wanted(&self, _config: &Config<A>, entry: &Record<A>) -> bool {

@@ -17,6 +17,7 @@
 
 mod breach;
 mod first_breach;
+mod found;
 mod image_names;
 mod laws;
 mod names;

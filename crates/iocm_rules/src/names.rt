@@ -3,7 +3,7 @@ ghost use Rattle.std.specs.List.{list_any};
 ghost use Rattle.iocm_model.specs.Rules.EachRule as model;
 
 use iocm_config::Config;
-use iocm_lookup::{Kind, Wanted, is_image_in};
+use iocm_lookup::{RecordKind, Wanted, is_image_in};
 use iocm_record::{Record, RecordBody};
 use iocm_types::{Css, Name, PathKind};
 use std::alloc::Allocator;
@@ -27,8 +27,8 @@ impl<A: Allocator> Wanted<A> for NameOfNoImage {
     ghost of_kind = { λ s c. only_paths (breaks_v2 c)
         (λ _. refl) (λ _. refl) (λ _. refl) (λ _. refl) (λ _. refl) (λ _. refl) (λ _. refl) };
 
-    fn kind(&self) -> Kind {
-        Kind::Path
+    fn kind(&self) -> RecordKind {
+        RecordKind::Path
     }
 
     fn is_wanted(&self, config: &Config<A>, entry: &Record<A>) -> bool {
@@ -90,8 +90,8 @@ impl<A: Allocator> Wanted<A> for TooManyNames {
     ghost of_kind = { λ s c. only_paths (breaks_v3 c)
         (λ _. refl) (λ _. refl) (λ _. refl) (λ _. refl) (λ _. refl) (λ _. refl) (λ _. refl) };
 
-    fn kind(&self) -> Kind {
-        Kind::Path
+    fn kind(&self) -> RecordKind {
+        RecordKind::Path
     }
 
     fn is_wanted(&self, _config: &Config<A>, entry: &Record<A>) -> bool {

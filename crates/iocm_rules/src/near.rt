@@ -1,19 +1,19 @@
 ghost use Rattle.std.specs.Prelude.{◌≡◌};
 ghost use Rattle.std.specs.Result.{result_err};
-ghost use Rattle.iocm_model.specs.Machine.Configuration.{records_of};
-ghost use Rattle.iocm_model.specs.Rules.FirstBreach.{first_breach, first_breach_of};
+ghost use Rattle.iocm_model.specs.Rules.FirstBreach.{first_breach};
 ghost use Rattle.iocm_lookup.specs.Indexed.{IsIndexOf};
-ghost use Rattle.iocm_rules.specs.Check as laws;
 ghost use Rattle.iocm_rules.specs.Near.{KeptBut};
 
 use crate::Breach;
+use crate::found::first_of;
 use crate::online_among::first_wrong_online_among;
 use iocm_config::Config;
 use iocm_device_rules::{
     AddressNotHeld, CandidateOfNoImage, NumberPastLimit, WrongPathList, WrongUnits,
-    first_address_twice_among, first_wanted_among,
+    first_address_twice_among,
 };
 use iocm_index::Index;
+use iocm_lookup::first_wanted_among;
 use iocm_numbers::Numbers;
 use iocm_types::{Key, Rule};
 use std::alloc::Allocator;
@@ -34,156 +34,23 @@ pub fn check_near<A: Allocator, N: Allocator, I: Allocator>(
     ensures { result_err result ≡ first_breach config.now.records numbers.now.numbers }
 {
     config.has_own_keys();
-    match near_v4(config, numbers, index, keys) {
+    let first = first_of(&[
+        (Rule::V4, first_wrong_online_among(config, index, keys)),
+        (Rule::V8, first_wanted_among(config, &WrongUnits, keys)),
+        (Rule::V9, first_wanted_among(config, &AddressNotHeld, keys)),
+        (Rule::V10, first_address_twice_among(config, index, keys)),
+        (Rule::V11, first_wanted_among(config, &WrongPathList, keys)),
+        (
+            Rule::V12,
+            first_wanted_among(config, &CandidateOfNoImage, keys),
+        ),
+        (
+            Rule::V13,
+            first_wanted_among(config, &NumberPastLimit { numbers }, keys),
+        ),
+    ]);
+    match first {
         Some(breach) => Err(breach),
         None => Ok(()),
-    }
-}
-
-/// The first breach of V4 and the rules behind it; V5 to V7 are kept.
-fn near_v4<A: Allocator, N: Allocator, I: Allocator>(
-    config: &Config<A>,
-    numbers: &Numbers<N>,
-    index: &Index<I>,
-    keys: &[Key],
-) -> Option<Breach>
-    requires index { IsIndexOf config.now.records index.now }
-    requires near { KeptBut keys.now config.now.records numbers.now.numbers }
-    ensures { result ≡ first_breach_of (laws.from_v4 config.now.records numbers.now.numbers)
-        (records_of config.now.records) }
-{
-    config.has_own_keys();
-    match first_wrong_online_among(config, index, keys) {
-        Some(key) => Some(Breach {
-            rule: Rule::V4,
-            key,
-        }),
-        None => near_v8(config, numbers, index, keys),
-    }
-}
-
-/// The first breach of V8 and the rules behind it.
-fn near_v8<A: Allocator, N: Allocator, I: Allocator>(
-    config: &Config<A>,
-    numbers: &Numbers<N>,
-    index: &Index<I>,
-    keys: &[Key],
-) -> Option<Breach>
-    requires index { IsIndexOf config.now.records index.now }
-    requires near { KeptBut keys.now config.now.records numbers.now.numbers }
-    ensures { result ≡ first_breach_of (laws.from_v8 config.now.records numbers.now.numbers)
-        (records_of config.now.records) }
-{
-    config.has_own_keys();
-    match first_wanted_among(config, &WrongUnits, keys) {
-        Some(key) => Some(Breach {
-            rule: Rule::V8,
-            key,
-        }),
-        None => near_v9(config, numbers, index, keys),
-    }
-}
-
-/// The first breach of V9 and the rules behind it.
-fn near_v9<A: Allocator, N: Allocator, I: Allocator>(
-    config: &Config<A>,
-    numbers: &Numbers<N>,
-    index: &Index<I>,
-    keys: &[Key],
-) -> Option<Breach>
-    requires index { IsIndexOf config.now.records index.now }
-    requires near { KeptBut keys.now config.now.records numbers.now.numbers }
-    ensures { result ≡ first_breach_of (laws.from_v9 config.now.records numbers.now.numbers)
-        (records_of config.now.records) }
-{
-    config.has_own_keys();
-    match first_wanted_among(config, &AddressNotHeld, keys) {
-        Some(key) => Some(Breach {
-            rule: Rule::V9,
-            key,
-        }),
-        None => near_v10(config, numbers, index, keys),
-    }
-}
-
-/// The first breach of V10 and the rules behind it.
-fn near_v10<A: Allocator, N: Allocator, I: Allocator>(
-    config: &Config<A>,
-    numbers: &Numbers<N>,
-    index: &Index<I>,
-    keys: &[Key],
-) -> Option<Breach>
-    requires index { IsIndexOf config.now.records index.now }
-    requires near { KeptBut keys.now config.now.records numbers.now.numbers }
-    ensures { result ≡ first_breach_of (laws.from_v10 config.now.records numbers.now.numbers)
-        (records_of config.now.records) }
-{
-    config.has_own_keys();
-    match first_address_twice_among(config, index, keys) {
-        Some(key) => Some(Breach {
-            rule: Rule::V10,
-            key,
-        }),
-        None => near_v11(config, numbers, keys),
-    }
-}
-
-/// The first breach of V11 and the rules behind it.
-fn near_v11<A: Allocator, N: Allocator>(
-    config: &Config<A>,
-    numbers: &Numbers<N>,
-    keys: &[Key],
-) -> Option<Breach>
-    requires { KeptBut keys.now config.now.records numbers.now.numbers }
-    ensures { result ≡ first_breach_of (laws.from_v11 config.now.records numbers.now.numbers)
-        (records_of config.now.records) }
-{
-    config.has_own_keys();
-    match first_wanted_among(config, &WrongPathList, keys) {
-        Some(key) => Some(Breach {
-            rule: Rule::V11,
-            key,
-        }),
-        None => near_v12(config, numbers, keys),
-    }
-}
-
-/// The first breach of V12 and the rules behind it.
-fn near_v12<A: Allocator, N: Allocator>(
-    config: &Config<A>,
-    numbers: &Numbers<N>,
-    keys: &[Key],
-) -> Option<Breach>
-    requires { KeptBut keys.now config.now.records numbers.now.numbers }
-    ensures { result ≡ first_breach_of (laws.from_v12 config.now.records numbers.now.numbers)
-        (records_of config.now.records) }
-{
-    config.has_own_keys();
-    match first_wanted_among(config, &CandidateOfNoImage, keys) {
-        Some(key) => Some(Breach {
-            rule: Rule::V12,
-            key,
-        }),
-        None => near_v13(config, numbers, keys),
-    }
-}
-
-/// The first breach of V13; V14 is kept.
-fn near_v13<A: Allocator, N: Allocator>(
-    config: &Config<A>,
-    numbers: &Numbers<N>,
-    keys: &[Key],
-) -> Option<Breach>
-    requires { KeptBut keys.now config.now.records numbers.now.numbers }
-    ensures { result ≡ first_breach_of (laws.from_v13 config.now.records numbers.now.numbers)
-        (records_of config.now.records) }
-{
-    config.has_own_keys();
-    match first_wanted_among(config, &NumberPastLimit { numbers }, keys) {
-        Some(key) => Some(Breach {
-            rule: Rule::V13,
-            key,
-        }),
-        None => None,
     }
 }

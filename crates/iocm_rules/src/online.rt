@@ -13,7 +13,7 @@ ghost use Rattle.iocm_rules.specs.Onlines as onlines;
 
 use iocm_config::Config;
 use iocm_index::Index;
-use iocm_lookup::{Kind, Wanted};
+use iocm_lookup::{RecordKind, Wanted};
 use iocm_record::{PathFields, Record, RecordBody};
 use iocm_types::{Chpid, Css, Key, Name, Named, PathKind};
 use std::alloc::Allocator;
@@ -40,8 +40,8 @@ impl<'a, A: Allocator, I: Allocator> Wanted<A> for WrongOnline<'a, I> {
     ghost of_kind = { λ s c. only_online (breaks_v4 c)
         (λ _. refl) (λ _. refl) (λ _. refl) (λ _. refl) (λ _. refl) (λ _. refl) (λ _. refl) };
 
-    fn kind(&self) -> Kind {
-        Kind::Online
+    fn kind(&self) -> RecordKind {
+        RecordKind::Online
     }
 
     fn is_wanted(&self, config: &Config<A>, entry: &Record<A>) -> bool {

@@ -6,15 +6,15 @@ ghost use Rattle.iocm_table.specs.Slots.{rows};
 ghost use Rattle.iocm_index.specs.Namings.{users_in};
 ghost use Rattle.iocm_model.specs.Machine.Configuration.{lookup_of};
 ghost use Rattle.iocm_model.specs.Rules.EachRule.{breaks_v4};
-ghost use Rattle.iocm_lookup.specs.First.{first_key};
+ghost use Rattle.iocm_lookup.specs.Among.{least_of};
 ghost use Rattle.iocm_lookup.specs.Indexed.{IsIndexOf};
-ghost use Rattle.iocm_device_rules.specs.Addresses.{least_of};
 ghost use Rattle.iocm_rules.specs.Onlines as onlines;
+ghost use Rattle.iocm_lookup.specs.First.{first_key};
 
 use crate::online::WrongOnline;
 use iocm_config::Config;
-use iocm_device_rules::{is_wanted_at, lesser};
 use iocm_index::Index;
+use iocm_lookup::{is_wanted_at, lesser};
 use iocm_types::{Chpid, Css, Key, Named};
 use std::alloc::Allocator;
 
@@ -35,7 +35,7 @@ pub fn first_wrong_online_among<A: Allocator, I: Allocator>(
 }
 
 /// The least online record on the paths of some keys that breaks V4.
-#[tactic(auto, using(iocm_device_rules::proofs::Leasts::least_steps))]
+#[tactic(auto, using(iocm_lookup::proofs::Leasts::least_steps))]
 fn least_on_paths<A: Allocator, I: Allocator>(
     config: &Config<A>,
     index: &Index<I>,

@@ -4,7 +4,7 @@ use Rattle.iocm_types.specs.Naming.{naming_cmp}
 use Rattle.iocm_table.specs.Slots.{rows}
 use Rattle.iocm_model.specs.Machine.Configuration.{lookup_of}
 use Rattle.iocm_model.specs.Rules.EachRule.{breaks_v4}
-use Rattle.iocm_device_rules.specs.Addresses.{least_of}
+use Rattle.iocm_lookup.specs.Among.{least_of}
 use Rattle.iocm_rules.specs.Onlines.{first_on_path}
 use Rattle.iocm_rules.proofs.online_among.least_on_paths.Given as goal
 

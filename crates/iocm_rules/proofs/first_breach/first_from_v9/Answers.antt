@@ -1,0 +1,31 @@
+-- What each line of the table finds.
+use Rattle.std.proofs.Common.{[], ◌∷◌, refl, ◌∙◌}
+use Rattle.iocm_types.specs.declared.rule.Rule.TheVariants.{V9, V10, V11, V12, V13, V14}
+use Rattle.iocm_model.specs.Machine.Configuration.{records_of}
+use Rattle.iocm_rules.specs.Check.{from_v9}
+use Rattle.iocm_rules.proofs.FirstBreaches.{found_is}
+use Rattle.iocm_rules.proofs.first_breach.first_from_v9.Goals as goal
+
+pub returns : goal.returns
+returns g c n is = c.first_of.ensures ∙ found_is
+    ((V9, c.first_wanted.result) ∷ (V10, c.first_address_twice.result) ∷ (V11, c.first_wanted-2.result) ∷ (V12, c.first_wanted-3.result)
+    ∷ (V13, c.args.past) ∷ (V14, c.first_wanted-4.result) ∷ [])
+    (from_v9 c.args.config.now.records n) (records_of c.args.config.now.records) (
+      refl,
+      (
+        c.first_wanted.ensures,
+        (
+          refl,
+          (
+            c.first_address_twice.ensures,
+            (
+              refl,
+              (
+                c.first_wanted-2.ensures,
+                (refl, (c.first_wanted-3.ensures, (refl, (is, (refl, (c.first_wanted-4.ensures, tt)))))),
+              ),
+            ),
+          ),
+        ),
+      ),
+    )
