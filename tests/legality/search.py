@@ -7,9 +7,10 @@ from .printed import table_of
 from .scripts import IMAGES, OPERATORS
 
 
-# what a call that takes memory may answer where memory is short; it changes nothing then
+# what a call that takes memory may answer where memory is short; it changes nothing then. These refusals need none
 NO_MEMORY = "refused M1"
 TAKES_MEMORY = ("activate", "begin", "undo", "redo")
+WITHOUT_MEMORY = ("refused O1", "refused C1", "refused C2", "refused J1")
 
 
 class Illegal(Exception):
@@ -41,12 +42,20 @@ def answered(history, line, trees):
     return history.called(line.command, line.at, trees)
 
 
+def wants_memory(command, answer):
+    """Whether a call may want memory that has this answer where memory is there. A redo that is refused wants none."""
+    if command == "redo":
+        return not answer.startswith("refused")
+    return command in TAKES_MEMORY and not answer.startswith(WITHOUT_MEMORY)
+
+
 def judged_answer(history, line, trees, printed, is_short):
-    """The answer that a line may have had here, with the history behind it. Where memory is short, `refused M1` is
-    right too."""
-    if is_short and printed == NO_MEMORY and line.command in TAKES_MEMORY:
+    """The answer that a line may have had here, with the history behind it. Where memory is short and the call wants
+    some, `refused M1` is right too."""
+    answer, after = answered(history, line, trees)
+    if is_short and printed == NO_MEMORY and wants_memory(line.command, answer):
         return NO_MEMORY, history
-    return answered(history, line, trees)
+    return answer, after
 
 
 def round_of(lines, answers):

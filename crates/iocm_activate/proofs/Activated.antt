@@ -53,11 +53,11 @@ keys_are : (es : List Edit) (s : State) → map key_of_edit es ≡ (cells_writte
 keys_are [] s = refl
 keys_are (e ∷ es) s = ap (λ ks. key_of_edit e ∷ ks) (keys_are es (state_after e s))
 
-cells_are : (n m : Numbering) (cells : List NumberCell) → cells_changed (map (numbers.change_of n m) cells) ≡ cells
+cells_are : (n m : Numbering) (cells : List NumberCell) → cells_changed (map (numbers.number_change n m) cells) ≡ cells
 cells_are n m [] = refl
 cells_are n m (c ∷ cs) = ap (λ ds. c ∷ ds) (cells_are n m cs)
 
-subchannels_are : (v w : SubId → Option View) (xs : List SubId) → subchannels_changed (map (views.change_of v w) xs) ≡ xs
+subchannels_are : (v w : SubId → Option View) (xs : List SubId) → subchannels_changed (map (views.view_change v w) xs) ≡ xs
 subchannels_are v w [] = refl
 subchannels_are v w (x ∷ xs) = ap (λ ys. x ∷ ys) (subchannels_are v w xs)
 

@@ -10,8 +10,7 @@ use Rattle.iocm_model.proofs.Change.EditsGoBack.{lived_after}
 use Rattle.iocm_model.proofs.Change.RunsGoBack.{puts_back, run_goes_back}
 use Rattle.iocm_tree.specs.Carried.{Carried}
 use Rattle.iocm_plant.specs.Operating.{Operating, KeepsRoom}
-use Rattle.iocm_plant.specs.Between.{StandsAsBefore}
-use Rattle.iocm_plant.proofs.Between.{can_still_unapply}
+use Rattle.iocm_plant.specs.Between.{CanStillUnapply, StandsAsBefore}
 use Rattle.iocm_plant.specs.declared.touched.Applied.{Applied}
 use Rattle.iocm_activate.specs.Told.{way_back, LeadsTo}
 
@@ -22,24 +21,24 @@ stands p q lived same room = record {
   room = room;
 }
 
-pub leads_still : (is : List Carried) (s : State) (p q : Operating) → LeadsTo is s p → HasLives q.state → q.state ≡ p.state → KeepsRoom p.room q.room
+pub leads_still : CanStillUnapply → (is : List Carried) (s : State) (p q : Operating) → LeadsTo is s p → HasLives q.state → q.state ≡ p.state → KeepsRoom p.room q.room
     → LeadsTo is s q
-leads_still [] s p q leads lived same room = same ∙ leads
-leads_still (i ∷ is) s p q leads lived same room = (
-  can_still_unapply i p q leads.0 (stands p q lived same room),
+leads_still still [] s p q leads lived same room = same ∙ leads
+leads_still still (i ∷ is) s p q leads lived same room = (
+  still i p q leads.0 (stands p q lived same room),
   λ t after places.
-      leads_still is s (record { state = t.state; room = p.room }) t
+      leads_still still is s (record { state = t.state; room = p.room }) t
       (leads.1 (record { state = t.state; room = p.room }) (after ∙ ap (state_after i.edit) same) refl)
       (subst HasLives (sym after) (lived_after i.edit q.state lived)) refl (subst (KeepsRoom p.room) (sym places) room),
 )
 
-pub leads_on : (js is : List Carried) (s : State) (p q : Operating) → LeadsTo js p.state q → LeadsTo is s p → HasLives q.state → KeepsRoom p.room q.room
+pub leads_on : CanStillUnapply → (js is : List Carried) (s : State) (p q : Operating) → LeadsTo js p.state q → LeadsTo is s p → HasLives q.state → KeepsRoom p.room q.room
     → LeadsTo (js ++ is) s q
-leads_on [] is s p q later leads lived room = leads_still is s p q leads lived later room
-leads_on (j ∷ js) is s p q later leads lived room = (
+leads_on still [] is s p q later leads lived room = leads_still still is s p q leads lived later room
+leads_on still (j ∷ js) is s p q later leads lived room = (
   later.0,
   λ t after places.
-      leads_on js is s p t (later.1 t after places) leads (subst HasLives (sym after) (lived_after j.edit q.state lived)) (subst (KeepsRoom p.room) (sym places) room),
+      leads_on still js is s p t (later.1 t after places) leads (subst HasLives (sym after) (lived_after j.edit q.state lived)) (subst (KeepsRoom p.room) (sym places) room),
 )
 
 pub way_back_append : (ds bs : List Applied) → way_back (ds ++ bs) ≡ way_back bs ++ way_back ds

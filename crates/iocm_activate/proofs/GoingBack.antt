@@ -16,6 +16,7 @@ use Rattle.iocm_types.specs.declared.sub_id.SubId.{SubId}
 use Rattle.iocm_types.specs.declared.view.View.{View}
 use Rattle.iocm_types.specs.KeyOrder.{cells_total, cells_exact, sub_ids_total, sub_ids_exact}
 use Rattle.iocm_types.proofs.Found.{same_key, ties_itself}
+use Rattle.iocm_model.proofs.Change.Trees.{inverses_length}
 use Rattle.iocm_model.specs.Machine.Numbering.{cells_of}
 use Rattle.iocm_model.specs.Operation.State.{State, views_in}
 use Rattle.iocm_model.specs.Change.Edit.{Edit, same_view, state_after}
@@ -29,9 +30,8 @@ use Rattle.iocm_history.specs.Fits.{goes_back_at, goes_back, is_barred, state_be
 use Rattle.iocm_history.proofs.Fitting.{stays_at, turns_at, goes_back_here}
 use Rattle.iocm_numbers.specs.declared.number_change.NumberChange.{NumberChange}
 use Rattle.iocm_seats.specs.declared.view_change.ViewChange.{ViewChange}
-use Rattle.iocm_seats.proofs.Ordered.{same_members}
+use Rattle.iocm_seats.proofs.Ordered.{differing_rise, same_members}
 use Rattle.iocm_plant.specs.declared.touched.Touched.{Touched}
-use Rattle.iocm_plant.proofs.Performed.{differing_rise}
 use Rattle.iocm_activate.specs.Told.{told_of, told_of_all}
 use Rattle.iocm_activate.specs.Done.{IsToldBy, AreToldBy}
 use Rattle.iocm_activate.specs.Fitting.{is_turned_number, is_turned_view, gone_back, gone_back_along}
@@ -202,12 +202,6 @@ back_append (x ∷ xs) ys (a ∷ cs) bs u long = on (gone_back x a u) (λ w. bac
     on None further = refl
     on (Some w) further = further w
 
-inverses_long : (es : List Edit) (s : State) → length (inverses es s) ≡ length es
-inverses_long [] s = refl
-inverses_long (e ∷ es) s =
-    let more = inverses_long es (state_after e s) in let both = length-append (inverses es (state_after e s)) (inverse_of e s ∷ []) in
-    omega (arith, more, both)
-
 told_long : (ds : List Touched) (es : List Edit) (s : State) → AreToldBy ds (told_of_all es s) → length ds ≡ length es
 told_long [] [] s told = refl
 told_long [] (e ∷ es) s told = absurd told
@@ -223,7 +217,7 @@ all_back (d ∷ ds) [] s u told = absurd told
 all_back (d ∷ ds) (e ∷ es) s u told =
     ap (λ cs. gone_back_along (parts_of (inverses es (state_after e s) ++ (inverse_of e s ∷ []))) cs u) (reverse-append (d ∷ []) ds)
     ∙ back_append (inverses es (state_after e s)) (inverse_of e s ∷ []) (reverse ds) (d ∷ []) u
-    (inverses_long es (state_after e s) ∙ sym (told_long ds es (state_after e s) told.1) ∙ sym (length-reverse ds))
+    (inverses_length es (state_after e s) ∙ sym (told_long ds es (state_after e s) told.1) ∙ sym (length-reverse ds))
     ∙ ap (option_and_then (gone_back_along (parts_of (inverse_of e s ∷ [])) (d ∷ []))) (all_back ds es (state_after e s) u told.1)
     ∙ on (state_before_all es (state_after e s) u)
   where

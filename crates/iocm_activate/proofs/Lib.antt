@@ -1,5 +1,5 @@
 mod Activated
-pub mod Back
+mod Back
 mod GoingBack
 mod Kept
 mod Leaves

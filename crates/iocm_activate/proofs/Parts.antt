@@ -13,13 +13,13 @@ use Rattle.iocm_model.specs.Change.Meaning.{Outcome, after_run, and_then, or_els
 use Rattle.iocm_tree.specs.Trees.{tree_of, parts_of, plain_tree, plain_parts}
 use Rattle.iocm_tree.specs.declared.tree.Tree.{Tree}
 use Rattle.iocm_tree.proofs.Trees.{rest_at}
+use Rattle.iocm_plant.specs.Between.{CanStillUnapply, PlacesAreKeptOn, SamePlacesAreKept}
 use Rattle.iocm_plant.specs.Operating.{Operating, KeepsRoom}
 use Rattle.iocm_activate.specs.Told.{way_back, LeadsTo, CanTakeBack}
 use Rattle.iocm_activate.specs.Walked.{Ran, Answers, outcome_of}
 use Rattle.iocm_activate.specs.Going.{GoesOn, ChoosesOn}
 use Rattle.iocm_activate.specs.declared.log.Log.{Log}
 use Rattle.iocm_activate.proofs.Runs.{ran_nothing, ran_nowhere, ran_on}
-use Rattle.iocm_plant.proofs.Between.{same_is_kept}
 
 -- ---- what was done before, too
 
@@ -37,25 +37,25 @@ after_both s t es fs (Err why) = refl
 
 -- ---- a Row or a Group
 
-pub goes_first : (ps : Parts) (n : ℕ) (p : Operating) (log : Log) → GoesOn (parts_meaning ps n p.state) ps n p log p log
-goes_first ps n p log = record { ran = ran_nowhere p log; further = nothing_first p.state (parts_meaning ps n p.state) }
+pub goes_first : SamePlacesAreKept → (ps : Parts) (n : ℕ) (p : Operating) (log : Log) → GoesOn (parts_meaning ps n p.state) ps n p log p log
+goes_first same ps n p log = record { ran = ran_nowhere same p log; further = nothing_first p.state (parts_meaning ps n p.state) }
 
 -- one part more was performed
-pub goes_next : (m : Outcome) (t : ChangeTree) (ps : Parts) (n : ℕ) (p : Operating) (first : Log) (q : Operating) (second : Log) (r : Operating) (third : Log)
+pub goes_next : PlacesAreKeptOn → CanStillUnapply → (m : Outcome) (t : ChangeTree) (ps : Parts) (n : ℕ) (p : Operating) (first : Log) (q : Operating) (second : Log) (r : Operating) (third : Log)
     → GoesOn m (part t ps) n p first q second → Answers (node_meaning t n q.state) q second r third None → HasLives r.state
     → GoesOn m ps (n + nodes_of t) p first r third
-goes_next m t ps n p first q second r third g a lived = record {
-  ran = ran_on p first q second r third g.ran a.ran lived;
+goes_next places still m t ps n p first q second r third g a lived = record {
+  ran = ran_on places still p first q second r third g.ran a.ran lived;
   further = g.further ∙ ap (λ o. after_run (record { state = q.state; edits = g.ran.edits }) (and_then o (parts_meaning ps (n + nodes_of t)))) a.means
       ∙ after_both q.state r.state g.ran.edits a.ran.edits (parts_meaning ps (n + nodes_of t) r.state);
 }
 
 -- one part was refused
-pub goes_no_further : (m : Outcome) (t : ChangeTree) (ps : Parts) (n : ℕ) (p : Operating) (first : Log) (q : Operating) (second : Log) (r : Operating) (third : Log)
+pub goes_no_further : PlacesAreKeptOn → CanStillUnapply → (m : Outcome) (t : ChangeTree) (ps : Parts) (n : ℕ) (p : Operating) (first : Log) (q : Operating) (second : Log) (r : Operating) (third : Log)
     (why : Refused) → GoesOn m (part t ps) n p first q second → Answers (node_meaning t n q.state) q second r third (Some why) → HasLives r.state
     → Answers m p first r third (Some why)
-goes_no_further m t ps n p first q second r third why g a lived = record {
-  ran = ran_on p first q second r third g.ran a.ran lived;
+goes_no_further places still m t ps n p first q second r third why g a lived = record {
+  ran = ran_on places still p first q second r third g.ran a.ran lived;
   means = g.further ∙ ap (λ o. after_run (record { state = q.state; edits = g.ran.edits }) (and_then o (parts_meaning ps (n + nodes_of t)))) a.means;
 }
 
@@ -78,11 +78,11 @@ broken_or_not (Some b) n s es = refl
 broken_or_not None n s es = refl
 
 -- a node was performed, and then the rules were looked at
-pub closed : (m : Outcome) (n : ℕ) (p : Operating) (first : Log) (q : Operating) (second third : Log) (answer : Option Refused)
+pub closed : SamePlacesAreKept → PlacesAreKeptOn → CanStillUnapply → (m : Outcome) (n : ℕ) (p : Operating) (first : Log) (q : Operating) (second third : Log) (answer : Option Refused)
     → Answers m p first q second None → third.done.items ≡ second.done.items → third.keys.items ≡ second.keys.items → HasLives q.state
     → answer ≡ breach_at n (first_breach q.state.config q.state.numbers) → Answers (if_rules_hold n m) p first q third answer
-closed m n p first q second third answer a done keys lived is = record {
-  ran = ran_on p first q second q third a.ran (ran_nothing q second q third refl (same_is_kept q.room q.room refl) done keys) lived;
+closed same places still m n p first q second third answer a done keys lived is = record {
+  ran = ran_on places still p first q second q third a.ran (ran_nothing q second q third refl (same q.room q.room refl) done keys) lived;
   means = ap (if_rules_hold n) a.means ∙ broken_or_not (first_breach q.state.config q.state.numbers) n q.state a.ran.edits
       ∙ ap (λ o. outcome_of o q.state a.ran.edits) (sym is) ∙ ap (outcome_of answer q.state) (sym (append-nil a.ran.edits));
 }
@@ -94,27 +94,27 @@ closed_before m n p first q second why a = record { ran = a.ran; means = ap (if_
 
 -- ---- a Choose
 
-pub chooses_first : (ps : Parts) (n : ℕ) (last : Refused) (p : Operating) (log : Log) → ChoosesOn (choice_meaning ps n last p.state) ps n last p log p log
-chooses_first ps n last p log = record { ran = ran_nowhere p log; nothing = refl; further = refl }
+pub chooses_first : SamePlacesAreKept → (ps : Parts) (n : ℕ) (last : Refused) (p : Operating) (log : Log) → ChoosesOn (choice_meaning ps n last p.state) ps n last p log p log
+chooses_first same ps n last p log = record { ran = ran_nowhere same p log; nothing = refl; further = refl }
 
 -- a part was accepted
-pub chosen : (m : Outcome) (t : ChangeTree) (ps : Parts) (n : ℕ) (last : Refused) (p : Operating) (first : Log) (q : Operating) (second : Log) (r : Operating) (third : Log)
+pub chosen : PlacesAreKeptOn → CanStillUnapply → (m : Outcome) (t : ChangeTree) (ps : Parts) (n : ℕ) (last : Refused) (p : Operating) (first : Log) (q : Operating) (second : Log) (r : Operating) (third : Log)
     → ChoosesOn m (part t ps) n last p first q second → Answers (if_rules_hold n (node_meaning t n q.state)) q second r third None → HasLives r.state
     → Answers m p first r third None
-chosen m t ps n last p first q second r third g a lived = record {
-  ran = ran_on p first q second r third g.ran a.ran lived;
+chosen places still m t ps n last p first q second r third g a lived = record {
+  ran = ran_on places still p first q second r third g.ran a.ran lived;
   means = g.further ∙ ap (λ o. or_else o (λ why. choice_meaning ps (n + nodes_of t) why q.state)) a.means
       ∙ ap (λ es. done_in r.state (es ++ a.ran.edits)) (sym g.nothing);
 }
 
 -- a part was refused, and is taken back
-pub chooses_next : (m : Outcome) (t : ChangeTree) (ps : Parts) (n : ℕ) (last why : Refused) (p : Operating) (first : Log) (q : Operating) (second : Log) (r : Operating) (third : Log)
+pub chooses_next : PlacesAreKeptOn → CanStillUnapply → (m : Outcome) (t : ChangeTree) (ps : Parts) (n : ℕ) (last why : Refused) (p : Operating) (first : Log) (q : Operating) (second : Log) (r : Operating) (third : Log)
     (u : Operating) (fourth : Log) → ChoosesOn m (part t ps) n last p first q second
     → Answers (if_rules_hold n (node_meaning t n q.state)) q second r third (Some why)
     → u.state ≡ q.state → u.room ≡ r.room → fourth.done.items ≡ second.done.items → fourth.keys.items ≡ second.keys.items → HasLives u.state
     → ChoosesOn m ps (n + nodes_of t) why p first u fourth
-chooses_next m t ps n last why p first q second r third u fourth g a state room done keys lived = record {
-  ran = ran_on p first q second u fourth g.ran (ran_nothing q second u fourth state (subst (KeepsRoom q.room) (sym room) a.ran.room) done keys) lived;
+chooses_next places still m t ps n last why p first q second r third u fourth g a state room done keys lived = record {
+  ran = ran_on places still p first q second u fourth g.ran (ran_nothing q second u fourth state (subst (KeepsRoom q.room) (sym room) a.ran.room) done keys) lived;
   nothing = append-nil g.ran.edits ∙ g.nothing;
   further = g.further ∙ ap (λ o. or_else o (λ w. choice_meaning ps (n + nodes_of t) w q.state)) a.means
       ∙ ap (λ s. choice_meaning ps (n + nodes_of t) why s) (sym state);

@@ -13,7 +13,7 @@ use Rattle.iocm_model.specs.Change.Runs.{state_after_all, AreAccepted}
 use Rattle.iocm_model.proofs.Change.RunsGoBack.{all_append, accepted_append, accepted_carry}
 use Rattle.iocm_plant.specs.Operating.{Operating, KeepsRoom}
 use Rattle.iocm_plant.specs.TakingBack.{CanUnapply}
-use Rattle.iocm_plant.proofs.Between.{rooms_on, same_is_kept}
+use Rattle.iocm_plant.specs.Between.{CanStillUnapply, PlacesAreKeptOn, SamePlacesAreKept}
 use Rattle.iocm_plant.specs.declared.touched.Applied.{Applied}
 use Rattle.iocm_activate.specs.Told.{told_of, told_of_all, told_in, key_of_edit, way_back, LeadsTo}
 use Rattle.iocm_activate.specs.Walked.{Ran}
@@ -43,8 +43,8 @@ ran_nothing p old q new same room done keys = record {
   keys = keys ∙ sym (append-nil old.keys.items);
 }
 
-abbrev pub ran_nowhere : (p : Operating) (log : Log) → Ran p log p log
-ran_nowhere p log = ran_nothing p log p log refl (same_is_kept p.room p.room refl) refl refl
+abbrev pub ran_nowhere : SamePlacesAreKept → (p : Operating) (log : Log) → Ran p log p log
+ran_nowhere same p log = ran_nothing p log p log refl (same p.room p.room refl) refl refl
 
 -- what is told of an edit is what is kept of it
 pub told_is : (a : Applied) (e : Edit) (s : State) → a.inverse.edit ≡ inverse_of e s
@@ -75,21 +75,21 @@ ran_one p old q new e a key sound accepted state room inverse can cells subchann
 }
 
 -- one run after another
-abbrev pub ran_on : (p : Operating) (first : Log) (q : Operating) (second : Log) (r : Operating) (third : Log) → Ran p first q second → Ran q second r third
+abbrev pub ran_on : PlacesAreKeptOn → CanStillUnapply → (p : Operating) (first : Log) (q : Operating) (second : Log) (r : Operating) (third : Log) → Ran p first q second → Ran q second r third
     → HasLives r.state → Ran p first r third
-ran_on p first q second r third before after lived =
+ran_on places still p first q second r third before after lived =
     let later : state_after_all after.edits q.state ≡ state_after_all (before.edits ++ after.edits) p.state =
     ap (state_after_all after.edits) before.state ∙ sym (all_append before.edits after.edits p.state) in record {
       edits = before.edits ++ after.edits;
       accepted = accepted_append before.edits after.edits p.state before.accepted (subst (AreAccepted after.edits) before.state after.accepted);
       state = after.state ∙ later;
-      room = rooms_on p.room q.room r.room before.room after.room;
+      room = places p.room q.room r.room before.room after.room;
       done = before.done ++ after.done;
       log = behind first.done.items second.done.items third.done.items before.done after.done before.log after.log;
       told = map-append told_in before.done after.done ∙ (λ i. before.told i ++ after.told i)
           ∙ ap (λ s. told_of_all before.edits p.state ++ told_of_all after.edits s) before.state ∙ sym (told_append before.edits after.edits p.state);
       back = subst (λ is. LeadsTo is p.state r) (sym (way_back_append before.done after.done))
-          (leads_on (way_back after.done) (way_back before.done) p.state q r after.back before.back lived after.room);
+          (leads_on still (way_back after.done) (way_back before.done) p.state q r after.back before.back lived after.room);
       keys = behind first.keys.items second.keys.items third.keys.items (map key_of_edit before.edits) (map key_of_edit after.edits) before.keys after.keys
           ∙ ap (λ ks. first.keys.items ++ ks) (sym (map-append key_of_edit before.edits after.edits));
     }

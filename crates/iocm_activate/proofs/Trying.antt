@@ -25,6 +25,7 @@ use Rattle.iocm_numbers.specs.declared.number_change.NumberChange.{NumberChange}
 use Rattle.iocm_numbers.specs.NumberChanges as numbers
 use Rattle.iocm_seats.specs.declared.view_change.ViewChange.{ViewChange}
 use Rattle.iocm_seats.specs.Changes as views
+use Rattle.iocm_plant.specs.Between.{CanStillUnapply, PlacesAreKeptOn, SamePlacesAreKept}
 use Rattle.iocm_plant.specs.Operating.{Operating, KeepsRoom}
 use Rattle.iocm_plant.specs.Refusing.{refusal_when}
 use Rattle.iocm_plant.specs.TakingBack.{CanUnapply}
@@ -39,7 +40,6 @@ use Rattle.iocm_tree.specs.Carried.{Carried}
 use Rattle.iocm_tree.specs.Trees.{CarriedTree, CarriedParts, leaf, row, group, choose, edit_in, tree_of, parts_of, plain_tree, plain_parts}
 use Rattle.iocm_tree.specs.declared.tree.Tree.{Tree}
 use Rattle.iocm_tree.proofs.Trees.{rest_at, none_left}
-use Rattle.iocm_plant.proofs.Between.{rooms_on, same_is_kept}
 use Rattle.iocm_activate.specs.Fitting.{is_turned_number, is_turned_view, gone_back, gone_back_along, part_gone_back, way_gone, IsOnTheWay}
 use Rattle.iocm_activate.proofs.GoingBack.{all_back}
 use Rattle.iocm_activate.proofs.Back.{leads_still, leads_on, way_back_append, undone}
@@ -93,12 +93,12 @@ refused e was s t why due =
 
 -- ---- it can be taken back
 
-pub leads_after : (p q : Operating) (e : Edit) (a : Applied) (old new : List Applied) → IsSound p.state → CarryFreeNumbers (e ∷ []) p.state
+pub leads_after : CanStillUnapply → (p q : Operating) (e : Edit) (a : Applied) (old new : List Applied) → IsSound p.state → CarryFreeNumbers (e ∷ []) p.state
     → q.state ≡ state_after e p.state → KeepsRoom p.room q.room → a.inverse.edit ≡ inverse_of e p.state → CanUnapply a.inverse q → new ≡ old ++ a ∷ []
     → (s : State) → LeadsTo (way_back old) s p → LeadsTo (way_back new) s q
-leads_after p q e a old new sound free state room inverse can done s leads =
+leads_after still p q e a old new sound free state room inverse can done s leads =
     subst (λ is. LeadsTo is s q) (sym (ap way_back done ∙ way_back_append old (a ∷ [])))
-    (leads_on (a.inverse ∷ []) (way_back old) s p q later leads (subst HasLives (sym state) (lived_after e p.state sound.lived)) room)
+    (leads_on still (a.inverse ∷ []) (way_back old) s p q later leads (subst HasLives (sym state) (lived_after e p.state sound.lived)) room)
   where
     later : LeadsTo (a.inverse ∷ []) p.state q
     later = (
@@ -107,22 +107,22 @@ leads_after p q e a old new sound free state room inverse can done s leads =
     )
 
 -- nothing was done
-pub leads_same : (p q : Operating) (old new : List Applied) → HasLives p.state → q.state ≡ p.state → KeepsRoom p.room q.room → new ≡ old
+pub leads_same : CanStillUnapply → (p q : Operating) (old new : List Applied) → HasLives p.state → q.state ≡ p.state → KeepsRoom p.room q.room → new ≡ old
     → (s : State) → LeadsTo (way_back old) s p → LeadsTo (way_back new) s q
-leads_same p q old new lived same room done s leads =
-    leads_still (way_back new) s p q (subst (λ ds. LeadsTo (way_back ds) s p) (sym done) leads) (subst HasLives (sym same) lived) same room
+leads_same still p q old new lived same room done s leads =
+    leads_still still (way_back new) s p q (subst (λ ds. LeadsTo (way_back ds) s p) (sym done) leads) (subst HasLives (sym same) lived) same room
 
 -- ---- along the way
 
 on_the_last : (left rest : List Touched) (was : Touched) → left ≡ rest ++ was ∷ [] → reverse left ≡ was ∷ reverse rest
 on_the_last left rest was is = ap reverse is ∙ reverse-append rest (was ∷ [])
 
-pub sets_out : {A : Type 0} (shown xs : List (Tree A)) (ds : List Touched) (p : Operating) (log : Log) → shown ≡ xs → WereKept log p.state
+pub sets_out : {A : Type 0} → SamePlacesAreKept → (shown xs : List (Tree A)) (ds : List Touched) (p : Operating) (log : Log) → shown ≡ xs → WereKept log p.state
     → IsOnTheWay (gone_back_along (plain_parts (parts_of xs)) (reverse ds) p.state) (plain_parts (parts_of shown)) ds p log p log
-sets_out shown xs ds p log all kept = record {
+sets_out same shown xs ds p log all kept = record {
   further = ap (λ ps. gone_back_along (plain_parts (parts_of ps)) (reverse ds) p.state) (sym all);
   back = λ s leads. leads;
-  room = same_is_kept p.room p.room refl;
+  room = same p.room p.room refl;
   kept = kept;
 }
 
@@ -134,16 +134,16 @@ module _ {A : Type 0} (whole : Option State) (shown : List (Tree A)) (i : ℕ) (
   at_part x within is left rest was last way = way.further
       ∙ (λ j. gone_back_along (plain_parts (rest_at shown i x within is j)) (on_the_last left rest was last j) q.state)
 
-  pub goes_on : (x : Tree A) → i < length shown → x ≡ get_or shown i x → (left rest : List Touched) (was : Touched) → left ≡ rest ++ was ∷ []
+  pub goes_on : PlacesAreKeptOn → (x : Tree A) → i < length shown → x ≡ get_or shown i x → (left rest : List Touched) (was : Touched) → left ≡ rest ++ was ∷ []
       → IsOnTheWay whole (plain_parts (parts_of (drop i shown))) left p first q second
       → (r : Operating) (third : Log) → part_gone_back (plain_tree (tree_of x)) was q.state ≡ Some r.state
       → ((s : State) → LeadsTo (way_back second.done.items) s q → LeadsTo (way_back third.done.items) s r) → KeepsRoom q.room r.room → WereKept third r.state
       → IsOnTheWay whole (plain_parts (parts_of (drop (i + 1) shown))) rest p first r third
-  goes_on x within is left rest was last way r third gone back room kept = record {
+  goes_on places x within is left rest was last way r third gone back room kept = record {
     further = at_part x within is left rest was last way
         ∙ ap (option_and_then (gone_back_along (plain_parts (parts_of (drop (i + 1) shown))) (reverse rest))) gone;
     back = λ s leads. back s (way.back s leads);
-    room = rooms_on p.room q.room r.room way.room room;
+    room = places p.room q.room r.room way.room room;
     kept = kept;
   }
 

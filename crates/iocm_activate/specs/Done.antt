@@ -3,7 +3,8 @@ use Rattle.std.specs.Prelude.{◌≡◌, List, [], ◌∷◌, map, Option, None,
 use Rattle.iocm_types.specs.declared.refused.Refused.{Refused}
 use Rattle.iocm_model.specs.Operation.State.{State}
 use Rattle.iocm_model.specs.Change.Edit.{Edit}
-use Rattle.iocm_model.specs.Change.Meaning.{Outcome}
+use Rattle.iocm_model.specs.Change.Meaning.{Outcome, meaning}
+use Rattle.iocm_model.specs.Change.Tree.{ChangeTree}
 use Rattle.iocm_tree.specs.Carried.{Carried}
 use Rattle.iocm_tree.specs.Trees.{CarriedTree, CarriedParts, leaf, row, none, part}
 use Rattle.iocm_plant.specs.Operating.{Operating}
@@ -19,6 +20,10 @@ edits_of (Err why) = []
 abbrev pub refusal_in : Outcome → Option Refused
 refusal_in (Ok r) = None
 refusal_in (Err why) = Some why
+
+-- the edits that a change tree means in a state; none, if it is refused there
+abbrev pub edits_meant : ChangeTree → State → List Edit
+edits_meant p s = edits_of (meaning p s)
 
 -- edits as the parts of a node
 abbrev pub leaves_from : List Carried → CarriedParts

@@ -23,10 +23,12 @@ use Rattle.iocm_activate.specs.declared.log.Log.{Log}
 -- one change is the other turned round: at the same cell, from what was there after that one to
 -- what was there before it
 abbrev pub is_turned_number : NumberChange → NumberChange → Bool
-is_turned_number now was = eq_by_cmp cell_cmp now.cell was.cell && (option_eq ◌==◌ now.before was.after && option_eq ◌==◌ now.after was.before)
+is_turned_number now was = eq_by_cmp cell_cmp now.cell was.cell
+    && (option_eq ◌==◌ now.before was.after && option_eq ◌==◌ now.after was.before)
 
 abbrev pub is_turned_view : ViewChange → ViewChange → Bool
-is_turned_view now was = eq_by_cmp sub_id_cmp now.subchannel was.subchannel && (option_eq same_view now.before was.after && option_eq same_view now.after was.before)
+is_turned_view now was = eq_by_cmp sub_id_cmp now.subchannel was.subchannel
+    && (option_eq same_view now.before was.after && option_eq same_view now.after was.before)
 
 -- the state that an edit leaves, if it can be performed there, be the subchannels quiet or not, and
 -- its changes are those of another one turned round
@@ -55,7 +57,8 @@ way_gone went s = if went then Some s else None
 -- in the middle of the way: some parts went back, each with its own, and how far all of them go is
 -- how far the rest goes from here. What was done can be taken back, and so can what was done before
 -- it
-pub record IsOnTheWay (whole : Option State) (rest : Parts) (left : List Touched) (before : Operating) (old : Log) (now : Operating) (log : Log) : Type 0 where
+pub record IsOnTheWay (whole : Option State) (rest : Parts) (left : List Touched) (before : Operating) (old : Log)
+    (now : Operating) (log : Log) : Type 0 where
   pub further : whole ≡ gone_back_along rest (reverse left) now.state
   pub back : (s : State) → LeadsTo (way_back old.done.items) s before → LeadsTo (way_back log.done.items) s now
   pub room : KeepsRoom before.room now.room

@@ -49,7 +49,8 @@ way_back (a ∷ ds) = way_back ds ++ (a.inverse ∷ [])
 -- edits that can be unapplied on a machine, one after the other, and lead to a state
 abbrev pub LeadsTo : List Carried → State → Operating → Type 0
 LeadsTo [] s p = p.state ≡ s
-LeadsTo (i ∷ is) s p = CanUnapply i p × ((q : Operating) → q.state ≡ state_after i.edit p.state → q.room ≡ p.room → LeadsTo is s q)
+LeadsTo (i ∷ is) s p = CanUnapply i p × ((q : Operating) → q.state ≡ state_after i.edit p.state → q.room ≡ p.room
+    → LeadsTo is s q)
 
 -- the edits that were performed last can be taken back, to some state
 pub record CanTakeBack (done : List Applied) (p : Operating) : Type 0 where

@@ -33,7 +33,8 @@ outcome_of (Some why) s es = Err why
 
 -- a walk answers what the part of the tree means. Where that is a refusal, what it did until then
 -- is still done
-pub record Answers (meant : Outcome) (before : Operating) (old : Log) (after : Operating) (new : Log) (answer : Option Refused) : Type 0 where
+pub record Answers (meant : Outcome) (before : Operating) (old : Log) (after : Operating) (new : Log)
+    (answer : Option Refused) : Type 0 where
   pub ran : Ran before old after new
   pub means : meant ≡ outcome_of answer after.state ran.edits
 

@@ -5,10 +5,10 @@ ghost use Rattle.iocm_model.specs.Change.Meaning.{meaning};
 ghost use Rattle.iocm_model.specs.Change.Runs as runs;
 ghost use Rattle.iocm_model.specs.Laws.Trees.{KeepsTheRules};
 ghost use Rattle.iocm_model.specs.Operation.State.{State};
-ghost use Rattle.iocm_tree.specs.Trees.{plain_tree, row, tree_of};
+ghost use Rattle.iocm_tree.specs.Trees.{row, tree_of, plain};
 ghost use Rattle.iocm_plant.specs.Operating.{KeepsRoom};
 ghost use Rattle.iocm_plant.specs.Refusing.{IsDue, no_memory};
-ghost use Rattle.iocm_activate.specs.Done.{AreToldBy, IsWayBack, edits_of, leaves_from, refusal_in, touched_in};
+ghost use Rattle.iocm_activate.specs.Done.{AreToldBy, IsWayBack, leaves_from, refusal_in, touched_in, edits_meant};
 ghost use Rattle.iocm_activate.specs.Effects.{cells_told, effect_in};
 ghost use Rattle.iocm_activate.specs.Told.{CanTakeBack, LeadsTo, told_of_all, way_back};
 
@@ -34,16 +34,21 @@ pub fn activate<A: Allocator>(
     tree: &Tree<A>,
 ) -> Result<Done, Refused>
     requires kept { KeepsTheRules plant.old.state }
-    ensures means { OnOk result (meaning (plain_tree (tree_of tree.now)) plant.old.state ≡ Ok (record { state = plant.new.state; edits = edits_of (meaning (plain_tree (tree_of tree.now)) plant.old.state) })) }
-    ensures refused { IfErr result (IsDue (refusal_in (meaning (plain_tree (tree_of tree.now)) plant.old.state))) }
+    ensures means { OnOk result (meaning (plain tree.now) plant.old.state
+        ≡ Ok (record { state = plant.new.state; edits = edits_meant (plain tree.now) plant.old.state })) }
+    ensures refused { IfErr result (IsDue (refusal_in (meaning (plain tree.now) plant.old.state))) }
     ensures same { OnErr result (plant.new.state ≡ plant.old.state) }
     ensures kept { KeepsTheRules plant.new.state }
     ensures room { KeepsRoom plant.old.room plant.new.room }
-    ensures inverse { IfOk result (λ d. plain_tree (tree_of d.inverse) ≡ inverse_tree (edits_of (meaning (plain_tree (tree_of tree.now)) plant.old.state)) plant.old.state) }
-    ensures takes_back { IfOk result (λ d. TakesBack (plain_tree (tree_of d.inverse)) (edits_of (meaning (plain_tree (tree_of tree.now)) plant.old.state)) plant.old.state) }
+    ensures inverse { IfOk result (λ d. plain d.inverse
+        ≡ inverse_tree (edits_meant (plain tree.now) plant.old.state) plant.old.state) }
+    ensures takes_back { IfOk result (λ d. TakesBack (plain d.inverse)
+        (edits_meant (plain tree.now) plant.old.state) plant.old.state) }
     ensures back { IfOk result (λ d. IsWayBack (tree_of d.inverse) plant.old.state plant.new) }
-    ensures effect { IfOk result (λ d. effect_in d.effect ≡ runs.effect_of (edits_of (meaning (plain_tree (tree_of tree.now)) plant.old.state)) plant.old.state) }
-    ensures performed { IfOk result (λ d. AreToldBy d.performed.items (told_of_all (edits_of (meaning (plain_tree (tree_of tree.now)) plant.old.state)) plant.old.state)) }
+    ensures effect { IfOk result (λ d. effect_in d.effect
+        ≡ runs.effect_of (edits_meant (plain tree.now) plant.old.state) plant.old.state) }
+    ensures performed { IfOk result (λ d. AreToldBy d.performed.items
+        (told_of_all (edits_meant (plain tree.now) plant.old.state) plant.old.state)) }
 {
     // For the proof alone: the state is sound.
     plant.is_sound();

@@ -2,14 +2,15 @@ ghost use Rattle.std.specs.Prelude.{◌≡◌, IfOk, OnOk};
 ghost use Rattle.std.specs.FinMap as map;
 ghost use Rattle.iocm_types.specs.Key.{key_cmp};
 ghost use Rattle.iocm_types.specs.Place.{cell_cmp};
-ghost use Rattle.iocm_types.specs.SubId.{sub_id_cmp};
 ghost use Rattle.iocm_table.specs.Slots.{rows};
 ghost use Rattle.iocm_model.specs.Machine.Numbering.{cells_of};
 ghost use Rattle.iocm_model.specs.Change.Effect.{values_in};
 ghost use Rattle.iocm_model.specs.Change.Maps.{cells_at};
-ghost use Rattle.iocm_activate.specs.Effects.{cells_changed, cells_told, effect_in, numbers_told, subchannels_changed, subchannels_told, with_values};
+ghost use Rattle.iocm_activate.specs.Effects.{cells_changed, cells_told, effect_in, numbers_told};
+ghost use Rattle.iocm_activate.specs.Effects.{subchannels_changed, subchannels_told, with_values};
 ghost use Rattle.iocm_activate.specs.Told as told;
 ghost use Rattle.std.specs.Prelude.{map as map_list};
+ghost use Rattle.iocm_types.specs.SubId.{sub_id_cmp};
 
 use crate::log::Log;
 use iocm_config::Config;
@@ -80,7 +81,8 @@ fn number_cells(
     numbers: &Numbers,
     done: &[Applied],
 ) -> Result<Table<NumberCell, Option<DevNo>>, AllocError>
-    ensures { IfOk result (λ cells. rows cell_cmp cells ≡ cells_at (cells_of numbers.now.numbers) (numbers_told (map_list told.told_in done.now))) }
+    ensures { IfOk result (λ cells. rows cell_cmp cells
+        ≡ cells_at (cells_of numbers.now.numbers) (numbers_told (map_list told.told_in done.now))) }
 {
     let mut cells = Table::new(alloc);
     for applied in done {
@@ -95,7 +97,8 @@ fn add_numbers(
     numbers: &Numbers,
     changes: &[NumberChange],
 ) -> Result<(), AllocError>
-    ensures { OnOk result (rows cell_cmp cells.new ≡ with_values (cells_of numbers.now.numbers) (cells_changed changes.now) (rows cell_cmp cells.old)) }
+    ensures { OnOk result (rows cell_cmp cells.new
+        ≡ with_values (cells_of numbers.now.numbers) (cells_changed changes.now) (rows cell_cmp cells.old)) }
 {
     for change in changes {
         add_cell(cells, change.cell, numbers.device_at(change.cell))?;
@@ -109,7 +112,8 @@ fn live_cells(
     plant: &Plant,
     done: &[Applied],
 ) -> Result<Table<SubId, Option<Live>>, AllocError>
-    ensures { IfOk result (λ cells. rows sub_id_cmp cells ≡ cells_at plant.now.state.lives (subchannels_told (map_list told.told_in done.now))) }
+    ensures { IfOk result (λ cells. rows sub_id_cmp cells
+        ≡ cells_at plant.now.state.lives (subchannels_told (map_list told.told_in done.now))) }
 {
     let mut cells = Table::new(alloc);
     for applied in done {
@@ -124,7 +128,8 @@ fn add_lives(
     plant: &Plant,
     changes: &[ViewChange],
 ) -> Result<(), AllocError>
-    ensures { OnOk result (rows sub_id_cmp cells.new ≡ with_values plant.now.state.lives (subchannels_changed changes.now) (rows sub_id_cmp cells.old)) }
+    ensures { OnOk result (rows sub_id_cmp cells.new ≡ with_values plant.now.state.lives (subchannels_changed changes.now)
+        (rows sub_id_cmp cells.old)) }
 {
     for change in changes {
         add_cell(cells, change.subchannel, plant.live(change.subchannel))?;

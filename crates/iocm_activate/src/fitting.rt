@@ -4,7 +4,7 @@ ghost use Rattle.iocm_model.specs.Change.InverseTree.{inverse_tree};
 ghost use Rattle.iocm_model.specs.Laws.Trees.{KeepsTheRules};
 ghost use Rattle.iocm_model.specs.Operation.State.{State};
 ghost use Rattle.iocm_history.specs.Fits as history;
-ghost use Rattle.iocm_tree.specs.Trees.{edit_in, leaf, parts_of, plain_parts, plain_tree, tree_of};
+ghost use Rattle.iocm_tree.specs.Trees.{edit_in, leaf, parts_of, plain_parts, tree_of, plain};
 ghost use Rattle.iocm_plant.specs.Operating.{KeepsRoom};
 ghost use Rattle.iocm_activate.specs.Done.{AreToldBy};
 ghost use Rattle.iocm_activate.specs.Fitting.{gone_back, gone_back_along, way_gone};
@@ -16,7 +16,7 @@ use crate::log::Log;
 use crate::rules::first_broken;
 use crate::taking_back::take_all_back;
 use crate::turned::is_turned;
-use iocm_plant::{Plant, Touched};
+use iocm_plant::{Plant, Touched, what_happens_between};
 use iocm_tree::{Edit, Tree};
 use std::alloc::{AllocError, Allocator, Global};
 
@@ -33,7 +33,9 @@ pub fn fits<A: Allocator>(
     performed: &[Touched],
 ) -> Result<bool, AllocError>
     requires kept { KeepsTheRules plant.old.state }
-    ensures fits { IfOk result (λ is. (es : List model.Edit) (s : State) → plain_tree (tree_of inverse.now) ≡ inverse_tree es s → AreToldBy performed.now (told_of_all es s) → is ≡ history.fits (record { edits = es; from = s }) plant.old.state) }
+    ensures fits { IfOk result (λ is. (es : List model.Edit) (s : State) → plain inverse.now ≡ inverse_tree es s
+        → AreToldBy performed.now (told_of_all es s)
+        → is ≡ history.fits (record { edits = es; from = s }) plant.old.state) }
     ensures same { plant.new.state ≡ plant.old.state }
     ensures room { KeepsRoom plant.old.room plant.new.room }
 {
@@ -62,8 +64,10 @@ fn try_back<A: Allocator>(
     performed: &[Touched],
 ) -> Result<bool, AllocError>
     requires kept { WereKept log.old plant.old.state }
-    ensures fits { IfOk result (λ is. is ≡ history.keeps_the_rules (gone_back_along (plain_parts (parts_of parts.now.items)) (reverse performed.now) plant.old.state)) }
-    ensures back { (s : State) → LeadsTo (way_back log.old.done.items) s plant.old → LeadsTo (way_back log.new.done.items) s plant.new }
+    ensures fits { IfOk result (λ is. is ≡ history.keeps_the_rules
+        (gone_back_along (plain_parts (parts_of parts.now.items)) (reverse performed.now) plant.old.state)) }
+    ensures back { (s : State) → LeadsTo (way_back log.old.done.items) s plant.old
+        → LeadsTo (way_back log.new.done.items) s plant.new }
     ensures room { KeepsRoom plant.old.room plant.new.room }
 {
     if !all_go_back(alloc, plant, log, parts, performed)? {
@@ -85,11 +89,15 @@ fn all_go_back<A: Allocator>(
     performed: &[Touched],
 ) -> Result<bool, AllocError>
     requires kept { WereKept log.old plant.old.state }
-    ensures went { IfOk result (λ went. gone_back_along (plain_parts (parts_of parts.now.items)) (reverse performed.now) plant.old.state ≡ way_gone went plant.new.state) }
-    ensures back { (s : State) → LeadsTo (way_back log.old.done.items) s plant.old → LeadsTo (way_back log.new.done.items) s plant.new }
+    ensures went { IfOk result (λ went. gone_back_along (plain_parts (parts_of parts.now.items))
+        (reverse performed.now) plant.old.state ≡ way_gone went plant.new.state) }
+    ensures back { (s : State) → LeadsTo (way_back log.old.done.items) s plant.old
+        → LeadsTo (way_back log.new.done.items) s plant.new }
     ensures room { KeepsRoom plant.old.room plant.new.room }
     ensures kept { WereKept log.new plant.new.state }
 {
+    // For the proof alone: places are kept from part to part.
+    what_happens_between();
     let mut left = performed;
     for part in parts {
         let Some((was, rest)) = left.split_last() else {
@@ -118,13 +126,16 @@ fn goes_back<A: Allocator>(
     was: &Touched,
 ) -> Result<bool, AllocError>
     requires kept { WereKept log.old plant.old.state }
-    ensures went { IfOk result (λ went. gone_back edit.now.edit was.now plant.old.state ≡ way_gone went plant.new.state) }
-    ensures back { (s : State) → LeadsTo (way_back log.old.done.items) s plant.old → LeadsTo (way_back log.new.done.items) s plant.new }
+    ensures went { IfOk result (λ went. gone_back edit.now.edit was.now plant.old.state
+        ≡ way_gone went plant.new.state) }
+    ensures back { (s : State) → LeadsTo (way_back log.old.done.items) s plant.old
+        → LeadsTo (way_back log.new.done.items) s plant.new }
     ensures room { KeepsRoom plant.old.room plant.new.room }
     ensures kept { WereKept log.new plant.new.state }
 {
-    // For the proof alone: the state is sound.
+    // For the proof alone: the state is sound, and what could be taken back before can be so still.
     plant.is_sound();
+    what_happens_between();
     log.room()?;
     let copy = edit.copy_in(alloc)?;
     let key = copy.key();

@@ -6,7 +6,7 @@ ghost use Rattle.iocm_plant.specs.Refusing.{IsDue};
 ghost use Rattle.iocm_activate.specs.Walked.{Answers, Ran, WereKept};
 
 use crate::log::Log;
-use iocm_plant::Plant;
+use iocm_plant::{Plant, what_happens_between};
 use iocm_tree::Edit;
 use iocm_types::{Refused, Rule};
 use std::alloc::{AllocError, Allocator, Global};
@@ -22,12 +22,14 @@ pub fn perform<A: Allocator>(
     node: u64,
 ) -> Result<Option<Refused>, AllocError>
     requires kept { WereKept log.old plant.old.state }
-    ensures answers { IfOk result (Answers (node_meaning (leaf edit.now.edit) node plant.old.state) plant.old log.old plant.new log.new) }
+    ensures answers { IfOk result (Answers (node_meaning
+        (leaf edit.now.edit) node plant.old.state) plant.old log.old plant.new log.new) }
     ensures ran { OnErr result (Ran plant.old log.old plant.new log.new) }
     ensures kept { WereKept log.new plant.new.state }
 {
-    // For the proof alone: the state is sound.
+    // For the proof alone: the state is sound, and no place is lost where nothing is done.
     plant.is_sound();
+    what_happens_between();
     log.room()?;
     let copy = edit.copy_in(alloc)?;
     let key = copy.key();
@@ -44,14 +46,11 @@ pub fn perform<A: Allocator>(
 ///
 /// `AllocError` (M1): it was refused because memory was wanted.
 fn unless_no_memory(why: Refused, node: u64) -> Result<Refused, AllocError>
-    ensures { IfOk result (λ named. (due : Option refused.Refused) → IsDue due why → (due ≡ Some why) × (named ≡ at_node node why)) }
+    ensures { IfOk result (λ named. (due : Option refused.Refused) → IsDue due why → (due ≡ Some why)
+        × (named ≡ at_node node why)) }
 {
     unless_memory_wanted(&why)?;
-    Ok(Refused {
-        rule: why.rule,
-        node: Some(node),
-        at: why.at,
-    })
+    Ok(why.at_node(node))
 }
 
 /// That an edit is refused for another reason than want of memory.

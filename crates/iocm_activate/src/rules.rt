@@ -16,7 +16,8 @@ use iocm_types::{At, Key, Refused};
 /// node, if there is one.
 pub fn broken(plant: &Plant, log: &mut Log, node: u64) -> Option<Refused>
     requires kept { WereKept log.old plant.now.state }
-    ensures value { result ≡ option_map (λ (b : Breach). record { rule = b.rule; node = Some node; at = at.Key b.key }) (first_breach plant.now.state.config plant.now.state.numbers) }
+    ensures value { result ≡ option_map (λ (b : Breach). record { rule = b.rule; node = Some node; at = at.Key b.key })
+        (first_breach plant.now.state.config plant.now.state.numbers) }
     ensures done { log.new.done ≡ log.old.done }
     ensures keys { log.new.keys ≡ log.old.keys }
     ensures kept { WereKept log.new plant.now.state }

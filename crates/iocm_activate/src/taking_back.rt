@@ -9,7 +9,8 @@ use iocm_plant::{Applied, Plant};
 /// want of memory.
 pub fn take_back(plant: &mut Plant, log: &mut Log, mark: Mark)
     requires { CanTakeBack (drop mark.done log.old.done.items) plant.old }
-    ensures state { (s : State) → LeadsTo (way_back (drop mark.done log.old.done.items)) s plant.old → plant.new.state ≡ s }
+    ensures state { (s : State) → LeadsTo (way_back (drop mark.done log.old.done.items)) s plant.old
+        → plant.new.state ≡ s }
     ensures room { plant.new.room ≡ plant.old.room }
     ensures done { log.new.done.items ≡ take mark.done log.old.done.items }
     ensures keys { log.new.keys.items ≡ take mark.keys log.old.keys.items }
@@ -44,7 +45,8 @@ pub fn take_all_back(plant: &mut Plant, log: Log)
 /// The last of these edits, where there are more than so many.
 fn pop_past(done: &mut Vec<Applied>, most: usize) -> Option<Applied>
     ensures most { MatchOption result (length done.old.items ≤ most) (λ a. most < length done.old.items) }
-    ensures done { MatchOption result (done.new.items ≡ done.old.items) (λ a. done.old.items ≡ done.new.items ++ a ∷ []) }
+    ensures done { MatchOption result (done.new.items ≡ done.old.items)
+        (λ a. done.old.items ≡ done.new.items ++ a ∷ []) }
 {
     if done.len() <= most {
         return None;

@@ -12,7 +12,8 @@ use iocm_types::View;
 /// Whether an edit did just what another one did, turned round: each change at the same cell, from
 /// what was there after that one to what was there before it.
 pub fn is_turned(now: &Touched, was: &Touched) -> bool
-    ensures { result ≡ (pointwise is_turned_number now.now.numbers.items was.now.numbers.items && pointwise is_turned_view now.now.subchannels.items was.now.subchannels.items) }
+    ensures { result ≡ (pointwise is_turned_number now.now.numbers.items was.now.numbers.items
+        && pointwise is_turned_view now.now.subchannels.items was.now.subchannels.items) }
 {
     are_numbers_turned(now.numbers.as_slice(), was.numbers.as_slice())
         && are_views_turned(now.subchannels.as_slice(), was.subchannels.as_slice())

@@ -1,14 +1,15 @@
 ghost use Rattle.std.specs.Prelude.{◌≡◌, ◌+◌, ◌<◌, ◌^◌, IfOk, OnErr};
-ghost use Rattle.iocm_model.specs.Change.Meaning.{if_rules_hold, node_meaning, parts_meaning, choice_meaning, without_parts};
+ghost use Rattle.iocm_model.specs.Change.Meaning.{if_rules_hold, node_meaning, parts_meaning};
+ghost use Rattle.iocm_model.specs.Change.Meaning.{choice_meaning, without_parts};
 ghost use Rattle.iocm_model.specs.Change.Tree.{nodes_of, nodes_in};
-ghost use Rattle.iocm_tree.specs.Trees.{tree_of, parts_of, plain_tree, plain_parts};
+ghost use Rattle.iocm_tree.specs.Trees.{parts_of, plain_parts, plain};
 ghost use Rattle.iocm_activate.specs.Walked.{Answers, Ran, WereKept};
 
 use crate::leaf::perform;
 use crate::log::Log;
 use crate::rules::broken;
 use crate::taking_back::take_back;
-use iocm_plant::Plant;
+use iocm_plant::{Plant, what_happens_between};
 use iocm_tree::Tree;
 use iocm_types::{At, Refused, Rule};
 use std::alloc::{AllocError, Allocator, Global};
@@ -25,9 +26,10 @@ pub fn walk<A: Allocator>(
     tree: &Tree<A>,
     node: u64,
 ) -> Result<Option<Refused>, AllocError>
-    requires nodes { node + nodes_of (plain_tree (tree_of tree.now)) < 2 ^ 64 }
+    requires nodes { node + nodes_of (plain tree.now) < 2 ^ 64 }
     requires kept { WereKept log.old plant.old.state }
-    ensures answers { IfOk result (Answers (node_meaning (plain_tree (tree_of tree.now)) node plant.old.state) plant.old log.old plant.new log.new) }
+    ensures answers { IfOk result (Answers (node_meaning
+        (plain tree.now) node plant.old.state) plant.old log.old plant.new log.new) }
     ensures ran { OnErr result (Ran plant.old log.old plant.new log.new) }
     ensures kept { WereKept log.new plant.new.state }
 {
@@ -50,12 +52,15 @@ pub fn walk_closed<A: Allocator>(
     tree: &Tree<A>,
     node: u64,
 ) -> Result<Option<Refused>, AllocError>
-    requires nodes { node + nodes_of (plain_tree (tree_of tree.now)) < 2 ^ 64 }
+    requires nodes { node + nodes_of (plain tree.now) < 2 ^ 64 }
     requires kept { WereKept log.old plant.old.state }
-    ensures answers { IfOk result (Answers (if_rules_hold node (node_meaning (plain_tree (tree_of tree.now)) node plant.old.state)) plant.old log.old plant.new log.new) }
+    ensures answers { IfOk result (Answers (if_rules_hold node
+        (node_meaning (plain tree.now) node plant.old.state)) plant.old log.old plant.new log.new) }
     ensures ran { OnErr result (Ran plant.old log.old plant.new log.new) }
     ensures kept { WereKept log.new plant.new.state }
 {
+    // For the proof alone: what was done can be taken back still, once the rules were looked at.
+    what_happens_between();
     match walk(alloc, plant, log, tree, node)? {
         Some(why) => Ok(Some(why)),
         None => Ok(broken(plant, log, node)),
@@ -75,10 +80,14 @@ fn walk_group<A: Allocator>(
 ) -> Result<Option<Refused>, AllocError>
     requires nodes { node + 1 + nodes_in (plain_parts (parts_of parts.now.items)) < 2 ^ 64 }
     requires kept { WereKept log.old plant.old.state }
-    ensures answers { IfOk result (Answers (if_rules_hold node (parts_meaning (plain_parts (parts_of parts.now.items)) (node + 1) plant.old.state)) plant.old log.old plant.new log.new) }
+    ensures answers { IfOk result (Answers (if_rules_hold node
+        (parts_meaning (plain_parts (parts_of parts.now.items))
+        (node + 1) plant.old.state)) plant.old log.old plant.new log.new) }
     ensures ran { OnErr result (Ran plant.old log.old plant.new log.new) }
     ensures kept { WereKept log.new plant.new.state }
 {
+    // For the proof alone: what was done can be taken back still, once the rules were looked at.
+    what_happens_between();
     match walk_all(alloc, plant, log, parts, node + 1)? {
         Some(why) => Ok(Some(why)),
         None => Ok(broken(plant, log, node)),
@@ -98,12 +107,14 @@ fn walk_all<A: Allocator>(
 ) -> Result<Option<Refused>, AllocError>
     requires nodes { node + nodes_in (plain_parts (parts_of parts.now.items)) < 2 ^ 64 }
     requires kept { WereKept log.old plant.old.state }
-    ensures answers { IfOk result (Answers (parts_meaning (plain_parts (parts_of parts.now.items)) node plant.old.state) plant.old log.old plant.new log.new) }
+    ensures answers { IfOk result (Answers (parts_meaning
+        (plain_parts (parts_of parts.now.items)) node plant.old.state) plant.old log.old plant.new log.new) }
     ensures ran { OnErr result (Ran plant.old log.old plant.new log.new) }
     ensures kept { WereKept log.new plant.new.state }
 {
-    // For the proof alone: the state is sound.
+    // For the proof alone: the state is sound, and what was done before can be taken back still.
     plant.is_sound();
+    what_happens_between();
     let mut next = node;
     for part in parts {
         let size = part.nodes();
@@ -130,12 +141,14 @@ fn walk_first<A: Allocator>(
 ) -> Result<Option<Refused>, AllocError>
     requires nodes { node + 1 + nodes_in (plain_parts (parts_of parts.now.items)) < 2 ^ 64 }
     requires kept { WereKept log.old plant.old.state }
-    ensures answers { IfOk result (Answers (choice_meaning (plain_parts (parts_of parts.now.items)) (node + 1) (without_parts node) plant.old.state) plant.old log.old plant.new log.new) }
+    ensures answers { IfOk result (Answers (choice_meaning (plain_parts (parts_of parts.now.items)) (node + 1)
+        (without_parts node) plant.old.state) plant.old log.old plant.new log.new) }
     ensures ran { OnErr result (Ran plant.old log.old plant.new log.new) }
     ensures kept { WereKept log.new plant.new.state }
 {
-    // For the proof alone: the state is sound.
+    // For the proof alone: the state is sound, and what was done before can be taken back still.
     plant.is_sound();
+    what_happens_between();
     let mut last = no_parts(node);
     let mut next = node + 1;
     for part in parts {
@@ -157,9 +170,5 @@ fn walk_first<A: Allocator>(
 fn no_parts(node: u64) -> Refused
     ensures { result ≡ without_parts node }
 {
-    Refused {
-        rule: Rule::E3,
-        node: Some(node),
-        at: At::Nothing,
-    }
+    Refused::about(Rule::E3, At::Nothing).at_node(node)
 }

@@ -99,7 +99,7 @@ impl Trial {
     fn is_answered(&mut self, alloc: Global, act: &Act) -> Result<bool, Fail> {
         Ok(match act {
             Act::Order(there, order, wanted) => self.plant.step(*there, *order) == *wanted,
-            Act::End(there) => self.plant.end(*there),
+            Act::End(there) => self.plant.device_end(*there),
             Act::Activate(plan, edits, subchannels) => {
                 self.activate(alloc, plan)? == (*edits, *subchannels)
             }

@@ -38,7 +38,7 @@ fn do_again(alloc: Global, plant: &mut Plant, deed: &Deed) -> Result<(), Fail> {
             Ok(())
         }
         Deed::End(there) => {
-            let _ = plant.end(*there);
+            let _ = plant.device_end(*there);
             Ok(())
         }
     }

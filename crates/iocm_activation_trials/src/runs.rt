@@ -52,7 +52,7 @@ fn give_order(
 
 /// Has the device of a subchannel end what it does, and notes it.
 fn have_ended(plant: &mut Plant, past: &mut Past, there: &SubId) -> Result<(), Fail> {
-    let _ = plant.end(*there);
+    let _ = plant.device_end(*there);
     past.deeds.push(Deed::End(*there))?;
     Ok(())
 }

@@ -1,5 +1,5 @@
 -- A change that is accepted.
-use Rattle.std.proofs.Common.{◌≡◌, ℕ, ◌+◌, ◌-◌, length, true, Some, None, List, [], ◌∷◌, ◌++◌, refl, sym, ap, subst, ◌∙◌, arith}
+use Rattle.std.proofs.Common.{◌≡◌, ℕ, ◌+◌, ◌-◌, length, Some, None, List, [], ◌∷◌, ◌++◌, refl, sym, ap, subst, ◌∙◌, arith}
 use Rattle.std.specs.Option.{option_map_or}
 use Rattle.std.specs.List.{slice_get}
 use Rattle.iocm_types.specs.declared.answer.Answer.TheVariants as answers
@@ -14,13 +14,16 @@ use Rattle.iocm_activate.specs.Effects.{effect_in}
 use Rattle.iocm_activate.specs.declared.done.Done.{Done}
 use Rattle.iocm_activate.specs.declared.effect.Effect.{Effect}
 use Rattle.iocm_journal.specs.Now.{IsJournalOf}
-use Rattle.iocm_journal.proofs.GoingOn.{accepted}
-use Rattle.iocm_journal.proofs.Taken.{at_end}
 use Rattle.iocm_stage.specs.Staged.{Tells}
 use Rattle.iocm_core.specs.Accepting.{AcceptsOne}
 use Rattle.iocm_core.specs.Running.{IsStagedAs, HasRoomFor, IsMachineOf, IsAnswered}
 use Rattle.iocm_core.specs.Told.{effect_told, entry_told}
 use Rattle.iocm_core.specs.declared.machine.Machine.{Machine}
+
+-- one that is put behind a list is there
+at_end : {A : Type 0} (xs : List A) (x : A) → slice_get (xs ++ x ∷ []) (length xs) ≡ Some x
+at_end [] x = refl
+at_end (y ∷ xs) x = at_end xs x
 
 -- the answer with the newest change's number tells of it
 pub told_newest : (fs : List Effect) (f : Effect) (n : ℕ) → n ≡ length fs + 1 → effect_told (fs ++ f ∷ []) (answers.Changed n) ≡ effect_in f
@@ -53,8 +56,8 @@ module _ (opening : State) (h : History) (m n : Machine) (it : IsMachineOf openi
     right = subst (IsRight opening h) (sym entry_is) right;
     is = subst (λ z. IsMachineOf opening (z ∷ h) n) (sym entry_is) (record {
       journal = subst (IsJournalOf opening (e ∷ h) n.journal) (sym accepts.changes)
-          (accepted opening h e m.journal m.changes.items it.journal right refl c there n.journal (record { inverse = done.inverse; performed = done.performed; stands = true; undone_after = 0 }) done.effect
-          accepts.kept accepts.standing accepts.undone refl refl told.inverse told.performed told.effect);
+          (accepts.journal opening h m.changes.items e done.effect it.journal
+          (record { right = right; answer = refl; change = c; there = there; takes_back = told.inverse; told = told.performed; wrote = told.effect }));
       stage = subst (λ g. IsStagedAs g n.stage (state_at opening (e ∷ h)) n.plant) (sym idle)
           (subst (λ g. IsStagedAs None g (state_at opening (e ∷ h)) n.plant) (sym none) state);
       room = subst (λ g. HasRoomFor g n) (sym none) tt;

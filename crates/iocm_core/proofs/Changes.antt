@@ -19,6 +19,7 @@ use Rattle.iocm_history.proofs.EachCall.{activations_do_what_they_mean, other_ca
 use Rattle.iocm_history.proofs.Found.{activations_are_there, commits_are_there}
 use Rattle.iocm_plant.specs.Operating.{Operating}
 use Rattle.iocm_plant.specs.Refusing.{IsDue}
+use Rattle.iocm_tree.specs.Limits.{limit_refusal, meaning_unless}
 use Rattle.iocm_tree.specs.Trees.{plain_tree, tree_of}
 use Rattle.iocm_activate.specs.Done.{edits_of, refusal_in, AreToldBy}
 use Rattle.iocm_activate.specs.Effects.{effect_in}
@@ -26,17 +27,16 @@ use Rattle.iocm_activate.specs.Told.{told_of_all}
 use Rattle.iocm_activate.specs.declared.done.Done.{Done}
 use Rattle.std.specs.Vec.{vec_len, vec_capacity}
 use Rattle.iocm_journal.specs.declared.journal.Journal.{Journal}
+use Rattle.iocm_journal.specs.JournalLaws.{OneThatKeepsTheSameIsOne, OtherEntriesLeaveIt}
 use Rattle.iocm_journal.specs.Now.{IsJournalOf}
-use Rattle.iocm_journal.proofs.GoingOn.{goes_on}
-use Rattle.iocm_journal.proofs.Refused.{kept_the_same}
 use Rattle.iocm_stage.specs.Staged.{IsStageOf, Tells}
 use Rattle.iocm_stage.specs.declared.staged.Staged.{Staged}
-use Rattle.iocm_core.specs.Accepting.{AcceptsOne, HasRoom, KeepsTheRest, IsActivated, IsBegun}
+use Rattle.iocm_core.specs.Accepting.{AcceptsOne, HasRoomForAChange, KeepsTheRest, IsActivated, IsBegun}
 use Rattle.iocm_core.specs.Running.{IsStagedAs, HasRoomFor, IsMachineOf, IsAnswered}
 use Rattle.iocm_core.specs.declared.machine.Machine.{Machine}
 use Rattle.iocm_core.proofs.Accepted.{accepted_now}
 use Rattle.iocm_core.proofs.Kept.{staging, idle}
-use Rattle.iocm_core.proofs.Rightness.{activated_right, begun_right, lacking, advance_right, commit_right, abort_right}
+use Rattle.iocm_core.proofs.Rightness.{activated_right, begun_right, activate_lacks, begin_lacks, advance_right, commit_right, abort_right}
 use Rattle.iocm_core.proofs.Staging.{begun_stage, advanced_stage, committed_stage, aborted_stage, commit_leaves}
 
 -- ---- an activation
@@ -67,36 +67,52 @@ activation_answered opening h m n t k it none a =
 
 -- a refused activation or beginning is right
 refused_activation : (opening : State) (h : History) (t : ChangeTree) (why : Refused) (o : Outcome) → stage_of opening h ≡ None → meaning t (state_at opening h) ≡ o
-    → IsDue (refusal_in o) why → IsRight opening h (plain_entry (activate t) (answers.Refused why))
-refused_activation opening h t why (Ok r) idle is (inl due) = cc
-refused_activation opening h t why (Err other) idle is (inl due) = activated_right opening h t (plain_entry (activate t) (answers.Refused why)) idle
+    → limit_refusal t ≡ None → IsDue (refusal_in o) why → IsRight opening h (plain_entry (activate t) (answers.Refused why))
+refused_activation opening h t why (Ok r) idle is within (inl due) = cc
+refused_activation opening h t why (Err other) idle is within (inl due) = activated_right opening h t (plain_entry (activate t) (answers.Refused why)) idle
     (let same : other ≡ why = cc in ap (λ w. plain_entry (activate t) (answers.Refused w)) (sym same) ∙ sym (ap (activated t ((journal_of h).count + 1) (state_at opening h)) is)) refl
-refused_activation opening h t why o idle is (inr lack) = subst (λ w. IsRight opening h (plain_entry (activate t) (answers.Refused w))) (sym lack) (lacking opening h (activate t) refl)
+refused_activation opening h t why o idle is within (inr lack) =
+    subst (λ w. IsRight opening h (plain_entry (activate t) (answers.Refused w))) (sym lack) (activate_lacks opening h t idle within)
 
 pub activation_refused : (opening : State) (h : History) (m : Machine) (t : ChangeTree) (why : Refused) → IsMachineOf opening h m → m.stage ≡ None
-    → IsDue (refusal_in (meaning t m.plant.state)) why → IsRight opening h (plain_entry (activate t) (answers.Refused why))
-activation_refused opening h m t why it none due =
+    → limit_refusal t ≡ None → IsDue (refusal_in (meaning t m.plant.state)) why → IsRight opening h (plain_entry (activate t) (answers.Refused why))
+activation_refused opening h m t why it none within due =
     let i = idle opening h m it none in
-    refused_activation opening h t why (meaning t (state_at opening h)) i.none refl (subst (λ s. IsDue (refusal_in (meaning t s)) why) i.state due)
+    refused_activation opening h t why (meaning t (state_at opening h)) i.none refl within (subst (λ s. IsDue (refusal_in (meaning t s)) why) i.state due)
 
 refused_beginning : (opening : State) (h : History) (t : ChangeTree) (why : Refused) (o : Outcome) → stage_of opening h ≡ None → meaning t (state_at opening h) ≡ o
-    → IsDue (refusal_in o) why → IsRight opening h (plain_entry (begin t) (answers.Refused why))
-refused_beginning opening h t why (Ok r) idle is (inl due) = cc
-refused_beginning opening h t why (Err other) idle is (inl due) = begun_right opening h t (plain_entry (begin t) (answers.Refused why)) idle
+    → limit_refusal t ≡ None → IsDue (refusal_in o) why → IsRight opening h (plain_entry (begin t) (answers.Refused why))
+refused_beginning opening h t why (Ok r) idle is within (inl due) = cc
+refused_beginning opening h t why (Err other) idle is within (inl due) = begun_right opening h t (plain_entry (begin t) (answers.Refused why)) idle
     (let same : other ≡ why = cc in ap (λ w. plain_entry (begin t) (answers.Refused w)) (sym same) ∙ sym (ap (begun t) is)) refl
-refused_beginning opening h t why o idle is (inr lack) = subst (λ w. IsRight opening h (plain_entry (begin t) (answers.Refused w))) (sym lack) (lacking opening h (begin t) refl)
+refused_beginning opening h t why o idle is within (inr lack) =
+    subst (λ w. IsRight opening h (plain_entry (begin t) (answers.Refused w))) (sym lack) (begin_lacks opening h t idle within)
 
 pub beginning_refused : (opening : State) (h : History) (m : Machine) (t : ChangeTree) (why : Refused) → IsMachineOf opening h m → m.stage ≡ None
-    → IsDue (refusal_in (meaning t m.plant.state)) why → IsRight opening h (plain_entry (begin t) (answers.Refused why))
-beginning_refused opening h m t why it none due =
+    → limit_refusal t ≡ None → IsDue (refusal_in (meaning t m.plant.state)) why → IsRight opening h (plain_entry (begin t) (answers.Refused why))
+beginning_refused opening h m t why it none within due =
     let i = idle opening h m it none in
-    refused_beginning opening h t why (meaning t (state_at opening h)) i.none refl (subst (λ s. IsDue (refusal_in (meaning t s)) why) i.state due)
+    refused_beginning opening h t why (meaning t (state_at opening h)) i.none refl within (subst (λ s. IsDue (refusal_in (meaning t s)) why) i.state due)
+
+-- a tree that is over a limit is refused for that
+pub activation_over_a_limit : (opening : State) (h : History) (m : Machine) (t : ChangeTree) (why : Refused) → IsMachineOf opening h m → m.stage ≡ None
+    → ((s : State) → meaning t s ≡ meaning_unless (Some why) t s) → IsRight opening h (plain_entry (activate t) (answers.Refused why))
+activation_over_a_limit opening h m t why it none means =
+    let i = idle opening h m it none in
+    activated_right opening h t (plain_entry (activate t) (answers.Refused why)) i.none
+    (sym (ap (activated t ((journal_of h).count + 1) (state_at opening h)) (means (state_at opening h)))) refl
+
+pub beginning_over_a_limit : (opening : State) (h : History) (m : Machine) (t : ChangeTree) (why : Refused) → IsMachineOf opening h m → m.stage ≡ None
+    → ((s : State) → meaning t s ≡ meaning_unless (Some why) t s) → IsRight opening h (plain_entry (begin t) (answers.Refused why))
+beginning_over_a_limit opening h m t why it none means =
+    let i = idle opening h m it none in
+    begun_right opening h t (plain_entry (begin t) (answers.Refused why)) i.none (sym (ap (begun t) (means (state_at opening h)))) refl
 
 -- ---- a beginning
 
-pub beginning_answered : (opening : State) (h : History) (m n : Machine) (t : ChangeTree) (k : ℕ) → IsMachineOf opening h m → m.stage ≡ None → IsBegun t m k n
+pub beginning_answered : OtherEntriesLeaveIt → OneThatKeepsTheSameIsOne → (opening : State) (h : History) (m n : Machine) (t : ChangeTree) (k : ℕ) → IsMachineOf opening h m → m.stage ≡ None → IsBegun t m k n
     → IsAnswered opening h (begin t) (answers.Staged k) n
-beginning_answered opening h m n t k it none b =
+beginning_answered others as_before opening h m n t k it none b =
     let i = idle opening h m it none in
     let e = plain_entry (begin t) (answers.Staged k) in
     let means : meaning t (state_at opening h) ≡ Ok b.performed = sym (ap (meaning t) i.state) ∙ b.means in
@@ -110,7 +126,7 @@ beginning_answered opening h m n t k it none b =
       right = right;
       is = record {
         journal = subst (IsJournalOf opening (e ∷ h) n.journal) (sym b.rest.changes)
-            (kept_the_same opening (e ∷ h) m.journal n.journal m.changes.items b.rest.journal (goes_on opening h e m.journal m.changes.items it.journal right tt));
+            (as_before opening (e ∷ h) m.journal n.journal m.changes.items b.rest.journal (others opening h e m.journal m.changes.items it.journal right tt));
         stage = subst (λ g. IsStagedAs g n.stage (state_at opening (e ∷ h)) n.plant) (sym stage)
             (subst (λ s. IsStagedAs (Some (record { change = record { edits = b.performed.edits; from = m.plant.state }; advances = 0 })) n.stage s n.plant) (i.state ∙ sym state)
             (subst (λ g. IsStagedAs (Some (record { change = record { edits = b.performed.edits; from = m.plant.state }; advances = 0 })) g m.plant.state n.plant) (sym b.stage) b.is));
@@ -120,10 +136,10 @@ beginning_answered opening h m n t k it none b =
 
 -- ---- an Advance
 
-pub advance_answered : (opening : State) (h : History) (m n : Machine) (g new : Staged) (k : ℕ) → IsMachineOf opening h m → m.stage ≡ Some g
+pub advance_answered : OtherEntriesLeaveIt → (opening : State) (h : History) (m n : Machine) (g new : Staged) (k : ℕ) → IsMachineOf opening h m → m.stage ≡ Some g
     → ((t : Stage) (s : State) → IsStageOf g t s m.plant → IsStageOf new (once_more t) s n.plant) → ((t : Stage) (s : State) → IsStageOf g t s m.plant → k ≡ left_of (once_more t))
     → n.stage ≡ Some new → n.journal ≡ m.journal → n.changes ≡ m.changes → IsAnswered opening h advance (answers.Left k) n
-advance_answered opening h m n g new k it was moves left staged journal changes =
+advance_answered others opening h m n g new k it was moves left staged journal changes =
     let s = staging opening h m g it was in
     let e = plain_entry advance (answers.Left k) in
     let right : IsRight opening h e = subst (λ j. IsRight opening h (plain_entry advance (answers.Left j))) (sym (left s.stage (state_at opening h) s.is)) (advance_right opening h s.stage s.there) in
@@ -132,7 +148,7 @@ advance_answered opening h m n g new k it was moves left staged journal changes 
       right = right;
       is = record {
         journal = subst (λ j. IsJournalOf opening (e ∷ h) j n.changes.items) (sym journal) (subst (λ (fs : _). IsJournalOf opening (e ∷ h) m.journal fs.items) (sym changes)
-            (goes_on opening h e m.journal m.changes.items it.journal right tt));
+            (others opening h e m.journal m.changes.items it.journal right tt));
         stage = subst (λ o. IsStagedAs o n.stage (state_at opening (e ∷ h)) n.plant) (sym (advanced_stage opening h s.stage k s.there))
             (subst (λ z. IsStagedAs (Some (once_more s.stage)) n.stage z n.plant) (sym state)
             (subst (λ o. IsStagedAs (Some (once_more s.stage)) o (state_at opening h) n.plant) (sym staged) (moves s.stage (state_at opening h) s.is)));
@@ -140,7 +156,7 @@ advance_answered opening h m n g new k it was moves left staged journal changes 
       };
     }
   where
-    room_still : HasRoom m → HasRoom n
+    room_still : HasRoomForAChange m → HasRoomForAChange n
     room_still had = record {
       changes = subst (λ (fs : _). vec_len fs < vec_capacity fs) (sym changes) had.changes;
       journal = subst (λ (j : Journal). vec_len j.changes < vec_capacity j.changes) (sym journal) had.journal;
@@ -164,10 +180,10 @@ commit_answered opening h m n g done k it was state tells accepts number none =
 
 -- ---- an Abort
 
-pub abort_answered : (opening : State) (h : History) (m n : Machine) (g : Staged) → IsMachineOf opening h m → m.stage ≡ Some g
+pub abort_answered : OtherEntriesLeaveIt → (opening : State) (h : History) (m n : Machine) (g : Staged) → IsMachineOf opening h m → m.stage ≡ Some g
     → ((t : Stage) (s : State) → IsStageOf g t s m.plant → n.plant.state ≡ s) → n.stage ≡ None → n.journal ≡ m.journal → n.changes ≡ m.changes
     → IsAnswered opening h abort answers.Aborted n
-abort_answered opening h m n g it was state none journal changes =
+abort_answered others opening h m n g it was state none journal changes =
     let s = staging opening h m g it was in
     let e = plain_entry abort answers.Aborted in
     let right = abort_right opening h s.stage s.there in
@@ -176,7 +192,7 @@ abort_answered opening h m n g it was state none journal changes =
       right = right;
       is = record {
         journal = subst (λ j. IsJournalOf opening (e ∷ h) j n.changes.items) (sym journal) (subst (λ (fs : _). IsJournalOf opening (e ∷ h) m.journal fs.items) (sym changes)
-            (goes_on opening h e m.journal m.changes.items it.journal right tt));
+            (others opening h e m.journal m.changes.items it.journal right tt));
         stage = subst (λ o. IsStagedAs o n.stage (state_at opening (e ∷ h)) n.plant) (sym (aborted_stage opening h))
             (subst (λ o. IsStagedAs None o (state_at opening (e ∷ h)) n.plant) (sym none) (state s.stage (state_at opening h) s.is ∙ sym same));
         room = subst (λ o. HasRoomFor o n) (sym none) tt;
@@ -192,11 +208,11 @@ module _ (t : ChangeTree) (m r n : Machine) (plant : r.plant ≡ m.plant) (rest 
   abbrev tried : Outcome
   tried = meaning t r.plant.state
 
-  pub activated_by : (p : Operating) (d : Done) (q : Machine) (k : ℕ) → tried ≡ Ok (record { state = p.state; edits = edits_of tried })
+  pub activated_by : OneThatKeepsTheSameIsOne → (p : Operating) (d : Done) (q : Machine) (k : ℕ) → tried ≡ Ok (record { state = p.state; edits = edits_of tried })
       → plain_tree (tree_of d.inverse) ≡ inverse_tree (edits_of tried) r.plant.state → effect_in d.effect ≡ effect_of (edits_of tried) r.plant.state
       → AreToldBy d.performed.items (told_of_all (edits_of tried) r.plant.state)
       → AcceptsOne d q n → q.journal ≡ r.journal → q.changes ≡ r.changes → k ≡ length q.journal.changes.items + 1 → n.plant ≡ p → n.stage ≡ None → IsActivated t m k n
-  activated_by p d q k means inverse effect performed accepts journal changes number after none =
+  activated_by as_before p d q k means inverse effect performed accepts journal changes number after none =
       let same : r.plant.state ≡ m.plant.state = ap (λ (p : Operating). p.state) plant in
       let kept : q.journal.changes.items ≡ m.journal.changes.items = ap (λ (j : Journal). j.changes.items) journal ∙ rest.journal.changes in
       let known : q.changes.items ≡ m.changes.items = (λ z. (changes z).items) ∙ rest.changes in
@@ -212,6 +228,8 @@ module _ (t : ChangeTree) (m r n : Machine) (plant : r.plant ≡ m.plant) (rest 
             kept = accepts.kept ∙ ap (λ ks. ks ++ record { inverse = d.inverse; performed = d.performed; stands = true; undone_after = 0 } ∷ []) kept;
             standing = accepts.standing ∙ ap (λ s. s + 1) standing;
             undone = accepts.undone;
+            journal = λ opening h fs e f i a. accepts.journal opening h fs e f
+                (subst (λ j. IsJournalOf opening h j fs) (sym journal) (as_before opening h m.journal r.journal fs rest.journal i)) a;
           };
           number = number ∙ ap (λ (ks : _). length ks + 1) kept;
           stage = none;
@@ -222,7 +240,7 @@ module _ (t : ChangeTree) (m r n : Machine) (plant : r.plant ≡ m.plant) (rest 
   begun_change : (o : Outcome) (s : State) (r : Performed) → o ≡ Ok r → change_of o s ≡ record { edits = r.edits; from = s }
   begun_change o s r is = ap (λ z. change_of z s) is
 
-  pub begun_by : (p : Operating) (g : Staged) (k : ℕ) (s : State) → HasRoom r → tried ≡ Ok (record { state = s; edits = edits_of tried })
+  pub begun_by : (p : Operating) (g : Staged) (k : ℕ) (s : State) → HasRoomForAChange r → tried ≡ Ok (record { state = s; edits = edits_of tried })
       → IsStageOf g (record { change = change_of tried r.plant.state; advances = 0 }) r.plant.state p
       → ((o : Stage) (b : State) (q : Operating) → IsStageOf g o b q → k ≡ left_of o) → n.plant ≡ p → n.stage ≡ Some g → n.journal ≡ r.journal → n.changes ≡ r.changes → IsBegun t m k n
   begun_by p g k s had means staged left after stage journal changes =

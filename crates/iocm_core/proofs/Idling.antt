@@ -10,15 +10,15 @@ use Rattle.iocm_history.specs.HistoryLaws.{LeavesTheState}
 use Rattle.iocm_history.specs.Legal.{IsRight}
 use Rattle.iocm_history.proofs.EachCall.{other_calls_leave_the_state}
 use Rattle.iocm_journal.specs.Answering.{LeavesTheJournal}
-use Rattle.iocm_journal.proofs.GoingOn.{goes_on}
+use Rattle.iocm_journal.specs.JournalLaws.{OtherEntriesLeaveIt}
 use Rattle.iocm_core.specs.Running.{IsStagedAs, IsMachineOf}
 use Rattle.iocm_core.specs.declared.machine.Machine.{Machine}
 
 -- with an entry that changes nothing, a machine is that of the history with it
-pub idle_now : (opening : State) (h : History) (m : Machine) (e : Entry) → IsMachineOf opening h m → IsRight opening h e → LeavesTheJournal e.answer → LeavesTheState e.answer
+pub idle_now : OtherEntriesLeaveIt → (opening : State) (h : History) (m : Machine) (e : Entry) → IsMachineOf opening h m → IsRight opening h e → LeavesTheJournal e.answer → LeavesTheState e.answer
     → stage_of opening (e ∷ h) ≡ stage_of opening h → IsMachineOf opening (e ∷ h) m
-idle_now opening h m e it right same_journal same_state stage = record {
-  journal = goes_on opening h e m.journal m.changes.items it.journal right same_journal;
+idle_now others opening h m e it right same_journal same_state stage = record {
+  journal = others opening h e m.journal m.changes.items it.journal right same_journal;
   stage = transport_staged;
   room = it.room;
 }
@@ -44,9 +44,9 @@ refused_stage opening h (redo n) why = refl
 refused_stage opening h show why = refl
 
 -- a refused call leaves the machine
-pub refused_now : (opening : State) (h : History) (m : Machine) (call : Call) (why : Refused) → IsMachineOf opening h m → IsRight opening h (plain_entry call (answers.Refused why))
+pub refused_now : OtherEntriesLeaveIt → (opening : State) (h : History) (m : Machine) (call : Call) (why : Refused) → IsMachineOf opening h m → IsRight opening h (plain_entry call (answers.Refused why))
     → IsMachineOf opening (plain_entry call (answers.Refused why) ∷ h) m
-refused_now opening h m call why it right = idle_now opening h m (plain_entry call (answers.Refused why)) it right tt tt (refused_stage opening h call why)
+refused_now others opening h m call why it right = idle_now others opening h m (plain_entry call (answers.Refused why)) it right tt tt (refused_stage opening h call why)
 
 -- nor does one that shows
 pub shown_stage : (opening : State) (h : History) (counts : Counts) → stage_of opening (plain_entry show (answers.Shown counts) ∷ h) ≡ stage_of opening h

@@ -1,5 +1,5 @@
 -- What a machine's stage says of its history, and machines that keep what they had.
-use Rattle.std.proofs.Common.{◌≡◌, ◌≤◌, true, false, is_some, Option, MatchOption, Some, None, Result, Ok, Err, is_err, OnOk, List, ◌∷◌, length, refl, sym, ap, subst, ◌∙◌, arith}
+use Rattle.std.proofs.Common.{◌≡◌, ◌≤◌, true, false, is_some, Option, MatchOption, Some, None, Result, Ok, Err, is_err, OnOk, List, ◌∷◌, length, refl, sym, ap, subst, ◌∙◌}
 use Rattle.std.proofs.lemmas.Bool.{false≢true}
 use Rattle.std.proofs.lemmas.List.{length-map, length-reverse}
 use Rattle.std.specs.FinMap.{len}
@@ -8,21 +8,22 @@ use Rattle.iocm_types.specs.declared.answer.Answer.TheVariants as answers
 use Rattle.iocm_types.specs.declared.answer.Counts.{Counts}
 use Rattle.iocm_types.specs.declared.refused.Refused.{Refused}
 use Rattle.iocm_model.specs.Operation.State.{State, views_in}
+use Rattle.iocm_model.specs.Change.Runs.{state_after_all}
 use Rattle.iocm_model.specs.Laws.Trees.{KeepsTheRules}
 use Rattle.iocm_history.specs.Entry.{Call, show, History, no_effect, plain_entry}
 use Rattle.iocm_history.specs.Account.{state_at, stage_of}
 use Rattle.iocm_history.specs.Journal.{journal_of}
 use Rattle.iocm_history.specs.Legal.{show_answer, IsRight}
+use Rattle.iocm_history.specs.Machine.{edits_advanced, machine_at}
 use Rattle.iocm_history.specs.Stage.{Stage}
 use Rattle.iocm_history.proofs.EachCall.{states_stay_in_use}
 use Rattle.iocm_plant.specs.Operating.{Operating}
 use Rattle.iocm_activate.specs.declared.effect.Effect.{Effect}
 use Rattle.iocm_journal.specs.Answering.{IsNext}
+use Rattle.iocm_journal.specs.JournalLaws.{NoMoreStandThanWereAccepted, OneThatKeepsTheSameIsOne, OtherEntriesLeaveIt}
 use Rattle.iocm_journal.specs.Now.{IsJournalOf, IsNow, BelongTogether}
 use Rattle.iocm_journal.specs.declared.journal.Journal.{Journal}
 use Rattle.iocm_journal.specs.declared.kept.Undone.{Undone}
-use Rattle.iocm_journal.proofs.Few.{are_few}
-use Rattle.iocm_journal.proofs.Refused.{kept_the_same}
 use Rattle.iocm_stage.specs.Staged.{IsStaged, IsStageOf}
 use Rattle.iocm_stage.specs.declared.staged.Staged.{Staged}
 use Rattle.iocm_core.specs.Accepting.{KeepsTheRest}
@@ -62,6 +63,16 @@ idle_by opening h p (Some t) is state = absurd state
 pub idle : (opening : State) (h : History) (m : Machine) → IsMachineOf opening h m → m.stage ≡ None → Idle opening h m.plant
 idle opening h m it is = idle_by opening h m.plant (stage_of opening h) refl (subst (λ o. IsStagedAs (stage_of opening h) o (state_at opening h) m.plant) is it.stage)
 
+-- the state that the machine is in
+now_by : (t : Option Stage) (g : Option Staged) (s : State) (p : Operating) → IsStagedAs t g s p → p.state ≡ state_after_all (edits_advanced t) s
+now_by None None s p state = state
+now_by (Some t) (Some g) s p staged = staged.along.state
+now_by None (Some g) s p staged = absurd staged
+now_by (Some t) None s p staged = absurd staged
+
+pub state_now : (opening : State) (h : History) (m : Machine) → IsMachineOf opening h m → m.plant.state ≡ machine_at opening h
+state_now opening h m it = now_by (stage_of opening h) m.stage (state_at opening h) m.plant it.stage
+
 -- by whether something is staged
 pub none_if : (g : Option Staged) → false ≡ is_some g → g ≡ None
 none_if None is = refl
@@ -90,8 +101,8 @@ rules_kept m r none =
     subst KeepsTheRules (sym i.state) (states_stay_in_use r.opening r.history r.is.journal.used r.is.journal.legal).rules
 
 -- no more stand than were accepted
-pub few_in : (opening : State) (h : History) (m : Machine) → IsMachineOf opening h m → m.journal.standing ≤ length m.journal.changes.items
-few_in opening h m it = let few = are_few opening h it.journal.used it.journal.legal in let is = it.journal.standing in let all = it.journal.count in omega (arith, few, is, all)
+pub few_in : NoMoreStandThanWereAccepted → (m : Machine) → IsRunning m → m.journal.standing ≤ length m.journal.changes.items
+few_in few m r = few r.opening r.history m.journal m.changes.items r.is.journal
 
 -- as many are undone
 pub undone_count : (opening : State) (h : History) (j : Journal) (fs : List Effect) → IsJournalOf opening h j fs → length j.undone.items ≡ length (journal_of h).undone
@@ -99,11 +110,11 @@ undone_count opening h j fs i = sym (length-map j.undone.items (λ (u : Undone).
 
 -- ---- a machine that keeps the rest, where nothing is staged
 
-pub kept_idle : (opening : State) (h : History) (m n : Machine) → IsMachineOf opening h m → m.stage ≡ None → n.stage ≡ None → n.plant.state ≡ m.plant.state → KeepsTheRest m n
+pub kept_idle : OneThatKeepsTheSameIsOne → (opening : State) (h : History) (m n : Machine) → IsMachineOf opening h m → m.stage ≡ None → n.stage ≡ None → n.plant.state ≡ m.plant.state → KeepsTheRest m n
     → IsMachineOf opening h n
-kept_idle opening h m n it was none same rest =
+kept_idle as_before opening h m n it was none same rest =
     let i = idle opening h m it was in record {
-      journal = subst (IsJournalOf opening h n.journal) (sym rest.changes) (kept_the_same opening h m.journal n.journal m.changes.items rest.journal it.journal);
+      journal = subst (IsJournalOf opening h n.journal) (sym rest.changes) (as_before opening h m.journal n.journal m.changes.items rest.journal it.journal);
       stage = subst (λ g. IsStagedAs g n.stage (state_at opening h) n.plant) (sym i.none)
           (subst (λ g. IsStagedAs None g (state_at opening h) n.plant) (sym none) (same ∙ i.state));
       room = subst (λ g. HasRoomFor g n) (sym none) tt;
@@ -111,16 +122,16 @@ kept_idle opening h m n it was none same rest =
 
 -- ---- refusals
 
-pub refuses : (opening : State) (h : History) (m : Machine) (call : Call) (why : Refused) → IsMachineOf opening h m → IsRight opening h (plain_entry call (answers.Refused why))
+pub refuses : OtherEntriesLeaveIt → (opening : State) (h : History) (m : Machine) (call : Call) (why : Refused) → IsMachineOf opening h m → IsRight opening h (plain_entry call (answers.Refused why))
     → IsAnswered opening h call (answers.Refused why) m
-refuses opening h m call why it right = record { right = right; is = refused_now opening h m call why it right }
+refuses others opening h m call why it right = record { right = right; is = refused_now others opening h m call why it right }
 
 -- ---- what is counted
 
-pub shown_answered : (opening : State) (h : History) (m : Machine) (counts : Counts) → IsMachineOf opening h m → m.stage ≡ None
+pub shown_answered : OtherEntriesLeaveIt → (opening : State) (h : History) (m : Machine) (counts : Counts) → IsMachineOf opening h m → m.stage ≡ None
     → counts.records ≡ len m.plant.state.config → counts.subchannels ≡ len (views_in m.plant.state) → counts.standing ≡ m.journal.standing → counts.undone ≡ length m.journal.undone.items
     → IsAnswered opening h show (answers.Shown counts) m
-shown_answered opening h m counts it none records subchannels standing undone =
+shown_answered others opening h m counts it none records subchannels standing undone =
     let i = idle opening h m it none in
     let is : answers.Shown counts ≡ show_answer (state_at opening h) (journal_of h) = λ z. answers.Shown (record {
       records = (records ∙ ap (λ (s : State). len s.config) i.state) z;
@@ -129,16 +140,16 @@ shown_answered opening h m counts it none records subchannels standing undone =
       undone = (undone ∙ undone_count opening h m.journal m.changes.items it.journal) z;
     }) in
     let right = show_right opening h (answers.Shown counts) i.none is in
-    record { right = right; is = idle_now opening h m (plain_entry show (answers.Shown counts)) it right tt tt (shown_stage opening h counts) }
+    record { right = right; is = idle_now others opening h m (plain_entry show (answers.Shown counts)) it right tt tt (shown_stage opening h counts) }
 
 -- ---- where what was staged is taken out of the machine, since nothing was
-pub refuses_taken : (opening : State) (h : History) (m n : Machine) (call : Call) (why : Refused) → IsMachineOf opening h m → m.stage ≡ None
+pub refuses_taken : OtherEntriesLeaveIt → (opening : State) (h : History) (m n : Machine) (call : Call) (why : Refused) → IsMachineOf opening h m → m.stage ≡ None
     → n.plant ≡ m.plant → n.journal ≡ m.journal → n.stage ≡ None → n.changes ≡ m.changes → IsRight opening h (plain_entry call (answers.Refused why))
     → IsAnswered opening h call (answers.Refused why) n
-refuses_taken opening h m n call why it none plant journal gone changes right =
+refuses_taken others opening h m n call why it none plant journal gone changes right =
     subst (IsAnswered opening h call (answers.Refused why))
     (λ i. record { plant = sym plant i; journal = sym journal i; stage = (none ∙ sym gone) i; changes = sym changes i })
-    (refuses opening h m call why it right)
+    (refuses others opening h m call why it right)
 
 -- ---- what a journal's call leaves
 

@@ -1,22 +1,24 @@
 -- Entries that are right, by what is staged.
-use Rattle.std.proofs.Common.{◌≡◌, inl, inr, ℕ, ◌+◌, true, false, Some, None, refl, sym, ap, ◌∙◌}
+use Rattle.std.proofs.Common.{◌≡◌, inl, inr, ℕ, ◌+◌, nat_lt, Bool, true, false, cond, not, ◌&&◌, is_none, Some, None, refl, sym, ap, ◌∙◌}
+use Rattle.std.proofs.lemmas.Bool.{and_from}
 use Rattle.iocm_types.specs.declared.answer.Answer.{Answer}
 use Rattle.iocm_types.specs.declared.answer.Answer.TheVariants as answers
 use Rattle.iocm_types.specs.declared.refused.At.TheVariants.{Nothing}
-use Rattle.iocm_types.specs.declared.rule.Rule.TheVariants.{O1, O2, M1}
+use Rattle.iocm_types.specs.declared.rule.Rule.TheVariants.{O1, O2, C1, C2, M1}
 use Rattle.iocm_types.specs.declared.sub_id.SubId.{SubId}
 use Rattle.iocm_model.specs.Operation.State.{State}
 use Rattle.iocm_model.specs.Operation.Step.{Step, answer_in}
 use Rattle.iocm_model.specs.Change.Refusal.{refusal_at}
-use Rattle.iocm_model.specs.Change.Tree.{ChangeTree}
+use Rattle.iocm_model.specs.Change.Tree.{ChangeTree, depth_of, leaves_of, most_depth, most_leaves}
 use Rattle.iocm_model.specs.Change.Meaning.{meaning}
+use Rattle.iocm_tree.specs.Limits.{limit_refusal}
 use Rattle.iocm_history.specs.Change.{effect_of_change}
 use Rattle.iocm_history.specs.Entry.{Call, at, activate, begin, advance, commit, abort, undo, redo, show, Entry, History, plain_entry}
 use Rattle.iocm_history.specs.Account.{account, marked_entries, state_at, stage_of}
 use Rattle.iocm_history.specs.Journal.{journal_of}
 use Rattle.iocm_history.specs.Stage.{Stage, once_more, is_held, left_of}
 use Rattle.iocm_history.specs.StandsOn.{stands_on}
-use Rattle.iocm_history.specs.Legal.{unless_held, unless_staged, activated, begun, advance_answer, commit_entry, abort_answer, undo_answer, redo_answer, show_answer, not_quiet_of, entry_of, may_lack_memory, IsRight}
+use Rattle.iocm_history.specs.Legal.{unless_held, unless_staged, activated, begun, advance_answer, commit_entry, abort_answer, undo_answer, redo_answer, show_answer, not_quiet_of, entry_of, is_within_limits, IsRight}
 
 -- ---- steps
 
@@ -68,8 +70,23 @@ pub begun_right : (opening : State) (h : History) (p : ChangeTree) (e : Entry) �
 begun_right opening h p e idle is call = inl (is
     ∙ sym (ap (λ g. unless_staged g (begin p) (begun p (meaning p (state_at opening h)))) idle) ∙ sym (ap (entry_of opening h) call))
 
-pub lacking : (opening : State) (h : History) (call : Call) → may_lack_memory call ≡ true → IsRight opening h (plain_entry call (answers.Refused (refusal_at M1 Nothing)))
-lacking opening h call may = inr (may, refl)
+-- want of memory, of a tree that no limit refuses
+within_limits : (t : ChangeTree) → limit_refusal t ≡ None → is_within_limits t ≡ true
+within_limits t none = by (nat_lt most_depth (depth_of t)) (nat_lt most_leaves (leaves_of t)) none
+  where
+    by : (deep wide : Bool) → cond deep (Some (refusal_at C1 Nothing)) (cond wide (Some (refusal_at C2 Nothing)) None) ≡ None
+        → (not deep && not wide) ≡ true
+    by true wide none = cc
+    by false true none = cc
+    by false false none = refl
+
+pub activate_lacks : (opening : State) (h : History) (t : ChangeTree) → stage_of opening h ≡ None → limit_refusal t ≡ None
+    → IsRight opening h (plain_entry (activate t) (answers.Refused (refusal_at M1 Nothing)))
+activate_lacks opening h t idle none = inr (and_from _ _ (ap is_none idle) (within_limits t none), refl)
+
+pub begin_lacks : (opening : State) (h : History) (t : ChangeTree) → stage_of opening h ≡ None → limit_refusal t ≡ None
+    → IsRight opening h (plain_entry (begin t) (answers.Refused (refusal_at M1 Nothing)))
+begin_lacks opening h t idle none = inr (and_from _ _ (ap is_none idle) (within_limits t none), refl)
 
 pub advance_right : (opening : State) (h : History) (t : Stage) → stage_of opening h ≡ Some t → IsRight opening h (plain_entry advance (answers.Left (left_of (once_more t))))
 advance_right opening h t is = inl (ap (plain_entry advance) (sym (ap advance_answer is)))

@@ -19,7 +19,7 @@ use Rattle.iocm_plant.specs.Operating.{Operating, KeepsRoom}
 use Rattle.iocm_stage.specs.StageLaws.{StepsElsewherePassAStage}
 use Rattle.iocm_stage.specs.declared.staged.Staged.{Staged}
 use Rattle.iocm_journal.specs.Answering.{LeavesTheJournal}
-use Rattle.iocm_journal.proofs.GoingOn.{goes_on}
+use Rattle.iocm_journal.specs.JournalLaws.{OtherEntriesLeaveIt}
 use Rattle.iocm_core.specs.Running.{IsStagedAs, HasRoomFor, IsMachineOf, IsAnswered}
 use Rattle.iocm_core.specs.declared.machine.Machine.{Machine}
 use Rattle.iocm_core.proofs.Idling.{idle_now}
@@ -30,11 +30,11 @@ held_stage : (opening : State) (h : History) (x : SubId) (made : Step) → stage
 unfolding account
 held_stage opening h x made = refl
 
-pub held_answered : (opening : State) (h : History) (m : Machine) (x : SubId) (made : Step) → IsMachineOf opening h m → is_held x (stage_of opening h) ≡ true
+pub held_answered : OtherEntriesLeaveIt → (opening : State) (h : History) (m : Machine) (x : SubId) (made : Step) → IsMachineOf opening h m → is_held x (stage_of opening h) ≡ true
     → IsAnswered opening h (at x made) answers.Held m
-held_answered opening h m x made it held = let right = held_right opening h x made held in record {
+held_answered others opening h m x made it held = let right = held_right opening h x made held in record {
   right = right;
-  is = idle_now opening h m (plain_entry (at x made) answers.Held) it right tt tt (held_stage opening h x made);
+  is = idle_now others opening h m (plain_entry (at x made) answers.Held) it right tt tt (held_stage opening h x made);
 }
 
 -- a step's answer leaves journal and stage
@@ -67,7 +67,7 @@ stepped law (Some t) (Some g) s x made p q is off state room = let passed = law 
 stepped law None (Some g) s x made p q is off state room = absurd is
 stepped law (Some t) None s x made p q is off state room = absurd is
 
-module _ (law : StepsElsewherePassAStage) (opening : State) (h : History) (m n : Machine) (x : SubId) (made : Step) (it : IsMachineOf opening h m)
+module _ (law : StepsElsewherePassAStage) (others : OtherEntriesLeaveIt) (opening : State) (h : History) (m n : Machine) (x : SubId) (made : Step) (it : IsMachineOf opening h m)
     (off : is_held x (stage_of opening h) ≡ false) (state : n.plant.state ≡ after_step x made m.plant.state) (room : KeepsRoom m.plant.room n.plant.room)
     (journal : n.journal ≡ m.journal) (staged : n.stage ≡ m.stage) (changes : n.changes ≡ m.changes) where
   was : WasStepped (stage_of opening h) m.stage (state_at opening h) x made m.plant n.plant
@@ -82,7 +82,7 @@ module _ (law : StepsElsewherePassAStage) (opening : State) (h : History) (m n :
   moved_on : IsMachineOf opening (e ∷ h) n
   moved_on = record {
     journal = subst (λ j. IsJournalOf opening (e ∷ h) j n.changes.items) (sym journal) (subst (λ (fs : _). IsJournalOf opening (e ∷ h) m.journal fs.items) (sym changes)
-        (goes_on opening h e m.journal m.changes.items it.journal (step_right opening h x made off) (step_journal (state_at opening h) x made)));
+        (others opening h e m.journal m.changes.items it.journal (step_right opening h x made off) (step_journal (state_at opening h) x made)));
     stage = subst (λ g. IsStagedAs g n.stage (state_at opening (e ∷ h)) n.plant) (sym (step_stage opening h (state_at opening h) x made))
         (subst (λ s. IsStagedAs (stage_of opening h) n.stage s n.plant) (sym after)
         (subst (λ g. IsStagedAs (stage_of opening h) g (after_step x made (state_at opening h)) n.plant) (sym staged) was.stage));

@@ -69,13 +69,17 @@ built_append (m ∷ ms) ns outer = built_append ms ns (moved m outer)
 mutual
   pub built_of : (t : ChangeTree) (ps : Parts) (outer : Begun) → built (moves_of t) (ps ∷ outer) ≡ part t ps ∷ outer
   built_of (leaf e) ps outer = refl
-  built_of (row qs) ps outer = built_append (moves_in qs) (as_row ∷ []) (none ∷ ps ∷ outer) ∙ ap (λ o. built (as_row ∷ []) o) (built_in qs (ps ∷ outer))
-  built_of (group qs) ps outer = built_append (moves_in qs) (as_group ∷ []) (none ∷ ps ∷ outer) ∙ ap (λ o. built (as_group ∷ []) o) (built_in qs (ps ∷ outer))
-  built_of (choose qs) ps outer = built_append (moves_in qs) (as_choose ∷ []) (none ∷ ps ∷ outer) ∙ ap (λ o. built (as_choose ∷ []) o) (built_in qs (ps ∷ outer))
+  built_of (row qs) ps outer = built_append (moves_in qs) (as_row ∷ []) (none ∷ ps ∷ outer)
+      ∙ ap (λ o. built (as_row ∷ []) o) (built_in qs (ps ∷ outer))
+  built_of (group qs) ps outer = built_append (moves_in qs) (as_group ∷ []) (none ∷ ps ∷ outer)
+      ∙ ap (λ o. built (as_group ∷ []) o) (built_in qs (ps ∷ outer))
+  built_of (choose qs) ps outer = built_append (moves_in qs) (as_choose ∷ []) (none ∷ ps ∷ outer)
+      ∙ ap (λ o. built (as_choose ∷ []) o) (built_in qs (ps ∷ outer))
 
   pub built_in : (ps : Parts) (outer : Begun) → built (moves_in ps) (none ∷ outer) ≡ ps ∷ outer
   built_in none outer = refl
-  built_in (part p ps) outer = built_append (moves_in ps) (moves_of p) (none ∷ outer) ∙ ap (built (moves_of p)) (built_in ps outer) ∙ built_of p ps outer
+  built_in (part p ps) outer = built_append (moves_in ps) (moves_of p) (none ∷ outer)
+      ∙ ap (built (moves_of p)) (built_in ps outer) ∙ built_of p ps outer
 
 -- the first part of what was built, or a Row of nothing
 abbrev pub first_in : Begun → ChangeTree
@@ -152,9 +156,11 @@ call_back show = refl
 
 -- ---- cores
 
-module _ (steps : Coded (SubId × Step)) (edits : Coded Edit) (answers : Coded Answer) (effects : Coded Effect) (states : Coded State) where
+module _ (steps : Coded (SubId × Step)) (edits : Coded Edit) (answers : Coded Answer) (effects : Coded Effect)
+    (states : Coded State) where
   abbrev pub call_code : Coded Call
-  call_code = code_by (ℕ × (List (SubId × Step) × (List ChangeTree × ℕ))) (coded× coded_ℕ (coded× (coded_list steps) (coded× (coded_list (tree_code edits)) coded_ℕ)))
+  call_code = code_by (ℕ × (List (SubId × Step) × (List ChangeTree × ℕ)))
+      (coded× coded_ℕ (coded× (coded_list steps) (coded× (coded_list (tree_code edits)) coded_ℕ)))
       call_parts call_of call_back
 
   abbrev pub entry_code : Coded Entry
@@ -162,5 +168,7 @@ module _ (steps : Coded (SubId × Step)) (edits : Coded Edit) (answers : Coded A
       (λ e. (e.call, (e.answer, e.effect))) (λ p. record { call = p.0; answer = p.1.0; effect = p.1.1 }) (λ _. refl)
 
   abbrev pub core_code : Coded trace.Entry → Coded Core
-  core_code told = code_by (State × (List Entry × (List trace.Entry × ℕ))) (coded× states (coded× (coded_list entry_code) (coded× (coded_list told) coded_ℕ)))
-      (λ c. (c.opening, (c.history, (c.entries, c.room)))) (λ p. record { opening = p.0; history = p.1.0; entries = p.1.1.0; room = p.1.1.1 }) (λ _. refl)
+  core_code told = code_by (State × (List Entry × (List trace.Entry × ℕ)))
+      (coded× states (coded× (coded_list entry_code) (coded× (coded_list told) coded_ℕ)))
+      (λ c. (c.opening, (c.history, (c.entries, c.room))))
+      (λ p. record { opening = p.0; history = p.1.0; entries = p.1.1.0; room = p.1.1.1 }) (λ _. refl)

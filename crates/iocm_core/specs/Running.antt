@@ -10,7 +10,7 @@ use Rattle.iocm_plant.specs.Operating.{Operating}
 use Rattle.iocm_stage.specs.Staged.{IsStageOf}
 use Rattle.iocm_stage.specs.declared.staged.Staged.{Staged}
 use Rattle.iocm_journal.specs.Now.{IsJournalOf}
-use Rattle.iocm_core.specs.Accepting.{HasRoom}
+use Rattle.iocm_core.specs.Accepting.{HasRoomForAChange}
 use Rattle.iocm_core.specs.Told.{entry_told}
 use Rattle.iocm_core.specs.declared.machine.Machine.{Machine}
 
@@ -24,7 +24,7 @@ IsStagedAs _ _ s p = ⊥
 -- while a change is staged there is memory for its acceptance
 abbrev pub HasRoomFor : Option Staged → Machine → Type 0
 HasRoomFor None m = Unit {0}
-HasRoomFor (Some g) m = HasRoom m
+HasRoomFor (Some g) m = HasRoomForAChange m
 
 -- a machine after a history from an opening state: its journal, what is staged, and the state to
 -- which the history leads
@@ -41,10 +41,12 @@ pub record IsRunning (m : Machine) : Type 0 where
 
 -- a call was answered: its entry is right after the history, and the machine is then one of the
 -- history with it
-pub record IsAnswered (opening : State) (h : history.History) (call : history.Call) (answer : Answer) (m : Machine) : Type 0 where
+pub record IsAnswered (opening : State) (h : history.History) (call : history.Call) (answer : Answer)
+    (m : Machine) : Type 0 where
   pub right : IsRight opening h (entry_told m.changes.items call answer)
   pub is : IsMachineOf opening (entry_told m.changes.items call answer ∷ h) m
 
 -- a call on a machine: whatever history it is of, it is of that with the call's entry then
 abbrev pub Answers : history.Call → Answer → Machine → Machine → Type 0
-Answers call answer old new = (opening : State) (h : history.History) → IsMachineOf opening h old → IsAnswered opening h call answer new
+Answers call answer old new = (opening : State) (h : history.History) → IsMachineOf opening h old
+    → IsAnswered opening h call answer new

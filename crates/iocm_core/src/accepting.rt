@@ -1,5 +1,5 @@
 ghost use Rattle.std.specs.Prelude.{◌≡◌, ◌+◌, ◌≤◌, length, OnOk};
-ghost use Rattle.iocm_core.specs.Accepting.{AcceptsOne, HasRoom, KeepsTheRest};
+ghost use Rattle.iocm_core.specs.Accepting.{AcceptsOne, HasRoomForAChange, KeepsTheRest};
 
 use crate::machine::Machine;
 use iocm_activate::Done;
@@ -11,7 +11,7 @@ impl Machine {
         ensures plant { self.new.plant ≡ self.old.plant }
         ensures stage { self.new.stage ≡ self.old.stage }
         ensures rest { KeepsTheRest self.old self.new }
-        ensures room { OnOk result (HasRoom self.new) }
+        ensures room { OnOk result (HasRoomForAChange self.new) }
     {
         self.changes.reserve(1)?;
         self.journal.room()
@@ -20,7 +20,7 @@ impl Machine {
     /// Accepts a change that was done, for which there is memory. It gives the change's number.
     /// Can't answer want of memory.
     pub fn accept(&mut self, done: Done) -> u64
-        requires room { HasRoom self.old }
+        requires room { HasRoomForAChange self.old }
         requires few { self.old.journal.standing ≤ length self.old.journal.changes.items }
         ensures number { result ≡ length self.old.journal.changes.items + 1 }
         ensures accepted { AcceptsOne done self.old self.new }

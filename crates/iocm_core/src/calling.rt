@@ -1,4 +1,5 @@
-ghost use Rattle.std.specs.Prelude.{◌≡◌, ◌<◌, ◌≤◌, ◌-◌, ◌++◌, ◌∷◌, [], length, slice_get, Some, IfOk, IfErr, OnOk, OnErr};
+ghost use Rattle.std.specs.Prelude.{◌≡◌, ◌<◌, ◌≤◌, ◌-◌, ◌++◌, ◌∷◌, [], length, slice_get, Some};
+ghost use Rattle.std.specs.Prelude.{IfOk, IfErr, OnOk, OnErr};
 ghost use Rattle.std.specs.Vec.{vec_capacity, vec_len};
 ghost use Rattle.iocm_core.specs.Calls.{call_in};
 ghost use Rattle.iocm_core.specs.Recorded.{IsRecorded};
@@ -38,13 +39,22 @@ impl Model for Core {
     ghost Value = { seen.Core };
 
     ghost coded = { core_code (Prim.hlevel codes)
-        (code_by (Action × (List (Place × ℕ) × Lives)) (coded× (Prim.hlevel codes) (coded× (coded_list (Prim.hlevel codes)) (map.code (Prim.hlevel codes) (Prim.hlevel codes))))
-        (λ e. (e.action, (e.places, e.lives))) (λ p. record { action = p.0; places = p.1.0; lives = p.1.1 }) (λ _. refl))
+        (code_by (Action × (List (Place × ℕ) × Lives))
+        (coded× (Prim.hlevel codes) (coded× (coded_list (Prim.hlevel codes))
+        (map.code (Prim.hlevel codes) (Prim.hlevel codes))))
+        (λ e. (e.action, (e.places, e.lives))) (λ p. record { action = p.0; places = p.1.0; lives = p.1.1 })
+        (λ _. refl))
         (Prim.hlevel codes)
-        (code_by (_ × (_ × _)) (coded× (map.code (Prim.hlevel codes) (Prim.hlevel codes)) (coded× (map.code (Prim.hlevel codes) (Prim.hlevel codes)) (map.code (Prim.hlevel codes) (Prim.hlevel codes))))
-        (λ f. (f.records, (f.numbers, f.lives))) (λ p. record { records = p.0; numbers = p.1.0; lives = p.1.1 }) (λ _. refl))
-        (code_by (Configuration × (Numbering × Lives)) (coded× (map.code (Prim.hlevel codes) (Prim.hlevel codes)) (coded× (map.code (Prim.hlevel codes) coded_ℕ) (map.code (Prim.hlevel codes) (Prim.hlevel codes))))
-        (λ s. (s.config, (s.numbers, s.lives))) (λ p. record { config = p.0; numbers = p.1.0; lives = p.1.1 }) (λ _. refl))
+        (code_by (_ × (_ × _)) (coded× (map.code (Prim.hlevel codes) (Prim.hlevel codes))
+        (coded× (map.code (Prim.hlevel codes) (Prim.hlevel codes))
+        (map.code (Prim.hlevel codes) (Prim.hlevel codes))))
+        (λ f. (f.records, (f.numbers, f.lives))) (λ p. record { records = p.0; numbers = p.1.0; lives = p.1.1 })
+        (λ _. refl))
+        (code_by (Configuration × (Numbering × Lives))
+        (coded× (map.code (Prim.hlevel codes) (Prim.hlevel codes))
+        (coded× (map.code (Prim.hlevel codes) coded_ℕ) (map.code (Prim.hlevel codes) (Prim.hlevel codes))))
+        (λ s. (s.config, (s.numbers, s.lives))) (λ p. record { config = p.0; numbers = p.1.0; lives = p.1.1 })
+        (λ _. refl))
         trace.the_row.coded };
 
     ghost use Rattle.iocm_model.specs.Operation.State.{opening_state};
@@ -53,7 +63,8 @@ impl Model for Core {
 
     ghost view = { λ c. record { opening = opening_state c.opening.records; history = history_in c.machine.changes.items c.entries.items; entries = c.entries.items; room = c.room } };
 
-    ghost invariant = { λ c. held.IsCore (opening_state c.opening.records) c.machine c.entries.items c.room (vec_capacity c.entries) };
+    ghost invariant = { λ c. held.IsCore (opening_state c.opening.records) c.machine c.entries.items c.room
+        (vec_capacity c.entries) };
 }
 
 /// That a call was not made, since the trace has no room for it. Own.
@@ -87,7 +98,8 @@ impl Core {
     /// nothing is recorded.
     pub fn call(&mut self, alloc: Global, call: Call) -> Result<Answer, Full>
         ensures recorded { IfOk result (λ answer. IsRecorded self.old (call_in call) answer self.new) }
-        ensures entries { IfOk result (λ answer. self.new.entries ≡ self.old.entries ++ record { call = call; answer = answer } ∷ []) }
+        ensures entries { IfOk result (λ answer. self.new.entries ≡ self.old.entries
+            ++ record { call = call; answer = answer } ∷ []) }
         ensures same { OnErr result (self.new ≡ self.old) }
         ensures handed_back { IfErr result (λ full. full.call ≡ call) }
         ensures full { OnErr result (length self.old.entries ≡ self.old.room) }

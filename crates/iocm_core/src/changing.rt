@@ -4,13 +4,14 @@ ghost use Rattle.iocm_model.specs.Change.Meaning.{meaning};
 ghost use Rattle.iocm_plant.specs.Refusing.{IsDue};
 ghost use Rattle.iocm_activate.specs.Done.{refusal_in};
 ghost use Rattle.iocm_core.specs.Accepting.{IsActivated, IsBegun, KeepsTheRest};
-ghost use Rattle.iocm_tree.specs.Trees.{plain_tree, tree_of};
+ghost use Rattle.iocm_tree.specs.Trees.{plain};
 ghost use Rattle.iocm_core.specs.Running.{Answers, IsRunning};
 ghost use Rattle.iocm_core.specs.Told.{GoesOnWith};
 
 use crate::machine::Machine;
 use crate::refusals::{NOTHING_STAGED, STAGED};
 use iocm_activate::activate;
+use iocm_journal::journals_keep_to_histories;
 use iocm_stage::begin;
 use iocm_tree::Tree;
 use iocm_types::{Answer, Refused};
@@ -18,14 +19,20 @@ use std::alloc::Global;
 
 impl Machine {
     /// Activates a change tree: Changed, with its number; or why it is refused: O1, a change is
-    /// staged; or as `activate` of `iocm_activate` is.
+    /// staged; or as `activate` of `iocm_activate` is. A tree that is over a limit (C1, C2) is
+    /// refused without memory.
     pub fn activate(&mut self, alloc: Global, tree: &Tree) -> Answer
         requires { IsRunning self.old }
-        ensures answers { Answers (history.activate (plain_tree (tree_of tree.now))) result self.old self.new }
+        ensures answers { Answers (history.activate (plain tree.now)) result self.old self.new }
         ensures changes { GoesOnWith result self.old.changes.items self.new.changes.items }
     {
+        // For the proof alone: the journal is one of the history with the call's entry.
+        journals_keep_to_histories();
         if self.stage.is_some() {
             return Answer::Refused(STAGED);
+        }
+        if let Some(why) = tree.refusal() {
+            return Answer::Refused(why);
         }
         match self.try_to_activate(alloc, tree) {
             Ok(number) => Answer::Changed(number),
@@ -37,11 +44,16 @@ impl Machine {
     /// change is staged; or as its activation is.
     pub fn begin(&mut self, alloc: Global, tree: &Tree) -> Answer
         requires { IsRunning self.old }
-        ensures answers { Answers (history.begin (plain_tree (tree_of tree.now))) result self.old self.new }
+        ensures answers { Answers (history.begin (plain tree.now)) result self.old self.new }
         ensures changes { GoesOnWith result self.old.changes.items self.new.changes.items }
     {
+        // For the proof alone: the journal is one of the history with the call's entry.
+        journals_keep_to_histories();
         if self.stage.is_some() {
             return Answer::Refused(STAGED);
+        }
+        if let Some(why) = tree.refusal() {
+            return Answer::Refused(why);
         }
         match self.try_to_begin(alloc, tree) {
             Ok(edits) => Answer::Staged(edits),
@@ -56,6 +68,8 @@ impl Machine {
         ensures answers { Answers history.advance result self.old self.new }
         ensures changes { GoesOnWith result self.old.changes.items self.new.changes.items }
     {
+        // For the proof alone: the journal is one of the history with the call's entry.
+        journals_keep_to_histories();
         match &mut self.stage {
             Some(staged) => Answer::Left(staged.advance(&mut self.plant)),
             None => Answer::Refused(NOTHING_STAGED),
@@ -69,6 +83,8 @@ impl Machine {
         ensures answers { Answers history.commit result self.old self.new }
         ensures changes { GoesOnWith result self.old.changes.items self.new.changes.items }
     {
+        // For the proof alone: the journal is one of the history with the call's entry.
+        journals_keep_to_histories();
         match self.stage.take() {
             Some(staged) => {
                 let done = staged.commit(&mut self.plant);
@@ -85,6 +101,8 @@ impl Machine {
         ensures answers { Answers history.abort result self.old self.new }
         ensures changes { GoesOnWith result self.old.changes.items self.new.changes.items }
     {
+        // For the proof alone: the journal is one of the history with the call's entry.
+        journals_keep_to_histories();
         match self.stage.take() {
             Some(staged) => {
                 staged.abort(&mut self.plant);
@@ -98,12 +116,15 @@ impl Machine {
     fn try_to_activate(&mut self, alloc: Global, tree: &Tree) -> Result<u64, Refused>
         requires running { IsRunning self.old }
         requires idle { self.old.stage ≡ None }
-        ensures done { IfOk result (λ n. IsActivated (plain_tree (tree_of tree.now)) self.old n self.new) }
-        ensures refused { IfErr result (IsDue (refusal_in (meaning (plain_tree (tree_of tree.now)) self.old.plant.state))) }
+        ensures done { IfOk result (λ n. IsActivated (plain tree.now) self.old n self.new) }
+        ensures refused { IfErr result (IsDue (refusal_in (meaning (plain tree.now) self.old.plant.state))) }
         ensures same { OnErr result (self.new.plant.state ≡ self.old.plant.state) }
         ensures stage { OnErr result (self.new.stage ≡ self.old.stage) }
         ensures rest { OnErr result (KeepsTheRest self.old self.new) }
     {
+        // For the proof alone: no more changes stand than were accepted, and the journal with room
+        // is one of the same history.
+        journals_keep_to_histories();
         if self.make_room().is_err() {
             return Err(Refused::NO_MEMORY);
         }
@@ -117,8 +138,8 @@ impl Machine {
     fn try_to_begin(&mut self, alloc: Global, tree: &Tree) -> Result<u64, Refused>
         requires running { IsRunning self.old }
         requires idle { self.old.stage ≡ None }
-        ensures done { IfOk result (λ edits. IsBegun (plain_tree (tree_of tree.now)) self.old edits self.new) }
-        ensures refused { IfErr result (IsDue (refusal_in (meaning (plain_tree (tree_of tree.now)) self.old.plant.state))) }
+        ensures done { IfOk result (λ edits. IsBegun (plain tree.now) self.old edits self.new) }
+        ensures refused { IfErr result (IsDue (refusal_in (meaning (plain tree.now) self.old.plant.state))) }
         ensures same { OnErr result (self.new.plant.state ≡ self.old.plant.state) }
         ensures stage { OnErr result (self.new.stage ≡ self.old.stage) }
         ensures rest { OnErr result (KeepsTheRest self.old self.new) }

@@ -4,7 +4,8 @@
 //!
 //! `Core::open` opens a machine, `Core::call` makes a call, `Core::close` gives the machine and its
 //! trace. A `Call` is an order of an image on its subchannel, a device begin or a device end; the
-//! activation of a change tree, at once or in stages; an undo or a redo; or a question.
+//! activation of a change tree, at once or in stages; an undo or a redo; or a question. `view`,
+//! `live`, `changes` and `advanced` tell what the machine shows between calls.
 //!
 //! What the layer above may rely on: the history is legal, so each answer is the one that the
 //! definition of histories gives, or, of an activation, a Begin, an undo or a redo, want of memory;
@@ -21,6 +22,7 @@ mod closing;
 mod machine;
 mod opening;
 mod refusals;
+mod showing;
 mod steps;
 mod trace;
 mod undoing;

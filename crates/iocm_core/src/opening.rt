@@ -23,7 +23,8 @@ impl Core {
     /// The first breach of V1 to V14, by rule, then by key; M1, which may stand in its place:
     /// memory was wanted. The configuration is handed back.
     pub fn open(alloc: Global, config: Config, room: usize) -> Result<Core, Unopened>
-        ensures opened { IfOk result (λ core. core ≡ record { opening = opening_state config.records; history = []; entries = []; room = room }) }
+        ensures opened { IfOk result (λ core. core
+            ≡ record { opening = opening_state config.records; history = []; entries = []; room = room }) }
         ensures kept { OnOk result (opening_refusal config.records ≡ None) }
         ensures refused { IfErr result (λ e. IsDue (opening_refusal config.records) e.why) }
         ensures config { IfErr result (λ e. e.config ≡ config) }

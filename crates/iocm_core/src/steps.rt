@@ -8,6 +8,7 @@ ghost use Rattle.iocm_core.specs.Running.{Answers, IsMachineOf, IsRunning};
 ghost use Rattle.iocm_core.specs.Told.{GoesOnWith};
 
 use crate::machine::Machine;
+use iocm_journal::journals_keep_to_histories;
 use iocm_stage::steps_elsewhere_pass_a_stage;
 use iocm_types::{Answer, Order, SubId};
 
@@ -19,6 +20,8 @@ impl Machine {
         ensures answers { Answers (history.at subchannel.now (step.order order)) result self.old self.new }
         ensures changes { GoesOnWith result self.old.changes.items self.new.changes.items }
     {
+        // For the proof alone: the journal is one of the history with the call's entry.
+        journals_keep_to_histories();
         if self.holds(subchannel) {
             return Answer::Held;
         }
@@ -34,12 +37,14 @@ impl Machine {
         ensures answers { Answers (history.at subchannel.now step.device_begin) result self.old self.new }
         ensures changes { GoesOnWith result self.old.changes.items self.new.changes.items }
     {
+        // For the proof alone: the journal is one of the history with the call's entry.
+        journals_keep_to_histories();
         if self.holds(subchannel) {
             return Answer::Held;
         }
         // For the proof alone: what is staged stands as it stood.
         steps_elsewhere_pass_a_stage();
-        Answer::Begun(self.plant.begun(*subchannel))
+        Answer::Begun(self.plant.device_begin(*subchannel))
     }
 
     /// The device of a subchannel ends a function; Held where the change in stages alters the
@@ -49,17 +54,20 @@ impl Machine {
         ensures answers { Answers (history.at subchannel.now step.device_end) result self.old self.new }
         ensures changes { GoesOnWith result self.old.changes.items self.new.changes.items }
     {
+        // For the proof alone: the journal is one of the history with the call's entry.
+        journals_keep_to_histories();
         if self.holds(subchannel) {
             return Answer::Held;
         }
         // For the proof alone: what is staged stands as it stood.
         steps_elsewhere_pass_a_stage();
-        Answer::Ended(self.plant.end(*subchannel))
+        Answer::Ended(self.plant.device_end(*subchannel))
     }
 
     /// Whether a subchannel is held by the change in stages.
     fn holds(&self, subchannel: &SubId) -> bool
-        ensures { (opening : State) (h : history.History) → IsMachineOf opening h self.now → result ≡ is_held subchannel.now (stage_of opening h) }
+        ensures { (opening : State) (h : history.History) → IsMachineOf opening h self.now
+            → result ≡ is_held subchannel.now (stage_of opening h) }
     {
         match &self.stage {
             Some(staged) => staged.holds(*subchannel),

@@ -4,6 +4,7 @@ ghost use Rattle.iocm_core.specs.Told.{GoesOnWith};
 
 use crate::machine::Machine;
 use crate::refusals::STAGED;
+use iocm_journal::journals_keep_to_histories;
 use iocm_types::{Answer, Counts};
 use std::alloc::Global;
 
@@ -15,6 +16,8 @@ impl Machine {
         ensures answers { Answers (history.undo number) result self.old self.new }
         ensures changes { GoesOnWith result self.old.changes.items self.new.changes.items }
     {
+        // For the proof alone: the journal is one of the history with the call's entry.
+        journals_keep_to_histories();
         if self.stage.is_some() {
             return Answer::Refused(STAGED);
         }
@@ -34,6 +37,8 @@ impl Machine {
         ensures answers { Answers (history.redo number) result self.old self.new }
         ensures changes { GoesOnWith result self.old.changes.items self.new.changes.items }
     {
+        // For the proof alone: the journal is one of the history with the call's entry.
+        journals_keep_to_histories();
         if self.stage.is_some() {
             return Answer::Refused(STAGED);
         }
@@ -52,6 +57,8 @@ impl Machine {
         ensures answers { Answers history.show result self.old self.new }
         ensures changes { GoesOnWith result self.old.changes.items self.new.changes.items }
     {
+        // For the proof alone: the journal is one of the history with the call's entry.
+        journals_keep_to_histories();
         if self.stage.is_some() {
             return Answer::Refused(STAGED);
         }

@@ -4,9 +4,9 @@
 //! plain numbers, which a constant may hold: what is asked (`asks.rt`), changes (`plans.rt`) and
 //! answers (`wanted.rt`). The worked runs are those of `docs/UNDO.md`: changes that are undone and
 //! redone (`histories.rt`), also under later ones (`selective.rt`), changes in stages
-//! (`stages.rt`), and traces that are full (`full.rt`). Trees that are far too deep are refused and
-//! let go (`deep.rt`), and a change in stages ends where no growth is granted (`growths.rt`, run by
-//! `tests/growths --stages`).
+//! (`stages.rt`), what the machine shows between calls (`shown.rt`), and traces that are full
+//! (`full.rt`). Trees that are far too deep are refused and let go (`deep.rt`), and a change in
+//! stages ends where no growth is granted (`growths.rt`, run by `tests/growths --stages`).
 #![tactic(auto)]
 
 #[cfg(test)]
@@ -25,6 +25,8 @@ mod histories;
 mod plans;
 #[cfg(test)]
 mod selective;
+#[cfg(test)]
+mod shown;
 #[cfg(test)]
 mod stages;
 #[cfg(test)]

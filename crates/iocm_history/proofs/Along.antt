@@ -172,7 +172,7 @@ module _ (m : Store) (b : Journal) (a : Account) (i : IsSettled m b a) where
   call_next show = show_next a.stage
 
   -- a call for which memory lacks
-  pub lack_next : (c : Call) (why : Refused) → may_lack_memory c ≡ true → IsEventNow (plain_entry c (answers.Refused why))
+  pub lack_next : (c : Call) (why : Refused) → may_lack_memory now b a c ≡ true → IsEventNow (plain_entry c (answers.Refused why))
   lack_next (at x done) why may = cc
   lack_next (activate p) why may = idles a.stage i.stage refl refl
   lack_next (begin p) why may = idles a.stage i.stage refl refl
@@ -184,7 +184,7 @@ module _ (m : Store) (b : Journal) (a : Account) (i : IsSettled m b a) where
   lack_next show why may = cc
 
   -- an entry that may come is an event
-  pub is_event : (e : Entry) → (e ≡ entry_in now b a e.call) ⊎ ((may_lack_memory e.call ≡ true) × (e ≡ plain_entry e.call (answers.Refused (refusal_at M1 Nothing)))) → IsEventNow e
+  pub is_event : (e : Entry) → (e ≡ entry_in now b a e.call) ⊎ ((may_lack_memory now b a e.call ≡ true) × (e ≡ plain_entry e.call (answers.Refused (refusal_at M1 Nothing)))) → IsEventNow e
   is_event e (inl same) = subst IsEventNow (sym same) (call_next e.call)
   is_event e (inr lack) = subst IsEventNow (sym lack.1) (lack_next e.call (refusal_at M1 Nothing) lack.0)
 

@@ -26,7 +26,7 @@ use Rattle.iocm_history.specs.MarkedEntry.{step, nothing, kept, MarkedEntry, eff
 use Rattle.iocm_history.specs.Stage.{Stage, is_held}
 use Rattle.iocm_history.specs.Account.{replay, act_of, Account, state_in, account, state_at}
 use Rattle.iocm_history.specs.Journal.{journal_of}
-use Rattle.iocm_history.specs.Legal.{unless_held, entry_of, may_lack_memory, IsRight, IsLegal}
+use Rattle.iocm_history.specs.Legal.{unless_held, entry_of, may_lack_memory_after, IsRight, IsLegal}
 use Rattle.iocm_history.specs.HistoryLaws.{StatesStayInUse, StepsStep, ActivationsDoWhatTheyMean, LeavesTheState, OtherCallsLeaveTheState}
 use Rattle.iocm_history.specs.InUse.{IsInUse}
 use Rattle.iocm_history.proofs.OneCell.{state_of_store}
@@ -183,7 +183,7 @@ module _ (opening : State) (h : History) where
           let answer : e.answer ≡ unless_held (is_held x a.stage) (answer_in s x made)
           = ap (λ (z : Entry). z.answer) same ∙ ap (λ c. (entry_of opening h c).answer) is in
           (λ i. act_of (is i) (answer i) s a.stage) ∙ held_act x made (is_held x a.stage) (subst LeavesTheState answer stays)
-      step_leaves x made is (inr lack) = absurd (holds_not (sym lack.0 ∙ ap may_lack_memory is))
+      step_leaves x made is (inr lack) = absurd (holds_not (sym lack.0 ∙ ap (may_lack_memory_after opening h) is))
 
       other : is_step_call e.call ≡ false → act_of e.call e.answer s a.stage ≡ nothing
       other none = idle_act e.call e.answer s a.stage none stays

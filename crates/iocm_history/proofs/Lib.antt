@@ -30,6 +30,7 @@ pub mod Anew
 pub mod Unblocked
 pub mod OnlyLater
 pub mod OwnMarks
+pub mod OverALimit
 pub mod TheGreatest
 pub mod Numbered
 pub mod Found

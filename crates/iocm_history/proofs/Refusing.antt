@@ -1,6 +1,6 @@
 -- Why an undo is refused.
-use Rattle.std.proofs.Common.{◌≡◌, ◌⊎◌, inl, inr, ⊎_elim, ℕ, max, Bool, true, false, cond, eqb, List, [], ◌∷◌, Option, Some, None, refl, sym, ap, subst, ◌∙◌, arith, map, filter}
-use Rattle.std.proofs.lemmas.Bool.{eq-eqb, or_left, or_right, cases_lt}
+use Rattle.std.proofs.Common.{◌≡◌, ◌⊎◌, inl, inr, ⊎_elim, ℕ, max, Bool, true, false, cond, eqb, List, [], ◌∷◌, Option, Some, None, is_none, refl, sym, ap, subst, ◌∙◌, arith, map, filter}
+use Rattle.std.proofs.lemmas.Bool.{eq-eqb, or_left, or_right, and_parts, cases_lt}
 use Rattle.std.specs.List.{fold, find}
 use Rattle.std.specs.declared.cmp.Ordering.TheVariants.{Less}
 use Rattle.std.specs.FinMap.{get, entries, entries_sorted}
@@ -22,10 +22,15 @@ use Rattle.iocm_history.specs.Stage.{Stage}
 use Rattle.iocm_history.specs.Account.{Account, account, state_at}
 use Rattle.iocm_history.specs.StandsOn.{standing_on, greatest, greatest_on, stands_on}
 use Rattle.iocm_history.specs.Journal.{is_in, journal_of}
-use Rattle.iocm_history.specs.Legal.{unless_staged, unless_not_quiet, unless_stood_on, not_quiet_of, entry_of, IsRight}
+use Rattle.iocm_history.specs.Legal.{unless_staged, unless_not_quiet, unless_stood_on, not_quiet_of, entry_of, may_lack_memory_after, IsRight}
 use Rattle.iocm_history.specs.UndoLaws.{IsGreatestOf, IsRefusedFor, staged, not_standing, stood_on, waits, lacks_memory, UndoIsRefusedOnlyFor}
 use Rattle.iocm_history.proofs.Latest.{greatest_bounds}
 use Rattle.iocm_history.proofs.Numbers.{first_or_rest}
+
+-- an option that a test found empty
+pub none_is : {A : Type 0} (o : Option A) → is_none o ≡ true → o ≡ None
+none_is None is = refl
+none_is (Some x) is = cc
 
 -- ---- the greatest of some numbers is one of them
 
@@ -110,7 +115,9 @@ module _ (opening : State) (h : History) (n : ℕ) (e : Entry) where
   judged (inl same) call =
       verdict a.stage (is_in n (journal_of h).standing) (stands_on n a.entries s) (not_quiet_of n s a) refl refl refl refl
       (ap (λ (z : Entry). z.answer) same ∙ ap (λ c. (entry_of opening h c).answer) call)
-  judged (inr lack) call = inr (lacks_memory (ap (λ (z : Entry). z.answer) lack.1))
+  judged (inr lack) call =
+      let may = and_parts (is_none a.stage) (is_in n (journal_of h).standing) (sym (ap (may_lack_memory_after opening h) call) ∙ lack.0) in
+      inr (lacks_memory (none_is a.stage may.0) may.1 (ap (λ (z : Entry). z.answer) lack.1))
 
 pub undo_is_refused_only_for : UndoIsRefusedOnlyFor
 undo_is_refused_only_for opening h n e used legal call = judged opening h n e legal.0 call

@@ -22,7 +22,7 @@ use Rattle.iocm_history.specs.MarkedEntry.{step, nothing, kept, effect_of_act}
 use Rattle.iocm_history.specs.Stage.{Stage, once_more, advanced, is_held}
 use Rattle.iocm_history.specs.Account.{replay, committed, Account, account, marked_entries, state_at}
 use Rattle.iocm_history.specs.StandsOn.{stands_on}
-use Rattle.iocm_history.specs.Journal.{journal_of}
+use Rattle.iocm_history.specs.Journal.{Journal, journal_of}
 use Rattle.iocm_history.specs.Legal.{unless_held, unless_staged, begun, activated, advance_answer, commit_entry, abort_answer, undo_answer, redo_answer, show_answer, not_quiet_of, entry_of, may_lack_memory, IsRight, IsLegal}
 use Rattle.iocm_history.specs.InUse.{IsInUse}
 use Rattle.iocm_history.specs.StageLaws.{begin_entry, ends_a_stage, is_done, steps_of, IsStagedUntil, AbortLeavesTheOtherSteps, commit_of, DoesTheEdits, CommitDoesTheEdits}
@@ -52,16 +52,16 @@ may_wait (redo n) = true
 may_wait show = true
 may_wait _ = false
 
-waits_too : (c : Call) → may_lack_memory c ≡ true → may_wait c ≡ true
-waits_too (at x done) may = may
-waits_too (activate p) may = refl
-waits_too (begin p) may = refl
-waits_too advance may = may
-waits_too commit may = may
-waits_too abort may = may
-waits_too (undo n) may = refl
-waits_too (redo n) may = refl
-waits_too show may = refl
+waits_too : (s : State) (b : Journal) (a : Account) (c : Call) → may_lack_memory s b a c ≡ true → may_wait c ≡ true
+waits_too s b a (at x done) may = may
+waits_too s b a (activate p) may = refl
+waits_too s b a (begin p) may = refl
+waits_too s b a advance may = may
+waits_too s b a commit may = may
+waits_too s b a abort may = may
+waits_too s b a (undo n) may = refl
+waits_too s b a (redo n) may = refl
+waits_too s b a show may = refl
 
 module _ (opening : State) (h : History) (g : Stage) where
   abbrev a : Account
@@ -128,7 +128,7 @@ module _ (opening : State) (h : History) (g : Stage) where
   while_right e is none (inl same) =
       subst (WhileStaged opening h g) (sym same) (while_called e.call is (sym (ap (λ (z : Entry). ends_a_stage z.answer) same) ∙ none))
   while_right e is none (inr lack) =
-      subst (WhileStaged opening h g) (sym lack.1) (while_refused e.call (refusal_at M1 Nothing) (waits_too e.call lack.0) is)
+      subst (WhileStaged opening h g) (sym lack.1) (while_refused e.call (refusal_at M1 Nothing) (waits_too (state_at opening h) (journal_of h) (account opening h) e.call lack.0) is)
 
 -- ---- beside the run of the steps alone
 

@@ -243,7 +243,7 @@ module _ (opening : State) (h : History) (n : ℕ) (e : Entry) (here : is_in n (
       let no : false ≡ true = sym (ap (is_in k) empty) ∙ greatest_is.among in
       cc
   only_waits (inr (waits x why answer)) = inr (for_quiet x why answer)
-  only_waits (inr (lacks_memory answer)) = inr (for_memory answer)
+  only_waits (inr (lacks_memory idle there answer)) = inr (for_memory idle answer)
 
 pub latest_is_never_blocked : LatestIsNeverBlocked
 latest_is_never_blocked opening h n used legal of_latest latest =

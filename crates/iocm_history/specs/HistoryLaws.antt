@@ -1,17 +1,20 @@
 -- What each call does to the state of a legal history.
-use Rattle.std.specs.Prelude.{◌≡◌, ℕ, Ok, List, ◌∷◌}
+use Rattle.std.specs.Prelude.{◌≡◌, ◌⊎◌, ℕ, false, Ok, List, ◌∷◌}
 use Rattle.iocm_types.specs.declared.answer.Answer.{Answer}
 use Rattle.iocm_types.specs.declared.answer.Answer.TheVariants.{Held, Changed, Staged, Left, Aborted, Shown, Refused}
 use Rattle.iocm_types.specs.declared.answer.Answer.TheVariants as answers
+use Rattle.iocm_types.specs.declared.refused.At.TheVariants.{Nothing}
+use Rattle.iocm_types.specs.declared.rule.Rule.TheVariants.{M1}
 use Rattle.iocm_types.specs.declared.sub_id.SubId.{SubId}
 use Rattle.iocm_model.specs.Operation.State.{State}
 use Rattle.iocm_model.specs.Operation.Step.{Step, answer_in, after_step}
+use Rattle.iocm_model.specs.Change.Refusal.{refusal_at}
 use Rattle.iocm_model.specs.Change.Runs.{effect_of}
 use Rattle.iocm_model.specs.Change.Tree.{ChangeTree}
 use Rattle.iocm_model.specs.Change.Meaning.{Performed, meaning}
-use Rattle.iocm_history.specs.Entry.{Call, at, activate, Entry, History, plain_entry}
+use Rattle.iocm_history.specs.Entry.{Call, at, activate, begin, Entry, History, plain_entry}
 use Rattle.iocm_history.specs.Account.{state_at}
-use Rattle.iocm_history.specs.Legal.{IsLegal}
+use Rattle.iocm_history.specs.Legal.{is_within_limits, IsLegal}
 use Rattle.iocm_history.specs.Run.{run}
 use Rattle.iocm_history.specs.InUse.{IsInUse}
 
@@ -38,6 +41,12 @@ abbrev pub ActivationsDoWhatTheyMean : Type 0
 ActivationsDoWhatTheyMean = (opening : State) (h : History) (p : ChangeTree) (n : ℕ) (done : Performed)
     → IsInUse opening → IsLegal opening h → meaning p (state_at opening h) ≡ Ok done
     → state_at opening (activation_of p n done (state_at opening h) ∷ h) ≡ done.state
+
+-- a change tree over a limit is never refused for want of memory
+abbrev pub TreesOverALimitWantNoMemory : Type 0
+TreesOverALimitWantNoMemory = (opening : State) (h : History) (p : ChangeTree) (e : Entry) → IsLegal opening (e ∷ h)
+    → (e.call ≡ activate p) ⊎ (e.call ≡ begin p) → is_within_limits p ≡ false
+    → e.answer ≡ Refused (refusal_at M1 Nothing) → ⊥
 
 -- the answers that tell that the state stays: a call was refused, or held; it began, advanced or
 -- aborted a change in stages; it showed counts

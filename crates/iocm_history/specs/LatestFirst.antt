@@ -50,12 +50,12 @@ StepsMayBeDecidedAnew = (opening : State) (h : History) → IsInUse opening → 
     → state_at opening h ≡ replay_anew opening (marked_entries opening h)
 
 -- why an undo has to wait though nothing stands on its change: a change is staged; this is the
--- least of its subchannels that isn't quiet; memory lacks
+-- least of its subchannels that isn't quiet; memory lacks, where nothing is staged
 pub data HasToWait (opening : State) (h : History) (n : ℕ) (e : Entry) : Type 0 where
   for_the_stage : stage_of opening h ≢ None → e.answer ≡ Refused (refusal_at O1 Nothing) → HasToWait opening h n e
   for_quiet : (x : SubId) → WaitsFor opening h n x → e.answer ≡ Refused (refusal_at B1 (Subchannel x))
       → HasToWait opening h n e
-  for_memory : e.answer ≡ Refused (refusal_at M1 Nothing) → HasToWait opening h n e
+  for_memory : stage_of opening h ≡ None → e.answer ≡ Refused (refusal_at M1 Nothing) → HasToWait opening h n e
 
 -- nothing stands on the latest standing change: its undo is accepted, or has to wait
 abbrev pub LatestIsNeverBlocked : Type 0

@@ -1,6 +1,6 @@
 -- Which entry a call makes after a history, and legal histories. Own.
-use Rattle.std.specs.Prelude.{◌≡◌, ◌⊎◌, ℕ, ◌+◌, ◌==◌, length, Bool, true, false, if◌then◌else◌}
-use Rattle.std.specs.Prelude.{Option, None, Some, List, [], ◌∷◌, Ok, Err}
+use Rattle.std.specs.Prelude.{◌≡◌, ◌⊎◌, ℕ, ◌+◌, ◌==◌, length, nat_lt, Bool, true, false, not, ◌&&◌}
+use Rattle.std.specs.Prelude.{if◌then◌else◌, Option, None, Some, is_none, List, [], ◌∷◌, Ok, Err}
 use Rattle.std.specs.FinMap.{len}
 use Rattle.iocm_types.specs.declared.answer.Answer.{Answer}
 use Rattle.iocm_types.specs.declared.answer.Answer.TheVariants.{Held, Changed, Staged, Left, Aborted}
@@ -12,7 +12,7 @@ use Rattle.iocm_types.specs.declared.sub_id.SubId.{SubId}
 use Rattle.iocm_model.specs.Operation.State.{State, views_in}
 use Rattle.iocm_model.specs.Change.Refusal.{refusal_at, first_not_quiet}
 use Rattle.iocm_model.specs.Change.Runs.{effect_of}
-use Rattle.iocm_model.specs.Change.Tree.{ChangeTree}
+use Rattle.iocm_model.specs.Change.Tree.{ChangeTree, depth_of, leaves_of, most_depth, most_leaves}
 use Rattle.iocm_model.specs.Change.Meaning.{Outcome, meaning}
 use Rattle.iocm_model.specs.Operation.Step.{answer_in}
 use Rattle.iocm_history.specs.Entry.{Call, at, activate, begin, advance, commit, abort}
@@ -128,18 +128,28 @@ entry_in s b a show = unless_staged a.stage show (plain_entry show (show_answer 
 abbrev pub entry_of : State → History → Call → Entry
 entry_of opening h call = let a = account opening h in entry_in (state_in opening a) (journal_of h) a call
 
--- the calls that may want memory
-abbrev pub may_lack_memory : Call → Bool
-may_lack_memory (activate p) = true
-may_lack_memory (begin p) = true
-may_lack_memory (undo n) = true
-may_lack_memory (redo n) = true
-may_lack_memory _ = false
+-- a change tree is neither too deep (C1), nor has it too many leaves (C2)
+abbrev pub is_within_limits : ChangeTree → Bool
+is_within_limits p = not (nat_lt most_depth (depth_of p)) && not (nat_lt most_leaves (leaves_of p))
+
+-- whether a call may want memory in a state: where nothing is staged, the activation or the Begin
+-- of a tree within the limits, the undo of a change that stands, and the redo that is done again
+abbrev pub may_lack_memory : State → Journal → Account → Call → Bool
+may_lack_memory s b a (activate p) = is_none a.stage && is_within_limits p
+may_lack_memory s b a (begin p) = is_none a.stage && is_within_limits p
+may_lack_memory s b a (undo n) = is_none a.stage && is_in n b.standing
+may_lack_memory s b a (redo n) = is_none a.stage && (is_last_undone n b.undone && is_none (not_quiet_of n s a))
+may_lack_memory s b a _ = false
+
+-- whether it may after a history
+abbrev pub may_lack_memory_after : State → History → Call → Bool
+may_lack_memory_after opening h call =
+    let a = account opening h in may_lack_memory (state_in opening a) (journal_of h) a call
 
 -- an entry is right after a history: it is the one that its call makes, or want of memory (M1)
 abbrev pub IsRight : State → History → Entry → Type 0
 IsRight opening h e = (e ≡ entry_of opening h e.call)
-    ⊎ ((may_lack_memory e.call ≡ true) × (e ≡ plain_entry e.call (Refused (refusal_at M1 Nothing))))
+    ⊎ ((may_lack_memory_after opening h e.call ≡ true) × (e ≡ plain_entry e.call (Refused (refusal_at M1 Nothing))))
 
 -- each entry is right after those before it
 abbrev pub IsLegal : State → History → Type 0

@@ -5,6 +5,7 @@ pub mod Fits
 pub mod MarkedEntry
 pub mod Stage
 pub mod Account
+pub mod Machine
 pub mod StandsOn
 pub mod Journal
 pub mod Legal

@@ -94,7 +94,8 @@ pub record IsGreatestOf (k : ℕ) (ns : List ℕ) : Type 0 where
   pub bounds : (j : ℕ) → is_in j ns ≡ true → j ≤ k
 
 -- why an undo is refused: a change is staged; no such change stands; this is the greatest change
--- that stands on it; this is the least of its subchannels that isn't quiet; memory lacks
+-- that stands on it; this is the least of its subchannels that isn't quiet; memory lacks, where it
+-- stands and nothing is staged
 pub data IsRefusedFor (opening : State) (h : History) (n : ℕ) (e : Entry) : Type 0 where
   staged : stage_of opening h ≢ None → e.answer ≡ Refused (refusal_at O1 Nothing) → IsRefusedFor opening h n e
   not_standing : is_in n (journal_of h).standing ≡ false → e.answer ≡ Refused (refusal_at J1 Nothing)
@@ -104,7 +105,8 @@ pub data IsRefusedFor (opening : State) (h : History) (n : ℕ) (e : Entry) : Ty
       → e.answer ≡ Refused (refusal_at J2 (Change k)) → IsRefusedFor opening h n e
   waits : (x : SubId) → WaitsFor opening h n x → e.answer ≡ Refused (refusal_at B1 (Subchannel x))
       → IsRefusedFor opening h n e
-  lacks_memory : e.answer ≡ Refused (refusal_at M1 Nothing) → IsRefusedFor opening h n e
+  lacks_memory : stage_of opening h ≡ None → is_in n (journal_of h).standing ≡ true
+      → e.answer ≡ Refused (refusal_at M1 Nothing) → IsRefusedFor opening h n e
 
 -- an undo is accepted, or refused for one of these
 abbrev pub UndoIsRefusedOnlyFor : Type 0

@@ -4,6 +4,7 @@ ghost use Rattle.iocm_history.specs.HistoryLaws.{
   StepsStep,
   ActivationsDoWhatTheyMean,
   OtherCallsLeaveTheState,
+  TreesOverALimitWantNoMemory,
 };
 
 /// Runs of calls are legal histories.
@@ -25,6 +26,12 @@ pub fn steps_step()
 /// An accepted activation leaves what its change tree means in the state now.
 pub fn activations_do_what_they_mean()
     ensures { ActivationsDoWhatTheyMean }
+{}
+
+/// A change tree that is too deep or has too many leaves is refused for that, or since a change is
+/// staged, and never for want of memory.
+pub fn trees_over_a_limit_want_no_memory()
+    ensures { TreesOverALimitWantNoMemory }
 {}
 
 /// Every call that is refused or held leaves the state, and so do those that begin, advance or

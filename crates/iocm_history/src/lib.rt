@@ -9,8 +9,15 @@
 //! which of them stand, when each was last undone, and which cells they share.
 //!
 //! The functions here have empty bodies: their contracts are laws of the definitions, and the
-//! layers above rely on these alone. Begin reading at `specs/Legal.antt`, which has the answer to
-//! each call. Runs of calls that were worked by hand stand in `iocm_examples`.
+//! layers above rely on these. Some of their proofs cite lemmas of `proofs/`, too: `iocm_activate`
+//! those of `Fitting`; `iocm_stage` of `OneCell`; `iocm_journal` and `iocm_core` of `Along`,
+//! `EachCall`, `EditsLike`, `Facts`, `Found`, `Level`, `Numbers`, `OneCell`, `Reckoned`,
+//! `RedoMeans`, `Settled`, `TheGreatest`, `UndoMeans`, `Undoing` and `Undone`; `iocm_headline` of
+//! `OneCell`, `Striking`, `Undoing` and `Undone`; and `iocm_runs`, which has more laws of histories,
+//! of most.
+//!
+//! Begin reading at `specs/Legal.antt`, which has the answer to each call. Runs of calls that were
+//! worked by hand stand in `iocm_examples`.
 #![tactic(auto)]
 
 mod history_laws;
@@ -23,7 +30,7 @@ mod undo_laws;
 
 pub use history_laws::{
     activations_do_what_they_mean, other_calls_leave_the_state, runs_are_legal, states_stay_in_use,
-    steps_step,
+    steps_step, trees_over_a_limit_want_no_memory,
 };
 pub use journal_laws::{
     activations_are_there, changes_are_entries, changes_stay_there, changes_were_made,

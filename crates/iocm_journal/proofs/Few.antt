@@ -12,6 +12,7 @@ use Rattle.iocm_history.proofs.Along.{IsEvent, is_event, settled}
 use Rattle.iocm_history.proofs.Facts.{one_less_stands, one_less_is_undone}
 use Rattle.iocm_activate.specs.declared.effect.Effect.{Effect}
 use Rattle.iocm_plant.specs.Operating.{Operating}
+use Rattle.iocm_journal.specs.JournalLaws.{NoMoreStandThanWereAccepted}
 use Rattle.iocm_journal.specs.Now.{BelongTogether}
 use Rattle.iocm_journal.specs.Standing.{stands_at}
 use Rattle.iocm_journal.specs.declared.journal.Journal as code
@@ -33,13 +34,16 @@ few_then opening h e used legal few (IsEvent.redoes n us undone idle answer acco
     first : (m : ℕ) (ms : List ℕ) → is_in m (m ∷ ms) ≡ true
     first m ms = rw (eq-eqb m m refl) refl
 
-pub are_few : (opening : State) (h : History) → IsInUse opening → IsLegal opening h → AreFew (journal_of h)
+are_few : (opening : State) (h : History) → IsInUse opening → IsLegal opening h → AreFew (journal_of h)
 are_few opening [] used legal = omega arith
 are_few opening (e ∷ h) used legal = few_then opening h e used legal.1 (are_few opening h used legal.1)
     (is_event (store_of opening) (journal_of h) (account opening h) (settled opening h used legal.1) e legal.0)
 
+pub none_too_many : NoMoreStandThanWereAccepted
+none_too_many opening h j fs i = let few = are_few opening h i.used i.legal in let is = i.standing in let all = i.count in omega (arith, few, is, all)
+
 pub few_stand : (j : code.Journal) (fs : List Effect) (p : Operating) → BelongTogether j fs p → j.standing ≤ length j.changes.items
-few_stand j fs p b = let few = are_few b.opening b.history b.now.journal.used b.now.journal.legal in let is = b.now.journal.standing in let all = b.now.journal.count in omega (arith, few, is, all)
+few_stand j fs p b = none_too_many b.opening b.history j fs b.now.journal
 
 -- where one stands, some do
 some_of : (n : ℕ) (ns : List ℕ) → is_in n ns ≡ true → 1 ≤ length ns

@@ -20,6 +20,7 @@ use Rattle.iocm_activate.specs.Effects.{effect_in}
 use Rattle.iocm_activate.specs.Told.{told_of_all}
 use Rattle.iocm_activate.specs.declared.effect.Effect.{Effect}
 use Rattle.iocm_history.specs.Reckoning.{undone_then, last_undone}
+use Rattle.iocm_journal.specs.Accepting.{AcceptsAChange}
 use Rattle.iocm_journal.specs.Answering.{LeavesTheJournal}
 use Rattle.iocm_journal.specs.Kept.{IsKept, IsRedoable}
 use Rattle.iocm_journal.specs.Now.{IsJournalOf}
@@ -138,7 +139,7 @@ module _ (opening : State) (h : History) (e : Entry) (j : Journal) (fs : List Ef
     undone = never ∙ sym (undone_stays (count + 1) ∙ never_undone opening h (count + 1) i.used i.legal (inr (omega arith)));
   }
 
-  pub accepted : (j' : Journal) (k : Kept) (f : Effect) → j'.changes.items ≡ j.changes.items ++ k ∷ [] → j'.standing ≡ j.standing + 1 → j'.undone.items ≡ []
+  accepted : (j' : Journal) (k : Kept) (f : Effect) → j'.changes.items ≡ j.changes.items ++ k ∷ [] → j'.standing ≡ j.standing + 1 → j'.undone.items ≡ []
       → k.stands ≡ true → k.undone_after ≡ 0 → plain_tree (tree_of k.inverse) ≡ inverse_tree c.edits c.from → AreToldBy k.performed.items (told_of_all c.edits c.from)
       → effect_in f ≡ effect_of_change c → IsJournalOf opening (e ∷ h) j' (fs ++ f ∷ [])
   accepted j' k f changes standing undone stands never inverse performed effect = record {
@@ -171,3 +172,10 @@ module _ (opening : State) (h : History) (e : Entry) (j : Journal) (fs : List Ef
 
       each : (n : ℕ) (l : Kept) (g : Effect) → slice_get j'.changes.items n ≡ Some l → slice_get (fs ++ f ∷ []) n ≡ Some g → IsKept opening (e ∷ h) (n + 1) l g
       each n l g at_l at_g = by n l g (of_pushed j.changes.items k n l (sym (ap (λ xs. slice_get xs n) changes) ∙ at_l)) (of_pushed fs f n g at_g)
+
+-- what is kept of it is one more change
+pub takes_in : (j j' : Journal) (k : Kept) → j'.changes.items ≡ j.changes.items ++ k ∷ [] → j'.standing ≡ j.standing + 1 → j'.undone.items ≡ []
+    → k.stands ≡ true → k.undone_after ≡ 0 → (opening : State) (h : History) (fs : List Effect) (e : Entry) (f : Effect) → IsJournalOf opening h j fs
+    → AcceptsAChange opening h e (plain_tree (tree_of k.inverse)) k.performed.items f → IsJournalOf opening (e ∷ h) j' (fs ++ f ∷ [])
+takes_in j j' k changes standing undone stands never opening h fs e f i a =
+    accepted opening h e j fs i a.right a.answer a.change a.there j' k f changes standing undone stands never a.takes_back a.told a.wrote

@@ -1,12 +1,12 @@
 mod Answers
-pub mod Taken
+mod Taken
 mod Rows
 mod NeverUndone
-pub mod Few
+mod Few
 mod Passing
 mod Places
-pub mod GoingOn
-pub mod Refused
+mod GoingOn
+mod Refused
 mod Undoing
 mod Redoing
 mod Deciding

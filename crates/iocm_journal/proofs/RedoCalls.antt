@@ -81,7 +81,14 @@ module _ (opening : State) (h : History) (j : Journal) (fs : List Effect) (p : O
 
 -- ---- a redo that is performed
 
--- the last one undone may be done again only where its subchannels are quiet
+-- only the last one undone may be done again, and only where its subchannels are quiet
+last_then : (n : ℕ) (last among past : Bool) (quiet : Option SubId) (x y z : Refused)
+    → answers.Redone n ≡ cond last (unless_not_quiet quiet (answers.Redone n)) (cond among (answers.Refused x) (cond past (answers.Refused y) (answers.Refused z))) → last ≡ true
+last_then n true among past quiet x y z is = refl
+last_then n false true past quiet x y z is = cc
+last_then n false false true quiet x y z is = cc
+last_then n false false false quiet x y z is = cc
+
 quiet_then : (n : ℕ) (last among past : Bool) (quiet : Option SubId) (x y z : Refused)
     → answers.Redone n ≡ cond last (unless_not_quiet quiet (answers.Redone n)) (cond among (answers.Refused x) (cond past (answers.Refused y) (answers.Refused z))) → quiet ≡ None
 quiet_then n true among past None x y z is = refl
@@ -92,8 +99,15 @@ quiet_then n false false false quiet x y z is = cc
 
 module _ (opening : State) (h : History) (i : Journal) (fs : List Effect) (p : Operating) (now : IsNow opening h i fs p) (n place : ℕ) (number : n ≡ place + 1)
     (decided : IsRedoDecided opening h n None) where
+  now_quiet : not_quiet_of n (state_at opening h) (account opening h) ≡ None
+  now_quiet = quiet_then n (is_last_undone n (journal_of h).undone) (is_in n (journal_of h).undone) (is_past n (journal_of h))
+      (not_quiet_of n (state_at opening h) (account opening h)) (refusal_at J3 Nothing) (refusal_at J3 Nothing) (refusal_at J1 Nothing) decided
+
   is_quiet : not_quiet_of (place + 1) (state_at opening h) (account opening h) ≡ None
-  is_quiet = sym (ap (λ m. not_quiet_of m (state_at opening h) (account opening h)) number) ∙ quiet_then n (is_last_undone n (journal_of h).undone) (is_in n (journal_of h).undone) (is_past n (journal_of h))
+  is_quiet = sym (ap (λ m. not_quiet_of m (state_at opening h) (account opening h)) number) ∙ now_quiet
+
+  now_last : is_last_undone n (journal_of h).undone ≡ true
+  now_last = last_then n (is_last_undone n (journal_of h).undone) (is_in n (journal_of h).undone) (is_past n (journal_of h))
       (not_quiet_of n (state_at opening h) (account opening h)) (refusal_at J3 Nothing) (refusal_at J3 Nothing) (refusal_at J1 Nothing) decided
 
   pub redo_performed : (result : Result (Unit {0}) Refused) (j : Journal) (q : Operating) → OnOk result (WasRedone i place p.state q.state j)
@@ -103,7 +117,7 @@ module _ (opening : State) (h : History) (i : Journal) (fs : List Effect) (p : O
   redo_performed (Err why) j q was due same kept is_it =
       let lack = none_due (meaning (redo_at_end i.undone.items) p.state) _ why (last_means opening h i fs p now place is_it is_quiet) due in
       redo_refused opening h i fs p now j q kept same n why
-      (subst (λ w. IsRight opening h (plain_entry (redo n) (answers.Refused w))) (sym lack) (lacking_redo opening h n))
+      (subst (λ w. IsRight opening h (plain_entry (redo n) (answers.Refused w))) (sym lack) (lacking_redo opening h n now.idle now_last now_quiet))
 
 pub redo_stopped : (opening : State) (h : History) (i : Journal) (fs : List Effect) (p : Operating) (n : ℕ) (why : Refused) → IsNow opening h i fs p
     → IsRedoDecided opening h n (Some why) → IsNext opening h (redo_made n (Err why)) i fs p

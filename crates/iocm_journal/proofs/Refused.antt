@@ -1,5 +1,6 @@
 -- Undos and redos that are refused, and entries that are right.
-use Rattle.std.proofs.Common.{◌≡◌, inl, inr, ℕ, None, List, ◌∷◌, length, map, refl, sym, ap, subst, ◌∙◌}
+use Rattle.std.proofs.Common.{◌≡◌, inl, inr, ℕ, true, is_none, None, List, ◌∷◌, length, map, refl, sym, ap, subst, ◌∙◌}
+use Rattle.std.proofs.lemmas.Bool.{and_from}
 use Rattle.iocm_types.specs.declared.answer.Answer.{Answer}
 use Rattle.iocm_types.specs.declared.answer.Answer.TheVariants as answers
 use Rattle.iocm_types.specs.declared.refused.Refused.{Refused}
@@ -9,8 +10,8 @@ use Rattle.iocm_model.specs.Operation.State.{State}
 use Rattle.iocm_model.specs.Change.Refusal.{refusal_at}
 use Rattle.iocm_history.specs.Entry.{Call, undo, redo, History, plain_entry}
 use Rattle.iocm_history.specs.Account.{account, marked_entries, stage_of, state_at}
-use Rattle.iocm_history.specs.Journal.{journal_of}
-use Rattle.iocm_history.specs.Legal.{unless_staged, undo_answer, redo_answer, not_quiet_of, IsRight}
+use Rattle.iocm_history.specs.Journal.{is_in, journal_of}
+use Rattle.iocm_history.specs.Legal.{unless_staged, undo_answer, redo_answer, is_last_undone, not_quiet_of, IsRight}
 use Rattle.iocm_history.specs.StandsOn.{stands_on}
 use Rattle.iocm_history.proofs.EachCall.{other_calls_leave_the_state}
 use Rattle.iocm_activate.specs.declared.effect.Effect.{Effect}
@@ -37,12 +38,17 @@ pub right_redo : (opening : State) (h : History) (n : ℕ) (answer : Answer) →
 right_redo opening h n answer idle is = inl (ap (plain_entry (redo n)) is
     ∙ sym (ap (λ g. unless_staged g (redo n) (plain_entry (redo n) (redo_answer n (journal_of h) (not_quiet_of n (state_at opening h) (account opening h))))) idle))
 
--- for want of memory too
-pub lacking_undo : (opening : State) (h : History) (n : ℕ) → IsRight opening h (plain_entry (undo n) (answers.Refused (refusal_at M1 Nothing)))
-lacking_undo opening h n = inr (refl, refl)
+-- for want of memory too, where the change stands, or would be redone
+pub lacking_undo : (opening : State) (h : History) (n : ℕ) → stage_of opening h ≡ None
+    → is_in n (journal_of h).standing ≡ true
+    → IsRight opening h (plain_entry (undo n) (answers.Refused (refusal_at M1 Nothing)))
+lacking_undo opening h n idle here = inr (and_from _ _ (ap is_none idle) here, refl)
 
-pub lacking_redo : (opening : State) (h : History) (n : ℕ) → IsRight opening h (plain_entry (redo n) (answers.Refused (refusal_at M1 Nothing)))
-lacking_redo opening h n = inr (refl, refl)
+pub lacking_redo : (opening : State) (h : History) (n : ℕ) → stage_of opening h ≡ None
+    → is_last_undone n (journal_of h).undone ≡ true
+    → not_quiet_of n (state_at opening h) (account opening h) ≡ None
+    → IsRight opening h (plain_entry (redo n) (answers.Refused (refusal_at M1 Nothing)))
+lacking_redo opening h n idle last quiet = inr (and_from _ _ (ap is_none idle) (and_from _ _ last (ap is_none quiet)), refl)
 
 -- nothing is staged after a refusal where nothing was
 still_idle_undo : (opening : State) (h : History) (n : ℕ) (why : Refused) → stage_of opening h ≡ None → stage_of opening (plain_entry (undo n) (answers.Refused why) ∷ h) ≡ None

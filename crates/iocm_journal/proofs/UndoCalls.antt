@@ -145,7 +145,7 @@ module _ (opening : State) (h : History) (i : Journal) (fs : List Effect) (p : O
       = (λ z. state_reached (meaning (tree z) ((mid_is ∙ now.state) z))) ∙ meant in
       let lack = none_due (meaning (inverse_at i.changes.items place) mid) _ why reached due in
       undo_refused opening h i fs p now j q kept (same ∙ mid_is) (place + 1) why
-      (subst (λ w. IsRight opening h (plain_entry (undo (place + 1)) (answers.Refused w))) (sym lack) (lacking_undo opening h (place + 1)))
+      (subst (λ w. IsRight opening h (plain_entry (undo (place + 1)) (answers.Refused w))) (sym lack) (lacking_undo opening h (place + 1) now.idle may.here))
 
 -- ---- an undo that is refused
 
@@ -154,6 +154,8 @@ pub undo_stopped : (opening : State) (h : History) (i : Journal) (fs : List Effe
 undo_stopped opening h i fs p q n why now decided same =
     undo_refused opening h i fs p now i q (same_journal i) same n why (right_undo opening h n (answers.Refused why) now.idle decided)
 
-pub undo_lacks : (opening : State) (h : History) (i : Journal) (fs : List Effect) (p q : Operating) (n : ℕ) → IsNow opening h i fs p → q.state ≡ p.state
-    → IsNext opening h (undo_made n (Err no_memory)) i fs q
-undo_lacks opening h i fs p q n now same = undo_refused opening h i fs p now i q (same_journal i) same n no_memory (lacking_undo opening h n)
+pub undo_lacks : (opening : State) (h : History) (i : Journal) (fs : List Effect) (p q : Operating) (place : ℕ) → IsNow opening h i fs p
+    → stands_at i.changes.items place ≡ true → q.state ≡ p.state → IsNext opening h (undo_made (place + 1) (Err no_memory)) i fs q
+undo_lacks opening h i fs p q place now stands same =
+    undo_refused opening h i fs p now i q (same_journal i) same (place + 1) no_memory
+    (lacking_undo opening h (place + 1) now.idle (stands_is opening h i fs now.journal place ∙ stands))

@@ -24,7 +24,8 @@ abbrev pub redo_made : ℕ → Result (Unit {0}) Refused → Entry
 redo_made n came = plain_entry (redo n) (answer_or (answers.Redone n) came)
 
 -- an entry is right after a history, and journal and machine are then as it leaves them
-pub record IsNext (opening : State) (h : History) (e : Entry) (j : Journal) (fs : List Effect) (p : Operating) : Type 0 where
+pub record IsNext (opening : State) (h : History) (e : Entry) (j : Journal) (fs : List Effect)
+    (p : Operating) : Type 0 where
   pub right : IsRight opening h e
   pub now : IsNow opening (e ∷ h) j fs p
 

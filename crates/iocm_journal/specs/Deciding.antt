@@ -19,9 +19,11 @@ unless_refused answer (Some why) = answers.Refused why
 abbrev pub IsUndoDecided : State → History → ℕ → Option Refused → Type 0
 IsUndoDecided opening h n why =
     unless_refused (answers.Undone n) why
-    ≡ undo_answer n (journal_of h).standing (stands_on n (marked_entries opening h) (state_at opening h)) (not_quiet_of n (state_at opening h) (account opening h))
+    ≡ undo_answer n (journal_of h).standing (stands_on n (marked_entries opening h) (state_at opening h))
+    (not_quiet_of n (state_at opening h) (account opening h))
 
 -- a redo is refused for this, or for nothing
 abbrev pub IsRedoDecided : State → History → ℕ → Option Refused → Type 0
 IsRedoDecided opening h n why =
-    unless_refused (answers.Redone n) why ≡ redo_answer n (journal_of h) (not_quiet_of n (state_at opening h) (account opening h))
+    unless_refused (answers.Redone n) why ≡ redo_answer n (journal_of h)
+    (not_quiet_of n (state_at opening h) (account opening h))

@@ -4,3 +4,5 @@ pub mod Now
 pub mod Answering
 pub mod Moving
 pub mod Deciding
+pub mod Accepting
+pub mod JournalLaws

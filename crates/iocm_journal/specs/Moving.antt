@@ -28,7 +28,8 @@ pub record WasUndone (old : Journal) (place : ℕ) (before after : State) (new :
   pub last : Undone
   pub undone : new.undone.items ≡ old.undone.items ++ last ∷ []
   pub number : last.number ≡ place + 1
-  pub takes_back : TakesBack (plain_tree (tree_of last.redo)) (edits_of (meaning (plain_tree (tree_of kept.inverse)) before)) before
+  pub takes_back : TakesBack (plain_tree (tree_of last.redo))
+      (edits_of (meaning (plain_tree (tree_of kept.inverse)) before)) before
 
 -- the change at a place, the last one undone, was done again by the tree that was kept for that
 pub record WasRedone (old : Journal) (place : ℕ) (before after : State) (new : Journal) : Type 0 where

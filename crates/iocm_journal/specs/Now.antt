@@ -23,7 +23,8 @@ pub record IsJournalOf (opening : State) (h : History) (j : Journal) (fs : List 
   pub legal : IsLegal opening h
   pub count : (journal_of h).count ≡ length j.changes.items
   pub effects : length fs ≡ length j.changes.items
-  pub kept : (n : ℕ) (k : Kept) (f : Effect) → slice_get j.changes.items n ≡ Some k → slice_get fs n ≡ Some f → IsKept opening h (n + 1) k f
+  pub kept : (n : ℕ) (k : Kept) (f : Effect) → slice_get j.changes.items n ≡ Some k → slice_get fs n ≡ Some f
+      → IsKept opening h (n + 1) k f
   pub standing : j.standing ≡ length (journal_of h).standing
   pub undone : map (λ (u : Undone). u.number) j.undone.items ≡ reverse (journal_of h).undone
   pub redoable : AllByRecursion (IsRedoable opening h) j.undone.items

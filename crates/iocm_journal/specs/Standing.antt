@@ -1,5 +1,6 @@
 -- Which changes stand on a change, by what a journal keeps. Own.
-use Rattle.std.specs.Prelude.{ℕ, ◌+◌, ◌-◌, ◌==◌, length, nat_lt, nat_le, Bool, true, false, not, ◌&&◌, if◌then◌else◌, List, Option, None, Some, zero, suc}
+use Rattle.std.specs.Prelude.{ℕ, ◌+◌, ◌-◌, ◌==◌, length, nat_lt, nat_le, Bool, true, false, not}
+use Rattle.std.specs.Prelude.{◌&&◌, if◌then◌else◌, List, Option, None, Some, zero, suc}
 use Rattle.std.specs.List.{slice_get}
 use Rattle.std.specs.Option.{option_map_or}
 use Rattle.iocm_model.specs.Change.Tree.{ChangeTree, row, none}

@@ -2,6 +2,8 @@ ghost use Rattle.std.specs.Prelude.{◌≡◌, ◌+◌, ◌<◌, ◌≤◌, ◌+
 ghost use Rattle.std.specs.Vec.{vec_len, vec_capacity};
 ghost use Rattle.iocm_model.specs.Operation.State.{State};
 ghost use Rattle.iocm_history.specs.InUse.{IsInUse};
+ghost use Rattle.iocm_tree.specs.Trees.{plain};
+ghost use Rattle.iocm_journal.specs.Accepting.{TakesIn};
 ghost use Rattle.iocm_journal.specs.Now.{IsJournalOf};
 
 use crate::{Kept, Undone};
@@ -45,14 +47,17 @@ impl Journal {
 
     /// Keeps one more change, which stands, and for which there is room; those that are undone
     /// become past. It gives the change's number. The tree and what was performed are to be those
-    /// of a change that was just made on the journal's machine. Can't answer want of memory.
+    /// of a change that was just made on the journal's machine: then the journal is one of the
+    /// history with the entry that accepts it. Can't answer want of memory.
     pub fn accept(&mut self, inverse: Tree, performed: Vec<Touched>) -> u64
         requires room { vec_len self.old.changes < vec_capacity self.old.changes }
         requires few { self.old.standing ≤ length self.old.changes.items }
         ensures number { result ≡ length self.old.changes.items + 1 }
-        ensures changes { self.new.changes.items ≡ self.old.changes.items ++ record { inverse = inverse; performed = performed; stands = true; undone_after = 0 } ∷ [] }
+        ensures changes { self.new.changes.items ≡ self.old.changes.items
+            ++ record { inverse = inverse; performed = performed; stands = true; undone_after = 0 } ∷ [] }
         ensures standing { self.new.standing ≡ self.old.standing + 1 }
         ensures undone { self.new.undone.items ≡ [] }
+        ensures takes_in { TakesIn (plain inverse) performed.items self.old self.new }
     {
         self.changes.push_reserved(Kept {
             inverse,
@@ -74,7 +79,8 @@ impl Journal {
 
     /// The place among the changes of a number, counted from 0, if such a change was accepted.
     pub(crate) fn place(&self, number: u64) -> Option<usize>
-        ensures { MatchOption result ((at : ℕ) → number ≡ at + 1 → length self.now.changes.items ≤ at) (λ at. (number ≡ at + 1) × (at < length self.now.changes.items)) }
+        ensures { MatchOption result ((at : ℕ) → number ≡ at + 1 → length self.now.changes.items ≤ at)
+            (λ at. (number ≡ at + 1) × (at < length self.now.changes.items)) }
     {
         if number == 0 || number > self.changes.len() as u64 {
             return None;

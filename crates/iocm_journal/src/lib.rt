@@ -8,12 +8,14 @@
 //!
 //! What the layer above may rely on: beside a history (`IsJournalOf`) the journal answers undo and
 //! redo as the history's definition says, and leaves the machine in the state to which the history
-//! then leads. Begin with `specs/Kept.antt` and `specs/Now.antt`, then `journal.rt`, `undo.rt` and
-//! `redo.rt`.
+//! then leads. `accept` leaves it one of the history with the entry that accepts the change, and an
+//! entry that is about no change leaves it one as it is (`laws.rt`). Begin with `specs/Kept.antt`
+//! and `specs/Now.antt`, then `journal.rt`, `undo.rt` and `redo.rt`.
 #![tactic(auto)]
 
 mod journal;
 mod kept;
+mod laws;
 mod quiet;
 mod redo;
 mod refusals;
@@ -23,3 +25,4 @@ mod undo;
 
 pub use journal::Journal;
 pub use kept::{Kept, Undone};
+pub use laws::journals_keep_to_histories;

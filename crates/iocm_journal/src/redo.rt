@@ -1,4 +1,5 @@
-ghost use Rattle.std.specs.Prelude.{◌≡◌, ◌<◌, ◌+◌, ◌++◌, ◌∷◌, [], ℕ, true, length, Some, slice_set, IfOk, IfErr, OnOk, OnErr, MatchOption, ◌≤◌};
+ghost use Rattle.std.specs.Prelude.{◌≡◌, ◌<◌, ◌+◌, ◌++◌, ◌∷◌, [], ℕ, true, length, Some, slice_set};
+ghost use Rattle.std.specs.Prelude.{IfOk, IfErr, OnOk, OnErr, MatchOption, ◌≤◌};
 ghost use Rattle.std.specs.Result.{result_err};
 ghost use Rattle.std.specs.List.{slice_get};
 ghost use Rattle.iocm_model.specs.Change.Meaning.{meaning};
@@ -39,7 +40,8 @@ impl Journal {
         number: u64,
     ) -> Result<(), Refused>
         requires { BelongTogether self.old changes.now plant.old }
-        ensures next { (opening : State) (h : History) → IsNow opening h self.old changes.now plant.old → IsNext opening h (redo_made number result) self.new changes.now plant.new }
+        ensures next { (opening : State) (h : History) → IsNow opening h self.old changes.now plant.old
+            → IsNext opening h (redo_made number result) self.new changes.now plant.new }
         ensures same { OnErr result (KeepsTheSame self.old self.new) }
         ensures room { KeepsRoom plant.old.room plant.new.room }
     {
@@ -52,7 +54,8 @@ impl Journal {
     /// The place of a change that may be done again, counted from 0; or J1, J3 or B1.
     fn redo_place(&self, plant: &Plant, changes: &[Effect], number: u64) -> Result<usize, Refused>
         requires now { BelongTogether self.now changes.now plant.now }
-        ensures decided { (opening : State) (h : History) → IsNow opening h self.now changes.now plant.now → IsRedoDecided opening h number (result_err result) }
+        ensures decided { (opening : State) (h : History) → IsNow opening h self.now changes.now plant.now
+            → IsRedoDecided opening h number (result_err result) }
         ensures number { IfOk result (λ place. number ≡ place + 1) }
         ensures last { OnOk result (is_last self.now.undone.items number ≡ true) }
         ensures within { IfOk result (λ place. place < length self.now.changes.items) }
@@ -92,7 +95,8 @@ impl Journal {
         requires last { is_last self.old.undone.items (place + 1) ≡ true }
         requires few { self.old.standing ≤ length self.old.changes.items }
         ensures done { OnOk result (WasRedone self.old place plant.old.state plant.new.state self.new) }
-        ensures refused { IfErr result (IsDue (refusal_in (meaning (redo_at_end self.old.undone.items) plant.old.state))) }
+        ensures refused { IfErr result (IsDue (refusal_in
+            (meaning (redo_at_end self.old.undone.items) plant.old.state))) }
         ensures same { OnErr result (plant.new.state ≡ plant.old.state) }
         ensures journal { OnErr result (KeepsTheSame self.old self.new) }
         ensures room { KeepsRoom plant.old.room plant.new.room }
@@ -114,9 +118,11 @@ impl Journal {
     fn note_redone(&mut self, place: usize) -> Option<Undone>
         requires place { place < length self.old.changes.items }
         requires few { self.old.standing ≤ length self.old.changes.items }
-        ensures changes { (k : Kept) → slice_get self.old.changes.items place ≡ Some k → self.new.changes.items ≡ slice_set self.old.changes.items place (again k) }
+        ensures changes { (k : Kept) → slice_get self.old.changes.items place ≡ Some k
+            → self.new.changes.items ≡ slice_set self.old.changes.items place (again k) }
         ensures standing { self.new.standing ≡ self.old.standing + 1 }
-        ensures undone { MatchOption result (self.old.undone.items ≡ []) (λ last. self.old.undone.items ≡ self.new.undone.items ++ last ∷ []) }
+        ensures undone { MatchOption result (self.old.undone.items ≡ [])
+            (λ last. self.old.undone.items ≡ self.new.undone.items ++ last ∷ []) }
     {
         let kept = &mut self.changes[place];
         kept.stands = true;

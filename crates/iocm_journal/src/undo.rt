@@ -1,4 +1,5 @@
-ghost use Rattle.std.specs.Prelude.{◌≡◌, ◌<◌, ◌+◌, ◌++◌, ◌∷◌, [], ℕ, true, false, length, Some, slice_set, IfOk, IfErr, OnOk, OnErr, MatchOption};
+ghost use Rattle.std.specs.Prelude.{◌≡◌, ◌<◌, ◌+◌, ◌++◌, ◌∷◌, [], ℕ, true, false, length, Some};
+ghost use Rattle.std.specs.Prelude.{slice_set, IfOk, IfErr, OnOk, OnErr, MatchOption};
 ghost use Rattle.std.specs.Vec.{vec_len, vec_capacity};
 ghost use Rattle.std.specs.List.{slice_get};
 ghost use Rattle.iocm_model.specs.Change.Meaning.{meaning};
@@ -43,7 +44,8 @@ impl Journal {
         number: u64,
     ) -> Result<(), Refused>
         requires { BelongTogether self.old changes.now plant.old }
-        ensures next { (opening : State) (h : History) → IsNow opening h self.old changes.now plant.old → IsNext opening h (undo_made number result) self.new changes.now plant.new }
+        ensures next { (opening : State) (h : History) → IsNow opening h self.old changes.now plant.old
+            → IsNext opening h (undo_made number result) self.new changes.now plant.new }
         ensures same { OnErr result (KeepsTheSame self.old self.new) }
         ensures room { KeepsRoom plant.old.room plant.new.room }
     {
@@ -59,7 +61,8 @@ impl Journal {
 
     /// The place of a change that stands, counted from 0.
     fn standing_place(&self, number: u64) -> Option<usize>
-        ensures { MatchOption result ((at : ℕ) → number ≡ at + 1 → stands_at self.now.changes.items at ≡ false) (λ at. (number ≡ at + 1) × (stands_at self.now.changes.items at ≡ true)) }
+        ensures { MatchOption result ((at : ℕ) → number ≡ at + 1 → stands_at self.now.changes.items at ≡ false)
+            (λ at. (number ≡ at + 1) × (stands_at self.now.changes.items at ≡ true)) }
     {
         let place = self.place(number)?;
         if !self.changes[place].stands {
@@ -81,7 +84,8 @@ impl Journal {
         requires now { BelongTogether self.now changes.now plant.old }
         requires stands { stands_at self.now.changes.items place ≡ true }
         requires place { place < length self.now.changes.items }
-        ensures decided { IfOk result (λ why. (opening : State) (h : History) → IsNow opening h self.now changes.now plant.old → IsUndoDecided opening h (place + 1) why) }
+        ensures decided { IfOk result (λ why. (opening : State) (h : History)
+            → IsNow opening h self.now changes.now plant.old → IsUndoDecided opening h (place + 1) why) }
         ensures same { plant.new.state ≡ plant.old.state }
         ensures room { KeepsRoom plant.old.room plant.new.room }
     {
@@ -105,7 +109,8 @@ impl Journal {
         requires place { place < length self.old.changes.items }
         requires some { 0 < self.old.standing }
         ensures done { OnOk result (WasUndone self.old place plant.old.state plant.new.state self.new) }
-        ensures refused { IfErr result (IsDue (refusal_in (meaning (inverse_at self.old.changes.items place) plant.old.state))) }
+        ensures refused { IfErr result (IsDue (refusal_in
+            (meaning (inverse_at self.old.changes.items place) plant.old.state))) }
         ensures same { OnErr result (plant.new.state ≡ plant.old.state) }
         ensures journal { OnErr result (KeepsTheSame self.old self.new) }
         ensures room { KeepsRoom plant.old.room plant.new.room }
@@ -128,9 +133,12 @@ impl Journal {
         requires place { place < length self.old.changes.items }
         requires some { 0 < self.old.standing }
         requires room { vec_len self.old.undone < vec_capacity self.old.undone }
-        ensures changes { (k : Kept) → slice_get self.old.changes.items place ≡ Some k → self.new.changes.items ≡ slice_set self.old.changes.items place (no_more (length self.old.changes.items) k) }
+        ensures changes { (k : Kept) → slice_get self.old.changes.items place ≡ Some k
+            → self.new.changes.items ≡ slice_set self.old.changes.items place
+            (no_more (length self.old.changes.items) k) }
         ensures standing { self.new.standing + 1 ≡ self.old.standing }
-        ensures undone { self.new.undone.items ≡ self.old.undone.items ++ record { number = place + 1; redo = redo } ∷ [] }
+        ensures undone { self.new.undone.items ≡ self.old.undone.items
+            ++ record { number = place + 1; redo = redo } ∷ [] }
     {
         let count = self.changes.len() as u64;
         let kept = &mut self.changes[place];

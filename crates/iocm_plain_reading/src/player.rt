@@ -169,7 +169,7 @@ impl Player {
         if self.holds(there) {
             return Ok(Answer::Held);
         }
-        let answer = Answer::Begun(self.plant.begun(*there));
+        let answer = Answer::Begun(self.plant.device_begin(*there));
         self.stepped(there)?;
         Ok(answer)
     }
@@ -178,7 +178,7 @@ impl Player {
         if self.holds(there) {
             return Ok(Answer::Held);
         }
-        let answer = Answer::Ended(self.plant.end(*there));
+        let answer = Answer::Ended(self.plant.device_end(*there));
         self.stepped(there)?;
         Ok(answer)
     }

@@ -149,7 +149,7 @@ fn have_ended(plant: &mut Plant, there: &SubId, function: Function) {
         Function::Clear => Clear,
     };
     let _ = plant.step(*there, order);
-    let _ = plant.end(*there);
+    let _ = plant.device_end(*there);
 }
 
 /// Brings a phase about where all is idle.
@@ -161,7 +161,7 @@ fn bring_phase(plant: &mut Plant, there: &SubId, phase: Phase) {
         }
         Phase::StartActive => {
             let _ = plant.step(*there, Start);
-            let _ = plant.begun(*there);
+            let _ = plant.device_begin(*there);
         }
         Phase::Halt => {
             let _ = plant.step(*there, Halt);

@@ -1,6 +1,6 @@
 -- Between an edit and its way back: what leaves the configuration, the numbers and the places takes
 -- nothing from the edit that takes it back.
-use Rattle.std.proofs.Common.{◌≡◌, List, [], ◌∷◌, Option, Some, None, refl, sym, ap, subst, ◌∙◌}
+use Rattle.std.proofs.Common.{List, [], ◌∷◌, Option, Some, None, refl, sym, ap, subst, ◌∙◌}
 use Rattle.std.specs.List.{AllByRecursion}
 use Rattle.iocm_types.specs.declared.naming.Naming.{Naming}
 use Rattle.iocm_types.specs.declared.sub_id.SubId.{SubId}
@@ -14,8 +14,8 @@ use Rattle.iocm_model.specs.Laws.Runs.{HasSameKeys}
 use Rattle.iocm_model.proofs.Change.Steps.{steps_stay_sound}
 use Rattle.iocm_model.proofs.Change.EditsGoBack.{inverse_gives, lived_after}
 use Rattle.iocm_index.specs.Namings.{namings_of}
-use Rattle.iocm_plant.specs.Operating.{Room, HasNamingRoom, KeepsPlaces, KeepsRoom}
-use Rattle.iocm_plant.specs.Between.{StandsAsItDoes, StandsOn, StepsLeaveItStanding, CanStillUnapply, TakenBackItStandsAsBefore}
+use Rattle.iocm_plant.specs.Operating.{HasNamingRoom, KeepsPlaces, KeepsRoom}
+use Rattle.iocm_plant.specs.Between.{SamePlacesAreKept, PlacesAreKeptOn, StandsAsItDoes, StandsOn, StepsLeaveItStanding, CanStillUnapply, TakenBackItStandsAsBefore}
 
 -- ---- what holds of each holds on
 
@@ -30,8 +30,8 @@ naming_room_kept ps qs keeps (Some r) room = all_on keeps (namings_of r) room
 
 -- ---- a machine stands as before
 
-pub rooms_on : (a b c : Room) → KeepsRoom a b → KeepsRoom b c → KeepsRoom a c
-rooms_on a b c before after = record {
+pub places_are_kept_on : PlacesAreKeptOn
+places_are_kept_on a b c before after = record {
   same_keys = λ key h. after.same_keys key (before.same_keys key h);
   same_numbers = λ row h. after.same_numbers row (before.same_numbers row h);
   same_namings = λ key h. after.same_namings key (before.same_namings key h);
@@ -39,19 +39,19 @@ rooms_on a b c before after = record {
 }
 
 -- where the places are the same, none is lost
-pub same_is_kept : (old new : Room) → new ≡ old → KeepsRoom old new
-same_is_kept old new same = subst (KeepsRoom old) (sym same) (record { same_keys = λ key h. h; same_numbers = λ row h. h; same_namings = λ key h. h; same_subchannels = λ key h. h })
+pub same_places_are_kept : SamePlacesAreKept
+same_places_are_kept old new same = subst (KeepsRoom old) (sym same) (record { same_keys = λ key h. h; same_numbers = λ row h. h; same_namings = λ key h. h; same_subchannels = λ key h. h })
 
 pub stands_as_it_does : StandsAsItDoes
 stands_as_it_does p sound = record {
   state = record { config = refl; numbers = refl; lived = sound.lived };
-  room = same_is_kept p.room p.room refl;
+  room = same_places_are_kept p.room p.room refl;
 }
 
 pub stands_on : StandsOn
 stands_on p q r before after = record {
   state = record { config = after.state.config ∙ before.state.config; numbers = after.state.numbers ∙ before.state.numbers; lived = after.state.lived };
-  room = rooms_on p.room q.room r.room before.room after.room;
+  room = places_are_kept_on p.room q.room r.room before.room after.room;
 }
 
 left_standing : (x : SubId) (step : Step) (s : State) → IsSound s → HasConfigAndNumbersOf (after_step x step s) s
@@ -60,7 +60,7 @@ left_standing x step s sound = record { config = refl; numbers = refl; lived = (
 pub steps_leave_it_standing : StepsLeaveItStanding
 steps_leave_it_standing x step p q sound is room = record {
   state = subst (λ (s : State). HasConfigAndNumbersOf s p.state) (sym is) (left_standing x step p.state sound);
-  room = same_is_kept p.room q.room room;
+  room = same_places_are_kept p.room q.room room;
 }
 
 -- ---- an edit that takes another one back
@@ -101,5 +101,5 @@ taken_back_it_stands_as_before e i p q r t was =
     let like : HasConfigAndNumbersOf r.state (state_after e p.state) = subst (HasConfigAndNumbersOf r.state) was.performed was.stands.state in record {
       state = subst (λ (s : State). HasConfigAndNumbersOf s p.state) (sym (was.taken_back ∙ ap (λ (k : Edit). state_after k r.state) was.inverse))
           (back_as_before e p.state r.state i.lives was.sound like was.lives);
-      room = rooms_on p.room q.room t.room was.room_kept (rooms_on q.room r.room t.room was.stands.room (same_is_kept r.room t.room was.same_room));
+      room = places_are_kept_on p.room q.room t.room was.room_kept (places_are_kept_on q.room r.room t.room was.stands.room (same_places_are_kept r.room t.room was.same_room));
     }

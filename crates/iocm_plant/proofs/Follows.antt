@@ -29,7 +29,7 @@ use Rattle.iocm_model.proofs.Numbers.Changed.{stayers_keep_theirs}
 use Rattle.iocm_numbers.specs.LookedAt.{cells_at}
 use Rattle.iocm_numbers.specs.Renumbering.{Rise, AreAllTouched}
 use Rattle.iocm_numbers.proofs.CellsThere.{cells_are_listed}
-use Rattle.iocm_seats.specs.Changes.{candidates, change_of, AreCandidates}
+use Rattle.iocm_seats.specs.Changes.{candidates, view_change, AreCandidates}
 use Rattle.iocm_seats.specs.Seated.{Seats, views_seated}
 use Rattle.iocm_seats.specs.Settling.{AreSeen}
 use Rattle.iocm_seats.proofs.Ordered.{seen_is}
@@ -66,7 +66,7 @@ module _ (d : Configuration) (n : Numbering) (seats : Seats) (places : List Plac
   }
 
 -- changes from what was seen to what is seen are of what was seen
-pub all_seen : (v : Views) (w : SubId → Option View) (xs : List SubId) → AreSeen v (map (change_of (get v) w) xs)
+pub all_seen : (v : Views) (w : SubId → Option View) (xs : List SubId) → AreSeen v (map (view_change (get v) w) xs)
 all_seen v w [] = tt
 all_seen v w (x ∷ xs) = (refl, all_seen v w xs)
 

@@ -1,10 +1,10 @@
-pub mod Between
-pub mod Candidates
-pub mod Counted
-pub mod Follows
-pub mod Opening
-pub mod Performed
-pub mod Records
-pub mod Sorted
-pub mod Stepping
-pub mod TakenBack
+mod Between
+mod Candidates
+mod Counted
+mod Follows
+mod Opening
+mod Performed
+mod Records
+mod Sorted
+mod Stepping
+mod TakenBack

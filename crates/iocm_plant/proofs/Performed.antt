@@ -1,14 +1,13 @@
 -- What an edit does that is performed: the state is the one that the definition gives, and what is
 -- made of it takes it back.
-use Rattle.std.proofs.Common.{◌≡◌, ℕ, Bool, true, false, cond, not, ◌&&◌, ◌||◌, List, [], ◌∷◌, ◌++◌, map, filter, Option, Some, None, is_some, T, refl, sym, ap, subst, ◌∙◌}
+use Rattle.std.proofs.Common.{◌≡◌, ℕ, Bool, true, false, cond, not, ◌&&◌, ◌||◌, List, [], ◌∷◌, map, filter, Option, Some, None, is_some, T, refl, sym, ap, subst, ◌∙◌}
 use Rattle.std.specs.List.{cons_option, AllByRecursion}
 use Rattle.std.specs.List.Sorted.{IsStrictlySortedBy}
 use Rattle.std.specs.Map.{keys_of}
 use Rattle.std.specs.Option.{option_eq, option_map, option_or}
 use Rattle.std.specs.Ordering.{eq_by_cmp, is_eq, is_lt}
-use Rattle.std.specs.declared.cmp.Ordering.{Ordering}
 use Rattle.std.specs.declared.cmp.Ordering.TheVariants.{Less}
-use Rattle.std.specs.FinMap.{FinMap, get, contains_key, find, is_sorted, entries, entries_sorted, from_entries, from_sorted, retain_keys, same_map, get-from_sorted}
+use Rattle.std.specs.FinMap.{get, contains_key, find, is_sorted, from_sorted, retain_keys, same_map, get-from_sorted}
 use Rattle.std.specs.FinMap.Entries.{below_all}
 use Rattle.std.proofs.lemmas.List.Kept.{IsStrictlySortedBy-filter}
 use Rattle.std.proofs.lemmas.Map.Keys.{sorted_head, sorted_tail}
@@ -43,10 +42,10 @@ use Rattle.iocm_lookup.specs.Indexed.{IsIndexOf}
 use Rattle.iocm_numbers.specs.NumberChanges as numbers
 use Rattle.iocm_model.proofs.Maps.Cells.{in_differing, get_retained}
 use Rattle.iocm_seats.specs.declared.view_change.ViewChange.{ViewChange}
-use Rattle.iocm_seats.specs.Changes.{change_of, changes_between}
+use Rattle.iocm_seats.specs.Changes.{view_change, changes_between}
 use Rattle.iocm_seats.specs.Seated.{Seats, views_seated, lives_seated}
 use Rattle.iocm_seats.specs.Settling.{settled_all, lives_met, subchannels_left}
-use Rattle.iocm_seats.proofs.Ordered.{keys_rise}
+use Rattle.iocm_seats.proofs.Ordered.{differing_rise}
 use Rattle.iocm_seats.proofs.Settled.{live_in, live_seated, settled_seats_show, settled_seats_live}
 use Rattle.iocm_plant.specs.declared.quiet.Quiet.{Quiet}
 use Rattle.iocm_plant.specs.Following.{seen_changes, seating_refusal, following_refusal}
@@ -59,19 +58,13 @@ use Rattle.iocm_plant.proofs.TakenBack.{edit_of, sound_state, record_has_room}
 -- ---- lists of subchannels with their changes
 
 -- the subchannels of changes
-pub changed_subchannels : (v w : SubId → Option View) (xs : List SubId) → map (λ (ch : ViewChange). ch.subchannel) (map (change_of v w) xs) ≡ xs
+pub changed_subchannels : (v w : SubId → Option View) (xs : List SubId) → map (λ (ch : ViewChange). ch.subchannel) (map (view_change v w) xs) ≡ xs
 changed_subchannels v w [] = refl
 changed_subchannels v w (x ∷ xs) = ap (λ ys. x ∷ ys) (changed_subchannels v w xs)
 
--- the keys at which two maps differ stand in order
-pub differing_rise : {K X : Type 0} (R : K → K → Ordering) (same : X → X → Bool) (m n : FinMap R X) → IsStrictlySortedBy R (differing same m n)
-differing_rise R same m n =
-    let both = from_entries {R = R} (entries m ++ entries n) in
-    IsStrictlySortedBy-filter R (λ key. not (option_eq same (get m key) (get n key))) (keys_of (entries both)) (keys_rise R (entries both) (entries_sorted both))
-
 module _ (lives : Lives) (v w : SubId → Option View) where
   abbrev met_at : List SubId → List (SubId × Live)
-  met_at xs = lives_met lives (map (change_of v w) xs)
+  met_at xs = lives_met lives (map (view_change v w) xs)
 
   found_by : (x k : SubId) (o : Option Live) (rest : List (SubId × Live)) (b among : Bool) → eq_by_cmp sub_id_cmp x k ≡ b → get lives k ≡ o
       → find sub_id_cmp x rest ≡ cond among (get lives x) None → (b ≡ true → among ≡ false)
@@ -121,7 +114,7 @@ module _ (lives : Lives) (v w : SubId → Option View) where
 
   left_by : (x k : SubId) (rest : List ViewChange) (b t among : Bool) → eq_by_cmp sub_id_cmp x k ≡ b → is_some (w k) ≡ t
       → is_among x (map (λ (ch : ViewChange). ch.subchannel) rest) ≡ (among && is_some (w x))
-      → is_among x (map (λ (ch : ViewChange). ch.subchannel) (cond t (change_of v w k ∷ rest) rest)) ≡ ((b || among) && is_some (w x))
+      → is_among x (map (λ (ch : ViewChange). ch.subchannel) (cond t (view_change v w k ∷ rest) rest)) ≡ ((b || among) && is_some (w x))
   left_by x k rest true true among tied there more = rw tied (sym (ap (λ z. is_some (w z)) (same_key sub_id_cmp sub_ids_exact x k tied) ∙ there))
   left_by x k rest true false among tied there more =
       let none : is_some (w x) ≡ false = ap (λ z. is_some (w z)) (same_key sub_id_cmp sub_ids_exact x k tied) ∙ there in
@@ -134,9 +127,9 @@ module _ (lives : Lives) (v w : SubId → Option View) where
   left_by x k rest false false among other there more = more
 
   -- the subchannels that are left are those at which something is seen
-  pub left_at : (xs : List SubId) (x : SubId) → is_among x (subchannels_left (map (change_of v w) xs)) ≡ (is_among x xs && is_some (w x))
+  pub left_at : (xs : List SubId) (x : SubId) → is_among x (subchannels_left (map (view_change v w) xs)) ≡ (is_among x xs && is_some (w x))
   left_at [] x = refl
-  left_at (k ∷ xs) x = left_by x k (filter (λ (ch : ViewChange). is_some ch.after) (map (change_of v w) xs)) (eq_by_cmp sub_id_cmp x k) (is_some (w k)) (is_among x xs) refl refl (left_at xs x)
+  left_at (k ∷ xs) x = left_by x k (filter (λ (ch : ViewChange). is_some ch.after) (map (view_change v w) xs)) (eq_by_cmp sub_id_cmp x k) (is_some (w k)) (is_among x xs) refl refl (left_at xs x)
 
 -- ---- the edit as a whole
 
@@ -263,12 +256,12 @@ rows_up [] rise = tt
 rows_up (row ∷ rows) rise = both_hold (below_all sub_id_cmp row.0 rows) (is_sorted sub_id_cmp rows) (rows_below row.0 rows (sorted_head sub_id_cmp row.0 (keys_of rows) rise))
     (rows_up rows (sorted_tail sub_id_cmp row.0 (keys_of rows) rise))
 
-left_are : (v w : SubId → Option View) (xs : List SubId) → subchannels_left (map (change_of v w) xs) ≡ filter (λ x. is_some (w x)) xs
+left_are : (v w : SubId → Option View) (xs : List SubId) → subchannels_left (map (view_change v w) xs) ≡ filter (λ x. is_some (w x)) xs
 left_are v w [] = refl
 left_are v w (x ∷ xs) = by (is_some (w x)) (left_are v w xs)
   where
-    by : (b : Bool) → map (λ (ch : ViewChange). ch.subchannel) (filter (λ (ch : ViewChange). is_some ch.after) (map (change_of v w) xs)) ≡ filter (λ y. is_some (w y)) xs
-        → map (λ (ch : ViewChange). ch.subchannel) (cond b (change_of v w x ∷ filter (λ (ch : ViewChange). is_some ch.after) (map (change_of v w) xs)) (filter (λ (ch : ViewChange). is_some ch.after) (map (change_of v w) xs)))
+    by : (b : Bool) → map (λ (ch : ViewChange). ch.subchannel) (filter (λ (ch : ViewChange). is_some ch.after) (map (view_change v w) xs)) ≡ filter (λ y. is_some (w y)) xs
+        → map (λ (ch : ViewChange). ch.subchannel) (cond b (view_change v w x ∷ filter (λ (ch : ViewChange). is_some ch.after) (map (view_change v w) xs)) (filter (λ (ch : ViewChange). is_some ch.after) (map (view_change v w) xs)))
         ≡ cond b (x ∷ filter (λ y. is_some (w y)) xs) (filter (λ y. is_some (w y)) xs)
     by true more = ap (λ ys. x ∷ ys) more
     by false more = more

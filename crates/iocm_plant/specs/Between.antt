@@ -8,8 +8,15 @@ use Rattle.iocm_model.specs.Change.Edit.{Edit, state_after}
 use Rattle.iocm_model.specs.Change.Inverse.{inverse_of}
 use Rattle.iocm_model.specs.Laws.Runs.{HasSameKeys}
 use Rattle.iocm_tree.specs.Carried.{Carried}
-use Rattle.iocm_plant.specs.Operating.{Operating, KeepsRoom}
+use Rattle.iocm_plant.specs.Operating.{Room, Operating, KeepsRoom}
 use Rattle.iocm_plant.specs.TakingBack.{CanUnapply}
+
+-- no place is lost where the places are the same, nor in two steps of which neither loses one
+abbrev pub SamePlacesAreKept : Type 0
+SamePlacesAreKept = (old new : Room) → new ≡ old → KeepsRoom old new
+
+abbrev pub PlacesAreKeptOn : Type 0
+PlacesAreKeptOn = (a b c : Room) → KeepsRoom a b → KeepsRoom b c → KeepsRoom a c
 
 -- a machine stands as before: it has the configuration and the numbers from then, and no place was
 -- lost; its live records are its own
@@ -26,7 +33,8 @@ StandsOn = (p q r : Operating) → StandsAsBefore p q → StandsAsBefore q r →
 
 -- orders and events leave it standing
 abbrev pub StepsLeaveItStanding : Type 0
-StepsLeaveItStanding = (x : SubId) (step : Step) (p q : Operating) → IsSound p.state → q.state ≡ after_step x step p.state → q.room ≡ p.room → StandsAsBefore p q
+StepsLeaveItStanding = (x : SubId) (step : Step) (p q : Operating)
+    → IsSound p.state → q.state ≡ after_step x step p.state → q.room ≡ p.room → StandsAsBefore p q
 
 -- an edit that takes another one back can do so still where the machine stands as it did
 abbrev pub CanStillUnapply : Type 0

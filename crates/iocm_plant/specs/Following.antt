@@ -23,7 +23,8 @@ use Rattle.iocm_plant.specs.Refusing.{refusal_by_number, refusal_by_quiet}
 -- a configuration that was changed, from one in which these are the numbers and the seats: these
 -- places and images are all that may be affected, and these number cells are those of the numbers
 -- at these places
-pub record WasChanged (d : Configuration) (n : Numbering) (seats : Seats) (places : List Place) (seeing : List Image) (cells : List NumberCell) : Type 0 where
+pub record WasChanged (d : Configuration) (n : Numbering) (seats : Seats) (places : List Place) (seeing : List Image)
+    (cells : List NumberCell) : Type 0 where
   pub before : Configuration
   pub keyed : IsKeyed before
   pub numbered : AreNumbersOf before n
@@ -32,7 +33,8 @@ pub record WasChanged (d : Configuration) (n : Numbering) (seats : Seats) (place
   pub cells_are : cells ≡ cells_at n places
 
 -- and these are the numbers now: those of devices that stay are as they were
-pub record WasRenumbered (d : Configuration) (m : Numbering) (seats : Seats) (places : List Place) (seeing : List Image) (cells : List NumberCell) : Type 0 where
+pub record WasRenumbered (d : Configuration) (m : Numbering) (seats : Seats) (places : List Place)
+    (seeing : List Image) (cells : List NumberCell) : Type 0 where
   pub first : Numbering
   pub changed : WasChanged d first seats places seeing cells
   pub now_numbered : AreNumbersOf d m
@@ -45,9 +47,11 @@ seen_changes d m seats = changes_between (views_seated seats) (views_of d m)
 -- why seats don't follow: an altered subchannel isn't quiet, where that is wanted
 abbrev pub seating_refusal : Configuration → Numbering → Seats → Quiet → Option Refused
 seating_refusal d m seats quiet =
-    refusal_by_quiet quiet (first_not_quiet (lives_seated seats) (map (λ (ch : ViewChange). ch.subchannel) (seen_changes d m seats)))
+    refusal_by_quiet quiet (first_not_quiet (lives_seated seats)
+    (map (λ (ch : ViewChange). ch.subchannel) (seen_changes d m seats)))
 
 -- why numbers and seats don't follow: a number that comes along is taken, or else that
 abbrev pub following_refusal : Configuration → Numbering → Seats → Key → List (Place × ℕ) → Quiet → Option Refused
 following_refusal d n seats key carried quiet =
-    option_or (refusal_by_number key (is_number_taken d n carried)) (seating_refusal d (numbers_after d carried n) seats quiet)
+    option_or (refusal_by_number key (is_number_taken d n carried))
+    (seating_refusal d (numbers_after d carried n) seats quiet)

@@ -72,11 +72,16 @@ abbrev pub room_of : config.Stored → Numbered → Stored Naming (Unit {0}) →
 room_of c n index seats = record { keys = c.places; places = n.place_room; cells = n.cell_room; namings = index.places; subchannels = seats.places }
 
 abbrev pub operating_of : config.Stored → Numbered → Stored Naming (Unit {0}) → Stored SubId Seat → Operating
-operating_of c n index seats = record { state = state_of c.records n.numbers (rows sub_id_cmp seats); room = room_of c n index seats }
+operating_of c n index seats = record {
+  state = state_of c.records n.numbers
+      (rows sub_id_cmp seats);
+  room = room_of c n index seats;
+}
 
 -- what always holds of the tables: each record stands under its own key, the numbers are those of
 -- the configuration, the index tells who names whom in it, and the seats show what is seen
-pub record IsOperating (c : Configuration) (n : Numbering) (index : Stored Naming (Unit {0})) (seats : Seats) : Type 0 where
+pub record IsOperating (c : Configuration) (n : Numbering) (index : Stored Naming (Unit {0}))
+    (seats : Seats) : Type 0 where
   pub keyed : IsKeyed c
   pub numbered : AreNumbersOf c n
   pub indexed : IsIndexOf c index

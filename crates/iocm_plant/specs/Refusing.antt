@@ -12,7 +12,8 @@ use Rattle.iocm_model.specs.Machine.Numbering.{opening}
 use Rattle.iocm_model.specs.Rules.FirstBreach.{Breach, first_breach}
 use Rattle.iocm_model.specs.Operation.State.{State}
 use Rattle.iocm_model.specs.Change.Edit.{Edit, action_key, config_after, altered_by}
-use Rattle.iocm_model.specs.Change.Refusal.{refusal_at, refusal_by_key, refusal_by_subchannel, is_number_taken, first_not_quiet}
+use Rattle.iocm_model.specs.Change.Refusal.{refusal_at, refusal_by_key, refusal_by_subchannel}
+use Rattle.iocm_model.specs.Change.Refusal.{is_number_taken, first_not_quiet}
 use Rattle.iocm_plant.specs.declared.quiet.Quiet.{Quiet}
 use Rattle.iocm_plant.specs.declared.quiet.Quiet.TheVariants.{Wanted, Whatever}
 use Rattle.iocm_plant.specs.declared.obstacle.Obstacle.{Obstacle}
@@ -52,5 +53,6 @@ refusal_by_quiet Whatever found = None
 abbrev pub refusal_when : Quiet → Edit → State → Option Refused
 refusal_when quiet e s =
     option_or (refusal_by_key e.action (contains_key s.config (action_key e.action)))
-    (option_or (refusal_by_number (action_key e.action) (is_number_taken (config_after e.action s.config) s.numbers e.places))
+    (option_or (refusal_by_number (action_key e.action)
+    (is_number_taken (config_after e.action s.config) s.numbers e.places))
     (refusal_by_quiet quiet (first_not_quiet s.lives (altered_by e s))))

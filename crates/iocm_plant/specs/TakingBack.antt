@@ -29,7 +29,8 @@ pub record TakesBack (i : Carried) (c : Configuration) (n : Numbering) : Type 0 
   pub places : i.edit.places ≡ (inverse_of edit state).places
   pub lives : HasSameKeys i.edit.lives (inverse_of edit state).lives
   pub frees : i.frees ≡ freed_numbers n state.numbers
-  pub meets : (x : SubId) → is_among x i.meets ≡ (is_altered state (state_after edit state) x && is_some (seen_in (state_after edit state) x))
+  pub meets : (x : SubId) → is_among x i.meets
+      ≡ (is_altered state (state_after edit state) x && is_some (seen_in (state_after edit state) x))
 
 -- what an edit brings has places: its key, its record's namings, its numbers, and the subchannels
 -- of its live records

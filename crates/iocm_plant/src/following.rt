@@ -7,7 +7,7 @@ ghost use Rattle.iocm_types.specs.SubId.{sub_id_cmp, image_cmp};
 ghost use Rattle.iocm_types.specs.declared.sub_id.SubId as sub_id;
 ghost use Rattle.iocm_types.specs.declared.refused.At.TheVariants as at;
 ghost use Rattle.iocm_types.specs.declared.rule.Rule.TheVariants as rule;
-ghost use Rattle.iocm_table.specs.Slots.{rows, HasPlace};
+ghost use Rattle.iocm_table.specs.Slots.{HasPlace};
 ghost use Rattle.iocm_model.specs.Machine.Numbering.{Numbering};
 ghost use Rattle.iocm_model.specs.Change.Inverse.{freed_numbers};
 ghost use Rattle.iocm_model.specs.Change.Renumbering.{numbers_after};
@@ -15,10 +15,11 @@ ghost use Rattle.iocm_model.specs.Change.Refusal.{refusal_at};
 ghost use Rattle.iocm_numbers.specs.Numbered.{KeepsRoom};
 ghost use Rattle.iocm_numbers.specs.NumberChanges as number_changes;
 ghost use Rattle.iocm_numbers.specs.NumberChanges.{WereBefore};
-ghost use Rattle.iocm_seats.specs.Seated.{lives_seated};
+ghost use Rattle.iocm_seats.specs.Seated.{lives_seated, seats_in};
 ghost use Rattle.iocm_seats.specs.Settling.{settled_all, lives_met, subchannels_left};
 ghost use Rattle.iocm_tree.specs.Carried.{AreInOrder};
-ghost use Rattle.iocm_plant.specs.Following.{WasChanged, WasRenumbered, seen_changes, seating_refusal, following_refusal};
+ghost use Rattle.iocm_plant.specs.Following.{WasChanged, WasRenumbered, seen_changes};
+ghost use Rattle.iocm_plant.specs.Following.{seating_refusal, following_refusal};
 ghost use Rattle.iocm_plant.specs.Refusing.{Hinders};
 
 use crate::obstacle::Obstacle;
@@ -81,24 +82,38 @@ pub fn follow(
     at: LookedAt,
     brought: Brought,
 ) -> Result<Followed, Obstacle>
-    requires changed { WasChanged config.now.records numbers.old.numbers (rows sub_id_cmp seats.old) at.affected.places.items at.affected.images.items at.cells.items }
+    requires changed { WasChanged config.now.records numbers.old.numbers
+        (seats_in seats.old) at.affected.places.items at.affected.images.items at.cells.items }
     requires places { IsStrictlySortedBy place_cmp at.affected.places.items }
     requires images { IsStrictlySortedBy image_cmp at.affected.images.items }
     requires kept { AreInOrder brought.kept.items }
-    ensures numbers { OnOk result (numbers.new.numbers ≡ numbers_after config.now.records brought.places.items numbers.old.numbers) }
-    ensures freed { IfOk result (λ f. f.renumbered.freed.items ≡ freed_numbers numbers.old.numbers numbers.new.numbers) }
-    ensures given { IfOk result (λ f. f.renumbered.given.items ≡ freed_numbers numbers.new.numbers numbers.old.numbers) }
-    ensures seats { OnOk result (rows sub_id_cmp seats.new ≡ settled_all (from_sorted brought.kept.items) (rows sub_id_cmp seats.old) (seen_changes config.now.records numbers.new.numbers (rows sub_id_cmp seats.old))) }
-    ensures kept { IfOk result (λ f. f.told.kept.items ≡ lives_met (lives_seated (rows sub_id_cmp seats.old)) (seen_changes config.now.records numbers.new.numbers (rows sub_id_cmp seats.old))) }
-    ensures meets { IfOk result (λ f. keys_of f.told.meets.items ≡ subchannels_left (seen_changes config.now.records numbers.new.numbers (rows sub_id_cmp seats.old))) }
-    ensures told_subchannels { IfOk result (λ f. f.told.touched.subchannels.items ≡ seen_changes config.now.records numbers.new.numbers (rows sub_id_cmp seats.old)) }
-    ensures told_numbers { IfOk result (λ f. f.told.touched.numbers.items ≡ number_changes.changes_between numbers.old.numbers numbers.new.numbers) }
-    ensures clear { OnOk result (following_refusal config.now.records numbers.old.numbers (rows sub_id_cmp seats.old) brought.key brought.places.items brought.quiet ≡ None) }
-    ensures refused { IfErr result (Hinders (following_refusal config.now.records numbers.old.numbers (rows sub_id_cmp seats.old) brought.key brought.places.items brought.quiet)) }
+    ensures numbers { OnOk result (numbers.new.numbers
+        ≡ numbers_after config.now.records brought.places.items numbers.old.numbers) }
+    ensures freed { IfOk result (λ f. f.renumbered.freed.items
+        ≡ freed_numbers numbers.old.numbers numbers.new.numbers) }
+    ensures given { IfOk result (λ f. f.renumbered.given.items
+        ≡ freed_numbers numbers.new.numbers numbers.old.numbers) }
+    ensures seats { OnOk result (seats_in seats.new
+        ≡ settled_all (from_sorted brought.kept.items) (seats_in seats.old)
+        (seen_changes config.now.records numbers.new.numbers (seats_in seats.old))) }
+    ensures kept { IfOk result (λ f. f.told.kept.items
+        ≡ lives_met (lives_seated (seats_in seats.old))
+        (seen_changes config.now.records numbers.new.numbers (seats_in seats.old))) }
+    ensures meets { IfOk result (λ f. keys_of f.told.meets.items
+        ≡ subchannels_left (seen_changes config.now.records numbers.new.numbers (seats_in seats.old))) }
+    ensures told_subchannels { IfOk result (λ f. f.told.touched.subchannels.items
+        ≡ seen_changes config.now.records numbers.new.numbers (seats_in seats.old)) }
+    ensures told_numbers { IfOk result (λ f. f.told.touched.numbers.items
+        ≡ number_changes.changes_between numbers.old.numbers numbers.new.numbers) }
+    ensures clear { OnOk result (following_refusal config.now.records numbers.old.numbers
+        (seats_in seats.old) brought.key brought.places.items brought.quiet ≡ None) }
+    ensures refused { IfErr result (Hinders (following_refusal config.now.records numbers.old.numbers
+        (seats_in seats.old) brought.key brought.places.items brought.quiet)) }
     ensures same_numbers { OnErr result (numbers.new.numbers ≡ numbers.old.numbers) }
-    ensures same_seats { OnErr result (rows sub_id_cmp seats.new ≡ rows sub_id_cmp seats.old) }
+    ensures same_seats { OnErr result (seats_in seats.new ≡ seats_in seats.old) }
     ensures room { KeepsRoom numbers.old numbers.new }
-    ensures subchannels_placed { (x : sub_id.SubId) → HasPlace sub_id_cmp seats.old x → HasPlace sub_id_cmp seats.new x }
+    ensures subchannels_placed { (x : sub_id.SubId) → HasPlace sub_id_cmp seats.old x
+        → HasPlace sub_id_cmp seats.new x }
 {
     // For the proof alone: what always holds of a configuration and of numbers.
     config.has_own_keys();
@@ -126,11 +141,7 @@ pub fn follow(
 fn number_refusal(key: Key) -> Refused
     ensures { result ≡ refusal_at rule.E4 (at.Key key) }
 {
-    Refused {
-        rule: Rule::E4,
-        node: None,
-        at: At::Key(key),
-    }
+    Refused::about(Rule::E4, At::Key(key))
 }
 
 /// Lets the seats follow numbers that have followed a change of the configuration.
@@ -143,17 +154,28 @@ fn follow_numbers(
     brought: Brought,
     renumbered: &Renumbered<Global>,
 ) -> Result<Told, Obstacle>
-    requires changed { WasRenumbered config.now.records numbers.now.numbers (rows sub_id_cmp seats.old) at.affected.places.items at.affected.images.items at.cells.items }
+    requires changed { WasRenumbered config.now.records numbers.now.numbers
+        (seats_in seats.old) at.affected.places.items at.affected.images.items at.cells.items }
     requires images { IsStrictlySortedBy image_cmp at.affected.images.items }
     requires kept { AreInOrder brought.kept.items }
-    ensures seats { OnOk result (rows sub_id_cmp seats.new ≡ settled_all (from_sorted brought.kept.items) (rows sub_id_cmp seats.old) (seen_changes config.now.records numbers.now.numbers (rows sub_id_cmp seats.old))) }
-    ensures kept { IfOk result (λ t. t.kept.items ≡ lives_met (lives_seated (rows sub_id_cmp seats.old)) (seen_changes config.now.records numbers.now.numbers (rows sub_id_cmp seats.old))) }
-    ensures meets { IfOk result (λ t. keys_of t.meets.items ≡ subchannels_left (seen_changes config.now.records numbers.now.numbers (rows sub_id_cmp seats.old))) }
-    ensures subchannels { IfOk result (λ t. t.touched.subchannels.items ≡ seen_changes config.now.records numbers.now.numbers (rows sub_id_cmp seats.old)) }
-    ensures numbers { IfOk result (λ t. (n : Numbering) → WereBefore n numbers.now.numbers renumbered.now.freed.items renumbered.now.given.items → t.touched.numbers.items ≡ number_changes.changes_between n numbers.now.numbers) }
-    ensures clear { OnOk result (seating_refusal config.now.records numbers.now.numbers (rows sub_id_cmp seats.old) brought.quiet ≡ None) }
-    ensures refused { IfErr result (Hinders (seating_refusal config.now.records numbers.now.numbers (rows sub_id_cmp seats.old) brought.quiet)) }
-    ensures same { OnErr result (rows sub_id_cmp seats.new ≡ rows sub_id_cmp seats.old) }
+    ensures seats { OnOk result (seats_in seats.new
+        ≡ settled_all (from_sorted brought.kept.items) (seats_in seats.old)
+        (seen_changes config.now.records numbers.now.numbers (seats_in seats.old))) }
+    ensures kept { IfOk result (λ t. t.kept.items
+        ≡ lives_met (lives_seated (seats_in seats.old))
+        (seen_changes config.now.records numbers.now.numbers (seats_in seats.old))) }
+    ensures meets { IfOk result (λ t. keys_of t.meets.items
+        ≡ subchannels_left (seen_changes config.now.records numbers.now.numbers (seats_in seats.old))) }
+    ensures subchannels { IfOk result (λ t. t.touched.subchannels.items
+        ≡ seen_changes config.now.records numbers.now.numbers (seats_in seats.old)) }
+    ensures numbers { IfOk result (λ t. (n : Numbering)
+        → WereBefore n numbers.now.numbers renumbered.now.freed.items renumbered.now.given.items
+        → t.touched.numbers.items ≡ number_changes.changes_between n numbers.now.numbers) }
+    ensures clear { OnOk result (seating_refusal config.now.records numbers.now.numbers
+        (seats_in seats.old) brought.quiet ≡ None) }
+    ensures refused { IfErr result (Hinders (seating_refusal config.now.records numbers.now.numbers
+        (seats_in seats.old) brought.quiet)) }
+    ensures same { OnErr result (seats_in seats.new ≡ seats_in seats.old) }
     ensures places { (x : sub_id.SubId) → HasPlace sub_id_cmp seats.old x → HasPlace sub_id_cmp seats.new x }
 {
     let Altered { changes, met } = list_altered(alloc, numbers, seats, config, at)?;
@@ -191,10 +213,13 @@ fn list_altered(
     config: &Config,
     at: LookedAt,
 ) -> Result<Altered<Global>, AllocError>
-    requires changed { WasRenumbered config.now.records numbers.now.numbers (rows sub_id_cmp seats.now) at.affected.places.items at.affected.images.items at.cells.items }
+    requires changed { WasRenumbered config.now.records numbers.now.numbers
+        (seats_in seats.now) at.affected.places.items at.affected.images.items at.cells.items }
     requires images { IsStrictlySortedBy image_cmp at.affected.images.items }
-    ensures changes { IfOk result (λ altered. altered.changes.items ≡ seen_changes config.now.records numbers.now.numbers (rows sub_id_cmp seats.now)) }
-    ensures met { IfOk result (λ altered. altered.met.items ≡ lives_met (lives_seated (rows sub_id_cmp seats.now)) altered.changes.items) }
+    ensures changes { IfOk result (λ altered. altered.changes.items
+        ≡ seen_changes config.now.records numbers.now.numbers (seats_in seats.now)) }
+    ensures met { IfOk result (λ altered. altered.met.items
+        ≡ lives_met (lives_seated (seats_in seats.now)) altered.changes.items) }
 {
     let mut cells = at.cells;
     numbers.list_cells(&mut cells, at.affected.places.as_slice())?;

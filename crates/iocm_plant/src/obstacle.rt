@@ -30,11 +30,7 @@ impl Obstacle {
     {
         match self {
             Obstacle::Refused(why) => why,
-            Obstacle::NoMemory => Refused {
-                rule: Rule::M1,
-                node: None,
-                at: At::Nothing,
-            },
+            Obstacle::NoMemory => Refused::about(Rule::M1, At::Nothing),
         }
     }
 }

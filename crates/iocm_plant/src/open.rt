@@ -1,12 +1,11 @@
 ghost use Rattle.std.specs.Prelude.{◌≡◌, None, IfOk, IfErr, OnOk};
-ghost use Rattle.iocm_types.specs.SubId.{sub_id_cmp};
-ghost use Rattle.iocm_table.specs.Slots.{rows};
 ghost use Rattle.iocm_types.specs.declared.refused.At.TheVariants as at;
 ghost use Rattle.iocm_model.specs.Change.Refusal.{refusal_at};
 ghost use Rattle.iocm_model.specs.Laws.Trees.{KeepsTheRules};
 ghost use Rattle.iocm_model.specs.Operation.State.{opening_state};
 ghost use Rattle.iocm_plant.specs.Operating.{IsOperating, state_of};
 ghost use Rattle.iocm_plant.specs.Refusing.{opening_refusal, Hinders, IsDue};
+ghost use Rattle.iocm_seats.specs.Seated.{seats_in};
 
 use crate::Plant;
 use crate::obstacle::Obstacle;
@@ -67,8 +66,9 @@ impl Plant {
 
 /// The tables of a machine with this configuration, if it keeps the rules.
 fn make_tables(alloc: Global, config: &Config) -> Result<Tables, Obstacle>
-    ensures operating { IfOk result (λ t. IsOperating config.now.records t.numbers.numbers t.index (rows sub_id_cmp t.seats)) }
-    ensures state { IfOk result (λ t. state_of config.now.records t.numbers.numbers (rows sub_id_cmp t.seats) ≡ opening_state config.now.records) }
+    ensures operating { IfOk result (λ t. IsOperating config.now.records t.numbers.numbers t.index (seats_in t.seats)) }
+    ensures state { IfOk result (λ t. state_of config.now.records t.numbers.numbers (seats_in t.seats)
+        ≡ opening_state config.now.records) }
     ensures kept { OnOk result (opening_refusal config.now.records ≡ None) }
     ensures rules { OnOk result (KeepsTheRules (opening_state config.now.records)) }
     ensures refused { IfErr result (Hinders (opening_refusal config.now.records)) }
@@ -92,9 +92,5 @@ fn make_tables(alloc: Global, config: &Config) -> Result<Tables, Obstacle>
 fn breach_refusal(breach: Breach) -> Refused
     ensures { result ≡ refusal_at breach.rule (at.Key breach.key) }
 {
-    Refused {
-        rule: breach.rule,
-        node: None,
-        at: At::Key(breach.key),
-    }
+    Refused::about(breach.rule, At::Key(breach.key))
 }

@@ -50,8 +50,10 @@ impl Plant {
         ensures state { OnOk result (self.new.state ≡ state_after edit.edit self.old.state) }
         ensures inverse { IfOk result (λ a. a.inverse.edit ≡ inverse_of edit.edit self.old.state) }
         ensures back { IfOk result (λ a. CanUnapply a.inverse self.new) }
-        ensures numbers { IfOk result (λ a. a.touched.numbers.items ≡ number_changes.changes_between self.old.state.numbers (state_after edit.edit self.old.state).numbers) }
-        ensures subchannels { IfOk result (λ a. a.touched.subchannels.items ≡ views.changes_between (views_in self.old.state) (views_in (state_after edit.edit self.old.state))) }
+        ensures numbers { IfOk result (λ a. a.touched.numbers.items
+            ≡ number_changes.changes_between self.old.state.numbers (state_after edit.edit self.old.state).numbers) }
+        ensures subchannels { IfOk result (λ a. a.touched.subchannels.items
+            ≡ views.changes_between (views_in self.old.state) (views_in (state_after edit.edit self.old.state))) }
         ensures same { OnErr result (self.new.state ≡ self.old.state) }
         ensures room { KeepsRoom self.old.room self.new.room }
     {
@@ -69,8 +71,10 @@ impl Plant {
         ensures state { OnOk result (self.new.state ≡ state_after edit.edit self.old.state) }
         ensures inverse { IfOk result (λ a. a.inverse.edit ≡ inverse_of edit.edit self.old.state) }
         ensures back { IfOk result (λ a. CanUnapply a.inverse self.new) }
-        ensures numbers { IfOk result (λ a. a.touched.numbers.items ≡ number_changes.changes_between self.old.state.numbers (state_after edit.edit self.old.state).numbers) }
-        ensures subchannels { IfOk result (λ a. a.touched.subchannels.items ≡ views.changes_between (views_in self.old.state) (views_in (state_after edit.edit self.old.state))) }
+        ensures numbers { IfOk result (λ a. a.touched.numbers.items
+            ≡ number_changes.changes_between self.old.state.numbers (state_after edit.edit self.old.state).numbers) }
+        ensures subchannels { IfOk result (λ a. a.touched.subchannels.items
+            ≡ views.changes_between (views_in self.old.state) (views_in (state_after edit.edit self.old.state))) }
         ensures same { OnErr result (self.new.state ≡ self.old.state) }
         ensures room { KeepsRoom self.old.room self.new.room }
     {
@@ -87,8 +91,10 @@ impl Plant {
         ensures state { OnOk result (self.new.state ≡ state_after edit.edit self.old.state) }
         ensures inverse { IfOk result (λ a. a.inverse.edit ≡ inverse_of edit.edit self.old.state) }
         ensures back { IfOk result (λ a. CanUnapply a.inverse self.new) }
-        ensures numbers { IfOk result (λ a. a.touched.numbers.items ≡ number_changes.changes_between self.old.state.numbers (state_after edit.edit self.old.state).numbers) }
-        ensures subchannels { IfOk result (λ a. a.touched.subchannels.items ≡ views.changes_between (views_in self.old.state) (views_in (state_after edit.edit self.old.state))) }
+        ensures numbers { IfOk result (λ a. a.touched.numbers.items
+            ≡ number_changes.changes_between self.old.state.numbers (state_after edit.edit self.old.state).numbers) }
+        ensures subchannels { IfOk result (λ a. a.touched.subchannels.items
+            ≡ views.changes_between (views_in self.old.state) (views_in (state_after edit.edit self.old.state))) }
         ensures same { OnErr result (self.new.state ≡ self.old.state) }
         ensures room { KeepsRoom self.old.room self.new.room }
     {
@@ -135,7 +141,8 @@ impl Plant {
 
 /// E1 or E2, if the key of an edit is in its way.
 fn key_refusal(config: &Config, edit: &Edit) -> Option<Refused>
-    ensures { result ≡ refusal_by_key edit.now.edit.action (map.contains_key config.now.records (action_key edit.now.edit.action)) }
+    ensures { result ≡ refusal_by_key edit.now.edit.action
+        (map.contains_key config.now.records (action_key edit.now.edit.action)) }
 {
     let key = edit.key();
     let is_there = config.get(&key).is_some();
@@ -153,11 +160,7 @@ fn refusal_if(is_so: bool, rule: Rule, key: Key) -> Option<Refused>
     if !is_so {
         return None;
     }
-    Some(Refused {
-        rule,
-        node: None,
-        at: At::Key(key),
-    })
+    Some(Refused::about(rule, At::Key(key)))
 }
 
 /// Where an edit is looked for.
@@ -169,7 +172,8 @@ fn look(
     edit: &Edit,
 ) -> Result<LookedAt, AllocError>
     requires { IsIndexOf config.now.records index.now }
-    ensures affected { IfOk result (λ at. AreAllAffected config.now.records (config_after edit.now.edit.action config.now.records) at.affected.places.items at.affected.images.items) }
+    ensures affected { IfOk result (λ at. AreAllAffected config.now.records
+        (config_after edit.now.edit.action config.now.records) at.affected.places.items at.affected.images.items) }
     ensures places { IfOk result (λ at. IsStrictlySortedBy place_cmp at.affected.places.items) }
     ensures images { IfOk result (λ at. IsStrictlySortedBy image_cmp at.affected.images.items) }
     ensures cells { IfOk result (λ at. at.cells.items ≡ cells_at numbers.now.numbers at.affected.places.items) }

@@ -31,18 +31,22 @@ impl Model for Plant {
     ghost use Rattle.iocm_types.specs.declared.place.Place.{Place};
     ghost use Rattle.iocm_types.specs.declared.place.NumberCell.{NumberCell};
     ghost use Rattle.iocm_types.specs.declared.sub_id.SubId.{SubId};
-    ghost use Rattle.iocm_types.specs.SubId.{sub_id_cmp};
-    ghost use Rattle.iocm_table.specs.Slots.{rows};
     ghost use Rattle.iocm_model.specs.Machine.Configuration.{Configuration};
     ghost use Rattle.iocm_model.specs.Machine.Numbering.{Numbering};
     ghost use Rattle.iocm_model.specs.Operation.State.{Lives};
+    ghost use Rattle.iocm_seats.specs.Seated.{seats_in};
     ghost use Rattle.iocm_plant.specs.Operating.{Operating, operating_of, IsOperating};
 
     ghost Value = { Operating };
 
-    ghost coded = { code_by ((Configuration × (Numbering × Lives)) × (List Key × (List Place × (List NumberCell × (List Naming × List SubId)))))
-        (coded× (coded× (map.code (Prim.hlevel codes) (Prim.hlevel codes)) (coded× (map.code (Prim.hlevel codes) coded_ℕ) (map.code (Prim.hlevel codes) (Prim.hlevel codes))))
-        (coded× (coded_list (Prim.hlevel codes)) (coded× (coded_list (Prim.hlevel codes)) (coded× (coded_list (Prim.hlevel codes)) (coded× (coded_list (Prim.hlevel codes)) (coded_list (Prim.hlevel codes)))))))
+    ghost coded = { code_by ((Configuration × (Numbering × Lives))
+        × (List Key × (List Place × (List NumberCell × (List Naming × List SubId)))))
+        (coded× (coded× (map.code (Prim.hlevel codes) (Prim.hlevel codes))
+        (coded× (map.code (Prim.hlevel codes) coded_ℕ) (map.code (Prim.hlevel codes) (Prim.hlevel codes))))
+        (coded× (coded_list (Prim.hlevel codes))
+        (coded× (coded_list (Prim.hlevel codes))
+        (coded× (coded_list (Prim.hlevel codes))
+        (coded× (coded_list (Prim.hlevel codes)) (coded_list (Prim.hlevel codes)))))))
         (λ p. ((p.state.config, (p.state.numbers, p.state.lives)), (p.room.keys, (p.room.places, (p.room.cells, (p.room.namings, p.room.subchannels))))))
         (λ c. record {
           state = record { config = c.0.0; numbers = c.0.1.0; lives = c.0.1.1 };
@@ -51,7 +55,7 @@ impl Model for Plant {
 
     ghost view = { λ p. operating_of p.config p.numbers p.index p.seats };
 
-    ghost invariant = { λ p. IsOperating p.config.records p.numbers.numbers p.index (rows sub_id_cmp p.seats) };
+    ghost invariant = { λ p. IsOperating p.config.records p.numbers.numbers p.index (seats_in p.seats) };
 }
 
 impl Plant {

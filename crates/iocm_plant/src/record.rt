@@ -23,7 +23,8 @@ pub fn exchange_record(config: &mut Config, index: &mut Index, action: Action) -
     requires namings { HasNamingRoom index.old.places (record_after (action_of action)) }
     ensures config { config.new.records ≡ config_after (action_of action) config.old.records }
     ensures index { IsIndexOf config.new.records index.new }
-    ensures back { action_of result ≡ action_back (action_key (action_of action)) (get config.old.records (action_key (action_of action))) (record_after (action_of action)) }
+    ensures back { action_of result ≡ action_back (action_key (action_of action))
+        (get config.old.records (action_key (action_of action))) (record_after (action_of action)) }
     ensures keys { config.new.places ≡ config.old.places }
     ensures namings { index.new.places ≡ index.old.places }
 {

@@ -5,12 +5,12 @@ ghost use Rattle.iocm_types.specs.SubId.{sub_id_cmp};
 ghost use Rattle.iocm_types.specs.declared.sub_id.SubId as sub_id;
 ghost use Rattle.iocm_types.specs.declared.refused.At.TheVariants as at;
 ghost use Rattle.iocm_types.specs.declared.rule.Rule.TheVariants as rule;
-ghost use Rattle.iocm_table.specs.Slots.{rows, HasPlace};
+ghost use Rattle.iocm_table.specs.Slots.{HasPlace};
 ghost use Rattle.iocm_model.specs.Change.Refusal.{refusal_at};
 ghost use Rattle.iocm_model.specs.Change.Refusal as refusal;
 ghost use Rattle.iocm_model.specs.Operation.State.{Lives};
 ghost use Rattle.iocm_seats.specs.declared.view_change.ViewChange as changed;
-ghost use Rattle.iocm_seats.specs.Seated.{lives_seated, views_seated};
+ghost use Rattle.iocm_seats.specs.Seated.{lives_seated, views_seated, seats_in};
 ghost use Rattle.iocm_seats.specs.Settling.{settled_all, lives_met, subchannels_left, AreSeen};
 ghost use Rattle.iocm_tree.specs.Carried.{AreInOrder};
 ghost use Rattle.iocm_plant.specs.Refusing.{refusal_by_quiet, Hinders};
@@ -44,15 +44,18 @@ pub fn seat(
     kept: Vec<(SubId, Live)>,
     quiet: Quiet,
 ) -> Result<Seated, Obstacle>
-    requires seen { AreSeen (views_seated (rows sub_id_cmp seats.old)) changes.now }
-    requires met { met.items ≡ lives_met (lives_seated (rows sub_id_cmp seats.old)) changes.now }
+    requires seen { AreSeen (views_seated (seats_in seats.old)) changes.now }
+    requires met { met.items ≡ lives_met (lives_seated (seats_in seats.old)) changes.now }
     requires kept { AreInOrder kept.items }
-    ensures seats { OnOk result (rows sub_id_cmp seats.new ≡ settled_all (from_sorted kept.items) (rows sub_id_cmp seats.old) changes.now) }
-    ensures kept { IfOk result (λ s. s.kept.items ≡ lives_met (lives_seated (rows sub_id_cmp seats.old)) changes.now) }
+    ensures seats { OnOk result (seats_in seats.new
+        ≡ settled_all (from_sorted kept.items) (seats_in seats.old) changes.now) }
+    ensures kept { IfOk result (λ s. s.kept.items ≡ lives_met (lives_seated (seats_in seats.old)) changes.now) }
     ensures meets { IfOk result (λ s. keys_of s.meets.items ≡ subchannels_left changes.now) }
-    ensures quiet { OnOk result (refusal_by_quiet quiet (refusal.first_not_quiet (lives_seated (rows sub_id_cmp seats.old)) (map (λ ch. ch.subchannel) changes.now)) ≡ None) }
-    ensures refused { IfErr result (Hinders (refusal_by_quiet quiet (refusal.first_not_quiet (lives_seated (rows sub_id_cmp seats.old)) (map (λ ch. ch.subchannel) changes.now)))) }
-    ensures same { OnErr result (rows sub_id_cmp seats.new ≡ rows sub_id_cmp seats.old) }
+    ensures quiet { OnOk result (refusal_by_quiet quiet
+        (refusal.first_not_quiet (lives_seated (seats_in seats.old)) (map (λ ch. ch.subchannel) changes.now)) ≡ None) }
+    ensures refused { IfErr result (Hinders (refusal_by_quiet quiet
+        (refusal.first_not_quiet (lives_seated (seats_in seats.old)) (map (λ ch. ch.subchannel) changes.now)))) }
+    ensures same { OnErr result (seats_in seats.new ≡ seats_in seats.old) }
     ensures places { (x : sub_id.SubId) → HasPlace sub_id_cmp seats.old x → HasPlace sub_id_cmp seats.new x }
 {
     if let Some(subchannel) = first_in_the_way(met.as_slice(), quiet) {
@@ -71,7 +74,8 @@ pub fn seat(
 /// The first subchannel of some changes that isn't quiet, where they are wanted quiet, by the live
 /// records that they meet.
 fn first_in_the_way(met: &[(SubId, Live)], quiet: Quiet) -> Option<SubId>
-    ensures { (lives : Lives) (changes : List changed.ViewChange) → met.now ≡ lives_met lives changes → result ≡ first_in_the_way quiet (refusal.first_not_quiet lives (map (λ ch. ch.subchannel) changes)) }
+    ensures { (lives : Lives) (changes : List changed.ViewChange) → met.now ≡ lives_met lives changes
+        → result ≡ first_in_the_way quiet (refusal.first_not_quiet lives (map (λ ch. ch.subchannel) changes)) }
 {
     match quiet {
         Quiet::Wanted => first_not_quiet(met),
@@ -83,9 +87,5 @@ fn first_in_the_way(met: &[(SubId, Live)], quiet: Quiet) -> Option<SubId>
 fn subchannel_refusal(subchannel: SubId) -> Refused
     ensures { result ≡ refusal_at rule.B1 (at.Subchannel subchannel) }
 {
-    Refused {
-        rule: Rule::B1,
-        node: None,
-        at: At::Subchannel(subchannel),
-    }
+    Refused::about(Rule::B1, At::Subchannel(subchannel))
 }

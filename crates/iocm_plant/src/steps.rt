@@ -1,6 +1,8 @@
 ghost use Rattle.std.specs.Prelude.{◌≡◌};
 ghost use Rattle.iocm_model.specs.Operation.Step as step;
-ghost use Rattle.iocm_model.specs.Operation.Step.{order_answer, begins_function, ends_function, subchannel_in, after_step};
+ghost use Rattle.iocm_model.specs.Operation.Step.{order_answer, begins_function, ends_function};
+ghost use Rattle.iocm_model.specs.Operation.Step.{subchannel_in, after_step};
+ghost use Rattle.iocm_plant.specs.Operating.{KeepsRoom};
 
 use crate::Plant;
 use iocm_live as live;
@@ -13,6 +15,7 @@ impl Plant {
         ensures answer { result ≡ order_answer order (subchannel_in self.old.state subchannel) }
         ensures state { self.new.state ≡ after_step subchannel (step.order order) self.old.state }
         ensures room { self.new.room ≡ self.old.room }
+        ensures kept { KeepsRoom self.old.room self.new.room }
     {
         let Some(seat) = self.seats.get_mut(&subchannel) else {
             return Io::Code(3);
@@ -23,10 +26,11 @@ impl Plant {
     /// The device of a subchannel begins what it was started for: a start that is pending becomes
     /// active. Else nothing changes, as where the subchannel isn't there. The answer is whether it
     /// did. Can't answer want of memory.
-    pub fn begun(&mut self, subchannel: SubId) -> bool
+    pub fn device_begin(&mut self, subchannel: SubId) -> bool
         ensures answer { result ≡ begins_function (subchannel_in self.old.state subchannel) }
         ensures state { self.new.state ≡ after_step subchannel step.device_begin self.old.state }
         ensures room { self.new.room ≡ self.old.room }
+        ensures kept { KeepsRoom self.old.room self.new.room }
     {
         let Some(seat) = self.seats.get_mut(&subchannel) else {
             return false;
@@ -37,10 +41,11 @@ impl Plant {
     /// The device of a subchannel ends a function that is in progress: its status is pending then.
     /// Else nothing changes, as where the subchannel isn't there. The answer is whether it did.
     /// Can't answer want of memory.
-    pub fn end(&mut self, subchannel: SubId) -> bool
+    pub fn device_end(&mut self, subchannel: SubId) -> bool
         ensures answer { result ≡ ends_function (subchannel_in self.old.state subchannel) }
         ensures state { self.new.state ≡ after_step subchannel step.device_end self.old.state }
         ensures room { self.new.room ≡ self.old.room }
+        ensures kept { KeepsRoom self.old.room self.new.room }
     {
         let Some(seat) = self.seats.get_mut(&subchannel) else {
             return false;

@@ -169,8 +169,8 @@ impl Trial<'_> {
         let (ask, wanted) = act;
         match ask {
             Ask::Order(there, order) => self.is_order_answered(there, order, wanted),
-            Ask::DeviceBegin(there) => Ok(self.plant.begun(there.id()?) == is_so(wanted)?),
-            Ask::DeviceEnd(there) => Ok(self.plant.end(there.id()?) == is_so(wanted)?),
+            Ask::DeviceBegin(there) => Ok(self.plant.device_begin(there.id()?) == is_so(wanted)?),
+            Ask::DeviceEnd(there) => Ok(self.plant.device_end(there.id()?) == is_so(wanted)?),
             Ask::Number(number) => {
                 Ok(self.plant.numbers().number_of(place(*number)) == number_of(wanted)?)
             }

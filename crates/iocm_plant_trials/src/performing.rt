@@ -3,7 +3,7 @@ ghost use Rattle.iocm_plant.specs.Between.{StandsAsBefore};
 ghost use Rattle.iocm_plant.specs.TakingBack.{CanUnapply};
 ghost use Rattle.iocm_plant_trials.specs.Back.{LeadsBack};
 
-use iocm_plant::{Applied, Plant};
+use iocm_plant::{Applied, Plant, what_happens_between};
 use iocm_tree::Edit;
 use iocm_trial_machines::{Sight, is_as_before, look_at_last};
 use iocm_types::{Live, Refused};
@@ -81,7 +81,9 @@ fn force(alloc: Global, plant: &mut Plant, edit: Edit) -> Result<Edit, Refused>
     ensures leads { IfOk result (λ i. LeadsBack i plant.old plant.new) }
     ensures stands { OnErr result (StandsAsBefore plant.old plant.new) }
 {
+    // For the proof alone: the state is sound, and what happens between an edit and its way back.
     plant.is_sound();
+    what_happens_between();
     let Applied {
         inverse,
         touched: _touched,
@@ -107,6 +109,8 @@ pub fn force_at_last(alloc: Global, plant: &mut Plant, edit: Edit) -> Result<Edi
     ensures back { IfOk result (λ i. CanUnapply i plant.new) }
     ensures leads { IfOk result (λ i. LeadsBack i plant.old plant.new) }
 {
+    // For the proof alone: what happens between an edit and its way back.
+    what_happens_between();
     let before = look_at_last(alloc, plant)?;
     let copy = copy_at_last(alloc, &edit)?;
     match force(alloc, plant, edit) {

@@ -5,7 +5,7 @@ ghost use Rattle.iocm_plant.specs.TakingBack.{CanUnapply};
 ghost use Rattle.iocm_plant_trials.specs.Back.{LeadsBack};
 
 use crate::performing::force_at_last;
-use iocm_plant::Plant;
+use iocm_plant::{Plant, what_happens_between};
 use iocm_tree::Edit;
 use iocm_trial_machines::{Sight, is_as_before, look_at_last};
 use std::alloc::Global;
@@ -30,6 +30,7 @@ fn take_back(alloc: Global, plant: &mut Plant, inverse: Edit, before: &Sight) ->
     ensures state { OnOk result (plant.new.state ≡ state_after inverse.edit plant.old.state) }
     ensures room { OnOk result (plant.new.room ≡ plant.old.room) }
 {
+    what_happens_between();
     plant.is_sound();
     let again = plant.unapply(inverse);
     is_as_before(alloc, plant, before)?;
@@ -42,6 +43,7 @@ fn there_and_back_and_there(alloc: Global, plant: &mut Plant, edit: Edit) -> Res
     ensures again { IfOk result (λ i. CanUnapply i plant.new) }
     ensures leads { IfOk result (λ i. LeadsBack i plant.old plant.new) }
 {
+    what_happens_between();
     let before = look_at_last(alloc, plant)?;
     let inverse = force_at_last(alloc, plant, edit)?;
     plant.is_sound();
@@ -61,6 +63,7 @@ pub fn forth_and_back<S: Edits>(
 ) -> Result<u32, Fail>
     ensures { OnOk result (StandsAsBefore plant.old plant.new) }
 {
+    what_happens_between();
     plant.is_sound();
     if most == 0 {
         return Ok(0);

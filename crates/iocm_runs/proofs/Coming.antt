@@ -153,7 +153,7 @@ module _ (opening : State) (h : History) where
   called_comes (redo n) = redo_comes n a.stage (is_last_undone n b.undone) (is_in n b.undone) (is_past n b) (not_quiet_of n s a) _ _ _
   called_comes show = show_comes a.stage
 
-  no_step : (c : Call) → may_lack_memory c ≡ true → is_step_call c ≡ false
+  no_step : (c : Call) → may_lack_memory s b a c ≡ true → is_step_call c ≡ false
   no_step (at x made) may = cc
   no_step (activate p) may = refl
   no_step (begin p) may = refl

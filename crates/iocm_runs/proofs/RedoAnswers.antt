@@ -1,5 +1,5 @@
 -- What a redo is answered, in the order of the causes.
-use Rattle.std.proofs.Common.{◌≡◌, ◌⊎◌, inl, inr, ℕ, Bool, true, false, cond, not, nat_le, ◌&&◌, eqb, List, [], ◌∷◌, Option, Some, None, refl, sym, ap, ◌∙◌, arith}
+use Rattle.std.proofs.Common.{◌≡◌, ◌⊎◌, inl, inr, ℕ, Bool, true, false, cond, not, nat_le, ◌&&◌, eqb, List, [], ◌∷◌, Option, Some, None, is_none, refl, sym, ap, ◌∙◌, arith}
 use Rattle.std.proofs.lemmas.Bool.{eqb-true, eq-eqb, and_cases, and_parts, leb-true, leb-false, not-true, not-false}
 use Rattle.iocm_types.specs.declared.answer.Answer.TheVariants.{Redone}
 use Rattle.iocm_types.specs.declared.answer.Answer.TheVariants as answers
@@ -14,7 +14,8 @@ use Rattle.iocm_history.specs.MarkedEntry.{altered_by_change}
 use Rattle.iocm_history.specs.Stage.{Stage}
 use Rattle.iocm_history.specs.Account.{Account, account, state_at}
 use Rattle.iocm_history.specs.Journal.{Journal, is_in, is_past, journal_of}
-use Rattle.iocm_history.specs.Legal.{unless_staged, unless_not_quiet, is_last_undone, not_quiet_of, entry_of, IsRight}
+use Rattle.iocm_history.specs.Legal.{unless_staged, unless_not_quiet, is_last_undone, not_quiet_of, entry_of, may_lack_memory_after, IsRight}
+use Rattle.iocm_history.proofs.Refusing.{none_is}
 use Rattle.iocm_runs.proofs.Waiting.{waits_for}
 use Rattle.iocm_runs.specs.RedoAnswers.{IsNotUndone, IsPast, RedoAnswered, staged, not_undone, past, not_last, waits, redone, lacks_memory, RedoIsAnsweredInOrder}
 
@@ -88,7 +89,12 @@ module _ (opening : State) (h : History) (n : ℕ) (e : Entry) where
   judged (inl same) call =
       verdict a.stage (is_last_undone n b.undone) (is_in n b.undone) (is_past n b) (not_quiet_of n s a) refl refl refl refl refl
       (ap (λ (z : Entry). z.answer) same ∙ ap (λ c. (entry_of opening h c).answer) call)
-  judged (inr lack) call = lacks_memory (ap (λ (z : Entry). z.answer) lack.1)
+  judged (inr lack) call =
+      let may = and_parts (is_none a.stage) (is_last_undone n b.undone && is_none (not_quiet_of n s a))
+      (sym (ap (may_lack_memory_after opening h) call) ∙ lack.0) in
+      let done = and_parts (is_last_undone n b.undone) (is_none (not_quiet_of n s a)) may.1 in
+      lacks_memory (none_is a.stage may.0) (last_is n b.undone done.0)
+      (quiet_at s.lives (altered_by_change n a.entries) (none_is (not_quiet_of n s a) done.1)) (ap (λ (z : Entry). z.answer) lack.1)
 
 pub redo_is_answered_in_order : RedoIsAnsweredInOrder
 redo_is_answered_in_order opening h n e used legal call = judged opening h n e legal.0 call

@@ -83,7 +83,7 @@ redone_last opening h j used legal = by (answering.redo_is_answered_in_order ope
     by (not_last idle among other answer) = cc
     by (waits idle last x wait answer) = cc
     by (redone idle last quiet answer) = last
-    by (lacks_memory answer) = cc
+    by (lacks_memory idle last quiet answer) = cc
 
 -- ---- an undo
 

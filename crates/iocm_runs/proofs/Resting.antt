@@ -107,7 +107,7 @@ module _ (opening : State) (h : History) where
   called_rests (redo n) = redo_rests n a.stage (is_last_undone n b.undone) (is_in n b.undone) (is_past n b) (not_quiet_of n s a) _ _ _
   called_rests show = show_rests a.stage
 
-  lack_rests : (c : Call) (why : Refused) → may_lack_memory c ≡ true → MayRest (plain_entry c (answers.Refused why))
+  lack_rests : (c : Call) (why : Refused) → may_lack_memory s b a c ≡ true → MayRest (plain_entry c (answers.Refused why))
   unfolding account
   lack_rests (at x done) why may same = cc
   lack_rests (activate p) why may same = rests refl refl

@@ -1,5 +1,6 @@
 -- What an undo is answered, in the order of the causes.
-use Rattle.std.proofs.Common.{◌≡◌, inl, inr, ℕ, Bool, true, false, cond, Option, Some, None, refl, sym, ap, ◌∙◌}
+use Rattle.std.proofs.Common.{◌≡◌, inl, inr, ℕ, Bool, true, false, cond, Option, Some, None, is_none, refl, sym, ap, ◌∙◌}
+use Rattle.std.proofs.lemmas.Bool.{and_parts}
 use Rattle.iocm_types.specs.declared.answer.Answer.TheVariants.{Undone}
 use Rattle.iocm_types.specs.declared.answer.Answer.TheVariants as answers
 use Rattle.iocm_types.specs.declared.refused.At.TheVariants.{Nothing}
@@ -16,7 +17,8 @@ use Rattle.iocm_history.specs.Stage.{Stage}
 use Rattle.iocm_history.specs.Account.{Account, account, state_at}
 use Rattle.iocm_history.specs.StandsOn.{standing_on, greatest_on, stands_on}
 use Rattle.iocm_history.specs.Journal.{is_in, journal_of}
-use Rattle.iocm_history.specs.Legal.{unless_staged, unless_not_quiet, unless_stood_on, not_quiet_of, entry_of, IsRight}
+use Rattle.iocm_history.specs.Legal.{unless_staged, unless_not_quiet, unless_stood_on, not_quiet_of, entry_of, may_lack_memory_after, IsRight}
+use Rattle.iocm_history.proofs.Refusing.{none_is}
 use Rattle.iocm_runs.proofs.Waiting.{greatest_is, waits_for}
 use Rattle.iocm_runs.specs.UndoAnswers.{MayStart, UndoAnswered, staged, not_standing, stood_on, waits, undone, lacks_memory, UndoIsAnsweredInOrder}
 
@@ -52,7 +54,9 @@ module _ (opening : State) (h : History) (n : ℕ) (e : Entry) where
   judged (inl same) call =
       verdict a.stage (is_in n (journal_of h).standing) (stands_on n a.entries s) (not_quiet_of n s a) refl refl refl refl
       (ap (λ (z : Entry). z.answer) same ∙ ap (λ c. (entry_of opening h c).answer) call)
-  judged (inr lack) call = lacks_memory (ap (λ (z : Entry). z.answer) lack.1)
+  judged (inr lack) call =
+      let may = and_parts (is_none a.stage) (is_in n (journal_of h).standing) (sym (ap (may_lack_memory_after opening h) call) ∙ lack.0) in
+      lacks_memory (record { idle = none_is a.stage may.0; standing = may.1 }) (ap (λ (z : Entry). z.answer) lack.1)
 
 pub undo_is_answered_in_order : UndoIsAnsweredInOrder
 undo_is_answered_in_order opening h n e used legal call = judged opening h n e legal.0 call

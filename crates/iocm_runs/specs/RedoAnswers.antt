@@ -31,7 +31,7 @@ pub record IsPast (n : ℕ) (b : Journal) : Type 0 where
 
 -- the answer to a redo: the first of these that applies. O1, a change is staged; J1, the change was
 -- never there, or stands; J3, it is past, or another was undone after it; B1, this is the least of
--- its subchannels that isn't quiet; else it is redone. Or memory lacks
+-- its subchannels that isn't quiet; else it is redone, or memory lacks for that
 pub data RedoAnswered (opening : State) (h : History) (n : ℕ) (e : Entry) : Type 0 where
   staged : stage_of opening h ≢ None → e.answer ≡ Refused (refusal_at O1 Nothing) → RedoAnswered opening h n e
   not_undone : stage_of opening h ≡ None → IsNotUndone n (journal_of h)
@@ -45,7 +45,9 @@ pub data RedoAnswered (opening : State) (h : History) (n : ℕ) (e : Entry) : Ty
   redone : stage_of opening h ≡ None → WasUndoneLast n (journal_of h)
       → AreQuiet (state_at opening h).lives (altered_by_change n (marked_entries opening h))
       → e.answer ≡ Redone n → RedoAnswered opening h n e
-  lacks_memory : e.answer ≡ Refused (refusal_at M1 Nothing) → RedoAnswered opening h n e
+  lacks_memory : stage_of opening h ≡ None → WasUndoneLast n (journal_of h)
+      → AreQuiet (state_at opening h).lives (altered_by_change n (marked_entries opening h))
+      → e.answer ≡ Refused (refusal_at M1 Nothing) → RedoAnswered opening h n e
 
 abbrev pub RedoIsAnsweredInOrder : Type 0
 RedoIsAnsweredInOrder = (opening : State) (h : History) (n : ℕ) (e : Entry) → IsInUse opening

@@ -41,7 +41,7 @@ pub data UndoAnswered (opening : State) (h : History) (n : ℕ) (e : Entry) : Ty
       → e.answer ≡ Refused (refusal_at B1 (Subchannel x)) → UndoAnswered opening h n e
   undone : IsFree opening h n → AreQuiet (state_at opening h).lives (altered_by_change n (marked_entries opening h))
       → e.answer ≡ Undone n → UndoAnswered opening h n e
-  lacks_memory : e.answer ≡ Refused (refusal_at M1 Nothing) → UndoAnswered opening h n e
+  lacks_memory : MayStart opening h n → e.answer ≡ Refused (refusal_at M1 Nothing) → UndoAnswered opening h n e
 
 abbrev pub UndoIsAnsweredInOrder : Type 0
 UndoIsAnsweredInOrder = (opening : State) (h : History) (n : ℕ) (e : Entry) → IsInUse opening

@@ -9,7 +9,7 @@ use Rattle.std.specs.Ordering.{eq_by_cmp, is_lt, ordering_then, nat_cmp}
 use Rattle.std.specs.declared.cmp.Ordering.{Ordering}
 use Rattle.std.specs.declared.cmp.Ordering.TheVariants.{Less}
 use Rattle.std.specs.Cmp.{IsTotalOrder, tied_itself, nat_cmp_total}
-use Rattle.std.specs.FinMap.{IsAntisymmetric, find, is_sorted, get, entries, entries_sorted, from_entries, get-from_entries}
+use Rattle.std.specs.FinMap.{FinMap, IsAntisymmetric, find, is_sorted, get, entries, entries_sorted, from_entries, get-from_entries}
 use Rattle.std.specs.FinMap.Entries.{below_all, is_some-find, same_entries}
 use Rattle.std.proofs.lemmas.List.Kept.{IsStrictlySortedBy-filter}
 use Rattle.std.proofs.lemmas.Map.Keys.{sorted_head, sorted_tail}
@@ -30,7 +30,7 @@ use Rattle.iocm_model.specs.Change.Edit.{same_view}
 use Rattle.iocm_model.specs.Change.Maps.{differing}
 use Rattle.iocm_model.proofs.Machine.Views.{views_listed}
 use Rattle.iocm_model.proofs.Maps.Cells.{in_differing, any_filter}
-use Rattle.iocm_seats.specs.Changes.{change_of, change_at, changes_between, subchannel_at, candidates, AreCandidates}
+use Rattle.iocm_seats.specs.Changes.{view_change, change_at, changes_between, subchannel_at, candidates, AreCandidates}
 
 -- what is seen, as a table and by the definition
 pub seen_is : (c : Configuration) (n : Numbering) → IsKeyed c → (x : SubId) → get (views_of c n) x ≡ view_at c n x
@@ -93,6 +93,12 @@ module _ {K X : Type 0} (R : K → K → Ordering) where
   unfolding IsStrictlySortedBy
   keys_rise [] up = tt
   keys_rise (e ∷ es) up = (keys_below e.0 es (first_holds _ _ up), keys_rise es (second_holds _ _ up))
+
+-- the keys at which two maps differ stand in order
+pub differing_rise : {K X : Type 0} (R : K → K → Ordering) (same : X → X → Bool) (m n : FinMap R X) → IsStrictlySortedBy R (differing same m n)
+differing_rise R same m n =
+    let both = from_entries {R = R} (entries m ++ entries n) in
+    IsStrictlySortedBy-filter R (λ key. not (option_eq same (get m key) (get n key))) (keys_of (entries both)) (keys_rise R (entries both) (entries_sorted both))
 
 -- ---- the candidates
 
@@ -160,12 +166,12 @@ candidates_rise (i ∷ images) cells rise rises =
 -- ---- the changes among them
 
 changed_by : (v w : SubId → Option View) (x : SubId) (b : Bool) (rest : List SubId)
-    → cons_option (cond b None (Some (change_of v w x))) (map (change_of v w) rest) ≡ map (change_of v w) (cond (not b) (x ∷ rest) rest)
+    → cons_option (cond b None (Some (view_change v w x))) (map (view_change v w) rest) ≡ map (view_change v w) (cond (not b) (x ∷ rest) rest)
 changed_by v w x true rest = refl
 changed_by v w x false rest = refl
 
 changed_are : (v w : SubId → Option View) (xs : List SubId)
-    → filter_map (change_at v w) xs ≡ map (change_of v w) (filter (λ x. not (option_eq same_view (v x) (w x))) xs)
+    → filter_map (change_at v w) xs ≡ map (view_change v w) (filter (λ x. not (option_eq same_view (v x) (w x))) xs)
 changed_are v w [] = refl
 changed_are v w (x ∷ xs) = ap (cons_option (change_at v w x)) (changed_are v w xs)
     ∙ changed_by v w x (option_eq same_view (v x) (w x)) (filter (λ y. not (option_eq same_view (v y) (w y))) xs)
@@ -182,7 +188,7 @@ all_changes v w xs rise all =
     let differs : SubId → Bool = λ x. not (option_eq same_view (get v x) (get w x)) in
     let both = from_entries {R = sub_id_cmp} (entries v ++ entries w) in
     changed_are (get v) (get w) xs
-    ∙ ap (map (change_of (get v) (get w))) (same_members sub_id_cmp sub_ids_total sub_ids_exact (filter differs xs) (differing same_view v w)
+    ∙ ap (map (view_change (get v) (get w))) (same_members sub_id_cmp sub_ids_total sub_ids_exact (filter differs xs) (differing same_view v w)
     (IsStrictlySortedBy-filter sub_id_cmp differs xs rise)
     (IsStrictlySortedBy-filter sub_id_cmp differs (keys_of (entries both)) (keys_rise sub_id_cmp (entries both) (entries_sorted both)))
     (λ q. any_filter sub_ids_exact q xs differs ∙ among_by (is_among q xs) (option_eq same_view (get v q) (get w q)) (all q)

@@ -17,7 +17,7 @@ use Rattle.iocm_model.proofs.Change.Lives.{left_at, lives_after_edit_at, same_ke
 use Rattle.iocm_model.proofs.Change.SameViews.{sight_is}
 use Rattle.iocm_seats.specs.declared.seat.Seat.{Seat}
 use Rattle.iocm_seats.specs.Seated.{Seats, views_seated, lives_seated}
-use Rattle.iocm_seats.specs.Changes.{change_of, changes_between}
+use Rattle.iocm_seats.specs.Changes.{view_change, changes_between}
 use Rattle.iocm_seats.specs.Settling.{seat_after, settled, settled_all, SettledSeatsShow, SettledSeatsLive}
 use Rattle.iocm_seats.proofs.Maps.{get_turned, sorted_apart, get_written}
 
@@ -45,7 +45,7 @@ seat_left : (seats : Seats) (w : Views) (kept : Lives) (x : SubId) → get (sett
 seat_left seats w kept x =
     let v = views_seated seats in
     let all = from_entries {R = sub_id_cmp} (entries v ++ entries w) in
-    ap (λ (m : Seats). get m x) (fold_turned (settled kept) (change_of (get v) (get w)) seats (differing same_view v w))
+    ap (λ (m : Seats). get m x) (fold_turned (settled kept) (view_change (get v) (get w)) seats (differing same_view v w))
     ∙ get_written sub_ids_total sub_ids_exact (λ (k : SubId) (o : Option Seat). seat_after o (get w k) (get kept k)) seats (differing same_view v w)
     (sorted_apart sub_id_cmp (λ (y : SubId). not (option_eq same_view (get v y) (get w y))) (entries all) (entries_sorted all)) x
     ∙ ap (λ b. cond b (seat_after (get seats x) (get w x) (get kept x)) (get seats x)) (in_differing sub_ids_total sub_ids_exact same_view v w x)

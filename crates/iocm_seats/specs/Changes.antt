@@ -18,8 +18,8 @@ use Rattle.iocm_seats.specs.Seated.{Seats, views_seated}
 use Rattle.iocm_seats.specs.declared.view_change.ViewChange.{ViewChange}
 
 -- what was seen at a subchannel, and what is seen there afterwards
-abbrev pub change_of : (SubId → Option View) → (SubId → Option View) → SubId → ViewChange
-change_of v w x = record { subchannel = x; before = v x; after = w x }
+abbrev pub view_change : (SubId → Option View) → (SubId → Option View) → SubId → ViewChange
+view_change v w x = record { subchannel = x; before = v x; after = w x }
 
 -- a change from one view to another at a subchannel, if they differ
 abbrev pub change_from : Option View → Option View → SubId → Option ViewChange
@@ -31,7 +31,7 @@ change_at v w x = change_from (v x) (w x) x
 
 -- all changes between two tables of views, in the order of subchannels
 abbrev pub changes_between : Views → Views → List ViewChange
-changes_between v w = map (change_of (get v) (get w)) (differing same_view v w)
+changes_between v w = map (view_change (get v) (get w)) (differing same_view v w)
 
 -- the changes at some subchannels between what is seated and what is seen in a configuration with
 -- its numbers

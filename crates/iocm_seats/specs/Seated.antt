@@ -4,6 +4,7 @@ use Rattle.std.specs.FinMap.{FinMap, entries, from_entries}
 use Rattle.iocm_types.specs.declared.sub_id.SubId.{SubId}
 use Rattle.iocm_types.specs.declared.view.View.{View}
 use Rattle.iocm_types.specs.SubId.{sub_id_cmp}
+use Rattle.iocm_table.specs.Slots.{Stored, rows}
 use Rattle.iocm_model.specs.Operation.Orders.{fresh}
 use Rattle.iocm_model.specs.Operation.State.{Lives, Views}
 use Rattle.iocm_seats.specs.declared.seat.Seat.{Seat}
@@ -11,6 +12,10 @@ use Rattle.iocm_seats.specs.declared.seat.Seat.{Seat}
 -- the seats by subchannel
 abbrev pub Seats : Type 0
 Seats = FinMap sub_id_cmp Seat
+
+-- those of a table
+abbrev pub seats_in : Stored SubId Seat → Seats
+seats_in table = rows sub_id_cmp table
 
 -- what is seen at them
 abbrev pub views_seated : Seats → Views

@@ -20,7 +20,7 @@ use Rattle.iocm_activate.specs.Effects.{effect_in}
 use Rattle.iocm_activate.specs.declared.done.Done.{Done}
 use Rattle.iocm_activate.specs.Told.{told_of_all, LeadsTo}
 use Rattle.iocm_stage.specs.Along.{edits_in, StandsAlong}
-use Rattle.iocm_stage.specs.Staged.{WasMade, HasRoom, IsStageOf}
+use Rattle.iocm_stage.specs.Staged.{WasMade, HasRoomBothWays, IsStageOf}
 use Rattle.iocm_stage.specs.declared.staged.Staged.{Staged}
 
 -- the edits of an inverse tree
@@ -47,7 +47,7 @@ way_edits t is es s shape inverse = same_parts (edits_in is) (inverses es s)
 
 -- there is room for the edits that take a change back, one way and the other
 pub room_for : (done : Done) (back forward : Vec Carried Global) → vec_len back ≡ length back.items → vec_len back ≤ vec_capacity back
-    → forward.items ≡ [] → length back.items ≤ vec_capacity forward → HasRoom (record { done = done; forward = forward; back = back })
+    → forward.items ≡ [] → length back.items ≤ vec_capacity forward → HasRoomBothWays (record { done = done; forward = forward; back = back })
 room_for done back forward long within none room = let z = ap length none in record { back = omega (arith, long, within, z); forward = omega (arith, z, room) }
 
 -- the change that a tree means
@@ -78,7 +78,7 @@ module _ (t : model.ChangeTree) (s : State) (p : Operating) (sound : IsSound s) 
 
   module _ (g : Staged) (inverse : plain_tree (tree_of g.done.inverse) ≡ inverse_tree es s) (way : IsWayBack (tree_of g.done.inverse) s p)
       (effect : effect_in g.done.effect ≡ effect_of es s) (told : AreToldBy g.done.performed.items (told_of_all es s))
-      (copied : (is : List Carried) → tree_of g.done.inverse ≡ row (leaves_from is) → reverse g.back.items ≡ is) (none : g.forward.items ≡ []) (room : HasRoom g) where
+      (copied : (is : List Carried) → tree_of g.done.inverse ≡ row (leaves_from is) → reverse g.back.items ≡ is) (none : g.forward.items ≡ []) (room : HasRoomBothWays g) where
     backs : reverse g.back.items ≡ way.edits
     backs = copied way.edits way.shape
 

@@ -2,19 +2,16 @@
 use Rattle.std.proofs.Common.{◌≡◌, true, List, [], ◌∷◌, ◌++◌, refl, sym, ap, subst, ◌∙◌}
 use Rattle.std.specs.FinMap.{get}
 use Rattle.iocm_types.specs.declared.sub_id.SubId.{SubId}
-use Rattle.iocm_model.specs.Operation.State.{State, HasLives, IsSound, HasConfigAndNumbersOf, is_among}
+use Rattle.iocm_model.specs.Operation.State.{State, IsSound, HasConfigAndNumbersOf, is_among}
 use Rattle.iocm_model.specs.Change.Edit.{Edit, state_after, altered_by}
 use Rattle.iocm_model.specs.Change.Inverse.{inverse_of}
 use Rattle.iocm_model.specs.Change.Runs.{inverses, state_after_all, CarryFreeNumbers}
-use Rattle.iocm_model.proofs.Change.EditsGoBack.{lived_after}
 use Rattle.iocm_model.proofs.Change.RunsGoBack.{all_append, stays_sound}
 use Rattle.iocm_tree.specs.Carried.{Carried}
 use Rattle.iocm_plant.specs.Operating.{Operating, KeepsRoom}
-use Rattle.iocm_plant.specs.Between.{StandsAsBefore}
+use Rattle.iocm_plant.specs.Between.{CanStillUnapply, StandsAsBefore}
 use Rattle.iocm_plant.specs.TakingBack.{CanUnapply}
-use Rattle.iocm_plant.proofs.Between.{can_still_unapply, rooms_on, same_is_kept}
 use Rattle.iocm_activate.specs.Told.{LeadsTo}
-use Rattle.iocm_activate.proofs.Back.{leads_still}
 use Rattle.iocm_stage.specs.Again.{again, all_again}
 use Rattle.iocm_stage.specs.Along.{edits_in, StandsAlong}
 use Rattle.iocm_stage.proofs.Again.{does_again, taken_back_alike, again_alike}
@@ -25,26 +22,25 @@ use Rattle.iocm_stage.proofs.Lists.{same_head, same_tail}
 -- ---- where edits lead
 
 -- they lead on where a machine stands as before
-pub leads_elsewhere : (is : List Carried) (s : State) (p q : Operating) → LeadsTo is s p → StandsAsBefore p q → LeadsTo is (state_after_all (edits_in is) q.state) q
-leads_elsewhere [] s p q leads stands = refl
-leads_elsewhere (i ∷ is) s p q leads stands = (
-  can_still_unapply i p q leads.0 stands,
+pub leads_elsewhere : CanStillUnapply → (is : List Carried) (s : State) (p q : Operating) → LeadsTo is s p → StandsAsBefore p q → LeadsTo is (state_after_all (edits_in is) q.state) q
+leads_elsewhere still [] s p q leads stands = refl
+leads_elsewhere still (i ∷ is) s p q leads stands = (
+  still i p q leads.0 stands,
   λ t after places.
       let then : Operating = record { state = state_after i.edit p.state; room = p.room } in
       subst (λ u. LeadsTo is (state_after_all (edits_in is) u) t) after
-      (leads_elsewhere is s then t (leads.1 then refl refl) (record {
+      (leads_elsewhere still is s then t (leads.1 then refl refl) (record {
         state = subst (λ u. HasConfigAndNumbersOf u (state_after i.edit p.state)) (sym after) (like_after i.edit q.state p.state stands.state);
-        room = rooms_on p.room q.room t.room stands.room (same_is_kept q.room t.room places);
+        room = subst (KeepsRoom p.room) (sym places) stands.room;
       })),
 )
 
 -- one more in front, that leads to where the others begin
 pub leads_in_front : (j : Carried) (is : List Carried) (s : State) (p q : Operating) → CanUnapply j q → state_after j.edit q.state ≡ p.state → q.room ≡ p.room
-    → HasLives p.state → LeadsTo is s p → LeadsTo (j ∷ is) s q
-leads_in_front j is s p q can goes room lived leads = (
+    → LeadsTo is s p → LeadsTo (j ∷ is) s q
+leads_in_front j is s p q can goes room leads = (
   can,
-  λ t after places.
-      leads_still is s p t leads (subst HasLives (sym (after ∙ goes)) lived) (after ∙ goes) (same_is_kept p.room t.room (places ∙ room)),
+  λ t after places. subst (λ (u : Operating). LeadsTo is s u) (λ k. record { state = sym (after ∙ goes) k; room = sym (places ∙ room) k }) leads,
 )
 
 -- ---- runs with one more edit at the end
@@ -106,7 +102,7 @@ module _ (first rest : List Edit) (e : Edit) (from s : State) (sound : IsSound f
         back_edits = (λ k. taking k ∷ stands.back_edits k) ∙ sym (inverses_last first e from);
         forward_edits = same_tail _ _ _ _ stands.forward_edits ∙ ap (all_again rest) (sym (one_more from));
         back = leads_in_front j back s p q can ((λ k. state_after (taking k) (done k)) ∙ back_there ∙ sym stands.state) room
-            (subst HasLives (sym stands.state) agrees_now.like.lived) stands.back;
+            stands.back;
         forward = subst (λ u. LeadsTo forward (state_after_all rest u) q) (sym (one_more s)) (stands.forward.1 q state room);
       }
 
@@ -128,6 +124,5 @@ module _ (first rest : List Edit) (e : Edit) (from s : State) (sound : IsSound f
         forward_edits = λ k. doing k ∷ (stands.forward_edits ∙ ap (all_again rest) (one_more from)) k;
         back = stands.back.1 q state room;
         forward = leads_in_front j forward (state_after_all rest (state_after e now)) p q can ((λ k. state_after (doing k) (done k)) ∙ again_there ∙ sym here) room
-            (subst HasLives (sym here) (lived_after e now agrees_now.like.lived))
             (subst (λ u. LeadsTo forward (state_after_all rest u) p) (one_more s) stands.forward);
       }

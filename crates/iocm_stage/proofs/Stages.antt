@@ -5,6 +5,7 @@ use Rattle.std.proofs.lemmas.List.{take-append-drop, length-append, length-drop,
 use Rattle.std.specs.FinMap.{contains_key, contains_key-keys}
 use Rattle.std.specs.Vec.{vec_capacity}
 use Rattle.iocm_types.specs.declared.sub_id.SubId.{SubId}
+use Rattle.iocm_model.proofs.Change.Trees.{inverses_length}
 use Rattle.iocm_model.specs.Operation.State.{State, HasLives, IsSound, HasConfigAndNumbersOf, is_among}
 use Rattle.iocm_model.specs.Operation.Step.{Step, after_step, answer_in}
 use Rattle.iocm_model.specs.Change.Edit.{Edit, state_after}
@@ -19,13 +20,13 @@ use Rattle.iocm_history.specs.Stage.{Stage, is_held, left_of, once_more}
 use Rattle.iocm_history.proofs.OneCell.{altered_cells}
 use Rattle.iocm_tree.specs.Carried.{Carried}
 use Rattle.iocm_plant.specs.Operating.{Operating, KeepsRoom}
-use Rattle.iocm_plant.specs.Between.{StandsAsBefore}
+use Rattle.iocm_plant.specs.Between.{CanStillUnapply, StandsAsBefore}
 use Rattle.iocm_plant.specs.TakingBack.{CanUnapply}
 use Rattle.iocm_activate.specs.Effects.{effect_in}
 use Rattle.iocm_activate.specs.Told.{LeadsTo}
 use Rattle.iocm_stage.specs.Again.{all_again}
 use Rattle.iocm_stage.specs.Along.{edits_in, StandsAlong}
-use Rattle.iocm_stage.specs.Staged.{WasMade, IsReady, Tells, HasRoom, IsStageOf, IsStaged}
+use Rattle.iocm_stage.specs.Staged.{WasMade, IsReady, Tells, HasRoomBothWays, IsStageOf, IsStaged}
 use Rattle.iocm_stage.specs.StageLaws.{PassesAStage, StepsElsewherePassAStage}
 use Rattle.iocm_stage.specs.declared.staged.Staged.{Staged}
 use Rattle.iocm_stage.proofs.Agreeing.{Agrees, agrees_first, agrees_rest, agrees_after_step, all_do_again, step_passes, same_answer, taken_back, among_all}
@@ -130,15 +131,15 @@ module _ (es : List Edit) (from s : State) (made : IsSound from) (free : CarryFr
 -- ---- a whole stage
 
 -- an edit went from one side to the other
-pub room_on : (g h : Staged) (i j : Carried) → HasRoom g → g.forward.items ≡ h.forward.items ++ i ∷ [] → h.back.items ≡ g.back.items ++ j ∷ []
-    → vec_capacity h.forward ≡ vec_capacity g.forward → vec_capacity h.back ≡ vec_capacity g.back → HasRoom h
+pub room_on : (g h : Staged) (i j : Carried) → HasRoomBothWays g → g.forward.items ≡ h.forward.items ++ i ∷ [] → h.back.items ≡ g.back.items ++ j ∷ []
+    → vec_capacity h.forward ≡ vec_capacity g.forward → vec_capacity h.back ≡ vec_capacity g.back → HasRoomBothWays h
 room_on g h i j room out put forward back =
     let o = ap length out ∙ length-append h.forward.items (i ∷ []) in let n = ap length put ∙ length-append g.back.items (j ∷ []) in
     let r = room.back in let f = room.forward in
     record { back = omega (arith, o, n, r, back); forward = omega (arith, o, n, f, forward) }
 
-pub room_back : (g h : Staged) (i j : Carried) → HasRoom g → g.back.items ≡ h.back.items ++ i ∷ [] → h.forward.items ≡ g.forward.items ++ j ∷ []
-    → vec_capacity h.forward ≡ vec_capacity g.forward → vec_capacity h.back ≡ vec_capacity g.back → HasRoom h
+pub room_back : (g h : Staged) (i j : Carried) → HasRoomBothWays g → g.back.items ≡ h.back.items ++ i ∷ [] → h.forward.items ≡ g.forward.items ++ j ∷ []
+    → vec_capacity h.forward ≡ vec_capacity g.forward → vec_capacity h.back ≡ vec_capacity g.back → HasRoomBothWays h
 room_back g h i j room out put forward back =
     let o = ap length out ∙ length-append h.back.items (i ∷ []) in let n = ap length put ∙ length-append g.forward.items (j ∷ []) in
     let r = room.back in let f = room.forward in
@@ -177,6 +178,13 @@ not_advanced g h p empty still items forward back done t s stage = record {
       record { back = omega (arith, e, z, l, r, back); forward = omega (arith, e, z, l, f, forward) };
 }
 
+-- how many were advanced
+pub how_many_back : (g : Staged) (t : Stage) (s : State) (p : Operating) → IsStageOf g t s p
+    → length g.back.items ≡ length (take t.advances t.change.edits)
+how_many_back g t s p stage =
+    sym (length-reverse g.back.items) ∙ sym (length-map (reverse g.back.items) (λ (i : Carried). i.edit)) ∙ ap length stage.along.back_edits
+    ∙ inverses_length (take t.advances t.change.edits) t.change.from
+
 -- how many are left
 pub how_many : (g : Staged) (t : Stage) (s : State) (p : Operating) → IsStageOf g t s p → length g.forward.items ≡ left_of t
 how_many g t s p stage =
@@ -200,7 +208,7 @@ pub record IsGoingBack (before : Staged) (at : Operating) (now : Staged) (here :
   pub can : (t : Stage) (s : State) → IsStageOf before t s at → IsReady t.change s
   pub done : now.done ≡ before.done
   pub same_room : here.room ≡ at.room
-  pub room : HasRoom now
+  pub room : HasRoomBothWays now
   pub staged : IsStaged before at
 
 pub one_back : (before : Staged) (at : Operating) (g h : Staged) (i j : Carried) (p q : Operating) → IsGoingBack before at g p
@@ -259,7 +267,7 @@ kept_at_start c s ready = rules_like s c.from ready.like ready.made.used.rules
 
 -- ---- steps
 
-module _ (g : Staged) (t : Stage) (s : State) (x : SubId) (step : Step) (p q : Operating) (stage : IsStageOf g t s p) (off : is_among x (altered t.change) ≡ false)
+module _ (still : CanStillUnapply) (g : Staged) (t : Stage) (s : State) (x : SubId) (step : Step) (p q : Operating) (stage : IsStageOf g t s p) (off : is_among x (altered t.change) ≡ false)
     (state : q.state ≡ after_step x step p.state) (room : KeepsRoom p.room q.room) where
   abbrev c : Change
   c = t.change
@@ -324,12 +332,12 @@ module _ (g : Staged) (t : Stage) (s : State) (x : SubId) (step : Step) (p q : O
         forward_edits = stage.along.forward_edits;
         back = subst (λ u. LeadsTo (reverse g.back.items) u q)
             ((λ i. state_after_all (stage.along.back_edits i) (here i)) ∙ taken_back first c.from (after_step x step s) (agrees_first first rest c.from (after_step x step s) agrees_then) sound free_now)
-            (leads_elsewhere (reverse g.back.items) s p q stage.along.back stands);
+            (leads_elsewhere still (reverse g.back.items) s p q stage.along.back stands);
         forward = subst (λ u. LeadsTo (reverse g.forward.items) u q)
             ((λ i. state_after_all (stage.along.forward_edits i) (here i))
             ∙ all_do_again rest (state_after_all first c.from) (state_after_all first (after_step x step s)) (agrees_rest first rest c.from (after_step x step s) agrees_then)
             (stays_sound first c.from sound free_now) (free_rest first rest c.from free))
-            (leads_elsewhere (reverse g.forward.items) _ p q stage.along.forward stands);
+            (leads_elsewhere still (reverse g.forward.items) _ p q stage.along.forward stands);
       };
       room = stage.room;
     };
@@ -337,5 +345,5 @@ module _ (g : Staged) (t : Stage) (s : State) (x : SubId) (step : Step) (p q : O
         ∙ same_answer first c.from s (agrees_first first rest c.from s agrees) x step off_first sound free_now;
   }
 
-pub steps_elsewhere_pass_a_stage : StepsElsewherePassAStage
-steps_elsewhere_pass_a_stage g t s x step p q stage off state room = passes g t s x step p q stage off state room
+pub steps_elsewhere_pass_a_stage : CanStillUnapply → StepsElsewherePassAStage
+steps_elsewhere_pass_a_stage still g t s x step p q stage off state room = passes still g t s x step p q stage off state room

@@ -16,7 +16,8 @@ edits_in is = map (λ (i : Carried). i.edit) is
 -- of edits that were performed from a state on, and taken back, the first were done again on a
 -- machine, which was in another state before: some edits take these back, the last one first, and
 -- lead to that state; others do the rest again, and lead to the state after all
-pub record StandsAlong (first rest : List Edit) (from before : State) (behind ahead : List Carried) (p : Operating) : Type 0 where
+pub record StandsAlong (first rest : List Edit) (from before : State) (behind ahead : List Carried)
+    (p : Operating) : Type 0 where
   pub state : p.state ≡ state_after_all first before
   pub back_edits : edits_in behind ≡ inverses first from
   pub forward_edits : edits_in ahead ≡ all_again rest (state_after_all first from)

@@ -17,4 +17,5 @@ pub record PassesAStage (g : Staged) (t : Stage) (s : State) (x : SubId) (step :
 -- steps on subchannels that aren't held do
 abbrev pub StepsElsewherePassAStage : Type 0
 StepsElsewherePassAStage = (g : Staged) (t : Stage) (s : State) (x : SubId) (step : Step) (p q : Operating)
-    → IsStageOf g t s p → is_held x (Some t) ≡ false → q.state ≡ after_step x step p.state → KeepsRoom p.room q.room → PassesAStage g t s x step p q
+    → IsStageOf g t s p → is_held x (Some t) ≡ false → q.state ≡ after_step x step p.state → KeepsRoom p.room q.room
+    → PassesAStage g t s x step p q

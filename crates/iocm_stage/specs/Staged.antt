@@ -40,7 +40,7 @@ pub record Tells (d : Done) (c : Change) : Type 0 where
   pub performed : AreToldBy d.performed.items (told_of_all c.edits c.from)
 
 -- there is memory for all edits both ways
-pub record HasRoom (g : Staged) : Type 0 where
+pub record HasRoomBothWays (g : Staged) : Type 0 where
   pub back : length g.back.items + length g.forward.items ≤ vec_capacity g.back
   pub forward : length g.back.items + length g.forward.items ≤ vec_capacity g.forward
 
@@ -49,8 +49,9 @@ pub record HasRoom (g : Staged) : Type 0 where
 pub record IsStageOf (g : Staged) (t : Stage) (before : State) (p : Operating) : Type 0 where
   pub ready : IsReady t.change before
   pub tells : Tells g.done t.change
-  pub along : StandsAlong (take t.advances t.change.edits) (drop t.advances t.change.edits) t.change.from before (reverse g.back.items) (reverse g.forward.items) p
-  pub room : HasRoom g
+  pub along : StandsAlong (take t.advances t.change.edits) (drop t.advances t.change.edits) t.change.from before
+      (reverse g.back.items) (reverse g.forward.items) p
+  pub room : HasRoomBothWays g
 
 -- it is a stage of some change
 pub record IsStaged (g : Staged) (p : Operating) : Type 0 where

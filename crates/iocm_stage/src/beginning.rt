@@ -5,10 +5,10 @@ ghost use Rattle.iocm_model.specs.Change.Meaning.{meaning};
 ghost use Rattle.iocm_model.specs.Change.Runs.{state_after_all};
 ghost use Rattle.iocm_model.specs.Laws.Trees.{KeepsTheRules};
 ghost use Rattle.iocm_tree.specs.Carried.{Carried};
-ghost use Rattle.iocm_tree.specs.Trees.{plain_tree, row, tree_of};
+ghost use Rattle.iocm_tree.specs.Trees.{row, tree_of, plain};
 ghost use Rattle.iocm_plant.specs.Operating.{KeepsRoom};
 ghost use Rattle.iocm_plant.specs.Refusing.{IsDue};
-ghost use Rattle.iocm_activate.specs.Done.{edits_of, leaves_from, refusal_in};
+ghost use Rattle.iocm_activate.specs.Done.{leaves_from, refusal_in, edits_meant};
 ghost use Rattle.iocm_stage.specs.Staged.{IsStageOf};
 
 use crate::copies::copies;
@@ -31,9 +31,20 @@ pub fn begin<A: Allocator>(
     tree: &Tree<A>,
 ) -> Result<Staged, Refused>
     requires kept { KeepsTheRules plant.old.state }
-    ensures means { OnOk result (meaning (plain_tree (tree_of tree.now)) plant.old.state ≡ Ok (record { state = state_after_all (edits_of (meaning (plain_tree (tree_of tree.now)) plant.old.state)) plant.old.state; edits = edits_of (meaning (plain_tree (tree_of tree.now)) plant.old.state) })) }
-    ensures staged { IfOk result (λ g. IsStageOf g (record { change = change_of (meaning (plain_tree (tree_of tree.now)) plant.old.state) plant.old.state; advances = 0 }) plant.old.state plant.new) }
-    ensures refused { IfErr result (IsDue (refusal_in (meaning (plain_tree (tree_of tree.now)) plant.old.state))) }
+    ensures means { OnOk result (meaning (plain tree.now) plant.old.state
+        ≡ Ok (record {
+          state = state_after_all
+              (edits_meant (plain tree.now) plant.old.state) plant.old.state;
+          edits = edits_meant
+              (plain tree.now) plant.old.state;
+        })) }
+    ensures staged { IfOk result (λ g. IsStageOf g
+        (record {
+          change = change_of
+              (meaning (plain tree.now) plant.old.state) plant.old.state;
+          advances = 0;
+        }) plant.old.state plant.new) }
+    ensures refused { IfErr result (IsDue (refusal_in (meaning (plain tree.now) plant.old.state))) }
     ensures same { plant.new.state ≡ plant.old.state }
     ensures room { KeepsRoom plant.old.room plant.new.room }
 {
@@ -64,7 +75,8 @@ struct Moves {
 impl Moves {
     /// Those of a change.
     fn of(alloc: Global, done: &Done) -> Result<Moves, AllocError>
-        ensures back { IfOk result (λ m. (is : List Carried) → tree_of done.now.inverse ≡ row (leaves_from is) → reverse m.back.items ≡ is) }
+        ensures back { IfOk result (λ m. (is : List Carried) → tree_of done.now.inverse ≡ row (leaves_from is)
+            → reverse m.back.items ≡ is) }
         ensures none { IfOk result (λ m. m.forward.items ≡ []) }
         ensures room { IfOk result (λ m. length m.back.items ≤ vec_capacity m.forward) }
     {

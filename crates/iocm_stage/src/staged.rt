@@ -1,4 +1,5 @@
 ghost use Rattle.std.specs.Prelude.{◌≡◌, Some};
+ghost use Rattle.iocm_history.specs.Machine.{count_advanced};
 ghost use Rattle.iocm_history.specs.Stage.{Stage, is_held, left_of, once_more};
 ghost use Rattle.iocm_model.specs.Change.Runs.{state_after_all};
 ghost use Rattle.iocm_model.specs.Laws.Trees.{KeepsTheRules};
@@ -27,7 +28,8 @@ pub struct Staged {
 impl Staged {
     /// Whether the change holds a subchannel: exactly those that it alters.
     pub fn holds(&self, subchannel: SubId) -> bool
-        ensures { (t : Stage) (s : State) (p : Operating) → IsStageOf self.now t s p → result ≡ is_held subchannel (Some t) }
+        ensures { (t : Stage) (s : State) (p : Operating) → IsStageOf self.now t s p
+            → result ≡ is_held subchannel (Some t) }
     {
         self.done.effect.lives.get(&subchannel).is_some()
     }
@@ -39,11 +41,20 @@ impl Staged {
         self.forward.len() as u64
     }
 
+    /// How many edits were advanced.
+    pub fn advanced(&self) -> u64
+        ensures { (t : Stage) (s : State) (p : Operating) → IsStageOf self.now t s p
+            → Some result ≡ count_advanced (Some t) }
+    {
+        self.back.len() as u64
+    }
+
     /// Performs the next edit. The answer is how many are left then; where none was left, nothing
     /// happens, and it is 0. Can't answer want of memory.
     pub fn advance(&mut self, plant: &mut Plant) -> u64
         requires { IsStaged self.old plant.old }
-        ensures stage { (t : Stage) (s : State) → IsStageOf self.old t s plant.old → IsStageOf self.new (once_more t) s plant.new }
+        ensures stage { (t : Stage) (s : State) → IsStageOf self.old t s plant.old
+            → IsStageOf self.new (once_more t) s plant.new }
         ensures left { (t : Stage) (s : State) → IsStageOf self.old t s plant.old → result ≡ left_of (once_more t) }
         ensures room { plant.new.room ≡ plant.old.room }
     {
@@ -58,7 +69,8 @@ impl Staged {
     /// Performs all edits that are left. It tells of the whole change. Can't answer want of memory.
     pub fn commit(self, plant: &mut Plant) -> Done
         requires { IsStaged self plant.old }
-        ensures state { (t : Stage) (s : State) → IsStageOf self t s plant.old → plant.new.state ≡ state_after_all t.change.edits s }
+        ensures state { (t : Stage) (s : State) → IsStageOf self t s plant.old
+            → plant.new.state ≡ state_after_all t.change.edits s }
         ensures tells { (t : Stage) (s : State) → IsStageOf self t s plant.old → Tells result t.change }
         ensures kept { KeepsTheRules plant.new.state }
         ensures room { plant.new.room ≡ plant.old.room }
@@ -91,7 +103,8 @@ impl Staged {
     /// memory.
     pub(crate) fn go_back(&mut self, plant: &mut Plant)
         requires { IsStaged self.old plant.old }
-        ensures stage { (t : Stage) (s : State) → IsStageOf self.old t s plant.old → IsStageOf self.new (record { change = t.change; advances = 0 }) s plant.new }
+        ensures stage { (t : Stage) (s : State) → IsStageOf self.old t s plant.old
+            → IsStageOf self.new (record { change = t.change; advances = 0 }) s plant.new }
         ensures room { plant.new.room ≡ plant.old.room }
     {
         while let Some(edit) = self.back.pop() {

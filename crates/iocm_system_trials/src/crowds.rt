@@ -1,6 +1,6 @@
 //! Trials of eight threads.
 use crate::crowd::{Crowd, Told, run_eight};
-use crate::drawn::{Kind, draw_eight};
+use crate::drawn::{CallKind, draw_eight};
 use crate::machines::{EIGHT, board_for, opened};
 use crate::receipts::{Wrong, first_missing, none_taken, take_all};
 use crate::replay::first_wrong;
@@ -29,7 +29,7 @@ fn crowd<R: Threads + Wait + Sync>(
 fn run_crowd<R: Threads + Wait + Sync>(
     rt: &R,
     alloc: Global,
-    kind: Kind,
+    kind: CallKind,
     seed: u64,
     room: usize,
 ) -> Result<Crowd, Fail> {
@@ -63,7 +63,7 @@ fn wrong_mixed<R: Threads + Wait + Sync>(
     alloc: Global,
     seed: u64,
 ) -> Result<Option<Wrong>, Fail> {
-    let ran = run_crowd(rt, alloc, Kind::Mixed(33), seed, 1000)?;
+    let ran = run_crowd(rt, alloc, CallKind::Mixed(33), seed, 1000)?;
     wrong_crowd(alloc, &ran)
 }
 
@@ -72,7 +72,7 @@ fn wrong_orders<R: Threads + Wait + Sync>(
     rt: &R,
     alloc: Global,
 ) -> Result<(Option<Wrong>, usize), Fail> {
-    let ran = run_crowd(rt, alloc, Kind::Orders(2500), 1, 40_000)?;
+    let ran = run_crowd(rt, alloc, CallKind::Orders(2500), 1, 40_000)?;
     Ok((wrong_crowd(alloc, &ran)?, ran.closed.trace.entries.len()))
 }
 
@@ -123,7 +123,7 @@ fn wrong_full<R: Threads + Wait + Sync>(
     alloc: Global,
     seed: u64,
 ) -> Result<(Option<Wrong>, usize), Fail> {
-    let ran = run_crowd(rt, alloc, Kind::Orders(50), seed, 500)?;
+    let ran = run_crowd(rt, alloc, CallKind::Orders(50), seed, 500)?;
     let wrong = wrong_all_where_full(&ran, 100, 500).or(wrong_crowd(alloc, &ran)?);
     Ok((wrong, ran.closed.trace.entries.len()))
 }

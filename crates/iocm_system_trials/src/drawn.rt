@@ -112,7 +112,7 @@ pub fn draw_orders(
 
 /// What is drawn for a thread.
 #[derive(Clone, Copy)]
-pub enum Kind {
+pub enum CallKind {
     /// Calls of all kinds, in so many turns.
     Mixed(u32),
     /// Orders alone, in so many turns.
@@ -120,15 +120,19 @@ pub enum Kind {
 }
 
 /// The calls of an image of the machine of eight images.
-fn draw(alloc: Global, kind: Kind, image: u8, seed: u64) -> Result<VecDeque<Call>, Fail> {
+fn draw(alloc: Global, kind: CallKind, image: u8, seed: u64) -> Result<VecDeque<Call>, Fail> {
     match kind {
-        Kind::Mixed(turns) => draw_mixed(alloc, EIGHT, image, seed, turns),
-        Kind::Orders(turns) => draw_orders(alloc, image, seed, turns),
+        CallKind::Mixed(turns) => draw_mixed(alloc, EIGHT, image, seed, turns),
+        CallKind::Orders(turns) => draw_orders(alloc, image, seed, turns),
     }
 }
 
 /// The calls of all eight.
-pub fn draw_eight(alloc: Global, kind: Kind, seed: u64) -> Result<VecDeque<VecDeque<Call>>, Fail> {
+pub fn draw_eight(
+    alloc: Global,
+    kind: CallKind,
+    seed: u64,
+) -> Result<VecDeque<VecDeque<Call>>, Fail> {
     let mut all = VecDeque::new(alloc);
     for image in 1..9 {
         all.push_back(draw(alloc, kind, image, seed)?)?;

@@ -135,7 +135,7 @@ parts_depth : (es : List Edit) → depth_in (parts_of es) ≤ 1
 parts_depth [] = omega arith
 parts_depth (e ∷ es) = let more = parts_depth es in omega arith
 
-inverses_length : (es : List Edit) (s : State) → length (inverses es s) ≡ length es
+pub inverses_length : (es : List Edit) (s : State) → length (inverses es s) ≡ length es
 inverses_length [] s = refl
 inverses_length (e ∷ es) s =
     let more = inverses_length es (state_after e s) in

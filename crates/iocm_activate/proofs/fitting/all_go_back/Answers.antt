@@ -1,13 +1,12 @@
 use Rattle.std.proofs.Common.{◌≤◌, None, Some, length, reverse, ap, ◌∙◌, arith}
 use Rattle.std.proofs.lemmas.List.{nil_from_length}
 use Rattle.iocm_tree.specs.Trees.{tree_of, parts_of, plain_parts}
-use Rattle.iocm_plant.proofs.Between.{rooms_on}
 use Rattle.iocm_activate.specs.Fitting.{gone_back_along, way_gone}
 use Rattle.iocm_activate.proofs.Trying.{sets_out, goes_on, stops, lacks_its_own, arrives, no_edit, an_edit}
 use Rattle.iocm_activate.proofs.fitting.all_go_back.Goals as goal
 
 pub loop-part-init : goal.loop-part-init
-loop-part-init g c = sets_out c.deref-part-items.result.now c.args.parts.now.items c.args.performed.now c.args.plant.now c.args.log.now c.deref-part-items.ensures.value c.requires.kept
+loop-part-init g c = sets_out c.what_happens_between.ensures.same_places c.deref-part-items.result.now c.args.parts.now.items c.args.performed.now c.args.plant.now c.args.log.now c.deref-part-items.ensures.value c.requires.kept
 
 pub returns-in_default-clause-went : goal.returns-in_default-clause-went
 returns-in_default-clause-went g c = lacks_its_own (gone_back_along (plain_parts (parts_of c.args.parts.now.items)) (reverse c.args.performed.now) c.args.plant.now.state) c.deref-part-items.result.now c.loop-part.part-index c.args.plant.now c.args.log.now c.loop-part.plant c.loop-part.log
@@ -29,7 +28,7 @@ pub returns-in_err-goes_back-clause-back : goal.returns-in_err-goes_back-clause-
 returns-in_err-goes_back-clause-back g c = λ s leads. c.goes_back.ensures.back s (c.loop-part.invariant.back s leads)
 
 pub returns-in_err-goes_back-clause-room : goal.returns-in_err-goes_back-clause-room
-returns-in_err-goes_back-clause-room g c = rooms_on c.args.plant.now.room c.loop-part.plant.room c.goes_back.new.plant.room c.loop-part.invariant.room c.goes_back.ensures.room
+returns-in_err-goes_back-clause-room g c = c.what_happens_between.ensures.places c.args.plant.now.room c.loop-part.plant.room c.goes_back.new.plant.room c.loop-part.invariant.room c.goes_back.ensures.room
 
 pub returns-then-not-branch-clause-went : goal.returns-then-not-branch-clause-went
 returns-then-not-branch-clause-went g c = stops (gone_back_along (plain_parts (parts_of c.args.parts.now.items)) (reverse c.args.performed.now) c.args.plant.now.state) c.deref-part-items.result.now c.loop-part.part-index c.args.plant.now c.args.log.now c.loop-part.plant c.loop-part.log
@@ -46,10 +45,10 @@ pub returns-then-not-branch-clause-back : goal.returns-then-not-branch-clause-ba
 returns-then-not-branch-clause-back g c = λ s leads. c.goes_back.ensures.back s (c.loop-part.invariant.back s leads)
 
 pub returns-then-not-branch-clause-room : goal.returns-then-not-branch-clause-room
-returns-then-not-branch-clause-room g c = rooms_on c.args.plant.now.room c.loop-part.plant.room c.goes_back.new.plant.room c.loop-part.invariant.room c.goes_back.ensures.room
+returns-then-not-branch-clause-room g c = c.what_happens_between.ensures.places c.args.plant.now.room c.loop-part.plant.room c.goes_back.new.plant.room c.loop-part.invariant.room c.goes_back.ensures.room
 
 pub loop-part-preserved : goal.loop-part-preserved
-loop-part-preserved g c = goes_on (gone_back_along (plain_parts (parts_of c.args.parts.now.items)) (reverse c.args.performed.now) c.args.plant.now.state) c.deref-part-items.result.now c.loop-part.part-index c.args.plant.now c.args.log.now c.loop-part.plant c.loop-part.log
+loop-part-preserved g c = goes_on (gone_back_along (plain_parts (parts_of c.args.parts.now.items)) (reverse c.args.performed.now) c.args.plant.now.state) c.deref-part-items.result.now c.loop-part.part-index c.args.plant.now c.args.log.now c.loop-part.plant c.loop-part.log c.what_happens_between.ensures.places
     c.part-item.result c.loop-part-test.true c.part-item.is c.loop-part.left.now c.in-Some.rest.now c.in-Some.was.now c.in-Some.ensures.cases.0 c.loop-part.invariant
     c.goes_back.new.plant c.goes_back.new.log
     (an_edit (tree_of c.part-item.result) c.in-Some-edit_of.edit.now c.in-Some.was.now c.loop-part.plant.state (Some c.goes_back.new.plant.state) c.in-Some-edit_of.ensures

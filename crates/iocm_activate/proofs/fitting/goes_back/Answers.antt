@@ -21,7 +21,7 @@ returns-in-Ok-clause-went g c = subst (λ (d : Edit). gone_back d c.args.was.now
     c.is_turned-went.result c.in-Ok.ensures.accepted c.in-Ok.ensures.state c.in-Ok.ensures.numbers c.in-Ok.ensures.subchannels c.is_turned-went.ensures)
 
 pub returns-in-Ok-clause-back : goal.returns-in-Ok-clause-back
-returns-in-Ok-clause-back g c = leads_after c.args.plant.now c.force.new.self c.in_ok-copy.copy.edit c.in-Ok.applied c.args.log.now.done.items c.note.new.self.done.items
+returns-in-Ok-clause-back g c = leads_after c.what_happens_between.ensures.still c.args.plant.now c.force.new.self c.in_ok-copy.copy.edit c.in-Ok.applied c.args.log.now.done.items c.note.new.self.done.items
     c.is_sound.ensures (carries_free c.in_ok-copy.copy.edit c.args.plant.now.state c.in-Ok.ensures.accepted) c.in-Ok.ensures.state c.force.ensures.room c.in-Ok.ensures.inverse c.in-Ok.ensures.back
     (c.note.ensures.done ∙ ap (λ ds. ds ++ c.in-Ok.applied ∷ []) c.room.ensures.done)
 
@@ -31,7 +31,7 @@ returns-in-Ok-clause-kept g c = kept_before c.args.log.now c.note.new.self c.arg
     (c.note.ensures.keys ∙ ap (λ ks. ks ++ c.key-key.result ∷ []) c.room.ensures.keys) c.key-key.ensures (c.note.ensures.kept ∙ c.room.ensures.kept)
 
 pub returns-in_err-unless_memory_wanted-in-Err-clause-back : goal.returns-in_err-unless_memory_wanted-in-Err-clause-back
-returns-in_err-unless_memory_wanted-in-Err-clause-back g c = leads_same c.args.plant.now c.force.new.self c.args.log.now.done.items c.room.new.self.done.items
+returns-in_err-unless_memory_wanted-in-Err-clause-back g c = leads_same c.what_happens_between.ensures.still c.args.plant.now c.force.new.self c.args.log.now.done.items c.room.new.self.done.items
     c.is_sound.ensures.lived c.in-Err.ensures.same c.force.ensures.room c.room.ensures.done
 
 pub returns-in_err-unless_memory_wanted-in-Err-clause-kept : goal.returns-in_err-unless_memory_wanted-in-Err-clause-kept
@@ -46,7 +46,7 @@ returns-in_ok-unless_memory_wanted-in-Err-clause-went g c =
     ∙ refused copy c.args.was.now s s c.in-Err.why (c.in_ok-unless_memory_wanted-in-Err.ensures (refusal_when Whatever copy s) c.in-Err.ensures.refused)
 
 pub returns-in_ok-unless_memory_wanted-in-Err-clause-back : goal.returns-in_ok-unless_memory_wanted-in-Err-clause-back
-returns-in_ok-unless_memory_wanted-in-Err-clause-back g c = leads_same c.args.plant.now c.force.new.self c.args.log.now.done.items c.room.new.self.done.items
+returns-in_ok-unless_memory_wanted-in-Err-clause-back g c = leads_same c.what_happens_between.ensures.still c.args.plant.now c.force.new.self c.args.log.now.done.items c.room.new.self.done.items
     c.is_sound.ensures.lived c.in-Err.ensures.same c.force.ensures.room c.room.ensures.done
 
 pub returns-in_ok-unless_memory_wanted-in-Err-clause-kept : goal.returns-in_ok-unless_memory_wanted-in-Err-clause-kept

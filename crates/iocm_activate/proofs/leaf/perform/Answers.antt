@@ -4,7 +4,6 @@ use Rattle.iocm_model.specs.Change.Meaning.{unless_refused}
 use Rattle.iocm_model.specs.Change.Refusal.{refusal_of}
 use Rattle.iocm_model.proofs.Change.RunsGoBack.{accepted_carry}
 use Rattle.iocm_tree.specs.Carried.{Carried}
-use Rattle.iocm_plant.proofs.Between.{same_is_kept}
 use Rattle.iocm_activate.specs.Walked.{Answers}
 use Rattle.iocm_activate.proofs.Kept.{kept_still, kept_before}
 use Rattle.iocm_activate.proofs.Leaves.{on_err, leaf_done, leaf_refused}
@@ -13,14 +12,14 @@ use Rattle.iocm_activate.proofs.leaf.perform.Goals as goal
 
 pub returns-in_err-room-clause-ran : goal.returns-in_err-room-clause-ran
 returns-in_err-room-clause-ran g c = on_err c.from_residual.result
-    (ran_nothing c.args.plant.now c.args.log.now c.args.plant.now c.room.new.self refl (same_is_kept c.args.plant.now.room c.args.plant.now.room refl) c.room.ensures.done c.room.ensures.keys)
+    (ran_nothing c.args.plant.now c.args.log.now c.args.plant.now c.room.new.self refl (c.what_happens_between.ensures.same_places c.args.plant.now.room c.args.plant.now.room refl) c.room.ensures.done c.room.ensures.keys)
 
 pub returns-in_err-room-clause-kept : goal.returns-in_err-room-clause-kept
 returns-in_err-room-clause-kept g c = kept_still c.args.log.now c.room.new.self c.args.plant.now.state c.args.plant.now.state c.requires.kept c.room.ensures.keys c.room.ensures.kept refl
 
 pub returns-in_err-copy-clause-ran : goal.returns-in_err-copy-clause-ran
 returns-in_err-copy-clause-ran g c = on_err c.from_residual-in_err-copy.result
-    (ran_nothing c.args.plant.now c.args.log.now c.args.plant.now c.room.new.self refl (same_is_kept c.args.plant.now.room c.args.plant.now.room refl) c.room.ensures.done c.room.ensures.keys)
+    (ran_nothing c.args.plant.now c.args.log.now c.args.plant.now c.room.new.self refl (c.what_happens_between.ensures.same_places c.args.plant.now.room c.args.plant.now.room refl) c.room.ensures.done c.room.ensures.keys)
 
 pub returns-in_err-copy-clause-kept : goal.returns-in_err-copy-clause-kept
 returns-in_err-copy-clause-kept g c = kept_still c.args.log.now c.room.new.self c.args.plant.now.state c.args.plant.now.state c.requires.kept c.room.ensures.keys c.room.ensures.kept refl

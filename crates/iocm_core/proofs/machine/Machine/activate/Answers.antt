@@ -1,11 +1,11 @@
 -- An activation is accepted or refused as its tree means.
-use Rattle.std.proofs.Common.{◌∙◌}
+use Rattle.std.proofs.Common.{◌∙◌, sym}
 use Rattle.iocm_history.specs.Entry as history
 use Rattle.iocm_types.specs.declared.refused.At.TheVariants.{Nothing}
 use Rattle.iocm_model.specs.Change.Refusal.{refusal_at}
 use Rattle.iocm_types.specs.declared.rule.Rule.TheVariants.{O1}
 use Rattle.iocm_tree.specs.Trees.{plain_tree, tree_of}
-use Rattle.iocm_core.proofs.Changes.{activation_answered, activation_refused}
+use Rattle.iocm_core.proofs.Changes.{activation_answered, activation_refused, activation_over_a_limit}
 use Rattle.iocm_core.proofs.Kept.{none_if, staged_if, kept_idle, refuses}
 use Rattle.iocm_core.proofs.Rightness.{activate_o1}
 use Rattle.iocm_core.proofs.machine.Machine.activate.Goals as goal
@@ -13,7 +13,12 @@ use Rattle.iocm_core.proofs.machine.Machine.activate.Goals as goal
 pub returns-then-is_some-clause-answers : goal.returns-then-is_some-clause-answers
 returns-then-is_some-clause-answers c = λ opening h it. let g = staged_if opening h c.args.self.now it c.if-is_some.ensures in
     let t = plain_tree (tree_of c.args.tree.now) in
-    refuses opening h c.args.self.now (history.activate t) (refusal_at O1 Nothing) it (activate_o1 opening h g.0 t g.1)
+    refuses c.journals_keep_to_histories.ensures.others opening h c.args.self.now (history.activate t) (refusal_at O1 Nothing) it (activate_o1 opening h g.0 t g.1)
+
+pub returns-in-Some-clause-answers : goal.returns-in-Some-clause-answers
+returns-in-Some-clause-answers c = λ opening h it. let t = plain_tree (tree_of c.args.tree.now) in
+    refuses c.journals_keep_to_histories.ensures.others opening h c.args.self.now (history.activate t) c.in-Some.why it
+    (activation_over_a_limit opening h c.args.self.now t c.in-Some.why it (none_if c.args.self.now.stage c.if-is_some.ensures) c.in-Some.ensures.meaning)
 
 pub returns-in-Ok-clause-answers : goal.returns-in-Ok-clause-answers
 returns-in-Ok-clause-answers c = λ opening h it. activation_answered opening h c.args.self.now c.try_to_activate.new.self (plain_tree (tree_of c.args.tree.now)) c.in-Ok.number it
@@ -22,6 +27,6 @@ returns-in-Ok-clause-answers c = λ opening h it. activation_answered opening h 
 pub returns-in-Err-clause-answers : goal.returns-in-Err-clause-answers
 returns-in-Err-clause-answers c = λ opening h it. let none = none_if c.args.self.now.stage c.if-is_some.ensures in
     let t = plain_tree (tree_of c.args.tree.now) in
-    refuses opening h c.try_to_activate.new.self (history.activate t) c.in-Err.why
-    (kept_idle opening h c.args.self.now c.try_to_activate.new.self it none (c.in-Err.ensures.stage ∙ none) c.in-Err.ensures.same c.in-Err.ensures.rest)
-    (activation_refused opening h c.args.self.now t c.in-Err.why it none c.in-Err.ensures.refused)
+    refuses c.journals_keep_to_histories.ensures.others opening h c.try_to_activate.new.self (history.activate t) c.in-Err.why
+    (kept_idle c.journals_keep_to_histories.ensures.same opening h c.args.self.now c.try_to_activate.new.self it none (c.in-Err.ensures.stage ∙ none) c.in-Err.ensures.same c.in-Err.ensures.rest)
+    (activation_refused opening h c.args.self.now t c.in-Err.why it none (sym c.in_default.ensures.value) c.in-Err.ensures.refused)

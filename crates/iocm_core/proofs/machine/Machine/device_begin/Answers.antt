@@ -2,15 +2,14 @@
 use Rattle.std.proofs.Common.{refl, sym, ap}
 use Rattle.iocm_types.specs.declared.answer.Answer.TheVariants as answers
 use Rattle.iocm_model.specs.Operation.Step.{device_begin}
-use Rattle.iocm_plant.proofs.Between.{same_is_kept}
 use Rattle.iocm_core.proofs.Stepping.{held_answered, step_answered}
 use Rattle.iocm_core.proofs.machine.Machine.device_begin.Goals as goal
 
 pub returns-then-holds-clause-answers : goal.returns-then-holds-clause-answers
-returns-then-holds-clause-answers c = λ opening h it. held_answered opening h c.args.self.now c.args.subchannel.now device_begin it (sym (c.if-holds.ensures opening h it))
+returns-then-holds-clause-answers c = λ opening h it. held_answered c.journals_keep_to_histories.ensures.others opening h c.args.self.now c.args.subchannel.now device_begin it (sym (c.if-holds.ensures opening h it))
 
 pub returns-clause-answers : goal.returns-clause-answers
-returns-clause-answers c = λ opening h it. step_answered c.steps_elsewhere_pass_a_stage.ensures opening h c.args.self.now
-    (record { plant = c.begun.new.self; journal = c.args.self.now.journal; stage = c.args.self.now.stage; changes = c.args.self.now.changes }) c.args.subchannel.now device_begin it (sym (c.if-holds.ensures opening h it))
-    c.begun.ensures.state (same_is_kept c.args.self.now.plant.room c.begun.new.self.room c.begun.ensures.room) refl refl refl
-    (answers.Begun c.begun.result) (ap answers.Begun c.begun.ensures.answer)
+returns-clause-answers c = λ opening h it. step_answered c.steps_elsewhere_pass_a_stage.ensures c.journals_keep_to_histories.ensures.others opening h c.args.self.now
+    (record { plant = c.device_begin.new.self; journal = c.args.self.now.journal; stage = c.args.self.now.stage; changes = c.args.self.now.changes }) c.args.subchannel.now device_begin it (sym (c.if-holds.ensures opening h it))
+    c.device_begin.ensures.state c.device_begin.ensures.kept refl refl refl
+    (answers.Begun c.device_begin.result) (ap answers.Begun c.device_begin.ensures.answer)

@@ -2,15 +2,14 @@
 use Rattle.std.proofs.Common.{refl, sym, ap}
 use Rattle.iocm_types.specs.declared.answer.Answer.TheVariants as answers
 use Rattle.iocm_model.specs.Operation.Step.{device_end}
-use Rattle.iocm_plant.proofs.Between.{same_is_kept}
 use Rattle.iocm_core.proofs.Stepping.{held_answered, step_answered}
 use Rattle.iocm_core.proofs.machine.Machine.device_end.Goals as goal
 
 pub returns-then-holds-clause-answers : goal.returns-then-holds-clause-answers
-returns-then-holds-clause-answers c = λ opening h it. held_answered opening h c.args.self.now c.args.subchannel.now device_end it (sym (c.if-holds.ensures opening h it))
+returns-then-holds-clause-answers c = λ opening h it. held_answered c.journals_keep_to_histories.ensures.others opening h c.args.self.now c.args.subchannel.now device_end it (sym (c.if-holds.ensures opening h it))
 
 pub returns-clause-answers : goal.returns-clause-answers
-returns-clause-answers c = λ opening h it. step_answered c.steps_elsewhere_pass_a_stage.ensures opening h c.args.self.now
-    (record { plant = c.end.new.self; journal = c.args.self.now.journal; stage = c.args.self.now.stage; changes = c.args.self.now.changes }) c.args.subchannel.now device_end it (sym (c.if-holds.ensures opening h it))
-    c.end.ensures.state (same_is_kept c.args.self.now.plant.room c.end.new.self.room c.end.ensures.room) refl refl refl
-    (answers.Ended c.end.result) (ap answers.Ended c.end.ensures.answer)
+returns-clause-answers c = λ opening h it. step_answered c.steps_elsewhere_pass_a_stage.ensures c.journals_keep_to_histories.ensures.others opening h c.args.self.now
+    (record { plant = c.device_end.new.self; journal = c.args.self.now.journal; stage = c.args.self.now.stage; changes = c.args.self.now.changes }) c.args.subchannel.now device_end it (sym (c.if-holds.ensures opening h it))
+    c.device_end.ensures.state c.device_end.ensures.kept refl refl refl
+    (answers.Ended c.device_end.result) (ap answers.Ended c.device_end.ensures.answer)

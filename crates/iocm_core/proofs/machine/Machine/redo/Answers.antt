@@ -15,7 +15,7 @@ use Rattle.iocm_core.proofs.machine.Machine.redo.Goals as goal
 
 pub returns-then-is_some-clause-answers : goal.returns-then-is_some-clause-answers
 returns-then-is_some-clause-answers c = λ opening h it. let g = staged_if opening h c.args.self.now it c.if-is_some.ensures in
-    refuses opening h c.args.self.now (history.redo c.args.number) (refusal_at O1 Nothing) it (redo_o1 opening h g.0 c.args.number g.1)
+    refuses c.journals_keep_to_histories.ensures.others opening h c.args.self.now (history.redo c.args.number) (refusal_at O1 Nothing) it (redo_o1 opening h g.0 c.args.number g.1)
 
 pub redo-requires : goal.redo-requires
 redo-requires c = subst (λ (fs : List Effect). BelongTogether c.args.self.now.journal fs c.args.self.now.plant) (sym c.as_slice.ensures.value)

@@ -11,9 +11,9 @@ use Rattle.iocm_core.proofs.machine.Machine.show.Goals as goal
 
 pub returns-then-is_some-clause-answers : goal.returns-then-is_some-clause-answers
 returns-then-is_some-clause-answers c = λ opening h it. let g = staged_if opening h c.args.self.now it c.if-is_some.ensures in
-    refuses opening h c.args.self.now history.show (refusal_at O1 Nothing) it (show_o1 opening h g.0 g.1)
+    refuses c.journals_keep_to_histories.ensures.others opening h c.args.self.now history.show (refusal_at O1 Nothing) it (show_o1 opening h g.0 g.1)
 
 pub returns-clause-answers : goal.returns-clause-answers
-returns-clause-answers c = λ opening h it. shown_answered opening h c.args.self.now
+returns-clause-answers c = λ opening h it. shown_answered c.journals_keep_to_histories.ensures.others opening h c.args.self.now
     (record { records = c.len.result; subchannels = c.subchannels.result; standing = c.args.self.now.journal.standing; undone = c.undone.result }) it
     (none_if c.args.self.now.stage c.if-is_some.ensures) (c.len.ensures ∙ ap len c.config.ensures) c.subchannels.ensures refl c.undone.ensures

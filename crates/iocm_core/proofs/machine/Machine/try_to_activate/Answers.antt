@@ -12,13 +12,13 @@ activate-requires c = record { kept = subst (λ (p : Operating). KeepsTheRules p
 
 pub accept-requires-clause-few : goal.accept-requires-clause-few
 accept-requires-clause-few c =
-    let few = few_in c.requires.running.opening c.requires.running.history c.args.self.now c.requires.running.is in
+    let few = few_in c.journals_keep_to_histories.ensures.few c.args.self.now c.requires.running in
     let standing = c.make_room.ensures.rest.journal.standing in
     let long = ap length c.make_room.ensures.rest.journal.changes in
     omega (arith, few, standing, long)
 
 pub returns-in-Ok-clause-done : goal.returns-in-Ok-clause-done
 returns-in-Ok-clause-done c = activated_by (plain_tree (tree_of c.args.tree.now)) c.args.self.now c.make_room.new.self c.accept.new.self c.make_room.ensures.plant c.make_room.ensures.rest
-    c.activate.new.plant c.in-Ok.done (record { plant = c.activate.new.plant; journal = c.make_room.new.self.journal; stage = c.make_room.new.self.stage; changes = c.make_room.new.self.changes })
+    c.journals_keep_to_histories.ensures.same c.activate.new.plant c.in-Ok.done (record { plant = c.activate.new.plant; journal = c.make_room.new.self.journal; stage = c.make_room.new.self.stage; changes = c.make_room.new.self.changes })
     c.accept.result c.in-Ok.ensures.means c.in-Ok.ensures.inverse c.in-Ok.ensures.effect c.in-Ok.ensures.performed
     c.accept.ensures.accepted refl refl c.accept.ensures.number c.accept.ensures.plant (c.accept.ensures.stage ∙ c.make_room.ensures.stage ∙ c.requires.idle)

@@ -1,6 +1,7 @@
 -- An undo makes the entry that is right, and leaves what it gives.
 use Rattle.std.proofs.Common.{◌+◌, Err, sym, subst}
 use Rattle.iocm_model.specs.Laws.Trees.{KeepsTheRules}
+use Rattle.iocm_plant.specs.Refusing.{no_memory}
 use Rattle.iocm_journal.specs.Answering.{IsNext, undo_made}
 use Rattle.iocm_journal.specs.Deciding.{IsUndoDecided}
 use Rattle.iocm_journal.proofs.Few.{some_stand}
@@ -39,4 +40,7 @@ returns-in-Ok-Some-clause-next c = λ opening h now. subst (λ n. IsNext opening
     (subst (IsUndoDecided opening h (c.in-Some.place + 1)) c.in-Ok-Some.field-0-is (c.in-Ok-Some.ensures.decided opening h now)) c.in-Ok-Some.ensures.same)
 
 pub returns-in-Err-clause-next : goal.returns-in-Err-clause-next
-returns-in-Err-clause-next c = λ opening h now. undo_lacks opening h c.args.self.now c.args.changes.now c.args.plant.now c.undo_obstacle.new.plant c.args.number now c.undo_obstacle.ensures.same
+returns-in-Err-clause-next c = λ opening h now. subst (λ n. IsNext opening h (undo_made n (Err no_memory)) c.args.self.now c.args.changes.now c.undo_obstacle.new.plant)
+    (sym c.in-Some.ensures.0)
+    (undo_lacks opening h c.args.self.now c.args.changes.now c.args.plant.now c.undo_obstacle.new.plant c.in-Some.place now c.in-Some.ensures.1
+    c.undo_obstacle.ensures.same)

@@ -8,6 +8,7 @@ use Rattle.iocm_model.specs.Operation.Step as step
 use Rattle.iocm_model.specs.Operation.Step.{order_answer, subchannel_in, after_step}
 use Rattle.iocm_seats.specs.declared.seat.Seat.{Seat}
 use Rattle.iocm_plant.specs.Operating.{Operating}
+use Rattle.iocm_plant.proofs.Between.{same_places_are_kept}
 use Rattle.iocm_plant.proofs.Stepping.{changed_seat, none_there, one_there, same_operating, same_state, same_room, operating_after, state_after_step}
 use Rattle.iocm_plant.proofs.plant.Plant.step.Goals as goal
 
@@ -56,3 +57,9 @@ returns-clause-room c =
     same_room c.self.inside.config c.self.inside.numbers c.self.inside.index c.self.inside.seats (c.get_mut.follows.lender seat)
     (changed_seat c.get_mut.result c.in-Some.seat c.in-Some.is c.self.inside.seats c.args.subchannel (c.get_mut.follows.lender seat) seat (c.get_mut.follows.holds seat)).places
     ∙ ap (λ (p : Operating). p.room) c.self.view_is
+
+pub returns-in_default-clause-kept : goal.returns-in_default-clause-kept
+returns-in_default-clause-kept c = same_places_are_kept _ _ (returns-in_default-clause-room c)
+
+pub returns-clause-kept : goal.returns-clause-kept
+returns-clause-kept c = same_places_are_kept _ _ (returns-clause-room c)
