@@ -56,8 +56,8 @@ impl Core {
     }
 
     /// Its history is legal, from an opening state in use: each answer is the one that the
-    /// definition of histories gives, or want of memory, for an activation, a Begin, an undo or a
-    /// redo. It reads nothing, and is there for callers' proofs.
+    /// definition of histories gives, or M1 where nothing is staged and memory may be wanted. It
+    /// reads nothing, and is there for callers' proofs.
     pub fn is_legal(&self)
         ensures used { IsInUse self.now.opening }
         ensures legal { IsLegal self.now.opening self.now.history }

@@ -30,8 +30,8 @@ impl Journal {
     ///
     /// J1: no such change is undone. J3: another one of those that are undone now was undone last,
     /// or the change was undone before a new one was accepted. B1, with the least: a subchannel
-    /// that it altered is busy or status pending. M1, which may stand in place of any other: memory
-    /// was wanted. A refused redo leaves journal and state as they were.
+    /// that it altered is busy or status pending. M1, only where it would be redone: memory is
+    /// missing. A refused redo leaves journal and state as they were.
     pub fn redo(
         &mut self,
         alloc: Global,

@@ -34,8 +34,8 @@ impl Journal {
     /// was opened.
     ///
     /// J1: no such change stands. J2, with the greatest: a change stands on it. B1, with the least:
-    /// a subchannel that it altered is busy or status pending. M1, which may stand in place of any
-    /// other: memory was wanted. A refused undo leaves journal and state as they were.
+    /// a subchannel that it altered is busy or status pending. M1, which may come in place of J2,
+    /// B1 and the undo: memory is missing. A refused undo leaves journal and state as they were.
     pub fn undo(
         &mut self,
         alloc: Global,
