@@ -14,15 +14,16 @@ use Rattle.iocm_types.specs.declared.answer.Answer.{Answer}
 use Rattle.iocm_types.specs.declared.answer.Answer.TheVariants.{Held, Undone, Redone, Staged}
 use Rattle.iocm_model.specs.Machine.Configuration.{IsKeyed, with_keys, configuration_of}
 use Rattle.iocm_model.proofs.Change.Steps.{opening_is_sound}
-use Rattle.iocm_history.specs.Entry.{Call, begin, commit, undo, redo, History, plain_entry, Entry, activate}
+use Rattle.iocm_history.specs.Entry.{Call, begin, commit, abort, undo, redo, History, plain_entry, Entry, activate}
 use Rattle.iocm_history.specs.InUse.{IsInUse}
 use Rattle.iocm_history.specs.Legal.{unless_staged, IsLegal, begun, commit_entry, activated}
 use Rattle.iocm_history.specs.RedoLaws.{redo_entry, undoes_or_redoes, IsRedone}
 use Rattle.iocm_history.specs.Run.{answers_of}
 use Rattle.iocm_history.specs.Stage.{Stage}
-use Rattle.iocm_history.specs.StageLaws.{begin_entry, ends_a_stage, is_done}
+use Rattle.iocm_history.specs.StageLaws.{begin_entry, abort_entry, ends_a_stage, is_done, IsStagedUntil}
 use Rattle.iocm_history.specs.UndoLaws.{undo_entry}
 use Rattle.iocm_history.proofs.LegalRuns.{runs_are_legal}
+use Rattle.iocm_history.proofs.Stages.{abort_leaves_the_other_steps}
 use Rattle.iocm_examples.specs.BaseDeck.{base, device_key, subchannel}
 use Rattle.iocm_examples.specs.Edits.{base_opened, deleted, add_0fff}
 use Rattle.iocm_examples.specs.Histories.{Answers, calls_of, history_of, steps_elsewhere, a_path_undone, undone_in_turn, change_by, number_of}
@@ -33,7 +34,7 @@ use Rattle.iocm_examples.proofs.Computed.Rules.{base_keeps_the_rules}
 use Rattle.iocm_examples.proofs.Computed.Histories.{steps_elsewhere_is, a_path_undone_is, undone_in_turn_is}
 use Rattle.iocm_examples.proofs.Computed.SelectiveUndo.{cells_apart_is}
 use Rattle.iocm_examples.proofs.Listed.Trees.{one}
-use Rattle.iocm_examples.proofs.Listed.Histories.{ListedCall, beginning, committing, undoes}
+use Rattle.iocm_examples.proofs.Listed.Histories.{ListedCall, beginning, committing, aborting, undoes}
 use Rattle.iocm_examples.proofs.Computed.Edits.{plain_delete}
 use Rattle.iocm_examples.proofs.Computed.Runs.{ordered, enabled, made_by, answers_are}
 use Rattle.iocm_runs.proofs.StagedRun.{staged_runs_are_runs}
@@ -45,7 +46,7 @@ use Rattle.iocm_runs.specs.UndoneRun.{IsUndoneAlone}
 use Rattle.iocm_runs.specs.StagedRun.{IsUndoneInStages}
 use Rattle.iocm_runs.specs.RedoneRun.{IsRedoneAlone}
 use Rattle.iocm_runs.specs.LaterChanges.{goes_back_or_forth, is_for_a_change, one_less, with_one_less, run_with_the_later}
-use Rattle.iocm_run_examples.specs.Premises.{first, latest_of_first, entry_after, deletion, a_deletion_in_stages, ADeletionUndone, APathRedone, ADeletionRedone, ADeletionInStages, UnderALaterChange, NoRunWithoutTheFirst}
+use Rattle.iocm_run_examples.specs.Premises.{first, latest_of_first, entry_after, deletion, a_deletion_in_stages, a_deletion_given_up, ADeletionUndone, APathRedone, ADeletionRedone, ADeletionInStages, ADeletionGivenUp, UnderALaterChange, NoRunWithoutTheFirst}
 
 -- ---- the example deck is in use
 
@@ -192,6 +193,40 @@ a_deletion_in_stages_is =
       met = met;
       run = staged_runs_are_runs base_opened [] (latest_of_first 2 3 a_deletion_in_stages) (latest_of_first 2 6 a_deletion_in_stages) the_deletion 1 1
           (entry_after 3 a_deletion_in_stages commit) met;
+    }
+
+abbrev given_up_calls : List ListedCall
+given_up_calls =
+    beginning (one (plain_delete (device_key 0x1003))) (plain_delete (device_key 0x1003) ∷ [])
+    ∷ ordered (subchannel 1 3) Start
+    ∷ enabled (subchannel 1 2) 0x80 7
+    ∷ aborting
+    ∷ ordered (subchannel 1 3) Store
+    ∷ []
+
+given_up_answers : Answers a_deletion_given_up
+unfolding made_by
+given_up_answers = answers_are given_up_calls (refl, tt)
+
+begun_and_given_up : entry_after 0 a_deletion_given_up (begin the_deletion) ≡ begin_entry the_deletion 1
+begun_and_given_up = begin_by the_deletion 1 _ _ (ap (answer_at 0) given_up_answers)
+
+given_up : entry_after 3 a_deletion_given_up abort ≡ abort_entry
+given_up = ap (plain_entry abort) (ap (answer_at 3) given_up_answers)
+
+pub a_deletion_given_up_is : ADeletionGivenUp
+a_deletion_given_up_is =
+    let between : History = latest_of_first 2 3 a_deletion_given_up in
+    let met : IsStagedUntil base_opened [] the_deletion 1 (latest_of_first 2 3 a_deletion_given_up) abort_entry = record {
+      used = base_in_use;
+      legal = subst (λ b. IsLegal base_opened (abort_entry ∷ between ++ b ∷ [])) begun_and_given_up
+          (subst (λ e. IsLegal base_opened (e ∷ first 3 a_deletion_given_up)) given_up
+          (runs_are_legal base_opened (calls_of (take 4 a_deletion_given_up))));
+      unended = λ i. ends_a_stage (ap (answer_at 2) given_up_answers i) || (ends_a_stage (ap (answer_at 1) given_up_answers i) || false);
+    } in record {
+      answers = given_up_answers;
+      met = met;
+      run = abort_leaves_the_other_steps base_opened [] (latest_of_first 2 3 a_deletion_given_up) the_deletion 1 met;
     }
 
 -- ---- where the run without a change isn't legal

@@ -2,10 +2,11 @@
 use Rattle.std.specs.Prelude.{ℕ, take, true, false, [], ◌∷◌}
 use Rattle.iocm_model.specs.Change.Tree.{leaf}
 use Rattle.iocm_types.specs.declared.order.Order.TheVariants.{Start, Store}
-use Rattle.iocm_types.specs.declared.answer.Answer.TheVariants.{Held, Changed, Staged, Undone}
-use Rattle.iocm_history.specs.Entry.{Call, begin, commit, undo, Entry, History}
+use Rattle.iocm_types.specs.declared.answer.Answer.TheVariants.{Held, Changed, Staged, Aborted, Undone}
+use Rattle.iocm_history.specs.Entry.{Call, begin, commit, abort, undo, Entry, History}
 use Rattle.iocm_history.specs.Legal.{entry_of, IsLegal}
 use Rattle.iocm_history.specs.RedoLaws.{IsRedone}
+use Rattle.iocm_history.specs.StageLaws.{abort_entry, IsStagedUntil, LeavesTheSteps}
 use Rattle.iocm_examples.specs.BaseDeck.{device_key, subchannel}
 use Rattle.iocm_examples.specs.Edits.{base_opened, deleted, add_0fff}
 use Rattle.iocm_examples.specs.Histories.{Script, Answers, history_of, change_by, orders, enables, code}
@@ -69,6 +70,23 @@ pub record ADeletionInStages : Type 0 where
   pub run : IsRunWithoutStages base_opened (first 0 a_deletion_in_stages)
       (latest_of_first 2 3 a_deletion_in_stages) (latest_of_first 2 6 a_deletion_in_stages)
       (leaf (deleted (device_key 0x1003))) 1 1 (entry_after 3 a_deletion_in_stages commit)
+
+-- the same deletion is given up by an Abort
+abbrev pub a_deletion_given_up : Script
+a_deletion_given_up =
+    (begin (leaf (deleted (device_key 0x1003))), Staged 1)
+    ∷ (orders (subchannel 1 3) Start, Held)
+    ∷ (enables (subchannel 1 2) 0x80 7, code 0)
+    ∷ (abort, Aborted)
+    ∷ (orders (subchannel 1 3) Store, stored 0x1003 0xC0 0xC0 false 0)
+    ∷ []
+
+pub record ADeletionGivenUp : Type 0 where
+  pub answers : Answers a_deletion_given_up
+  pub met : IsStagedUntil base_opened [] (leaf (deleted (device_key 0x1003))) 1
+      (latest_of_first 2 3 a_deletion_given_up) abort_entry
+  pub run : LeavesTheSteps base_opened [] (latest_of_first 2 3 a_deletion_given_up)
+      (leaf (deleted (device_key 0x1003))) 1
 
 -- the first of two devices is undone under the second
 abbrev pub UnderALaterChange : Type 0

@@ -6,6 +6,7 @@ ghost use Rattle.iocm_run_examples.specs.Premises.{
   APathRedone,
   ADeletionRedone,
   ADeletionInStages,
+  ADeletionGivenUp,
   UnderALaterChange,
   NoRunWithoutTheFirst,
 };
@@ -34,13 +35,14 @@ pub fn changes_fit_as_worked()
     ensures there { ThereToAdd }
 {}
 
-/// Runs that meet the premises of the laws of `iocm_runs`, computed. They are an undo and a redo
-/// with steps between, and a redo with another undo and redo between. Others are the undo of a
-/// change in stages, and an undo under a later change.
+/// Runs that meet the premises of the laws of `iocm_runs` and of changes in stages, computed. They
+/// are an undo and a redo with steps between, and a redo with another undo and redo between. Others
+/// are the undo of a change in stages, one that is given up, and an undo under a later change.
 pub fn premises_are_met()
     ensures undone { ADeletionUndone }
     ensures redone { APathRedone }
     ensures among { ADeletionRedone }
     ensures in_stages { ADeletionInStages }
+    ensures given_up { ADeletionGivenUp }
     ensures later { UnderALaterChange }
 {}

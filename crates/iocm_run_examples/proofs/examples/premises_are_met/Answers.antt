@@ -1,5 +1,5 @@
 -- Each run meets the premises of a law.
-use Rattle.iocm_run_examples.proofs.WhereMet.{a_deletion_undone, a_path_redone, a_deletion_redone, a_deletion_in_stages_is, under_a_later_change}
+use Rattle.iocm_run_examples.proofs.WhereMet.{a_deletion_undone, a_path_redone, a_deletion_redone, a_deletion_in_stages_is, a_deletion_given_up_is, under_a_later_change}
 use Rattle.iocm_run_examples.proofs.examples.premises_are_met.Goals as goal
 
 pub returns-clause-undone : goal.returns-clause-undone
@@ -13,6 +13,9 @@ returns-clause-among c = a_deletion_redone
 
 pub returns-clause-in_stages : goal.returns-clause-in_stages
 returns-clause-in_stages c = a_deletion_in_stages_is
+
+pub returns-clause-given_up : goal.returns-clause-given_up
+returns-clause-given_up c = a_deletion_given_up_is
 
 pub returns-clause-later : goal.returns-clause-later
 returns-clause-later c = under_a_later_change
