@@ -1,0 +1,61 @@
+"""Several edits tried by one check: each in functions of its own, which the prover proves one by one, from the contracts of the others."""
+import re
+
+from . import places
+
+ERROR = re.compile(r"^(?:note: )?(?:\./)?(\S+?):(\d+):\d+: (.*)")
+FORM = re.compile(r"has no field|is not in scope|has no `|was not admitted")
+GOAL = re.compile(r"\(`([\w.+-]+)`\)|^error: `([\w.+-]+)`")
+
+
+def sorted_out(edits, read_edit, read):
+    """The edits in batches, no two of a batch in one function, and those that are to be tried alone."""
+    batches, alone = [], []
+    for edit in edits:
+        found = places.places_of(read_edit(edit), read)
+        if not found:
+            alone.append(edit)
+            continue
+        keys = {it.key() for it in found}
+        batch = next((it for it in batches if not keys & it["keys"]), None)
+        if batch is None:
+            batch = {"keys": set(), "edits": {}}
+            batches.append(batch)
+        batch["keys"] |= keys
+        batch["edits"][edit] = found
+    return [it["edits"] for it in batches], alone
+
+
+def told_of(function, output):
+    """What a check says of a function: the lines of its errors and open goals, by their places."""
+    told = []
+    for line in output:
+        at = ERROR.match(line)
+        if not at or not at[3].startswith(("error", "it is not proved", "`search`")) and ": error" not in line:
+            continue
+        path, number = at[1], int(at[2]) - 1
+        if function.has_proof_at(path) or path == function.file and function.first <= number <= function.end:
+            told.append(at[3])
+    return told
+
+
+def verdict_on(functions, crate, output, proved):
+    """The verdict on an edit by what the check said of its functions; None where it said nothing of them."""
+    lines = [line for it in functions for line in told_of(it, output)]
+    if not lines or all(any(it.is_printed_as(name, crate) for name in proved) for it in functions):
+        return None
+    of_contract = [it for it in lines if not FORM.search(it)]
+    if not of_contract:
+        return f"refused by its proof's form alone: {lines[0][:160]}"
+    goals = [found[1] or found[2] for found in map(GOAL.search, of_contract) if found]
+    return f"refused at {', '.join(dict.fromkeys(goals))}" if goals else f"refused: {of_contract[0][:160]}"
+
+
+def verdicts(batch, crate, output):
+    """The verdicts on the edits of a batch, as far as a check's output gives them; None where nothing was proved at all."""
+    lines = output.split("\n")
+    if not any(it.startswith("logic=") for it in lines):
+        return None
+    proved = {it[len("fn ") : -len(": proved")] for it in lines if it.startswith("fn ") and it.endswith(": proved")}
+    found = {edit: verdict_on(functions, crate, lines, proved) for edit, functions in batch.items()}
+    return {edit: verdict for edit, verdict in found.items() if verdict}
