@@ -30,7 +30,7 @@ mod statement_card;
 mod words;
 mod written;
 
-pub use card::Card;
+pub use card::{Card, CardBytes};
 pub use device::Device;
 pub use joined::Joined;
 pub use laws::{decks_are_joined, statements_are_slices, written_statements_are_read_again};

@@ -5,8 +5,8 @@ ghost use Rattle.std.specs.Str.Lines.{lines, strip_carriage_return};
 ghost use Rattle.iocm_types.specs.Fault.{Gives};
 ghost use Rattle.iocm_columns.specs.Cards.{card_of, cards_of, is_printable};
 
-use crate::Card;
-use iocm_types::{Fault, Rule, Text};
+use crate::{Card, CardBytes};
+use iocm_types::{Fault, Rule};
 use std::alloc::Global;
 
 /// All lines of `text` as cards, or the fault of the first line that is refused.
@@ -19,7 +19,7 @@ pub(crate) fn cards(alloc: Global, text: &[u8]) -> Result<Vec<Card>, Fault>
     let mut above = 0;
     while let Some((line, more)) = next_line(rest) {
         above += 1;
-        cards.push(make_card(alloc, above, line)?)?;
+        cards.push(make_card(above, line)?)?;
         rest = more;
     }
     Ok(cards)
@@ -62,8 +62,8 @@ fn without_return(line: &[u8]) -> &[u8]
     }
 }
 
-fn make_card(alloc: Global, line: usize, bytes: &[u8]) -> Result<Card, Fault>
-    ensures { Gives (λ c. c) result (card_of line bytes.now) }
+fn make_card(line: usize, bytes: &[u8]) -> Result<Card, Fault>
+    ensures { result ≡ card_of line bytes.now }
 {
     if !are_printable(bytes) {
         return Err(Fault {
@@ -79,7 +79,7 @@ fn make_card(alloc: Global, line: usize, bytes: &[u8]) -> Result<Card, Fault>
     }
     Ok(Card {
         line,
-        bytes: Text::from_slice(alloc, bytes)?,
+        bytes: CardBytes::of(bytes),
     })
 }
 

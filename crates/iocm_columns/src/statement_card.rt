@@ -26,7 +26,7 @@ pub(crate) fn statement_cards(
 {
     let mut found = Vec::new(alloc);
     for card in cards {
-        let row = make_statement_card(alloc, card)?;
+        let row = make_statement_card(card);
         if !row.columns.is_skipped() {
             found.push(row)?;
         }
@@ -34,13 +34,13 @@ pub(crate) fn statement_cards(
     Ok(found)
 }
 
-fn make_statement_card(alloc: Global, card: &Card) -> Result<StatementCard, AllocError>
-    ensures { IfOk result (λ row. row ≡ statement_card card.now) }
+fn make_statement_card(card: &Card) -> StatementCard
+    ensures { result ≡ statement_card card.now }
 {
-    Ok(StatementCard {
+    StatementCard {
         line: card.line,
-        columns: Columns::of(alloc, card.bytes.as_slice())?,
-    })
+        columns: Columns::of(card.bytes.as_slice()),
+    }
 }
 
 /// The first fault between neighbours, if there is one.

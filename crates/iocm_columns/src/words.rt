@@ -1,4 +1,4 @@
-ghost use Rattle.std.specs.Prelude.{◌≡◌, ◌<◌, ◌≤◌, not, length, IfSome};
+ghost use Rattle.std.specs.Prelude.{◌≡◌, ◌<◌, ◌≤◌, ◌++◌, not, length, drop, IfSome};
 ghost use Rattle.std.specs.List.{list_all, position, position_or_len};
 ghost use Rattle.iocm_columns.specs.Columns.{is_blank, word_of, after_word, after_blanks};
 
@@ -59,4 +59,12 @@ fn nonblank_at(columns: &[u8]) -> Option<usize>
     ensures within { IfSome result (λ i. i < length columns.now) }
 {
     columns.iter().position(|byte| *byte != b' ')
+}
+
+/// Puts bytes at the front of some columns.
+pub(crate) fn put_front(columns: &mut [u8], bytes: &[u8])
+    requires { length bytes.now ≤ length columns.old }
+    ensures { columns.new ≡ bytes.now ++ drop (length bytes.now) columns.old }
+{
+    columns[..bytes.len()].copy_from_slice(bytes);
 }
