@@ -1,6 +1,7 @@
 -- The columns that belong to a part, column by column.
 use Rattle.std.proofs.Common.{◌≡◌, ℕ, ◌+◌, ◌<◌, Bool, true, false, List, [], ◌∷◌, ◌++◌, length, get_or, take, drop, refl, sym, ◌∙◌, ◌≤◌, arith}
 use Rattle.std.proofs.lemmas.List.{take_more, drop_more, append-nil, append_assoc, take_all}
+use Rattle.std.proofs.lemmas.List.Sums.{fold_more}
 use Rattle.std.proofs.Math.ListN.{drop_of_length-le}
 use Rattle.iocm_columns.specs.Part.{ends, front, switched}
 
@@ -25,4 +26,4 @@ unfolding front
 front_is_all inside xs i past =
     rw (drop_of_length-le xs past, append-nil (take i xs)) (take_all i xs past ∙ sym (take_all (length xs) xs (omega arith)))
 
-pub ruleset scanning = (front_ends, front_goes_on, front_is_all)
+pub ruleset scanning = (front_ends, front_goes_on, front_is_all, fold_more, take_all)

@@ -64,37 +64,43 @@ impl Part {
     fn add(&mut self, columns: &[u8]) -> Result<(), AllocError>
         ensures { OnOk result (self.new ≡ part_after self.old.text columns.now) }
     {
-        let (taken, rest) = columns.split_at(front_len(self.quoting, columns));
+        let Front { len, quoting } = find_front(self.quoting, columns);
+        let (taken, rest) = columns.split_at(len);
         self.text.extend_from_slice(taken)?;
-        self.quoting = quoting_after(self.quoting, taken);
+        self.quoting = quoting;
         self.going = going_after(self.text.as_slice(), self.quoting, rest.is_empty());
         Ok(())
     }
 }
 
-/// How many of the columns belong to the part.
+/// The columns that belong to a part: how many, and whether they end inside quotes.
+#[derive(Clone, Copy)]
+struct Front {
+    len: usize,
+    quoting: bool,
+}
+
+/// Which of the columns belong to the part.
 #[tactic(auto, using(crate::proofs::Scanning::scanning))]
-fn front_len(quoting: bool, columns: &[u8]) -> usize
-    ensures front { take result columns.now ≡ front quoting columns.now }
-    ensures within { result ≤ length columns.now }
+fn find_front(quoting: bool, columns: &[u8]) -> Front
+    ensures front { take result.len columns.now ≡ front quoting columns.now }
+    ensures within { result.len ≤ length columns.now }
+    ensures quoting { result.quoting ≡ fold switched quoting (take result.len columns.now) }
 {
     let mut inside = quoting;
     for (place, byte) in columns.iter().enumerate() {
         if ends_part(inside, *byte) {
-            return place;
+            return Front {
+                len: place,
+                quoting: inside,
+            };
         }
         inside = switch(inside, *byte);
     }
-    columns.len()
-}
-
-/// Whether a text that goes on with these columns ends inside quotes.
-fn quoting_after(quoting: bool, taken: &[u8]) -> bool
-    ensures { result ≡ fold switched quoting taken.now }
-{
-    taken
-        .iter()
-        .fold(quoting, |inside, byte| switch(inside, *byte))
+    Front {
+        len: columns.len(),
+        quoting: inside,
+    }
 }
 
 #[tactic(auto, unfolding(crate::specs::Part::switched))]
