@@ -70,3 +70,15 @@ pub twin_found : (items yielded : List Operand) (key : OperandKey) (text : List 
 twin_found items yielded key text front here found =
     subst (λ (es : List Operand). has_twins es ≡ true) (cut_at items yielded (key, text) front here)
     (becomes_twin yielded (drop (length yielded + 1) items) key text found)
+
+-- the first of some operands has a twin behind it
+pub first_has_twin : (es : List Operand) (e : Operand)
+    → list_any (λ (other : Operand). same_key other.0 e.0) es ≡ true → has_twins (e ∷ es) ≡ true
+first_has_twin es e found = rw found refl
+
+-- the first has none: the others may have
+pub first_has_none : (es : List Operand) (e : Operand)
+    → list_any (λ (other : Operand). same_key other.0 e.0) es ≡ false → has_twins (e ∷ es) ≡ has_twins es
+first_has_none es e none = rw none refl
+
+pub ruleset pairs = (first_has_twin, first_has_none)

@@ -13,6 +13,7 @@
 
 #![tactic(auto)]
 
+mod keying;
 mod laws;
 mod nesting;
 mod operand;

@@ -87,7 +87,7 @@ pub(crate) fn make_operands(
 ) -> Result<Vec<(OperandKey, Text)>, Fault>
     ensures { Gives (λ v. v.items) result (each (operand_of malformed) 0 (map (λ k. k.now) texts.now)) }
 {
-    let mut operands = Vec::new(alloc);
+    let mut operands = Vec::with_capacity(alloc, texts.len())?;
     for (place, text) in texts.iter().enumerate() {
         operands.push(make_operand(alloc, place, text, malformed)?)?;
     }

@@ -43,6 +43,13 @@ impl Model for Operands {
 }
 
 impl Operands {
+    /// The operands of a list.
+    pub(crate) fn from_list(list: Vec<(OperandKey, Text)>) -> Self
+        ensures { result ≡ list.items }
+    {
+        Operands { list }
+    }
+
     /// The operands of a map, in its order. A map has room for nine at the least, and a deck has a
     /// statement for each device, so the map is let go. Answers the want of memory alone.
     pub(crate) fn from_map(

@@ -1,27 +1,14 @@
 ghost use Rattle.std.specs.Prelude.{◌≡◌};
 ghost use Rattle.iocm_types.specs.Fault.{Gives};
-ghost use Rattle.iocm_statements.specs.Operands.{without_twins, operands_of};
+ghost use Rattle.iocm_statements.specs.Operands.{operands_of};
 ghost use Rattle.iocm_statements.specs.Statement.{statement_of, parsed};
 
+use crate::keying::keyed;
 use crate::operand::{make_operands, operand_texts};
-use crate::{OperandKey, Operands, Operation, Statement};
-use indexmap::IndexMap;
+use crate::{Operands, Operation, Statement};
 use iocm_columns::Joined;
-use iocm_types::{Fault, Rule, Text};
+use iocm_types::{Fault, Rule};
 use std::alloc::Global;
-
-/// The operands under their keys, unless two have the same key.
-fn keyed(alloc: Global, operands: Vec<(OperandKey, Text)>, twice: Fault) -> Result<Operands, Fault>
-    ensures { Gives (λ o. o) result (without_twins twice operands.items) }
-{
-    let mut map = IndexMap::new(alloc);
-    for (key, text) in operands {
-        if map.insert(key, text)?.is_some() {
-            return Err(twice);
-        }
-    }
-    Ok(Operands::from_map(alloc, map)?)
-}
 
 /// The operands of the operand part `text` of a statement at `line`.
 fn make_operand_map(alloc: Global, line: usize, text: &[u8]) -> Result<Operands, Fault>

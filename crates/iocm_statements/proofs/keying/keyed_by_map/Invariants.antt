@@ -1,7 +1,7 @@
 -- The map has the operands so far, and no two of them have the same key.
 use Rattle.std.proofs.Common.{◌≡◌, false}
 use Rattle.iocm_statements.specs.Operands.{has_twins}
-use Rattle.iocm_statements.proofs.parser.keyed.Given as goal
+use Rattle.iocm_statements.proofs.keying.keyed_by_map.Given as goal
 
 abbrev pub invariant-loop-key : goal.invariant-loop-key
 invariant-loop-key l = record {

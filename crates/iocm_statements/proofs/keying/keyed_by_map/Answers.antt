@@ -8,7 +8,7 @@ use Rattle.iocm_statements.specs.Operands.{Operand, has_twins}
 use Rattle.iocm_statements.specs.contracts.operands.OperandKeyPartialEq.TheImpl as derived
 use Rattle.iocm_types.proofs.Tests.{absent}
 use Rattle.iocm_statements.proofs.Twins.{stays_distinct, twin_found}
-use Rattle.iocm_statements.proofs.parser.keyed.Goals as goal
+use Rattle.iocm_statements.proofs.keying.keyed_by_map.Goals as goal
 
 pub returns-then-is_some : goal.returns-then-is_some
 returns-then-is_some c =
