@@ -20,3 +20,5 @@ pub mod WrittenStatements
 pub mod WrittenTexts
 pub mod WrittenWords
 pub mod Rereading
+pub mod FirstByte
+pub mod Printable

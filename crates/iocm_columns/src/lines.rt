@@ -1,12 +1,13 @@
-ghost use Rattle.std.specs.Prelude.{◌≡◌, ◌<◌, ◌≤◌, ◌==◌, false, ◌+◌, [], ◌∷◌, length};
+ghost use Rattle.std.specs.Prelude.{◌≡◌, ◌<◌, ◌≤◌, ◌==◌, ◌&&◌, false, true, ◌+◌, [], ◌∷◌, length};
 ghost use Rattle.std.specs.Prelude.{All, IfNone, IfSome, MatchOption, take, drop};
-ghost use Rattle.std.specs.List.{list_all, position};
+ghost use Rattle.std.specs.List.{fold, list_all, position};
 ghost use Rattle.std.specs.Str.Lines.{lines, strip_carriage_return};
 ghost use Rattle.iocm_types.specs.Fault.{Gives};
 ghost use Rattle.iocm_columns.specs.Cards.{card_of, cards_of, is_printable};
 
 use crate::{Card, CardBytes};
 use iocm_types::{Fault, Rule};
+use memchr::memchr;
 use std::alloc::Global;
 
 /// All lines of `text` as cards, or the fault of the first line that is refused.
@@ -45,11 +46,12 @@ fn next_line(text: &[u8]) -> Option<(&[u8], &[u8])>
     }
 }
 
+#[tactic(auto, using(crate::proofs::FirstByte::first_bytes))]
 fn line_feed(text: &[u8]) -> Option<usize>
     ensures found { result ≡ position (λ b. b == 10) text.now }
     ensures none { IfNone result (All (λ b. (b == 10) ≡ false) text.now) }
 {
-    text.iter().position(|byte| *byte == b'\n')
+    memchr(b'\n', text)
 }
 
 /// The line without the one carriage return at its end, if it has one.
@@ -83,8 +85,26 @@ fn make_card(line: usize, bytes: &[u8]) -> Result<Card, Fault>
     })
 }
 
+/// Whether all bytes are printable ASCII. No byte ends the loop, so that the processor takes many
+/// at once.
+#[tactic(auto, using(crate::proofs::Printable::all_in_turn))]
 fn are_printable(bytes: &[u8]) -> bool
     ensures { result ≡ list_all is_printable bytes.now }
 {
-    bytes.iter().all(|byte| 0x20 <= *byte && *byte <= 0x7e)
+    in_turn(bytes)
+}
+
+/// The same, byte by byte.
+fn in_turn(bytes: &[u8]) -> bool
+    ensures { result ≡ fold (λ so_far b. so_far && is_printable b) true bytes.now }
+{
+    bytes
+        .iter()
+        .fold(true, |so_far, byte| goes_on(so_far, *byte))
+}
+
+fn goes_on(so_far: bool, byte: u8) -> bool
+    ensures { result ≡ (so_far && is_printable byte) }
+{
+    so_far & (0x20 <= byte) & (byte <= 0x7e)
 }
