@@ -21,6 +21,10 @@ class Function:
         modules = os.path.splitext(self.file)[0].split("/")[1:]
         return [*(it for it in modules if it not in ("lib", "main")), self.name]
 
+    def named(self):
+        """The name by which a check of some functions alone takes it."""
+        return "::".join(self.path())
+
     def is_printed_as(self, name, crate):
         """Whether the check names it so: `iocm_table::table::Table::put`."""
         parts = name.split("::")

@@ -54,7 +54,7 @@ def verdict_on(functions, crate, output, proved):
 def verdicts(batch, crate, output):
     """The verdicts on the edits of a batch, as far as a check's output gives them; None where nothing was proved at all."""
     lines = output.split("\n")
-    if not any(it.startswith("logic=") for it in lines):
+    if not any(it.startswith(("logic=", "only=")) for it in lines):
         return None
     proved = {it[len("fn ") : -len(": proved")] for it in lines if it.startswith("fn ") and it.endswith(": proved")}
     found = {edit: verdict_on(functions, crate, lines, proved) for edit, functions in batch.items()}
