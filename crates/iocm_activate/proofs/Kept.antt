@@ -21,8 +21,8 @@ use Rattle.iocm_activate.specs.Walked.{WereKept}
 use Rattle.iocm_activate.specs.declared.log.Log.{Log}
 
 -- the state is sound
-pub sound_now : (log : Log) (s : State) → WereKept log s → IsSound s
-sound_now log s kept = subst IsSound (sym kept.now) (stays_sound kept.edits kept.before kept.sound kept.free)
+pub sound_now : {log : Log} {s : State} → WereKept log s → IsSound s
+sound_now {log} {s} kept = subst IsSound (sym kept.now) (stays_sound kept.edits kept.before kept.sound kept.free)
 
 -- a log that has the same keys and the same mark, in the same state
 pub kept_still : (old new : Log) (s t : State) → WereKept old s → new.keys.items ≡ old.keys.items → new.kept ≡ old.kept → t ≡ s → WereKept new t

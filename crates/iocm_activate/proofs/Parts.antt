@@ -41,28 +41,28 @@ pub goes_first : SamePlacesAreKept → (ps : Parts) (n : ℕ) (p : Operating) (l
 goes_first same ps n p log = record { ran = ran_nowhere same p log; further = nothing_first p.state (parts_meaning ps n p.state) }
 
 -- one part more was performed
-pub goes_next : PlacesAreKeptOn → CanStillUnapply → (m : Outcome) (t : ChangeTree) (ps : Parts) (n : ℕ) (p : Operating) (first : Log) (q : Operating) (second : Log) (r : Operating) (third : Log)
-    → GoesOn m (part t ps) n p first q second → Answers (node_meaning t n q.state) q second r third None → HasLives r.state
+pub goes_next : {m : Outcome} {t : ChangeTree} {ps : Parts} {n : ℕ} {p : Operating} {first : Log} {q : Operating} {second : Log} {r : Operating} {third : Log}
+    → PlacesAreKeptOn → CanStillUnapply → GoesOn m (part t ps) n p first q second → Answers (node_meaning t n q.state) q second r third None → HasLives r.state
     → GoesOn m ps (n + nodes_of t) p first r third
-goes_next places still m t ps n p first q second r third g a lived = record {
-  ran = ran_on places still p first q second r third g.ran a.ran lived;
+goes_next {m} {t} {ps} {n} {p} {first} {q} {second} {r} {third} places still g a lived = record {
+  ran = ran_on places still g.ran a.ran lived;
   further = g.further ∙ ap (λ o. after_run (record { state = q.state; edits = g.ran.edits }) (and_then o (parts_meaning ps (n + nodes_of t)))) a.means
       ∙ after_both q.state r.state g.ran.edits a.ran.edits (parts_meaning ps (n + nodes_of t) r.state);
 }
 
 -- one part was refused
-pub goes_no_further : PlacesAreKeptOn → CanStillUnapply → (m : Outcome) (t : ChangeTree) (ps : Parts) (n : ℕ) (p : Operating) (first : Log) (q : Operating) (second : Log) (r : Operating) (third : Log)
-    (why : Refused) → GoesOn m (part t ps) n p first q second → Answers (node_meaning t n q.state) q second r third (Some why) → HasLives r.state
+pub goes_no_further : {m : Outcome} {t : ChangeTree} {ps : Parts} {n : ℕ} {p : Operating} {first : Log} {q : Operating} {second : Log} {r : Operating} {third : Log}
+    {why : Refused} → PlacesAreKeptOn → CanStillUnapply → GoesOn m (part t ps) n p first q second → Answers (node_meaning t n q.state) q second r third (Some why) → HasLives r.state
     → Answers m p first r third (Some why)
-goes_no_further places still m t ps n p first q second r third why g a lived = record {
-  ran = ran_on places still p first q second r third g.ran a.ran lived;
+goes_no_further {m} {t} {ps} {n} {p} {first} {q} {second} {r} {third} {why} places still g a lived = record {
+  ran = ran_on places still g.ran a.ran lived;
   means = g.further ∙ ap (λ o. after_run (record { state = q.state; edits = g.ran.edits }) (and_then o (parts_meaning ps (n + nodes_of t)))) a.means;
 }
 
 -- all parts were performed
-pub goes_to_the_end : (m : Outcome) (n : ℕ) (p : Operating) (first : Log) (q : Operating) (second : Log) → GoesOn m none n p first q second
+pub goes_to_the_end : {m : Outcome} {n : ℕ} {p : Operating} {first : Log} {q : Operating} {second : Log} → GoesOn m none n p first q second
     → Answers m p first q second None
-goes_to_the_end m n p first q second g = record {
+goes_to_the_end {m} {n} {p} {first} {q} {second} g = record {
   ran = g.ran;
   means = g.further ∙ ap (done_in q.state) (append-nil g.ran.edits);
 }
@@ -78,11 +78,11 @@ broken_or_not (Some b) n s es = refl
 broken_or_not None n s es = refl
 
 -- a node was performed, and then the rules were looked at
-pub closed : SamePlacesAreKept → PlacesAreKeptOn → CanStillUnapply → (m : Outcome) (n : ℕ) (p : Operating) (first : Log) (q : Operating) (second third : Log) (answer : Option Refused)
-    → Answers m p first q second None → third.done.items ≡ second.done.items → third.keys.items ≡ second.keys.items → HasLives q.state
+pub closed : {m : Outcome} {p : Operating} {first : Log} {q : Operating} {second : Log} → SamePlacesAreKept → PlacesAreKeptOn → CanStillUnapply
+    → (n : ℕ) (third : Log) (answer : Option Refused) → Answers m p first q second None → third.done.items ≡ second.done.items → third.keys.items ≡ second.keys.items → HasLives q.state
     → answer ≡ breach_at n (first_breach q.state.config q.state.numbers) → Answers (if_rules_hold n m) p first q third answer
-closed same places still m n p first q second third answer a done keys lived is = record {
-  ran = ran_on places still p first q second q third a.ran (ran_nothing q second q third refl (same q.room q.room refl) done keys) lived;
+closed {m} {p} {first} {q} {second} same places still n third answer a done keys lived is = record {
+  ran = ran_on places still a.ran (ran_nothing q second q third refl (same q.room q.room refl) done keys) lived;
   means = ap (if_rules_hold n) a.means ∙ broken_or_not (first_breach q.state.config q.state.numbers) n q.state a.ran.edits
       ∙ ap (λ o. outcome_of o q.state a.ran.edits) (sym is) ∙ ap (outcome_of answer q.state) (sym (append-nil a.ran.edits));
 }
@@ -98,32 +98,32 @@ pub chooses_first : SamePlacesAreKept → (ps : Parts) (n : ℕ) (last : Refused
 chooses_first same ps n last p log = record { ran = ran_nowhere same p log; nothing = refl; further = refl }
 
 -- a part was accepted
-pub chosen : PlacesAreKeptOn → CanStillUnapply → (m : Outcome) (t : ChangeTree) (ps : Parts) (n : ℕ) (last : Refused) (p : Operating) (first : Log) (q : Operating) (second : Log) (r : Operating) (third : Log)
-    → ChoosesOn m (part t ps) n last p first q second → Answers (if_rules_hold n (node_meaning t n q.state)) q second r third None → HasLives r.state
+pub chosen : {m : Outcome} {t : ChangeTree} {ps : Parts} {n : ℕ} {last : Refused} {p : Operating} {first : Log} {q : Operating} {second : Log} {r : Operating} {third : Log}
+    → PlacesAreKeptOn → CanStillUnapply → ChoosesOn m (part t ps) n last p first q second → Answers (if_rules_hold n (node_meaning t n q.state)) q second r third None → HasLives r.state
     → Answers m p first r third None
-chosen places still m t ps n last p first q second r third g a lived = record {
-  ran = ran_on places still p first q second r third g.ran a.ran lived;
+chosen {m} {t} {ps} {n} {last} {p} {first} {q} {second} {r} {third} places still g a lived = record {
+  ran = ran_on places still g.ran a.ran lived;
   means = g.further ∙ ap (λ o. or_else o (λ why. choice_meaning ps (n + nodes_of t) why q.state)) a.means
       ∙ ap (λ es. done_in r.state (es ++ a.ran.edits)) (sym g.nothing);
 }
 
 -- a part was refused, and is taken back
-pub chooses_next : PlacesAreKeptOn → CanStillUnapply → (m : Outcome) (t : ChangeTree) (ps : Parts) (n : ℕ) (last why : Refused) (p : Operating) (first : Log) (q : Operating) (second : Log) (r : Operating) (third : Log)
-    (u : Operating) (fourth : Log) → ChoosesOn m (part t ps) n last p first q second
+pub chooses_next : {m : Outcome} {t : ChangeTree} {ps : Parts} {n : ℕ} {last why : Refused} {p : Operating} {first : Log} {q : Operating} {second : Log} {r : Operating} {third : Log}
+    → PlacesAreKeptOn → CanStillUnapply → (u : Operating) (fourth : Log) → ChoosesOn m (part t ps) n last p first q second
     → Answers (if_rules_hold n (node_meaning t n q.state)) q second r third (Some why)
     → u.state ≡ q.state → u.room ≡ r.room → fourth.done.items ≡ second.done.items → fourth.keys.items ≡ second.keys.items → HasLives u.state
     → ChoosesOn m ps (n + nodes_of t) why p first u fourth
-chooses_next places still m t ps n last why p first q second r third u fourth g a state room done keys lived = record {
-  ran = ran_on places still p first q second u fourth g.ran (ran_nothing q second u fourth state (subst (KeepsRoom q.room) (sym room) a.ran.room) done keys) lived;
+chooses_next {m} {t} {ps} {n} {last} {why} {p} {first} {q} {second} {r} {third} places still u fourth g a state room done keys lived = record {
+  ran = ran_on places still g.ran (ran_nothing q second u fourth state (subst (KeepsRoom q.room) (sym room) a.ran.room) done keys) lived;
   nothing = append-nil g.ran.edits ∙ g.nothing;
   further = g.further ∙ ap (λ o. or_else o (λ w. choice_meaning ps (n + nodes_of t) w q.state)) a.means
       ∙ ap (λ s. choice_meaning ps (n + nodes_of t) why s) (sym state);
 }
 
 -- all parts were refused
-pub none_chosen : (m : Outcome) (n : ℕ) (last : Refused) (p : Operating) (first : Log) (q : Operating) (second : Log)
+pub none_chosen : {m : Outcome} {n : ℕ} {last : Refused} {p : Operating} {first : Log} {q : Operating} {second : Log}
     → ChoosesOn m none n last p first q second → Answers m p first q second (Some last)
-none_chosen m n last p first q second g = record { ran = g.ran; means = g.further }
+none_chosen {m} {n} {last} {p} {first} {q} {second} g = record { ran = g.ran; means = g.further }
 
 -- ---- what was done since a mark
 
@@ -148,12 +148,12 @@ pub fewer : {A : Type 0} → (shown : List (Tree A)) (i : ℕ) (x : Tree A) → 
     → (n + nodes_of (plain_tree (tree_of x))) + nodes_in (plain_parts (parts_of (drop (i + 1) shown))) < 2 ^ 64
 fewer shown i x within is n few = let r = ap (λ ps. nodes_in (plain_parts ps)) (rest_at shown i x within is) in omega (arith, r, few)
 
-pub goes_at : {A : Type 0} (shown : List (Tree A)) (i : ℕ) (x : Tree A) → i < length shown → x ≡ get_or shown i x
-    → (m : Outcome) (n : ℕ) (p : Operating) (first : Log) (q : Operating) (second : Log) → GoesOn m (plain_parts (parts_of (drop i shown))) n p first q second
+pub goes_at : {A : Type 0} {m : Outcome} {n : ℕ} {p : Operating} {first : Log} {q : Operating} {second : Log}
+    → (shown : List (Tree A)) (i : ℕ) (x : Tree A) → i < length shown → x ≡ get_or shown i x → GoesOn m (plain_parts (parts_of (drop i shown))) n p first q second
     → GoesOn m (part (plain_tree (tree_of x)) (plain_parts (parts_of (drop (i + 1) shown)))) n p first q second
-goes_at shown i x within is m n p first q second g = subst (λ ps. GoesOn m (plain_parts ps) n p first q second) (rest_at shown i x within is) g
+goes_at {A} {m} {n} {p} {first} {q} {second} shown i x within is g = subst (λ ps. GoesOn m (plain_parts ps) n p first q second) (rest_at shown i x within is) g
 
-pub chooses_at : {A : Type 0} (shown : List (Tree A)) (i : ℕ) (x : Tree A) → i < length shown → x ≡ get_or shown i x
-    → (m : Outcome) (n : ℕ) (last : Refused) (p : Operating) (first : Log) (q : Operating) (second : Log) → ChoosesOn m (plain_parts (parts_of (drop i shown))) n last p first q second
+pub chooses_at : {A : Type 0} {m : Outcome} {n : ℕ} {last : Refused} {p : Operating} {first : Log} {q : Operating} {second : Log}
+    → (shown : List (Tree A)) (i : ℕ) (x : Tree A) → i < length shown → x ≡ get_or shown i x → ChoosesOn m (plain_parts (parts_of (drop i shown))) n last p first q second
     → ChoosesOn m (part (plain_tree (tree_of x)) (plain_parts (parts_of (drop (i + 1) shown)))) n last p first q second
-chooses_at shown i x within is m n last p first q second g = subst (λ ps. ChoosesOn m (plain_parts ps) n last p first q second) (rest_at shown i x within is) g
+chooses_at {A} {m} {n} {last} {p} {first} {q} {second} shown i x within is g = subst (λ ps. ChoosesOn m (plain_parts ps) n last p first q second) (rest_at shown i x within is) g

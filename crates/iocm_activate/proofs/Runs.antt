@@ -3,16 +3,14 @@ use Rattle.std.proofs.Common.{◌≡◌, List, [], ◌∷◌, ◌++◌, map, ref
 use Rattle.std.specs.Prelude.{None}
 use Rattle.std.proofs.lemmas.List.{append-nil, append_assoc, map-append}
 use Rattle.iocm_types.specs.declared.key.Key.{Key}
-use Rattle.iocm_numbers.specs.NumberChanges as numbers
-use Rattle.iocm_seats.specs.Changes as views
-use Rattle.iocm_model.specs.Operation.State.{State, HasLives, IsSound, views_in}
+use Rattle.iocm_model.specs.Operation.State.{State, HasLives, IsSound}
 use Rattle.iocm_model.specs.Change.Edit.{Edit, state_after}
 use Rattle.iocm_model.specs.Change.Inverse.{inverse_of}
 use Rattle.iocm_model.specs.Change.Refusal.{refusal_of}
-use Rattle.iocm_model.specs.Change.Runs.{state_after_all, AreAccepted}
+use Rattle.iocm_model.specs.Change.Runs.{state_after_all, AreAccepted, CarryFreeNumbers}
 use Rattle.iocm_model.proofs.Change.RunsGoBack.{all_append, accepted_append, accepted_carry}
 use Rattle.iocm_plant.specs.Operating.{Operating, KeepsRoom}
-use Rattle.iocm_plant.specs.TakingBack.{CanUnapply}
+use Rattle.iocm_plant.specs.Performing.{Performs}
 use Rattle.iocm_plant.specs.Between.{CanStillUnapply, PlacesAreKeptOn, SamePlacesAreKept}
 use Rattle.iocm_plant.specs.declared.touched.Applied.{Applied}
 use Rattle.iocm_activate.specs.Told.{told_of, told_of_all, told_in, key_of_edit, way_back, LeadsTo}
@@ -47,37 +45,39 @@ abbrev pub ran_nowhere : SamePlacesAreKept → (p : Operating) (log : Log) → R
 ran_nowhere same p log = ran_nothing p log p log refl (same p.room p.room refl) refl refl
 
 -- what is told of an edit is what is kept of it
-pub told_is : (a : Applied) (e : Edit) (s : State) → a.inverse.edit ≡ inverse_of e s
-    → a.touched.numbers.items ≡ numbers.changes_between s.numbers (state_after e s).numbers
-    → a.touched.subchannels.items ≡ views.changes_between (views_in s) (views_in (state_after e s)) → told_in a ≡ told_of e s
-told_is a e s inverse cells subchannels = λ i. record { inverse = inverse i; numbers = cells i; subchannels = subchannels i }
+pub told_is : (e : Edit) (p : Operating) (a : Applied) (q : Operating) → Performs e p a q → told_in a ≡ told_of e p.state
+told_is e p a q made =
+    λ i. record { inverse = made.inverse i; numbers = made.numbers i; subchannels = made.subchannels i }
+
+-- its inverse edit leads back
+pub leads_back : (e : Edit) (p : Operating) (a : Applied) (q : Operating) → IsSound p.state
+    → CarryFreeNumbers (e ∷ []) p.state → Performs e p a q → LeadsTo (a.inverse ∷ []) p.state q
+leads_back e p a q sound free made = (
+  made.back,
+  λ t after places. after ∙ ap (λ (i : Edit). state_after i q.state) made.inverse
+      ∙ ap (state_after (inverse_of e p.state)) made.state ∙ undone e p.state sound free,
+)
 
 -- one edit was performed
 abbrev pub ran_one : (p : Operating) (old : Log) (q : Operating) (new : Log) (e : Edit) (a : Applied) (key : Key) → IsSound p.state
-    → refusal_of e p.state ≡ None → q.state ≡ state_after e p.state → KeepsRoom p.room q.room → a.inverse.edit ≡ inverse_of e p.state → CanUnapply a.inverse q
-    → a.touched.numbers.items ≡ numbers.changes_between p.state.numbers (state_after e p.state).numbers
-    → a.touched.subchannels.items ≡ views.changes_between (views_in p.state) (views_in (state_after e p.state))
+    → refusal_of e p.state ≡ None → Performs e p a q → KeepsRoom p.room q.room
     → new.done.items ≡ old.done.items ++ a ∷ [] → key ≡ key_of_edit e → new.keys.items ≡ old.keys.items ++ key ∷ [] → Ran p old q new
-ran_one p old q new e a key sound accepted state room inverse can cells subchannels done is keys = record {
+ran_one p old q new e a key sound accepted made room done is keys = record {
   edits = e ∷ [];
   accepted = (accepted, tt);
-  state = state;
+  state = made.state;
   room = room;
   done = a ∷ [];
   log = done;
-  told = ap (λ t. t ∷ []) (told_is a e p.state inverse cells subchannels);
-  back = (
-    can,
-    λ t after places. after ∙ ap (λ (i : Edit). state_after i q.state) inverse ∙ ap (state_after (inverse_of e p.state)) state
-        ∙ undone e p.state sound (accepted_carry (e ∷ []) p.state (accepted, tt)),
-  );
+  told = ap (λ t. t ∷ []) (told_is e p a q made);
+  back = leads_back e p a q sound (accepted_carry (e ∷ []) p.state (accepted, tt)) made;
   keys = keys ∙ ap (λ k. old.keys.items ++ k ∷ []) is;
 }
 
 -- one run after another
-abbrev pub ran_on : PlacesAreKeptOn → CanStillUnapply → (p : Operating) (first : Log) (q : Operating) (second : Log) (r : Operating) (third : Log) → Ran p first q second → Ran q second r third
-    → HasLives r.state → Ran p first r third
-ran_on places still p first q second r third before after lived =
+abbrev pub ran_on : {p : Operating} {first : Log} {q : Operating} {second : Log} {r : Operating} {third : Log} → PlacesAreKeptOn → CanStillUnapply
+    → Ran p first q second → Ran q second r third → HasLives r.state → Ran p first r third
+ran_on {p} {first} {q} {second} {r} {third} places still before after lived =
     let later : state_after_all after.edits q.state ≡ state_after_all (before.edits ++ after.edits) p.state =
     ap (state_after_all after.edits) before.state ∙ sym (all_append before.edits after.edits p.state) in record {
       edits = before.edits ++ after.edits;

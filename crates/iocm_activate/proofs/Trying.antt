@@ -13,7 +13,6 @@ use Rattle.iocm_types.specs.declared.rule.Rule.TheVariants.{E4}
 use Rattle.iocm_types.specs.declared.refused.At.TheVariants.{Key}
 use Rattle.iocm_model.specs.Operation.State.{State, HasLives, IsSound, views_in}
 use Rattle.iocm_model.specs.Change.Edit.{Edit, action_key, config_after, state_after}
-use Rattle.iocm_model.specs.Change.Inverse.{inverse_of}
 use Rattle.iocm_model.specs.Change.Refusal.{refusal_at, refusal_by_key, is_number_taken}
 use Rattle.iocm_model.specs.Change.Runs.{CarryFreeNumbers}
 use Rattle.iocm_model.proofs.Change.EditsGoBack.{lived_after}
@@ -21,14 +20,12 @@ use Rattle.iocm_model.specs.Change.InverseTree.{inverse_tree}
 use Rattle.iocm_model.specs.Change.Tree as model
 use Rattle.iocm_model.specs.Change.Tree.{ChangeTree, Parts}
 use Rattle.iocm_history.specs.Fits.{is_barred, fits, keeps_the_rules}
-use Rattle.iocm_numbers.specs.declared.number_change.NumberChange.{NumberChange}
 use Rattle.iocm_numbers.specs.NumberChanges as numbers
-use Rattle.iocm_seats.specs.declared.view_change.ViewChange.{ViewChange}
 use Rattle.iocm_seats.specs.Changes as views
 use Rattle.iocm_plant.specs.Between.{CanStillUnapply, PlacesAreKeptOn, SamePlacesAreKept}
 use Rattle.iocm_plant.specs.Operating.{Operating, KeepsRoom}
 use Rattle.iocm_plant.specs.Refusing.{refusal_when}
-use Rattle.iocm_plant.specs.TakingBack.{CanUnapply}
+use Rattle.iocm_plant.specs.Performing.{Performs}
 use Rattle.iocm_plant.specs.declared.quiet.Quiet.TheVariants.{Whatever}
 use Rattle.iocm_plant.specs.declared.touched.Applied.{Applied}
 use Rattle.iocm_plant.specs.declared.touched.Touched.{Touched}
@@ -42,7 +39,8 @@ use Rattle.iocm_tree.specs.declared.tree.Tree.{Tree}
 use Rattle.iocm_tree.proofs.Trees.{rest_at, none_left}
 use Rattle.iocm_activate.specs.Fitting.{is_turned_number, is_turned_view, gone_back, gone_back_along, part_gone_back, way_gone, IsOnTheWay}
 use Rattle.iocm_activate.proofs.GoingBack.{all_back}
-use Rattle.iocm_activate.proofs.Back.{leads_still, leads_on, way_back_append, undone}
+use Rattle.iocm_activate.proofs.Back.{leads_still, leads_on, way_back_append}
+use Rattle.iocm_activate.proofs.Runs.{leads_back}
 
 -- ---- refusals where it doesn't matter whether subchannels are quiet
 
@@ -74,15 +72,16 @@ carries_free e s h = (second_fails _ _ (not_barred e s h), tt)
 -- ---- what is left
 
 -- an edit that was performed, and what it did was looked at
-pub looked_at : (e : Edit) (cells : List NumberChange) (seen : List ViewChange) (was : Touched) (s t : State) (went : Bool)
-    → refusal_when Whatever e s ≡ None → t ≡ state_after e s → cells ≡ numbers.changes_between s.numbers (state_after e s).numbers
-    → seen ≡ views.changes_between (views_in s) (views_in (state_after e s))
-    → went ≡ (pointwise is_turned_number cells was.numbers.items && pointwise is_turned_view seen was.subchannels.items)
-    → gone_back e was s ≡ way_gone went t
-looked_at e cells seen was s t went accepted state are shown is =
-    let free = not_barred e s accepted in
-    (λ i. cond (not (free i) && pointwise is_turned_number (sym are i) was.numbers.items && pointwise is_turned_view (sym shown i) was.subchannels.items) (Some (sym state i)) None)
-    ∙ ap (λ b. cond b (Some t) None) (sym is)
+pub looked_at : (e : Edit) (p : Operating) (a : Applied) (q : Operating) (was : Touched) (went : Bool)
+    → refusal_when Whatever e p.state ≡ None → Performs e p a q
+    → went ≡ (pointwise is_turned_number a.touched.numbers.items was.numbers.items
+    && pointwise is_turned_view a.touched.subchannels.items was.subchannels.items)
+    → gone_back e was p.state ≡ way_gone went q.state
+looked_at e p a q was went accepted made is =
+    let free = not_barred e p.state accepted in
+    (λ i. cond (not (free i) && pointwise is_turned_number (sym made.numbers i) was.numbers.items
+    && pointwise is_turned_view (sym made.subchannels i) was.subchannels.items) (Some (sym made.state i)) None)
+    ∙ ap (λ b. cond b (Some q.state) None) (sym is)
 
 -- an edit that was refused
 pub refused : (e : Edit) (was : Touched) (s t : State) (why : Refused) → refusal_when Whatever e s ≡ Some why → gone_back e was s ≡ way_gone false t
@@ -94,17 +93,12 @@ refused e was s t why due =
 -- ---- it can be taken back
 
 pub leads_after : CanStillUnapply → (p q : Operating) (e : Edit) (a : Applied) (old new : List Applied) → IsSound p.state → CarryFreeNumbers (e ∷ []) p.state
-    → q.state ≡ state_after e p.state → KeepsRoom p.room q.room → a.inverse.edit ≡ inverse_of e p.state → CanUnapply a.inverse q → new ≡ old ++ a ∷ []
+    → Performs e p a q → KeepsRoom p.room q.room → new ≡ old ++ a ∷ []
     → (s : State) → LeadsTo (way_back old) s p → LeadsTo (way_back new) s q
-leads_after still p q e a old new sound free state room inverse can done s leads =
+leads_after still p q e a old new sound free made room done s leads =
     subst (λ is. LeadsTo is s q) (sym (ap way_back done ∙ way_back_append old (a ∷ [])))
-    (leads_on still (a.inverse ∷ []) (way_back old) s p q later leads (subst HasLives (sym state) (lived_after e p.state sound.lived)) room)
-  where
-    later : LeadsTo (a.inverse ∷ []) p.state q
-    later = (
-      can,
-      λ t after places. after ∙ ap (λ (i : Edit). state_after i q.state) inverse ∙ ap (state_after (inverse_of e p.state)) state ∙ undone e p.state sound free,
-    )
+    (leads_on still (a.inverse ∷ []) (way_back old) s p q (leads_back e p a q sound free made) leads
+    (subst HasLives (sym made.state) (lived_after e p.state sound.lived)) room)
 
 -- nothing was done
 pub leads_same : CanStillUnapply → (p q : Operating) (old new : List Applied) → HasLives p.state → q.state ≡ p.state → KeepsRoom p.room q.room → new ≡ old

@@ -8,20 +8,15 @@ ghost use Rattle.iocm_types.specs.SubId.{image_cmp};
 ghost use Rattle.iocm_types.specs.declared.refused.At.TheVariants as at;
 ghost use Rattle.iocm_types.specs.declared.rule.Rule as rules;
 ghost use Rattle.iocm_table.specs.Slots.{rows};
-ghost use Rattle.iocm_model.specs.Change.Edit.{action_key, config_after, record_after, state_after};
-ghost use Rattle.iocm_model.specs.Change.Inverse.{inverse_of};
+ghost use Rattle.iocm_model.specs.Change.Edit.{action_key, config_after, record_after};
 ghost use Rattle.iocm_model.specs.Change.Refusal.{refusal_at, refusal_by_key, refusal_of};
-ghost use Rattle.iocm_model.specs.Operation.State.{views_in};
 ghost use Rattle.iocm_affected.specs.Affected.{AreAllAffected};
 ghost use Rattle.iocm_lookup.specs.Indexed.{IsIndexOf};
 ghost use Rattle.iocm_numbers.specs.LookedAt.{cells_at};
-ghost use Rattle.iocm_numbers.specs.NumberChanges as number_changes;
-ghost use Rattle.iocm_seats.specs.Changes as views;
 ghost use Rattle.iocm_tree.specs.Carried.{action_of};
 ghost use Rattle.iocm_plant.specs.Operating.{HasNamingRoom, HasPlaceIn, KeepsPlaces, KeepsRoom};
-ghost use Rattle.iocm_plant.specs.Performing.{HasMadeOrder, made_of};
+ghost use Rattle.iocm_plant.specs.Performing.{HasMadeOrder, Performs, made_of};
 ghost use Rattle.iocm_plant.specs.Refusing.{refusal_when, Hinders, IsDue};
-ghost use Rattle.iocm_plant.specs.TakingBack.{CanUnapply};
 ghost use Rattle.iocm_plant.specs.declared.quiet.Quiet.TheVariants as quiet;
 
 use crate::following::{Brought, Followed, LookedAt, Told, follow};
@@ -47,13 +42,7 @@ impl Plant {
     pub fn apply(&mut self, alloc: Global, edit: Edit) -> Result<Applied, Refused>
         ensures accepted { OnOk result (refusal_of edit.edit self.old.state ≡ None) }
         ensures refused { IfErr result (IsDue (refusal_of edit.edit self.old.state)) }
-        ensures state { OnOk result (self.new.state ≡ state_after edit.edit self.old.state) }
-        ensures inverse { IfOk result (λ a. a.inverse.edit ≡ inverse_of edit.edit self.old.state) }
-        ensures back { IfOk result (λ a. CanUnapply a.inverse self.new) }
-        ensures numbers { IfOk result (λ a. a.touched.numbers.items
-            ≡ number_changes.changes_between self.old.state.numbers (state_after edit.edit self.old.state).numbers) }
-        ensures subchannels { IfOk result (λ a. a.touched.subchannels.items
-            ≡ views.changes_between (views_in self.old.state) (views_in (state_after edit.edit self.old.state))) }
+        ensures performs { IfOk result (λ applied. Performs edit.edit self.old applied self.new) }
         ensures same { OnErr result (self.new.state ≡ self.old.state) }
         ensures room { KeepsRoom self.old.room self.new.room }
     {
@@ -68,13 +57,7 @@ impl Plant {
     pub fn force(&mut self, alloc: Global, edit: Edit) -> Result<Applied, Refused>
         ensures accepted { OnOk result (refusal_when quiet.Whatever edit.edit self.old.state ≡ None) }
         ensures refused { IfErr result (IsDue (refusal_when quiet.Whatever edit.edit self.old.state)) }
-        ensures state { OnOk result (self.new.state ≡ state_after edit.edit self.old.state) }
-        ensures inverse { IfOk result (λ a. a.inverse.edit ≡ inverse_of edit.edit self.old.state) }
-        ensures back { IfOk result (λ a. CanUnapply a.inverse self.new) }
-        ensures numbers { IfOk result (λ a. a.touched.numbers.items
-            ≡ number_changes.changes_between self.old.state.numbers (state_after edit.edit self.old.state).numbers) }
-        ensures subchannels { IfOk result (λ a. a.touched.subchannels.items
-            ≡ views.changes_between (views_in self.old.state) (views_in (state_after edit.edit self.old.state))) }
+        ensures performs { IfOk result (λ applied. Performs edit.edit self.old applied self.new) }
         ensures same { OnErr result (self.new.state ≡ self.old.state) }
         ensures room { KeepsRoom self.old.room self.new.room }
     {
@@ -88,13 +71,7 @@ impl Plant {
     fn perform(&mut self, alloc: Global, edit: Edit, quiet: Quiet) -> Result<Applied, Obstacle>
         ensures accepted { OnOk result (refusal_when quiet edit.edit self.old.state ≡ None) }
         ensures refused { IfErr result (Hinders (refusal_when quiet edit.edit self.old.state)) }
-        ensures state { OnOk result (self.new.state ≡ state_after edit.edit self.old.state) }
-        ensures inverse { IfOk result (λ a. a.inverse.edit ≡ inverse_of edit.edit self.old.state) }
-        ensures back { IfOk result (λ a. CanUnapply a.inverse self.new) }
-        ensures numbers { IfOk result (λ a. a.touched.numbers.items
-            ≡ number_changes.changes_between self.old.state.numbers (state_after edit.edit self.old.state).numbers) }
-        ensures subchannels { IfOk result (λ a. a.touched.subchannels.items
-            ≡ views.changes_between (views_in self.old.state) (views_in (state_after edit.edit self.old.state))) }
+        ensures performs { IfOk result (λ applied. Performs edit.edit self.old applied self.new) }
         ensures same { OnErr result (self.new.state ≡ self.old.state) }
         ensures room { KeepsRoom self.old.room self.new.room }
     {

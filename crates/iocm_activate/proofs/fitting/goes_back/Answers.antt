@@ -17,17 +17,17 @@ returns-in_err-copy-clause-kept g c = kept_still c.args.log.now c.room.new.self 
 pub returns-in-Ok-clause-went : goal.returns-in-Ok-clause-went
 returns-in-Ok-clause-went g c = subst (λ (d : Edit). gone_back d c.args.was.now c.args.plant.now.state ≡ way_gone c.is_turned-went.result c.force.new.self.state)
     (ap (λ (i : Carried). i.edit) c.in_ok-copy.ensures)
-    (looked_at c.in_ok-copy.copy.edit c.in-Ok.applied.touched.numbers.items c.in-Ok.applied.touched.subchannels.items c.args.was.now c.args.plant.now.state c.force.new.self.state
-    c.is_turned-went.result c.in-Ok.ensures.accepted c.in-Ok.ensures.state c.in-Ok.ensures.numbers c.in-Ok.ensures.subchannels c.is_turned-went.ensures)
+    (looked_at c.in_ok-copy.copy.edit c.args.plant.now c.in-Ok.applied c.force.new.self c.args.was.now
+    c.is_turned-went.result c.in-Ok.ensures.accepted c.in-Ok.ensures.performs c.is_turned-went.ensures)
 
 pub returns-in-Ok-clause-back : goal.returns-in-Ok-clause-back
 returns-in-Ok-clause-back g c = leads_after c.what_happens_between.ensures.still c.args.plant.now c.force.new.self c.in_ok-copy.copy.edit c.in-Ok.applied c.args.log.now.done.items c.note.new.self.done.items
-    c.is_sound.ensures (carries_free c.in_ok-copy.copy.edit c.args.plant.now.state c.in-Ok.ensures.accepted) c.in-Ok.ensures.state c.force.ensures.room c.in-Ok.ensures.inverse c.in-Ok.ensures.back
+    c.is_sound.ensures (carries_free c.in_ok-copy.copy.edit c.args.plant.now.state c.in-Ok.ensures.accepted) c.in-Ok.ensures.performs c.force.ensures.room
     (c.note.ensures.done ∙ ap (λ ds. ds ++ c.in-Ok.applied ∷ []) c.room.ensures.done)
 
 pub returns-in-Ok-clause-kept : goal.returns-in-Ok-clause-kept
 returns-in-Ok-clause-kept g c = kept_before c.args.log.now c.note.new.self c.args.plant.now.state c.force.new.self.state c.in_ok-copy.copy.edit c.key-key.result c.requires.kept
-    (carries_free c.in_ok-copy.copy.edit c.args.plant.now.state c.in-Ok.ensures.accepted) c.in-Ok.ensures.state
+    (carries_free c.in_ok-copy.copy.edit c.args.plant.now.state c.in-Ok.ensures.accepted) c.in-Ok.ensures.performs.state
     (c.note.ensures.keys ∙ ap (λ ks. ks ++ c.key-key.result ∷ []) c.room.ensures.keys) c.key-key.ensures (c.note.ensures.kept ∙ c.room.ensures.kept)
 
 pub returns-in_err-unless_memory_wanted-in-Err-clause-back : goal.returns-in_err-unless_memory_wanted-in-Err-clause-back

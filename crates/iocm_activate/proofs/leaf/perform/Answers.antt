@@ -38,15 +38,15 @@ returns-in-Ok-clause-answers g c =
     subst (λ (d : Edit). Answers (unless_refused (refusal_of d s) c.args.node d s) c.args.plant.now c.args.log.now c.apply.new.self c.note.new.self None)
     (ap (λ (i : Carried). i.edit) c.in_ok-copy.ensures) (record {
       ran = ran_one c.args.plant.now c.args.log.now c.apply.new.self c.note.new.self e c.in-Ok.applied c.key-key.result c.is_sound.ensures
-          c.in-Ok.ensures.accepted c.in-Ok.ensures.state c.apply.ensures.room c.in-Ok.ensures.inverse c.in-Ok.ensures.back c.in-Ok.ensures.numbers c.in-Ok.ensures.subchannels
+          c.in-Ok.ensures.accepted c.in-Ok.ensures.performs c.apply.ensures.room
           (c.note.ensures.done ∙ ap (λ ds. ds ++ c.in-Ok.applied ∷ []) c.room.ensures.done) c.key-key.ensures
           (c.note.ensures.keys ∙ ap (λ ks. ks ++ c.key-key.result ∷ []) c.room.ensures.keys);
-      means = leaf_done c.args.node s c.apply.new.self.state e c.in-Ok.ensures.accepted c.in-Ok.ensures.state;
+      means = leaf_done c.args.node s c.apply.new.self.state e c.in-Ok.ensures.accepted c.in-Ok.ensures.performs.state;
     })
 
 pub returns-in-Ok-clause-kept : goal.returns-in-Ok-clause-kept
 returns-in-Ok-clause-kept g c = kept_before c.args.log.now c.note.new.self c.args.plant.now.state c.apply.new.self.state c.in_ok-copy.copy.edit c.key-key.result c.requires.kept
-    (accepted_carry (c.in_ok-copy.copy.edit ∷ []) c.args.plant.now.state (c.in-Ok.ensures.accepted, tt)) c.in-Ok.ensures.state (c.note.ensures.keys ∙ ap (λ ks. ks ++ c.key-key.result ∷ []) c.room.ensures.keys) c.key-key.ensures
+    (accepted_carry (c.in_ok-copy.copy.edit ∷ []) c.args.plant.now.state (c.in-Ok.ensures.accepted, tt)) c.in-Ok.ensures.performs.state (c.note.ensures.keys ∙ ap (λ ks. ks ++ c.key-key.result ∷ []) c.room.ensures.keys) c.key-key.ensures
     (c.note.ensures.kept ∙ c.room.ensures.kept)
 
 pub returns-in_ok-unless_no_memory-in-Err-clause-answers : goal.returns-in_ok-unless_no_memory-in-Err-clause-answers

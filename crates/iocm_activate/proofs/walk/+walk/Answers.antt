@@ -37,13 +37,12 @@ walk_all-walk-requires g t c κs within =
 
 pub walk_all-returns-in_err-why-clause-ran : goal.walk_all-returns-in_err-why-clause-ran
 walk_all-returns-in_err-why-clause-ran g t c = on_err c.from_residual.result
-    (ran_on c.what_happens_between.ensures.places c.what_happens_between.ensures.still c.args.plant.now c.args.log.now c.loop-part.plant c.loop-part.log c.walk.new.plant c.walk.new.log c.loop-part.invariant.1.1.ran c.in_err-why.ensures.ran (sound_now c.walk.new.log c.walk.new.plant.state c.walk.ensures.kept).lived)
+    (ran_on c.what_happens_between.ensures.places c.what_happens_between.ensures.still c.loop-part.invariant.1.1.ran c.in_err-why.ensures.ran (sound_now c.walk.ensures.kept).lived)
 
 pub walk_all-returns-in-Some-clause-answers : goal.walk_all-returns-in-Some-clause-answers
-walk_all-returns-in-Some-clause-answers g t c = goes_no_further c.what_happens_between.ensures.places c.what_happens_between.ensures.still (parts_meaning (plain_parts (parts_of c.args.parts.now.items)) c.args.node c.args.plant.now.state) (plain_tree (tree_of c.part-item.result)) (plain_parts (parts_of (drop (c.loop-part.part-index + 1) c.deref-part-items.result.now))) c.loop-part.next
-    c.args.plant.now c.args.log.now c.loop-part.plant c.loop-part.log c.walk.new.plant c.walk.new.log c.in-Some.why
-    (goes_at c.deref-part-items.result.now c.loop-part.part-index c.part-item.result c.loop-part-test.true c.part-item.is (parts_meaning (plain_parts (parts_of c.args.parts.now.items)) c.args.node c.args.plant.now.state) c.loop-part.next c.args.plant.now c.args.log.now c.loop-part.plant c.loop-part.log c.loop-part.invariant.1.1)
-    (subst (Answers _ _ _ _ _) c.in-Some.is c.in_ok-why.ensures.answers) (sound_now c.walk.new.log c.walk.new.plant.state c.walk.ensures.kept).lived
+walk_all-returns-in-Some-clause-answers g t c = goes_no_further c.what_happens_between.ensures.places c.what_happens_between.ensures.still
+    (goes_at c.deref-part-items.result.now c.loop-part.part-index c.part-item.result c.loop-part-test.true c.part-item.is c.loop-part.invariant.1.1)
+    (subst (Answers _ _ _ _ _) c.in-Some.is c.in_ok-why.ensures.answers) (sound_now c.walk.ensures.kept).lived
 
 pub walk_all-overflow_add-next : goal.walk_all-overflow_add-next
 walk_all-overflow_add-next g t c =
@@ -59,30 +58,29 @@ walk_all-loop-part-preserved g t c = (
     c.walk.ensures.kept,
     subst (λ k. GoesOn (parts_meaning (plain_parts (parts_of c.args.parts.now.items)) c.args.node c.args.plant.now.state) (plain_parts (parts_of (drop (c.loop-part.part-index + 1) c.deref-part-items.result.now))) (c.loop-part.next + k) c.args.plant.now c.args.log.now c.walk.new.plant c.walk.new.log)
         (sym c.nodes-size.ensures)
-        (goes_next c.what_happens_between.ensures.places c.what_happens_between.ensures.still (parts_meaning (plain_parts (parts_of c.args.parts.now.items)) c.args.node c.args.plant.now.state) (plain_tree (tree_of c.part-item.result)) (plain_parts (parts_of (drop (c.loop-part.part-index + 1) c.deref-part-items.result.now))) c.loop-part.next
-        c.args.plant.now c.args.log.now c.loop-part.plant c.loop-part.log c.walk.new.plant c.walk.new.log
-        (goes_at c.deref-part-items.result.now c.loop-part.part-index c.part-item.result c.loop-part-test.true c.part-item.is (parts_meaning (plain_parts (parts_of c.args.parts.now.items)) c.args.node c.args.plant.now.state) c.loop-part.next c.args.plant.now c.args.log.now c.loop-part.plant c.loop-part.log c.loop-part.invariant.1.1)
-        (subst (Answers _ _ _ _ _) c.in-None.is c.in_ok-why.ensures.answers) (sound_now c.walk.new.log c.walk.new.plant.state c.walk.ensures.kept).lived),
+        (goes_next c.what_happens_between.ensures.places c.what_happens_between.ensures.still
+        (goes_at c.deref-part-items.result.now c.loop-part.part-index c.part-item.result c.loop-part-test.true c.part-item.is c.loop-part.invariant.1.1)
+        (subst (Answers _ _ _ _ _) c.in-None.is c.in_ok-why.ensures.answers) (sound_now c.walk.ensures.kept).lived),
   ),
 )
 
 pub walk_all-returns-clause-answers : goal.walk_all-returns-clause-answers
 walk_all-returns-clause-answers g t c =
     let past : length c.deref-part-items.result.now ≤ c.loop-part.part-index = omega (arith, c.loop-part-test.false) in
-    goes_to_the_end (parts_meaning (plain_parts (parts_of c.args.parts.now.items)) c.args.node c.args.plant.now.state) c.loop-part.next c.args.plant.now c.args.log.now c.loop-part.plant c.loop-part.log
+    goes_to_the_end
     (subst (λ ps. GoesOn (parts_meaning (plain_parts (parts_of c.args.parts.now.items)) c.args.node c.args.plant.now.state) (plain_parts ps) c.loop-part.next c.args.plant.now c.args.log.now c.loop-part.plant c.loop-part.log) (none_left c.deref-part-items.result.now c.loop-part.part-index past) c.loop-part.invariant.1.1)
 
 pub walk_closed-returns-in-None-clause-answers : goal.walk_closed-returns-in-None-clause-answers
-walk_closed-returns-in-None-clause-answers g t c = closed c.what_happens_between.ensures.same_places c.what_happens_between.ensures.places c.what_happens_between.ensures.still (node_meaning (plain_tree (tree_of c.args.tree.now)) c.args.node c.args.plant.now.state) c.args.node
-    c.args.plant.now c.args.log.now c.walk.new.plant c.walk.new.log c.broken.new.log c.broken.result
+walk_closed-returns-in-None-clause-answers g t c = closed c.what_happens_between.ensures.same_places c.what_happens_between.ensures.places c.what_happens_between.ensures.still
+    c.args.node c.broken.new.log c.broken.result
     (subst (Answers _ _ _ _ _) c.in-None.is c.in_ok-why.ensures.answers) (ap (λ ds. ds.items) c.broken.ensures.done) (ap (λ ks. ks.items) c.broken.ensures.keys)
-    (sound_now c.walk.new.log c.walk.new.plant.state c.walk.ensures.kept).lived c.broken.ensures.value
+    (sound_now c.walk.ensures.kept).lived c.broken.ensures.value
 
 pub walk_group-returns-in-None-clause-answers : goal.walk_group-returns-in-None-clause-answers
-walk_group-returns-in-None-clause-answers g t c = closed c.what_happens_between.ensures.same_places c.what_happens_between.ensures.places c.what_happens_between.ensures.still (parts_meaning (plain_parts (parts_of c.args.parts.now.items)) (c.args.node + 1) c.args.plant.now.state) c.args.node
-    c.args.plant.now c.args.log.now c.walk_all.new.plant c.walk_all.new.log c.broken.new.log c.broken.result
+walk_group-returns-in-None-clause-answers g t c = closed c.what_happens_between.ensures.same_places c.what_happens_between.ensures.places c.what_happens_between.ensures.still
+    c.args.node c.broken.new.log c.broken.result
     (subst (Answers _ _ _ _ _) c.in-None.is c.in_ok-why.ensures.answers) (ap (λ ds. ds.items) c.broken.ensures.done) (ap (λ ks. ks.items) c.broken.ensures.keys)
-    (sound_now c.walk_all.new.log c.walk_all.new.plant.state c.walk_all.ensures.kept).lived c.broken.ensures.value
+    (sound_now c.walk_all.ensures.kept).lived c.broken.ensures.value
 
 pub walk_first-loop-part-init : goal.walk_first-loop-part-init
 walk_first-loop-part-init g t c = (
@@ -109,14 +107,13 @@ walk_first-walk_closed-requires g t c κs within =
 
 pub walk_first-returns-in_err-walk_closed-clause-ran : goal.walk_first-returns-in_err-walk_closed-clause-ran
 walk_first-returns-in_err-walk_closed-clause-ran g t c = on_err c.from_residual.result
-    (ran_on c.what_happens_between.ensures.places c.what_happens_between.ensures.still c.args.plant.now c.args.log.now c.loop-part.plant c.loop-part.log c.walk_closed.new.plant c.walk_closed.new.log c.loop-part.invariant.1.1.ran c.in_err-walk_closed.ensures.ran
-    (sound_now c.walk_closed.new.log c.walk_closed.new.plant.state c.walk_closed.ensures.kept).lived)
+    (ran_on c.what_happens_between.ensures.places c.what_happens_between.ensures.still c.loop-part.invariant.1.1.ran c.in_err-walk_closed.ensures.ran
+    (sound_now c.walk_closed.ensures.kept).lived)
 
 pub walk_first-returns-in-None-clause-answers : goal.walk_first-returns-in-None-clause-answers
-walk_first-returns-in-None-clause-answers g t c = chosen c.what_happens_between.ensures.places c.what_happens_between.ensures.still (choice_meaning (plain_parts (parts_of c.args.parts.now.items)) (c.args.node + 1) (without_parts c.args.node) c.args.plant.now.state) (plain_tree (tree_of c.part-item.result)) (plain_parts (parts_of (drop (c.loop-part.part-index + 1) c.deref-part-items.result.now))) c.loop-part.next c.loop-part.last
-    c.args.plant.now c.args.log.now c.loop-part.plant c.loop-part.log c.walk_closed.new.plant c.walk_closed.new.log
-    (chooses_at c.deref-part-items.result.now c.loop-part.part-index c.part-item.result c.loop-part-test.true c.part-item.is (choice_meaning (plain_parts (parts_of c.args.parts.now.items)) (c.args.node + 1) (without_parts c.args.node) c.args.plant.now.state) c.loop-part.next c.loop-part.last c.args.plant.now c.args.log.now c.loop-part.plant c.loop-part.log c.loop-part.invariant.1.1)
-    (subst (Answers _ _ _ _ _) c.in-None.is c.in_ok-walk_closed.ensures.answers) (sound_now c.walk_closed.new.log c.walk_closed.new.plant.state c.walk_closed.ensures.kept).lived
+walk_first-returns-in-None-clause-answers g t c = chosen c.what_happens_between.ensures.places c.what_happens_between.ensures.still
+    (chooses_at c.deref-part-items.result.now c.loop-part.part-index c.part-item.result c.loop-part-test.true c.part-item.is c.loop-part.invariant.1.1)
+    (subst (Answers _ _ _ _ _) c.in-None.is c.in_ok-walk_closed.ensures.answers) (sound_now c.walk_closed.ensures.kept).lived
 
 pub walk_first-take_back-requires : goal.walk_first-take_back-requires
 walk_first-take_back-requires g t c =
@@ -141,16 +138,15 @@ walk_first-loop-part-preserved g t c =
         kept_still c.loop-part.log c.take_back.new.log c.loop-part.plant.state c.take_back.new.plant.state c.loop-part.invariant.1.0 keys (c.take_back.ensures.kept ∙ c.mark-mark.ensures.kept) same,
         subst (λ k. ChoosesOn (choice_meaning (plain_parts (parts_of c.args.parts.now.items)) (c.args.node + 1) (without_parts c.args.node) c.args.plant.now.state) (plain_parts (parts_of (drop (c.loop-part.part-index + 1) c.deref-part-items.result.now))) (c.loop-part.next + k) c.in-Some.why
             c.args.plant.now c.args.log.now c.take_back.new.plant c.take_back.new.log) (sym c.nodes-size.ensures)
-            (chooses_next c.what_happens_between.ensures.places c.what_happens_between.ensures.still (choice_meaning (plain_parts (parts_of c.args.parts.now.items)) (c.args.node + 1) (without_parts c.args.node) c.args.plant.now.state) (plain_tree (tree_of c.part-item.result)) (plain_parts (parts_of (drop (c.loop-part.part-index + 1) c.deref-part-items.result.now))) c.loop-part.next c.loop-part.last c.in-Some.why
-            c.args.plant.now c.args.log.now c.loop-part.plant c.loop-part.log c.walk_closed.new.plant c.walk_closed.new.log c.take_back.new.plant c.take_back.new.log
-            (chooses_at c.deref-part-items.result.now c.loop-part.part-index c.part-item.result c.loop-part-test.true c.part-item.is (choice_meaning (plain_parts (parts_of c.args.parts.now.items)) (c.args.node + 1) (without_parts c.args.node) c.args.plant.now.state) c.loop-part.next c.loop-part.last c.args.plant.now c.args.log.now c.loop-part.plant c.loop-part.log c.loop-part.invariant.1.1)
+            (chooses_next c.what_happens_between.ensures.places c.what_happens_between.ensures.still c.take_back.new.plant c.take_back.new.log
+            (chooses_at c.deref-part-items.result.now c.loop-part.part-index c.part-item.result c.loop-part-test.true c.part-item.is c.loop-part.invariant.1.1)
             (subst (Answers _ _ _ _ _) c.in-Some.is c.in_ok-walk_closed.ensures.answers) same c.take_back.ensures.room done keys
-            (subst HasLives (sym same) (sound_now c.loop-part.log c.loop-part.plant.state c.loop-part.invariant.1.0).lived)),
+            (subst HasLives (sym same) (sound_now c.loop-part.invariant.1.0).lived)),
       ),
     )
 
 pub walk_first-returns-clause-answers : goal.walk_first-returns-clause-answers
 walk_first-returns-clause-answers g t c =
     let past : length c.deref-part-items.result.now ≤ c.loop-part.part-index = omega (arith, c.loop-part-test.false) in
-    none_chosen (choice_meaning (plain_parts (parts_of c.args.parts.now.items)) (c.args.node + 1) (without_parts c.args.node) c.args.plant.now.state) c.loop-part.next c.loop-part.last c.args.plant.now c.args.log.now c.loop-part.plant c.loop-part.log
+    none_chosen
     (subst (λ ps. ChoosesOn (choice_meaning (plain_parts (parts_of c.args.parts.now.items)) (c.args.node + 1) (without_parts c.args.node) c.args.plant.now.state) (plain_parts ps) c.loop-part.next c.loop-part.last c.args.plant.now c.args.log.now c.loop-part.plant c.loop-part.log) (none_left c.deref-part-items.result.now c.loop-part.part-index past) c.loop-part.invariant.1.1)

@@ -56,41 +56,35 @@ returns-in-Ok-clause-accepted c = sym (ap (λ (k : Key). following_refusal c.exc
     ∙ refusal_is (carried_of c.into_parts-action.result).edit c.self.inside.config.records c.self.inside.numbers.numbers c.self.inside.index (rows sub_id_cmp c.self.inside.seats) c.self.invariant c.exchange_record-back.new.config.records (c.exchange_record-back.ensures.config ∙ ap (config_after (action_of c.into_parts-action.result.action)) c.in_ok-make_record_places.ensures.config) c.args.quiet (sym (c.key_refusal.ensures ∙ sym (ap (λ (k : Carried). refusal_by_key k.edit.action (contains_key c.self.inside.config.records (action_key k.edit.action))) c.into_parts-action.ensures.value)) ∙ c.in_default.is)
     ∙ (λ i. refusal_when c.args.quiet (c.into_parts-action.ensures.value i).edit (c.self.view_is i).state)) ∙ c.in-Ok.ensures.clear
 
-pub returns-in-Ok-clause-state : goal.returns-in-Ok-clause-state
-returns-in-Ok-clause-state c = state_now (carried_of c.into_parts-action.result).edit c.self.inside.config.records c.self.inside.numbers.numbers c.self.inside.index (rows sub_id_cmp c.self.inside.seats) c.self.invariant c.exchange_record-back.new.config.records (c.exchange_record-back.ensures.config ∙ ap (config_after (action_of c.into_parts-action.result.action)) c.in_ok-make_record_places.ensures.config) c.follow.new.numbers.numbers c.in-Ok.ensures.numbers (rows sub_id_cmp c.follow.new.seats) c.in-Ok.ensures.seats
-    ∙ (λ i. state_after (c.into_parts-action.ensures.value i).edit (c.self.view_is i).state)
-
-pub returns-in-Ok-clause-inverse : goal.returns-in-Ok-clause-inverse
-returns-in-Ok-clause-inverse c = ap (λ (k : Carried). k.edit) c.applied.ensures.inverse ∙ inverse_is (carried_of c.into_parts-action.result).edit c.self.inside.config.records c.self.inside.numbers.numbers c.self.inside.index (rows sub_id_cmp c.self.inside.seats) c.self.invariant c.exchange_record-back.new.config.records (c.exchange_record-back.ensures.config ∙ ap (config_after (action_of c.into_parts-action.result.action)) c.in_ok-make_record_places.ensures.config) c.follow.new.numbers.numbers c.in-Ok.ensures.numbers (action_of c.exchange_record-back.result) (c.exchange_record-back.ensures.back ∙ ap (λ (k : Configuration). action_back (action_key (action_of c.into_parts-action.result.action)) (get k (action_key (action_of c.into_parts-action.result.action))) (record_after (action_of c.into_parts-action.result.action))) c.in_ok-make_record_places.ensures.config)
-    c.in-Ok.followed.renumbered.freed.items c.in-Ok.followed.renumbered.given.items c.in-Ok.followed.told.kept.items c.in-Ok.followed.told.meets.items c.in-Ok.ensures.freed c.in-Ok.ensures.given c.in-Ok.ensures.kept c.in-Ok.ensures.meets
-    ∙ (λ i. inverse_of (c.into_parts-action.ensures.value i).edit (c.self.view_is i).state)
-
-pub returns-in-Ok-clause-back : goal.returns-in-Ok-clause-back
-returns-in-Ok-clause-back c = subst (λ (k : Carried). CanUnapply k (operating_of c.exchange_record-back.new.config c.follow.new.numbers c.exchange_record-back.new.index c.follow.new.seats))
-    (sym c.applied.ensures.inverse) (record {
-      back = takes_back (carried_of c.into_parts-action.result).edit c.self.inside.config.records c.self.inside.numbers.numbers c.self.inside.index (rows sub_id_cmp c.self.inside.seats) c.self.invariant c.exchange_record-back.new.config.records (c.exchange_record-back.ensures.config ∙ ap (config_after (action_of c.into_parts-action.result.action)) c.in_ok-make_record_places.ensures.config) c.follow.new.numbers.numbers c.in-Ok.ensures.numbers (action_of c.exchange_record-back.result) (c.exchange_record-back.ensures.back ∙ ap (λ (k : Configuration). action_back (action_key (action_of c.into_parts-action.result.action)) (get k (action_key (action_of c.into_parts-action.result.action))) (record_after (action_of c.into_parts-action.result.action))) c.in_ok-make_record_places.ensures.config)
-          c.in-Ok.followed.renumbered.freed.items c.in-Ok.followed.renumbered.given.items c.in-Ok.followed.told.kept.items c.in-Ok.followed.told.meets.items c.in-Ok.ensures.freed c.in-Ok.ensures.given c.in-Ok.ensures.kept c.in-Ok.ensures.meets;
-      room = record {
-        key = back_has_key c.self.inside.config.records c.self.inside.index c.self.invariant.keyed c.self.invariant.indexed c.has_places.ensures (action_of c.into_parts-action.result.action) (action_of c.exchange_record-back.result) (c.exchange_record-back.ensures.back ∙ ap (λ (k : Configuration). action_back (action_key (action_of c.into_parts-action.result.action)) (get k (action_key (action_of c.into_parts-action.result.action))) (record_after (action_of c.into_parts-action.result.action))) c.in_ok-make_record_places.ensures.config) c.make_record_places.new.config.places c.exchange_record-back.new.config.places (subst (λ (k : Carried). HasPlaceIn key_cmp c.make_record_places.new.config.places (action_key k.edit.action)) (sym c.into_parts-action.ensures.value) c.in_ok-make_record_places.ensures.key) c.exchange_record-back.ensures.keys;
-        namings = back_has_namings c.self.inside.config.records c.self.inside.index c.self.invariant.keyed c.self.invariant.indexed c.has_places.ensures (action_of c.into_parts-action.result.action) (action_of c.exchange_record-back.result) (c.exchange_record-back.ensures.back ∙ ap (λ (k : Configuration). action_back (action_key (action_of c.into_parts-action.result.action)) (get k (action_key (action_of c.into_parts-action.result.action))) (record_after (action_of c.into_parts-action.result.action))) c.in_ok-make_record_places.ensures.config) c.make_record_places.new.index.places c.exchange_record-back.new.index.places c.in_ok-make_record_places.ensures.same_namings c.exchange_record-back.ensures.namings;
-        numbers = numbers_placed c.follow.new.numbers (room_of c.exchange_record-back.new.config c.follow.new.numbers c.exchange_record-back.new.index c.follow.new.seats) refl refl
-            c.in-Ok.followed.renumbered.freed.items (subst (HaveRoom c.follow.new.numbers) (sym c.in-Ok.ensures.freed)
-            (rows_have_room c.follow.new.numbers c.follow.new.numbers.numbers c.self.inside.numbers.numbers (λ p k has. c.in-Ok.ensures.room p k (c.have_room.ensures p k has))));
-        subchannels = kept_have_places c.self.inside.seats c.follow.new.seats.places _ (is_altered (state_of c.self.inside.config.records c.self.inside.numbers.numbers (rows sub_id_cmp c.self.inside.seats)) (state_after (carried_of c.into_parts-action.result).edit (state_of c.self.inside.config.records c.self.inside.numbers.numbers (rows sub_id_cmp c.self.inside.seats))))
-            (kept_retained (carried_of c.into_parts-action.result).edit c.self.inside.config.records c.self.inside.numbers.numbers c.self.inside.index (rows sub_id_cmp c.self.inside.seats) c.self.invariant c.exchange_record-back.new.config.records (c.exchange_record-back.ensures.config ∙ ap (config_after (action_of c.into_parts-action.result.action)) c.in_ok-make_record_places.ensures.config) c.follow.new.numbers.numbers c.in-Ok.ensures.numbers (action_of c.exchange_record-back.result) (c.exchange_record-back.ensures.back ∙ ap (λ (k : Configuration). action_back (action_key (action_of c.into_parts-action.result.action)) (get k (action_key (action_of c.into_parts-action.result.action))) (record_after (action_of c.into_parts-action.result.action))) c.in_ok-make_record_places.ensures.config)
-            c.in-Ok.followed.renumbered.freed.items c.in-Ok.followed.renumbered.given.items c.in-Ok.followed.told.kept.items c.in-Ok.followed.told.meets.items c.in-Ok.ensures.freed c.in-Ok.ensures.given c.in-Ok.ensures.kept c.in-Ok.ensures.meets) c.has_places-2.ensures c.in-Ok.ensures.subchannels_placed;
-      };
-    })
-
-pub returns-in-Ok-clause-numbers : goal.returns-in-Ok-clause-numbers
-returns-in-Ok-clause-numbers c = ap (λ (t : Touched). t.numbers.items) c.applied.ensures.touched ∙ c.in-Ok.ensures.told_numbers
-    ∙ told_numbers (carried_of c.into_parts-action.result).edit c.self.inside.config.records c.self.inside.numbers.numbers c.self.inside.index (rows sub_id_cmp c.self.inside.seats) c.self.invariant c.exchange_record-back.new.config.records (c.exchange_record-back.ensures.config ∙ ap (config_after (action_of c.into_parts-action.result.action)) c.in_ok-make_record_places.ensures.config) c.follow.new.numbers.numbers c.in-Ok.ensures.numbers
-    ∙ (λ i. number_changes.changes_between (c.self.view_is i).state.numbers (state_after (c.into_parts-action.ensures.value i).edit (c.self.view_is i).state).numbers)
-
-pub returns-in-Ok-clause-subchannels : goal.returns-in-Ok-clause-subchannels
-returns-in-Ok-clause-subchannels c = ap (λ (t : Touched). t.subchannels.items) c.applied.ensures.touched ∙ c.in-Ok.ensures.told_subchannels
-    ∙ told_altered (carried_of c.into_parts-action.result).edit c.self.inside.config.records c.self.inside.numbers.numbers c.self.inside.index (rows sub_id_cmp c.self.inside.seats) c.self.invariant c.exchange_record-back.new.config.records (c.exchange_record-back.ensures.config ∙ ap (config_after (action_of c.into_parts-action.result.action)) c.in_ok-make_record_places.ensures.config) c.follow.new.numbers.numbers c.in-Ok.ensures.numbers
-    ∙ (λ i. views.changes_between (views_in (c.self.view_is i).state) (views_in (state_after (c.into_parts-action.ensures.value i).edit (c.self.view_is i).state)))
+pub returns-in-Ok-clause-performs : goal.returns-in-Ok-clause-performs
+returns-in-Ok-clause-performs c = record {
+  state = state_now (carried_of c.into_parts-action.result).edit c.self.inside.config.records c.self.inside.numbers.numbers c.self.inside.index (rows sub_id_cmp c.self.inside.seats) c.self.invariant c.exchange_record-back.new.config.records (c.exchange_record-back.ensures.config ∙ ap (config_after (action_of c.into_parts-action.result.action)) c.in_ok-make_record_places.ensures.config) c.follow.new.numbers.numbers c.in-Ok.ensures.numbers (rows sub_id_cmp c.follow.new.seats) c.in-Ok.ensures.seats
+      ∙ (λ i. state_after (c.into_parts-action.ensures.value i).edit (c.self.view_is i).state);
+  inverse = ap (λ (k : Carried). k.edit) c.applied.ensures.inverse ∙ inverse_is (carried_of c.into_parts-action.result).edit c.self.inside.config.records c.self.inside.numbers.numbers c.self.inside.index (rows sub_id_cmp c.self.inside.seats) c.self.invariant c.exchange_record-back.new.config.records (c.exchange_record-back.ensures.config ∙ ap (config_after (action_of c.into_parts-action.result.action)) c.in_ok-make_record_places.ensures.config) c.follow.new.numbers.numbers c.in-Ok.ensures.numbers (action_of c.exchange_record-back.result) (c.exchange_record-back.ensures.back ∙ ap (λ (k : Configuration). action_back (action_key (action_of c.into_parts-action.result.action)) (get k (action_key (action_of c.into_parts-action.result.action))) (record_after (action_of c.into_parts-action.result.action))) c.in_ok-make_record_places.ensures.config)
+      c.in-Ok.followed.renumbered.freed.items c.in-Ok.followed.renumbered.given.items c.in-Ok.followed.told.kept.items c.in-Ok.followed.told.meets.items c.in-Ok.ensures.freed c.in-Ok.ensures.given c.in-Ok.ensures.kept c.in-Ok.ensures.meets
+      ∙ (λ i. inverse_of (c.into_parts-action.ensures.value i).edit (c.self.view_is i).state);
+  back = subst (λ (k : Carried). CanUnapply k (operating_of c.exchange_record-back.new.config c.follow.new.numbers c.exchange_record-back.new.index c.follow.new.seats))
+      (sym c.applied.ensures.inverse) (record {
+        back = takes_back (carried_of c.into_parts-action.result).edit c.self.inside.config.records c.self.inside.numbers.numbers c.self.inside.index (rows sub_id_cmp c.self.inside.seats) c.self.invariant c.exchange_record-back.new.config.records (c.exchange_record-back.ensures.config ∙ ap (config_after (action_of c.into_parts-action.result.action)) c.in_ok-make_record_places.ensures.config) c.follow.new.numbers.numbers c.in-Ok.ensures.numbers (action_of c.exchange_record-back.result) (c.exchange_record-back.ensures.back ∙ ap (λ (k : Configuration). action_back (action_key (action_of c.into_parts-action.result.action)) (get k (action_key (action_of c.into_parts-action.result.action))) (record_after (action_of c.into_parts-action.result.action))) c.in_ok-make_record_places.ensures.config)
+            c.in-Ok.followed.renumbered.freed.items c.in-Ok.followed.renumbered.given.items c.in-Ok.followed.told.kept.items c.in-Ok.followed.told.meets.items c.in-Ok.ensures.freed c.in-Ok.ensures.given c.in-Ok.ensures.kept c.in-Ok.ensures.meets;
+        room = record {
+          key = back_has_key c.self.inside.config.records c.self.inside.index c.self.invariant.keyed c.self.invariant.indexed c.has_places.ensures (action_of c.into_parts-action.result.action) (action_of c.exchange_record-back.result) (c.exchange_record-back.ensures.back ∙ ap (λ (k : Configuration). action_back (action_key (action_of c.into_parts-action.result.action)) (get k (action_key (action_of c.into_parts-action.result.action))) (record_after (action_of c.into_parts-action.result.action))) c.in_ok-make_record_places.ensures.config) c.make_record_places.new.config.places c.exchange_record-back.new.config.places (subst (λ (k : Carried). HasPlaceIn key_cmp c.make_record_places.new.config.places (action_key k.edit.action)) (sym c.into_parts-action.ensures.value) c.in_ok-make_record_places.ensures.key) c.exchange_record-back.ensures.keys;
+          namings = back_has_namings c.self.inside.config.records c.self.inside.index c.self.invariant.keyed c.self.invariant.indexed c.has_places.ensures (action_of c.into_parts-action.result.action) (action_of c.exchange_record-back.result) (c.exchange_record-back.ensures.back ∙ ap (λ (k : Configuration). action_back (action_key (action_of c.into_parts-action.result.action)) (get k (action_key (action_of c.into_parts-action.result.action))) (record_after (action_of c.into_parts-action.result.action))) c.in_ok-make_record_places.ensures.config) c.make_record_places.new.index.places c.exchange_record-back.new.index.places c.in_ok-make_record_places.ensures.same_namings c.exchange_record-back.ensures.namings;
+          numbers = numbers_placed c.follow.new.numbers (room_of c.exchange_record-back.new.config c.follow.new.numbers c.exchange_record-back.new.index c.follow.new.seats) refl refl
+              c.in-Ok.followed.renumbered.freed.items (subst (HaveRoom c.follow.new.numbers) (sym c.in-Ok.ensures.freed)
+              (rows_have_room c.follow.new.numbers c.follow.new.numbers.numbers c.self.inside.numbers.numbers (λ p k has. c.in-Ok.ensures.room p k (c.have_room.ensures p k has))));
+          subchannels = kept_have_places c.self.inside.seats c.follow.new.seats.places _ (is_altered (state_of c.self.inside.config.records c.self.inside.numbers.numbers (rows sub_id_cmp c.self.inside.seats)) (state_after (carried_of c.into_parts-action.result).edit (state_of c.self.inside.config.records c.self.inside.numbers.numbers (rows sub_id_cmp c.self.inside.seats))))
+              (kept_retained (carried_of c.into_parts-action.result).edit c.self.inside.config.records c.self.inside.numbers.numbers c.self.inside.index (rows sub_id_cmp c.self.inside.seats) c.self.invariant c.exchange_record-back.new.config.records (c.exchange_record-back.ensures.config ∙ ap (config_after (action_of c.into_parts-action.result.action)) c.in_ok-make_record_places.ensures.config) c.follow.new.numbers.numbers c.in-Ok.ensures.numbers (action_of c.exchange_record-back.result) (c.exchange_record-back.ensures.back ∙ ap (λ (k : Configuration). action_back (action_key (action_of c.into_parts-action.result.action)) (get k (action_key (action_of c.into_parts-action.result.action))) (record_after (action_of c.into_parts-action.result.action))) c.in_ok-make_record_places.ensures.config)
+              c.in-Ok.followed.renumbered.freed.items c.in-Ok.followed.renumbered.given.items c.in-Ok.followed.told.kept.items c.in-Ok.followed.told.meets.items c.in-Ok.ensures.freed c.in-Ok.ensures.given c.in-Ok.ensures.kept c.in-Ok.ensures.meets) c.has_places-2.ensures c.in-Ok.ensures.subchannels_placed;
+        };
+      });
+  numbers = ap (λ (t : Touched). t.numbers.items) c.applied.ensures.touched ∙ c.in-Ok.ensures.told_numbers
+      ∙ told_numbers (carried_of c.into_parts-action.result).edit c.self.inside.config.records c.self.inside.numbers.numbers c.self.inside.index (rows sub_id_cmp c.self.inside.seats) c.self.invariant c.exchange_record-back.new.config.records (c.exchange_record-back.ensures.config ∙ ap (config_after (action_of c.into_parts-action.result.action)) c.in_ok-make_record_places.ensures.config) c.follow.new.numbers.numbers c.in-Ok.ensures.numbers
+      ∙ (λ i. number_changes.changes_between (c.self.view_is i).state.numbers (state_after (c.into_parts-action.ensures.value i).edit (c.self.view_is i).state).numbers);
+  subchannels = ap (λ (t : Touched). t.subchannels.items) c.applied.ensures.touched ∙ c.in-Ok.ensures.told_subchannels
+      ∙ told_altered (carried_of c.into_parts-action.result).edit c.self.inside.config.records c.self.inside.numbers.numbers c.self.inside.index (rows sub_id_cmp c.self.inside.seats) c.self.invariant c.exchange_record-back.new.config.records (c.exchange_record-back.ensures.config ∙ ap (config_after (action_of c.into_parts-action.result.action)) c.in_ok-make_record_places.ensures.config) c.follow.new.numbers.numbers c.in-Ok.ensures.numbers
+      ∙ (λ i. views.changes_between (views_in (c.self.view_is i).state) (views_in (state_after (c.into_parts-action.ensures.value i).edit (c.self.view_is i).state)));
+}
 
 pub change_back-requires-clause-key : goal.change_back-requires-clause-key
 change_back-requires-clause-key c = back_has_key c.self.inside.config.records c.self.inside.index c.self.invariant.keyed c.self.invariant.indexed c.has_places.ensures (action_of c.into_parts-action.result.action) (action_of c.exchange_record-back.result) (c.exchange_record-back.ensures.back ∙ ap (λ (k : Configuration). action_back (action_key (action_of c.into_parts-action.result.action)) (get k (action_key (action_of c.into_parts-action.result.action))) (record_after (action_of c.into_parts-action.result.action))) c.in_ok-make_record_places.ensures.config) c.make_record_places.new.config.places c.exchange_record-back.new.config.places (subst (λ (k : Carried). HasPlaceIn key_cmp c.make_record_places.new.config.places (action_key k.edit.action)) (sym c.into_parts-action.ensures.value) c.in_ok-make_record_places.ensures.key) c.exchange_record-back.ensures.keys
