@@ -29,11 +29,7 @@ pub fn broken(plant: &Plant, log: &mut Log, node: u64) -> Option<Refused>
             log.kept = log.keys.len();
             None
         }
-        Err(breach) => Some(Refused {
-            rule: breach.rule,
-            node: Some(node),
-            at: At::Key(breach.key),
-        }),
+        Err(breach) => Some(Refused::about(breach.rule, At::Key(breach.key)).at_node(node)),
     }
 }
 

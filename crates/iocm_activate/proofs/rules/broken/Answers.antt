@@ -1,4 +1,5 @@
 use Rattle.std.proofs.Common.{◌≡◌, length, Some, sym, ap, ◌∙◌, arith}
+use Rattle.iocm_types.specs.declared.refused.Refused.{Refused}
 use Rattle.iocm_model.specs.Rules.FirstBreach.{Breach}
 use Rattle.iocm_activate.proofs.Kept.{kept_now}
 use Rattle.iocm_activate.proofs.Parts.{breach_at}
@@ -14,5 +15,6 @@ returns-in-Ok-clause-kept c =
     (sym c.in-Ok.ensures) mark
 
 pub returns-in-Err-clause-value : goal.returns-in-Err-clause-value
-returns-in-Err-clause-value c = ap (λ (b : Breach). breach_at c.args.node (Some b)) c.breach.view_is
+returns-in-Err-clause-value c = ap Some (c.at_node.ensures ∙ ap (λ (r : Refused). record r { node = Some c.args.node }) c.about.ensures)
+    ∙ ap (λ (b : Breach). breach_at c.args.node (Some b)) c.breach.view_is
     ∙ ap (breach_at c.args.node) c.in-Err.ensures
