@@ -1,10 +1,11 @@
 pub mod Busy
 pub mod Exchanged
+pub mod Lending
+pub mod Listed
 pub mod Loops
 pub mod Maps
 pub mod Ordered
 pub mod Remembered
-pub mod Seats
 pub mod Settled
 pub mod Sighted
 pub mod Taking

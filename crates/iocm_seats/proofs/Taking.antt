@@ -16,11 +16,10 @@ use Rattle.iocm_types.proofs.Found.{same_key, ties_itself}
 use Rattle.iocm_types.proofs.Lists.{drop-item}
 use Rattle.iocm_types.proofs.Orderings.{less_is}
 use Rattle.iocm_types.proofs.Tests.{first_holds, second_holds}
-use Rattle.iocm_table.specs.Slots.{Stored, rows}
 use Rattle.iocm_types.specs.declared.live.Live.{Live}
 use Rattle.iocm_types.specs.declared.sub_id.SubId.{SubId}
 use Rattle.iocm_seats.specs.declared.seat.Seat.{Seat}
-use Rattle.iocm_seats.specs.Seated.{Seats, lives_seated}
+use Rattle.iocm_seats.specs.Seated.{Seats, lives_seated, Seated}
 use Rattle.iocm_seats.specs.Exchange.{met}
 use Rattle.iocm_seats.proofs.Settled.{live_in, live_seated}
 
@@ -45,12 +44,12 @@ met_none seats row is = ap (λ o. (row.0, unwrap_or o row.1)) (live_seated seats
 
 -- the rows so far have their live records, the others are as they were; what is left to take out
 -- gives what all gives
-pub record IsTaking (first now : Stored SubId Seat) (start out : List (SubId × Live)) (i : ℕ) : Type 0 where
+pub record IsTaking (first now : Seated) (start out : List (SubId × Live)) (i : ℕ) : Type 0 where
   pub len : length out ≡ length start
   pub rest : drop i out ≡ drop i start
-  pub done : take i out ≡ map (met (lives_seated (rows sub_id_cmp first))) (take i start)
-  pub left : fold remove (rows sub_id_cmp now) (keys_of (drop i start)) ≡ fold remove (rows sub_id_cmp first) (keys_of start)
-  pub unread : (x : SubId) → list_any (eq_by_cmp sub_id_cmp x) (keys_of (drop i start)) ≡ true → get (rows sub_id_cmp now) x ≡ get (rows sub_id_cmp first) x
+  pub done : take i out ≡ map (met (lives_seated first.seats)) (take i start)
+  pub left : fold remove now.seats (keys_of (drop i start)) ≡ fold remove first.seats (keys_of start)
+  pub unread : (x : SubId) → list_any (eq_by_cmp sub_id_cmp x) (keys_of (drop i start)) ≡ true → get now.seats x ≡ get first.seats x
   pub same_places : now.places ≡ first.places
 
 -- of rows in order, those from a place on stand in order
@@ -87,9 +86,9 @@ tails e = cc
 met_same : (s t : Seats) (row : SubId × Live) → get s row.0 ≡ get t row.0 → met (lives_seated s) row ≡ met (lives_seated t) row
 met_same s t row same = ap (λ o. (row.0, unwrap_or o row.1)) (live_seated s row.0 ∙ ap live_in same ∙ sym (live_seated t row.0))
 
-pub taken_more : (first now next : Stored SubId Seat) (start out : List (SubId × Live)) (i : ℕ) (row left : SubId × Live) → T (is_sorted sub_id_cmp start)
+pub taken_more : (first now next : Seated) (start out : List (SubId × Live)) (i : ℕ) (row left : SubId × Live) → T (is_sorted sub_id_cmp start)
     → i < length out → row ≡ get_or out i row → IsTaking first now start out i
-    → rows sub_id_cmp next ≡ remove (rows sub_id_cmp now) row.0 → left ≡ met (lives_seated (rows sub_id_cmp now)) row → next.places ≡ now.places
+    → next.seats ≡ remove now.seats row.0 → left ≡ met (lives_seated now.seats) row → next.places ≡ now.places
     → IsTaking first next start (slice_set out i left) (i + 1)
 taken_more first now next start out i row left up within item before goes is places =
     let within' : i < length start = subst (λ n. i < n) before.len within in
@@ -100,29 +99,29 @@ taken_more first now next start out i row left up within item before goes is pla
     let tied : list_any (eq_by_cmp sub_id_cmp row.0) (keys_of (drop i start)) ≡ true =
     ap (λ (es : List (SubId × Live)). list_any (eq_by_cmp sub_id_cmp row.0) (keys_of es)) (sym opened)
     ∙ ap (λ b. b || list_any (eq_by_cmp sub_id_cmp row.0) (keys_of (drop (i + 1) start))) (ties_itself sub_id_cmp sub_ids_total row.0) in
-    let first_met = met (lives_seated (rows sub_id_cmp first)) in
+    let first_met = met (lives_seated first.seats) in
     record {
       len = length-set out i left ∙ before.len;
       rest = drop-set-lt (i + 1) out i left (omega arith) ∙ tails both;
       done = take_more_set out i left within
-          ∙ (λ k. before.done k ++ (is ∙ met_same (rows sub_id_cmp now) (rows sub_id_cmp first) row (before.unread row.0 tied) ∙ ap first_met (heads both)) k ∷ [])
+          ∙ (λ k. before.done k ++ (is ∙ met_same now.seats first.seats row (before.unread row.0 tied) ∙ ap first_met (heads both)) k ∷ [])
           ∙ sym (ap (map first_met) (take_more start i row within') ∙ map_last first_met (take i start) (get_or start i row));
       left = ap (λ (m : Seats). fold remove m (keys_of (drop (i + 1) start))) goes
-          ∙ ap (λ (es : List (SubId × Live)). fold remove (rows sub_id_cmp now) (keys_of es)) opened ∙ before.left;
-      unread = λ x among. ap (λ (m : Seats). get m x) goes ∙ get-remove sub_ids_total (rows sub_id_cmp now) row.0 x
-          ∙ kept_by (eq_by_cmp sub_id_cmp x row.0) (get (rows sub_id_cmp now) x) (other_key x row.0 (keys_of (drop (i + 1) start)) (not_below row.0 (drop (i + 1) start) below) among)
+          ∙ ap (λ (es : List (SubId × Live)). fold remove now.seats (keys_of es)) opened ∙ before.left;
+      unread = λ x among. ap (λ (m : Seats). get m x) goes ∙ get-remove sub_ids_total now.seats row.0 x
+          ∙ kept_by (eq_by_cmp sub_id_cmp x row.0) (get now.seats x) (other_key x row.0 (keys_of (drop (i + 1) start)) (not_below row.0 (drop (i + 1) start) below) among)
           ∙ before.unread x (ap (λ (es : List (SubId × Live)). list_any (eq_by_cmp sub_id_cmp x) (keys_of es)) (sym opened)
           ∙ or_right (eq_by_cmp sub_id_cmp x row.0) (list_any (eq_by_cmp sub_id_cmp x) (keys_of (drop (i + 1) start))) among);
       same_places = places ∙ before.same_places;
     }
 
-pub taken_none : (first : Stored SubId Seat) (start : List (SubId × Live)) → IsTaking first first start start 0
+pub taken_none : (first : Seated) (start : List (SubId × Live)) → IsTaking first first start start 0
 taken_none first start = record { len = refl; rest = refl; done = refl; left = refl; unread = λ x among. refl; same_places = refl }
 
-pub taken_all : (first now : Stored SubId Seat) (start out : List (SubId × Live)) (i : ℕ) → length out ≤ i → IsTaking first now start out i
-    → (rows sub_id_cmp now ≡ fold remove (rows sub_id_cmp first) (keys_of start)) × (out ≡ map (met (lives_seated (rows sub_id_cmp first))) start)
+pub taken_all : (first now : Seated) (start out : List (SubId × Live)) (i : ℕ) → length out ≤ i → IsTaking first now start out i
+    → (now.seats ≡ fold remove first.seats (keys_of start)) × (out ≡ map (met (lives_seated first.seats)) start)
 taken_all first now start out i past all =
     let past' : length start ≤ i = subst (λ n. n ≤ i) all.len past in (
-      sym (ap (λ (es : List (SubId × Live)). fold remove (rows sub_id_cmp now) (keys_of es)) (drop_of_length-le start past')) ∙ all.left,
-      sym (take_all i out past) ∙ all.done ∙ ap (map (met (lives_seated (rows sub_id_cmp first)))) (take_all i start past'),
+      sym (ap (λ (es : List (SubId × Live)). fold remove now.seats (keys_of es)) (drop_of_length-le start past')) ∙ all.left,
+      sym (take_all i out past) ∙ all.done ∙ ap (map (met (lives_seated first.seats))) (take_all i start past'),
     )

@@ -1,5 +1,6 @@
 pub mod Changes
 pub mod Exchange
+pub mod Lent
 pub mod Listing
 pub mod Seated
 pub mod Settling

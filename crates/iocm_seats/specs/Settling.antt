@@ -6,15 +6,13 @@ use Rattle.std.specs.FinMap.{get}
 use Rattle.iocm_types.specs.declared.live.Live.{Live}
 use Rattle.iocm_types.specs.declared.sub_id.SubId.{SubId}
 use Rattle.iocm_types.specs.declared.view.View.{View}
-use Rattle.iocm_types.specs.SubId.{sub_id_cmp}
-use Rattle.iocm_table.specs.Slots.{Stored, HasPlace}
 use Rattle.iocm_model.specs.Operation.State.{Lives, Views}
 use Rattle.iocm_model.specs.Change.Edit.{live_of_altered, lives_after_edit}
 use Rattle.iocm_model.specs.Change.Maps.{with_value}
 use Rattle.iocm_model.specs.Change.Refusal.{is_not_quiet}
 use Rattle.iocm_seats.specs.declared.seat.Seat.{Seat}
 use Rattle.iocm_seats.specs.declared.view_change.ViewChange.{ViewChange}
-use Rattle.iocm_seats.specs.Seated.{Seats, views_seated, lives_seated}
+use Rattle.iocm_seats.specs.Seated.{Seats, Seated, views_seated, lives_seated, HasPlace}
 use Rattle.iocm_seats.specs.Changes.{changes_between}
 
 -- the seat of an altered subchannel afterwards, if anything is seen there: with the live record
@@ -39,8 +37,8 @@ abbrev pub settled_all : Lives → Seats → List ViewChange → Seats
 settled_all kept seats changes = fold (settled kept) seats changes
 
 -- each subchannel of these changes has a place
-abbrev pub HavePlaces : Stored SubId Seat → List ViewChange → Type 0
-HavePlaces t changes = AllByRecursion (λ ch. HasPlace sub_id_cmp t ch.subchannel) changes
+abbrev pub HavePlaces : Seated → List ViewChange → Type 0
+HavePlaces s changes = AllByRecursion (λ ch. HasPlace s ch.subchannel) changes
 
 -- the subchannels at which something is seen afterwards
 abbrev pub subchannels_left : List ViewChange → List SubId

@@ -3,9 +3,8 @@ ghost use Rattle.std.specs.List.{cons_option};
 ghost use Rattle.std.specs.List.Sorted.{IsStrictlySortedBy};
 ghost use Rattle.std.specs.Option.{option_copied, option_eq, option_and_then};
 ghost use Rattle.std.specs.FinMap.{get};
-ghost use Rattle.iocm_types.specs.SubId.{sub_id_cmp, image_cmp};
+ghost use Rattle.iocm_types.specs.SubId.{image_cmp};
 ghost use Rattle.iocm_types.specs.Place.{cell_cmp};
-ghost use Rattle.iocm_table.specs.Slots.{rows};
 ghost use Rattle.iocm_model.specs.Change.Edit.{same_view};
 ghost use Rattle.iocm_model.specs.Machine.Configuration.{IsKeyed, lookup_of};
 ghost use Rattle.iocm_model.specs.Machine.View as model;
@@ -17,11 +16,10 @@ ghost use Rattle.iocm_seats.specs.Settling.{lives_met, met_at};
 ghost use Rattle.iocm_seats.specs.Changes.{candidates, changes_at, change_from, changes_between, AreCandidates};
 ghost use Rattle.iocm_seats.specs.Sights.{AreSights, cells_of_sights};
 
-use crate::{Seat, ViewChange};
+use crate::{Seat, Seats, ViewChange};
 use iocm_config::Config;
 use iocm_derive::{CellSight, ImageNames};
 use iocm_numbers::Numbers;
-use iocm_table::Table;
 use iocm_types::{Image, Live, Name, NumberCell, SubId, View};
 use std::alloc::{AllocError, Allocator};
 
@@ -33,7 +31,7 @@ const MANY_IMAGES: usize = 6;
 /// they are after it.
 #[derive(Drop)]
 pub struct Tried<'a, A: Allocator, B: Allocator, C: Allocator> {
-    pub seats: &'a Table<SubId, Seat, A>,
+    pub seats: &'a Seats<A>,
     pub config: &'a Config<B>,
     pub numbers: &'a Numbers<C>,
 }
@@ -68,14 +66,14 @@ pub fn list_changes<A: Allocator, B: Allocator, C: Allocator, D: Allocator + Clo
 ) -> Result<Altered<D>, AllocError>
     requires images { IsStrictlySortedBy image_cmp images.now }
     requires cells { IsStrictlySortedBy cell_cmp cells.now }
-    requires all { AreCandidates (get (views_seated (rows sub_id_cmp tried.now.seats.now)))
+    requires all { AreCandidates (get (views_seated tried.now.seats.now.seats))
         (model.view_at tried.now.config.now.records tried.now.numbers.now.numbers)
         (candidates images.now cells.now) }
     ensures changes { IfOk result (λ altered. altered.changes.items ≡ changes_between
-        (views_seated (rows sub_id_cmp tried.now.seats.now))
+        (views_seated tried.now.seats.now.seats)
         (views_of tried.now.config.now.records tried.now.numbers.now.numbers)) }
     ensures met { IfOk result (λ altered. altered.met.items
-        ≡ lives_met (lives_seated (rows sub_id_cmp tried.now.seats.now)) altered.changes.items) }
+        ≡ lives_met (lives_seated tried.now.seats.now.seats) altered.changes.items) }
 {
     // For the proof alone: each record stands under its own key.
     tried.config.has_own_keys();
@@ -125,10 +123,10 @@ fn list_at_images<A: Allocator, B: Allocator, C: Allocator, D: Allocator + Clone
     requires keyed { IsKeyed tried.now.config.now.records }
     requires sights { AreSights tried.now.config.now.records tried.now.numbers.now.numbers sights.now }
     ensures changes { IfOk result (λ altered. altered.changes.items ≡ changes_at
-        (rows sub_id_cmp tried.now.seats.now) tried.now.config.now.records tried.now.numbers.now.numbers
+        tried.now.seats.now.seats tried.now.config.now.records tried.now.numbers.now.numbers
         (candidates images.now (cells_of_sights sights.now))) }
     ensures met { IfOk result (λ altered. altered.met.items
-        ≡ lives_met (lives_seated (rows sub_id_cmp tried.now.seats.now)) altered.changes.items) }
+        ≡ lives_met (lives_seated tried.now.seats.now.seats) altered.changes.items) }
 {
     let mut altered = Altered {
         changes: Vec::new(alloc.clone()?),
@@ -153,15 +151,15 @@ fn list_at_cells<A: Allocator, B: Allocator, C: Allocator, D: Allocator>(
     sights: &[CellSight<'_, B>],
 ) -> Result<(), AllocError>
     requires met { altered.old.met.items
-        ≡ lives_met (lives_seated (rows sub_id_cmp tried.now.seats.now)) altered.old.changes.items }
+        ≡ lives_met (lives_seated tried.now.seats.now.seats) altered.old.changes.items }
     requires keyed { IsKeyed tried.now.config.now.records }
     requires name { named.now.name ≡ name_at (lookup_of tried.now.config.now.records) named.now.image }
     requires sights { AreSights tried.now.config.now.records tried.now.numbers.now.numbers sights.now }
     ensures changes { OnOk result (altered.new.changes.items ≡ altered.old.changes.items ++ changes_at
-        (rows sub_id_cmp tried.now.seats.now) tried.now.config.now.records tried.now.numbers.now.numbers
+        tried.now.seats.now.seats tried.now.config.now.records tried.now.numbers.now.numbers
         (candidates (named.now.image ∷ []) (cells_of_sights sights.now))) }
     ensures met { OnOk result (altered.new.met.items
-        ≡ lives_met (lives_seated (rows sub_id_cmp tried.now.seats.now)) altered.new.changes.items) }
+        ≡ lives_met (lives_seated tried.now.seats.now.seats) altered.new.changes.items) }
 {
     for sight in sights {
         list_at_cell(altered, tried, named, sight)?;
@@ -178,16 +176,16 @@ fn list_at_cell<A: Allocator, B: Allocator, C: Allocator, D: Allocator>(
     sight: &CellSight<'_, B>,
 ) -> Result<(), AllocError>
     requires met { altered.old.met.items
-        ≡ lives_met (lives_seated (rows sub_id_cmp tried.now.seats.now)) altered.old.changes.items }
+        ≡ lives_met (lives_seated tried.now.seats.now.seats) altered.old.changes.items }
     requires keyed { IsKeyed tried.now.config.now.records }
     requires name { named.now.name ≡ name_at (lookup_of tried.now.config.now.records) named.now.image }
     requires sight { sight.now
         ≡ sighted_cell tried.now.config.now.records tried.now.numbers.now.numbers sight.now.cell }
     ensures changes { OnOk result (altered.new.changes.items ≡ altered.old.changes.items ++ changes_at
-        (rows sub_id_cmp tried.now.seats.now) tried.now.config.now.records tried.now.numbers.now.numbers
+        tried.now.seats.now.seats tried.now.config.now.records tried.now.numbers.now.numbers
         (candidates (named.now.image ∷ []) (sight.now.cell ∷ []))) }
     ensures met { OnOk result (altered.new.met.items
-        ≡ lives_met (lives_seated (rows sub_id_cmp tried.now.seats.now)) altered.new.changes.items) }
+        ≡ lives_met (lives_seated tried.now.seats.now.seats) altered.new.changes.items) }
 {
     let cell = sight.cell();
     if cell.css != named.image.css {

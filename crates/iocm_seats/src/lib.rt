@@ -1,15 +1,16 @@
-//! Seats: what a machine keeps at each of its subchannels, the view and the live record, in one
-//! table.
+//! Seats: what a machine keeps at each of its subchannels, the view and the live record.
 //!
-//! `open_seats` makes them of a configuration and its numbers. When a change of these is tried,
-//! `list_changes` says at which subchannels another view is seen, `first_not_quiet` which of them
-//! is the first that isn't quiet, and `settle_all` gives each the seat that it has afterwards,
-//! without memory. `exchange` does the same for a change that is taken back and knows beforehand
-//! which seats go and which live records come.
+//! `Seats` has them all. Contracts see the finite map of the seats, and the subchannels that have a
+//! place; `seats.rt` alone knows in what they are kept. `open_seats` makes them of a configuration
+//! and its numbers. When a change of these is tried, `list_changes` says at which subchannels
+//! another view is seen, `first_not_quiet` which of them is the first that isn't quiet, and
+//! `settle_all` gives each the seat that it has afterwards, without memory. `exchange` does the
+//! same for a change that is taken back and knows beforehand which seats go and which live records
+//! come.
 //!
 //! What the layer above may rely on: after either the seats show what is seen now and have the live
 //! records after the edit (`settled_seats_show`, `exchanged_seats_show`). Begin with
-//! `specs/Seated.antt` and `specs/Changes.antt`.
+//! `specs/Seated.antt`, `seats.rt` and `specs/Changes.antt`.
 #![tactic(auto)]
 
 mod changes;
@@ -18,8 +19,8 @@ mod exchanging;
 mod laws;
 mod met;
 mod opening;
-mod reading;
 mod seat;
+mod seats;
 mod settling;
 mod view_change;
 
@@ -29,7 +30,7 @@ pub use exchanging::exchange;
 pub use laws::{exchanged_seats_show, settled_seats_show};
 pub use met::{first_not_quiet, list_left};
 pub use opening::open_seats;
-pub use reading::{live_at, view_of};
 pub use seat::Seat;
+pub use seats::Seats;
 pub use settling::{make_places, settle_all};
 pub use view_change::ViewChange;

@@ -1,20 +1,17 @@
 ghost use Rattle.std.specs.Prelude.{◌≡◌, [], ◌∷◌, ◌++◌, map, IfOk, OnOk};
 ghost use Rattle.std.specs.FinMap.{entries, from_entries};
-ghost use Rattle.iocm_types.specs.SubId.{sub_id_cmp};
-ghost use Rattle.iocm_table.specs.Slots.{rows};
 ghost use Rattle.iocm_model.specs.Machine.Configuration.{lookup_of};
 ghost use Rattle.iocm_model.specs.Machine.Numbering.{cells_of};
 ghost use Rattle.iocm_model.specs.Machine.View.{views};
 ghost use Rattle.iocm_seats.specs.Seated.{fresh_seat};
 ghost use Rattle.iocm_seats.specs.Listing.{image_seats, record_seats};
 
-use crate::{CompactView, Seat};
+use crate::{CompactView, Seat, Seats};
 use iocm_config::Config;
 use iocm_derive::ImageSight;
 use iocm_live::fresh;
 use iocm_numbers::Numbers;
 use iocm_record::{Record, RecordBody};
-use iocm_table::Table;
 use iocm_types::{DevNo, Image, NumberCell, SubId};
 use std::alloc::{AllocError, Allocator};
 
@@ -26,14 +23,14 @@ pub fn open_seats<A: Allocator, B: Allocator, C: Allocator + Clone>(
     alloc: C,
     config: &Config<A>,
     numbers: &Numbers<B>,
-) -> Result<Table<SubId, Seat, C>, AllocError>
-    ensures { IfOk result (λ seats. rows sub_id_cmp seats
+) -> Result<Seats<C>, AllocError>
+    ensures { IfOk result (λ s. s.seats
         ≡ from_entries (map fresh_seat (views config.now.records numbers.now.numbers))) }
 {
     // For the proof alone: each record stands under its own key, so no subchannel is listed twice.
     config.has_own_keys();
     let listed = list_seats(alloc.clone()?, config, numbers)?;
-    Table::from_rows(alloc, listed)
+    Seats::from_rows(alloc, listed)
 }
 
 /// The rows of the seats, in the order of subchannels.

@@ -2,14 +2,13 @@ ghost use Rattle.std.specs.Prelude.{◌≡◌, OnOk, Some, None};
 ghost use Rattle.std.specs.Option.{option_copied, option_map};
 ghost use Rattle.std.specs.FinMap.{get};
 ghost use Rattle.iocm_types.specs.SubId.{sub_id_cmp};
-ghost use Rattle.iocm_types.specs.declared.sub_id.SubId as sub_id;
-ghost use Rattle.iocm_table.specs.Slots.{rows, HasPlace};
+ghost use Rattle.iocm_table.specs.Slots.{rows};
 ghost use Rattle.iocm_model.specs.Change.Edit.{live_of_altered};
 ghost use Rattle.iocm_model.specs.Change.Maps.{with_value};
-ghost use Rattle.iocm_seats.specs.Seated.{views_seated};
+ghost use Rattle.iocm_seats.specs.Seated.{views_seated, HasPlace, KeepsPlaces};
 ghost use Rattle.iocm_seats.specs.Settling.{seat_after, settled_all, AreSeen, HavePlaces};
 
-use crate::{CompactView, Seat, ViewChange};
+use crate::{CompactView, Seat, Seats, ViewChange};
 use iocm_live::fresh;
 use iocm_table::Table;
 use iocm_types::{Live, SubId, View};
@@ -20,13 +19,13 @@ use std::alloc::{AllocError, Allocator};
 ///
 /// `AllocError` (M1): memory was wanted.
 pub fn make_places<A: Allocator + Clone>(
-    seats: &mut Table<SubId, Seat, A>,
+    seats: &mut Seats<A>,
     changes: &[ViewChange],
 ) -> Result<(), AllocError>
-    requires { AreSeen (views_seated (rows sub_id_cmp seats.old)) changes.now }
-    ensures seats { rows sub_id_cmp seats.new ≡ rows sub_id_cmp seats.old }
+    requires { AreSeen (views_seated seats.old.seats) changes.now }
+    ensures seats { seats.new.seats ≡ seats.old.seats }
     ensures ok { OnOk result (HavePlaces seats.new changes.now) }
-    ensures kept { (x : sub_id.SubId) → HasPlace sub_id_cmp seats.old x → HasPlace sub_id_cmp seats.new x }
+    ensures kept { KeepsPlaces seats.old seats.new }
 {
     for change in changes {
         make_place(seats, change)?;
@@ -36,13 +35,13 @@ pub fn make_places<A: Allocator + Clone>(
 
 /// Gives the subchannel of a change a place, if it has none.
 fn make_place<A: Allocator + Clone>(
-    seats: &mut Table<SubId, Seat, A>,
+    seats: &mut Seats<A>,
     change: &ViewChange,
 ) -> Result<(), AllocError>
-    requires { change.now.before ≡ get (views_seated (rows sub_id_cmp seats.old)) change.now.subchannel }
-    ensures seats { rows sub_id_cmp seats.new ≡ rows sub_id_cmp seats.old }
-    ensures ok { OnOk result (HasPlace sub_id_cmp seats.new change.now.subchannel) }
-    ensures kept { (x : sub_id.SubId) → HasPlace sub_id_cmp seats.old x → HasPlace sub_id_cmp seats.new x }
+    requires { change.now.before ≡ get (views_seated seats.old.seats) change.now.subchannel }
+    ensures seats { seats.new.seats ≡ seats.old.seats }
+    ensures ok { OnOk result (HasPlace seats.new change.now.subchannel) }
+    ensures kept { KeepsPlaces seats.old seats.new }
 {
     // For the proof alone: what has a seat has a place.
     seats.has_places();
@@ -56,13 +55,12 @@ fn make_place<A: Allocator + Clone>(
 /// seen any more, else the view with the live record that comes along for it, or with a fresh one
 /// where it is new, or with its own. Can't answer want of memory.
 pub fn settle_all<A: Allocator, B: Allocator>(
-    seats: &mut Table<SubId, Seat, A>,
+    seats: &mut Seats<A>,
     changes: &[ViewChange],
     kept: &Table<SubId, Live, B>,
 )
     requires { HavePlaces seats.old changes.now }
-    ensures seats { rows sub_id_cmp seats.new
-        ≡ settled_all (rows sub_id_cmp kept.now) (rows sub_id_cmp seats.old) changes.now }
+    ensures seats { seats.new.seats ≡ settled_all (rows sub_id_cmp kept.now) seats.old.seats changes.now }
     ensures places { seats.new.places ≡ seats.old.places }
 {
     for change in changes {
@@ -72,11 +70,10 @@ pub fn settle_all<A: Allocator, B: Allocator>(
 
 /// Gives the subchannel of a change the seat that it has afterwards. One that has no seat is
 /// searched once.
-fn settle<A: Allocator>(seats: &mut Table<SubId, Seat, A>, change: &ViewChange, own: Option<Live>)
-    requires { HasPlace sub_id_cmp seats.old change.now.subchannel }
-    ensures seats { rows sub_id_cmp seats.new
-        ≡ with_value (rows sub_id_cmp seats.old) change.now.subchannel
-        (seat_after (get (rows sub_id_cmp seats.old) change.now.subchannel) change.now.after own) }
+fn settle<A: Allocator>(seats: &mut Seats<A>, change: &ViewChange, own: Option<Live>)
+    requires { HasPlace seats.old change.now.subchannel }
+    ensures seats { seats.new.seats ≡ with_value seats.old.seats change.now.subchannel
+        (seat_after (get seats.old.seats change.now.subchannel) change.now.after own) }
     ensures places { seats.new.places ≡ seats.old.places }
 {
     let Some(view) = &change.after else {

@@ -3,8 +3,6 @@ use Rattle.std.specs.FinMap.{get}
 use Rattle.std.specs.List.{cons_option}
 use Rattle.std.specs.Option.{option_copied}
 use Rattle.iocm_types.specs.declared.view.View.{View}
-use Rattle.iocm_types.specs.SubId.{sub_id_cmp}
-use Rattle.iocm_table.specs.Slots.{rows}
 use Rattle.iocm_seats.specs.Changes.{subchannel_at, change_from}
 use Rattle.iocm_seats.specs.Seated.{views_seated, lives_seated}
 use Rattle.iocm_seats.proofs.Remembered.{met_more, met_there, met_nowhere}
@@ -14,7 +12,7 @@ use Rattle.iocm_seats.proofs.changes.list_at_cell.Goals as goal
 
 pub returns-in_ok-list_seated-in-Some-clause-changes : goal.returns-in_ok-list_seated-in-Some-clause-changes
 returns-in_ok-list_seated-in-Some-clause-changes g c =
-    let seats = rows sub_id_cmp c.args.tried.now.seats.now in
+    let seats = c.args.tried.now.seats.now.seats in
     let x = subchannel_at c.args.named.now.image c.cell-cell.result in
     let after = c.view_there-after.result in
     let found : get seats x ≡ Some c.in-Some.seat.now = sym c.get.ensures ∙ ap option_copied c.in-Some.is in
@@ -27,7 +25,7 @@ returns-in_ok-list_seated-in-Some-clause-changes g c =
 
 pub returns-in_ok-list_seated-in-Some-clause-met : goal.returns-in_ok-list_seated-in-Some-clause-met
 returns-in_ok-list_seated-in-Some-clause-met g c =
-    let seats = rows sub_id_cmp c.args.tried.now.seats.now in
+    let seats = c.args.tried.now.seats.now.seats in
     let x = subchannel_at c.args.named.now.image c.cell-cell.result in
     let found : get seats x ≡ Some c.in-Some.seat.now = sym c.get.ensures ∙ ap option_copied c.in-Some.is in
     met_more (lives_seated seats) c.args.altered.now.changes.items (cons_option (change_from (Some c.in-Some.seat.now.view) c.view_there-after.result x) [])
@@ -36,7 +34,7 @@ returns-in_ok-list_seated-in-Some-clause-met g c =
 
 pub returns-in_ok-list_new-in-None-clause-changes : goal.returns-in_ok-list_new-in-None-clause-changes
 returns-in_ok-list_new-in-None-clause-changes g c =
-    let seats = rows sub_id_cmp c.args.tried.now.seats.now in
+    let seats = c.args.tried.now.seats.now.seats in
     let x = subchannel_at c.args.named.now.image c.cell-cell.result in
     let after = c.view_there-after.result in
     let found : get seats x ≡ None = sym c.get.ensures ∙ ap option_copied c.in-None.is in
@@ -49,7 +47,7 @@ returns-in_ok-list_new-in-None-clause-changes g c =
 
 pub returns-in_ok-list_new-in-None-clause-met : goal.returns-in_ok-list_new-in-None-clause-met
 returns-in_ok-list_new-in-None-clause-met g c =
-    let seats = rows sub_id_cmp c.args.tried.now.seats.now in
+    let seats = c.args.tried.now.seats.now.seats in
     let x = subchannel_at c.args.named.now.image c.cell-cell.result in
     let found : get seats x ≡ None = sym c.get.ensures ∙ ap option_copied c.in-None.is in
     met_more (lives_seated seats) c.args.altered.now.changes.items (cons_option (change_from None c.view_there-after.result x) [])

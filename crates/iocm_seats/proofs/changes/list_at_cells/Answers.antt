@@ -2,8 +2,6 @@ use Rattle.std.proofs.Common.{rules, ◌≡◌, List, [], ◌∷◌, ap, ◌∙�
 use Rattle.std.specs.List.{filter_map}
 use Rattle.std.specs.FinMap.{get}
 use Rattle.std.proofs.lemmas.List.Elements.{filter_map-append}
-use Rattle.iocm_types.specs.SubId.{sub_id_cmp}
-use Rattle.iocm_table.specs.Slots.{rows}
 use Rattle.iocm_model.specs.Machine.View.{view_at}
 use Rattle.iocm_derive.specs.SightedCells.{SightedCell, sighted_cell}
 use Rattle.iocm_seats.specs.Seated.{views_seated}
@@ -19,7 +17,7 @@ list_at_cell-requires g c =
 
 pub loop-sight-preserved : goal.loop-sight-preserved
 loop-sight-preserved g c =
-    let change = change_at (get (views_seated (rows sub_id_cmp c.args.tried.now.seats.now))) (view_at c.args.tried.now.config.now.records c.args.tried.now.numbers.now.numbers) in
+    let change = change_at (get (views_seated c.args.tried.now.seats.now.seats)) (view_at c.args.tried.now.config.now.records c.args.tried.now.numbers.now.numbers) in
     let one = c.args.named.now.image ∷ [] in record {
       left = listed_more (λ (sights : List SightedCell). filter_map change (candidates one (cells_of_sights sights)))
           (λ x xs. ap (filter_map change) (candidates_cell c.args.named.now.image x.cell (cells_of_sights xs))

@@ -3,8 +3,6 @@ use Rattle.std.specs.List.{filter_map}
 use Rattle.std.specs.FinMap.{get}
 use Rattle.std.proofs.lemmas.List.Elements.{filter_map-append}
 use Rattle.iocm_types.specs.declared.image.Image.{Image}
-use Rattle.iocm_types.specs.SubId.{sub_id_cmp}
-use Rattle.iocm_table.specs.Slots.{rows}
 use Rattle.iocm_model.specs.Machine.View.{view_at}
 use Rattle.iocm_seats.specs.Seated.{views_seated}
 use Rattle.iocm_seats.specs.Changes.{change_at, candidates}
@@ -14,7 +12,7 @@ use Rattle.iocm_seats.proofs.changes.list_at_images.Goals as goal
 
 pub loop-image-preserved : goal.loop-image-preserved
 loop-image-preserved g c =
-    let change = change_at (get (views_seated (rows sub_id_cmp c.args.tried.now.seats.now))) (view_at c.args.tried.now.config.now.records c.args.tried.now.numbers.now.numbers) in
+    let change = change_at (get (views_seated c.args.tried.now.seats.now.seats)) (view_at c.args.tried.now.config.now.records c.args.tried.now.numbers.now.numbers) in
     record {
       left = listed_more (λ (images : List Image). filter_map change (candidates images (cells_of_sights c.args.sights.now)))
           (λ x xs. ap (filter_map change) (candidates_image x xs (cells_of_sights c.args.sights.now)) ∙ filter_map-append change (candidates (x ∷ []) (cells_of_sights c.args.sights.now)) (candidates xs (cells_of_sights c.args.sights.now)))

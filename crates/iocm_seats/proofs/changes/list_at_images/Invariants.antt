@@ -2,8 +2,6 @@
 use Rattle.std.proofs.Common.{◌≡◌, ◌++◌, drop}
 use Rattle.std.specs.List.{filter_map}
 use Rattle.std.specs.FinMap.{get}
-use Rattle.iocm_types.specs.SubId.{sub_id_cmp}
-use Rattle.iocm_table.specs.Slots.{rows}
 use Rattle.iocm_model.specs.Machine.View.{view_at}
 use Rattle.iocm_seats.specs.Seated.{views_seated, lives_seated}
 use Rattle.iocm_seats.specs.Settling.{lives_met}
@@ -13,8 +11,8 @@ use Rattle.iocm_seats.proofs.changes.list_at_images.Given as goal
 
 abbrev pub invariant-loop-image : goal.invariant-loop-image
 invariant-loop-image g l =
-    let change = change_at (get (views_seated (rows sub_id_cmp l.tried.seats.now))) (view_at l.tried.config.now.records l.tried.numbers.now.numbers) in record {
+    let change = change_at (get (views_seated l.tried.seats.now.seats)) (view_at l.tried.config.now.records l.tried.numbers.now.numbers) in record {
       left : l.altered.changes.items ++ filter_map change (candidates (drop l.image-index l.images) (cells_of_sights l.sights)) ≡ filter_map change (candidates l.images (cells_of_sights l.sights));
       names : l.names ≡ l.tried.config.now.records;
-      met : l.altered.met.items ≡ lives_met (lives_seated (rows sub_id_cmp l.tried.seats.now)) l.altered.changes.items;
+      met : l.altered.met.items ≡ lives_met (lives_seated l.tried.seats.now.seats) l.altered.changes.items;
     }

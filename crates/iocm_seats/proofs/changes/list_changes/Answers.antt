@@ -3,8 +3,6 @@ use Rattle.std.specs.List.{filter_map}
 use Rattle.std.specs.FinMap.{get}
 use Rattle.std.proofs.lemmas.Result.{IfOk-weaker}
 use Rattle.iocm_types.specs.declared.place.NumberCell.{NumberCell}
-use Rattle.iocm_types.specs.SubId.{sub_id_cmp}
-use Rattle.iocm_table.specs.Slots.{rows}
 use Rattle.iocm_model.specs.Machine.View.{view_at}
 use Rattle.iocm_seats.specs.Seated.{views_seated}
 use Rattle.iocm_seats.specs.Changes.{candidates, change_at}
@@ -20,9 +18,9 @@ list_at_images-requires g c =
 
 pub returns-clause-changes : goal.returns-clause-changes
 returns-clause-changes g c = IfOk-weaker c.list_at_images.result _ _ (λ altered h. h
-    ∙ ap (λ (cells : List NumberCell). filter_map (change_at (get (views_seated (rows sub_id_cmp c.args.tried.now.seats.now)))
+    ∙ ap (λ (cells : List NumberCell). filter_map (change_at (get (views_seated c.args.tried.now.seats.now.seats))
     (view_at c.args.tried.now.config.now.records c.args.tried.now.numbers.now.numbers)) (candidates c.args.images.now cells))
     (ap cells_of_sights (c.as_slice.ensures.value ∙ c.in_ok-sights.ensures) ∙ same_cells c.args.tried.now.config.now.records c.args.tried.now.numbers.now.numbers c.args.cells.now)
-    ∙ all_changes_seen (views_seated (rows sub_id_cmp c.args.tried.now.seats.now)) c.args.tried.now.config.now.records c.args.tried.now.numbers.now.numbers
+    ∙ all_changes_seen (views_seated c.args.tried.now.seats.now.seats) c.args.tried.now.config.now.records c.args.tried.now.numbers.now.numbers
     (candidates c.args.images.now c.args.cells.now) c.has_own_keys.ensures (candidates_rise c.args.images.now c.args.cells.now c.requires.images c.requires.cells) c.requires.all)
     c.list_at_images.ensures.changes

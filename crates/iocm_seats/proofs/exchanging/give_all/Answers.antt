@@ -4,9 +4,8 @@ use Rattle.std.specs.Ordering.{eq_by_cmp}
 use Rattle.iocm_types.specs.declared.live.Live.{Live}
 use Rattle.iocm_types.specs.declared.sub_id.SubId.{SubId}
 use Rattle.iocm_types.specs.SubId.{sub_id_cmp}
-use Rattle.iocm_table.specs.Slots.{rows, HasPlace}
 use Rattle.iocm_model.specs.Operation.State.{views_of}
-use Rattle.iocm_seats.specs.Seated.{Seats}
+use Rattle.iocm_seats.specs.Seated.{Seats, HasPlace}
 use Rattle.iocm_seats.specs.Exchange.{given}
 use Rattle.iocm_seats.proofs.Loops.{fold_open, opened}
 use Rattle.iocm_seats.proofs.exchanging.give_all.Goals as goal
@@ -16,10 +15,10 @@ loop-row-preserved g c =
     let w = views_of c.args.config.now.records c.args.numbers.now.numbers in
     let rest = drop (c.loop-row.row-index + 1) c.args.back.now in record {
       left = ap (λ (m : Seats). fold (given w) m rest) c.give_one.ensures.seats
-          ∙ fold_open (given w) (rows sub_id_cmp c.loop-row.seats) c.args.back.now c.loop-row.row-index c.row-item.result c.loop-row-test.true c.row-item.is
+          ∙ fold_open (given w) c.loop-row.seats.seats c.args.back.now c.loop-row.row-index c.row-item.result c.loop-row-test.true c.row-item.is
           ∙ c.loop-row.invariant.left;
       ready = subst (λ (ps : List SubId). AllByRecursion (λ (row : SubId × Live). T (list_any (eq_by_cmp sub_id_cmp row.0) ps)) rest) (sym c.give_one.ensures.places)
-          (opened (λ (row : SubId × Live). HasPlace sub_id_cmp c.loop-row.seats row.0) c.args.back.now c.loop-row.row-index c.row-item.result c.loop-row-test.true c.row-item.is
+          (opened (λ (row : SubId × Live). HasPlace c.loop-row.seats row.0) c.args.back.now c.loop-row.row-index c.row-item.result c.loop-row-test.true c.row-item.is
           c.loop-row.invariant.ready).1;
       places = c.give_one.ensures.places ∙ c.loop-row.invariant.places;
     }

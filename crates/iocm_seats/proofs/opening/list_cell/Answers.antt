@@ -2,7 +2,7 @@ use Rattle.std.proofs.Common.{◌++◌, ap, sym, ◌∙◌}
 use Rattle.std.proofs.lemmas.List.{append-nil}
 use Rattle.std.proofs.lemmas.Bool.{not-true}
 use Rattle.iocm_model.specs.Machine.Configuration.{lookup_of}
-use Rattle.iocm_seats.proofs.Seats.{other_css}
+use Rattle.iocm_seats.proofs.Listed.{other_css}
 use Rattle.iocm_seats.proofs.opening.list_cell.Goals as goal
 
 pub returns-then-ne-clause-rows : goal.returns-then-ne-clause-rows

@@ -3,7 +3,7 @@ use Rattle.std.proofs.lemmas.List.{append-nil, append_assoc}
 use Rattle.iocm_types.specs.declared.place.NumberCell.{NumberCell}
 use Rattle.iocm_model.specs.Machine.Configuration.{lookup_of}
 use Rattle.iocm_seats.specs.Listing.{image_seats}
-use Rattle.iocm_seats.proofs.Seats.{image_seats-more, image_seats-nil}
+use Rattle.iocm_seats.proofs.Listed.{image_seats-more, image_seats-nil}
 use Rattle.iocm_seats.proofs.opening.list_image.Goals as goal
 
 pub loop-cell-preserved : goal.loop-cell-preserved

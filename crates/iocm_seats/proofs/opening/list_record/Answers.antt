@@ -6,7 +6,7 @@ use Rattle.iocm_model.specs.Machine.Configuration.{lookup_of, as_image}
 use Rattle.iocm_model.specs.Machine.Numbering.{cells_of}
 use Rattle.iocm_derive.specs.Sighted.{Sighted}
 use Rattle.iocm_seats.specs.Listing.{image_seats}
-use Rattle.iocm_seats.proofs.Seats.{record_seats-image, record_seats-other, no_image}
+use Rattle.iocm_seats.proofs.Listed.{record_seats-image, record_seats-other, no_image}
 use Rattle.iocm_seats.proofs.opening.list_record.Goals as goal
 
 pub returns-in_ok-list_image-in-Image : goal.returns-in_ok-list_image-in-Image

@@ -6,7 +6,7 @@ use Rattle.iocm_model.specs.Machine.Record.{Rec}
 use Rattle.iocm_model.specs.Machine.Configuration.{lookup_of}
 use Rattle.iocm_model.specs.Machine.Numbering.{cells_of}
 use Rattle.iocm_seats.specs.Listing.{record_seats}
-use Rattle.iocm_seats.proofs.Seats.{record_seats-more, record_seats-nil, all_seats}
+use Rattle.iocm_seats.proofs.Listed.{record_seats-more, record_seats-nil, all_seats}
 use Rattle.iocm_seats.proofs.opening.list_seats.Goals as goal
 
 pub loop-entry-preserved : goal.loop-entry-preserved

@@ -6,7 +6,7 @@ use Rattle.iocm_types.specs.declared.sub_id.SubId.{SubId}
 use Rattle.iocm_types.specs.declared.view.View.{View}
 use Rattle.iocm_model.specs.Machine.Configuration.{lookup_of}
 use Rattle.iocm_seats.specs.declared.seat.Seat.{Seat}
-use Rattle.iocm_seats.proofs.Seats.{no_view, one_view}
+use Rattle.iocm_seats.proofs.Listed.{no_view, one_view}
 use Rattle.iocm_seats.proofs.opening.list_seen.Goals as goal
 
 pub returns-in_default-clause-rows : goal.returns-in_default-clause-rows

@@ -9,7 +9,7 @@ use Rattle.iocm_model.specs.Machine.View.{views}
 use Rattle.iocm_model.proofs.Machine.Views.{views_listed}
 use Rattle.iocm_seats.specs.declared.seat.Seat.{Seat}
 use Rattle.iocm_seats.proofs.Ordered.{keys_rise}
-use Rattle.iocm_seats.proofs.Seats.{seat_keys}
+use Rattle.iocm_seats.proofs.Listed.{seat_keys}
 use Rattle.iocm_seats.proofs.opening.open_seats.Goals as goal
 
 pub from_rows-requires : goal.from_rows-requires

@@ -1,8 +1,6 @@
 use Rattle.std.proofs.Common.{◌≡◌, drop_of_length-le, sym, ap, subst, ◌∙◌}
 use Rattle.std.specs.FinMap.{get}
-use Rattle.iocm_types.specs.SubId.{sub_id_cmp}
 use Rattle.iocm_types.proofs.Lists.{drop-item}
-use Rattle.iocm_table.specs.Slots.{rows}
 use Rattle.iocm_seats.specs.declared.view_change.ViewChange.{ViewChange}
 use Rattle.iocm_seats.specs.Seated.{Seats, views_seated}
 use Rattle.iocm_seats.specs.Settling.{HavePlaces}
@@ -10,7 +8,7 @@ use Rattle.iocm_seats.proofs.Loops.{opened}
 use Rattle.iocm_seats.proofs.settling.make_places.Goals as goal
 
 pub make_place-requires : goal.make_place-requires
-make_place-requires g c = (opened (λ (ch : ViewChange). ch.before ≡ get (views_seated (rows sub_id_cmp c.args.seats.now)) ch.subchannel) c.args.changes.now c.loop-change.change-index
+make_place-requires g c = (opened (λ (ch : ViewChange). ch.before ≡ get (views_seated c.args.seats.now.seats) ch.subchannel) c.args.changes.now c.loop-change.change-index
     c.change-item.result c.loop-change-test.true c.change-item.is c.loop-change.invariant.seen).0
     ∙ ap (λ (m : Seats). get (views_seated m) c.change-item.result.subchannel) (sym c.loop-change.invariant.seats)
 
@@ -21,7 +19,7 @@ loop-change-preserved g c = record {
   all = λ t more rest. c.loop-change.invariant.all t (λ x has. more x (c.make_place.ensures.kept x has))
       (subst (HavePlaces t) (sym (drop-item c.args.changes.now c.loop-change.change-index c.change-item.result c.loop-change-test.true c.change-item.is))
       (more c.change-item.result.subchannel c.in_ok-make_place.ensures.ok, rest));
-  seen = (opened (λ (ch : ViewChange). ch.before ≡ get (views_seated (rows sub_id_cmp c.args.seats.now)) ch.subchannel) c.args.changes.now c.loop-change.change-index
+  seen = (opened (λ (ch : ViewChange). ch.before ≡ get (views_seated c.args.seats.now.seats) ch.subchannel) c.args.changes.now c.loop-change.change-index
       c.change-item.result c.loop-change-test.true c.change-item.is c.loop-change.invariant.seen).1;
 }
 

@@ -2,9 +2,7 @@ use Rattle.std.proofs.Common.{◌≡◌, false, Option, None, Some, is_some, ref
 use Rattle.std.specs.FinMap.{insert}
 use Rattle.iocm_types.specs.declared.live.Live.{Live}
 use Rattle.iocm_types.specs.declared.view.View.{View}
-use Rattle.iocm_types.specs.SubId.{sub_id_cmp}
 use Rattle.iocm_types.specs.KeyOrder.{sub_ids_total, sub_ids_exact}
-use Rattle.iocm_table.specs.Slots.{rows}
 use Rattle.iocm_model.specs.Change.Edit.{live_of_altered}
 use Rattle.iocm_model.specs.Change.Maps.{with_value}
 use Rattle.iocm_seats.specs.declared.seat.Seat.{Seat}
@@ -20,12 +18,12 @@ none_by (Some l) h = cc
 
 pub returns-clause-seats : goal.returns-clause-seats
 returns-clause-seats g c =
-    let seats = rows sub_id_cmp c.args.seats.now in
+    let seats = c.args.seats.now.seats in
     let x = c.args.change.now.subchannel in
     let old = c.in-Some-put.old in
     let none = none_by c.args.own (sym c.is_some-is_kept.ensures ∙ c.if-is_kept.false) in
-    c.put-2.ensures.rows
-    ∙ ap (λ (m : Seats). insert m x (seat_of c.new-2.result c.own_live.result)) c.put.ensures.rows
+    c.put-2.ensures.seats
+    ∙ ap (λ (m : Seats). insert m x (seat_of c.new-2.result c.own_live.result)) c.put.ensures.seats
     ∙ insert_again sub_ids_total sub_ids_exact seats x (seat_of c.new.result c.first_live.result) (seat_of c.new-2.result c.own_live.result)
     ∙ (λ i. insert seats x (seat_of (c.new-2.ensures i)
     ((c.own_live.ensures ∙ ap (λ (o : Option Live). live_of_altered (Some old.view) c.in-Some.view o (Some old.live)) (sym none)) i)))

@@ -7,8 +7,8 @@ use Rattle.iocm_seats.proofs.settling.settle_all.Given as goal
 
 abbrev pub invariant-loop-change : goal.invariant-loop-change
 invariant-loop-change g l = record {
-  left : settled_all (rows sub_id_cmp l.kept) (rows sub_id_cmp l.seats) (drop l.change-index l.changes)
-      ≡ settled_all (rows sub_id_cmp l.kept) (rows sub_id_cmp l.initial.seats) l.changes;
+  left : settled_all (rows sub_id_cmp l.kept) l.seats.seats (drop l.change-index l.changes)
+      ≡ settled_all (rows sub_id_cmp l.kept) l.initial.seats.seats l.changes;
   ready : HavePlaces l.seats (drop l.change-index l.changes);
   places : l.seats.places ≡ l.initial.seats.places;
 }

@@ -1,0 +1,156 @@
+ghost use Rattle.std.specs.Prelude.{◌≡◌, [], IfOk, OnOk};
+ghost use Rattle.std.specs.Borrow.{sem};
+ghost use Rattle.std.specs.List.{IsDistinct};
+ghost use Rattle.std.specs.Map.{keys_of};
+ghost use Rattle.std.specs.Option.{option_copied, option_copied_mut};
+ghost use Rattle.std.specs.Ordering.{eq_by_cmp};
+ghost use Rattle.std.specs.FinMap as map;
+ghost use Rattle.iocm_types.specs.SubId.{sub_id_cmp};
+ghost use Rattle.iocm_seats.specs.Lent.{lends_seat};
+ghost use Rattle.iocm_seats.specs.Seated.{views_seated, lives_seated, HasPlace, KeepsPlaces, SeatsHavePlaces};
+
+use crate::Seat;
+use iocm_table::Table;
+use iocm_types::{Live, SubId, View};
+use std::alloc::{AllocError, Allocator, Global};
+use std::marker::Model;
+
+/// The seats of a machine, by subchannel. A subchannel whose seat is taken out keeps its place.
+/// Contracts see the finite map of the seats, and the subchannels that have a place, which can be
+/// given a seat without memory.
+#[derive(Drop)]
+pub struct Seats<A: Allocator = Global> {
+    table: Table<SubId, Seat, A>,
+}
+
+impl<A: Allocator> Model for Seats<A> {
+    ghost use Rattle.std.specs.Prelude.{List, refl};
+    ghost use Rattle.std.specs.FinMap as map;
+    ghost use Rattle.std.specs.Coded.{code_by, coded×, coded_list, codes};
+    ghost use Rattle.iocm_types.specs.declared.sub_id.SubId.{SubId};
+    ghost use Rattle.iocm_types.specs.SubId.{sub_id_cmp};
+    ghost use Rattle.iocm_table.specs.Slots.{rows};
+    ghost use Rattle.iocm_seats.specs.Seated as seated;
+
+    ghost Value = { seated.Seated };
+
+    ghost coded = { code_by (seated.Seats × List SubId)
+        (coded× (map.code (Prim.hlevel codes) (Prim.hlevel codes)) (coded_list (Prim.hlevel codes)))
+        (λ s. (s.seats, s.places)) (λ p. record { seats = p.0; places = p.1 }) (λ _. refl) };
+
+    ghost view = { λ s. record { seats = rows sub_id_cmp s.table; places = s.table.places } };
+}
+
+impl<A: Allocator> Seats<A> {
+    /// No seats and no places. Can't answer want of memory.
+    pub fn new(alloc: A) -> Self
+        ensures seats { result.seats ≡ map.empty }
+        ensures places { result.places ≡ [] }
+    {
+        Seats {
+            table: Table::new(alloc),
+        }
+    }
+
+    /// The seats of these rows, no two of which are of one subchannel. The time is in proportion to
+    /// their number where they stand in the order of subchannels, and else to that of sorting them.
+    ///
+    /// `AllocError` (M1): memory was wanted.
+    pub(crate) fn from_rows<B: Allocator>(
+        alloc: A,
+        listed: Vec<(SubId, Seat), B>,
+    ) -> Result<Self, AllocError>
+    where
+        A: Clone,
+        requires { IsDistinct (eq_by_cmp sub_id_cmp) (keys_of listed.items) }
+        ensures { IfOk result (λ s. s.seats ≡ map.from_entries listed.items) }
+    {
+        let table = Table::from_rows(alloc, listed)?;
+        Ok(Seats { table })
+    }
+
+    /// How many seats there are.
+    pub fn len(&self) -> usize
+        ensures { result ≡ map.len self.now.seats }
+    {
+        self.table.len()
+    }
+
+    /// The seat of a subchannel, if it has one.
+    pub fn get(&self, subchannel: &SubId) -> Option<&Seat>
+        ensures { option_copied result ≡ map.get self.now.seats subchannel.now }
+    {
+        self.table.get(subchannel)
+    }
+
+    /// The seat of a subchannel, to be changed in its place, by one search. Can't answer want of
+    /// memory.
+    pub fn get_mut(&mut self, subchannel: &SubId) -> Option<&mut Seat>
+        ensures* writes_back { sem 𝓛 (lends_seat A.row A.Allocator self.entry subchannel.now result) }
+        ensures value { option_copied_mut result ≡ map.get self.old.seats subchannel.now }
+    {
+        self.table.get_mut(subchannel)
+    }
+
+    /// What is seen at a subchannel, if it has a seat.
+    pub fn view(&self, subchannel: SubId) -> Option<View>
+        ensures { result ≡ map.get (views_seated self.now.seats) subchannel }
+    {
+        match self.get(&subchannel) {
+            Some(seat) => Some(seat.view.to_view()),
+            None => None,
+        }
+    }
+
+    /// The live record of a subchannel, if it has a seat.
+    pub fn live(&self, subchannel: SubId) -> Option<Live>
+        ensures { result ≡ map.get (lives_seated self.now.seats) subchannel }
+    {
+        match self.get(&subchannel) {
+            Some(seat) => Some(seat.live),
+            None => None,
+        }
+    }
+
+    /// A subchannel that has a seat has a place. It reads nothing, and is there for callers'
+    /// proofs: a seat that is replaced needs no call of `room`.
+    pub fn has_places(&self)
+        ensures { SeatsHavePlaces self.now }
+    {
+        self.table.has_places();
+    }
+
+    /// Gives a subchannel a place, if it has none. No other loses its place, and no seat changes.
+    ///
+    /// `AllocError` (M1): memory was wanted.
+    pub fn room(&mut self, subchannel: SubId) -> Result<(), AllocError>
+    where
+        A: Clone,
+        ensures seats { self.new.seats ≡ self.old.seats }
+        ensures ok { OnOk result (HasPlace self.new subchannel) }
+        ensures kept { KeepsPlaces self.old self.new }
+    {
+        self.table.room(subchannel)
+    }
+
+    /// Gives a subchannel that has a place a seat, and gives back the one that it had. Can't answer
+    /// want of memory.
+    pub fn put(&mut self, subchannel: &SubId, seat: Seat) -> Option<Seat>
+        requires { HasPlace self.old subchannel.now }
+        ensures before { result ≡ map.get self.old.seats subchannel.now }
+        ensures seats { self.new.seats ≡ map.insert self.old.seats subchannel.now seat }
+        ensures places { self.new.places ≡ self.old.places }
+    {
+        self.table.put(subchannel, seat)
+    }
+
+    /// Takes the seat of a subchannel out, if it has one. Its place stays. Can't answer want of
+    /// memory.
+    pub fn take(&mut self, subchannel: &SubId) -> Option<Seat>
+        ensures before { result ≡ map.get self.old.seats subchannel.now }
+        ensures seats { self.new.seats ≡ map.remove self.old.seats subchannel.now }
+        ensures places { self.new.places ≡ self.old.places }
+    {
+        self.table.take(subchannel)
+    }
+}
