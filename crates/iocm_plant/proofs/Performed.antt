@@ -24,7 +24,7 @@ use Rattle.iocm_types.specs.SubId.{sub_id_cmp}
 use Rattle.iocm_types.specs.KeyOrder.{sub_ids_total, sub_ids_exact}
 use Rattle.iocm_types.proofs.Found.{same_key}
 use Rattle.iocm_types.proofs.Tests.{both_hold}
-use Rattle.iocm_table.specs.Slots.{Stored, rows, RowsHavePlaces}
+use Rattle.iocm_table.specs.Slots.{Stored, RowsHavePlaces}
 use Rattle.iocm_model.proofs.Machine.OwnKeys.{keyed_own}
 use Rattle.iocm_model.proofs.Change.EditsGoBack.{config_back, back_key, back_record}
 use Rattle.iocm_seats.specs.declared.seat.Seat.{Seat}
@@ -43,7 +43,7 @@ use Rattle.iocm_numbers.specs.NumberChanges as numbers
 use Rattle.iocm_model.proofs.Maps.Cells.{in_differing, get_retained}
 use Rattle.iocm_seats.specs.declared.view_change.ViewChange.{ViewChange}
 use Rattle.iocm_seats.specs.Changes.{view_change, changes_between}
-use Rattle.iocm_seats.specs.Seated.{Seats, views_seated, lives_seated}
+use Rattle.iocm_seats.specs.Seated.{Seats, Seated, views_seated, lives_seated, SeatsHavePlaces}
 use Rattle.iocm_seats.specs.Settling.{settled_all, lives_met, subchannels_left}
 use Rattle.iocm_seats.proofs.Ordered.{differing_rise}
 use Rattle.iocm_seats.proofs.Settled.{live_in, live_seated, settled_seats_show, settled_seats_live}
@@ -287,13 +287,13 @@ module _ (c : Configuration) (index : Stored Naming (Unit {0})) (keyed : IsKeyed
   config_as_before d b there back = back ∙ (λ i. config_after (turned i) (there i)) ∙ config_back a c keyed
 
 -- live records that were kept are of subchannels that have places
-pub kept_have_places : (seated : Stored SubId Seat) (places : List SubId) (kept : Lives) (test : SubId → Bool) → kept ≡ retain_keys (lives_seated (rows sub_id_cmp seated)) test
-    → RowsHavePlaces sub_id_cmp seated → KeepsPlaces sub_id_cmp seated.places places → (x : SubId) → contains_key kept x ≡ true → HasPlaceIn sub_id_cmp places x
+pub kept_have_places : (seated : Seated) (places : List SubId) (kept : Lives) (test : SubId → Bool) → kept ≡ retain_keys (lives_seated seated.seats) test
+    → SeatsHavePlaces seated → KeepsPlaces sub_id_cmp seated.places places → (x : SubId) → contains_key kept x ≡ true → HasPlaceIn sub_id_cmp places x
 kept_have_places seated places kept test is have keeps x there =
-    keeps x (have x (by (test x) (sym (ap is_some (ap (λ (l : Lives). get l x) is ∙ get_retained sub_ids_total sub_ids_exact (lives_seated (rows sub_id_cmp seated)) test x
-    ∙ ap (λ (o : Option Live). cond (test x) o None) (live_seated (rows sub_id_cmp seated) x))) ∙ there) (get (rows sub_id_cmp seated) x) refl))
+    keeps x (have x (by (test x) (sym (ap is_some (ap (λ (l : Lives). get l x) is ∙ get_retained sub_ids_total sub_ids_exact (lives_seated seated.seats) test x
+    ∙ ap (λ (o : Option Live). cond (test x) o None) (live_seated seated.seats x))) ∙ there) (get seated.seats x) refl))
   where
-    by : (b : Bool) → is_some (cond b (live_in (get (rows sub_id_cmp seated) x)) None) ≡ true → (o : Option Seat) → get (rows sub_id_cmp seated) x ≡ o → is_some (get (rows sub_id_cmp seated) x) ≡ true
+    by : (b : Bool) → is_some (cond b (live_in (get seated.seats x)) None) ≡ true → (o : Option Seat) → get seated.seats x ≡ o → is_some (get seated.seats x) ≡ true
     by true h None e = absurd (no (sym (ap (λ (p : Option Seat). is_some (live_in p)) e) ∙ h))
       where
         no : false ≡ true → ⊥

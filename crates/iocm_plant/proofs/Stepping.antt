@@ -10,24 +10,24 @@ use Rattle.iocm_types.specs.SubId.{sub_id_cmp}
 use Rattle.iocm_types.specs.KeyOrder.{sub_ids_total, sub_ids_exact}
 use Rattle.iocm_types.proofs.Found.{same_key}
 use Rattle.iocm_table.specs.Slots.{Stored}
-use Rattle.iocm_table.specs.Lent.{IsChangedAt}
 use Rattle.iocm_config.specs.Stored as config
 use Rattle.iocm_numbers.specs.Numbered.{Numbered}
 use Rattle.iocm_model.specs.Machine.Configuration.{Configuration}
 use Rattle.iocm_model.specs.Machine.Numbering.{Numbering}
 use Rattle.iocm_model.specs.Operation.Step.{Step, subchannel_in, live_after_step, lives_after_step, after_step}
 use Rattle.iocm_seats.specs.declared.seat.Seat.{Seat}
-use Rattle.iocm_seats.specs.Seated.{Seats, views_seated, lives_seated}
+use Rattle.iocm_seats.specs.Lent.{IsChangedAt}
+use Rattle.iocm_seats.specs.Seated.{Seats, Seated, views_seated, lives_seated}
 use Rattle.iocm_seats.proofs.Settled.{view_in, live_in, view_seated, live_seated}
 use Rattle.iocm_plant.specs.Operating.{IsOperating, room_of, state_of}
 
 -- the loan of a seat that is there has ended
-pub changed_seat : {B : Type 0} (lent : Option B) (seat : B) → lent ≡ Some seat → (t : Stored SubId Seat) (x : SubId) (u : Stored SubId Seat) (s : Seat)
-    → OnSome lent (IsChangedAt sub_id_cmp t x u s) → IsChangedAt sub_id_cmp t x u s
-changed_seat lent seat is t x u s changed = subst (λ o. OnSome o (IsChangedAt sub_id_cmp t x u s)) is changed
+pub changed_seat : {B : Type 0} (lent : Option B) (seat : B) → lent ≡ Some seat → (t : Seated) (x : SubId) (u : Seated) (s : Seat)
+    → OnSome lent (IsChangedAt t x u s) → IsChangedAt t x u s
+changed_seat lent seat is t x u s changed = subst (λ o. OnSome o (IsChangedAt t x u s)) is changed
 
 -- what has a place
-pub same_room : (c : config.Stored) (n : Numbered) (index : Stored Naming (Unit {0})) (t u : Stored SubId Seat) → u.places ≡ t.places → room_of c n index u ≡ room_of c n index t
+pub same_room : (c : config.Stored) (n : Numbered) (index : Stored Naming (Unit {0})) (t u : Seated) → u.places ≡ t.places → room_of c n index u ≡ room_of c n index t
 same_room c n index t u same = λ i. record (room_of c n index t) { subchannels = same i }
 
 zipped : (o : Option Seat) → option_zip (view_in o) (live_in o) ≡ option_map (λ (s : Seat). (s.view, s.live)) o

@@ -20,7 +20,7 @@ use Rattle.iocm_types.specs.SubId.{sub_id_cmp}
 use Rattle.iocm_types.specs.KeyOrder.{sub_ids_total, sub_ids_exact}
 use Rattle.iocm_types.proofs.Found.{same_key, ties_itself}
 use Rattle.iocm_types.proofs.Tests.{first_holds, second_holds, both_hold}
-use Rattle.iocm_table.specs.Slots.{Stored, rows, RowsHavePlaces}
+use Rattle.iocm_table.specs.Slots.{Stored, RowsHavePlaces}
 use Rattle.iocm_config.specs.Stored as stored
 use Rattle.iocm_index.specs.Namings.{naming}
 use Rattle.iocm_index.proofs.Front.{named_total}
@@ -44,7 +44,7 @@ use Rattle.iocm_numbers.specs.Numbered.{Numbered, HasRoom, HasSameRoom, cell_at}
 use Rattle.iocm_numbers.specs.PutBack.{FitIn, HaveRoom}
 use Rattle.iocm_numbers.proofs.Exchanging.{exchange_leads, rows_fit_in, changes_agree, agree_both_ways, rows_have_room}
 use Rattle.iocm_seats.specs.declared.seat.Seat.{Seat}
-use Rattle.iocm_seats.specs.Seated.{Seats, views_seated, lives_seated}
+use Rattle.iocm_seats.specs.Seated.{Seats, Seated, views_seated, lives_seated, SeatsHavePlaces}
 use Rattle.iocm_seats.specs.Exchange.{met, exchanged, IsExchange}
 use Rattle.iocm_seats.proofs.Exchanged.{exchanged_seats_show, exchanged_seats_live}
 use Rattle.iocm_seats.proofs.Settled.{live_in, view_seated, live_seated, both_there}
@@ -321,18 +321,18 @@ numbers_placed held room places cells (row ∷ rows) has = (
 )
 
 module _ (action : Action) (places : List (Place × ℕ)) (kept : List (SubId × Live)) (frees : List (Place × ℕ)) (meets : List (SubId × Live))
-    (held_config : stored.Stored) (held : Numbered) (index : Stored Naming (Unit {0})) (seated : Stored SubId Seat)
-    (before : IsOperating held_config.records held.numbers index (rows sub_id_cmp seated))
+    (held_config : stored.Stored) (held : Numbered) (index : Stored Naming (Unit {0})) (seated : Seated)
+    (before : IsOperating held_config.records held.numbers index seated.seats)
     (can : CanUnapply (edit_of action places kept frees meets) (operating_of held_config held index seated))
-    (new_config : stored.Stored) (new_held : Numbered) (new_index : Stored Naming (Unit {0})) (new_seated : Stored SubId Seat)
+    (new_config : stored.Stored) (new_held : Numbered) (new_index : Stored Naming (Unit {0})) (new_seated : Seated)
     (changed : new_config.records ≡ config_after action held_config.records) (renumber : new_held.numbers ≡ numbers.exchanged held.numbers frees places)
     (same_keys : new_config.places ≡ held_config.places) (same_namings : new_index.places ≡ index.places) (same_room : HasSameRoom new_held held)
     (same_subchannels : new_seated.places ≡ seated.places)
     (have_numbers : (p : Place) (k : ℕ) → get held.numbers p ≡ Some k → HasRoom held p k) (have_namings : RowsHavePlaces naming_cmp index)
-    (have_seats : RowsHavePlaces sub_id_cmp seated)
+    (have_seats : SeatsHavePlaces seated)
     (up : T (is_sorted sub_id_cmp kept)) (rise : T (is_sorted sub_id_cmp meets)) (again : Action)
     (turned : again ≡ action_back (action_key action) (get held_config.records (action_key action)) (record_after action))
-    (goes : rows sub_id_cmp new_seated ≡ exchanged (views_of new_config.records new_held.numbers) (rows sub_id_cmp seated) (keys_of meets) kept) where
+    (goes : new_seated.seats ≡ exchanged (views_of new_config.records new_held.numbers) seated.seats (keys_of meets) kept) where
   abbrev key : Key
   key = action_key action
 
@@ -346,7 +346,7 @@ module _ (action : Action) (places : List (Place × ℕ)) (kept : List (SubId ×
   after = room_of new_config new_held new_index new_seated
 
   abbrev met_lives : Lives
-  met_lives = lives_seated (rows sub_id_cmp seated)
+  met_lives = lives_seated seated.seats
 
   retained_there : (altered : Bool) (o : Option Live) → is_some (cond altered o None) ≡ true → is_some o ≡ true
   retained_there true o h = h
@@ -354,23 +354,23 @@ module _ (action : Action) (places : List (Place × ℕ)) (kept : List (SubId ×
 
   placed_back : (x : SubId) → contains_key (from_sorted {R = sub_id_cmp} (map (met met_lives) meets)) x ≡ true → HasPlaceIn sub_id_cmp new_seated.places x
   placed_back x there =
-      let old = state_of held_config.records held.numbers (rows sub_id_cmp seated) in
+      let old = state_of held_config.records held.numbers seated.seats in
       let new = state_after (edit_of action places kept frees meets).edit old in
       let lived : is_some (get met_lives x) ≡ true = retained_there (is_altered old new x) (get met_lives x)
-      (sym (ap is_some (ap (λ (l : Lives). get l x) (lives_are action places kept frees meets held_config.records held.numbers index (rows sub_id_cmp seated) before can.back
+      (sym (ap is_some (ap (λ (l : Lives). get l x) (lives_are action places kept frees meets held_config.records held.numbers index seated.seats before can.back
       new_config.records new_held.numbers changed renumber up rise again turned) ∙ get_retained sub_ids_total sub_ids_exact met_lives (is_altered old new) x)) ∙ there) in
       subst (λ ps. HasPlaceIn sub_id_cmp ps x) (sym same_subchannels)
-      (have_seats x (there_too (get (rows sub_id_cmp seated) x) (sym (ap is_some (live_seated (rows sub_id_cmp seated) x)) ∙ lived)))
+      (have_seats x (there_too (get seated.seats x) (sym (ap is_some (live_seated seated.seats x)) ∙ lived)))
     where
       there_too : (o : Option Seat) → is_some (live_in o) ≡ true → is_some o ≡ true
       there_too None h = h
       there_too (Some s) h = refl
 
   -- the way back can be performed without memory
-  pub can_go_back : CanUnapply (way_back action places kept frees meets held_config.records held.numbers index (rows sub_id_cmp seated) before can.back
+  pub can_go_back : CanUnapply (way_back action places kept frees meets held_config.records held.numbers index seated.seats before can.back
       new_config.records new_held.numbers changed renumber up rise again turned) (operating_of new_config new_held new_index new_seated)
   can_go_back = record {
-    back = takes_back action places kept frees meets held_config.records held.numbers index (rows sub_id_cmp seated) before can.back
+    back = takes_back action places kept frees meets held_config.records held.numbers index seated.seats before can.back
         new_config.records new_held.numbers changed renumber up rise again turned;
     room = record {
       key = subst (λ ps. HasPlaceIn key_cmp ps (action_key again)) (sym same_keys) (subst (HasPlaceIn key_cmp held_config.places) (sym own_key) can.room.key);

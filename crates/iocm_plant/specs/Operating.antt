@@ -13,7 +13,7 @@ use Rattle.iocm_types.specs.Key.{key_cmp}
 use Rattle.iocm_types.specs.Naming.{naming_cmp}
 use Rattle.iocm_types.specs.Place.{place_cmp, cell_cmp}
 use Rattle.iocm_types.specs.SubId.{sub_id_cmp}
-use Rattle.iocm_table.specs.Slots.{Stored, rows}
+use Rattle.iocm_table.specs.Slots.{Stored}
 use Rattle.iocm_model.specs.Machine.Record.{Rec}
 use Rattle.iocm_model.specs.Machine.Configuration.{Configuration, IsKeyed}
 use Rattle.iocm_model.specs.Machine.Numbering.{Numbering, AreNumbersOf}
@@ -22,8 +22,7 @@ use Rattle.iocm_config.specs.Stored as config
 use Rattle.iocm_index.specs.Namings.{namings_of}
 use Rattle.iocm_lookup.specs.Indexed.{IsIndexOf}
 use Rattle.iocm_numbers.specs.Numbered.{Numbered, cell_at}
-use Rattle.iocm_seats.specs.declared.seat.Seat.{Seat}
-use Rattle.iocm_seats.specs.Seated.{Seats, views_seated, lives_seated}
+use Rattle.iocm_seats.specs.Seated.{Seats, Seated, views_seated, lives_seated}
 
 -- what has a place: keys of records, places of devices with number cells, namings, and subchannels
 pub record Room : Type 0 where
@@ -68,13 +67,12 @@ abbrev pub state_of : Configuration → Numbering → Seats → State
 state_of c n seats = record { config = c; numbers = n; lives = lives_seated seats }
 
 -- the places of the tables
-abbrev pub room_of : config.Stored → Numbered → Stored Naming (Unit {0}) → Stored SubId Seat → Room
+abbrev pub room_of : config.Stored → Numbered → Stored Naming (Unit {0}) → Seated → Room
 room_of c n index seats = record { keys = c.places; places = n.place_room; cells = n.cell_room; namings = index.places; subchannels = seats.places }
 
-abbrev pub operating_of : config.Stored → Numbered → Stored Naming (Unit {0}) → Stored SubId Seat → Operating
+abbrev pub operating_of : config.Stored → Numbered → Stored Naming (Unit {0}) → Seated → Operating
 operating_of c n index seats = record {
-  state = state_of c.records n.numbers
-      (rows sub_id_cmp seats);
+  state = state_of c.records n.numbers seats.seats;
   room = room_of c n index seats;
 }
 

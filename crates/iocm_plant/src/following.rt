@@ -3,11 +3,9 @@ ghost use Rattle.std.specs.FinMap.{from_sorted};
 ghost use Rattle.std.specs.List.Sorted.{IsStrictlySortedBy};
 ghost use Rattle.std.specs.Map.{keys_of};
 ghost use Rattle.iocm_types.specs.Place.{place_cmp};
-ghost use Rattle.iocm_types.specs.SubId.{sub_id_cmp, image_cmp};
-ghost use Rattle.iocm_types.specs.declared.sub_id.SubId as sub_id;
+ghost use Rattle.iocm_types.specs.SubId.{image_cmp};
 ghost use Rattle.iocm_types.specs.declared.refused.At.TheVariants as at;
 ghost use Rattle.iocm_types.specs.declared.rule.Rule.TheVariants as rule;
-ghost use Rattle.iocm_table.specs.Slots.{HasPlace};
 ghost use Rattle.iocm_model.specs.Machine.Numbering.{Numbering};
 ghost use Rattle.iocm_model.specs.Change.Inverse.{freed_numbers};
 ghost use Rattle.iocm_model.specs.Change.Renumbering.{numbers_after};
@@ -15,7 +13,7 @@ ghost use Rattle.iocm_model.specs.Change.Refusal.{refusal_at};
 ghost use Rattle.iocm_numbers.specs.Numbered.{KeepsRoom};
 ghost use Rattle.iocm_numbers.specs.NumberChanges as number_changes;
 ghost use Rattle.iocm_numbers.specs.NumberChanges.{WereBefore};
-ghost use Rattle.iocm_seats.specs.Seated.{lives_seated, seats_in};
+ghost use Rattle.iocm_seats.specs.Seated.{lives_seated, KeepsPlaces};
 ghost use Rattle.iocm_seats.specs.Settling.{settled_all, lives_met, subchannels_left};
 ghost use Rattle.iocm_tree.specs.Carried.{AreInOrder};
 ghost use Rattle.iocm_plant.specs.Following.{WasChanged, WasRenumbered, seen_changes};
@@ -29,8 +27,7 @@ use crate::touched::Touched;
 use iocm_affected::Affected;
 use iocm_config::Config;
 use iocm_numbers::{Numbers, Renumbered, sort_apart};
-use iocm_seats::{Altered, Seat, Tried, list_changes};
-use iocm_table::Table;
+use iocm_seats::{Altered, Seats, Tried, list_changes};
 use iocm_types::{At, Key, Live, NumberCell, Place, Refused, Rule, SubId};
 use std::alloc::{AllocError, Global};
 
@@ -77,13 +74,13 @@ pub struct Followed {
 pub fn follow(
     alloc: Global,
     numbers: &mut Numbers,
-    seats: &mut Table<SubId, Seat>,
+    seats: &mut Seats,
     config: &Config,
     at: LookedAt,
     brought: Brought,
 ) -> Result<Followed, Obstacle>
     requires changed { WasChanged config.now.records numbers.old.numbers
-        (seats_in seats.old) at.affected.places.items at.affected.images.items at.cells.items }
+        seats.old.seats at.affected.places.items at.affected.images.items at.cells.items }
     requires places { IsStrictlySortedBy place_cmp at.affected.places.items }
     requires images { IsStrictlySortedBy image_cmp at.affected.images.items }
     requires kept { AreInOrder brought.kept.items }
@@ -93,27 +90,26 @@ pub fn follow(
         ≡ freed_numbers numbers.old.numbers numbers.new.numbers) }
     ensures given { IfOk result (λ f. f.renumbered.given.items
         ≡ freed_numbers numbers.new.numbers numbers.old.numbers) }
-    ensures seats { OnOk result (seats_in seats.new
-        ≡ settled_all (from_sorted brought.kept.items) (seats_in seats.old)
-        (seen_changes config.now.records numbers.new.numbers (seats_in seats.old))) }
+    ensures seats { OnOk result (seats.new.seats
+        ≡ settled_all (from_sorted brought.kept.items) seats.old.seats
+        (seen_changes config.now.records numbers.new.numbers seats.old.seats)) }
     ensures kept { IfOk result (λ f. f.told.kept.items
-        ≡ lives_met (lives_seated (seats_in seats.old))
-        (seen_changes config.now.records numbers.new.numbers (seats_in seats.old))) }
+        ≡ lives_met (lives_seated seats.old.seats)
+        (seen_changes config.now.records numbers.new.numbers seats.old.seats)) }
     ensures meets { IfOk result (λ f. keys_of f.told.meets.items
-        ≡ subchannels_left (seen_changes config.now.records numbers.new.numbers (seats_in seats.old))) }
+        ≡ subchannels_left (seen_changes config.now.records numbers.new.numbers seats.old.seats)) }
     ensures told_subchannels { IfOk result (λ f. f.told.touched.subchannels.items
-        ≡ seen_changes config.now.records numbers.new.numbers (seats_in seats.old)) }
+        ≡ seen_changes config.now.records numbers.new.numbers seats.old.seats) }
     ensures told_numbers { IfOk result (λ f. f.told.touched.numbers.items
         ≡ number_changes.changes_between numbers.old.numbers numbers.new.numbers) }
     ensures clear { OnOk result (following_refusal config.now.records numbers.old.numbers
-        (seats_in seats.old) brought.key brought.places.items brought.quiet ≡ None) }
+        seats.old.seats brought.key brought.places.items brought.quiet ≡ None) }
     ensures refused { IfErr result (Hinders (following_refusal config.now.records numbers.old.numbers
-        (seats_in seats.old) brought.key brought.places.items brought.quiet)) }
+        seats.old.seats brought.key brought.places.items brought.quiet)) }
     ensures same_numbers { OnErr result (numbers.new.numbers ≡ numbers.old.numbers) }
-    ensures same_seats { OnErr result (seats_in seats.new ≡ seats_in seats.old) }
+    ensures same_seats { OnErr result (seats.new.seats ≡ seats.old.seats) }
     ensures room { KeepsRoom numbers.old numbers.new }
-    ensures subchannels_placed { (x : sub_id.SubId) → HasPlace sub_id_cmp seats.old x
-        → HasPlace sub_id_cmp seats.new x }
+    ensures subchannels_placed { KeepsPlaces seats.old seats.new }
 {
     // For the proof alone: what always holds of a configuration and of numbers.
     config.has_own_keys();
@@ -148,35 +144,35 @@ fn number_refusal(key: Key) -> Refused
 fn follow_numbers(
     alloc: Global,
     numbers: &Numbers,
-    seats: &mut Table<SubId, Seat>,
+    seats: &mut Seats,
     config: &Config,
     at: LookedAt,
     brought: Brought,
     renumbered: &Renumbered<Global>,
 ) -> Result<Told, Obstacle>
     requires changed { WasRenumbered config.now.records numbers.now.numbers
-        (seats_in seats.old) at.affected.places.items at.affected.images.items at.cells.items }
+        seats.old.seats at.affected.places.items at.affected.images.items at.cells.items }
     requires images { IsStrictlySortedBy image_cmp at.affected.images.items }
     requires kept { AreInOrder brought.kept.items }
-    ensures seats { OnOk result (seats_in seats.new
-        ≡ settled_all (from_sorted brought.kept.items) (seats_in seats.old)
-        (seen_changes config.now.records numbers.now.numbers (seats_in seats.old))) }
+    ensures seats { OnOk result (seats.new.seats
+        ≡ settled_all (from_sorted brought.kept.items) seats.old.seats
+        (seen_changes config.now.records numbers.now.numbers seats.old.seats)) }
     ensures kept { IfOk result (λ t. t.kept.items
-        ≡ lives_met (lives_seated (seats_in seats.old))
-        (seen_changes config.now.records numbers.now.numbers (seats_in seats.old))) }
+        ≡ lives_met (lives_seated seats.old.seats)
+        (seen_changes config.now.records numbers.now.numbers seats.old.seats)) }
     ensures meets { IfOk result (λ t. keys_of t.meets.items
-        ≡ subchannels_left (seen_changes config.now.records numbers.now.numbers (seats_in seats.old))) }
+        ≡ subchannels_left (seen_changes config.now.records numbers.now.numbers seats.old.seats)) }
     ensures subchannels { IfOk result (λ t. t.touched.subchannels.items
-        ≡ seen_changes config.now.records numbers.now.numbers (seats_in seats.old)) }
+        ≡ seen_changes config.now.records numbers.now.numbers seats.old.seats) }
     ensures numbers { IfOk result (λ t. (n : Numbering)
         → WereBefore n numbers.now.numbers renumbered.now.freed.items renumbered.now.given.items
         → t.touched.numbers.items ≡ number_changes.changes_between n numbers.now.numbers) }
     ensures clear { OnOk result (seating_refusal config.now.records numbers.now.numbers
-        (seats_in seats.old) brought.quiet ≡ None) }
+        seats.old.seats brought.quiet ≡ None) }
     ensures refused { IfErr result (Hinders (seating_refusal config.now.records numbers.now.numbers
-        (seats_in seats.old) brought.quiet)) }
-    ensures same { OnErr result (seats_in seats.new ≡ seats_in seats.old) }
-    ensures places { (x : sub_id.SubId) → HasPlace sub_id_cmp seats.old x → HasPlace sub_id_cmp seats.new x }
+        seats.old.seats brought.quiet)) }
+    ensures same { OnErr result (seats.new.seats ≡ seats.old.seats) }
+    ensures places { KeepsPlaces seats.old seats.new }
 {
     let Altered { changes, met } = list_altered(alloc, numbers, seats, config, at)?;
     let changed = numbers.list_changes(
@@ -209,17 +205,17 @@ fn follow_numbers(
 fn list_altered(
     alloc: Global,
     numbers: &Numbers,
-    seats: &Table<SubId, Seat>,
+    seats: &Seats,
     config: &Config,
     at: LookedAt,
 ) -> Result<Altered<Global>, AllocError>
     requires changed { WasRenumbered config.now.records numbers.now.numbers
-        (seats_in seats.now) at.affected.places.items at.affected.images.items at.cells.items }
+        seats.now.seats at.affected.places.items at.affected.images.items at.cells.items }
     requires images { IsStrictlySortedBy image_cmp at.affected.images.items }
     ensures changes { IfOk result (λ altered. altered.changes.items
-        ≡ seen_changes config.now.records numbers.now.numbers (seats_in seats.now)) }
+        ≡ seen_changes config.now.records numbers.now.numbers seats.now.seats) }
     ensures met { IfOk result (λ altered. altered.met.items
-        ≡ lives_met (lives_seated (seats_in seats.now)) altered.changes.items) }
+        ≡ lives_met (lives_seated seats.now.seats) altered.changes.items) }
 {
     let mut cells = at.cells;
     numbers.list_cells(&mut cells, at.affected.places.as_slice())?;

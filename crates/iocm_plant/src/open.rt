@@ -5,7 +5,6 @@ ghost use Rattle.iocm_model.specs.Laws.Trees.{KeepsTheRules};
 ghost use Rattle.iocm_model.specs.Operation.State.{opening_state};
 ghost use Rattle.iocm_plant.specs.Operating.{IsOperating, state_of};
 ghost use Rattle.iocm_plant.specs.Refusing.{opening_refusal, Hinders, IsDue};
-ghost use Rattle.iocm_seats.specs.Seated.{seats_in};
 
 use crate::Plant;
 use crate::obstacle::Obstacle;
@@ -14,9 +13,8 @@ use iocm_index::Index;
 use iocm_lookup::index_of;
 use iocm_numbers::{Numbers, opening};
 use iocm_rules::{Breach, check};
-use iocm_seats::{Seat, open_seats};
-use iocm_table::Table;
-use iocm_types::{At, Refused, SubId};
+use iocm_seats::{Seats, open_seats};
+use iocm_types::{At, Refused};
 use std::alloc::Global;
 
 /// A machine that was not opened: why, and the configuration, given back.
@@ -33,7 +31,7 @@ pub struct Unopened {
 struct Tables {
     numbers: Numbers,
     index: Index,
-    seats: Table<SubId, Seat>,
+    seats: Seats,
 }
 
 impl Plant {
@@ -66,8 +64,8 @@ impl Plant {
 
 /// The tables of a machine with this configuration, if it keeps the rules.
 fn make_tables(alloc: Global, config: &Config) -> Result<Tables, Obstacle>
-    ensures operating { IfOk result (λ t. IsOperating config.now.records t.numbers.numbers t.index (seats_in t.seats)) }
-    ensures state { IfOk result (λ t. state_of config.now.records t.numbers.numbers (seats_in t.seats)
+    ensures operating { IfOk result (λ t. IsOperating config.now.records t.numbers.numbers t.index t.seats.seats) }
+    ensures state { IfOk result (λ t. state_of config.now.records t.numbers.numbers t.seats.seats
         ≡ opening_state config.now.records) }
     ensures kept { OnOk result (opening_refusal config.now.records ≡ None) }
     ensures rules { OnOk result (KeepsTheRules (opening_state config.now.records)) }

@@ -6,8 +6,7 @@ ghost use Rattle.iocm_model.specs.Operation.State.{seen_in, views_in, IsSound};
 use iocm_config::Config;
 use iocm_index::Index;
 use iocm_numbers::Numbers;
-use iocm_seats::{Seat, live_at, view_of};
-use iocm_table::Table;
+use iocm_seats::Seats;
 use iocm_types::{Live, SubId, View};
 use std::marker::Model;
 
@@ -19,7 +18,7 @@ pub struct Plant {
     pub(crate) config: Config,
     pub(crate) numbers: Numbers,
     pub(crate) index: Index,
-    pub(crate) seats: Table<SubId, Seat>,
+    pub(crate) seats: Seats,
 }
 
 impl Model for Plant {
@@ -34,7 +33,6 @@ impl Model for Plant {
     ghost use Rattle.iocm_model.specs.Machine.Configuration.{Configuration};
     ghost use Rattle.iocm_model.specs.Machine.Numbering.{Numbering};
     ghost use Rattle.iocm_model.specs.Operation.State.{Lives};
-    ghost use Rattle.iocm_seats.specs.Seated.{seats_in};
     ghost use Rattle.iocm_plant.specs.Operating.{Operating, operating_of, IsOperating};
 
     ghost Value = { Operating };
@@ -55,7 +53,7 @@ impl Model for Plant {
 
     ghost view = { λ p. operating_of p.config p.numbers p.index p.seats };
 
-    ghost invariant = { λ p. IsOperating p.config.records p.numbers.numbers p.index (seats_in p.seats) };
+    ghost invariant = { λ p. IsOperating p.config.records p.numbers.numbers p.index p.seats.seats };
 }
 
 impl Plant {
@@ -84,14 +82,14 @@ impl Plant {
     pub fn view(&self, subchannel: SubId) -> Option<View>
         ensures { result ≡ seen_in self.now.state subchannel }
     {
-        view_of(&self.seats, subchannel)
+        self.seats.view(subchannel)
     }
 
     /// What a subchannel remembers, if it is there.
     pub fn live(&self, subchannel: SubId) -> Option<Live>
         ensures { result ≡ map.get self.now.state.lives subchannel }
     {
-        live_at(&self.seats, subchannel)
+        self.seats.live(subchannel)
     }
 
     /// How many subchannels there are.

@@ -1,16 +1,13 @@
 ghost use Rattle.std.specs.Prelude.{◌≡◌, None, List, map, IfOk, IfErr, OnOk, OnErr};
 ghost use Rattle.std.specs.FinMap.{from_sorted};
 ghost use Rattle.std.specs.Map.{keys_of};
-ghost use Rattle.iocm_types.specs.SubId.{sub_id_cmp};
-ghost use Rattle.iocm_types.specs.declared.sub_id.SubId as sub_id;
 ghost use Rattle.iocm_types.specs.declared.refused.At.TheVariants as at;
 ghost use Rattle.iocm_types.specs.declared.rule.Rule.TheVariants as rule;
-ghost use Rattle.iocm_table.specs.Slots.{HasPlace};
 ghost use Rattle.iocm_model.specs.Change.Refusal.{refusal_at};
 ghost use Rattle.iocm_model.specs.Change.Refusal as refusal;
 ghost use Rattle.iocm_model.specs.Operation.State.{Lives};
 ghost use Rattle.iocm_seats.specs.declared.view_change.ViewChange as changed;
-ghost use Rattle.iocm_seats.specs.Seated.{lives_seated, views_seated, seats_in};
+ghost use Rattle.iocm_seats.specs.Seated.{lives_seated, views_seated, KeepsPlaces};
 ghost use Rattle.iocm_seats.specs.Settling.{settled_all, lives_met, subchannels_left, AreSeen};
 ghost use Rattle.iocm_tree.specs.Carried.{AreInOrder};
 ghost use Rattle.iocm_plant.specs.Refusing.{refusal_by_quiet, Hinders};
@@ -18,7 +15,7 @@ ghost use Rattle.iocm_plant.specs.Seating.{first_in_the_way};
 
 use crate::obstacle::Obstacle;
 use crate::quiet::Quiet;
-use iocm_seats::{Seat, ViewChange, first_not_quiet, list_left, make_places, settle_all};
+use iocm_seats::{Seats, ViewChange, first_not_quiet, list_left, make_places, settle_all};
 use iocm_table::Table;
 use iocm_types::{At, Live, Refused, Rule, SubId};
 use std::alloc::Global;
@@ -38,25 +35,25 @@ pub struct Seated {
 /// Then no seat has changed, but some subchannels may have got places.
 pub fn seat(
     alloc: Global,
-    seats: &mut Table<SubId, Seat>,
+    seats: &mut Seats,
     changes: &[ViewChange],
     met: Vec<(SubId, Live)>,
     kept: Vec<(SubId, Live)>,
     quiet: Quiet,
 ) -> Result<Seated, Obstacle>
-    requires seen { AreSeen (views_seated (seats_in seats.old)) changes.now }
-    requires met { met.items ≡ lives_met (lives_seated (seats_in seats.old)) changes.now }
+    requires seen { AreSeen (views_seated seats.old.seats) changes.now }
+    requires met { met.items ≡ lives_met (lives_seated seats.old.seats) changes.now }
     requires kept { AreInOrder kept.items }
-    ensures seats { OnOk result (seats_in seats.new
-        ≡ settled_all (from_sorted kept.items) (seats_in seats.old) changes.now) }
-    ensures kept { IfOk result (λ s. s.kept.items ≡ lives_met (lives_seated (seats_in seats.old)) changes.now) }
+    ensures seats { OnOk result (seats.new.seats
+        ≡ settled_all (from_sorted kept.items) seats.old.seats changes.now) }
+    ensures kept { IfOk result (λ s. s.kept.items ≡ lives_met (lives_seated seats.old.seats) changes.now) }
     ensures meets { IfOk result (λ s. keys_of s.meets.items ≡ subchannels_left changes.now) }
     ensures quiet { OnOk result (refusal_by_quiet quiet
-        (refusal.first_not_quiet (lives_seated (seats_in seats.old)) (map (λ ch. ch.subchannel) changes.now)) ≡ None) }
+        (refusal.first_not_quiet (lives_seated seats.old.seats) (map (λ ch. ch.subchannel) changes.now)) ≡ None) }
     ensures refused { IfErr result (Hinders (refusal_by_quiet quiet
-        (refusal.first_not_quiet (lives_seated (seats_in seats.old)) (map (λ ch. ch.subchannel) changes.now)))) }
-    ensures same { OnErr result (seats_in seats.new ≡ seats_in seats.old) }
-    ensures places { (x : sub_id.SubId) → HasPlace sub_id_cmp seats.old x → HasPlace sub_id_cmp seats.new x }
+        (refusal.first_not_quiet (lives_seated seats.old.seats) (map (λ ch. ch.subchannel) changes.now)))) }
+    ensures same { OnErr result (seats.new.seats ≡ seats.old.seats) }
+    ensures places { KeepsPlaces seats.old seats.new }
 {
     if let Some(subchannel) = first_in_the_way(met.as_slice(), quiet) {
         return Err(Obstacle::Refused(subchannel_refusal(subchannel)));

@@ -3,8 +3,6 @@ use Rattle.std.specs.Option.{option_or}
 use Rattle.iocm_types.specs.declared.place.Place.{Place}
 use Rattle.iocm_types.specs.declared.refused.Refused.{Refused}
 use Rattle.std.proofs.Common.{Option}
-use Rattle.iocm_types.specs.SubId.{sub_id_cmp}
-use Rattle.iocm_table.specs.Slots.{rows}
 use Rattle.iocm_model.specs.Machine.Numbering.{Numbering}
 use Rattle.iocm_model.specs.Change.Inverse.{freed_numbers}
 use Rattle.iocm_model.specs.Change.Refusal.{is_number_taken}
@@ -22,7 +20,7 @@ pub renumber-requires-clause-rise : goal.renumber-requires-clause-rise
 renumber-requires-clause-rise c = subst Rise (sym c.as_slice-2.ensures.value) (rise_of c.args.at.affected.places.items c.requires.places)
 
 pub follow_numbers-requires-clause-changed : goal.follow_numbers-requires-clause-changed
-follow_numbers-requires-clause-changed c = was_renumbered c.args.config.now.records c.args.numbers.now.numbers (rows sub_id_cmp c.args.seats.now) c.args.at.affected.places.items c.args.at.affected.images.items
+follow_numbers-requires-clause-changed c = was_renumbered c.args.config.now.records c.args.numbers.now.numbers c.args.seats.now.seats c.args.at.affected.places.items c.args.at.affected.images.items
     c.args.at.cells.items c.requires.changed c.args.brought.places.items c.renumber.new.self.numbers
     (c.in_ok-renumbered.ensures.numbers ∙ ap (λ (rows : List (Place × ℕ)). numbers_after c.args.config.now.records rows c.args.numbers.now.numbers) c.as_slice-3.ensures.value)
     (sym (c.in_ok-is_taken.ensures.taken ∙ ap (is_number_taken c.args.config.now.records c.args.numbers.now.numbers) c.as_slice.ensures.value) ∙ c.if-branch.false)
@@ -48,8 +46,8 @@ returns-in-Ok-clause-told_numbers c = c.in-Ok.ensures.numbers c.args.numbers.now
 
 pub returns-in-Err-clause-refused : goal.returns-in-Err-clause-refused
 returns-in-Err-clause-refused c = subst (λ (r : Option Refused). Hinders r c.in-Err.obstacle)
-    (ap (λ (k : Numbering). seating_refusal c.args.config.now.records k (rows sub_id_cmp c.args.seats.now) c.args.brought.quiet) (c.in_ok-renumbered.ensures.numbers ∙ ap (λ (rows : List (Place × ℕ)). numbers_after c.args.config.now.records rows c.args.numbers.now.numbers) c.as_slice-3.ensures.value)
-    ∙ sym (ap (λ t. option_or (refusal_by_number c.args.brought.key t) (seating_refusal c.args.config.now.records (numbers_after c.args.config.now.records c.args.brought.places.items c.args.numbers.now.numbers) (rows sub_id_cmp c.args.seats.now) c.args.brought.quiet))
+    (ap (λ (k : Numbering). seating_refusal c.args.config.now.records k c.args.seats.now.seats c.args.brought.quiet) (c.in_ok-renumbered.ensures.numbers ∙ ap (λ (rows : List (Place × ℕ)). numbers_after c.args.config.now.records rows c.args.numbers.now.numbers) c.as_slice-3.ensures.value)
+    ∙ sym (ap (λ t. option_or (refusal_by_number c.args.brought.key t) (seating_refusal c.args.config.now.records (numbers_after c.args.config.now.records c.args.brought.places.items c.args.numbers.now.numbers) c.args.seats.now.seats c.args.brought.quiet))
     (sym (c.in_ok-is_taken.ensures.taken ∙ ap (is_number_taken c.args.config.now.records c.args.numbers.now.numbers) c.as_slice.ensures.value) ∙ c.if-branch.false)))
     c.in-Err.ensures.refused
 

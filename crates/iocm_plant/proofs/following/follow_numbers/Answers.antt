@@ -1,7 +1,5 @@
 use Rattle.std.proofs.Common.{List, map, sym, subst, ◌∙◌}
 use Rattle.std.specs.FinMap.{get}
-use Rattle.iocm_types.specs.SubId.{sub_id_cmp}
-use Rattle.iocm_table.specs.Slots.{rows}
 use Rattle.iocm_model.specs.Change.Refusal.{first_not_quiet}
 use Rattle.iocm_seats.specs.declared.view_change.ViewChange.{ViewChange}
 use Rattle.iocm_model.specs.Change.Edit.{same_view}
@@ -15,11 +13,11 @@ use Rattle.iocm_plant.proofs.following.follow_numbers.Goals as goal
 
 pub seat-requires-clause-seen : goal.seat-requires-clause-seen
 seat-requires-clause-seen c =
-    let seen = views_seated (rows sub_id_cmp c.args.seats.now) in
+    let seen = views_seated c.args.seats.now.seats in
     let now = views_of c.args.config.now.records c.args.numbers.now.numbers in
     subst (AreSeen seen) (sym (c.as_slice-3.ensures.value ∙ c.in_ok-changes.ensures.changes)) (all_seen seen (get now) (differing same_view seen now))
 
 pub returns-clause-refused : goal.returns-clause-refused
 returns-clause-refused c = subst (λ (chs : List ViewChange). Hinders (refusal_by_quiet c.args.brought.quiet
-    (first_not_quiet (lives_seated (rows sub_id_cmp c.args.seats.now)) (map (λ (ch : ViewChange). ch.subchannel) chs))) c.in-Err.obstacle)
+    (first_not_quiet (lives_seated c.args.seats.now.seats) (map (λ (ch : ViewChange). ch.subchannel) chs))) c.in-Err.obstacle)
     (c.as_slice-3.ensures.value ∙ c.in_ok-changes.ensures.changes) c.in-Err.ensures.refused

@@ -1,7 +1,5 @@
 use Rattle.std.proofs.Common.{sym, ap, ◌∙◌}
 use Rattle.std.specs.Option.{option_copied_mut}
-use Rattle.iocm_types.specs.SubId.{sub_id_cmp}
-use Rattle.iocm_table.specs.Slots.{rows}
 use Rattle.iocm_model.specs.Operation.Step as step
 use Rattle.iocm_model.specs.Operation.Step.{begins_function, subchannel_in, after_step}
 use Rattle.iocm_seats.specs.declared.seat.Seat.{Seat}
@@ -11,17 +9,17 @@ use Rattle.iocm_plant.proofs.Stepping.{changed_seat, none_there, one_there, same
 use Rattle.iocm_plant.proofs.plant.Plant.device_begin.Goals as goal
 
 pub invariant_of-self : goal.invariant_of-self
-invariant_of-self c = same_operating c.self.inside.config.records c.self.inside.numbers.numbers c.self.inside.index (rows sub_id_cmp c.self.inside.seats) c.self.invariant
-    c.args.subchannel (rows sub_id_cmp c.get_mut.follows.lender-at-none) c.get_mut.follows.holds-at-none.rows (sym c.get_mut.ensures.value ∙ ap option_copied_mut c.in_default.is)
+invariant_of-self c = same_operating c.self.inside.config.records c.self.inside.numbers.numbers c.self.inside.index c.self.inside.seats.seats c.self.invariant
+    c.args.subchannel c.get_mut.follows.lender-at-none.seats c.get_mut.follows.holds-at-none.seats (sym c.get_mut.ensures.value ∙ ap option_copied_mut c.in_default.is)
 
 pub returns-in_default-clause-answer : goal.returns-in_default-clause-answer
 returns-in_default-clause-answer c = sym (ap (λ (p : Operating). begins_function (subchannel_in p.state c.args.subchannel)) (sym c.self.view_is)
-    ∙ ap begins_function (none_there c.self.inside.config.records c.self.inside.numbers.numbers c.self.inside.index (rows sub_id_cmp c.self.inside.seats) c.self.invariant
+    ∙ ap begins_function (none_there c.self.inside.config.records c.self.inside.numbers.numbers c.self.inside.index c.self.inside.seats.seats c.self.invariant
     c.args.subchannel (sym c.get_mut.ensures.value ∙ ap option_copied_mut c.in_default.is)))
 
 pub returns-in_default-clause-state : goal.returns-in_default-clause-state
-returns-in_default-clause-state c = same_state c.self.inside.config.records c.self.inside.numbers.numbers c.self.inside.index (rows sub_id_cmp c.self.inside.seats) c.self.invariant
-    c.args.subchannel (rows sub_id_cmp c.get_mut.follows.lender-at-none) c.get_mut.follows.holds-at-none.rows (sym c.get_mut.ensures.value ∙ ap option_copied_mut c.in_default.is) step.device_begin
+returns-in_default-clause-state c = same_state c.self.inside.config.records c.self.inside.numbers.numbers c.self.inside.index c.self.inside.seats.seats c.self.invariant
+    c.args.subchannel c.get_mut.follows.lender-at-none.seats c.get_mut.follows.holds-at-none.seats (sym c.get_mut.ensures.value ∙ ap option_copied_mut c.in_default.is) step.device_begin
     ∙ ap (λ (p : Operating). after_step c.args.subchannel step.device_begin p.state) c.self.view_is
 
 pub returns-in_default-clause-room : goal.returns-in_default-clause-room
@@ -31,21 +29,21 @@ returns-in_default-clause-room c = same_room c.self.inside.config c.self.inside.
 pub invariant_of-self-2 : goal.invariant_of-self-2
 invariant_of-self-2 c =
     let seat : Seat = (record { view = c.in-Some.seat.now.view; live = c.device_begin.new.live }) in
-    operating_after c.self.inside.config.records c.self.inside.numbers.numbers c.self.inside.index (rows sub_id_cmp c.self.inside.seats) c.self.invariant c.args.subchannel
-    (rows sub_id_cmp (c.get_mut.follows.lender seat)) c.in-Some.seat.now c.device_begin.new.live (sym c.get_mut.ensures.value ∙ ap option_copied_mut c.in-Some.is)
-    (changed_seat c.get_mut.result c.in-Some.seat c.in-Some.is c.self.inside.seats c.args.subchannel (c.get_mut.follows.lender seat) seat (c.get_mut.follows.holds seat)).rows
+    operating_after c.self.inside.config.records c.self.inside.numbers.numbers c.self.inside.index c.self.inside.seats.seats c.self.invariant c.args.subchannel
+    (c.get_mut.follows.lender seat).seats c.in-Some.seat.now c.device_begin.new.live (sym c.get_mut.ensures.value ∙ ap option_copied_mut c.in-Some.is)
+    (changed_seat c.get_mut.result c.in-Some.seat c.in-Some.is c.self.inside.seats c.args.subchannel (c.get_mut.follows.lender seat) seat (c.get_mut.follows.holds seat)).seats
 
 pub returns-clause-answer : goal.returns-clause-answer
 returns-clause-answer c = c.device_begin.ensures.answer ∙ sym (ap (λ (p : Operating). begins_function (subchannel_in p.state c.args.subchannel)) (sym c.self.view_is)
-    ∙ ap begins_function (one_there c.self.inside.config.records c.self.inside.numbers.numbers c.self.inside.index (rows sub_id_cmp c.self.inside.seats) c.self.invariant
+    ∙ ap begins_function (one_there c.self.inside.config.records c.self.inside.numbers.numbers c.self.inside.index c.self.inside.seats.seats c.self.invariant
     c.args.subchannel c.in-Some.seat.now (sym c.get_mut.ensures.value ∙ ap option_copied_mut c.in-Some.is)))
 
 pub returns-clause-state : goal.returns-clause-state
 returns-clause-state c =
     let seat : Seat = (record { view = c.in-Some.seat.now.view; live = c.device_begin.new.live }) in
-    state_after_step c.self.inside.config.records c.self.inside.numbers.numbers c.self.inside.index (rows sub_id_cmp c.self.inside.seats) c.self.invariant c.args.subchannel
-    (rows sub_id_cmp (c.get_mut.follows.lender seat)) c.in-Some.seat.now c.device_begin.new.live (sym c.get_mut.ensures.value ∙ ap option_copied_mut c.in-Some.is)
-    (changed_seat c.get_mut.result c.in-Some.seat c.in-Some.is c.self.inside.seats c.args.subchannel (c.get_mut.follows.lender seat) seat (c.get_mut.follows.holds seat)).rows
+    state_after_step c.self.inside.config.records c.self.inside.numbers.numbers c.self.inside.index c.self.inside.seats.seats c.self.invariant c.args.subchannel
+    (c.get_mut.follows.lender seat).seats c.in-Some.seat.now c.device_begin.new.live (sym c.get_mut.ensures.value ∙ ap option_copied_mut c.in-Some.is)
+    (changed_seat c.get_mut.result c.in-Some.seat c.in-Some.is c.self.inside.seats c.args.subchannel (c.get_mut.follows.lender seat) seat (c.get_mut.follows.holds seat)).seats
     step.device_begin c.device_begin.ensures.left
     ∙ ap (λ (p : Operating). after_step c.args.subchannel step.device_begin p.state) c.self.view_is
 

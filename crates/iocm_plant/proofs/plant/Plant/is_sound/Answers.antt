@@ -1,6 +1,4 @@
 use Rattle.std.proofs.Common.{subst}
-use Rattle.iocm_types.specs.SubId.{sub_id_cmp}
-use Rattle.iocm_table.specs.Slots.{rows}
 use Rattle.iocm_model.specs.Operation.State.{IsSound}
 use Rattle.iocm_plant.specs.Operating.{Operating}
 use Rattle.iocm_plant.proofs.TakenBack.{sound_state}
@@ -8,4 +6,4 @@ use Rattle.iocm_plant.proofs.plant.Plant.is_sound.Goals as goal
 
 pub returns : goal.returns
 returns c = subst (λ (p : Operating). IsSound p.state) c.self.view_is
-    (sound_state c.self.inside.config.records c.self.inside.numbers.numbers c.self.inside.index (rows sub_id_cmp c.self.inside.seats) c.self.invariant)
+    (sound_state c.self.inside.config.records c.self.inside.numbers.numbers c.self.inside.index c.self.inside.seats.seats c.self.invariant)

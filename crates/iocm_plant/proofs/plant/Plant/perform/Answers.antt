@@ -3,8 +3,6 @@ use Rattle.std.specs.FinMap.{get, contains_key}
 use Rattle.iocm_types.specs.declared.key.Key.{Key}
 use Rattle.iocm_types.specs.declared.refused.Refused.{Refused}
 use Rattle.iocm_types.specs.Key.{key_cmp}
-use Rattle.iocm_types.specs.SubId.{sub_id_cmp}
-use Rattle.iocm_table.specs.Slots.{rows}
 use Rattle.iocm_model.specs.Machine.Configuration.{Configuration}
 use Rattle.iocm_model.specs.Change.Edit.{action_key, config_after, record_after, state_after, is_altered}
 use Rattle.iocm_model.specs.Change.Inverse.{action_back, inverse_of}
@@ -41,31 +39,31 @@ follow-requires-clause-changed c = record {
 
 pub applied-requires : goal.applied-requires
 applied-requires c = record {
-  kept_in_order = kept_sorted (carried_of c.into_parts-action.result).edit c.self.inside.config.records c.self.inside.numbers.numbers c.self.inside.index (rows sub_id_cmp c.self.inside.seats) c.self.invariant c.exchange_record-back.new.config.records (c.exchange_record-back.ensures.config ∙ ap (config_after (action_of c.into_parts-action.result.action)) c.in_ok-make_record_places.ensures.config) c.follow.new.numbers.numbers c.in-Ok.ensures.numbers (action_of c.exchange_record-back.result) (c.exchange_record-back.ensures.back ∙ ap (λ (k : Configuration). action_back (action_key (action_of c.into_parts-action.result.action)) (get k (action_key (action_of c.into_parts-action.result.action))) (record_after (action_of c.into_parts-action.result.action))) c.in_ok-make_record_places.ensures.config)
+  kept_in_order = kept_sorted (carried_of c.into_parts-action.result).edit c.self.inside.config.records c.self.inside.numbers.numbers c.self.inside.index c.self.inside.seats.seats c.self.invariant c.exchange_record-back.new.config.records (c.exchange_record-back.ensures.config ∙ ap (config_after (action_of c.into_parts-action.result.action)) c.in_ok-make_record_places.ensures.config) c.follow.new.numbers.numbers c.in-Ok.ensures.numbers (action_of c.exchange_record-back.result) (c.exchange_record-back.ensures.back ∙ ap (λ (k : Configuration). action_back (action_key (action_of c.into_parts-action.result.action)) (get k (action_key (action_of c.into_parts-action.result.action))) (record_after (action_of c.into_parts-action.result.action))) c.in_ok-make_record_places.ensures.config)
       c.in-Ok.followed.renumbered.freed.items c.in-Ok.followed.renumbered.given.items c.in-Ok.followed.told.kept.items c.in-Ok.followed.told.meets.items c.in-Ok.ensures.freed c.in-Ok.ensures.given c.in-Ok.ensures.kept c.in-Ok.ensures.meets;
   meets_in_order = left_sorted _ _ c.in-Ok.followed.told.meets.items c.in-Ok.ensures.meets;
 }
 
 pub invariant_of-self-in-Ok : goal.invariant_of-self-in-Ok
-invariant_of-self-in-Ok c = operating_now (carried_of c.into_parts-action.result).edit c.self.inside.config.records c.self.inside.numbers.numbers c.self.inside.index (rows sub_id_cmp c.self.inside.seats) c.self.invariant c.exchange_record-back.new.config.records (c.exchange_record-back.ensures.config ∙ ap (config_after (action_of c.into_parts-action.result.action)) c.in_ok-make_record_places.ensures.config) c.follow.new.numbers.numbers c.in-Ok.ensures.numbers (rows sub_id_cmp c.follow.new.seats) c.in-Ok.ensures.seats
-    (none_taken c.exchange_record-back.new.config.records c.self.inside.numbers.numbers (rows sub_id_cmp c.self.inside.seats) c.key-key.result c.into_parts-action.result.places.items c.args.quiet c.in-Ok.ensures.clear)
+invariant_of-self-in-Ok c = operating_now (carried_of c.into_parts-action.result).edit c.self.inside.config.records c.self.inside.numbers.numbers c.self.inside.index c.self.inside.seats.seats c.self.invariant c.exchange_record-back.new.config.records (c.exchange_record-back.ensures.config ∙ ap (config_after (action_of c.into_parts-action.result.action)) c.in_ok-make_record_places.ensures.config) c.follow.new.numbers.numbers c.in-Ok.ensures.numbers c.follow.new.seats.seats c.in-Ok.ensures.seats
+    (none_taken c.exchange_record-back.new.config.records c.self.inside.numbers.numbers c.self.inside.seats.seats c.key-key.result c.into_parts-action.result.places.items c.args.quiet c.in-Ok.ensures.clear)
     c.exchange_record-back.new.index c.exchange_record-back.ensures.index
 
 pub returns-in-Ok-clause-accepted : goal.returns-in-Ok-clause-accepted
-returns-in-Ok-clause-accepted c = sym (ap (λ (k : Key). following_refusal c.exchange_record-back.new.config.records c.self.inside.numbers.numbers (rows sub_id_cmp c.self.inside.seats) k c.into_parts-action.result.places.items c.args.quiet) (c.key-key.ensures ∙ ap (λ (k : Carried). action_key k.edit.action) (sym c.into_parts-action.ensures.value))
-    ∙ refusal_is (carried_of c.into_parts-action.result).edit c.self.inside.config.records c.self.inside.numbers.numbers c.self.inside.index (rows sub_id_cmp c.self.inside.seats) c.self.invariant c.exchange_record-back.new.config.records (c.exchange_record-back.ensures.config ∙ ap (config_after (action_of c.into_parts-action.result.action)) c.in_ok-make_record_places.ensures.config) c.args.quiet (sym (c.key_refusal.ensures ∙ sym (ap (λ (k : Carried). refusal_by_key k.edit.action (contains_key c.self.inside.config.records (action_key k.edit.action))) c.into_parts-action.ensures.value)) ∙ c.in_default.is)
+returns-in-Ok-clause-accepted c = sym (ap (λ (k : Key). following_refusal c.exchange_record-back.new.config.records c.self.inside.numbers.numbers c.self.inside.seats.seats k c.into_parts-action.result.places.items c.args.quiet) (c.key-key.ensures ∙ ap (λ (k : Carried). action_key k.edit.action) (sym c.into_parts-action.ensures.value))
+    ∙ refusal_is (carried_of c.into_parts-action.result).edit c.self.inside.config.records c.self.inside.numbers.numbers c.self.inside.index c.self.inside.seats.seats c.self.invariant c.exchange_record-back.new.config.records (c.exchange_record-back.ensures.config ∙ ap (config_after (action_of c.into_parts-action.result.action)) c.in_ok-make_record_places.ensures.config) c.args.quiet (sym (c.key_refusal.ensures ∙ sym (ap (λ (k : Carried). refusal_by_key k.edit.action (contains_key c.self.inside.config.records (action_key k.edit.action))) c.into_parts-action.ensures.value)) ∙ c.in_default.is)
     ∙ (λ i. refusal_when c.args.quiet (c.into_parts-action.ensures.value i).edit (c.self.view_is i).state)) ∙ c.in-Ok.ensures.clear
 
 pub returns-in-Ok-clause-performs : goal.returns-in-Ok-clause-performs
 returns-in-Ok-clause-performs c = record {
-  state = state_now (carried_of c.into_parts-action.result).edit c.self.inside.config.records c.self.inside.numbers.numbers c.self.inside.index (rows sub_id_cmp c.self.inside.seats) c.self.invariant c.exchange_record-back.new.config.records (c.exchange_record-back.ensures.config ∙ ap (config_after (action_of c.into_parts-action.result.action)) c.in_ok-make_record_places.ensures.config) c.follow.new.numbers.numbers c.in-Ok.ensures.numbers (rows sub_id_cmp c.follow.new.seats) c.in-Ok.ensures.seats
+  state = state_now (carried_of c.into_parts-action.result).edit c.self.inside.config.records c.self.inside.numbers.numbers c.self.inside.index c.self.inside.seats.seats c.self.invariant c.exchange_record-back.new.config.records (c.exchange_record-back.ensures.config ∙ ap (config_after (action_of c.into_parts-action.result.action)) c.in_ok-make_record_places.ensures.config) c.follow.new.numbers.numbers c.in-Ok.ensures.numbers c.follow.new.seats.seats c.in-Ok.ensures.seats
       ∙ (λ i. state_after (c.into_parts-action.ensures.value i).edit (c.self.view_is i).state);
-  inverse = ap (λ (k : Carried). k.edit) c.applied.ensures.inverse ∙ inverse_is (carried_of c.into_parts-action.result).edit c.self.inside.config.records c.self.inside.numbers.numbers c.self.inside.index (rows sub_id_cmp c.self.inside.seats) c.self.invariant c.exchange_record-back.new.config.records (c.exchange_record-back.ensures.config ∙ ap (config_after (action_of c.into_parts-action.result.action)) c.in_ok-make_record_places.ensures.config) c.follow.new.numbers.numbers c.in-Ok.ensures.numbers (action_of c.exchange_record-back.result) (c.exchange_record-back.ensures.back ∙ ap (λ (k : Configuration). action_back (action_key (action_of c.into_parts-action.result.action)) (get k (action_key (action_of c.into_parts-action.result.action))) (record_after (action_of c.into_parts-action.result.action))) c.in_ok-make_record_places.ensures.config)
+  inverse = ap (λ (k : Carried). k.edit) c.applied.ensures.inverse ∙ inverse_is (carried_of c.into_parts-action.result).edit c.self.inside.config.records c.self.inside.numbers.numbers c.self.inside.index c.self.inside.seats.seats c.self.invariant c.exchange_record-back.new.config.records (c.exchange_record-back.ensures.config ∙ ap (config_after (action_of c.into_parts-action.result.action)) c.in_ok-make_record_places.ensures.config) c.follow.new.numbers.numbers c.in-Ok.ensures.numbers (action_of c.exchange_record-back.result) (c.exchange_record-back.ensures.back ∙ ap (λ (k : Configuration). action_back (action_key (action_of c.into_parts-action.result.action)) (get k (action_key (action_of c.into_parts-action.result.action))) (record_after (action_of c.into_parts-action.result.action))) c.in_ok-make_record_places.ensures.config)
       c.in-Ok.followed.renumbered.freed.items c.in-Ok.followed.renumbered.given.items c.in-Ok.followed.told.kept.items c.in-Ok.followed.told.meets.items c.in-Ok.ensures.freed c.in-Ok.ensures.given c.in-Ok.ensures.kept c.in-Ok.ensures.meets
       ∙ (λ i. inverse_of (c.into_parts-action.ensures.value i).edit (c.self.view_is i).state);
   back = subst (λ (k : Carried). CanUnapply k (operating_of c.exchange_record-back.new.config c.follow.new.numbers c.exchange_record-back.new.index c.follow.new.seats))
       (sym c.applied.ensures.inverse) (record {
-        back = takes_back (carried_of c.into_parts-action.result).edit c.self.inside.config.records c.self.inside.numbers.numbers c.self.inside.index (rows sub_id_cmp c.self.inside.seats) c.self.invariant c.exchange_record-back.new.config.records (c.exchange_record-back.ensures.config ∙ ap (config_after (action_of c.into_parts-action.result.action)) c.in_ok-make_record_places.ensures.config) c.follow.new.numbers.numbers c.in-Ok.ensures.numbers (action_of c.exchange_record-back.result) (c.exchange_record-back.ensures.back ∙ ap (λ (k : Configuration). action_back (action_key (action_of c.into_parts-action.result.action)) (get k (action_key (action_of c.into_parts-action.result.action))) (record_after (action_of c.into_parts-action.result.action))) c.in_ok-make_record_places.ensures.config)
+        back = takes_back (carried_of c.into_parts-action.result).edit c.self.inside.config.records c.self.inside.numbers.numbers c.self.inside.index c.self.inside.seats.seats c.self.invariant c.exchange_record-back.new.config.records (c.exchange_record-back.ensures.config ∙ ap (config_after (action_of c.into_parts-action.result.action)) c.in_ok-make_record_places.ensures.config) c.follow.new.numbers.numbers c.in-Ok.ensures.numbers (action_of c.exchange_record-back.result) (c.exchange_record-back.ensures.back ∙ ap (λ (k : Configuration). action_back (action_key (action_of c.into_parts-action.result.action)) (get k (action_key (action_of c.into_parts-action.result.action))) (record_after (action_of c.into_parts-action.result.action))) c.in_ok-make_record_places.ensures.config)
             c.in-Ok.followed.renumbered.freed.items c.in-Ok.followed.renumbered.given.items c.in-Ok.followed.told.kept.items c.in-Ok.followed.told.meets.items c.in-Ok.ensures.freed c.in-Ok.ensures.given c.in-Ok.ensures.kept c.in-Ok.ensures.meets;
         room = record {
           key = back_has_key c.self.inside.config.records c.self.inside.index c.self.invariant.keyed c.self.invariant.indexed c.has_places.ensures (action_of c.into_parts-action.result.action) (action_of c.exchange_record-back.result) (c.exchange_record-back.ensures.back ∙ ap (λ (k : Configuration). action_back (action_key (action_of c.into_parts-action.result.action)) (get k (action_key (action_of c.into_parts-action.result.action))) (record_after (action_of c.into_parts-action.result.action))) c.in_ok-make_record_places.ensures.config) c.make_record_places.new.config.places c.exchange_record-back.new.config.places (subst (λ (k : Carried). HasPlaceIn key_cmp c.make_record_places.new.config.places (action_key k.edit.action)) (sym c.into_parts-action.ensures.value) c.in_ok-make_record_places.ensures.key) c.exchange_record-back.ensures.keys;
@@ -73,16 +71,16 @@ returns-in-Ok-clause-performs c = record {
           numbers = numbers_placed c.follow.new.numbers (room_of c.exchange_record-back.new.config c.follow.new.numbers c.exchange_record-back.new.index c.follow.new.seats) refl refl
               c.in-Ok.followed.renumbered.freed.items (subst (HaveRoom c.follow.new.numbers) (sym c.in-Ok.ensures.freed)
               (rows_have_room c.follow.new.numbers c.follow.new.numbers.numbers c.self.inside.numbers.numbers (λ p k has. c.in-Ok.ensures.room p k (c.have_room.ensures p k has))));
-          subchannels = kept_have_places c.self.inside.seats c.follow.new.seats.places _ (is_altered (state_of c.self.inside.config.records c.self.inside.numbers.numbers (rows sub_id_cmp c.self.inside.seats)) (state_after (carried_of c.into_parts-action.result).edit (state_of c.self.inside.config.records c.self.inside.numbers.numbers (rows sub_id_cmp c.self.inside.seats))))
-              (kept_retained (carried_of c.into_parts-action.result).edit c.self.inside.config.records c.self.inside.numbers.numbers c.self.inside.index (rows sub_id_cmp c.self.inside.seats) c.self.invariant c.exchange_record-back.new.config.records (c.exchange_record-back.ensures.config ∙ ap (config_after (action_of c.into_parts-action.result.action)) c.in_ok-make_record_places.ensures.config) c.follow.new.numbers.numbers c.in-Ok.ensures.numbers (action_of c.exchange_record-back.result) (c.exchange_record-back.ensures.back ∙ ap (λ (k : Configuration). action_back (action_key (action_of c.into_parts-action.result.action)) (get k (action_key (action_of c.into_parts-action.result.action))) (record_after (action_of c.into_parts-action.result.action))) c.in_ok-make_record_places.ensures.config)
+          subchannels = kept_have_places c.self.inside.seats c.follow.new.seats.places _ (is_altered (state_of c.self.inside.config.records c.self.inside.numbers.numbers c.self.inside.seats.seats) (state_after (carried_of c.into_parts-action.result).edit (state_of c.self.inside.config.records c.self.inside.numbers.numbers c.self.inside.seats.seats)))
+              (kept_retained (carried_of c.into_parts-action.result).edit c.self.inside.config.records c.self.inside.numbers.numbers c.self.inside.index c.self.inside.seats.seats c.self.invariant c.exchange_record-back.new.config.records (c.exchange_record-back.ensures.config ∙ ap (config_after (action_of c.into_parts-action.result.action)) c.in_ok-make_record_places.ensures.config) c.follow.new.numbers.numbers c.in-Ok.ensures.numbers (action_of c.exchange_record-back.result) (c.exchange_record-back.ensures.back ∙ ap (λ (k : Configuration). action_back (action_key (action_of c.into_parts-action.result.action)) (get k (action_key (action_of c.into_parts-action.result.action))) (record_after (action_of c.into_parts-action.result.action))) c.in_ok-make_record_places.ensures.config)
               c.in-Ok.followed.renumbered.freed.items c.in-Ok.followed.renumbered.given.items c.in-Ok.followed.told.kept.items c.in-Ok.followed.told.meets.items c.in-Ok.ensures.freed c.in-Ok.ensures.given c.in-Ok.ensures.kept c.in-Ok.ensures.meets) c.has_places-2.ensures c.in-Ok.ensures.subchannels_placed;
         };
       });
   numbers = ap (λ (t : Touched). t.numbers.items) c.applied.ensures.touched ∙ c.in-Ok.ensures.told_numbers
-      ∙ told_numbers (carried_of c.into_parts-action.result).edit c.self.inside.config.records c.self.inside.numbers.numbers c.self.inside.index (rows sub_id_cmp c.self.inside.seats) c.self.invariant c.exchange_record-back.new.config.records (c.exchange_record-back.ensures.config ∙ ap (config_after (action_of c.into_parts-action.result.action)) c.in_ok-make_record_places.ensures.config) c.follow.new.numbers.numbers c.in-Ok.ensures.numbers
+      ∙ told_numbers (carried_of c.into_parts-action.result).edit c.self.inside.config.records c.self.inside.numbers.numbers c.self.inside.index c.self.inside.seats.seats c.self.invariant c.exchange_record-back.new.config.records (c.exchange_record-back.ensures.config ∙ ap (config_after (action_of c.into_parts-action.result.action)) c.in_ok-make_record_places.ensures.config) c.follow.new.numbers.numbers c.in-Ok.ensures.numbers
       ∙ (λ i. number_changes.changes_between (c.self.view_is i).state.numbers (state_after (c.into_parts-action.ensures.value i).edit (c.self.view_is i).state).numbers);
   subchannels = ap (λ (t : Touched). t.subchannels.items) c.applied.ensures.touched ∙ c.in-Ok.ensures.told_subchannels
-      ∙ told_altered (carried_of c.into_parts-action.result).edit c.self.inside.config.records c.self.inside.numbers.numbers c.self.inside.index (rows sub_id_cmp c.self.inside.seats) c.self.invariant c.exchange_record-back.new.config.records (c.exchange_record-back.ensures.config ∙ ap (config_after (action_of c.into_parts-action.result.action)) c.in_ok-make_record_places.ensures.config) c.follow.new.numbers.numbers c.in-Ok.ensures.numbers
+      ∙ told_altered (carried_of c.into_parts-action.result).edit c.self.inside.config.records c.self.inside.numbers.numbers c.self.inside.index c.self.inside.seats.seats c.self.invariant c.exchange_record-back.new.config.records (c.exchange_record-back.ensures.config ∙ ap (config_after (action_of c.into_parts-action.result.action)) c.in_ok-make_record_places.ensures.config) c.follow.new.numbers.numbers c.in-Ok.ensures.numbers
       ∙ (λ i. views.changes_between (views_in (c.self.view_is i).state) (views_in (state_after (c.into_parts-action.ensures.value i).edit (c.self.view_is i).state)));
 }
 
@@ -105,8 +103,8 @@ invariant_of-self-in-Err c = subst (λ (k : Configuration × (Numbering × Seats
     })
 
 pub returns-clause-refused : goal.returns-clause-refused
-returns-clause-refused c = subst (λ (r : Option Refused). Hinders r c.in-Err.obstacle) (ap (λ (k : Key). following_refusal c.exchange_record-back.new.config.records c.self.inside.numbers.numbers (rows sub_id_cmp c.self.inside.seats) k c.into_parts-action.result.places.items c.args.quiet) (c.key-key.ensures ∙ ap (λ (k : Carried). action_key k.edit.action) (sym c.into_parts-action.ensures.value))
-    ∙ refusal_is (carried_of c.into_parts-action.result).edit c.self.inside.config.records c.self.inside.numbers.numbers c.self.inside.index (rows sub_id_cmp c.self.inside.seats) c.self.invariant c.exchange_record-back.new.config.records (c.exchange_record-back.ensures.config ∙ ap (config_after (action_of c.into_parts-action.result.action)) c.in_ok-make_record_places.ensures.config) c.args.quiet (sym (c.key_refusal.ensures ∙ sym (ap (λ (k : Carried). refusal_by_key k.edit.action (contains_key c.self.inside.config.records (action_key k.edit.action))) c.into_parts-action.ensures.value)) ∙ c.in_default.is)
+returns-clause-refused c = subst (λ (r : Option Refused). Hinders r c.in-Err.obstacle) (ap (λ (k : Key). following_refusal c.exchange_record-back.new.config.records c.self.inside.numbers.numbers c.self.inside.seats.seats k c.into_parts-action.result.places.items c.args.quiet) (c.key-key.ensures ∙ ap (λ (k : Carried). action_key k.edit.action) (sym c.into_parts-action.ensures.value))
+    ∙ refusal_is (carried_of c.into_parts-action.result).edit c.self.inside.config.records c.self.inside.numbers.numbers c.self.inside.index c.self.inside.seats.seats c.self.invariant c.exchange_record-back.new.config.records (c.exchange_record-back.ensures.config ∙ ap (config_after (action_of c.into_parts-action.result.action)) c.in_ok-make_record_places.ensures.config) c.args.quiet (sym (c.key_refusal.ensures ∙ sym (ap (λ (k : Carried). refusal_by_key k.edit.action (contains_key c.self.inside.config.records (action_key k.edit.action))) c.into_parts-action.ensures.value)) ∙ c.in_default.is)
     ∙ (λ i. refusal_when c.args.quiet (c.into_parts-action.ensures.value i).edit (c.self.view_is i).state)) c.in-Err.ensures.refused
 
 pub returns-clause-same : goal.returns-clause-same
