@@ -1,5 +1,5 @@
 -- A journal of a history is one of the history with an entry more.
-use Rattle.std.proofs.Common.{◌≡◌, ◌⊎◌, inl, inr, ℕ, zero, suc, ◌+◌, ◌≤◌, true, false, Some, List, [], ◌∷◌, ◌++◌, length, map, reverse, refl, sym, ap, subst, ◌∙◌, arith}
+use Rattle.std.proofs.Common.{◌≡◌, ◌⊎◌, inl, inr, ℕ, zero, suc, ◌+◌, ◌≤◌, true, false, Some, List, [], ◌∷◌, ◌++◌, length, map, reverse, Vec, Global, refl, sym, ap, subst, ◌∙◌, arith}
 use Rattle.std.proofs.lemmas.Bool.{or_from, eq-eqb, ne_eqb}
 use Rattle.std.proofs.lemmas.List.{length-append}
 use Rattle.std.proofs.lemmas.Option.{slice_get_within}
@@ -15,12 +15,14 @@ use Rattle.iocm_history.specs.Journal.{is_in, journal_after, journal_of}
 use Rattle.iocm_history.specs.Legal.{IsRight}
 use Rattle.iocm_history.specs.RedoLaws.{undoes_or_redoes}
 use Rattle.iocm_tree.specs.Trees.{plain_tree, tree_of}
+use Rattle.iocm_tree.specs.declared.tree.Tree.{Tree}
+use Rattle.iocm_plant.specs.declared.touched.Touched.{Touched}
 use Rattle.iocm_activate.specs.Done.{AreToldBy}
 use Rattle.iocm_activate.specs.Effects.{effect_in}
 use Rattle.iocm_activate.specs.Told.{told_of_all}
 use Rattle.iocm_activate.specs.declared.effect.Effect.{Effect}
 use Rattle.iocm_history.specs.Reckoning.{undone_then, last_undone}
-use Rattle.iocm_journal.specs.Accepting.{AcceptsAChange}
+use Rattle.iocm_journal.specs.Accepting.{Accepts, newly_kept}
 use Rattle.iocm_journal.specs.Answering.{LeavesTheJournal}
 use Rattle.iocm_journal.specs.Kept.{IsKept, IsRedoable}
 use Rattle.iocm_journal.specs.Now.{IsJournalOf}
@@ -173,9 +175,14 @@ module _ (opening : State) (h : History) (e : Entry) (j : Journal) (fs : List Ef
       each : (n : ℕ) (l : Kept) (g : Effect) → slice_get j'.changes.items n ≡ Some l → slice_get (fs ++ f ∷ []) n ≡ Some g → IsKept opening (e ∷ h) (n + 1) l g
       each n l g at_l at_g = by n l g (of_pushed j.changes.items k n l (sym (ap (λ xs. slice_get xs n) changes) ∙ at_l)) (of_pushed fs f n g at_g)
 
--- what is kept of it is one more change
-pub takes_in : (j j' : Journal) (k : Kept) → j'.changes.items ≡ j.changes.items ++ k ∷ [] → j'.standing ≡ j.standing + 1 → j'.undone.items ≡ []
-    → k.stands ≡ true → k.undone_after ≡ 0 → (opening : State) (h : History) (fs : List Effect) (e : Entry) (f : Effect) → IsJournalOf opening h j fs
-    → AcceptsAChange opening h e (plain_tree (tree_of k.inverse)) k.performed.items f → IsJournalOf opening (e ∷ h) j' (fs ++ f ∷ [])
-takes_in j j' k changes standing undone stands never opening h fs e f i a =
-    accepted opening h e j fs i a.right a.answer a.change a.there j' k f changes standing undone stands never a.takes_back a.told a.wrote
+-- a journal that keeps one more change accepts it
+pub accepts : (inverse : Tree Global) (performed : Vec Touched Global) (j j' : Journal)
+    → j'.changes.items ≡ j.changes.items ++ newly_kept inverse performed ∷ [] → j'.standing ≡ j.standing + 1 → j'.undone.items ≡ []
+    → Accepts inverse performed j j'
+accepts inverse performed j j' changes standing undone = record {
+  changes = changes;
+  standing = standing;
+  undone = undone;
+  takes_in = λ opening h fs e f i a. accepted opening h e j fs i a.right a.answer a.change a.there
+      j' (newly_kept inverse performed) f changes standing undone refl refl a.takes_back a.told a.wrote;
+}

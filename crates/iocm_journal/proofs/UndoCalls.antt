@@ -1,9 +1,10 @@
 -- Undos and redos as calls: what decides them, and what they leave.
-use Rattle.std.proofs.Common.{◌≡◌, inl, inr, ℕ, zero, suc, ◌+◌, Bool, true, false, Option, Some, None, Result, Ok, Err, List, ◌∷◌, length, refl, sym, ap, subst, ◌∙◌, arith}
+use Rattle.std.proofs.Common.{◌≡◌, inl, inr, ℕ, zero, suc, ◌+◌, Bool, true, false, Option, Some, None, Result, Ok, Err, List, ◌∷◌, length, get_or, ◌<◌, refl, sym, ap, subst, ◌∙◌, arith}
 use Rattle.std.specs.Prelude.{OnOk, OnErr, IfErr}
 use Rattle.std.specs.Option.{option_map}
 use Rattle.std.specs.FinMap.{keys}
 use Rattle.std.specs.List.{slice_get}
+use Rattle.std.proofs.lemmas.Option.{slice_get_read, slice_get_within}
 use Rattle.iocm_types.specs.declared.answer.Answer.{Answer}
 use Rattle.iocm_types.specs.declared.answer.Answer.TheVariants as answers
 use Rattle.iocm_types.specs.declared.refused.At.TheVariants.{Nothing, Change}
@@ -34,16 +35,16 @@ use Rattle.iocm_activate.specs.Told.{told_of_all}
 use Rattle.iocm_activate.specs.declared.effect.Effect.{Effect}
 use Rattle.iocm_plant.specs.Operating.{Operating}
 use Rattle.iocm_plant.specs.Refusing.{IsDue, no_memory}
+use Rattle.iocm_plant.specs.declared.touched.Touched.{Touched}
 use Rattle.iocm_journal.specs.Answering.{IsNext, undo_made}
 use Rattle.iocm_journal.specs.Deciding.{IsUndoDecided}
-use Rattle.iocm_journal.specs.Kept.{IsKept}
 use Rattle.iocm_journal.specs.Moving.{KeepsTheSame, WasUndone}
 use Rattle.iocm_journal.specs.Now.{IsJournalOf, IsNow, BelongTogether}
 use Rattle.iocm_journal.specs.Standing.{stands_at, inverse_at, is_on, last_passing}
 use Rattle.iocm_journal.specs.declared.kept.Kept.{Kept}
 use Rattle.iocm_journal.specs.declared.journal.Journal.{Journal}
 use Rattle.iocm_journal.proofs.Deciding.{stands_is, effect_there}
-use Rattle.iocm_journal.proofs.Places.{stands_low, inverse_item}
+use Rattle.iocm_journal.proofs.Places.{stands_low, stands_item, inverse_item}
 use Rattle.iocm_journal.proofs.Refused.{right_undo, lacking_undo, undo_refused}
 use Rattle.iocm_journal.proofs.UndoDecided.{quiet_is, stands_on_is, undo_decided, not_standing}
 use Rattle.iocm_journal.proofs.Undoing.{undone_now}
@@ -82,33 +83,55 @@ undo_of_none opening h j fs p n why now none is =
 
 -- ---- what decides an undo
 
-module _ (opening : State) (h : History) (j : Journal) (fs : List Effect) (p : Operating) (now : IsNow opening h j fs p) (place : ℕ) (k : Kept) (f : Effect)
-    (at_k : slice_get j.changes.items place ≡ Some k) (at_f : slice_get fs place ≡ Some f) (stands : k.stands ≡ true) (is_fit : Bool)
-    (fit : (es : List Edit) (s : State) → plain_tree (tree_of k.inverse) ≡ inverse_tree es s → AreToldBy k.performed.items (told_of_all es s)
-    → is_fit ≡ fits (record { edits = es; from = s }) p.state) where
-  abbrev it : IsKept opening h (place + 1) k f
-  it = now.journal.kept place k f at_k at_f
+-- a change at a place, as it is kept: it stands, and this is whether it fits a machine
+pub record IsTried (j : Journal) (p : Operating) (place : ℕ) (k : Kept) (is_fit : Bool) : Type 0 where
+  pub there : slice_get j.changes.items place ≡ Some k
+  pub stands : k.stands ≡ true
+  pub fit : (es : List Edit) (s : State) → plain_tree (tree_of k.inverse) ≡ inverse_tree es s → AreToldBy k.performed.items (told_of_all es s)
+      → is_fit ≡ fits (record { edits = es; from = s }) p.state
 
+-- one that was read, and tried by what was performed as it is shown
+pub tried : (j : Journal) (p : Operating) (place : ℕ) (k : Kept) (is_fit : Bool) (shown : List Touched) → place < length j.changes.items
+    → k ≡ get_or j.changes.items place k → stands_at j.changes.items place ≡ true → shown ≡ k.performed.items
+    → ((es : List Edit) (s : State) → plain_tree (tree_of k.inverse) ≡ inverse_tree es s → AreToldBy shown (told_of_all es s)
+    → is_fit ≡ fits (record { edits = es; from = s }) p.state)
+    → IsTried j p place k is_fit
+tried j p place k is_fit shown within read stands same fit =
+    let there = slice_get_read j.changes.items (length j.changes.items) place k refl within read in record {
+      there = there;
+      stands = sym (stands_item j.changes.items place k there) ∙ stands;
+      fit = λ es s tree told. fit es s tree (subst (λ ds. AreToldBy ds (told_of_all es s)) (sym same) told);
+    }
+
+module _ (opening : State) (h : History) (j : Journal) (fs : List Effect) (p : Operating) (now : IsNow opening h j fs p) (place : ℕ) (k : Kept) (is_fit : Bool)
+    (change : IsTried j p place k is_fit) where
   abbrev found : Option ℕ
   found = last_passing (is_on j.changes.items fs place is_fit) (length j.changes.items)
 
-  on_is : stands_on (place + 1) (marked_entries opening h) (state_at opening h) ≡ option_map (λ at. at + 1) found
-  on_is = stands_on_is opening h j fs p now place k f at_k at_f stands is_fit (fit it.change.edits it.change.from it.inverse it.performed)
+  on_is : (f : Effect) → slice_get fs place ≡ Some f
+      → stands_on (place + 1) (marked_entries opening h) (state_at opening h) ≡ option_map (λ at. at + 1) found
+  on_is f at_f = let it = now.journal.kept place k f change.there at_f in
+      stands_on_is opening h j fs p now place k f change.there at_f change.stands is_fit
+      (change.fit it.change.edits it.change.from it.inverse it.performed)
 
   -- J2: a change stands on it
   pub stood_on : (other : ℕ) (why : Refused) → found ≡ Some other → why ≡ refusal_at J2 (Change (other + 1)) → IsUndoDecided opening h (place + 1) (Some why)
   stood_on other why is named =
+      let f = effect_there opening h j fs now.journal place k change.there in
       ap answers.Refused named
-      ∙ undo_decided opening h j fs p now place k f at_k at_f stands (Some (other + 1)) (not_quiet_of (place + 1) (state_at opening h) (account opening h))
-      (on_is ∙ ap (option_map (λ at. at + 1)) is) refl
+      ∙ undo_decided opening h j fs p now place k f.0 change.there f.1 change.stands (Some (other + 1))
+      (not_quiet_of (place + 1) (state_at opening h) (account opening h)) (on_is f.0 f.1 ∙ ap (option_map (λ at. at + 1)) is) refl
 
   -- B1, or nothing
-  pub waits_for : (quiet : Option SubId) (answer : Answer) → found ≡ None → quiet ≡ first_not_quiet p.state.lives (keys (effect_in f).lives)
-      → answer ≡ unless_not_quiet quiet (answers.Undone (place + 1))
-      → answer ≡ undo_answer (place + 1) (journal_of h).standing (stands_on (place + 1) (marked_entries opening h) (state_at opening h)) (not_quiet_of (place + 1) (state_at opening h) (account opening h))
-  waits_for quiet answer none quiet_at is =
-      is ∙ undo_decided opening h j fs p now place k f at_k at_f stands None quiet (on_is ∙ ap (option_map (λ at. at + 1)) none)
-      (quiet_is opening h j fs p now (place + 1) k f it ∙ sym quiet_at)
+  pub waits_for : (f : Effect) (quiet : Option SubId) (answer : Answer) → f ≡ get_or fs place f → found ≡ None
+      → quiet ≡ first_not_quiet p.state.lives (keys (effect_in f).lives) → answer ≡ unless_not_quiet quiet (answers.Undone (place + 1))
+      → answer ≡ undo_answer (place + 1) (journal_of h).standing (stands_on (place + 1) (marked_entries opening h) (state_at opening h))
+      (not_quiet_of (place + 1) (state_at opening h) (account opening h))
+  waits_for f quiet answer read none quiet_at is =
+      let within : place < length fs = let low = slice_get_within j.changes.items place k change.there in let same = now.journal.effects in omega (arith, low, same) in
+      let at_f = slice_get_read fs (length fs) place f refl within read in
+      is ∙ undo_decided opening h j fs p now place k f change.there at_f change.stands None quiet (on_is f at_f ∙ ap (option_map (λ at. at + 1)) none)
+      (quiet_is opening h j fs p now (place + 1) k f (now.journal.kept place k f change.there at_f) ∙ sym quiet_at)
 
 -- ---- an undo that is performed
 

@@ -1,5 +1,6 @@
--- An entry that accepts a change, and a journal that takes the change in. Own.
-use Rattle.std.specs.Prelude.{◌≡◌, ◌+◌, Some, List, [], ◌∷◌, ◌++◌}
+-- An entry that accepts a change, and a journal that accepts it and takes it in. Own.
+use Rattle.std.specs.Prelude.{◌≡◌, ◌+◌, true, Some, List, [], ◌∷◌, ◌++◌, Vec}
+use Rattle.std.specs.declared.alloc.Global.{Global}
 use Rattle.iocm_types.specs.declared.answer.Answer.TheVariants as answers
 use Rattle.iocm_model.specs.Operation.State.{State}
 use Rattle.iocm_model.specs.Change.InverseTree.{inverse_tree}
@@ -10,6 +11,8 @@ use Rattle.iocm_history.specs.MarkedEntry.{change_at}
 use Rattle.iocm_history.specs.Account.{marked_entries}
 use Rattle.iocm_history.specs.Journal.{journal_of}
 use Rattle.iocm_history.specs.Legal.{IsRight}
+use Rattle.iocm_tree.specs.Trees.{plain}
+use Rattle.iocm_tree.specs.declared.tree.Tree.{Tree}
 use Rattle.iocm_plant.specs.declared.touched.Touched.{Touched}
 use Rattle.iocm_activate.specs.Done.{AreToldBy}
 use Rattle.iocm_activate.specs.Effects.{effect_in}
@@ -17,6 +20,7 @@ use Rattle.iocm_activate.specs.Told.{told_of_all}
 use Rattle.iocm_activate.specs.declared.effect.Effect.{Effect}
 use Rattle.iocm_journal.specs.Now.{IsJournalOf}
 use Rattle.iocm_journal.specs.declared.journal.Journal.{Journal}
+use Rattle.iocm_journal.specs.declared.kept.Kept.{Kept}
 
 -- an entry is right after a history, and accepts a change under the next number; an inverse tree,
 -- what was performed and what was written are those of that change
@@ -35,3 +39,15 @@ abbrev pub TakesIn : ChangeTree → List Touched → Journal → Journal → Typ
 TakesIn inverse performed old new = (opening : State) (h : History) (fs : List Effect) (e : Entry) (f : Effect)
     → IsJournalOf opening h old fs → AcceptsAChange opening h e inverse performed f
     → IsJournalOf opening (e ∷ h) new (fs ++ f ∷ [])
+
+-- a change that was just accepted, as it is kept: it stands, and was never undone
+abbrev pub newly_kept : Tree Global → Vec Touched Global → Kept
+newly_kept inverse performed = record { inverse = inverse; performed = performed; stands = true; undone_after = 0 }
+
+-- a journal accepts a change, with the tree that takes it back and what was performed: it keeps one
+-- more change, which stands; those that were undone become past; and it takes the change in
+pub record Accepts (inverse : Tree Global) (performed : Vec Touched Global) (old new : Journal) : Type 0 where
+  pub changes : new.changes.items ≡ old.changes.items ++ newly_kept inverse performed ∷ []
+  pub standing : new.standing ≡ old.standing + 1
+  pub undone : new.undone.items ≡ []
+  pub takes_in : TakesIn (plain inverse) performed.items old new

@@ -1,9 +1,8 @@
-ghost use Rattle.std.specs.Prelude.{◌≡◌, ◌+◌, ◌<◌, ◌≤◌, ◌++◌, ◌∷◌, ◌^◌, [], ℕ, true, length, OnOk, MatchOption};
+ghost use Rattle.std.specs.Prelude.{◌≡◌, ◌+◌, ◌<◌, ◌≤◌, ◌^◌, [], ℕ, length, OnOk, MatchOption};
 ghost use Rattle.std.specs.Vec.{vec_len, vec_capacity};
 ghost use Rattle.iocm_model.specs.Operation.State.{State};
 ghost use Rattle.iocm_history.specs.InUse.{IsInUse};
-ghost use Rattle.iocm_tree.specs.Trees.{plain};
-ghost use Rattle.iocm_journal.specs.Accepting.{TakesIn};
+ghost use Rattle.iocm_journal.specs.Accepting.{Accepts};
 ghost use Rattle.iocm_journal.specs.Now.{IsJournalOf};
 
 use crate::{Kept, Undone};
@@ -53,11 +52,7 @@ impl Journal {
         requires room { vec_len self.old.changes < vec_capacity self.old.changes }
         requires few { self.old.standing ≤ length self.old.changes.items }
         ensures number { result ≡ length self.old.changes.items + 1 }
-        ensures changes { self.new.changes.items ≡ self.old.changes.items
-            ++ record { inverse = inverse; performed = performed; stands = true; undone_after = 0 } ∷ [] }
-        ensures standing { self.new.standing ≡ self.old.standing + 1 }
-        ensures undone { self.new.undone.items ≡ [] }
-        ensures takes_in { TakesIn (plain inverse) performed.items self.old self.new }
+        ensures accepts { Accepts inverse performed self.old self.new }
     {
         self.changes.push_reserved(Kept {
             inverse,

@@ -18,7 +18,6 @@ mod kept;
 mod laws;
 mod quiet;
 mod redo;
-mod refusals;
 mod sharing;
 mod standing_on;
 mod undo;

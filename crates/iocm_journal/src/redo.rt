@@ -9,7 +9,7 @@ ghost use Rattle.iocm_history.specs.Entry.{History};
 ghost use Rattle.iocm_plant.specs.Operating.{KeepsRoom};
 ghost use Rattle.iocm_plant.specs.Refusing.{IsDue};
 ghost use Rattle.iocm_activate.specs.Done.{refusal_in};
-ghost use Rattle.iocm_journal.specs.Answering.{IsNext, redo_made};
+ghost use Rattle.iocm_journal.specs.Answering.{GoOnBy, redo_made};
 ghost use Rattle.iocm_journal.specs.Deciding.{IsRedoDecided};
 ghost use Rattle.iocm_journal.specs.declared.kept.Kept.{Kept};
 ghost use Rattle.iocm_journal.specs.Moving.{KeepsTheSame, WasRedone, again};
@@ -17,11 +17,10 @@ ghost use Rattle.iocm_journal.specs.Now.{BelongTogether, IsNow};
 ghost use Rattle.iocm_journal.specs.Standing.{is_last, redo_at_end};
 
 use crate::quiet::first_not_quiet;
-use crate::refusals::{about_nothing, about_subchannel};
 use crate::{Journal, Undone};
 use iocm_activate::{Effect, activate};
 use iocm_plant::Plant;
-use iocm_types::{Refused, Rule};
+use iocm_types::{At, Refused, Rule};
 use std::alloc::Global;
 
 impl Journal {
@@ -40,8 +39,7 @@ impl Journal {
         number: u64,
     ) -> Result<(), Refused>
         requires { BelongTogether self.old changes.now plant.old }
-        ensures next { (opening : State) (h : History) → IsNow opening h self.old changes.now plant.old
-            → IsNext opening h (redo_made number result) self.new changes.now plant.new }
+        ensures next { GoOnBy (redo_made number result) changes.now self.old plant.old self.new plant.new }
         ensures same { OnErr result (KeepsTheSame self.old self.new) }
         ensures room { KeepsRoom plant.old.room plant.new.room }
     {
@@ -61,16 +59,16 @@ impl Journal {
         ensures within { IfOk result (λ place. place < length self.now.changes.items) }
     {
         let Some(place) = self.place(number) else {
-            return Err(about_nothing(Rule::J1));
+            return Err(Refused::of(Rule::J1));
         };
         if self.changes[place].stands {
-            return Err(about_nothing(Rule::J1));
+            return Err(Refused::of(Rule::J1));
         }
         if !self.is_last_undone(number) {
-            return Err(about_nothing(Rule::J3));
+            return Err(Refused::of(Rule::J3));
         }
         match first_not_quiet(plant, &changes[place]) {
-            Some(subchannel) => Err(about_subchannel(Rule::B1, subchannel)),
+            Some(subchannel) => Err(Refused::about(Rule::B1, At::Subchannel(subchannel))),
             None => Ok(place),
         }
     }

@@ -10,7 +10,7 @@ ghost use Rattle.iocm_tree.specs.Trees.{plain_tree, tree_of};
 ghost use Rattle.iocm_plant.specs.Operating.{KeepsRoom};
 ghost use Rattle.iocm_plant.specs.Refusing.{IsDue};
 ghost use Rattle.iocm_activate.specs.Done.{refusal_in};
-ghost use Rattle.iocm_journal.specs.Answering.{IsNext, undo_made};
+ghost use Rattle.iocm_journal.specs.Answering.{GoOnBy, undo_made};
 ghost use Rattle.iocm_journal.specs.Deciding.{IsUndoDecided};
 ghost use Rattle.iocm_journal.specs.declared.kept.Kept.{Kept};
 ghost use Rattle.iocm_journal.specs.Moving.{KeepsTheSame, WasUndone, no_more};
@@ -18,13 +18,12 @@ ghost use Rattle.iocm_journal.specs.Now.{BelongTogether, IsNow};
 ghost use Rattle.iocm_journal.specs.Standing.{inverse_at, stands_at};
 
 use crate::quiet::first_not_quiet;
-use crate::refusals::{about_change, about_nothing, about_subchannel};
 use crate::standing_on::greatest_on;
 use crate::{Journal, Undone};
 use iocm_activate::{Effect, activate, fits};
 use iocm_plant::Plant;
 use iocm_tree::Tree;
-use iocm_types::{Refused, Rule};
+use iocm_types::{At, Refused, Rule};
 use std::alloc::{AllocError, Global};
 
 impl Journal {
@@ -44,13 +43,12 @@ impl Journal {
         number: u64,
     ) -> Result<(), Refused>
         requires { BelongTogether self.old changes.now plant.old }
-        ensures next { (opening : State) (h : History) → IsNow opening h self.old changes.now plant.old
-            → IsNext opening h (undo_made number result) self.new changes.now plant.new }
+        ensures next { GoOnBy (undo_made number result) changes.now self.old plant.old self.new plant.new }
         ensures same { OnErr result (KeepsTheSame self.old self.new) }
         ensures room { KeepsRoom plant.old.room plant.new.room }
     {
         let Some(place) = self.standing_place(number) else {
-            return Err(about_nothing(Rule::J1));
+            return Err(Refused::of(Rule::J1));
         };
         match self.undo_obstacle(alloc, plant, changes, place) {
             Ok(None) => self.take_back(alloc, plant, place),
@@ -92,10 +90,10 @@ impl Journal {
         let kept = &self.changes[place];
         let is_fit = fits(alloc, plant, &kept.inverse, kept.performed.as_slice())?;
         if let Some(other) = greatest_on(self.changes.as_slice(), changes, place, is_fit) {
-            return Ok(Some(about_change(Rule::J2, other as u64 + 1)));
+            return Ok(Some(Refused::about(Rule::J2, At::Change(other as u64 + 1))));
         }
         match first_not_quiet(plant, &changes[place]) {
-            Some(subchannel) => Ok(Some(about_subchannel(Rule::B1, subchannel))),
+            Some(subchannel) => Ok(Some(Refused::about(Rule::B1, At::Subchannel(subchannel)))),
             None => Ok(None),
         }
     }

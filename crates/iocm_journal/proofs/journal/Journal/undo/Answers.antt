@@ -10,8 +10,8 @@ use Rattle.iocm_journal.proofs.UndoCalls.{rules_now, undo_of_none, undo_performe
 use Rattle.iocm_journal.proofs.journal.Journal.undo.Goals as goal
 
 pub returns-in_default-clause-next : goal.returns-in_default-clause-next
-returns-in_default-clause-next c = λ opening h now. undo_of_none opening h c.args.self.now c.args.changes.now c.args.plant.now c.args.number c.about_nothing.result now
-    c.in_default.ensures c.about_nothing.ensures
+returns-in_default-clause-next c = λ opening h now. undo_of_none opening h c.args.self.now c.args.changes.now c.args.plant.now c.args.number c.of.result now
+    c.in_default.ensures c.of.ensures
 
 pub undo_obstacle-requires-clause-place : goal.undo_obstacle-requires-clause-place
 undo_obstacle-requires-clause-place c = stands_within c.args.self.now.changes.items c.in-Some.place c.in-Some.ensures.1
