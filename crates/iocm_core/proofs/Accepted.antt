@@ -16,9 +16,9 @@ use Rattle.iocm_activate.specs.declared.effect.Effect.{Effect}
 use Rattle.iocm_journal.specs.Now.{IsJournalOf}
 use Rattle.iocm_stage.specs.Staged.{Tells}
 use Rattle.iocm_core.specs.Accepting.{AcceptsOne}
-use Rattle.iocm_core.specs.Running.{IsStagedAs, HasRoomFor, IsMachineOf, IsAnswered}
+use Rattle.iocm_core.specs.Running.{IsStagedAs, HasRoomFor, IsInstallationOf, IsAnswered}
 use Rattle.iocm_core.specs.Told.{effect_told, entry_told}
-use Rattle.iocm_core.specs.declared.machine.Machine.{Machine}
+use Rattle.iocm_core.specs.declared.installation.Installation.{Installation}
 
 -- one that is put behind a list is there
 at_end : {A : Type 0} (xs : List A) (x : A) → slice_get (xs ++ x ∷ []) (length xs) ≡ Some x
@@ -31,7 +31,7 @@ told_newest fs f n is =
     let place : n - 1 ≡ length fs = omega (arith, is) in
     ap (λ k. option_map_or effect_in (slice_get (fs ++ f ∷ []) k) no_effect) place ∙ ap (λ o. option_map_or effect_in o no_effect) (at_end fs f)
 
-module _ (opening : State) (h : History) (m n : Machine) (it : IsMachineOf opening h m) (call : Call) (done : Done) (c : Change) (told : Tells done c)
+module _ (opening : State) (h : History) (m n : Installation) (it : IsInstallationOf opening h m) (call : Call) (done : Done) (c : Change) (told : Tells done c)
     (accepts : AcceptsOne done m n) where
   abbrev number : ℕ
   number = length m.journal.changes.items + 1
@@ -54,9 +54,9 @@ module _ (opening : State) (h : History) (m n : Machine) (it : IsMachineOf openi
       → stage_of opening (e ∷ h) ≡ None → n.plant.state ≡ state_at opening (e ∷ h) → IsAnswered opening h call (answers.Changed number) n
   accepted_now right there none idle state = record {
     right = subst (IsRight opening h) (sym entry_is) right;
-    is = subst (λ z. IsMachineOf opening (z ∷ h) n) (sym entry_is) (record {
+    is = subst (λ z. IsInstallationOf opening (z ∷ h) n) (sym entry_is) (record {
       journal = subst (IsJournalOf opening (e ∷ h) n.journal) (sym accepts.changes)
-          (accepts.journal opening h m.changes.items e done.effect it.journal
+          (accepts.journal.takes_in opening h m.changes.items e done.effect it.journal
           (record { right = right; answer = refl; change = c; there = there; takes_back = told.inverse; told = told.performed; wrote = told.effect }));
       stage = subst (λ g. IsStagedAs g n.stage (state_at opening (e ∷ h)) n.plant) (sym idle)
           (subst (λ g. IsStagedAs None g (state_at opening (e ∷ h)) n.plant) (sym none) state);

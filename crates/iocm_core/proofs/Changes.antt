@@ -1,5 +1,5 @@
 -- Activations, and changes in stages, as calls.
-use Rattle.std.proofs.Common.{◌≡◌, inl, inr, ℕ, ◌+◌, ◌-◌, ◌<◌, length, Some, None, Ok, Err, true, [], ◌∷◌, ◌++◌, refl, sym, ap, subst, ◌∙◌, arith}
+use Rattle.std.proofs.Common.{◌≡◌, inl, inr, ℕ, ◌+◌, ◌-◌, ◌<◌, length, Some, None, Ok, Err, [], ◌∷◌, ◌++◌, refl, sym, ap, subst, ◌∙◌, arith}
 use Rattle.iocm_types.specs.declared.answer.Answer.TheVariants as answers
 use Rattle.iocm_types.specs.declared.refused.Refused.{Refused}
 use Rattle.iocm_model.specs.Operation.State.{State}
@@ -27,13 +27,14 @@ use Rattle.iocm_activate.specs.Told.{told_of_all}
 use Rattle.iocm_activate.specs.declared.done.Done.{Done}
 use Rattle.std.specs.Vec.{vec_len, vec_capacity}
 use Rattle.iocm_journal.specs.declared.journal.Journal.{Journal}
+use Rattle.iocm_journal.specs.Accepting.{newly_kept}
 use Rattle.iocm_journal.specs.JournalLaws.{OneThatKeepsTheSameIsOne, OtherEntriesLeaveIt}
 use Rattle.iocm_journal.specs.Now.{IsJournalOf}
 use Rattle.iocm_stage.specs.Staged.{IsStageOf, Tells}
 use Rattle.iocm_stage.specs.declared.staged.Staged.{Staged}
 use Rattle.iocm_core.specs.Accepting.{AcceptsOne, HasRoomForAChange, KeepsTheRest, IsActivated, IsBegun}
-use Rattle.iocm_core.specs.Running.{IsStagedAs, HasRoomFor, IsMachineOf, IsAnswered}
-use Rattle.iocm_core.specs.declared.machine.Machine.{Machine}
+use Rattle.iocm_core.specs.Running.{IsStagedAs, HasRoomFor, IsInstallationOf, IsAnswered}
+use Rattle.iocm_core.specs.declared.installation.Installation.{Installation}
 use Rattle.iocm_core.proofs.Accepted.{accepted_now}
 use Rattle.iocm_core.proofs.Kept.{staging, idle}
 use Rattle.iocm_core.proofs.Rightness.{activated_right, begun_right, activate_lacks, begin_lacks, advance_right, commit_right, abort_right}
@@ -46,7 +47,7 @@ still_idle : (opening : State) (h : History) (t : ChangeTree) (k : ℕ) (f : Eff
 unfolding account
 still_idle opening h t k f none = none
 
-pub activation_answered : (opening : State) (h : History) (m n : Machine) (t : ChangeTree) (k : ℕ) → IsMachineOf opening h m → m.stage ≡ None → IsActivated t m k n
+pub activation_answered : (opening : State) (h : History) (m n : Installation) (t : ChangeTree) (k : ℕ) → IsInstallationOf opening h m → m.stage ≡ None → IsActivated t m k n
     → IsAnswered opening h (activate t) (answers.Changed k) n
 activation_answered opening h m n t k it none a =
     let i = idle opening h m it none in
@@ -74,7 +75,7 @@ refused_activation opening h t why (Err other) idle is within (inl due) = activa
 refused_activation opening h t why o idle is within (inr lack) =
     subst (λ w. IsRight opening h (plain_entry (activate t) (answers.Refused w))) (sym lack) (activate_lacks opening h t idle within)
 
-pub activation_refused : (opening : State) (h : History) (m : Machine) (t : ChangeTree) (why : Refused) → IsMachineOf opening h m → m.stage ≡ None
+pub activation_refused : (opening : State) (h : History) (m : Installation) (t : ChangeTree) (why : Refused) → IsInstallationOf opening h m → m.stage ≡ None
     → limit_refusal t ≡ None → IsDue (refusal_in (meaning t m.plant.state)) why → IsRight opening h (plain_entry (activate t) (answers.Refused why))
 activation_refused opening h m t why it none within due =
     let i = idle opening h m it none in
@@ -88,21 +89,21 @@ refused_beginning opening h t why (Err other) idle is within (inl due) = begun_r
 refused_beginning opening h t why o idle is within (inr lack) =
     subst (λ w. IsRight opening h (plain_entry (begin t) (answers.Refused w))) (sym lack) (begin_lacks opening h t idle within)
 
-pub beginning_refused : (opening : State) (h : History) (m : Machine) (t : ChangeTree) (why : Refused) → IsMachineOf opening h m → m.stage ≡ None
+pub beginning_refused : (opening : State) (h : History) (m : Installation) (t : ChangeTree) (why : Refused) → IsInstallationOf opening h m → m.stage ≡ None
     → limit_refusal t ≡ None → IsDue (refusal_in (meaning t m.plant.state)) why → IsRight opening h (plain_entry (begin t) (answers.Refused why))
 beginning_refused opening h m t why it none within due =
     let i = idle opening h m it none in
     refused_beginning opening h t why (meaning t (state_at opening h)) i.none refl within (subst (λ s. IsDue (refusal_in (meaning t s)) why) i.state due)
 
 -- a tree that is over a limit is refused for that
-pub activation_over_a_limit : (opening : State) (h : History) (m : Machine) (t : ChangeTree) (why : Refused) → IsMachineOf opening h m → m.stage ≡ None
+pub activation_over_a_limit : (opening : State) (h : History) (m : Installation) (t : ChangeTree) (why : Refused) → IsInstallationOf opening h m → m.stage ≡ None
     → ((s : State) → meaning t s ≡ meaning_unless (Some why) t s) → IsRight opening h (plain_entry (activate t) (answers.Refused why))
 activation_over_a_limit opening h m t why it none means =
     let i = idle opening h m it none in
     activated_right opening h t (plain_entry (activate t) (answers.Refused why)) i.none
     (sym (ap (activated t ((journal_of h).count + 1) (state_at opening h)) (means (state_at opening h)))) refl
 
-pub beginning_over_a_limit : (opening : State) (h : History) (m : Machine) (t : ChangeTree) (why : Refused) → IsMachineOf opening h m → m.stage ≡ None
+pub beginning_over_a_limit : (opening : State) (h : History) (m : Installation) (t : ChangeTree) (why : Refused) → IsInstallationOf opening h m → m.stage ≡ None
     → ((s : State) → meaning t s ≡ meaning_unless (Some why) t s) → IsRight opening h (plain_entry (begin t) (answers.Refused why))
 beginning_over_a_limit opening h m t why it none means =
     let i = idle opening h m it none in
@@ -110,7 +111,7 @@ beginning_over_a_limit opening h m t why it none means =
 
 -- ---- a beginning
 
-pub beginning_answered : OtherEntriesLeaveIt → OneThatKeepsTheSameIsOne → (opening : State) (h : History) (m n : Machine) (t : ChangeTree) (k : ℕ) → IsMachineOf opening h m → m.stage ≡ None → IsBegun t m k n
+pub beginning_answered : OtherEntriesLeaveIt → OneThatKeepsTheSameIsOne → (opening : State) (h : History) (m n : Installation) (t : ChangeTree) (k : ℕ) → IsInstallationOf opening h m → m.stage ≡ None → IsBegun t m k n
     → IsAnswered opening h (begin t) (answers.Staged k) n
 beginning_answered others as_before opening h m n t k it none b =
     let i = idle opening h m it none in
@@ -136,7 +137,7 @@ beginning_answered others as_before opening h m n t k it none b =
 
 -- ---- an Advance
 
-pub advance_answered : OtherEntriesLeaveIt → (opening : State) (h : History) (m n : Machine) (g new : Staged) (k : ℕ) → IsMachineOf opening h m → m.stage ≡ Some g
+pub advance_answered : OtherEntriesLeaveIt → (opening : State) (h : History) (m n : Installation) (g new : Staged) (k : ℕ) → IsInstallationOf opening h m → m.stage ≡ Some g
     → ((t : Stage) (s : State) → IsStageOf g t s m.plant → IsStageOf new (once_more t) s n.plant) → ((t : Stage) (s : State) → IsStageOf g t s m.plant → k ≡ left_of (once_more t))
     → n.stage ≡ Some new → n.journal ≡ m.journal → n.changes ≡ m.changes → IsAnswered opening h advance (answers.Left k) n
 advance_answered others opening h m n g new k it was moves left staged journal changes =
@@ -164,7 +165,7 @@ advance_answered others opening h m n g new k it was moves left staged journal c
 
 -- ---- a Commit
 
-pub commit_answered : (opening : State) (h : History) (m n : Machine) (g : Staged) (done : Done) (k : ℕ) → IsMachineOf opening h m → m.stage ≡ Some g
+pub commit_answered : (opening : State) (h : History) (m n : Installation) (g : Staged) (done : Done) (k : ℕ) → IsInstallationOf opening h m → m.stage ≡ Some g
     → ((t : Stage) (s : State) → IsStageOf g t s m.plant → n.plant.state ≡ state_after_all t.change.edits s) → ((t : Stage) (s : State) → IsStageOf g t s m.plant → Tells done t.change)
     → AcceptsOne done m n → k ≡ length m.journal.changes.items + 1 → n.stage ≡ None → IsAnswered opening h commit (answers.Changed k) n
 commit_answered opening h m n g done k it was state tells accepts number none =
@@ -180,7 +181,7 @@ commit_answered opening h m n g done k it was state tells accepts number none =
 
 -- ---- an Abort
 
-pub abort_answered : OtherEntriesLeaveIt → (opening : State) (h : History) (m n : Machine) (g : Staged) → IsMachineOf opening h m → m.stage ≡ Some g
+pub abort_answered : OtherEntriesLeaveIt → (opening : State) (h : History) (m n : Installation) (g : Staged) → IsInstallationOf opening h m → m.stage ≡ Some g
     → ((t : Stage) (s : State) → IsStageOf g t s m.plant → n.plant.state ≡ s) → n.stage ≡ None → n.journal ≡ m.journal → n.changes ≡ m.changes
     → IsAnswered opening h abort answers.Aborted n
 abort_answered others opening h m n g it was state none journal changes =
@@ -204,11 +205,11 @@ abort_answered others opening h m n g it was state none journal changes =
 none_less : (n : ℕ) → n - 0 ≡ n
 none_less n = omega arith
 
-module _ (t : ChangeTree) (m r n : Machine) (plant : r.plant ≡ m.plant) (rest : KeepsTheRest m r) where
+module _ (t : ChangeTree) (m r n : Installation) (plant : r.plant ≡ m.plant) (rest : KeepsTheRest m r) where
   abbrev tried : Outcome
   tried = meaning t r.plant.state
 
-  pub activated_by : OneThatKeepsTheSameIsOne → (p : Operating) (d : Done) (q : Machine) (k : ℕ) → tried ≡ Ok (record { state = p.state; edits = edits_of tried })
+  pub activated_by : OneThatKeepsTheSameIsOne → (p : Operating) (d : Done) (q : Installation) (k : ℕ) → tried ≡ Ok (record { state = p.state; edits = edits_of tried })
       → plain_tree (tree_of d.inverse) ≡ inverse_tree (edits_of tried) r.plant.state → effect_in d.effect ≡ effect_of (edits_of tried) r.plant.state
       → AreToldBy d.performed.items (told_of_all (edits_of tried) r.plant.state)
       → AcceptsOne d q n → q.journal ≡ r.journal → q.changes ≡ r.changes → k ≡ length q.journal.changes.items + 1 → n.plant ≡ p → n.stage ≡ None → IsActivated t m k n
@@ -225,11 +226,13 @@ module _ (t : ChangeTree) (m r n : Machine) (plant : r.plant ≡ m.plant) (rest 
           tells = subst (λ s. Tells d (record { edits = edits_of tried; from = s })) same (record { inverse = inverse; effect = effect; performed = performed });
           accepts = record {
             changes = accepts.changes ∙ ap (λ fs. fs ++ d.effect ∷ []) known;
-            kept = accepts.kept ∙ ap (λ ks. ks ++ record { inverse = d.inverse; performed = d.performed; stands = true; undone_after = 0 } ∷ []) kept;
-            standing = accepts.standing ∙ ap (λ s. s + 1) standing;
-            undone = accepts.undone;
-            journal = λ opening h fs e f i a. accepts.journal opening h fs e f
-                (subst (λ j. IsJournalOf opening h j fs) (sym journal) (as_before opening h m.journal r.journal fs rest.journal i)) a;
+            journal = record {
+              changes = accepts.journal.changes ∙ ap (λ ks. ks ++ newly_kept d.inverse d.performed ∷ []) kept;
+              standing = accepts.journal.standing ∙ ap (λ s. s + 1) standing;
+              undone = accepts.journal.undone;
+              takes_in = λ opening h fs e f i a. accepts.journal.takes_in opening h fs e f
+                  (subst (λ j. IsJournalOf opening h j fs) (sym journal) (as_before opening h m.journal r.journal fs rest.journal i)) a;
+            };
           };
           number = number ∙ ap (λ (ks : _). length ks + 1) kept;
           stage = none;

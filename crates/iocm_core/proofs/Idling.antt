@@ -1,4 +1,4 @@
--- Entries that leave a machine as it is.
+-- Entries that leave an installation as it is.
 use Rattle.std.proofs.Common.{◌≡◌, ◌∷◌, refl, sym, subst}
 use Rattle.iocm_types.specs.declared.answer.Answer.TheVariants as answers
 use Rattle.iocm_types.specs.declared.answer.Counts.{Counts}
@@ -11,12 +11,12 @@ use Rattle.iocm_history.specs.Legal.{IsRight}
 use Rattle.iocm_history.proofs.EachCall.{other_calls_leave_the_state}
 use Rattle.iocm_journal.specs.Answering.{LeavesTheJournal}
 use Rattle.iocm_journal.specs.JournalLaws.{OtherEntriesLeaveIt}
-use Rattle.iocm_core.specs.Running.{IsStagedAs, IsMachineOf}
-use Rattle.iocm_core.specs.declared.machine.Machine.{Machine}
+use Rattle.iocm_core.specs.Running.{IsStagedAs, IsInstallationOf}
+use Rattle.iocm_core.specs.declared.installation.Installation.{Installation}
 
--- with an entry that changes nothing, a machine is that of the history with it
-pub idle_now : OtherEntriesLeaveIt → (opening : State) (h : History) (m : Machine) (e : Entry) → IsMachineOf opening h m → IsRight opening h e → LeavesTheJournal e.answer → LeavesTheState e.answer
-    → stage_of opening (e ∷ h) ≡ stage_of opening h → IsMachineOf opening (e ∷ h) m
+-- with an entry that changes nothing, an installation is that of the history with it
+pub idle_now : OtherEntriesLeaveIt → (opening : State) (h : History) (m : Installation) (e : Entry) → IsInstallationOf opening h m → IsRight opening h e → LeavesTheJournal e.answer → LeavesTheState e.answer
+    → stage_of opening (e ∷ h) ≡ stage_of opening h → IsInstallationOf opening (e ∷ h) m
 idle_now others opening h m e it right same_journal same_state stage = record {
   journal = others opening h e m.journal m.changes.items it.journal right same_journal;
   stage = transport_staged;
@@ -43,9 +43,9 @@ refused_stage opening h (undo n) why = refl
 refused_stage opening h (redo n) why = refl
 refused_stage opening h show why = refl
 
--- a refused call leaves the machine
-pub refused_now : OtherEntriesLeaveIt → (opening : State) (h : History) (m : Machine) (call : Call) (why : Refused) → IsMachineOf opening h m → IsRight opening h (plain_entry call (answers.Refused why))
-    → IsMachineOf opening (plain_entry call (answers.Refused why) ∷ h) m
+-- a refused call leaves the installation
+pub refused_now : OtherEntriesLeaveIt → (opening : State) (h : History) (m : Installation) (call : Call) (why : Refused) → IsInstallationOf opening h m → IsRight opening h (plain_entry call (answers.Refused why))
+    → IsInstallationOf opening (plain_entry call (answers.Refused why) ∷ h) m
 refused_now others opening h m call why it right = idle_now others opening h m (plain_entry call (answers.Refused why)) it right tt tt (refused_stage opening h call why)
 
 -- nor does one that shows

@@ -13,7 +13,7 @@ use Rattle.iocm_model.specs.Change.Tree.{ChangeTree, depth_of, leaves_of, most_d
 use Rattle.iocm_model.specs.Change.Meaning.{meaning}
 use Rattle.iocm_tree.specs.Limits.{limit_refusal}
 use Rattle.iocm_history.specs.Change.{effect_of_change}
-use Rattle.iocm_history.specs.Entry.{Call, at, activate, begin, advance, commit, abort, undo, redo, show, Entry, History, plain_entry}
+use Rattle.iocm_history.specs.Entry.{at, activate, begin, advance, commit, abort, undo, redo, show, Entry, History, plain_entry}
 use Rattle.iocm_history.specs.Account.{account, marked_entries, state_at, stage_of}
 use Rattle.iocm_history.specs.Journal.{journal_of}
 use Rattle.iocm_history.specs.Stage.{Stage, once_more, is_held, left_of}

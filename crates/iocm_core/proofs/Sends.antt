@@ -24,7 +24,7 @@ use Rattle.iocm_config.proofs.config.Config.TheSendSync as config
 use Rattle.iocm_core.specs.contracts.call.Call as Call
 use Rattle.iocm_core.specs.contracts.calling.Core as Core
 use Rattle.iocm_core.specs.contracts.calling.Core.TheInside as inside
-use Rattle.iocm_core.specs.contracts.machine.Machine as Machine
+use Rattle.iocm_core.specs.contracts.installation.Installation as Installation
 use Rattle.iocm_core.specs.contracts.trace.Entry as Entry
 use Rattle.iocm_types.proofs.answer.Answer.TheSendSync as answer
 
@@ -55,8 +55,8 @@ done_send = declared_send Done.the_type (tree_send, (effect_send, (search (touch
 staged_send : IsSend Staged.the_row
 staged_send = declared_send Staged.the_type (done_send, (search (edit_send, crosses, sendable) depth 20, (search (edit_send, crosses, sendable) depth 20, tt)))
 
-machine_send : IsSend Machine.the_row
-machine_send = declared_send Machine.the_type (plant.the_send, (journal_send, (search (staged_send, crosses, sendable) depth 20, (search (effect_send, crosses, sendable) depth 20, tt))))
+installation_send : IsSend Installation.the_row
+installation_send = declared_send Installation.the_type (plant.the_send, (journal_send, (search (staged_send, crosses, sendable) depth 20, (search (effect_send, crosses, sendable) depth 20, tt))))
 
 pub call_send : IsSend Call.the_row
 call_send = search (tree_send, crosses, sendable) depth 60 fits 20000
@@ -65,4 +65,4 @@ pub entry_send : IsSend Entry.the_row
 entry_send = declared_send Entry.the_type (call_send, (answer.the_send, tt))
 
 pub core_send : IsSend Core.the_row
-core_send = view_send _ _ _ _ _ (declared_send inside.the_type (machine_send, (search (config.the_send, crosses, sendable) depth 20, (search (entry_send, crosses, sendable) depth 20, (search sendable depth 20, tt)))))
+core_send = view_send _ _ _ _ _ (declared_send inside.the_type (installation_send, (search (config.the_send, crosses, sendable) depth 20, (search (entry_send, crosses, sendable) depth 20, (search sendable depth 20, tt)))))

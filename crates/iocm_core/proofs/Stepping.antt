@@ -20,17 +20,17 @@ use Rattle.iocm_stage.specs.StageLaws.{StepsElsewherePassAStage}
 use Rattle.iocm_stage.specs.declared.staged.Staged.{Staged}
 use Rattle.iocm_journal.specs.Answering.{LeavesTheJournal}
 use Rattle.iocm_journal.specs.JournalLaws.{OtherEntriesLeaveIt}
-use Rattle.iocm_core.specs.Running.{IsStagedAs, HasRoomFor, IsMachineOf, IsAnswered}
-use Rattle.iocm_core.specs.declared.machine.Machine.{Machine}
+use Rattle.iocm_core.specs.Running.{IsStagedAs, HasRoomFor, IsInstallationOf, IsAnswered}
+use Rattle.iocm_core.specs.declared.installation.Installation.{Installation}
 use Rattle.iocm_core.proofs.Idling.{idle_now}
 use Rattle.iocm_core.proofs.Rightness.{held_right, step_right}
 
--- a step that is held leaves the machine
+-- a step that is held leaves the installation
 held_stage : (opening : State) (h : History) (x : SubId) (made : Step) → stage_of opening (plain_entry (at x made) answers.Held ∷ h) ≡ stage_of opening h
 unfolding account
 held_stage opening h x made = refl
 
-pub held_answered : OtherEntriesLeaveIt → (opening : State) (h : History) (m : Machine) (x : SubId) (made : Step) → IsMachineOf opening h m → is_held x (stage_of opening h) ≡ true
+pub held_answered : OtherEntriesLeaveIt → (opening : State) (h : History) (m : Installation) (x : SubId) (made : Step) → IsInstallationOf opening h m → is_held x (stage_of opening h) ≡ true
     → IsAnswered opening h (at x made) answers.Held m
 held_answered others opening h m x made it held = let right = held_right opening h x made held in record {
   right = right;
@@ -67,7 +67,7 @@ stepped law (Some t) (Some g) s x made p q is off state room = let passed = law 
 stepped law None (Some g) s x made p q is off state room = absurd is
 stepped law (Some t) None s x made p q is off state room = absurd is
 
-module _ (law : StepsElsewherePassAStage) (others : OtherEntriesLeaveIt) (opening : State) (h : History) (m n : Machine) (x : SubId) (made : Step) (it : IsMachineOf opening h m)
+module _ (law : StepsElsewherePassAStage) (others : OtherEntriesLeaveIt) (opening : State) (h : History) (m n : Installation) (x : SubId) (made : Step) (it : IsInstallationOf opening h m)
     (off : is_held x (stage_of opening h) ≡ false) (state : n.plant.state ≡ after_step x made m.plant.state) (room : KeepsRoom m.plant.room n.plant.room)
     (journal : n.journal ≡ m.journal) (staged : n.stage ≡ m.stage) (changes : n.changes ≡ m.changes) where
   was : WasStepped (stage_of opening h) m.stage (state_at opening h) x made m.plant n.plant
@@ -79,7 +79,7 @@ module _ (law : StepsElsewherePassAStage) (others : OtherEntriesLeaveIt) (openin
   after : state_at opening (e ∷ h) ≡ after_step x made (state_at opening h)
   after = steps_step opening h x made it.journal.used it.journal.legal
 
-  moved_on : IsMachineOf opening (e ∷ h) n
+  moved_on : IsInstallationOf opening (e ∷ h) n
   moved_on = record {
     journal = subst (λ j. IsJournalOf opening (e ∷ h) j n.changes.items) (sym journal) (subst (λ (fs : _). IsJournalOf opening (e ∷ h) m.journal fs.items) (sym changes)
         (others opening h e m.journal m.changes.items it.journal (step_right opening h x made off) (step_journal (state_at opening h) x made)));
@@ -102,9 +102,9 @@ module _ (law : StepsElsewherePassAStage) (others : OtherEntriesLeaveIt) (openin
   entry_is : entry_told n.changes.items (at x made) (answer_in (state_at opening h) x made) ≡ e
   entry_is = ap (λ f. record { call = at x made; answer = answer_in (state_at opening h) x made; effect = f }) (nothing_told n.changes.items (state_at opening h) x made)
 
-  -- the machine is that of the history with the step, as the machine answered it
+  -- the installation is that of the history with the step, as the machine answered it
   pub step_answered : (answer : Answer) → answer ≡ answer_in m.plant.state x made → IsAnswered opening h (at x made) answer n
   step_answered answer is = subst (λ a. IsAnswered opening h (at x made) a n) (sym (is ∙ was.answer)) (record {
     right = subst (IsRight opening h) (sym entry_is) (step_right opening h x made off);
-    is = subst (λ z. IsMachineOf opening (z ∷ h) n) (sym entry_is) moved_on;
+    is = subst (λ z. IsInstallationOf opening (z ∷ h) n) (sym entry_is) moved_on;
   })

@@ -1,4 +1,5 @@
--- A machine beside the history that it is of. Own.
+-- An installation, which is a machine in operation with its journal and what is staged, beside the
+-- history that it is of. Own.
 use Rattle.std.specs.Prelude.{◌≡◌, Option, None, Some, ◌∷◌}
 use Rattle.iocm_types.specs.declared.answer.Answer.{Answer}
 use Rattle.iocm_model.specs.Operation.State.{State}
@@ -12,7 +13,7 @@ use Rattle.iocm_stage.specs.declared.staged.Staged.{Staged}
 use Rattle.iocm_journal.specs.Now.{IsJournalOf}
 use Rattle.iocm_core.specs.Accepting.{HasRoomForAChange}
 use Rattle.iocm_core.specs.Told.{entry_told}
-use Rattle.iocm_core.specs.declared.machine.Machine.{Machine}
+use Rattle.iocm_core.specs.declared.installation.Installation.{Installation}
 
 -- what is staged, if anything is, on a machine that would be in a state, were it not for the edits
 -- that were advanced
@@ -22,31 +23,31 @@ IsStagedAs (Some t) (Some g) s p = IsStageOf g t s p
 IsStagedAs _ _ s p = ⊥
 
 -- while a change is staged there is memory for its acceptance
-abbrev pub HasRoomFor : Option Staged → Machine → Type 0
-HasRoomFor None m = Unit {0}
-HasRoomFor (Some g) m = HasRoomForAChange m
+abbrev pub HasRoomFor : Option Staged → Installation → Type 0
+HasRoomFor None i = Unit {0}
+HasRoomFor (Some g) i = HasRoomForAChange i
 
--- a machine after a history from an opening state: its journal, what is staged, and the state to
+-- an installation after a history from an opening state: its journal, what is staged, and the state to
 -- which the history leads
-pub record IsMachineOf (opening : State) (h : history.History) (m : Machine) : Type 0 where
-  pub journal : IsJournalOf opening h m.journal m.changes.items
-  pub stage : IsStagedAs (stage_of opening h) m.stage (state_at opening h) m.plant
-  pub room : HasRoomFor m.stage m
+pub record IsInstallationOf (opening : State) (h : history.History) (i : Installation) : Type 0 where
+  pub journal : IsJournalOf opening h i.journal i.changes.items
+  pub stage : IsStagedAs (stage_of opening h) i.stage (state_at opening h) i.plant
+  pub room : HasRoomFor i.stage i
 
--- a machine that runs
-pub record IsRunning (m : Machine) : Type 0 where
+-- an installation that runs
+pub record IsRunning (i : Installation) : Type 0 where
   pub opening : State
   pub history : history.History
-  pub is : IsMachineOf opening history m
+  pub is : IsInstallationOf opening history i
 
--- a call was answered: its entry is right after the history, and the machine is then one of the
--- history with it
+-- a call was answered: its entry is right after the history, and the installation is then one of
+-- the history with it
 pub record IsAnswered (opening : State) (h : history.History) (call : history.Call) (answer : Answer)
-    (m : Machine) : Type 0 where
-  pub right : IsRight opening h (entry_told m.changes.items call answer)
-  pub is : IsMachineOf opening (entry_told m.changes.items call answer ∷ h) m
+    (i : Installation) : Type 0 where
+  pub right : IsRight opening h (entry_told i.changes.items call answer)
+  pub is : IsInstallationOf opening (entry_told i.changes.items call answer ∷ h) i
 
--- a call on a machine: whatever history it is of, it is of that with the call's entry then
-abbrev pub Answers : history.Call → Answer → Machine → Machine → Type 0
-Answers call answer old new = (opening : State) (h : history.History) → IsMachineOf opening h old
+-- a call on an installation: whatever history it was of, it is of that with the call's entry then
+abbrev pub Answers : history.Call → Answer → Installation → Installation → Type 0
+Answers call answer old new = (opening : State) (h : history.History) → IsInstallationOf opening h old
     → IsAnswered opening h call answer new

@@ -1,11 +1,11 @@
 ghost use Rattle.std.specs.Prelude.{◌≡◌, ◌+◌, ◌≤◌, length, OnOk};
 ghost use Rattle.iocm_core.specs.Accepting.{AcceptsOne, HasRoomForAChange, KeepsTheRest};
 
-use crate::machine::Machine;
+use crate::installation::Installation;
 use iocm_activate::Done;
 use std::alloc::AllocError;
 
-impl Machine {
+impl Installation {
     /// Makes memory for the acceptance of one more change.
     pub fn make_room(&mut self) -> Result<(), AllocError>
         ensures plant { self.new.plant ≡ self.old.plant }

@@ -4,7 +4,7 @@ ghost use Rattle.std.specs.Vec.{vec_capacity, vec_len};
 ghost use Rattle.iocm_core.specs.Calls.{call_in};
 ghost use Rattle.iocm_core.specs.Recorded.{IsRecorded};
 
-use crate::machine::Machine;
+use crate::installation::Installation;
 use crate::{Call, Entry};
 use iocm_config::Config;
 use iocm_types::Answer;
@@ -16,7 +16,7 @@ use std::marker::Model;
 /// the latest entry first.
 #[derive(Drop)]
 pub struct Core {
-    pub(crate) machine: Machine,
+    pub(crate) installation: Installation,
     pub(crate) opening: Config,
     pub(crate) entries: Vec<Entry>,
     pub(crate) room: usize,
@@ -61,9 +61,9 @@ impl Model for Core {
     ghost use Rattle.iocm_core.specs.Told.{history_in};
     ghost use Rattle.iocm_core.specs.Held as held;
 
-    ghost view = { λ c. record { opening = opening_state c.opening.records; history = history_in c.machine.changes.items c.entries.items; entries = c.entries.items; room = c.room } };
+    ghost view = { λ c. record { opening = opening_state c.opening.records; history = history_in c.installation.changes.items c.entries.items; entries = c.entries.items; room = c.room } };
 
-    ghost invariant = { λ c. held.IsCore (opening_state c.opening.records) c.machine c.entries.items c.room
+    ghost invariant = { λ c. held.IsCore (opening_state c.opening.records) c.installation c.entries.items c.room
         (vec_capacity c.entries) };
 }
 
@@ -108,7 +108,7 @@ impl Core {
         if self.entries.len() == self.room {
             return Err(Full { call });
         }
-        let answer = self.machine.perform(alloc, &call);
+        let answer = self.installation.perform(alloc, &call);
         Ok(note(&mut self.entries, call, answer))
     }
 }

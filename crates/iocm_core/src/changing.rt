@@ -8,7 +8,7 @@ ghost use Rattle.iocm_tree.specs.Trees.{plain};
 ghost use Rattle.iocm_core.specs.Running.{Answers, IsRunning};
 ghost use Rattle.iocm_core.specs.Told.{GoesOnWith};
 
-use crate::machine::Machine;
+use crate::installation::Installation;
 use crate::refusals::{NOTHING_STAGED, STAGED};
 use iocm_activate::activate;
 use iocm_journal::journals_keep_to_histories;
@@ -17,7 +17,7 @@ use iocm_tree::Tree;
 use iocm_types::{Answer, Refused};
 use std::alloc::Global;
 
-impl Machine {
+impl Installation {
     /// Activates a change tree: Changed, with its number; or why it is refused: O1, a change is
     /// staged; or as `activate` of `iocm_activate` is. A tree that is over a limit (C1, C2) is
     /// refused without memory.

@@ -9,7 +9,7 @@ ghost use Rattle.iocm_stage.specs.Staged.{IsStaged};
 ghost use Rattle.iocm_core.specs.Running.{IsStagedAs};
 ghost use Rattle.iocm_core.specs.Told.{history_in, IsTold};
 
-use crate::machine::Machine;
+use crate::installation::Installation;
 use crate::{Core, Trace};
 use iocm_plant::Plant;
 use iocm_stage::Staged;
@@ -34,17 +34,17 @@ impl Core {
         ensures changes { length result.trace.changes.items ≡ (journal_of self.history).count }
     {
         let Core {
-            machine,
+            installation,
             opening,
             entries,
             room: _room,
         } = self;
-        let Machine {
+        let Installation {
             plant,
             journal: _journal,
             stage,
             changes,
-        } = machine;
+        } = installation;
         Closed {
             plant: settled(plant, stage),
             trace: Trace {

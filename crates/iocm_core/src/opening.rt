@@ -5,9 +5,9 @@ ghost use Rattle.std.specs.Vec.{vec_capacity};
 ghost use Rattle.iocm_history.specs.InUse.{IsInUse};
 ghost use Rattle.iocm_model.specs.Operation.State.{opening_state};
 ghost use Rattle.iocm_plant.specs.Refusing.{opening_refusal, IsDue};
-ghost use Rattle.iocm_core.specs.Running.{IsMachineOf};
+ghost use Rattle.iocm_core.specs.Running.{IsInstallationOf};
 
-use crate::machine::Machine;
+use crate::installation::Installation;
 use crate::{Core, Entry};
 use iocm_config::Config;
 use iocm_journal::Journal;
@@ -39,7 +39,7 @@ impl Core {
         // For the proof alone: the state is sound.
         plant.is_sound();
         Ok(Core {
-            machine: machine(alloc, plant),
+            installation: installation(alloc, plant),
             opening: prepared.opening,
             entries: prepared.entries,
             room,
@@ -88,13 +88,13 @@ fn copies_of(alloc: Global, config: &Config) -> Result<Vec<Record>, AllocError>
     Ok(copies)
 }
 
-/// A machine of which nothing was asked yet.
-fn machine(alloc: Global, plant: Plant) -> Machine
+/// A machine in operation of which nothing was asked yet, with an empty journal.
+fn installation(alloc: Global, plant: Plant) -> Installation
     requires used { IsInUse plant.state }
-    ensures machine { IsMachineOf plant.state [] result }
+    ensures installation { IsInstallationOf plant.state [] result }
     ensures changes { result.changes.items ≡ [] }
 {
-    Machine {
+    Installation {
         plant,
         journal: Journal::new(alloc),
         stage: None,

@@ -5,10 +5,10 @@ ghost use Rattle.iocm_history.specs.Entry.{History};
 ghost use Rattle.iocm_history.specs.Journal.{journal_of};
 ghost use Rattle.iocm_history.specs.Machine.{count_advanced, machine_at};
 ghost use Rattle.iocm_model.specs.Operation.State.{State, seen_in};
-ghost use Rattle.iocm_core.specs.Running.{IsMachineOf};
+ghost use Rattle.iocm_core.specs.Running.{IsInstallationOf};
 
 use crate::Core;
-use crate::machine::Machine;
+use crate::installation::Installation;
 use iocm_types::{Live, SubId, View};
 
 // What a machine shows between calls. None of it is recorded, and none takes memory.
@@ -18,35 +18,35 @@ impl Core {
     pub fn view(&self, subchannel: SubId) -> Option<View>
         ensures { result ≡ seen_in (machine_at self.now.opening self.now.history) subchannel }
     {
-        self.machine.plant.view(subchannel)
+        self.installation.plant.view(subchannel)
     }
 
     /// What a subchannel remembers now, if it is there.
     pub fn live(&self, subchannel: SubId) -> Option<Live>
         ensures { result ≡ get (machine_at self.now.opening self.now.history).lives subchannel }
     {
-        self.machine.plant.live(subchannel)
+        self.installation.plant.live(subchannel)
     }
 
     /// How many changes were accepted, at once or in stages. The latest has this number.
     pub fn changes(&self) -> u64
         ensures { result ≡ (journal_of self.now.history).count }
     {
-        self.machine.journal.changes.len() as u64
+        self.installation.journal.changes.len() as u64
     }
 
     /// How many edits were advanced of the change in stages, if one was begun.
     pub fn advanced(&self) -> Option<u64>
         ensures { result ≡ count_advanced (stage_of self.now.opening self.now.history) }
     {
-        self.machine.advanced()
+        self.installation.advanced()
     }
 }
 
-impl Machine {
+impl Installation {
     /// How many edits were advanced of the change in stages, if one was begun.
     fn advanced(&self) -> Option<u64>
-        ensures { (opening : State) (h : History) → IsMachineOf opening h self.now
+        ensures { (opening : State) (h : History) → IsInstallationOf opening h self.now
             → result ≡ count_advanced (stage_of opening h) }
     {
         match &self.stage {

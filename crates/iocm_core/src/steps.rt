@@ -4,15 +4,15 @@ ghost use Rattle.iocm_history.specs.Entry as history;
 ghost use Rattle.iocm_history.specs.Stage.{is_held};
 ghost use Rattle.iocm_model.specs.Operation.State.{State};
 ghost use Rattle.iocm_model.specs.Operation.Step as step;
-ghost use Rattle.iocm_core.specs.Running.{Answers, IsMachineOf, IsRunning};
+ghost use Rattle.iocm_core.specs.Running.{Answers, IsInstallationOf, IsRunning};
 ghost use Rattle.iocm_core.specs.Told.{GoesOnWith};
 
-use crate::machine::Machine;
+use crate::installation::Installation;
 use iocm_journal::journals_keep_to_histories;
 use iocm_stage::steps_elsewhere_pass_a_stage;
 use iocm_types::{Answer, Order, SubId};
 
-impl Machine {
+impl Installation {
     /// An order of an image on its subchannel; Held where the change in stages alters the
     /// subchannel. Can't answer want of memory.
     pub fn io(&mut self, subchannel: &SubId, order: Order) -> Answer
@@ -66,7 +66,7 @@ impl Machine {
 
     /// Whether a subchannel is held by the change in stages.
     fn holds(&self, subchannel: &SubId) -> bool
-        ensures { (opening : State) (h : history.History) → IsMachineOf opening h self.now
+        ensures { (opening : State) (h : history.History) → IsInstallationOf opening h self.now
             → result ≡ is_held subchannel.now (stage_of opening h) }
     {
         match &self.stage {

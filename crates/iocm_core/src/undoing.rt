@@ -2,13 +2,13 @@ ghost use Rattle.iocm_history.specs.Entry as history;
 ghost use Rattle.iocm_core.specs.Running.{Answers, IsRunning};
 ghost use Rattle.iocm_core.specs.Told.{GoesOnWith};
 
-use crate::machine::Machine;
+use crate::installation::Installation;
 use crate::refusals::STAGED;
 use iocm_journal::journals_keep_to_histories;
 use iocm_types::{Answer, Counts};
 use std::alloc::Global;
 
-impl Machine {
+impl Installation {
     /// Undoes a change: Undone, with its number; or why it is refused: O1, a change is staged; or
     /// as `Journal::undo` is.
     pub fn undo(&mut self, alloc: Global, number: u64) -> Answer

@@ -6,6 +6,6 @@ use Rattle.iocm_core.proofs.Kept.{staged_or_none}
 use Rattle.iocm_core.proofs.calling.Core.close.Goals as goal
 
 pub settled-requires : goal.settled-requires
-settled-requires c = staged_or_none c.self.inside.machine
-    (record { opening = opening_state c.self.inside.opening.records; history = history_in c.self.inside.machine.changes.items c.self.inside.entries.items; is = c.self.invariant.machine })
-    c.self.inside.machine.stage refl
+settled-requires c = staged_or_none c.self.inside.installation
+    (record { opening = opening_state c.self.inside.opening.records; history = history_in c.self.inside.installation.changes.items c.self.inside.entries.items; is = c.self.invariant.installation })
+    c.self.inside.installation.stage refl

@@ -11,9 +11,10 @@ use iocm_stage::Staged;
 use iocm_types::Answer;
 use std::alloc::Global;
 
-/// A machine with its journal and what is staged. The word is own.
+/// A machine in operation with its journal, what is staged, and what each change wrote. The word is
+/// own.
 #[derive(Drop)]
-pub struct Machine {
+pub struct Installation {
     /// The machine in operation, with the edits that were advanced.
     pub plant: Plant,
     /// Its accepted changes.
@@ -24,7 +25,7 @@ pub struct Machine {
     pub changes: Vec<Effect>,
 }
 
-impl Machine {
+impl Installation {
     /// Performs a call, and gives its answer.
     pub fn perform(&mut self, alloc: Global, call: &Call) -> Answer
         requires { IsRunning self.old }

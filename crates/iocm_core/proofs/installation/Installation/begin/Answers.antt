@@ -8,7 +8,7 @@ use Rattle.iocm_tree.specs.Trees.{plain_tree, tree_of}
 use Rattle.iocm_core.proofs.Changes.{beginning_answered, beginning_refused, beginning_over_a_limit}
 use Rattle.iocm_core.proofs.Kept.{none_if, staged_if, kept_idle, refuses}
 use Rattle.iocm_core.proofs.Rightness.{begin_o1}
-use Rattle.iocm_core.proofs.machine.Machine.begin.Goals as goal
+use Rattle.iocm_core.proofs.installation.Installation.begin.Goals as goal
 
 pub returns-then-is_some-clause-answers : goal.returns-then-is_some-clause-answers
 returns-then-is_some-clause-answers c = λ opening h it. let g = staged_if opening h c.args.self.now it c.if-is_some.ensures in

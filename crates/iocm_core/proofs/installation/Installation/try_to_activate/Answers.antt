@@ -5,7 +5,7 @@ use Rattle.iocm_tree.specs.Trees.{plain_tree, tree_of}
 use Rattle.iocm_plant.specs.Operating.{Operating}
 use Rattle.iocm_core.proofs.Changes.{activated_by}
 use Rattle.iocm_core.proofs.Kept.{rules_kept, few_in}
-use Rattle.iocm_core.proofs.machine.Machine.try_to_activate.Goals as goal
+use Rattle.iocm_core.proofs.installation.Installation.try_to_activate.Goals as goal
 
 pub activate-requires : goal.activate-requires
 activate-requires c = record { kept = subst (λ (p : Operating). KeepsTheRules p.state) (sym c.make_room.ensures.plant) (rules_kept c.args.self.now c.requires.running c.requires.idle) }

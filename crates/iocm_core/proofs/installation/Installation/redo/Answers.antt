@@ -11,7 +11,7 @@ use Rattle.iocm_journal.specs.Now.{BelongTogether, IsNow}
 use Rattle.iocm_journal.specs.Answering.{IsNext}
 use Rattle.iocm_core.proofs.Kept.{none_if, staged_if, refuses, now_of, together, next_answered}
 use Rattle.iocm_core.proofs.Rightness.{redo_o1}
-use Rattle.iocm_core.proofs.machine.Machine.redo.Goals as goal
+use Rattle.iocm_core.proofs.installation.Installation.redo.Goals as goal
 
 pub returns-then-is_some-clause-answers : goal.returns-then-is_some-clause-answers
 returns-then-is_some-clause-answers c = λ opening h it. let g = staged_if opening h c.args.self.now it c.if-is_some.ensures in

@@ -3,7 +3,7 @@ use Rattle.std.proofs.Common.{refl, sym, ap}
 use Rattle.iocm_types.specs.declared.answer.Answer.TheVariants as answers
 use Rattle.iocm_model.specs.Operation.Step.{order}
 use Rattle.iocm_core.proofs.Stepping.{held_answered, step_answered}
-use Rattle.iocm_core.proofs.machine.Machine.io.Goals as goal
+use Rattle.iocm_core.proofs.installation.Installation.io.Goals as goal
 
 pub returns-then-holds-clause-answers : goal.returns-then-holds-clause-answers
 returns-then-holds-clause-answers c = λ opening h it. held_answered c.journals_keep_to_histories.ensures.others opening h c.args.self.now c.args.subchannel.now (order c.args.order) it (sym (c.if-holds.ensures opening h it))

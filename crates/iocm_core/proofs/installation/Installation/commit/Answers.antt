@@ -8,7 +8,7 @@ use Rattle.iocm_plant.specs.Operating.{Operating}
 use Rattle.iocm_core.proofs.Changes.{commit_answered}
 use Rattle.iocm_core.proofs.Kept.{is_staged, few_in, idle, refuses_taken}
 use Rattle.iocm_core.proofs.Rightness.{commit_o2}
-use Rattle.iocm_core.proofs.machine.Machine.commit.Goals as goal
+use Rattle.iocm_core.proofs.installation.Installation.commit.Goals as goal
 
 pub commit-done-requires : goal.commit-done-requires
 commit-done-requires c = is_staged c.args.self.now c.in-Some.staged c.requires (sym c.in-Some.ensures.value)
@@ -20,7 +20,7 @@ pub returns-in-Some-clause-answers : goal.returns-in-Some-clause-answers
 returns-in-Some-clause-answers c = λ opening h it. let a = c.accept.ensures.accepted in
     commit_answered opening h c.args.self.now c.accept.new.self c.in-Some.staged c.commit-done.result c.accept.result it (sym c.in-Some.ensures.value)
     (λ t s is. ap (λ (p : Operating). p.state) c.accept.ensures.plant ∙ c.commit-done.ensures.state t s is) c.commit-done.ensures.tells
-    (record { changes = a.changes; kept = a.kept; standing = a.standing; undone = a.undone; journal = a.journal }) c.accept.ensures.number (c.accept.ensures.stage ∙ c.in-Some.ensures.after)
+    (record { changes = a.changes; journal = a.journal }) c.accept.ensures.number (c.accept.ensures.stage ∙ c.in-Some.ensures.after)
 
 pub returns-in-None-clause-answers : goal.returns-in-None-clause-answers
 returns-in-None-clause-answers c = λ opening h it. let none = sym c.in-None.ensures.value in

@@ -7,7 +7,7 @@ use Rattle.iocm_model.specs.Change.Refusal.{refusal_at}
 use Rattle.iocm_types.specs.declared.rule.Rule.TheVariants.{O1}
 use Rattle.iocm_core.proofs.Kept.{none_if, staged_if, refuses, shown_answered}
 use Rattle.iocm_core.proofs.Rightness.{show_o1}
-use Rattle.iocm_core.proofs.machine.Machine.show.Goals as goal
+use Rattle.iocm_core.proofs.installation.Installation.show.Goals as goal
 
 pub returns-then-is_some-clause-answers : goal.returns-then-is_some-clause-answers
 returns-then-is_some-clause-answers c = λ opening h it. let g = staged_if opening h c.args.self.now it c.if-is_some.ensures in

@@ -7,7 +7,7 @@ use Rattle.iocm_types.specs.declared.rule.Rule.TheVariants.{O2}
 use Rattle.iocm_core.proofs.Changes.{abort_answered}
 use Rattle.iocm_core.proofs.Kept.{is_staged, idle, refuses_taken}
 use Rattle.iocm_core.proofs.Rightness.{abort_o2}
-use Rattle.iocm_core.proofs.machine.Machine.abort.Goals as goal
+use Rattle.iocm_core.proofs.installation.Installation.abort.Goals as goal
 
 pub abort-requires : goal.abort-requires
 abort-requires c = is_staged c.args.self.now c.in-Some.staged c.requires (sym c.in-Some.ensures.value)

@@ -7,7 +7,7 @@ use Rattle.iocm_types.specs.declared.rule.Rule.TheVariants.{O2}
 use Rattle.iocm_core.proofs.Changes.{advance_answered}
 use Rattle.iocm_core.proofs.Kept.{is_staged, idle, refuses}
 use Rattle.iocm_core.proofs.Rightness.{advance_o2}
-use Rattle.iocm_core.proofs.machine.Machine.advance.Goals as goal
+use Rattle.iocm_core.proofs.installation.Installation.advance.Goals as goal
 
 pub advance-requires : goal.advance-requires
 advance-requires c = is_staged c.args.self.now c.in-Some.staged c.requires c.in-Some.is

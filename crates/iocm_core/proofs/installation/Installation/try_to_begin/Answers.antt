@@ -8,7 +8,7 @@ use Rattle.iocm_tree.specs.Trees.{plain_tree, tree_of}
 use Rattle.iocm_plant.specs.Operating.{Operating}
 use Rattle.iocm_core.proofs.Changes.{begun_by}
 use Rattle.iocm_core.proofs.Kept.{rules_kept, on_ok}
-use Rattle.iocm_core.proofs.machine.Machine.try_to_begin.Goals as goal
+use Rattle.iocm_core.proofs.installation.Installation.try_to_begin.Goals as goal
 
 pub begin-requires : goal.begin-requires
 begin-requires c = record { kept = subst (λ (p : Operating). KeepsTheRules p.state) (sym c.make_room.ensures.plant) (rules_kept c.args.self.now c.requires.running c.requires.idle) }
