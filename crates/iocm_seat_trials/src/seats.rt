@@ -3,7 +3,6 @@ ghost use Rattle.std.specs.Ordering.{eq_by_cmp};
 ghost use Rattle.std.specs.FinMap.{get};
 ghost use Rattle.iocm_types.specs.SubId.{sub_id_cmp};
 ghost use Rattle.iocm_types.specs.declared.sub_id.SubId as sub_id;
-ghost use Rattle.iocm_table.specs.Slots.{rows};
 ghost use Rattle.iocm_seats.specs.Seated.{views_seated};
 ghost use Rattle.iocm_seats.specs.Settling.{AreSeen};
 
@@ -12,8 +11,8 @@ use iocm_config::Config;
 use iocm_live::fresh;
 use iocm_numbers::{Numbers, opening};
 use iocm_seats::{
-    Altered, CompactView, Seat, Tried, ViewChange, exchange, first_not_quiet, list_changes,
-    list_left, live_at, make_places, open_seats, settle_all, view_of,
+    Altered, CompactView, Seat, Seats, Tried, ViewChange, exchange, first_not_quiet, list_changes,
+    list_left, make_places, open_seats, settle_all,
 };
 use iocm_table::Table;
 use iocm_trial_decks::{name, subchannel};
@@ -55,9 +54,9 @@ fn live(parm: u32) -> Live {
 
 /// The seat of the device's subchannel alone, with the path available, and a live record with the
 /// parameter 5.
-fn seated(alloc: Global) -> Result<Table<SubId, Seat>, Fail> {
+fn seated(alloc: Global) -> Result<Seats, Fail> {
     let there = there()?;
-    let mut seats = Table::new(alloc);
+    let mut seats = Seats::new(alloc);
     seats.room(there)?;
     let seat = Seat {
         view: CompactView::new(&view(0x80)),
@@ -79,12 +78,12 @@ fn gone_offline() -> Result<ViewChange, Fail> {
 
 /// Whether a subchannel has a seat that shows the device, with a path-available mask, and has a
 /// live record.
-fn has_seat(seats: &Table<SubId, Seat>, there: &SubId, available: u8, wanted: &Live) -> bool {
-    let shown = match view_of(seats, *there) {
+fn has_seat(seats: &Seats, there: &SubId, available: u8, wanted: &Live) -> bool {
+    let shown = match seats.view(*there) {
         Some(seen) => seen == view(available),
         None => false,
     };
-    shown && live_at(seats, *there).as_ref() == Some(wanted)
+    shown && seats.live(*there).as_ref() == Some(wanted)
 }
 
 /// Whether two changes are the same.
@@ -95,9 +94,9 @@ fn is_same(change: &ViewChange, wanted: &ViewChange) -> bool {
 }
 
 /// Whether a subchannel is the only one that has a seat.
-fn is_alone(seats: &Table<SubId, Seat>, there: &SubId) -> bool
+fn is_alone(seats: &Seats, there: &SubId) -> bool
     ensures { result ≡ true → (x : sub_id.SubId) → eq_by_cmp sub_id_cmp x there.now ≡ false
-        → get (rows sub_id_cmp seats.now) x ≡ None }
+        → get seats.now.seats x ≡ None }
 {
     seats.len() == 1 && seats.get(there).is_some()
 }
@@ -127,7 +126,7 @@ fn list_there(
 /// Exchanges the seat of a subchannel for one with the live record of a parameter, and gives the
 /// live record that it had.
 fn exchange_there(
-    seats: &mut Table<SubId, Seat>,
+    seats: &mut Seats,
     config: &Config,
     numbers: &Numbers,
     there: &SubId,
@@ -141,7 +140,7 @@ fn exchange_there(
 }
 
 /// The seats of the small configuration.
-fn opened(alloc: Global) -> Result<Table<SubId, Seat>, Fail> {
+fn opened(alloc: Global) -> Result<Seats, Fail> {
     let config = small(alloc)?;
     let numbers = opening(alloc, &config)?;
     Ok(open_seats(alloc, &config, &numbers)?)
@@ -165,7 +164,7 @@ fn offline(alloc: Global, key: &Key) -> Result<Config, Fail> {
 }
 
 /// What is altered at some seats when the device's path goes offline.
-fn altered_at(alloc: Global, seats: &Table<SubId, Seat>) -> Result<Altered<Global>, Fail> {
+fn altered_at(alloc: Global, seats: &Seats) -> Result<Altered<Global>, Fail> {
     let there = there()?;
     let config = offline(alloc, &online()?)?;
     let numbers = opening(alloc, &config)?;
@@ -187,7 +186,7 @@ fn is_alone_in(altered: &Altered<Global>, wanted: &ViewChange) -> bool {
 
 /// Whether it alters the seats that the device's path goes offline, and a live record is listed
 /// with it.
-fn goes_offline(alloc: Global, seats: &Table<SubId, Seat>, met: &Live) -> Result<bool, Fail> {
+fn goes_offline(alloc: Global, seats: &Seats, met: &Live) -> Result<bool, Fail> {
     let change = gone_offline()?;
     let met = [(change.subchannel, *met)];
     let altered = altered_at(alloc, seats)?;
@@ -209,18 +208,18 @@ fn live_records_are_listed_with_changes(rt: HostRuntime) -> Result<(), Fail> {
 }
 
 /// That the device's path isn't available afterwards, by what a seat shows before.
-fn offline_after(seats: &Table<SubId, Seat>, there: &SubId) -> [ViewChange; 1]
-    ensures { AreSeen (views_seated (rows sub_id_cmp seats.now)) result }
+fn offline_after(seats: &Seats, there: &SubId) -> [ViewChange; 1]
+    ensures { AreSeen (views_seated seats.now.seats) result }
 {
     [ViewChange {
         subchannel: *there,
-        before: view_of(seats, *there),
+        before: seats.view(*there),
         after: Some(view(0)),
     }]
 }
 
 /// Settles the seat of the device's subchannel, once its path isn't available.
-fn settle(alloc: Global, seats: &mut Table<SubId, Seat>, there: &SubId) -> Result<(), AllocError> {
+fn settle(alloc: Global, seats: &mut Seats, there: &SubId) -> Result<(), AllocError> {
     let changes = offline_after(seats, there);
     make_places(seats, changes.as_slice())?;
     let kept: Table<SubId, Live> = Table::new(alloc);
@@ -241,7 +240,7 @@ fn a_seat_is_settled(rt: HostRuntime) -> Result<(), Fail> {
 fn a_new_seat_is_settled(rt: HostRuntime) -> Result<(), Fail> {
     let there = there()?;
     let wanted = fresh(Mask::from_bits(0x80));
-    let mut seats: Table<SubId, Seat> = Table::new(rt.alloc());
+    let mut seats: Seats = Seats::new(rt.alloc());
     settle(rt.alloc(), &mut seats, &there)?;
     assert!(rt; has_seat(&seats, &there, 0, &wanted));
     Ok(())
@@ -268,7 +267,7 @@ fn what_changes_leave_is_listed(rt: HostRuntime) -> Result<(), Fail> {
 
 /// Exchanges the seat of a subchannel of the small configuration, and gives the live record that it
 /// had.
-fn exchanged(alloc: Global, seats: &mut Table<SubId, Seat>, there: &SubId) -> Result<Live, Fail> {
+fn exchanged(alloc: Global, seats: &mut Seats, there: &SubId) -> Result<Live, Fail> {
     let config = small(alloc)?;
     let numbers = opening(alloc, &config)?;
     Ok(exchange_there(seats, &config, &numbers, there, 6)?)

@@ -8,7 +8,6 @@ use Rattle.iocm_types.proofs.Found.{same_key}
 use Rattle.iocm_types.specs.declared.sub_id.SubId.{SubId}
 use Rattle.iocm_types.specs.SubId.{sub_id_cmp}
 use Rattle.iocm_types.specs.KeyOrder.{sub_ids_exact}
-use Rattle.iocm_table.specs.Slots.{rows}
 use Rattle.iocm_seats.specs.declared.seat.Seat.{Seat}
 use Rattle.iocm_seat_trials.proofs.seats.is_alone.Goals as goal
 
@@ -28,6 +27,6 @@ copied_there (Some b) = refl
 
 pub returns-then-len-eq1 : goal.returns-then-len-eq1
 returns-then-len-eq1 c here x other =
-    get-entries (rows sub_id_cmp c.args.seats.now) x
-    ∙ (only_there (entries (rows sub_id_cmp c.args.seats.now)) c.args.there.now (sym (len-entries (rows sub_id_cmp c.args.seats.now)) ∙ sym c.len.ensures ∙ c.if-len-eq1.true)
-    (ap is_some (sym (get-entries (rows sub_id_cmp c.args.seats.now) c.args.there.now) ∙ sym c.get.ensures) ∙ copied_there c.get.result ∙ sym c.is_some.ensures ∙ here) x other)
+    get-entries c.args.seats.now.seats x
+    ∙ (only_there (entries c.args.seats.now.seats) c.args.there.now (sym (len-entries c.args.seats.now.seats) ∙ sym c.len.ensures ∙ c.if-len-eq1.true)
+    (ap is_some (sym (get-entries c.args.seats.now.seats c.args.there.now) ∙ sym c.get.ensures) ∙ copied_there c.get.result ∙ sym c.is_some.ensures ∙ here) x other)

@@ -13,7 +13,6 @@ use Rattle.iocm_types.specs.declared.view.View.{View}
 use Rattle.iocm_types.specs.Place.{cell_cmp}
 use Rattle.iocm_types.specs.SubId.{sub_id_cmp, image_cmp}
 use Rattle.iocm_types.specs.KeyOrder.{sub_ids_total}
-use Rattle.iocm_table.specs.Slots.{rows}
 use Rattle.iocm_model.specs.Change.Edit.{same_view}
 use Rattle.iocm_model.specs.Machine.Configuration.{Configuration, IsKeyed}
 use Rattle.iocm_model.specs.Machine.Numbering.{Numbering}
@@ -71,6 +70,6 @@ list_changes-requires-clause-cells c = subst (IsStrictlySortedBy cell_cmp) (sym 
 
 pub list_changes-requires-clause-all : goal.list_changes-requires-clause-all
 list_changes-requires-clause-all c x differ = (λ i. is_among x (candidates (c.as_slice.ensures i) (c.as_slice-2.ensures i)))
-    ∙ differs_there (rows sub_id_cmp c.args.tried.now.seats.now) (rows sub_id_cmp c.in_ok-after.after) c.args.tried.now.config.now.records c.args.tried.now.numbers.now.numbers
+    ∙ differs_there c.args.tried.now.seats.now.seats c.in_ok-after.after.seats c.args.tried.now.config.now.records c.args.tried.now.numbers.now.numbers
     c.args.there.now c.has_own_keys.ensures c.in_ok-after.ensures (c.is_alone.ensures c.if-not-is_alone.false)
     (c.is_alone-else-not-is_alone.ensures c.if-not-is_alone-2.false) x differ
