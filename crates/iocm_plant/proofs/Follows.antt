@@ -9,7 +9,6 @@ use Rattle.std.specs.Ordering.{eq_by_cmp}
 use Rattle.std.specs.declared.cmp.Ordering.TheVariants.{Less}
 use Rattle.std.specs.FinMap.{get}
 use Rattle.std.proofs.lemmas.Map.Keys.{sorted_head, sorted_tail}
-use Rattle.iocm_types.specs.declared.image.Image.{Image}
 use Rattle.iocm_types.specs.declared.place.Place.{Place}
 use Rattle.iocm_types.specs.declared.place.NumberCell.{NumberCell}
 use Rattle.iocm_types.specs.declared.sub_id.SubId.{SubId}
@@ -33,6 +32,7 @@ use Rattle.iocm_seats.specs.Changes.{candidates, view_change, AreCandidates}
 use Rattle.iocm_seats.specs.Seated.{Seats, views_seated}
 use Rattle.iocm_seats.specs.Settling.{AreSeen}
 use Rattle.iocm_seats.proofs.Ordered.{seen_is}
+use Rattle.iocm_plant.specs.declared.following.LookedAt.{LookedAt}
 use Rattle.iocm_plant.specs.Following.{WasChanged, WasRenumbered}
 use Rattle.iocm_plant.proofs.Candidates.{AreLookedAt, looked_for}
 
@@ -49,15 +49,14 @@ pub rise_of : (ps : List Place) → IsStrictlySortedBy place_cmp ps → Rise ps
 rise_of [] rise = tt
 rise_of (p ∷ ps) rise = ((λ q among. less_of p q ps (sorted_head place_cmp p ps rise) among), rise_of ps (sorted_tail place_cmp p ps rise))
 
-module _ (d : Configuration) (n : Numbering) (seats : Seats) (places : List Place) (seeing : List Image) (cells : List NumberCell)
-    (changed : WasChanged d n seats places seeing cells) where
+module _ (d : Configuration) (n : Numbering) (seats : Seats) (at : LookedAt) (changed : WasChanged d n seats at) where
   -- elsewhere exactly those that are reached have a number
-  pub all_touched : AreAllTouched d n places
+  pub all_touched : AreAllTouched d n at.affected.places.items
   all_touched p out = changed.numbered.exact p ∙ changed.affected.reached p out
 
   -- the numbers have followed
   pub was_renumbered : (carried : List (Place × ℕ)) (m : Numbering) → m ≡ numbers_after d carried n → is_number_taken d n carried ≡ false
-      → WasRenumbered d m seats places seeing cells
+      → WasRenumbered d m seats at
   was_renumbered carried m is free = record {
     first = n;
     changed = changed;
@@ -75,14 +74,19 @@ or_left true b h = refl
 or_left false b h = cc
 
 -- all that is seen differently is looked at
-pub all_looked_at : (d : Configuration) (m : Numbering) (seats : Seats) (places : List Place) (seeing : List Image) (cells sorted : List NumberCell)
-    → WasRenumbered d m seats places seeing cells
-    → ((cell : NumberCell) → list_any (eq_by_cmp cell_cmp cell) sorted ≡ list_any (eq_by_cmp cell_cmp cell) (cells ++ cells_at m places))
-    → AreCandidates (get (views_seated seats)) (view_at d m) (candidates seeing sorted)
-all_looked_at d m seats places seeing cells sorted was same x differ =
-    looked_for was.changed.before d was.first m was.changed.numbered was.now_numbered was.stay places seeing sorted was.changed.affected looked x
+pub all_looked_at : (d : Configuration) (m : Numbering) (seats : Seats) (at : LookedAt) (sorted : List NumberCell) → WasRenumbered d m seats at
+    → ((cell : NumberCell) → list_any (eq_by_cmp cell_cmp cell) sorted ≡ list_any (eq_by_cmp cell_cmp cell) (at.cells.items ++ cells_at m at.affected.places.items))
+    → AreCandidates (get (views_seated seats)) (view_at d m) (candidates at.affected.images.items sorted)
+all_looked_at d m seats at sorted was same x differ =
+    looked_for was.changed.before d was.first m was.changed.numbered was.now_numbered was.stay places at.affected.images.items sorted was.changed.affected looked x
     (ap (λ v. option_eq same_view v (view_at d m x)) (sym seen) ∙ differ)
   where
+    places : List Place
+    places = at.affected.places.items
+
+    cells : List NumberCell
+    cells = at.cells.items
+
     seen : get (views_seated seats) x ≡ view_at was.changed.before was.first x
     seen = ap (λ v. get v x) was.changed.seated ∙ seen_is was.changed.before was.first was.changed.keyed x
 

@@ -1,23 +1,17 @@
 ghost use Rattle.std.specs.Prelude.{◌≡◌, None, IfOk, IfErr, OnOk, OnErr};
-ghost use Rattle.std.specs.FinMap.{from_sorted};
-ghost use Rattle.std.specs.List.Sorted.{IsStrictlySortedBy};
-ghost use Rattle.std.specs.Map.{keys_of};
-ghost use Rattle.iocm_types.specs.Place.{place_cmp};
-ghost use Rattle.iocm_types.specs.SubId.{image_cmp};
 ghost use Rattle.iocm_types.specs.declared.refused.At.TheVariants as at;
 ghost use Rattle.iocm_types.specs.declared.rule.Rule.TheVariants as rule;
 ghost use Rattle.iocm_model.specs.Machine.Numbering.{Numbering};
-ghost use Rattle.iocm_model.specs.Change.Inverse.{freed_numbers};
 ghost use Rattle.iocm_model.specs.Change.Renumbering.{numbers_after};
 ghost use Rattle.iocm_model.specs.Change.Refusal.{refusal_at};
 ghost use Rattle.iocm_numbers.specs.Numbered.{KeepsRoom};
-ghost use Rattle.iocm_numbers.specs.NumberChanges as number_changes;
-ghost use Rattle.iocm_numbers.specs.NumberChanges.{WereBefore};
+ghost use Rattle.iocm_numbers.specs.NumberChanges.{changes_between, WereBefore};
 ghost use Rattle.iocm_seats.specs.Seated.{lives_seated, KeepsPlaces};
-ghost use Rattle.iocm_seats.specs.Settling.{settled_all, lives_met, subchannels_left};
+ghost use Rattle.iocm_seats.specs.Settling.{lives_met};
 ghost use Rattle.iocm_tree.specs.Carried.{AreInOrder};
-ghost use Rattle.iocm_plant.specs.Following.{WasChanged, WasRenumbered, seen_changes};
-ghost use Rattle.iocm_plant.specs.Following.{seating_refusal, following_refusal};
+ghost use Rattle.iocm_plant.specs.Following.{WasChanged, WasRenumbered, ArePlacesInOrder, AreImagesInOrder};
+ghost use Rattle.iocm_plant.specs.Following.{seen_changes, seats_after, TellsAll, TellsOfSeats};
+ghost use Rattle.iocm_plant.specs.Following.{seating_refusal, refusal_with};
 ghost use Rattle.iocm_plant.specs.Refusing.{Hinders};
 
 use crate::obstacle::Obstacle;
@@ -79,33 +73,18 @@ pub fn follow(
     at: LookedAt,
     brought: Brought,
 ) -> Result<Followed, Obstacle>
-    requires changed { WasChanged config.now.records numbers.old.numbers
-        seats.old.seats at.affected.places.items at.affected.images.items at.cells.items }
-    requires places { IsStrictlySortedBy place_cmp at.affected.places.items }
-    requires images { IsStrictlySortedBy image_cmp at.affected.images.items }
+    requires changed { WasChanged config.now.records numbers.old.numbers seats.old.seats at }
+    requires places { ArePlacesInOrder at }
+    requires images { AreImagesInOrder at }
     requires kept { AreInOrder brought.kept.items }
     ensures numbers { OnOk result (numbers.new.numbers
         ≡ numbers_after config.now.records brought.places.items numbers.old.numbers) }
-    ensures freed { IfOk result (λ f. f.renumbered.freed.items
-        ≡ freed_numbers numbers.old.numbers numbers.new.numbers) }
-    ensures given { IfOk result (λ f. f.renumbered.given.items
-        ≡ freed_numbers numbers.new.numbers numbers.old.numbers) }
     ensures seats { OnOk result (seats.new.seats
-        ≡ settled_all (from_sorted brought.kept.items) seats.old.seats
-        (seen_changes config.now.records numbers.new.numbers seats.old.seats)) }
-    ensures kept { IfOk result (λ f. f.told.kept.items
-        ≡ lives_met (lives_seated seats.old.seats)
-        (seen_changes config.now.records numbers.new.numbers seats.old.seats)) }
-    ensures meets { IfOk result (λ f. keys_of f.told.meets.items
-        ≡ subchannels_left (seen_changes config.now.records numbers.new.numbers seats.old.seats)) }
-    ensures told_subchannels { IfOk result (λ f. f.told.touched.subchannels.items
-        ≡ seen_changes config.now.records numbers.new.numbers seats.old.seats) }
-    ensures told_numbers { IfOk result (λ f. f.told.touched.numbers.items
-        ≡ number_changes.changes_between numbers.old.numbers numbers.new.numbers) }
-    ensures clear { OnOk result (following_refusal config.now.records numbers.old.numbers
-        seats.old.seats brought.key brought.places.items brought.quiet ≡ None) }
-    ensures refused { IfErr result (Hinders (following_refusal config.now.records numbers.old.numbers
-        seats.old.seats brought.key brought.places.items brought.quiet)) }
+        ≡ seats_after config.now.records numbers.new.numbers brought seats.old.seats) }
+    ensures told { IfOk result (TellsAll config.now.records numbers.old.numbers numbers.new.numbers seats.old.seats) }
+    ensures clear { OnOk result (refusal_with config.now.records numbers.old.numbers seats.old.seats brought ≡ None) }
+    ensures refused { IfErr result (Hinders
+        (refusal_with config.now.records numbers.old.numbers seats.old.seats brought)) }
     ensures same_numbers { OnErr result (numbers.new.numbers ≡ numbers.old.numbers) }
     ensures same_seats { OnErr result (seats.new.seats ≡ seats.old.seats) }
     ensures room { KeepsRoom numbers.old numbers.new }
@@ -150,27 +129,19 @@ fn follow_numbers(
     brought: Brought,
     renumbered: &Renumbered<Global>,
 ) -> Result<Told, Obstacle>
-    requires changed { WasRenumbered config.now.records numbers.now.numbers
-        seats.old.seats at.affected.places.items at.affected.images.items at.cells.items }
-    requires images { IsStrictlySortedBy image_cmp at.affected.images.items }
+    requires changed { WasRenumbered config.now.records numbers.now.numbers seats.old.seats at }
+    requires images { AreImagesInOrder at }
     requires kept { AreInOrder brought.kept.items }
     ensures seats { OnOk result (seats.new.seats
-        ≡ settled_all (from_sorted brought.kept.items) seats.old.seats
-        (seen_changes config.now.records numbers.now.numbers seats.old.seats)) }
-    ensures kept { IfOk result (λ t. t.kept.items
-        ≡ lives_met (lives_seated seats.old.seats)
-        (seen_changes config.now.records numbers.now.numbers seats.old.seats)) }
-    ensures meets { IfOk result (λ t. keys_of t.meets.items
-        ≡ subchannels_left (seen_changes config.now.records numbers.now.numbers seats.old.seats)) }
-    ensures subchannels { IfOk result (λ t. t.touched.subchannels.items
-        ≡ seen_changes config.now.records numbers.now.numbers seats.old.seats) }
-    ensures numbers { IfOk result (λ t. (n : Numbering)
+        ≡ seats_after config.now.records numbers.now.numbers brought seats.old.seats) }
+    ensures told { IfOk result (TellsOfSeats config.now.records numbers.now.numbers seats.old.seats) }
+    ensures cells { IfOk result (λ t. (n : Numbering)
         → WereBefore n numbers.now.numbers renumbered.now.freed.items renumbered.now.given.items
-        → t.touched.numbers.items ≡ number_changes.changes_between n numbers.now.numbers) }
+        → t.touched.numbers.items ≡ changes_between n numbers.now.numbers) }
     ensures clear { OnOk result (seating_refusal config.now.records numbers.now.numbers
         seats.old.seats brought.quiet ≡ None) }
-    ensures refused { IfErr result (Hinders (seating_refusal config.now.records numbers.now.numbers
-        seats.old.seats brought.quiet)) }
+    ensures refused { IfErr result (Hinders
+        (seating_refusal config.now.records numbers.now.numbers seats.old.seats brought.quiet)) }
     ensures same { OnErr result (seats.new.seats ≡ seats.old.seats) }
     ensures places { KeepsPlaces seats.old seats.new }
 {
@@ -209,9 +180,8 @@ fn list_altered(
     config: &Config,
     at: LookedAt,
 ) -> Result<Altered<Global>, AllocError>
-    requires changed { WasRenumbered config.now.records numbers.now.numbers
-        seats.now.seats at.affected.places.items at.affected.images.items at.cells.items }
-    requires images { IsStrictlySortedBy image_cmp at.affected.images.items }
+    requires changed { WasRenumbered config.now.records numbers.now.numbers seats.now.seats at }
+    requires images { AreImagesInOrder at }
     ensures changes { IfOk result (λ altered. altered.changes.items
         ≡ seen_changes config.now.records numbers.now.numbers seats.now.seats) }
     ensures met { IfOk result (λ altered. altered.met.items

@@ -1,6 +1,5 @@
 ghost use Rattle.std.specs.Prelude.{◌≡◌, None, List, map, IfOk, IfErr, OnOk, OnErr};
 ghost use Rattle.std.specs.FinMap.{from_sorted};
-ghost use Rattle.std.specs.Map.{keys_of};
 ghost use Rattle.iocm_types.specs.declared.refused.At.TheVariants as at;
 ghost use Rattle.iocm_types.specs.declared.rule.Rule.TheVariants as rule;
 ghost use Rattle.iocm_model.specs.Change.Refusal.{refusal_at};
@@ -8,10 +7,10 @@ ghost use Rattle.iocm_model.specs.Change.Refusal as refusal;
 ghost use Rattle.iocm_model.specs.Operation.State.{Lives};
 ghost use Rattle.iocm_seats.specs.declared.view_change.ViewChange as changed;
 ghost use Rattle.iocm_seats.specs.Seated.{lives_seated, views_seated, KeepsPlaces};
-ghost use Rattle.iocm_seats.specs.Settling.{settled_all, lives_met, subchannels_left, AreSeen};
+ghost use Rattle.iocm_seats.specs.Settling.{settled_all, lives_met, AreSeen};
 ghost use Rattle.iocm_tree.specs.Carried.{AreInOrder};
-ghost use Rattle.iocm_plant.specs.Refusing.{refusal_by_quiet, Hinders};
-ghost use Rattle.iocm_plant.specs.Seating.{first_in_the_way};
+ghost use Rattle.iocm_plant.specs.Refusing.{Hinders};
+ghost use Rattle.iocm_plant.specs.Seating.{first_in_the_way, settling_refusal, TellsOfSettling};
 
 use crate::obstacle::Obstacle;
 use crate::quiet::Quiet;
@@ -22,7 +21,7 @@ use std::alloc::Global;
 
 /// The live records that altered subchannels had, and a row for each of those that are left.
 #[derive(Drop)]
-pub struct Seated {
+pub struct Settled {
     pub kept: Vec<(SubId, Live)>,
     pub meets: Vec<(SubId, Live)>,
 }
@@ -40,18 +39,14 @@ pub fn seat(
     met: Vec<(SubId, Live)>,
     kept: Vec<(SubId, Live)>,
     quiet: Quiet,
-) -> Result<Seated, Obstacle>
+) -> Result<Settled, Obstacle>
     requires seen { AreSeen (views_seated seats.old.seats) changes.now }
     requires met { met.items ≡ lives_met (lives_seated seats.old.seats) changes.now }
     requires kept { AreInOrder kept.items }
-    ensures seats { OnOk result (seats.new.seats
-        ≡ settled_all (from_sorted kept.items) seats.old.seats changes.now) }
-    ensures kept { IfOk result (λ s. s.kept.items ≡ lives_met (lives_seated seats.old.seats) changes.now) }
-    ensures meets { IfOk result (λ s. keys_of s.meets.items ≡ subchannels_left changes.now) }
-    ensures quiet { OnOk result (refusal_by_quiet quiet
-        (refusal.first_not_quiet (lives_seated seats.old.seats) (map (λ ch. ch.subchannel) changes.now)) ≡ None) }
-    ensures refused { IfErr result (Hinders (refusal_by_quiet quiet
-        (refusal.first_not_quiet (lives_seated seats.old.seats) (map (λ ch. ch.subchannel) changes.now)))) }
+    ensures seats { OnOk result (seats.new.seats ≡ settled_all (from_sorted kept.items) seats.old.seats changes.now) }
+    ensures told { IfOk result (λ s. TellsOfSettling seats.old.seats changes.now s.kept.items s.meets.items) }
+    ensures quiet { OnOk result (settling_refusal seats.old.seats changes.now quiet ≡ None) }
+    ensures refused { IfErr result (Hinders (settling_refusal seats.old.seats changes.now quiet)) }
     ensures same { OnErr result (seats.new.seats ≡ seats.old.seats) }
     ensures places { KeepsPlaces seats.old seats.new }
 {
@@ -62,7 +57,7 @@ pub fn seat(
     let own = Table::from_rows(alloc, kept)?;
     let left = list_left(alloc, changes)?;
     settle_all(seats, changes, &own);
-    Ok(Seated {
+    Ok(Settled {
         kept: met,
         meets: left,
     })

@@ -20,8 +20,7 @@ pub renumber-requires-clause-rise : goal.renumber-requires-clause-rise
 renumber-requires-clause-rise c = subst Rise (sym c.as_slice-2.ensures.value) (rise_of c.args.at.affected.places.items c.requires.places)
 
 pub follow_numbers-requires-clause-changed : goal.follow_numbers-requires-clause-changed
-follow_numbers-requires-clause-changed c = was_renumbered c.args.config.now.records c.args.numbers.now.numbers c.args.seats.now.seats c.args.at.affected.places.items c.args.at.affected.images.items
-    c.args.at.cells.items c.requires.changed c.args.brought.places.items c.renumber.new.self.numbers
+follow_numbers-requires-clause-changed c = was_renumbered c.args.config.now.records c.args.numbers.now.numbers c.args.seats.now.seats c.args.at c.requires.changed c.args.brought.places.items c.renumber.new.self.numbers
     (c.in_ok-renumbered.ensures.numbers ∙ ap (λ (rows : List (Place × ℕ)). numbers_after c.args.config.now.records rows c.args.numbers.now.numbers) c.as_slice-3.ensures.value)
     (sym (c.in_ok-is_taken.ensures.taken ∙ ap (is_number_taken c.args.config.now.records c.args.numbers.now.numbers) c.as_slice.ensures.value) ∙ c.if-branch.false)
 
@@ -36,13 +35,18 @@ exchange-requires-clause-fit c =
     (rows_fit_in c.renumber.new.self.numbers c.args.numbers.now.numbers (agree_both_ways c.args.numbers.now.numbers c.renumber.new.self.numbers
     (subst (Agree c.args.numbers.now.numbers) (sym (c.in_ok-renumbered.ensures.numbers ∙ ap (λ (rows : List (Place × ℕ)). numbers_after c.args.config.now.records rows c.args.numbers.now.numbers) c.as_slice-3.ensures.value)) (changes_agree c.args.config.now.records c.args.brought.places.items c.args.numbers.now.numbers))) c.are_apart.ensures.apart))
 
-pub returns-in-Ok-clause-told_numbers : goal.returns-in-Ok-clause-told_numbers
-returns-in-Ok-clause-told_numbers c = c.in-Ok.ensures.numbers c.args.numbers.now.numbers (record {
-  agree = (subst (Agree c.args.numbers.now.numbers) (sym (c.in_ok-renumbered.ensures.numbers ∙ ap (λ (rows : List (Place × ℕ)). numbers_after c.args.config.now.records rows c.args.numbers.now.numbers) c.as_slice-3.ensures.value)) (changes_agree c.args.config.now.records c.args.brought.places.items c.args.numbers.now.numbers));
-  apart = c.are_apart.ensures.apart;
-  gone = c.in_ok-renumbered.ensures.freed;
-  come = c.in_ok-renumbered.ensures.given;
-})
+pub returns-in-Ok-clause-told : goal.returns-in-Ok-clause-told
+returns-in-Ok-clause-told c = record {
+  freed = c.in_ok-renumbered.ensures.freed;
+  given = c.in_ok-renumbered.ensures.given;
+  cells = c.in-Ok.ensures.cells c.args.numbers.now.numbers (record {
+    agree = (subst (Agree c.args.numbers.now.numbers) (sym (c.in_ok-renumbered.ensures.numbers ∙ ap (λ (rows : List (Place × ℕ)). numbers_after c.args.config.now.records rows c.args.numbers.now.numbers) c.as_slice-3.ensures.value)) (changes_agree c.args.config.now.records c.args.brought.places.items c.args.numbers.now.numbers));
+    apart = c.are_apart.ensures.apart;
+    gone = c.in_ok-renumbered.ensures.freed;
+    come = c.in_ok-renumbered.ensures.given;
+  });
+  altered = c.in-Ok.ensures.told;
+}
 
 pub returns-in-Err-clause-refused : goal.returns-in-Err-clause-refused
 returns-in-Err-clause-refused c = subst (λ (r : Option Refused). Hinders r c.in-Err.obstacle)

@@ -40,8 +40,8 @@ follow-requires-clause-changed c = record {
 pub applied-requires : goal.applied-requires
 applied-requires c = record {
   kept_in_order = kept_sorted (carried_of c.into_parts-action.result).edit c.self.inside.config.records c.self.inside.numbers.numbers c.self.inside.index c.self.inside.seats.seats c.self.invariant c.exchange_record-back.new.config.records (c.exchange_record-back.ensures.config ∙ ap (config_after (action_of c.into_parts-action.result.action)) c.in_ok-make_record_places.ensures.config) c.follow.new.numbers.numbers c.in-Ok.ensures.numbers (action_of c.exchange_record-back.result) (c.exchange_record-back.ensures.back ∙ ap (λ (k : Configuration). action_back (action_key (action_of c.into_parts-action.result.action)) (get k (action_key (action_of c.into_parts-action.result.action))) (record_after (action_of c.into_parts-action.result.action))) c.in_ok-make_record_places.ensures.config)
-      c.in-Ok.followed.renumbered.freed.items c.in-Ok.followed.renumbered.given.items c.in-Ok.followed.told.kept.items c.in-Ok.followed.told.meets.items c.in-Ok.ensures.freed c.in-Ok.ensures.given c.in-Ok.ensures.kept c.in-Ok.ensures.meets;
-  meets_in_order = left_sorted _ _ c.in-Ok.followed.told.meets.items c.in-Ok.ensures.meets;
+      c.in-Ok.followed.renumbered.freed.items c.in-Ok.followed.renumbered.given.items c.in-Ok.followed.told.kept.items c.in-Ok.followed.told.meets.items c.in-Ok.ensures.told.freed c.in-Ok.ensures.told.given c.in-Ok.ensures.told.altered.settled.kept_are c.in-Ok.ensures.told.altered.settled.meets_are;
+  meets_in_order = left_sorted _ _ c.in-Ok.followed.told.meets.items c.in-Ok.ensures.told.altered.settled.meets_are;
 }
 
 pub invariant_of-self-in-Ok : goal.invariant_of-self-in-Ok
@@ -59,27 +59,27 @@ returns-in-Ok-clause-performs c = record {
   state = state_now (carried_of c.into_parts-action.result).edit c.self.inside.config.records c.self.inside.numbers.numbers c.self.inside.index c.self.inside.seats.seats c.self.invariant c.exchange_record-back.new.config.records (c.exchange_record-back.ensures.config ∙ ap (config_after (action_of c.into_parts-action.result.action)) c.in_ok-make_record_places.ensures.config) c.follow.new.numbers.numbers c.in-Ok.ensures.numbers c.follow.new.seats.seats c.in-Ok.ensures.seats
       ∙ (λ i. state_after (c.into_parts-action.ensures.value i).edit (c.self.view_is i).state);
   inverse = ap (λ (k : Carried). k.edit) c.applied.ensures.inverse ∙ inverse_is (carried_of c.into_parts-action.result).edit c.self.inside.config.records c.self.inside.numbers.numbers c.self.inside.index c.self.inside.seats.seats c.self.invariant c.exchange_record-back.new.config.records (c.exchange_record-back.ensures.config ∙ ap (config_after (action_of c.into_parts-action.result.action)) c.in_ok-make_record_places.ensures.config) c.follow.new.numbers.numbers c.in-Ok.ensures.numbers (action_of c.exchange_record-back.result) (c.exchange_record-back.ensures.back ∙ ap (λ (k : Configuration). action_back (action_key (action_of c.into_parts-action.result.action)) (get k (action_key (action_of c.into_parts-action.result.action))) (record_after (action_of c.into_parts-action.result.action))) c.in_ok-make_record_places.ensures.config)
-      c.in-Ok.followed.renumbered.freed.items c.in-Ok.followed.renumbered.given.items c.in-Ok.followed.told.kept.items c.in-Ok.followed.told.meets.items c.in-Ok.ensures.freed c.in-Ok.ensures.given c.in-Ok.ensures.kept c.in-Ok.ensures.meets
+      c.in-Ok.followed.renumbered.freed.items c.in-Ok.followed.renumbered.given.items c.in-Ok.followed.told.kept.items c.in-Ok.followed.told.meets.items c.in-Ok.ensures.told.freed c.in-Ok.ensures.told.given c.in-Ok.ensures.told.altered.settled.kept_are c.in-Ok.ensures.told.altered.settled.meets_are
       ∙ (λ i. inverse_of (c.into_parts-action.ensures.value i).edit (c.self.view_is i).state);
   back = subst (λ (k : Carried). CanUnapply k (operating_of c.exchange_record-back.new.config c.follow.new.numbers c.exchange_record-back.new.index c.follow.new.seats))
       (sym c.applied.ensures.inverse) (record {
         back = takes_back (carried_of c.into_parts-action.result).edit c.self.inside.config.records c.self.inside.numbers.numbers c.self.inside.index c.self.inside.seats.seats c.self.invariant c.exchange_record-back.new.config.records (c.exchange_record-back.ensures.config ∙ ap (config_after (action_of c.into_parts-action.result.action)) c.in_ok-make_record_places.ensures.config) c.follow.new.numbers.numbers c.in-Ok.ensures.numbers (action_of c.exchange_record-back.result) (c.exchange_record-back.ensures.back ∙ ap (λ (k : Configuration). action_back (action_key (action_of c.into_parts-action.result.action)) (get k (action_key (action_of c.into_parts-action.result.action))) (record_after (action_of c.into_parts-action.result.action))) c.in_ok-make_record_places.ensures.config)
-            c.in-Ok.followed.renumbered.freed.items c.in-Ok.followed.renumbered.given.items c.in-Ok.followed.told.kept.items c.in-Ok.followed.told.meets.items c.in-Ok.ensures.freed c.in-Ok.ensures.given c.in-Ok.ensures.kept c.in-Ok.ensures.meets;
+            c.in-Ok.followed.renumbered.freed.items c.in-Ok.followed.renumbered.given.items c.in-Ok.followed.told.kept.items c.in-Ok.followed.told.meets.items c.in-Ok.ensures.told.freed c.in-Ok.ensures.told.given c.in-Ok.ensures.told.altered.settled.kept_are c.in-Ok.ensures.told.altered.settled.meets_are;
         room = record {
           key = back_has_key c.self.inside.config.records c.self.inside.index c.self.invariant.keyed c.self.invariant.indexed c.has_places.ensures (action_of c.into_parts-action.result.action) (action_of c.exchange_record-back.result) (c.exchange_record-back.ensures.back ∙ ap (λ (k : Configuration). action_back (action_key (action_of c.into_parts-action.result.action)) (get k (action_key (action_of c.into_parts-action.result.action))) (record_after (action_of c.into_parts-action.result.action))) c.in_ok-make_record_places.ensures.config) c.make_record_places.new.config.places c.exchange_record-back.new.config.places (subst (λ (k : Carried). HasPlaceIn key_cmp c.make_record_places.new.config.places (action_key k.edit.action)) (sym c.into_parts-action.ensures.value) c.in_ok-make_record_places.ensures.key) c.exchange_record-back.ensures.keys;
           namings = back_has_namings c.self.inside.config.records c.self.inside.index c.self.invariant.keyed c.self.invariant.indexed c.has_places.ensures (action_of c.into_parts-action.result.action) (action_of c.exchange_record-back.result) (c.exchange_record-back.ensures.back ∙ ap (λ (k : Configuration). action_back (action_key (action_of c.into_parts-action.result.action)) (get k (action_key (action_of c.into_parts-action.result.action))) (record_after (action_of c.into_parts-action.result.action))) c.in_ok-make_record_places.ensures.config) c.make_record_places.new.index.places c.exchange_record-back.new.index.places c.in_ok-make_record_places.ensures.same_namings c.exchange_record-back.ensures.namings;
           numbers = numbers_placed c.follow.new.numbers (room_of c.exchange_record-back.new.config c.follow.new.numbers c.exchange_record-back.new.index c.follow.new.seats) refl refl
-              c.in-Ok.followed.renumbered.freed.items (subst (HaveRoom c.follow.new.numbers) (sym c.in-Ok.ensures.freed)
+              c.in-Ok.followed.renumbered.freed.items (subst (HaveRoom c.follow.new.numbers) (sym c.in-Ok.ensures.told.freed)
               (rows_have_room c.follow.new.numbers c.follow.new.numbers.numbers c.self.inside.numbers.numbers (λ p k has. c.in-Ok.ensures.room p k (c.have_room.ensures p k has))));
           subchannels = kept_have_places c.self.inside.seats c.follow.new.seats.places _ (is_altered (state_of c.self.inside.config.records c.self.inside.numbers.numbers c.self.inside.seats.seats) (state_after (carried_of c.into_parts-action.result).edit (state_of c.self.inside.config.records c.self.inside.numbers.numbers c.self.inside.seats.seats)))
               (kept_retained (carried_of c.into_parts-action.result).edit c.self.inside.config.records c.self.inside.numbers.numbers c.self.inside.index c.self.inside.seats.seats c.self.invariant c.exchange_record-back.new.config.records (c.exchange_record-back.ensures.config ∙ ap (config_after (action_of c.into_parts-action.result.action)) c.in_ok-make_record_places.ensures.config) c.follow.new.numbers.numbers c.in-Ok.ensures.numbers (action_of c.exchange_record-back.result) (c.exchange_record-back.ensures.back ∙ ap (λ (k : Configuration). action_back (action_key (action_of c.into_parts-action.result.action)) (get k (action_key (action_of c.into_parts-action.result.action))) (record_after (action_of c.into_parts-action.result.action))) c.in_ok-make_record_places.ensures.config)
-              c.in-Ok.followed.renumbered.freed.items c.in-Ok.followed.renumbered.given.items c.in-Ok.followed.told.kept.items c.in-Ok.followed.told.meets.items c.in-Ok.ensures.freed c.in-Ok.ensures.given c.in-Ok.ensures.kept c.in-Ok.ensures.meets) c.has_places-2.ensures c.in-Ok.ensures.subchannels_placed;
+              c.in-Ok.followed.renumbered.freed.items c.in-Ok.followed.renumbered.given.items c.in-Ok.followed.told.kept.items c.in-Ok.followed.told.meets.items c.in-Ok.ensures.told.freed c.in-Ok.ensures.told.given c.in-Ok.ensures.told.altered.settled.kept_are c.in-Ok.ensures.told.altered.settled.meets_are) c.has_places-2.ensures c.in-Ok.ensures.subchannels_placed;
         };
       });
-  numbers = ap (λ (t : Touched). t.numbers.items) c.applied.ensures.touched ∙ c.in-Ok.ensures.told_numbers
+  numbers = ap (λ (t : Touched). t.numbers.items) c.applied.ensures.touched ∙ c.in-Ok.ensures.told.cells
       ∙ told_numbers (carried_of c.into_parts-action.result).edit c.self.inside.config.records c.self.inside.numbers.numbers c.self.inside.index c.self.inside.seats.seats c.self.invariant c.exchange_record-back.new.config.records (c.exchange_record-back.ensures.config ∙ ap (config_after (action_of c.into_parts-action.result.action)) c.in_ok-make_record_places.ensures.config) c.follow.new.numbers.numbers c.in-Ok.ensures.numbers
       ∙ (λ i. number_changes.changes_between (c.self.view_is i).state.numbers (state_after (c.into_parts-action.ensures.value i).edit (c.self.view_is i).state).numbers);
-  subchannels = ap (λ (t : Touched). t.subchannels.items) c.applied.ensures.touched ∙ c.in-Ok.ensures.told_subchannels
+  subchannels = ap (λ (t : Touched). t.subchannels.items) c.applied.ensures.touched ∙ c.in-Ok.ensures.told.altered.subchannels
       ∙ told_altered (carried_of c.into_parts-action.result).edit c.self.inside.config.records c.self.inside.numbers.numbers c.self.inside.index c.self.inside.seats.seats c.self.invariant c.exchange_record-back.new.config.records (c.exchange_record-back.ensures.config ∙ ap (config_after (action_of c.into_parts-action.result.action)) c.in_ok-make_record_places.ensures.config) c.follow.new.numbers.numbers c.in-Ok.ensures.numbers
       ∙ (λ i. views.changes_between (views_in (c.self.view_is i).state) (views_in (state_after (c.into_parts-action.ensures.value i).edit (c.self.view_is i).state)));
 }
