@@ -51,6 +51,7 @@ pub record IsBegun (t : ChangeTree) (old : Installation) (edits : ℕ) (new : In
   pub staged : Staged
   pub stage : new.stage ≡ Some staged
   pub is : IsStageOf staged
-      (record { change = record { edits = performed.edits; from = old.plant.state }; advances = 0 }) old.plant.state new.plant
+      (record { change = record { edits = performed.edits; from = old.plant.state }; advances = 0 })
+      old.plant.state new.plant
   pub rest : KeepsTheRest old new
   pub room : HasRoomForAChange new

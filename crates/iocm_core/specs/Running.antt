@@ -27,8 +27,8 @@ abbrev pub HasRoomFor : Option Staged → Installation → Type 0
 HasRoomFor None i = Unit {0}
 HasRoomFor (Some g) i = HasRoomForAChange i
 
--- an installation after a history from an opening state: its journal, what is staged, and the state to
--- which the history leads
+-- an installation after a history from an opening state: its journal, what is staged, and the state
+-- to which the history leads
 pub record IsInstallationOf (opening : State) (h : history.History) (i : Installation) : Type 0 where
   pub journal : IsJournalOf opening h i.journal i.changes.items
   pub stage : IsStagedAs (stage_of opening h) i.stage (state_at opening h) i.plant

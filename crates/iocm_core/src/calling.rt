@@ -61,7 +61,12 @@ impl Model for Core {
     ghost use Rattle.iocm_core.specs.Told.{history_in};
     ghost use Rattle.iocm_core.specs.Held as held;
 
-    ghost view = { λ c. record { opening = opening_state c.opening.records; history = history_in c.installation.changes.items c.entries.items; entries = c.entries.items; room = c.room } };
+    ghost view = { λ c. record {
+      opening = opening_state c.opening.records;
+      history = history_in c.installation.changes.items c.entries.items;
+      entries = c.entries.items;
+      room = c.room;
+    } };
 
     ghost invariant = { λ c. held.IsCore (opening_state c.opening.records) c.installation c.entries.items c.room
         (vec_capacity c.entries) };
