@@ -279,6 +279,21 @@ fn first_apart_early(alloc: Global, count: u64, tally: &mut Tally) -> Result<Opt
     Ok(None)
 }
 
+/// Whether a core whose trace has room for so many entries is opened at once.
+fn is_opened(alloc: Global, room: usize) -> bool {
+    match configuration(alloc, SMALL) {
+        Some(config) => Core::open(alloc, config, room).is_ok(),
+        None => false,
+    }
+}
+
+#[test]
+fn a_core_is_opened_at_once_whatever_its_room(rt: HostRuntime) {
+    for room in [0, 1, 1000, 100_000] {
+        assert!(rt; is_opened(rt.alloc(), room));
+    }
+}
+
 #[test]
 fn a_run_is_left_so_at_each_tenth_turn(rt: HostRuntime) -> Result<(), Fail> {
     let mut tally = none();

@@ -6,21 +6,37 @@ use iocm_record::{DeviceFields, Record, RecordBody, UnitFields};
 use iocm_tree::{Edit, Tree};
 use iocm_trial_machines::{below, enabled, is_heads, name, subchannel};
 use iocm_types::Order::{Cancel, Clear, Halt, Start, Store, Test};
-use iocm_types::{Chpid, Css, CssPath, DevNo, List, Order, SetNo, SubId, UnitNo, UnitRange};
+use iocm_types::{Chpid, Css, CssPath, DevNo, Image, List, Order, SetNo, SubId, UnitNo, UnitRange};
 use rand_pcg::Pcg32;
 use std::alloc::Global;
 use std::test::Fail;
 
-/// Three images, three paths, two control units, and six devices.
-pub const SMALL: &[u8] = b"         RESOURCE PARTITION=((CSS(0),(LPA,1),(LPB,2),(LPC,3)))
+/// Two channel subsystems, of three images and of one, with five paths, two control units, six
+/// devices in subchannel set 0 and two in set 1.
+pub const SMALL: &[u8] = b"         RESOURCE PARTITION=((CSS(0),(LPA,1),(LPB,2),(LPC,3)),         X
+               (CSS(1),(LPD,1)))
          CHPID PATH=50,SHARED,PARTITION=((LPA,LPB,LPC),(=))
          CHPID PATH=51,SHARED,PARTITION=((LPA),(LPA,LPB,LPC))
          CHPID PATH=52,SHARED,PARTITION=((LPB,LPC),(LPA,LPB,LPC))
-         CNTLUNIT CUNUMBR=1000,PATH=((CSS(0),50,51))
+         CHPID PATH=(CSS(1),50),SHARED,PARTITION=((LPD),(=))
+         CHPID PATH=(CSS(1),52),SHARED,PARTITION=((LPD),(=))
+         CNTLUNIT CUNUMBR=1000,PATH=((CSS(0),50,51),(CSS(1),50))
          CNTLUNIT CUNUMBR=1001,PATH=((CSS(0),52)),CUADD=1
          IODEVICE ADDRESS=(1000,3),CUNUMBR=1000
          IODEVICE ADDRESS=(1003,3),CUNUMBR=1001
+         IODEVICE ADDRESS=(1000,2),CUNUMBR=1000,UNITADD=08,SCHSET=1
 ";
+
+/// The second channel subsystem.
+fn second_css() -> Result<Css, Fail> {
+    Ok(Css::new(1).ok_or("0 to 5")?)
+}
+
+/// The first or the second subchannel set, the first more often.
+fn draw_set(dice: &mut Pcg32) -> Result<SetNo, Fail> {
+    let number = if below(dice, 4) == 0 { 1 } else { 0 };
+    Ok(SetNo::new(number).ok_or("0 to 3")?)
+}
 
 /// The number of one of the two control units.
 fn unit_number(place: u32) -> Result<UnitNo, Fail> {
@@ -28,15 +44,16 @@ fn unit_number(place: u32) -> Result<UnitNo, Fail> {
     Ok(number.ok_or("0000 to FFFE")?)
 }
 
-/// A device on the one or the other control unit, mostly with its own address, which now and then
-/// lists a candidate.
+/// A device on the one or the other control unit, mostly with an address of its own, which now and
+/// then lists a candidate.
 fn draw_device(alloc: Global, dice: &mut Pcg32) -> Result<Record, Fail> {
+    let set = draw_set(dice)?;
     let number = below(dice, 7);
     let unit = unit_number(number / 3)?;
     let address = if below(dice, 6) == 0 {
         below(dice, 8)
     } else {
-        number
+        number + 8 * u32::from(set.number())
     };
     let candidates = if below(dice, 6) == 0 {
         Some(List::from_vec(vec![in alloc; name(b"LPB")?]?))
@@ -44,7 +61,7 @@ fn draw_device(alloc: Global, dice: &mut Pcg32) -> Result<Record, Fail> {
         None
     };
     Ok(Record::new(RecordBody::Device(DeviceFields {
-        set: SetNo::FIRST,
+        set,
         number: DevNo::new(0x1000 + number as u16),
         units: List::from_vec(vec![in alloc; unit]?),
         unit_address: address as u8,
@@ -53,21 +70,25 @@ fn draw_device(alloc: Global, dice: &mut Pcg32) -> Result<Record, Fail> {
     })))
 }
 
-/// One of the three paths.
-fn path(place: u32) -> CssPath {
+/// One of three paths of a channel subsystem; the second one lacks 51.
+fn path(css: Css, place: u32) -> CssPath {
     CssPath {
-        css: Css::FIRST,
+        css,
         path: Chpid::new(0x50 + (place % 3) as u8),
     }
 }
 
-/// A control unit on one or two paths, in an order.
+/// A control unit on one or two paths of the first channel subsystem, in an order, and now and then
+/// on one of the second.
 fn draw_unit(alloc: Global, dice: &mut Pcg32) -> Result<Record, Fail> {
     let place = below(dice, 2);
     let first = below(dice, 3);
-    let mut paths = vec![in alloc; path(first)]?;
+    let mut paths = vec![in alloc; path(Css::FIRST, first)]?;
     if below(dice, 4) > 0 {
-        paths.push(path(first + 1 + below(dice, 2)))?;
+        paths.push(path(Css::FIRST, first + 1 + below(dice, 2)))?;
+    }
+    if is_heads(dice) {
+        paths.push(path(second_css()?, 2 * below(dice, 2)))?;
     }
     let all = UnitRange {
         start: 0,
@@ -83,12 +104,18 @@ fn draw_unit(alloc: Global, dice: &mut Pcg32) -> Result<Record, Fail> {
     })))
 }
 
-/// That a path is online to an image.
+/// That a path is online to an image of the first channel subsystem, or to that of the second.
 fn draw_online(dice: &mut Pcg32) -> Result<Record, Fail> {
-    let number = path(below(dice, 3)).path;
-    let letters = [b"LPA", b"LPB", b"LPC"];
-    let image = name(letters[below(dice, 3) as usize].as_slice())?;
-    Ok(Record::new(RecordBody::Online(Css::FIRST, number, image)))
+    let letters = [b"LPA", b"LPB", b"LPC", b"LPD"];
+    let place = below(dice, 4);
+    let css = if place == 3 {
+        second_css()?
+    } else {
+        Css::FIRST
+    };
+    let number = path(css, below(dice, 3)).path;
+    let image = name(letters[place as usize].as_slice())?;
+    Ok(Record::new(RecordBody::Online(css, number, image)))
 }
 
 /// The edit that adds a record, or puts it in the place of the one that is there.
@@ -138,9 +165,30 @@ fn draw_tree(alloc: Global, plant: &Plant, dice: &mut Pcg32, depth: u32) -> Resu
     })
 }
 
-/// A subchannel.
+/// A subchannel of one of the four images, of either set.
 pub fn draw_subchannel(dice: &mut Pcg32) -> Result<SubId, Fail> {
-    subchannel(1 + below(dice, 3) as u8, below(dice, 7) as u16)
+    let place = below(dice, 4);
+    if place == 3 {
+        return draw_second_subchannel(dice);
+    }
+    let here = subchannel(1 + place as u8, below(dice, 7) as u16)?;
+    Ok(SubId {
+        set: draw_set(dice)?,
+        ..here
+    })
+}
+
+/// A subchannel of the image of the second channel subsystem.
+fn draw_second_subchannel(dice: &mut Pcg32) -> Result<SubId, Fail> {
+    let here = subchannel(1, below(dice, 4) as u16)?;
+    Ok(SubId {
+        image: Image {
+            css: second_css()?,
+            mif: here.image.mif,
+        },
+        set: draw_set(dice)?,
+        number: here.number,
+    })
 }
 
 /// An order.
