@@ -3,7 +3,7 @@ ghost use Rattle.std.specs.Prelude.{IfOk, IfSome, OnOk};
 ghost use Rattle.iocm_types.specs.Fault.{memory};
 ghost use Rattle.iocm_columns.specs.Device.{reader_of, reads_of, IsOpen, IsWhole, StopsShort};
 ghost use Rattle.iocm_console.specs.declared.status.Status.TheVariants.{Done};
-ghost use Rattle.iocm_console.specs.Output.{has_failed};
+ghost use Rattle.iocm_console.specs.Output.{has_failed, IsHandedOn};
 ghost use Rattle.iocm_console.specs.Opening.{refused, Says, SaysIfMemory};
 ghost use Rattle.iocm_apply.specs.Apply.{IsRefusedDeck};
 ghost use Rattle.iocm.specs.Answer.{printed};
@@ -22,7 +22,7 @@ use std::io::{Read, Write};
 /// Each deck is read by at most `limit` reads; a request that has no change deck leaves `change`
 /// alone. L5 (`ConsoleError::Read`): a deck can't be read to its end; L6 (`ConsoleError::Write`): a
 /// write failed. All other faults are refusals, which are printed.
-pub fn print_answer<R: Read, S: Read, W: Write>(
+pub fn print_answer<R: Read, S: Read, W: Write + Drop>(
     alloc: Global,
     request: Request<'_>,
     deck: &mut Device<R>,
@@ -47,6 +47,7 @@ pub fn print_answer<R: Read, S: Read, W: Write>(
     ensures whole_change { IfOk result (λ status. status ≡ Done
         → IsSome (change_deck_of request.entry) → IsWhole change.new) }
     ensures written { OnOk result (has_failed output.new ≡ false) }
+    ensures handed_on { OnOk result (IsHandedOn output.new) }
     ensures untouched { change_deck_of request.entry ≡ None → change.new ≡ change.old }
     ensures unreadable { result ≡ Err ConsoleError.Read → StopsShort deck.new (reads_of deck.old + limit)
         ⊎ (IsSome (change_deck_of request.entry) × StopsShort change.new (reads_of change.old + limit)) }

@@ -216,16 +216,22 @@ fn run_on<
     Ok(ExitCode::from(status.code()))
 }
 
-/// Prints that memory is missing.
-fn refuse_memory<R: Print>(rt: &R) -> Result<ExitCode, ConsoleError> {
-    let mut output = Output::new(io::writer(rt));
+/// Prints that memory is missing, through a buffer without room, which takes none.
+fn refuse_memory<R: Print + AllocGlobal>(rt: &R) -> Result<ExitCode, ConsoleError> {
+    let Ok(writer) = BufWriter::with_capacity(rt.alloc(), 0, io::writer(rt)) else {
+        unreachable!()
+    };
+    let mut output = Output::new(writer);
     let status = refuse(Fault::from(AllocError), &mut output)?;
     Ok(ExitCode::from(status.code()))
 }
 
 /// Prints what `clap` says of the command line: help on standard output, a mistake on standard
 /// error.
-fn explain<R: Print + Eprint>(rt: &R, error: &clap::Error) -> Result<ExitCode, ConsoleError> {
+fn explain<R: Print + Eprint + AllocGlobal>(
+    rt: &R,
+    error: &clap::Error,
+) -> Result<ExitCode, ConsoleError> {
     if error.kind() == ErrorKind::OutOfMemory {
         return refuse_memory(rt);
     }

@@ -32,7 +32,7 @@ impl fmt::Display for AnswerLine {
 
 /// Prints the answer to a line of a script, on a line of its own: that line's number comes first,
 /// in decimal. Can't answer want of memory. Own.
-pub fn write_answer<W: Write>(
+pub fn write_answer<W: Write + Drop>(
     line: usize,
     answer: &Answer,
     output: &mut Output<W>,

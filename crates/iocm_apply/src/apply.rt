@@ -10,7 +10,7 @@ ghost use Rattle.iocm_model.specs.Change.Meaning.{meaning};
 ghost use Rattle.iocm_tree.specs.Trees.{plain_tree, tree_of};
 ghost use Rattle.iocm_console.specs.declared.status.Status.TheVariants.{Done};
 ghost use Rattle.iocm_console.specs.Opening.{configuration_in, refused, Says, SaysIfMemory};
-ghost use Rattle.iocm_console.specs.Output.{has_failed, FailedToWrite};
+ghost use Rattle.iocm_console.specs.Output.{has_failed, IsHandedOn, FailedToWrite};
 ghost use Rattle.iocm_apply.specs.Apply.{applied, applied_to, change_in, lines_tried, made, tried};
 ghost use Rattle.iocm_apply.specs.Apply.{IsRefused, IsRefusedDeck};
 
@@ -39,7 +39,7 @@ use std::io::{Read, Write};
 /// written then, and a deck that is refused is refused before the change deck counts. L6
 /// (`ConsoleError::Write`): a write failed; what is written up to there is not said. All other
 /// faults, want of memory (M1) too, are refusals, which are printed.
-pub fn apply_change<R: Read, S: Read, W: Write>(
+pub fn apply_change<R: Read, S: Read, W: Write + Drop>(
     alloc: Global,
     heap: usize,
     report: Report,
@@ -64,6 +64,7 @@ pub fn apply_change<R: Read, S: Read, W: Write>(
         (λ status. IsWhole deck.new ⊎ Says W.contents output.old output.new (refused memory) status) }
     ensures whole_change { IfOk result (λ status. status ≡ Done → IsWhole change.new) }
     ensures written { OnOk result (has_failed output.new ≡ false) }
+    ensures handed_on { OnOk result (IsHandedOn output.new) }
     ensures unreadable { result ≡ Err ConsoleError.Read
         → StopsShort deck.new (reads_of deck.old + limit)
         ⊎ StopsShort change.new (reads_of change.old + limit) }
@@ -83,7 +84,7 @@ pub fn apply_change<R: Read, S: Read, W: Write>(
 
 /// Prints what the lines of a change deck, as far as they are there, do to the machine of the lines
 /// of a deck.
-fn apply_to_deck<W: Write>(
+fn apply_to_deck<W: Write + Drop>(
     alloc: Global,
     heap: usize,
     report: Report,
@@ -96,6 +97,7 @@ fn apply_to_deck<W: Write>(
         (applied_to report (configuration_in deck.now) read)) }
     ensures done { IfOk result (λ status. status ≡ Done → IsOk change) }
     ensures works { OnOk result (has_failed output.new ≡ has_failed output.old) }
+    ensures handed_on { OnOk result (IsHandedOn output.new) }
     ensures unreadable { result ≡ Err ConsoleError.Read → change ≡ Err unreadable }
     ensures first { IsRefused (configuration_in deck.now) → result ≡ Err ConsoleError.Read → ⊥ }
     ensures untouched { result ≡ Err ConsoleError.Read → output.new ≡ output.old }
@@ -109,7 +111,7 @@ fn apply_to_deck<W: Write>(
 
 /// Prints what the lines of a change deck, as far as they are there, do to the machine of a
 /// configuration.
-fn apply_to_config<W: Write>(
+fn apply_to_config<W: Write + Drop>(
     alloc: Global,
     heap: usize,
     report: Report,
@@ -121,6 +123,7 @@ fn apply_to_config<W: Write>(
         → IfOk result (SaysIfMemory W.contents output.old output.new (applied_to report (Ok config.records) read)) }
     ensures done { IfOk result (λ status. status ≡ Done → IsOk change) }
     ensures works { OnOk result (has_failed output.new ≡ has_failed output.old) }
+    ensures handed_on { OnOk result (IsHandedOn output.new) }
     ensures unreadable { result ≡ Err ConsoleError.Read → change ≡ Err unreadable }
     ensures first { IsRefused (Ok config.records) → result ≡ Err ConsoleError.Read → ⊥ }
     ensures untouched { result ≡ Err ConsoleError.Read → output.new ≡ output.old }
@@ -133,7 +136,7 @@ fn apply_to_config<W: Write>(
 }
 
 /// Prints what the lines of a change deck, as far as they are there, do to a machine.
-fn apply_to_machine<W: Write>(
+fn apply_to_machine<W: Write + Drop>(
     alloc: Global,
     heap: usize,
     report: Report,
@@ -146,6 +149,7 @@ fn apply_to_machine<W: Write>(
         → IfOk result (SaysIfMemory W.contents output.old output.new (lines_tried report plant.state read)) }
     ensures done { IfOk result (λ status. status ≡ Done → IsOk change) }
     ensures works { OnOk result (has_failed output.new ≡ has_failed output.old) }
+    ensures handed_on { OnOk result (IsHandedOn output.new) }
     ensures unreadable { result ≡ Err ConsoleError.Read → change ≡ Err unreadable }
     ensures untouched { result ≡ Err ConsoleError.Read → output.new ≡ output.old }
     ensures unwritable { result ≡ Err ConsoleError.Write → has_failed output.new ≡ true }
@@ -157,7 +161,7 @@ fn apply_to_machine<W: Write>(
 }
 
 /// Prints what the lines of a change deck do to a machine.
-fn apply_lines<W: Write>(
+fn apply_lines<W: Write + Drop>(
     alloc: Global,
     heap: usize,
     report: Report,
@@ -169,6 +173,7 @@ fn apply_lines<W: Write>(
     ensures text { IfOk result
         (SaysIfMemory W.contents output.old output.new (tried report plant.state (change_in cards.now))) }
     ensures works { OnOk result (has_failed output.new ≡ has_failed output.old) }
+    ensures handed_on { OnOk result (IsHandedOn output.new) }
     ensures fault { IfErr result (FailedToWrite output.new) }
 {
     match read_change(alloc, heap, cards) {
@@ -178,7 +183,7 @@ fn apply_lines<W: Write>(
 }
 
 /// Prints what a change tree does to a machine.
-fn apply_tree<W: Write>(
+fn apply_tree<W: Write + Drop>(
     alloc: Global,
     report: Report,
     plant: Plant,
@@ -189,6 +194,7 @@ fn apply_tree<W: Write>(
     ensures text { IfOk result (SaysIfMemory W.contents output.old output.new
         (made report plant.state (meaning (plain_tree (tree_of tree.now)) plant.state))) }
     ensures works { OnOk result (has_failed output.new ≡ has_failed output.old) }
+    ensures handed_on { OnOk result (IsHandedOn output.new) }
     ensures fault { IfErr result (FailedToWrite output.new) }
 {
     let mut plant = plant;

@@ -3,7 +3,7 @@ ghost use Rattle.iocm_model.specs.Machine.Table.{table_of};
 ghost use Rattle.iocm_console.specs.declared.status.Status.TheVariants as status;
 ghost use Rattle.iocm_console.specs.Lines.{celled};
 ghost use Rattle.iocm_console.specs.Opening.{Says, SaysIfMemory};
-ghost use Rattle.iocm_console.specs.Output.{has_failed, FailedToWrite};
+ghost use Rattle.iocm_console.specs.Output.{has_failed, IsHandedOn, FailedToWrite};
 ghost use Rattle.iocm_console.specs.Show.{table_at};
 ghost use Rattle.iocm_tree.specs.Trees.{plain_tree, tree_of};
 ghost use Rattle.std.specs.FinMap.{len};
@@ -29,7 +29,7 @@ use std::io::Write;
 /// written.
 ///
 /// M1, a refusal, which is printed: memory was wanted.
-pub fn print_report<W: Write>(
+pub fn print_report<W: Write + Drop>(
     alloc: Global,
     report: Report,
     done: &Done,
@@ -39,6 +39,7 @@ pub fn print_report<W: Write>(
     ensures text { IfOk result (SaysIfMemory W.contents output.old output.new (reported report
         (len (effect_in done.now.effect).lives) (plain_tree (tree_of done.now.inverse)) plant.now.state)) }
     ensures works { OnOk result (has_failed output.new ≡ has_failed output.old) }
+    ensures handed_on { OnOk result (IsHandedOn output.new) }
     ensures fault { IfErr result (FailedToWrite output.new) }
 {
     match report {
@@ -51,7 +52,7 @@ pub fn print_report<W: Write>(
 /// before the first byte is written.
 ///
 /// M1, a refusal, which is printed: memory was wanted.
-fn print_machine<W: Write>(
+fn print_machine<W: Write + Drop>(
     alloc: Global,
     altered: usize,
     plant: &Plant,
@@ -60,6 +61,7 @@ fn print_machine<W: Write>(
     ensures text { IfOk result (SaysIfMemory W.contents output.old output.new
         (table_below altered (table_of plant.now.state.config plant.now.state.numbers))) }
     ensures works { OnOk result (has_failed output.new ≡ has_failed output.old) }
+    ensures handed_on { OnOk result (IsHandedOn output.new) }
     ensures fault { IfErr result (FailedToWrite output.new) }
 {
     match gather_cells(alloc, plant.numbers().cells()) {
@@ -70,7 +72,7 @@ fn print_machine<W: Write>(
 
 /// Prints how many subchannels a change altered, and the table at some number cells. Can't answer
 /// want of memory.
-fn print_lines<W: Write>(
+fn print_lines<W: Write + Drop>(
     altered: usize,
     config: &Config,
     cells: &[CellDevice],
@@ -79,6 +81,7 @@ fn print_lines<W: Write>(
     ensures text { IfOk result (Says W.contents output.old output.new
         (table_below altered (table_at config.now.records (celled cells.now)).text)) }
     ensures works { OnOk result (has_failed output.new ≡ has_failed output.old) }
+    ensures handed_on { OnOk result (IsHandedOn output.new) }
     ensures fault { IfErr result (FailedToWrite output.new) }
 {
     output.changed(altered)?;
@@ -89,7 +92,7 @@ fn print_lines<W: Write>(
 /// byte is written.
 ///
 /// M1, a refusal, which is printed: memory was wanted.
-fn print_way_back<A: Allocator, W: Write>(
+fn print_way_back<A: Allocator, W: Write + Drop>(
     alloc: Global,
     tree: &Tree<A>,
     output: &mut Output<W>,
@@ -97,6 +100,7 @@ fn print_way_back<A: Allocator, W: Write>(
     ensures text { IfOk result (SaysIfMemory W.contents output.old output.new
         (record { text = way_back_text (plain_tree (tree_of tree.now)); status = status.Done })) }
     ensures works { OnOk result (has_failed output.new ≡ has_failed output.old) }
+    ensures handed_on { OnOk result (IsHandedOn output.new) }
     ensures fault { IfErr result (FailedToWrite output.new) }
 {
     match way_back(alloc, tree) {

@@ -1,6 +1,6 @@
 ghost use Rattle.std.specs.Prelude.{◌≡◌, IfOk, IfErr, OnOk};
 ghost use Rattle.iocm_console.specs.Opening.{Says, SaysIfMemory};
-ghost use Rattle.iocm_console.specs.Output.{has_failed, FailedToWrite};
+ghost use Rattle.iocm_console.specs.Output.{has_failed, IsHandedOn, FailedToWrite};
 ghost use Rattle.iocm_console.specs.declared.status.Status.TheVariants.{Done};
 ghost use Rattle.iocm_console.specs.Write.{canonical_done};
 
@@ -16,13 +16,14 @@ use std::io::Write;
 /// written.
 ///
 /// M1, a refusal, which is printed: memory was wanted.
-pub fn write_canonical<W: Write>(
+pub fn write_canonical<W: Write + Drop>(
     alloc: Global,
     output: &mut Output<W>,
     config: &Config,
 ) -> Result<Status, ConsoleError>
     ensures text { IfOk result (SaysIfMemory W.contents output.old output.new (canonical_done config.now.records)) }
     ensures works { OnOk result (has_failed output.new ≡ has_failed output.old) }
+    ensures handed_on { OnOk result (IsHandedOn output.new) }
     ensures fault { IfErr result (FailedToWrite output.new) }
 {
     match canonical_deck(alloc, config) {
@@ -32,9 +33,13 @@ pub fn write_canonical<W: Write>(
 }
 
 /// Prints these bytes, and is done. Can't answer want of memory.
-pub fn write_text<W: Write>(output: &mut Output<W>, bytes: &[u8]) -> Result<Status, ConsoleError>
+pub fn write_text<W: Write + Drop>(
+    output: &mut Output<W>,
+    bytes: &[u8],
+) -> Result<Status, ConsoleError>
     ensures text { IfOk result (Says W.contents output.old output.new (record { text = bytes.now; status = Done })) }
     ensures works { OnOk result (has_failed output.new ≡ has_failed output.old) }
+    ensures handed_on { OnOk result (IsHandedOn output.new) }
     ensures fault { IfErr result (FailedToWrite output.new) }
 {
     output.bytes(bytes)?;

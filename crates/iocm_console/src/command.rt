@@ -3,7 +3,7 @@ ghost use Rattle.std.specs.Prelude.{false, true, IfOk, IfErr, OnOk, IfSome};
 ghost use Rattle.iocm_types.specs.Fault.{memory};
 ghost use Rattle.iocm_model.specs.Machine.Numbering as model;
 ghost use Rattle.iocm_columns.specs.Device.{reader_of, reads_of, IsOpen, IsWhole, StopsShort};
-ghost use Rattle.iocm_console.specs.Output.{has_failed, FailedToWrite};
+ghost use Rattle.iocm_console.specs.Output.{has_failed, IsHandedOn, FailedToWrite};
 ghost use Rattle.iocm_console.specs.Opening.{configuration_in, opened, opened_or_refused, refused, Says, SaysIfMemory};
 ghost use Rattle.iocm_console.specs.Command.{answered, shown_by};
 ghost use Rattle.iocm_console.specs.Show.{table_done};
@@ -38,7 +38,7 @@ pub enum DeckCommand {
 /// L5 (`ConsoleError::Read`): a read failed, or none of `limit` reads gave the end; nothing is
 /// written then. L6 (`ConsoleError::Write`): a write failed; what is written up to there is not
 /// said. All other faults, want of memory (M1) too, are refusals, which are printed.
-pub fn answer_deck<R: Read, W: Write>(
+pub fn answer_deck<R: Read, W: Write + Drop>(
     alloc: Global,
     command: DeckCommand,
     device: &mut Device<R>,
@@ -56,6 +56,7 @@ pub fn answer_deck<R: Read, W: Write>(
     ensures whole { IfOk result
         (λ status. IsWhole device.new ⊎ Says W.contents output.old output.new (refused memory) status) }
     ensures written { OnOk result (has_failed output.new ≡ false) }
+    ensures handed_on { OnOk result (IsHandedOn output.new) }
     ensures unreadable { result ≡ Err ConsoleError.Read → StopsShort device.new (reads_of device.old + limit) }
     ensures untouched { result ≡ Err ConsoleError.Read → output.new ≡ output.old }
     ensures unwritable { result ≡ Err ConsoleError.Write → has_failed output.new ≡ true }
@@ -67,7 +68,7 @@ pub fn answer_deck<R: Read, W: Write>(
 }
 
 /// Prints what a command prints of the lines of a deck, or their refusal.
-fn answer_cards<W: Write>(
+fn answer_cards<W: Write + Drop>(
     alloc: Global,
     command: DeckCommand,
     cards: &[Card],
@@ -76,6 +77,7 @@ fn answer_cards<W: Write>(
     ensures text { IfOk result (SaysIfMemory W.contents output.old output.new
         (opened_or_refused (shown_by command) (configuration_in cards.now))) }
     ensures works { OnOk result (has_failed output.new ≡ has_failed output.old) }
+    ensures handed_on { OnOk result (IsHandedOn output.new) }
     ensures fault { IfErr result (FailedToWrite output.new) }
 {
     match read_config(alloc, cards) {
@@ -86,7 +88,7 @@ fn answer_cards<W: Write>(
 
 /// Prints what a command prints of a configuration as it is opened, or which rule it breaks, or
 /// that memory is wanted.
-fn answer_opened<W: Write>(
+fn answer_opened<W: Write + Drop>(
     alloc: Global,
     command: DeckCommand,
     config: &Config,
@@ -95,6 +97,7 @@ fn answer_opened<W: Write>(
     ensures text { IfOk result
         (SaysIfMemory W.contents output.old output.new (opened (shown_by command) config.now.records)) }
     ensures works { OnOk result (has_failed output.new ≡ has_failed output.old) }
+    ensures handed_on { OnOk result (IsHandedOn output.new) }
     ensures fault { IfErr result (FailedToWrite output.new) }
 {
     match breach_of(alloc, config) {
@@ -106,7 +109,7 @@ fn answer_opened<W: Write>(
 
 /// Prints what a command prints of a configuration that keeps the rules, as it is opened, or that
 /// memory is wanted.
-fn answer_kept<W: Write>(
+fn answer_kept<W: Write + Drop>(
     alloc: Global,
     command: DeckCommand,
     config: &Config,
@@ -115,6 +118,7 @@ fn answer_kept<W: Write>(
     ensures text { IfOk result (SaysIfMemory W.contents output.old output.new
         (shown_by command config.now.records (model.opening config.now.records))) }
     ensures works { OnOk result (has_failed output.new ≡ has_failed output.old) }
+    ensures handed_on { OnOk result (IsHandedOn output.new) }
     ensures fault { IfErr result (FailedToWrite output.new) }
 {
     match command {
@@ -125,7 +129,7 @@ fn answer_kept<W: Write>(
 }
 
 /// Prints the table of a configuration with the numbers at opening, or that memory is wanted.
-fn show_opened<W: Write>(
+fn show_opened<W: Write + Drop>(
     alloc: Global,
     config: &Config,
     output: &mut Output<W>,
@@ -133,6 +137,7 @@ fn show_opened<W: Write>(
     ensures text { IfOk result (SaysIfMemory W.contents output.old output.new
         (table_done config.now.records (model.opening config.now.records))) }
     ensures works { OnOk result (has_failed output.new ≡ has_failed output.old) }
+    ensures handed_on { OnOk result (IsHandedOn output.new) }
     ensures fault { IfErr result (FailedToWrite output.new) }
 {
     match opening(alloc, config) {

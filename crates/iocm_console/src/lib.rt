@@ -5,9 +5,10 @@
 //! canonical deck; or the one line of its refusal. The program above may rely on this: what is
 //! printed and the status are exactly what `answered` says of the deck's bytes (of some bytes,
 //! where they aren't known beforehand), as far as it is known what the writer holds, and only want
-//! of memory (`refused M1`) may come instead. A fault of a device is an error, `ConsoleError`, and
-//! is noted where it came from: L5 at the `Device`, L6 at the `Output`. All memory is taken before
-//! the first byte is written; a line takes none.
+//! of memory (`refused M1`) may come instead. After an answer nothing of it is kept back in the
+//! program's own buffer. A fault of a device is an error, `ConsoleError`, and is noted where it
+//! came from: L5 at the `Device`, L6 at the `Output`. All memory is taken before the first byte is
+//! written; a line takes none.
 //!
 //! Begin with `specs/Command.antt`, which says what each command means, then `opening.rt`,
 //! `command.rt` and a file a command: `accepted.rt`, `table.rt`, `canonical.rt`. `row.rt` puts a

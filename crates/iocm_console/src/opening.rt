@@ -4,7 +4,7 @@ ghost use Rattle.iocm_model.specs.Machine.Configuration.{HasNoKeyTwice};
 ghost use Rattle.iocm_model.specs.Machine.Numbering as model;
 ghost use Rattle.iocm_model.specs.Rules.FirstBreach.{first_breach};
 ghost use Rattle.iocm_columns.specs.Device.{unreadable};
-ghost use Rattle.iocm_console.specs.Output.{has_failed, FailedToWrite};
+ghost use Rattle.iocm_console.specs.Output.{has_failed, IsHandedOn, FailedToWrite};
 ghost use Rattle.iocm_console.specs.Opening.{configuration_in, records_in, statements_in};
 ghost use Rattle.iocm_console.specs.Opening.{refused, breached, declined, Says};
 
@@ -63,12 +63,16 @@ pub fn breach_of(alloc: Global, config: &Config) -> Result<Option<Breach>, Alloc
 }
 
 /// Answers where the lines of a deck are not there: it cannot be read, or a line is refused.
-pub fn answer_unread<W: Write>(fault: Fault, output: &mut Output<W>) -> Result<Status, ConsoleError>
+pub fn answer_unread<W: Write + Drop>(
+    fault: Fault,
+    output: &mut Output<W>,
+) -> Result<Status, ConsoleError>
     ensures text { IfOk result (Says W.contents output.old output.new (refused fault)) }
     ensures unreadable { result ≡ Err ConsoleError.Read → fault ≡ unreadable }
     ensures untouched { result ≡ Err ConsoleError.Read → output.new ≡ output.old }
     ensures readable { OnOk result (fault ≢ unreadable) }
     ensures works { OnOk result (has_failed output.new ≡ has_failed output.old) }
+    ensures handed_on { OnOk result (IsHandedOn output.new) }
     ensures unwritable { result ≡ Err ConsoleError.Write → has_failed output.new ≡ true }
 {
     if fault == UNREADABLE {
@@ -78,9 +82,10 @@ pub fn answer_unread<W: Write>(fault: Fault, output: &mut Output<W>) -> Result<S
 }
 
 /// Prints a refusal. Can't answer want of memory.
-pub fn refuse<W: Write>(fault: Fault, output: &mut Output<W>) -> Result<Status, ConsoleError>
+pub fn refuse<W: Write + Drop>(fault: Fault, output: &mut Output<W>) -> Result<Status, ConsoleError>
     ensures text { IfOk result (Says W.contents output.old output.new (refused fault)) }
     ensures works { OnOk result (has_failed output.new ≡ has_failed output.old) }
+    ensures handed_on { OnOk result (IsHandedOn output.new) }
     ensures fault { IfErr result (FailedToWrite output.new) }
 {
     output.refusal(fault)?;
@@ -89,12 +94,13 @@ pub fn refuse<W: Write>(fault: Fault, output: &mut Output<W>) -> Result<Status, 
 }
 
 /// Prints that a configuration breaks a rule. Can't answer want of memory.
-pub fn refuse_breach<W: Write>(
+pub fn refuse_breach<W: Write + Drop>(
     breach: Breach,
     output: &mut Output<W>,
 ) -> Result<Status, ConsoleError>
     ensures text { IfOk result (Says W.contents output.old output.new (breached breach)) }
     ensures works { OnOk result (has_failed output.new ≡ has_failed output.old) }
+    ensures handed_on { OnOk result (IsHandedOn output.new) }
     ensures fault { IfErr result (FailedToWrite output.new) }
 {
     output.breach(breach)?;
@@ -103,9 +109,13 @@ pub fn refuse_breach<W: Write>(
 }
 
 /// Prints why a change was refused. Can't answer want of memory.
-pub fn refuse_change<W: Write>(why: Refused, output: &mut Output<W>) -> Result<Status, ConsoleError>
+pub fn refuse_change<W: Write + Drop>(
+    why: Refused,
+    output: &mut Output<W>,
+) -> Result<Status, ConsoleError>
     ensures text { IfOk result (Says W.contents output.old output.new (declined why)) }
     ensures works { OnOk result (has_failed output.new ≡ has_failed output.old) }
+    ensures handed_on { OnOk result (IsHandedOn output.new) }
     ensures fault { IfErr result (FailedToWrite output.new) }
 {
     output.change_refusal(why)?;

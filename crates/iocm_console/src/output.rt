@@ -1,7 +1,8 @@
 ghost use Rattle.std.specs.Prelude.{◌≡◌, false, ◌++◌, ◌∷◌, [], IsOk, IsErr, OnOk, OnErr, IfErr};
+ghost use Rattle.std.specs.Io.Buffered.{writer_contents};
 ghost use Rattle.std.specs.Io.KnownBytes.{Keeps};
 ghost use Rattle.iocm_model.specs.Machine.Table.{line_of, heading};
-ghost use Rattle.iocm_console.specs.Output.{writer_of, has_failed, Prints, PrintsLine, FailedToWrite};
+ghost use Rattle.iocm_console.specs.Output.{writer_of, has_failed, IsHandedOn, Prints, PrintsLine, FailedToWrite};
 ghost use Rattle.iocm_console.specs.Check.{accepted_text};
 ghost use Rattle.iocm_console.specs.Refusal.{refusal_line, breach_line, change_refusal_line};
 ghost use Rattle.iocm_console.specs.Changed.{changed_text};
@@ -10,19 +11,19 @@ use crate::row::{write_heading, write_row};
 use crate::{BreachRefusal, ChangeRefusal, ConsoleError, Refusal};
 use iocm_rules::Breach;
 use iocm_types::{Fault, Refused, SubId, View};
-use std::io::Write;
+use std::io::{BufWriter, Write};
 use std::{fmt, io};
 
-/// A writer, and a note of whether a write to it failed.
+/// A writer with the program's own buffer in front of it, and a note of whether a write failed.
 #[derive(Drop)]
-pub struct Output<W> {
-    writer: W,
+pub struct Output<W: Write + Drop> {
+    writer: BufWriter<W>,
     failed: bool,
 }
 
-impl<W> Output<W> {
+impl<W: Write + Drop> Output<W> {
     /// A writer to which no write has failed.
-    pub fn new(writer: W) -> Self
+    pub fn new(writer: BufWriter<W>) -> Self
         ensures writer { writer_of result ≡ writer }
         ensures works { has_failed result ≡ false }
     {
@@ -55,9 +56,7 @@ impl<W> Output<W> {
             }
         }
     }
-}
 
-impl<W: Write> Output<W> {
     /// Writes the heading of the table. Can't answer want of memory.
     pub(crate) fn heading(&mut self) -> Result<(), ConsoleError>
         ensures text { OnOk result (Prints W.contents self.old self.new (heading ++ 10 ∷ [])) }
@@ -152,9 +151,11 @@ impl<W: Write> Output<W> {
         self.note(written)
     }
 
-    /// Hands on what the writer still keeps to itself.
+    /// Hands on what the program's own buffer still keeps back.
     pub(crate) fn flush(&mut self) -> Result<(), ConsoleError>
-        ensures text { Keeps (W.contents (writer_of self.old)) (W.contents (writer_of self.new)) }
+        ensures text { Keeps (writer_contents W.contents (writer_of self.old))
+            (writer_contents W.contents (writer_of self.new)) }
+        ensures handed_on { OnOk result (IsHandedOn self.new) }
         ensures works { OnOk result (has_failed self.new ≡ has_failed self.old) }
         ensures fault { IfErr result (FailedToWrite self.new) }
     {

@@ -1,7 +1,7 @@
 ghost use Rattle.std.specs.Prelude.{◌≡◌, [], ◌∷◌, OnOk, IfOk, IfErr};
 ghost use Rattle.iocm_model.specs.Machine.Configuration.{lookup_of, records_of};
 ghost use Rattle.iocm_console.specs.Lines.{celled, image_lines, record_lines, image_record};
-ghost use Rattle.iocm_console.specs.Output.{has_failed, Prints, FailedToWrite};
+ghost use Rattle.iocm_console.specs.Output.{has_failed, IsHandedOn, Prints, FailedToWrite};
 ghost use Rattle.iocm_console.specs.Opening.{Says, SaysIfMemory};
 ghost use Rattle.iocm_console.specs.Show.{table_at, table_done};
 
@@ -26,7 +26,7 @@ struct PrintedImage {
 /// Prints the table of subchannels. All memory is taken before the first byte is written.
 ///
 /// M1, a refusal, which is printed: memory was wanted.
-pub fn write_table<A: Allocator, B: Allocator, C: Allocator + Drop, W: Write>(
+pub fn write_table<A: Allocator, B: Allocator, C: Allocator + Drop, W: Write + Drop>(
     alloc: C,
     output: &mut Output<W>,
     config: &Config<A>,
@@ -35,6 +35,7 @@ pub fn write_table<A: Allocator, B: Allocator, C: Allocator + Drop, W: Write>(
     ensures text { IfOk result
         (SaysIfMemory W.contents output.old output.new (table_done config.now.records numbers.now.numbers)) }
     ensures works { OnOk result (has_failed output.new ≡ has_failed output.old) }
+    ensures handed_on { OnOk result (IsHandedOn output.new) }
     ensures fault { IfErr result (FailedToWrite output.new) }
 {
     match gather_cells(alloc, numbers.cells()) {
@@ -45,7 +46,7 @@ pub fn write_table<A: Allocator, B: Allocator, C: Allocator + Drop, W: Write>(
 
 /// Prints the heading and the lines of all images at some number cells. Can't answer want of
 /// memory.
-pub fn write_lines<A: Allocator, W: Write>(
+pub fn write_lines<A: Allocator, W: Write + Drop>(
     output: &mut Output<W>,
     config: &Config<A>,
     cells: &[CellDevice],
@@ -53,6 +54,7 @@ pub fn write_lines<A: Allocator, W: Write>(
     ensures text { IfOk result
         (Says W.contents output.old output.new (table_at config.now.records (celled cells.now))) }
     ensures works { OnOk result (has_failed output.new ≡ has_failed output.old) }
+    ensures handed_on { OnOk result (IsHandedOn output.new) }
     ensures fault { IfErr result (FailedToWrite output.new) }
 {
     output.heading()?;
@@ -62,7 +64,7 @@ pub fn write_lines<A: Allocator, W: Write>(
 }
 
 /// Writes the lines of all images at some number cells.
-fn write_rows<A: Allocator, W: Write>(
+fn write_rows<A: Allocator, W: Write + Drop>(
     output: &mut Output<W>,
     config: &Config<A>,
     cells: &[CellDevice],
@@ -79,7 +81,7 @@ fn write_rows<A: Allocator, W: Write>(
 }
 
 /// Writes the lines of a record, if it is that of an image.
-fn write_record<A: Allocator, W: Write>(
+fn write_record<A: Allocator, W: Write + Drop>(
     output: &mut Output<W>,
     config: &Config<A>,
     entry: &Record<A>,
@@ -105,7 +107,7 @@ fn write_record<A: Allocator, W: Write>(
 
 /// Writes the lines of an image at some number cells. The paths that the image reaches are looked
 /// up once.
-fn write_image<A: Allocator, W: Write>(
+fn write_image<A: Allocator, W: Write + Drop>(
     output: &mut Output<W>,
     config: &Config<A>,
     image: &PrintedImage,
@@ -121,7 +123,7 @@ fn write_image<A: Allocator, W: Write>(
 }
 
 /// Writes the lines of an image at some number cells.
-fn write_cells<A: Allocator, W: Write>(
+fn write_cells<A: Allocator, W: Write + Drop>(
     output: &mut Output<W>,
     sight: &mut ImageSight<'_, A>,
     cells: &[CellDevice],
@@ -140,7 +142,7 @@ fn write_cells<A: Allocator, W: Write>(
 
 /// Writes the line of an image at a number cell, if the cell is of its channel subsystem and the
 /// image sees the device there.
-fn write_cell<A: Allocator, W: Write>(
+fn write_cell<A: Allocator, W: Write + Drop>(
     output: &mut Output<W>,
     sight: &mut ImageSight<'_, A>,
     place: CellDevice,
@@ -160,7 +162,7 @@ fn write_cell<A: Allocator, W: Write>(
 
 /// Writes the line of an image at a number cell of its channel subsystem, if it sees the device
 /// there.
-fn write_seen<A: Allocator, W: Write>(
+fn write_seen<A: Allocator, W: Write + Drop>(
     output: &mut Output<W>,
     sight: &mut ImageSight<'_, A>,
     place: CellDevice,

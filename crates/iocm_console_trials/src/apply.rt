@@ -1,9 +1,12 @@
+ghost use Rattle.std.specs.Prelude.{◌≡◌, false};
+ghost use Rattle.iocm_console.specs.Output.{has_failed};
+
 use iocm_apply::{Report, apply_change};
 use iocm_columns::Device;
 use iocm_console::{ConsoleError, Output, Status};
 use std::alloc::{AllocError, Global};
 use std::io;
-use std::io::{Read, Write};
+use std::io::{BufWriter, Read, Write};
 use std::test::Fail;
 
 const BASE: &[u8] = b"         RESOURCE PARTITION=((CSS(0),(LPA,1),(LPB,2)))
@@ -89,6 +92,16 @@ impl Write for Sheet<'_> {
     }
 }
 
+/// An output whose buffer has no room: each write reaches the sheet at once.
+fn unbuffered(alloc: Global, sheet: Sheet<'_>) -> Output<Sheet<'_>>
+    ensures { has_failed result ≡ false }
+{
+    let Ok(writer) = BufWriter::with_capacity(alloc, 0, sheet) else {
+        unreachable!()
+    };
+    Output::new(writer)
+}
+
 /// How `apply_change` ends with the base deck, a change deck, and a heap of so many bytes.
 fn applied(
     alloc: Global,
@@ -97,7 +110,7 @@ fn applied(
     change: &[u8],
     bytes: &mut Vec<u8>,
 ) -> Result<Status, ConsoleError> {
-    let mut output = Output::new(Sheet { bytes, room: 1024 });
+    let mut output = unbuffered(alloc, Sheet { bytes, room: 1024 });
     apply_change(
         alloc,
         heap,
@@ -135,10 +148,11 @@ fn a_heap_of_any_size_is_enough_or_refused(rt: HostRuntime) -> Result<(), Fail> 
 /// many good ones.
 fn is_fault_of_reading(alloc: Global, deck: u64, change: u64) -> Result<bool, AllocError> {
     let mut bytes = Vec::with_capacity(alloc, 1024)?;
-    let mut output = Output::new(Sheet {
+    let sheet = Sheet {
         bytes: &mut bytes,
         room: 1024,
-    });
+    };
+    let mut output = unbuffered(alloc, sheet);
     let ended = apply_change(
         alloc,
         AMPLE,
@@ -154,6 +168,7 @@ fn is_fault_of_reading(alloc: Global, deck: u64, change: u64) -> Result<bool, Al
         10,
         &mut output,
     );
+    drop(output);
     Ok(matches!(ended, Err(ConsoleError::Read)) && bytes.is_empty())
 }
 
@@ -173,10 +188,11 @@ fn each_read_that_fails_is_a_fault(rt: HostRuntime) -> Result<(), Fail> {
 /// Whether what can't be written whole, for want of room on the sheet, is a fault.
 fn is_fault_of_writing(alloc: Global, room: usize) -> Result<bool, AllocError> {
     let mut bytes = Vec::with_capacity(alloc, 1024)?;
-    let mut output = Output::new(Sheet {
+    let sheet = Sheet {
         bytes: &mut bytes,
         room,
-    });
+    };
+    let mut output = unbuffered(alloc, sheet);
     let ended = apply_change(
         alloc,
         AMPLE,
@@ -186,6 +202,7 @@ fn is_fault_of_writing(alloc: Global, room: usize) -> Result<bool, AllocError> {
         10,
         &mut output,
     );
+    drop(output);
     Ok(matches!(ended, Err(ConsoleError::Write)) && ADDED.starts_with(bytes.as_slice()))
 }
 

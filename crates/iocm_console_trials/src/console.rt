@@ -1,9 +1,12 @@
+ghost use Rattle.std.specs.Prelude.{◌≡◌, false};
+ghost use Rattle.iocm_console.specs.Output.{has_failed};
+
 use iocm_columns::Device;
 use iocm_console::{ConsoleError, DeckCommand, Output, Status, answer_deck};
 use std::alloc::{AllocError, Global};
-use std::io;
 use std::io::{BufWriter, Read, Write};
 use std::test::Fail;
+use std::{io, mem};
 
 const BASE: &[u8] = b"         RESOURCE PARTITION=((CSS(0),(LPA,1),(LPB,2)))
          CHPID PATH=(CSS(0),50),SHARED,PARTITION=((LPA,LPB),(=))
@@ -82,6 +85,16 @@ impl Write for Sheet<'_> {
     }
 }
 
+/// An output whose buffer has no room: each write reaches the sheet at once.
+fn unbuffered(alloc: Global, sheet: Sheet<'_>) -> Output<Sheet<'_>>
+    ensures { has_failed result ≡ false }
+{
+    let Ok(writer) = BufWriter::with_capacity(alloc, 0, sheet) else {
+        unreachable!()
+    };
+    Output::new(writer)
+}
+
 /// A reader that gives one blank at each read, for ever.
 #[derive(Drop)]
 struct Endless;
@@ -152,12 +165,14 @@ fn ended(
         step,
         good,
     });
-    let mut output = Output::new(Sheet {
+    let sheet = Sheet {
         bytes: &mut bytes,
         room,
         is_flushed,
-    });
+    };
+    let mut output = unbuffered(alloc, sheet);
     let ended = answer_deck(alloc, command, &mut device, limit, &mut output);
+    drop(output);
     Ok(end(&ended, printed, bytes.as_slice()))
 }
 
@@ -222,12 +237,14 @@ fn ended_without_end(
 ) -> Result<(&'static str, u64), AllocError> {
     let mut bytes = Vec::with_capacity(alloc, 1024)?;
     let mut device = Device::new(Endless);
-    let mut output = Output::new(Sheet {
+    let sheet = Sheet {
         bytes: &mut bytes,
         room: 1024,
         is_flushed: true,
-    });
+    };
+    let mut output = unbuffered(alloc, sheet);
     let ended = answer_deck(alloc, command, &mut device, 8, &mut output);
+    drop(output);
     Ok((end(&ended, b"", bytes.as_slice()), device.reads()))
 }
 
@@ -242,19 +259,54 @@ fn a_reader_without_end_is_read_as_often_as_the_limit_says(rt: HostRuntime) -> R
     Ok(())
 }
 
-#[test]
-fn a_writer_that_keeps_the_table_to_itself_is_flushed(rt: HostRuntime) -> Result<(), Fail> {
-    let mut bytes = Vec::with_capacity(rt.alloc(), 1024)?;
+/// Whether it is a fault of writing that a sheet of this room doesn't take the table from a large
+/// buffer, which has all of it when the buffer is flushed.
+fn is_fault_of_flushing(alloc: Global, room: usize, is_flushed: bool) -> io::Result<bool> {
+    let mut bytes = Vec::with_capacity(alloc, 1024)?;
     let sheet = Sheet {
         bytes: &mut bytes,
-        room: 100,
+        room,
+        is_flushed,
+    };
+    let mut device = Device::new(BASE);
+    let mut output = Output::new(BufWriter::new(alloc, sheet)?);
+    let ended = answer_deck(alloc, DeckCommand::Show, &mut device, 10, &mut output);
+    Ok(matches!(ended, Err(ConsoleError::Write)) && output.has_failed())
+}
+
+#[test]
+fn a_flush_that_fails_is_a_fault(rt: HostRuntime) -> Result<(), Fail> {
+    assert!(rt; is_fault_of_flushing(rt.alloc(), 100, true)?);
+    assert!(rt; is_fault_of_flushing(rt.alloc(), 1024, false)?);
+    assert!(rt; !is_fault_of_flushing(rt.alloc(), 1024, true)?);
+    Ok(())
+}
+
+/// How a command ends whose output has a large buffer. The output is never let go, so that this
+/// can't hand on what the command kept back.
+fn ended_for_ever(alloc: Global, command: DeckCommand, printed: &[u8]) -> io::Result<&'static str> {
+    let mut bytes = Vec::with_capacity(alloc, 1024)?;
+    let sheet = Sheet {
+        bytes: &mut bytes,
+        room: 1024,
         is_flushed: true,
     };
     let mut device = Device::new(BASE);
-    let mut output = Output::new(BufWriter::new(rt.alloc(), sheet)?);
-    let ended = answer_deck(rt.alloc(), DeckCommand::Show, &mut device, 10, &mut output);
-    assert!(rt; matches!(ended, Err(ConsoleError::Write)));
-    assert!(rt; output.has_failed());
+    let mut output = Output::new(BufWriter::new(alloc, sheet)?);
+    let ended = answer_deck(alloc, command, &mut device, 10, &mut output);
+    mem::forget(output);
+    Ok(end(&ended, printed, bytes.as_slice()))
+}
+
+#[test]
+fn nothing_is_kept_back_in_a_large_buffer(rt: HostRuntime) -> Result<(), Fail> {
+    for (command, printed) in COMMANDS {
+        assert_eq!(rt;
+            ended_for_ever(rt.alloc(), *command, printed)?,
+            "done",
+            "{command:?}"
+        );
+    }
     Ok(())
 }
 
@@ -264,12 +316,14 @@ fn is_whole_or_refused(alloc: Global, command: DeckCommand, wanted: &[u8]) -> bo
         return true;
     };
     let mut device = Device::new(BASE);
-    let mut output = Output::new(Sheet {
+    let sheet = Sheet {
         bytes: &mut bytes,
         room: 1024,
         is_flushed: true,
-    });
+    };
+    let mut output = unbuffered(alloc, sheet);
     let ended = answer_deck(alloc, command, &mut device, 100, &mut output);
+    drop(output);
     let is_whole = matches!(ended, Ok(Status::Done)) && bytes.as_slice() == wanted;
     let is_refused = matches!(ended, Ok(Status::Refused)) && bytes.as_slice() == WANT_OF_MEMORY;
     is_whole || is_refused

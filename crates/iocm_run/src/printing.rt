@@ -2,7 +2,7 @@
 ghost use Rattle.std.specs.Prelude.{◌≡◌, ◌∷◌, ◌++◌, [], IfOk, IfErr, OnOk, length};
 ghost use Rattle.iocm_console.specs.Lines.{celled};
 ghost use Rattle.iocm_console.specs.Opening.{Says, SaysIfMemory};
-ghost use Rattle.iocm_console.specs.Output.{has_failed, FailedToWrite, Prints};
+ghost use Rattle.iocm_console.specs.Output.{has_failed, IsHandedOn, FailedToWrite, Prints};
 ghost use Rattle.iocm_run.specs.Run.{answers_text, ran, ran_at};
 
 use iocm_answers::write_answer;
@@ -17,13 +17,14 @@ use std::io::Write;
 /// memory is taken before the first byte is written.
 ///
 /// M1, a refusal, which is printed: memory was missing.
-pub(crate) fn print_run<W: Write>(
+pub(crate) fn print_run<W: Write + Drop>(
     alloc: Global,
     operated: &Operated,
     output: &mut Output<W>,
 ) -> Result<Status, ConsoleError>
     ensures text { IfOk result (SaysIfMemory W.contents output.old output.new (ran operated.now)) }
     ensures works { OnOk result (has_failed output.new ≡ has_failed output.old) }
+    ensures handed_on { OnOk result (IsHandedOn output.new) }
     ensures fault { IfErr result (FailedToWrite output.new) }
 {
     match gather_cells(alloc, operated.closed.plant.numbers().cells()) {
@@ -50,13 +51,14 @@ impl fmt::Display for TraceLine {
 
 /// Prints the answers, how many calls were made, and the table at some number cells. Can't answer
 /// want of memory.
-fn print_lines<W: Write>(
+fn print_lines<W: Write + Drop>(
     operated: &Operated,
     cells: &[CellDevice],
     output: &mut Output<W>,
 ) -> Result<Status, ConsoleError>
     ensures text { IfOk result (Says W.contents output.old output.new (ran_at operated.now (celled cells.now))) }
     ensures works { OnOk result (has_failed output.new ≡ has_failed output.old) }
+    ensures handed_on { OnOk result (IsHandedOn output.new) }
     ensures fault { IfErr result (FailedToWrite output.new) }
 {
     print_answers(&operated.answers, output)?;
@@ -65,7 +67,10 @@ fn print_lines<W: Write>(
 }
 
 /// Prints answers, each behind the number of its line. Can't answer want of memory.
-fn print_answers<W: Write>(answers: &[Answered], output: &mut Output<W>) -> Result<(), ConsoleError>
+fn print_answers<W: Write + Drop>(
+    answers: &[Answered],
+    output: &mut Output<W>,
+) -> Result<(), ConsoleError>
     ensures text { OnOk result (Prints W.contents output.old output.new (answers_text answers.now)) }
     ensures works { OnOk result (has_failed output.new ≡ has_failed output.old) }
     ensures fault { IfErr result (FailedToWrite output.new) }

@@ -9,7 +9,7 @@ ghost use Rattle.iocm_tree.specs.Trees as plain;
 ghost use Rattle.iocm_tree.specs.Trees.{tree_of};
 ghost use Rattle.iocm_script.specs.Scripts.{FitsQueue, Rounds};
 ghost use Rattle.iocm_console.specs.Opening.{configuration_in};
-ghost use Rattle.iocm_console.specs.Output.{has_failed, FailedToWrite};
+ghost use Rattle.iocm_console.specs.Output.{has_failed, IsHandedOn, FailedToWrite};
 ghost use Rattle.iocm_apply.specs.Apply.{IsRefused, IsRefusedDeck};
 ghost use Rattle.iocm_run.specs.Run.{new_core, AreUnread, IsOfChanges, IsOfDeck, IsOfScript, IsOfTexts, IsRun, SaysOne};
 ghost use Rattle.iocm_run.specs.Texts.{AreTextsOf, IsTextOf};
@@ -25,7 +25,7 @@ use iocm_core::Core;
 use iocm_operation::operate;
 use iocm_script::{Script, read_script};
 use iocm_tree::Tree;
-use iocm_types::{At, Fault, Refused};
+use iocm_types::{Fault, Refused};
 use std::alloc::Global;
 use std::collections::VecDeque;
 use std::io::{Read, Write};
@@ -41,7 +41,7 @@ use std::thread::Threads;
 /// L5 (`ConsoleError::Read`): a read failed, or none of `limit` reads gave the end; nothing is
 /// written then. L6 (`ConsoleError::Write`): a write failed; what is written up to there is not
 /// said. All other faults, want of memory (M1) too, are refusals, which are printed.
-pub fn run_script<R: Read, C: Read + Drop, S: Read, W: Write, T: Threads + Wait + Sync>(
+pub fn run_script<R: Read, C: Read + Drop, S: Read, W: Write + Drop, T: Threads + Wait + Sync>(
     rt: &T,
     alloc: Global,
     heap: usize,
@@ -65,6 +65,7 @@ pub fn run_script<R: Read, C: Read + Drop, S: Read, W: Write, T: Threads + Wait 
         × IsTextOf S.remaining script.old lines
         × IfOk result (SaysOne W.contents output.old output.new (IsOfTexts text decks lines)) }
     ensures written { OnOk result (has_failed output.new ≡ false) }
+    ensures handed_on { OnOk result (IsHandedOn output.new) }
     ensures unreadable { result ≡ Err ConsoleError.Read → StopsShort deck.new (reads_of deck.old + limit)
         ⊎ ((changes.items ≢ []) ⊎ StopsShort script.new (reads_of script.old + limit)) }
     ensures first { IfSome (R.remaining (reader_of deck.old)) (λ bytes. IsRefusedDeck bytes
@@ -84,7 +85,7 @@ pub fn run_script<R: Read, C: Read + Drop, S: Read, W: Write, T: Threads + Wait 
 
 /// Runs a script, as far as it and its change decks are there, on the machine of the lines of a
 /// deck.
-fn run_on_deck<W: Write, T: Threads + Wait + Sync>(
+fn run_on_deck<W: Write + Drop, T: Threads + Wait + Sync>(
     rt: &T,
     alloc: Global,
     deck: &[Card],
@@ -97,6 +98,7 @@ fn run_on_deck<W: Write, T: Threads + Wait + Sync>(
         → GivesIfReadable (λ v. map tree_of v.items) trees ts → GivesIfReadable (λ s. s) script rounds
         → IfOk result (SaysOne W.contents output.old output.new (IsOfDeck (configuration_in deck.now) ts rounds)) }
     ensures works { OnOk result (has_failed output.new ≡ has_failed output.old) }
+    ensures handed_on { OnOk result (IsHandedOn output.new) }
     ensures unreadable { result ≡ Err ConsoleError.Read → AreUnread trees script }
     ensures first { IsRefused (configuration_in deck.now) → result ≡ Err ConsoleError.Read → ⊥ }
     ensures untouched { result ≡ Err ConsoleError.Read → output.new ≡ output.old }
@@ -109,7 +111,7 @@ fn run_on_deck<W: Write, T: Threads + Wait + Sync>(
 }
 
 /// Runs a script, as far as it and its change decks are there, on the machine of a configuration.
-fn run_on_config<W: Write, T: Threads + Wait + Sync>(
+fn run_on_config<W: Write + Drop, T: Threads + Wait + Sync>(
     rt: &T,
     alloc: Global,
     config: Config,
@@ -122,6 +124,7 @@ fn run_on_config<W: Write, T: Threads + Wait + Sync>(
         → GivesIfReadable (λ v. map tree_of v.items) trees ts → GivesIfReadable (λ s. s) script rounds
         → IfOk result (SaysOne W.contents output.old output.new (IsOfDeck (Ok config.records) ts rounds)) }
     ensures works { OnOk result (has_failed output.new ≡ has_failed output.old) }
+    ensures handed_on { OnOk result (IsHandedOn output.new) }
     ensures unreadable { result ≡ Err ConsoleError.Read → AreUnread trees script }
     ensures first { IsRefused (Ok config.records) → result ≡ Err ConsoleError.Read → ⊥ }
     ensures untouched { result ≡ Err ConsoleError.Read → output.new ≡ output.old }
@@ -147,7 +150,7 @@ fn lines_of(script: &Script) -> usize {
 }
 
 /// Runs a script, as far as it and its change decks are there, on a core.
-fn run_on_core<W: Write, T: Threads + Wait + Sync>(
+fn run_on_core<W: Write + Drop, T: Threads + Wait + Sync>(
     rt: &T,
     alloc: Global,
     core: Core,
@@ -162,6 +165,7 @@ fn run_on_core<W: Write, T: Threads + Wait + Sync>(
         → GivesIfReadable (λ v. map tree_of v.items) trees ts → GivesIfReadable (λ s. s) script rounds
         → IfOk result (SaysOne W.contents output.old output.new (IsOfChanges config ts rounds)) }
     ensures works { OnOk result (has_failed output.new ≡ has_failed output.old) }
+    ensures handed_on { OnOk result (IsHandedOn output.new) }
     ensures unreadable { result ≡ Err ConsoleError.Read → AreUnread trees script }
     ensures untouched { result ≡ Err ConsoleError.Read → output.new ≡ output.old }
     ensures unwritable { result ≡ Err ConsoleError.Write → has_failed output.new ≡ true }
@@ -173,7 +177,7 @@ fn run_on_core<W: Write, T: Threads + Wait + Sync>(
 }
 
 /// Runs a script, as far as it is there, on a core.
-fn run_with_trees<W: Write, T: Threads + Wait + Sync>(
+fn run_with_trees<W: Write + Drop, T: Threads + Wait + Sync>(
     rt: &T,
     alloc: Global,
     core: Core,
@@ -186,6 +190,7 @@ fn run_with_trees<W: Write, T: Threads + Wait + Sync>(
         → core ≡ new_core config room → GivesIfReadable (λ s. s) script rounds
         → IfOk result (SaysOne W.contents output.old output.new (IsOfScript config (map tree_of trees.now) rounds)) }
     ensures works { OnOk result (has_failed output.new ≡ has_failed output.old) }
+    ensures handed_on { OnOk result (IsHandedOn output.new) }
     ensures unreadable { result ≡ Err ConsoleError.Read → script ≡ Err unreadable }
     ensures untouched { result ≡ Err ConsoleError.Read → output.new ≡ output.old }
     ensures unwritable { result ≡ Err ConsoleError.Write → has_failed output.new ≡ true }
@@ -197,7 +202,7 @@ fn run_with_trees<W: Write, T: Threads + Wait + Sync>(
 }
 
 /// Runs a script on a core.
-fn play<W: Write, T: Threads + Wait + Sync>(
+fn play<W: Write + Drop, T: Threads + Wait + Sync>(
     rt: &T,
     alloc: Global,
     core: Core,
@@ -209,17 +214,11 @@ fn play<W: Write, T: Threads + Wait + Sync>(
     ensures text { (config : configuration.Configuration) (room : ℕ) → core ≡ new_core config room
         → IfOk result (SaysOne W.contents output.old output.new (IsRun config (map tree_of trees.now) script.now)) }
     ensures works { OnOk result (has_failed output.new ≡ has_failed output.old) }
+    ensures handed_on { OnOk result (IsHandedOn output.new) }
     ensures fault { IfErr result (FailedToWrite output.new) }
 {
     match operate(rt, alloc, core, trees, script) {
         Ok(operated) => print_run(alloc, &operated, output),
-        Err(rule) => refuse_change(
-            Refused {
-                rule,
-                node: None,
-                at: At::Nothing,
-            },
-            output,
-        ),
+        Err(rule) => refuse_change(Refused::of(rule), output),
     }
 }
