@@ -108,8 +108,11 @@ def in_a_cycle(source, first):
 
 
 def applied(text, read):
-    """The texts of the files that an edit changes, by path."""
+    """The texts of the files that an edit changes, by path; None where a text that it quotes isn't there just once."""
     texts = {}
     for path, old, new in pairs_of(text):
-        texts[path] = (texts.get(path) or read(path)).replace(old, new)
+        now = texts.get(path) or read(path)
+        if now.count(old) != 1:
+            return None
+        texts[path] = now.replace(old, new)
     return texts

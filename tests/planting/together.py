@@ -5,6 +5,7 @@ from . import places
 
 ERROR = re.compile(r"^(?:note: )?(?:\./)?(\S+?):(\d+):\d+: (.*)")
 FORM = re.compile(r"has no field|is not in scope|has no `|was not admitted")
+BY_FORM = "refused by its proof's form alone"
 GOAL = re.compile(r"\(`([\w.+-]+)`\)|^error: `([\w.+-]+)`")
 
 
@@ -46,16 +47,17 @@ def verdict_on(functions, crate, output, proved):
         return None
     of_contract = [it for it in lines if not FORM.search(it)]
     if not of_contract:
-        return f"refused by its proof's form alone: {lines[0][:160]}"
+        return f"{BY_FORM}: {lines[0][:160]}"
     goals = [found[1] or found[2] for found in map(GOAL.search, of_contract) if found]
     return f"refused at {', '.join(dict.fromkeys(goals))}" if goals else f"refused: {of_contract[0][:160]}"
 
 
 def verdicts(batch, crate, output):
-    """The verdicts on the edits of a batch, as far as a check's output gives them; None where nothing was proved at all."""
+    """The verdicts on the edits of a batch, as far as a check's output gives them; None where nothing was proved at all. A name that a
+    proof lacks may be lacking for another edit of the batch, so only an edit that is tried by itself is refused for that."""
     lines = output.split("\n")
     if not any(it.startswith(("logic=", "only=")) for it in lines):
         return None
     proved = {it[len("fn ") : -len(": proved")] for it in lines if it.startswith("fn ") and it.endswith(": proved")}
     found = {edit: verdict_on(functions, crate, lines, proved) for edit, functions in batch.items()}
-    return {edit: verdict for edit, verdict in found.items() if verdict}
+    return {edit: verdict for edit, verdict in found.items() if verdict and (len(batch) == 1 or not verdict.startswith(BY_FORM))}
