@@ -1,4 +1,4 @@
--- What an activation gives: the edits that were performed, and the tree that takes them back. Own.
+-- What an activation gives: the edits that were performed, and the tree that takes them back.
 use Rattle.std.specs.Prelude.{◌≡◌, List, [], ◌∷◌, map, Option, None, Some, Ok, Err}
 use Rattle.iocm_types.specs.declared.refused.Refused.{Refused}
 use Rattle.iocm_model.specs.Operation.State.{State}

@@ -1,5 +1,5 @@
 -- The effect of a change as it stands in memory: tables of the cells that it wrote, with their
--- values. Own.
+-- values.
 use Rattle.std.specs.Prelude.{List, [], ◌∷◌, map, Option}
 use Rattle.std.specs.List.{flat_map}
 use Rattle.std.specs.declared.cmp.Ordering.{Ordering}

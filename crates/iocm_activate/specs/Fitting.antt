@@ -1,5 +1,5 @@
 -- Whether edits that take others back do so in a state: each undoes just what the other one did,
--- number cell by number cell and view by view. Own.
+-- number cell by number cell and view by view.
 use Rattle.std.specs.Prelude.{◌≡◌, ◌==◌, Bool, ◌&&◌, not, if◌then◌else◌, Option, None, Some, List, [], ◌∷◌, reverse}
 use Rattle.std.specs.Option.{option_eq, option_and_then}
 use Rattle.std.specs.Ordering.{eq_by_cmp}

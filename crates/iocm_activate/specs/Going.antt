@@ -1,4 +1,4 @@
--- In the middle of a node's parts. Own.
+-- In the middle of a node's parts.
 use Rattle.std.specs.Prelude.{◌≡◌, ℕ, []}
 use Rattle.iocm_types.specs.declared.refused.Refused.{Refused}
 use Rattle.iocm_model.specs.Change.Meaning.{Outcome, after_run, parts_meaning, choice_meaning}

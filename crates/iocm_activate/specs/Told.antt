@@ -1,5 +1,4 @@
 -- What is kept of edits that were performed: what each changed, and the edits that take them back.
--- Own.
 use Rattle.std.specs.Prelude.{◌≡◌, List, [], ◌∷◌, ◌++◌}
 use Rattle.iocm_types.specs.declared.key.Key.{Key}
 use Rattle.iocm_model.specs.Operation.State.{State, views_in}

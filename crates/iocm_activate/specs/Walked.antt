@@ -1,5 +1,5 @@
 -- A walk through a part of a change tree: what it did to the machine, what it kept of that, and
--- what it answered. Own.
+-- what it answered.
 use Rattle.std.specs.Prelude.{◌≡◌, ◌≤◌, List, ◌++◌, map, drop, length, Option, None, Some, Ok, Err}
 use Rattle.iocm_types.specs.declared.refused.Refused.{Refused}
 use Rattle.iocm_model.specs.Operation.State.{State, IsSound}

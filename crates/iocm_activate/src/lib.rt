@@ -11,7 +11,7 @@
 //! `meaning`, a refused tree leaves the state as it was, and the inverse tree takes the change
 //! back, by its meaning and, edit by edit, without memory. Begin with `specs/Told.antt` and
 //! `specs/Walked.antt`, then `activation.rt` and `walk.rt`; of `fits` with `specs/Fitting.antt`,
-//! then `fitting.rt`.
+//! then `fitting.rt`. What names no source is our own.
 #![tactic(auto)]
 
 mod activation;

@@ -1,5 +1,5 @@
 -- Which places and images a change may affect: those at which a device may come in or leave, or be
--- seen differently. Own.
+-- seen differently.
 use Rattle.std.specs.Prelude.{◌≡◌, ℕ, ◌<◌, true, false, List, Option, is_some}
 use Rattle.std.specs.List.{list_any}
 use Rattle.std.specs.Option.{option_and_then}

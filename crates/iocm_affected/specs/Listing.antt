@@ -1,4 +1,4 @@
--- The places that a key leads to by who names whom, and the images that look at its record. Own.
+-- The places that a key leads to by who names whom, and the images that look at its record.
 use Rattle.std.specs.Prelude.{◌≡◌, ℕ, ◌==◌, ◌&&◌, Bool, true, List, [], ◌∷◌, ◌++◌, map, Option, Some, if◌then◌else◌}
 use Rattle.std.specs.List.{flat_map, list_any}
 use Rattle.std.specs.Ordering.{eq_by_cmp}

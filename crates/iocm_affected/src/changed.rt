@@ -17,7 +17,7 @@ use iocm_types::{Image, Key, Place, sorted_once};
 use std::alloc::{AllocError, Allocator, Global};
 
 /// The places and the images that a change may affect: at other places, and to other images,
-/// everything is as before. Own.
+/// everything is as before.
 #[derive(Drop)]
 pub struct Affected<A: Allocator = Global> {
     /// The places at which a device may come in, leave or be seen differently, rising.

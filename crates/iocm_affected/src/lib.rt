@@ -11,7 +11,7 @@
 //! such an image was there before, no device of its channel subsystem comes in or leaves. More may
 //! be listed than changes.
 //!
-//! Begin with `specs/Affected.antt`, then `changed.rt`.
+//! Begin with `specs/Affected.antt`, then `changed.rt`. What names no source is our own.
 #![tactic(auto)]
 
 mod changed;

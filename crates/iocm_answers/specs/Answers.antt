@@ -1,4 +1,4 @@
--- What `run` prints of each answer: a line that begins with the number of the script's line. Own.
+-- What `run` prints of each answer: a line that begins with the number of the script's line.
 -- Bytes by their codes: 10 ends a line.
 use Rattle.std.specs.Prelude.{ℕ, true, false, List, [], ◌∷◌, ◌++◌, codes}
 use Rattle.std.specs.Fmt.{decimal}

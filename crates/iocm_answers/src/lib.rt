@@ -6,7 +6,8 @@
 //!
 //! Begin with `specs/Answers.antt`, a table with a row for each kind of answer; then `answer.rt`,
 //! which has the same rows, and `line.rt`. `specs/Worked.antt` has lines that were worked by hand,
-//! at least one of each kind; the functions of `examples.rt` hold the table to them.
+//! at least one of each kind; the functions of `examples.rt` hold the table to them. What names no
+//! source is our own.
 #![tactic(auto)]
 
 mod answer;

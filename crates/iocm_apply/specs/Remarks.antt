@@ -1,4 +1,4 @@
--- What comes along with an edit and no statement says, in comments of a change deck. Own.
+-- What comes along with an edit and no statement says, in comments of a change deck.
 -- Bytes by their codes: 10 ends a line.
 use Rattle.std.specs.Prelude.{ℕ, List, [], ◌∷◌, ◌++◌, codes}
 use Rattle.std.specs.FinMap.{entries}

@@ -1,5 +1,5 @@
 -- The change deck that takes a change back: the statements of its tree, and behind them, in
--- comments, what comes along with its edits. Own.
+-- comments, what comes along with its edits.
 use Rattle.std.specs.Prelude.{ℕ, List, [], ◌∷◌, ◌++◌}
 use Rattle.std.specs.List.{flat_map}
 use Rattle.iocm_columns.specs.Written.{deck_bytes}

@@ -9,7 +9,7 @@
 //! come before those of the change deck.
 //!
 //! Begin with `specs/Apply.antt`, then `apply.rt`, `change.rt` and `printing.rt`; of the way back
-//! with `specs/WayBack.antt`, then `back.rt` and `remarks.rt`.
+//! with `specs/WayBack.antt`, then `back.rt` and `remarks.rt`. What names no source is our own.
 #![tactic(auto)]
 
 mod apply;

@@ -1,5 +1,5 @@
 -- Names of seats. A name is a list of numbers: the first seat bears the empty one, and the name
--- that a seat lends is its own first name with the count of those lent before at the end. Own.
+-- that a seat lends is its own first name with the count of those lent before at the end.
 use Rattle.std.specs.Prelude.{◌≡◌, ℕ, zero, suc, ◌<◌, ◌==◌, Bool, true, false}
 use Rattle.std.specs.Prelude.{cond, ◌&&◌, ◌||◌, ◌⊎◌, List, [], ◌∷◌, ◌++◌}
 use mathlib.Core.Option.{some}

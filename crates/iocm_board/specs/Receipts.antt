@@ -1,4 +1,4 @@
--- Receipts: the calls of a seat, each with its number in the trace. Own.
+-- Receipts: the calls of a seat, each with its number in the trace.
 use Rattle.std.specs.Prelude.{ℕ, suc, cond, nat_lt, List, [], ◌∷◌, map}
 use Rattle.iocm_core.specs.declared.trace.Entry.{Entry}
 use Rattle.iocm_board.specs.declared.view.Borne.{Borne}

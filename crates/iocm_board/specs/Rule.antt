@@ -1,5 +1,4 @@
 -- The board's rule: what holds of its word and of the views of all seats, between any two steps.
--- Own.
 use Rattle.std.specs.Prelude.{◌≡◌, ℕ, ◌+◌, ◌<◌, ◌≤◌, true, List, [], ◌∷◌, ◌++◌, length, map}
 use Rattle.std.specs.List.{AllByRecursion}
 use mathlib.Core.Option.{some}

@@ -1,4 +1,4 @@
--- A seat that was joined to another one knows nothing more, and its core is no board's. Own.
+-- A seat that was joined to another one knows nothing more, and its core is no board's.
 use Rattle.std.specs.Prelude.{false, []}
 use Rattle.std.specs.FinMap.{empty}
 use Rattle.atomic_table.specs.Seated.{TableId}

@@ -1,4 +1,4 @@
--- What the steps on the word tell the seat that makes them. Own.
+-- What the steps on the word tell the seat that makes them.
 use Rattle.std.specs.Prelude.{◌≡◌, ℕ, ◌≤◌, true, List, ◌++◌, length}
 use mathlib.Core.Option.{Option, none, some}
 use Rattle.atomic_table.specs.Table.{Me, Step}

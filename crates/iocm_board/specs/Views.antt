@@ -1,4 +1,4 @@
--- What each step makes of the views of its seats. Own.
+-- What each step makes of the views of its seats.
 use Rattle.std.specs.Prelude.{ℕ, suc, max, true, false, cond, ◌||◌, [], ◌∷◌, ◌++◌, length}
 use Rattle.iocm_core.specs.Seen as seen
 use Rattle.iocm_core.specs.declared.trace.Entry.{Entry}

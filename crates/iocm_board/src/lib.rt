@@ -12,7 +12,7 @@
 //! `compare`: the receipts of a whole seat are all entries since the board was made, each at its
 //! number, once.
 //!
-//! Begin with `view.rt`, `specs/Views.antt` and `specs/Rule.antt`.
+//! Begin with `view.rt`, `specs/Views.antt` and `specs/Rule.antt`. What names no source is our own.
 #![tactic(auto)]
 
 mod blank;

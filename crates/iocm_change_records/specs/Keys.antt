@@ -1,4 +1,4 @@
--- The keys of a DELETE statement; the operands that give none are ignored. Own.
+-- The keys of a DELETE statement; the operands that give none are ignored.
 use Rattle.std.specs.Prelude.{ℕ, ◌+◌, if◌then◌else◌, Option, None, Some, List, [], ◌∷◌, map, Result, Ok, Err}
 use Rattle.std.specs.List.{range_with_len}
 use Rattle.iocm_types.specs.declared.css_path.CssPath.{CssPath}

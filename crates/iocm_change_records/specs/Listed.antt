@@ -1,5 +1,5 @@
 -- Whether both lists of a path are written, judged by shape alone: a SHARED or REC path of a change
--- deck wants both. Own.
+-- deck wants both.
 use Rattle.std.specs.Prelude.{ℕ, ◌-◌, ◌&&◌, ◌||◌, nat_le, Bool, not, if◌then◌else◌}
 use Rattle.std.specs.Prelude.{List, [], ◌∷◌, length, take, codes, unwrap_or}
 use Rattle.std.specs.List.{list_any}

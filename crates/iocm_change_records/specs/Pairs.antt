@@ -1,4 +1,4 @@
--- ONLINE PATH=(CSS(n),cc),PARTITION=(names): pairs of a path and an image's name. Own.
+-- ONLINE PATH=(CSS(n),cc),PARTITION=(names): pairs of a path and an image's name.
 use Rattle.std.specs.Prelude.{ℕ, ◌||◌, Bool, true, false, not, if◌then◌else◌, Option}
 use Rattle.std.specs.Prelude.{None, Some, List, map, Result, Ok, Err, codes}
 use Rattle.std.specs.List.{list_any}

@@ -1,4 +1,4 @@
--- The keys of DELETE RESOURCE: images by channel subsystem and digit, limits by their places. Own.
+-- The keys of DELETE RESOURCE: images by channel subsystem and digit, limits by their places.
 use Rattle.std.specs.Prelude.{ℕ, ◌==◌, Bool, true, false, if◌then◌else◌, Option, None, Some, List}
 use Rattle.std.specs.Prelude.{[], ◌∷◌, ◌++◌, map, length, Result, Ok, codes}
 use Rattle.std.specs.Option.{option_map}

@@ -1,5 +1,5 @@
 -- The operands by which a statement says which records it is about: all that a DELETE looks at, and
--- all that ONLINE knows. Own.
+-- all that ONLINE knows.
 use Rattle.std.specs.Prelude.{Bool, false, List, [], ◌∷◌, codes}
 use Rattle.std.specs.List.{list_any}
 use Rattle.std.specs.Option.{option_map_or}

@@ -1,4 +1,4 @@
--- The verbs of change decks: what the name field of a statement says. Own.
+-- The verbs of change decks: what the name field of a statement says.
 use Rattle.std.specs.Prelude.{ℕ, if◌then◌else◌, Option, None, Some, List, codes}
 use Rattle.std.specs.Str.{bytes_eq}
 use Rattle.iocm_tree.specs.declared.verb.Verb.{Verb}

@@ -8,7 +8,8 @@
 //! text; the records lie under any allocator. What a tree of such statements is stands in
 //! `iocm_tree_reader`.
 //!
-//! Begin with `specs/Whole.antt` and `specs/Keys.antt`, then `whole.rt` and `keys.rt`.
+//! Begin with `specs/Whole.antt` and `specs/Keys.antt`, then `whole.rt` and `keys.rt`. What names
+//! no source is our own.
 #![tactic(auto)]
 
 mod image_keys;

@@ -1,4 +1,4 @@
--- Digits that several printed lines have. Own.
+-- Digits that several printed lines have.
 use Rattle.std.specs.Prelude.{ℕ, ◌-◌, ◌^◌, Bool, true, false, if◌then◌else◌, List, []}
 use Rattle.std.specs.Fmt.{decimal, digits, format_spec, padded_integral}
 

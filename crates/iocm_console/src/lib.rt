@@ -13,7 +13,7 @@
 //! Begin with `specs/Command.antt`, which says what each command means, then `opening.rt`,
 //! `command.rt` and a file a command: `accepted.rt`, `table.rt`, `canonical.rt`. `row.rt` puts a
 //! line of the table together, digit by digit; `refusal.rt` has that of a refusal, as `Display`
-//! states it.
+//! states it. What names no source is our own.
 #![tactic(auto)]
 
 mod accepted;

@@ -1,4 +1,4 @@
--- What the acceptance of a change, or its beginning, does to an installation. Own.
+-- What the acceptance of a change, or its beginning, does to an installation.
 use Rattle.std.specs.Prelude.{◌≡◌, ◌<◌, ℕ, ◌+◌, [], ◌∷◌, ◌++◌, length, Ok, Some, None}
 use Rattle.std.specs.Vec.{vec_len, vec_capacity}
 use Rattle.iocm_model.specs.Operation.State.{State}

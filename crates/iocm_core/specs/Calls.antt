@@ -1,4 +1,4 @@
--- Calls in memory, as the history's. Own.
+-- Calls in memory, as the history's.
 use Rattle.iocm_model.specs.Operation.Step.{order, device_begin, device_end}
 use Rattle.iocm_history.specs.Entry as history
 use Rattle.iocm_tree.specs.Trees.{plain_tree, tree_of}

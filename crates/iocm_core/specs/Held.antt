@@ -1,4 +1,4 @@
--- What always holds of a core. Own.
+-- What always holds of a core.
 use Rattle.std.specs.Prelude.{◌≤◌, ℕ, List, length}
 use Rattle.std.specs.List.{AllByRecursion}
 use Rattle.iocm_model.specs.Operation.State.{State}

@@ -1,4 +1,4 @@
--- A call that was recorded. Own.
+-- A call that was recorded.
 use Rattle.std.specs.Prelude.{◌≡◌, ◌∷◌}
 use Rattle.iocm_types.specs.declared.answer.Answer.{Answer}
 use Rattle.iocm_history.specs.Entry.{Call, Entry}

@@ -1,5 +1,5 @@
 -- An installation, which is a machine in operation with its journal and what is staged, beside the
--- history that it is of. Own.
+-- history that it is of.
 use Rattle.std.specs.Prelude.{◌≡◌, Option, None, Some, ◌∷◌}
 use Rattle.iocm_types.specs.declared.answer.Answer.{Answer}
 use Rattle.iocm_model.specs.Operation.State.{State}

@@ -1,4 +1,4 @@
--- The core as callers see it. Own.
+-- The core as callers see it.
 use Rattle.std.specs.Prelude.{ℕ, List}
 use Rattle.iocm_model.specs.Operation.State.{State}
 use Rattle.iocm_history.specs.Entry.{History}

@@ -1,4 +1,4 @@
--- What a trace tells: its entries, the latest first, each with what its change wrote. Own.
+-- What a trace tells: its entries, the latest first, each with what its change wrote.
 use Rattle.std.specs.Prelude.{◌≡◌, ℕ, ◌+◌, ◌-◌, ◌≤◌, List, [], ◌∷◌, ◌++◌, length, map, reverse}
 use Rattle.std.specs.List.{slice_get}
 use Rattle.std.specs.Option.{option_map_or}

@@ -2,7 +2,7 @@ use iocm_tree::Tree;
 use iocm_types::{Order, SubId};
 
 /// What is asked of a machine. A change tree stands in a box, so that a call without one is small
-/// in the trace. Own.
+/// in the trace.
 #[derive(Drop)]
 pub enum Call {
     /// An order of an image on its subchannel.

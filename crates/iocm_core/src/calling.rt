@@ -72,7 +72,7 @@ impl Model for Core {
         (vec_capacity c.entries) };
 }
 
-/// That a call was not made, since the trace has no room for it. Own.
+/// That a call was not made, since the trace has no room for it.
 #[derive(Drop)]
 pub struct Full {
     /// The call, handed back.

@@ -14,7 +14,7 @@ use crate::{Core, Trace};
 use iocm_plant::Plant;
 use iocm_stage::Staged;
 
-/// A machine that is closed, with its trace. Own.
+/// A machine that is closed, with its trace.
 #[derive(Drop)]
 pub struct Closed {
     /// The machine, in the state to which its history leads.

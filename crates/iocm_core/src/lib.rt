@@ -11,7 +11,7 @@
 //! definition of histories gives, or, of an activation, a Begin, an undo or a redo, want of memory;
 //! and the machine is in the state to which its history leads, once a change that is staged is
 //! given up. Begin with `specs/Running.antt` and `specs/Seen.antt`, then `calling.rt` and
-//! `installation.rt`.
+//! `installation.rt`. What names no source is our own.
 #![tactic(auto)]
 
 mod accepting;

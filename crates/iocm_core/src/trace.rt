@@ -3,7 +3,7 @@ use iocm_activate::Effect;
 use iocm_config::Config;
 use iocm_types::Answer;
 
-/// A call with its answer. Own.
+/// A call with its answer.
 pub struct Entry {
     /// What was asked.
     pub call: Call,
@@ -20,7 +20,7 @@ impl Drop for Entry {
     }
 }
 
-/// What was asked of a machine, and answered, in order. Own.
+/// What was asked of a machine, and answered, in order.
 #[derive(Drop)]
 pub struct Trace {
     /// The configuration with which the machine was opened.

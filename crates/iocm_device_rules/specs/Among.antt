@@ -1,4 +1,4 @@
--- Devices that clash only at some keys. Own.
+-- Devices that clash only at some keys.
 use Rattle.std.specs.Prelude.{◌≡◌, ◌&&◌, ◌||◌, true, List, Some}
 use Rattle.iocm_types.specs.declared.key.Key.{Key}
 use Rattle.iocm_model.specs.Machine.Record.{DeviceRecord, device}

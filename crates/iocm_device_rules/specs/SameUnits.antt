@@ -1,4 +1,4 @@
--- Devices on the same units. Own.
+-- Devices on the same units.
 use Rattle.std.specs.Prelude.{◌≡◌, ℕ, List, Option, None, Some}
 use Rattle.iocm_model.specs.Machine.Record.{Rec, device}
 

@@ -19,7 +19,7 @@ use iocm_types::{Key, Named, UnitNo};
 use std::alloc::Allocator;
 
 /// V10: a device with a smaller key has the same unit address and a common unit. So no unit address
-/// of a unit is that of two devices. Own.
+/// of a unit is that of two devices.
 ///
 /// The key of the first device that breaks it, if one does; V8 is kept, so each unit that a device
 /// names is there. It goes unit by unit: of a unit's devices in order the first whose address was

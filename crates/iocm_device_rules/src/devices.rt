@@ -99,7 +99,7 @@ fn is_unit_missing<A: Allocator>(config: &Config<A>, units: &[UnitNo]) -> bool
     false
 }
 
-/// V9: the ranges of one of a device's units don't hold its unit address. Own.
+/// V9: the ranges of one of a device's units don't hold its unit address.
 #[derive(Drop)]
 pub struct AddressNotHeld;
 
@@ -165,7 +165,7 @@ fn record_lacks_address<A: Allocator>(address: u8, entry: &Record<A>) -> bool
     }
 }
 
-/// V12: a candidate of a device is no image of any channel subsystem. Own.
+/// V12: a candidate of a device is no image of any channel subsystem.
 #[derive(Drop)]
 pub struct CandidateOfNoImage;
 

@@ -12,7 +12,7 @@
 //! `first_wanted_among` of `iocm_lookup` and `first_address_twice_among` answer the same, and look
 //! at these keys alone.
 //!
-//! Begin with `devices.rt`, then `addresses.rt`, then `among.rt`.
+//! Begin with `devices.rt`, then `addresses.rt`, then `among.rt`. What names no source is our own.
 #![tactic(auto)]
 
 mod addresses;

@@ -16,7 +16,7 @@ use std::alloc::Allocator;
 
 /// V13: in some channel subsystem the subchannel number of a device is at or above the limit of its
 /// set there. Without a limit that is 65,280 in set 0 and 65,535 in the others (IOCP User's Guide,
-/// MAXDEV keyword). Own.
+/// MAXDEV keyword).
 #[derive(Drop)]
 pub struct NumberPastLimit<'a, N: Allocator> {
     pub numbers: &'a Numbers<N>,

@@ -1,4 +1,4 @@
--- What a history comes to: its entries with their marks, what is staged, and the state. Own.
+-- What a history comes to: its entries with their marks, what is staged, and the state.
 use Rattle.std.specs.Prelude.{ℕ, List, [], ◌∷◌, Option, None, Some}
 use Rattle.std.specs.FinMap.{get}
 use Rattle.iocm_types.specs.declared.answer.Answer.{Answer}

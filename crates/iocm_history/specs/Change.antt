@@ -1,5 +1,4 @@
 -- An accepted change: the edits that were performed, and the state that they were performed in.
--- Own.
 use Rattle.std.specs.Prelude.{Bool, ◌||◌, List, [], Ok, Err}
 use Rattle.std.specs.List.{list_any}
 use Rattle.std.specs.FinMap.{keys, contains_key}

@@ -1,4 +1,4 @@
--- Calls, and the entries of a history. A history is a list of entries, the latest first. Own.
+-- Calls, and the entries of a history. A history is a list of entries, the latest first.
 use Rattle.std.specs.Prelude.{ℕ, List}
 use Rattle.std.specs.FinMap.{empty}
 use Rattle.iocm_types.specs.declared.answer.Answer.{Answer}

@@ -1,5 +1,5 @@
 -- Whether a change fits a state: its inverse edits, performed there whether subchannels are quiet
--- or not, take back edit by edit just what the edits did, and the rules hold at the end. Own.
+-- or not, take back edit by edit just what the edits did, and the rules hold at the end.
 use Rattle.std.specs.Prelude.{◌==◌, Bool, false, ◌&&◌, ◌||◌, not, if◌then◌else◌}
 use Rattle.std.specs.Prelude.{Option, None, Some, List, [], ◌∷◌, ◌++◌}
 use Rattle.std.specs.List.{list_all}

@@ -1,4 +1,4 @@
--- Which changes stand, which are undone, and which are past. Own.
+-- Which changes stand, which are undone, and which are past.
 use Rattle.std.specs.Prelude.{ℕ, ◌==◌, nat_le, Bool, ◌&&◌, not, List, [], ◌∷◌, filter}
 use Rattle.std.specs.List.{list_any}
 use Rattle.iocm_types.specs.declared.answer.Answer.{Answer}

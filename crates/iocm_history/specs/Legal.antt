@@ -1,4 +1,4 @@
--- Which entry a call makes after a history, and legal histories. Own.
+-- Which entry a call makes after a history, and legal histories.
 use Rattle.std.specs.Prelude.{◌≡◌, ◌⊎◌, ℕ, ◌+◌, ◌==◌, length, nat_lt, Bool, true, false, not, ◌&&◌}
 use Rattle.std.specs.Prelude.{if◌then◌else◌, Option, None, Some, is_none, List, [], ◌∷◌, Ok, Err}
 use Rattle.std.specs.FinMap.{len}

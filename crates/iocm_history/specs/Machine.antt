@@ -1,5 +1,4 @@
 -- The machine after a history, as images see it: a change in stages shows what was advanced of it.
--- Own.
 use Rattle.std.specs.Prelude.{ℕ, List, [], take, length, Option, None, Some}
 use Rattle.iocm_model.specs.Operation.State.{State}
 use Rattle.iocm_model.specs.Change.Edit.{Edit}

@@ -1,4 +1,4 @@
--- Which entries of a history are struck, and by which undo. Own.
+-- Which entries of a history are struck, and by which undo.
 use Rattle.std.specs.Prelude.{ℕ, ◌==◌, Bool, true, false, if◌then◌else◌, Option, None, Some, List, [], ◌∷◌, map}
 use Rattle.std.specs.FinMap.{empty, insert}
 use Rattle.iocm_types.specs.declared.answer.Answer.{Answer}

@@ -1,5 +1,5 @@
 -- What tells which changes stand on a change: which stand, when each was last undone, and which
--- cells they share. Own.
+-- cells they share.
 use Rattle.std.specs.Prelude.{ℕ, ◌==◌, Bool, false, if◌then◌else◌, Option, None, Some, [], ◌∷◌}
 use Rattle.iocm_types.specs.declared.answer.Answer.{Answer}
 use Rattle.iocm_types.specs.declared.answer.Answer.TheVariants as answers

@@ -1,5 +1,5 @@
 -- A change in stages: it is begun, advanced edit by edit, and then committed or aborted. Meanwhile
--- it holds the subchannels that it alters. Own.
+-- it holds the subchannels that it alters.
 use Rattle.std.specs.Prelude.{ℕ, ◌+◌, ◌-◌, Bool, false, length, Option, None, Some}
 use Rattle.iocm_types.specs.declared.answer.Answer.{Answer}
 use Rattle.iocm_types.specs.declared.answer.Answer.TheVariants as answers

@@ -1,4 +1,4 @@
--- Which changes stand on a change, and so have to be undone before it. Own.
+-- Which changes stand on a change, and so have to be undone before it.
 use Rattle.std.specs.Prelude.{ℕ, nat_lt, max, fold, map, filter, Bool, true, false, ◌&&◌, not}
 use Rattle.std.specs.Prelude.{if◌then◌else◌, Option, None, Some, List, [], ◌∷◌, ◌++◌}
 use Rattle.iocm_model.specs.Operation.State.{State}

@@ -1,6 +1,6 @@
 -- The cells of a state: records by key, devices by number cell, live records by subchannel. Undo
 -- strikes out changes that others followed, and then a device may stand in two number cells for a
--- while: a history is replayed on cells, and read as a state at its end. Own.
+-- while: a history is replayed on cells, and read as a state at its end.
 use Rattle.std.specs.Prelude.{ℕ}
 use Rattle.std.specs.FinMap.{FinMap, entries}
 use Rattle.iocm_types.specs.Place.{cell_cmp}

@@ -17,7 +17,7 @@
 //! of most.
 //!
 //! Begin reading at `specs/Legal.antt`, which has the answer to each call. Runs of calls that were
-//! worked by hand stand in `iocm_examples`.
+//! worked by hand stand in `iocm_examples`. What names no source is our own.
 #![tactic(auto)]
 
 mod history_laws;

@@ -1,5 +1,5 @@
 -- Who names whom: the namings of a record, the set of namings that an index holds, and the users of
--- a thing. Own.
+-- a thing.
 use Rattle.std.specs.Prelude.{◌≡◌, Bool, List, [], ◌∷◌, map, filter, if◌then◌else◌}
 use Rattle.std.specs.List.{AllByRecursion, list_any}
 use Rattle.std.specs.Ordering.{eq_by_cmp}

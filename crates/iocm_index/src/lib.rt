@@ -7,7 +7,7 @@
 //! `room`: what was unlinked can be linked again. An index of many records is built at once:
 //! `list_namings` lists what they name, and `Index::from_namings` sorts it.
 //!
-//! Begin with `specs/Namings.antt`, then `index.rt`.
+//! Begin with `specs/Namings.antt`, then `index.rt`. What names no source is our own.
 #![tactic(auto)]
 
 mod build;

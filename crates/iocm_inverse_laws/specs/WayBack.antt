@@ -1,4 +1,4 @@
--- One edit of a machine, and its way back directly after it: the whole machine is as it was. Own.
+-- One edit of a machine, and its way back directly after it: the whole machine is as it was.
 use Rattle.std.specs.Prelude.{◌≡◌}
 use Rattle.iocm_model.specs.Operation.State.{IsSound}
 use Rattle.iocm_model.specs.Change.Edit.{Edit, state_after}

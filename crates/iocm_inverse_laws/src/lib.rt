@@ -5,7 +5,7 @@
 //! taken back by `unapply` directly after, leaves the whole machine as it was, with the places that
 //! were made. `specs/KeptInverses.antt` is on whole changes: the inverse tree of each change that a
 //! journal keeps takes it back, and so does the one that is told of a staged change. The functions
-//! here have empty bodies: their contracts are these laws.
+//! here have empty bodies: their contracts are these laws. What names no source is our own.
 #![tactic(auto)]
 
 mod edits;

@@ -1,4 +1,4 @@
--- An entry that accepts a change, and a journal that accepts it and takes it in. Own.
+-- An entry that accepts a change, and a journal that accepts it and takes it in.
 use Rattle.std.specs.Prelude.{◌≡◌, ◌+◌, true, Some, List, [], ◌∷◌, ◌++◌, Vec}
 use Rattle.std.specs.declared.alloc.Global.{Global}
 use Rattle.iocm_types.specs.declared.answer.Answer.TheVariants as answers

@@ -1,4 +1,4 @@
--- The entry that an undo or a redo makes, and what it leaves. Own.
+-- The entry that an undo or a redo makes, and what it leaves.
 use Rattle.std.specs.Prelude.{ℕ, List, ◌∷◌, Result, Ok, Err}
 use Rattle.iocm_types.specs.declared.answer.Answer.{Answer}
 use Rattle.iocm_types.specs.declared.answer.Answer.TheVariants as answers

@@ -1,4 +1,4 @@
--- Why an undo or a redo is refused, if it is. Own.
+-- Why an undo or a redo is refused, if it is.
 use Rattle.std.specs.Prelude.{◌≡◌, ℕ, Option, None, Some}
 use Rattle.iocm_types.specs.declared.answer.Answer.{Answer}
 use Rattle.iocm_types.specs.declared.answer.Answer.TheVariants as answers

@@ -1,4 +1,4 @@
--- What a journal keeps of changes, as a history tells it. Own.
+-- What a journal keeps of changes, as a history tells it.
 use Rattle.std.specs.Prelude.{◌≡◌, ℕ, false, Some, ◌∷◌, ◌++◌}
 use Rattle.std.specs.List.{list_any}
 use Rattle.iocm_model.specs.Operation.State.{State}

@@ -1,4 +1,4 @@
--- What an undo or a redo that was performed did to the journal and the machine. Own.
+-- What an undo or a redo that was performed did to the journal and the machine.
 use Rattle.std.specs.Prelude.{◌≡◌, ℕ, ◌+◌, true, false, length, Some, [], ◌∷◌, ◌++◌, slice_set}
 use Rattle.std.specs.List.{slice_get}
 use Rattle.iocm_model.specs.Operation.State.{State}

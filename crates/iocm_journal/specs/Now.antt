@@ -1,4 +1,4 @@
--- A journal beside the history that it is of, and beside the machine. Own.
+-- A journal beside the history that it is of, and beside the machine.
 use Rattle.std.specs.Prelude.{◌≡◌, ℕ, ◌+◌, length, map, reverse, Some, None}
 use Rattle.std.specs.List.{slice_get, AllByRecursion}
 use Rattle.iocm_model.specs.Operation.State.{State}

@@ -1,4 +1,4 @@
--- Which changes stand on a change, by what a journal keeps. Own.
+-- Which changes stand on a change, by what a journal keeps.
 use Rattle.std.specs.Prelude.{ℕ, ◌+◌, ◌-◌, ◌==◌, length, nat_lt, nat_le, Bool, true, false, not}
 use Rattle.std.specs.Prelude.{◌&&◌, if◌then◌else◌, List, Option, None, Some, zero, suc}
 use Rattle.std.specs.List.{slice_get}

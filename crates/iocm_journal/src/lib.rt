@@ -10,7 +10,8 @@
 //! redo as the history's definition says, and leaves the machine in the state to which the history
 //! then leads. `accept` leaves it one of the history with the entry that accepts the change, and an
 //! entry that is about no change leaves it one as it is (`laws.rt`). Begin with `specs/Kept.antt`
-//! and `specs/Now.antt`, then `journal.rt`, `undo.rt` and `redo.rt`.
+//! and `specs/Now.antt`, then `journal.rt`, `undo.rt` and `redo.rt`. What names no source is our
+//! own.
 #![tactic(auto)]
 
 mod journal;

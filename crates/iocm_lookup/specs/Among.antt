@@ -1,4 +1,4 @@
--- The least of some keys, and records that can only be those at some keys. Own.
+-- The least of some keys, and records that can only be those at some keys.
 use Rattle.std.specs.Prelude.{◌≡◌, Bool, true, false, if◌then◌else◌, List, [], ◌∷◌, Option, None, Some}
 use Rattle.std.specs.List.{list_any}
 use Rattle.std.specs.Option.{option_map_or}

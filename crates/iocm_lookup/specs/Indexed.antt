@@ -1,4 +1,4 @@
--- The index of a configuration: who names whom in it. Own.
+-- The index of a configuration: who names whom in it.
 use Rattle.std.specs.Prelude.{◌≡◌, Bool, false, Option, None, Some}
 use Rattle.std.specs.List.{list_any}
 use Rattle.std.specs.Ordering.{eq_by_cmp}

@@ -10,7 +10,7 @@
 //! where the record of its user is in the configuration and names its thing (`IsIndexOf`).
 //! `is_image` and `is_image_in` look for an image of a name.
 //!
-//! Begin with `wanted.rt`, then `specs/Indexed.antt`.
+//! Begin with `wanted.rt`, then `specs/Indexed.antt`. What names no source is our own.
 #![tactic(auto)]
 
 mod among;

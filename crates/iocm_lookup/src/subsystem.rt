@@ -3,7 +3,7 @@ ghost use Rattle.iocm_model.specs.Machine.Numbering as numbering;
 
 use iocm_types::Css;
 
-/// The channel subsystems of a machine in their order, 0 to 5. Own.
+/// The channel subsystems of a machine in their order, 0 to 5.
 pub fn subsystems() -> [Css; 6]
     ensures { result ≡ numbering.subsystems }
 {

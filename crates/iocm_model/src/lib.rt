@@ -8,7 +8,7 @@
 //! order of `docs/DEFINITIONS.md`, to know what is claimed.
 //!
 //! The functions here have empty bodies: their contracts are the laws. Worked examples stand in
-//! `iocm_examples`.
+//! `iocm_examples`. What names no source is our own.
 #![tactic(auto)]
 
 mod edit_laws;

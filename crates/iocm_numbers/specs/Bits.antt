@@ -1,5 +1,5 @@
 -- Bits in words of 64, as numbers that are taken are noted: the bit of a number, and the lowest
--- that isn't set. Own.
+-- that isn't set.
 use Rattle.std.specs.Prelude.{◌≡◌, ℕ, ◌+◌, ◌/◌, ◌%◌, ◌<◌, Bool, true, false, nat_eq, List}
 use Rattle.std.specs.Int.{bit_at}
 use Rattle.std.specs.Prelude.{slice_index_or}

@@ -1,4 +1,4 @@
--- Number cells that are noted while carried numbers are looked through. Own.
+-- Number cells that are noted while carried numbers are looked through.
 use Rattle.std.specs.Prelude.{◌||◌, Bool, if◌then◌else◌, List}
 use Rattle.std.specs.Prelude.{ℕ}
 use Rattle.std.specs.List.{list_any}

@@ -11,7 +11,8 @@
 //!
 //! Begin with `numbers.rt`; `bits.rt` has the bits, `first_numbers.rt` the numbers at opening,
 //! `taken.rt` which carried numbers are taken, `renumber.rt` the numbers after a change,
-//! `changes.rt` what it did to them, and `exchange.rt` how a change is taken back.
+//! `changes.rt` what it did to them, and `exchange.rt` how a change is taken back. What names no
+//! source is our own.
 #![tactic(auto)]
 
 mod bits;

@@ -1,4 +1,4 @@
--- The answers to lines, out of the trace. Own.
+-- The answers to lines, out of the trace.
 use Rattle.std.specs.Prelude.{◌≡◌, ℕ, List, [], ◌∷◌, ◌++◌, Option, None, Some}
 use Rattle.std.specs.List.{flat_map, slice_get}
 use Rattle.iocm_core.specs.declared.trace.Entry.{Entry}

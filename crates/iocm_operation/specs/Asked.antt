@@ -1,4 +1,4 @@
--- The calls of a round that its lines ask for. Own.
+-- The calls of a round that its lines ask for.
 use Rattle.std.specs.Prelude.{◌≡◌, ℕ, List, [], ◌∷◌, ◌++◌, map}
 use Rattle.iocm_core.specs.Calls.{call_in}
 use Rattle.iocm_core.specs.declared.call.Call.{Call}

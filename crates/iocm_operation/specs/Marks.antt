@@ -1,4 +1,4 @@
--- Receipts with the numbers of the actors whose they are. Own.
+-- Receipts with the numbers of the actors whose they are.
 use Rattle.std.specs.Prelude.{ℕ, zero, suc, ◌≤◌, ◌==◌, List, [], ◌∷◌, map, filter}
 use Rattle.iocm_board.specs.declared.view.Made.{Made}
 

@@ -1,4 +1,4 @@
--- Lines with the places of their calls in the trace, which receipts tell. Own.
+-- Lines with the places of their calls in the trace, which receipts tell.
 use Rattle.std.specs.Prelude.{◌≡◌, ℕ, List, [], ◌∷◌, ◌++◌, map, Option, None, Some}
 use Rattle.iocm_board.specs.declared.view.Made.{Made}
 use Rattle.iocm_script.specs.declared.line.Line.{Line}

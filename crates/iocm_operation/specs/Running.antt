@@ -1,4 +1,4 @@
--- A script that was run on a machine. Own.
+-- A script that was run on a machine.
 use Rattle.std.specs.Prelude.{◌≡◌, ◌<◌, ℕ, true, List, ◌++◌, length, Option, None}
 use Rattle.std.specs.List.{AllByRecursion, flat_map}
 use Rattle.iocm_board.specs.Names.{is_whole}

@@ -1,4 +1,4 @@
--- What the lines of a script ask of a machine. Own.
+-- What the lines of a script ask of a machine.
 use Rattle.std.specs.Prelude.{ℕ, ◌-◌, ◌==◌, List, map, filter}
 use Rattle.std.specs.List.{slice_get}
 use Rattle.std.specs.Option.{option_map_or}

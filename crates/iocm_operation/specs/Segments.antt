@@ -1,4 +1,4 @@
--- The parts of a trace that rounds of a script make. Own.
+-- The parts of a trace that rounds of a script make.
 use Rattle.std.specs.Prelude.{◌≡◌, ℕ, ◌==◌, List, [], ◌∷◌, ◌++◌, map, filter, ⊤}
 use Rattle.iocm_core.specs.Calls.{call_in}
 use Rattle.iocm_core.specs.declared.trace.Entry.{Entry}

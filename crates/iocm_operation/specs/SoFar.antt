@@ -1,4 +1,4 @@
--- A script of which some rounds were run. Own.
+-- A script of which some rounds were run.
 use Rattle.std.specs.Prelude.{◌≡◌, ◌<◌, ℕ, true, List, [], ◌∷◌, ◌++◌, map}
 use Rattle.std.specs.List.{AllByRecursion, flat_map}
 use Rattle.iocm_board.specs.Names.{is_whole}

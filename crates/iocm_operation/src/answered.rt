@@ -1,6 +1,6 @@
 use iocm_types::Answer;
 
-/// What came of a line of a script. Own.
+/// What came of a line of a script.
 #[derive(Clone, Copy, Debug, PartialEq, Eq)]
 pub struct Answered {
     /// The number of the line.

@@ -13,7 +13,7 @@
 //! leads.
 //!
 //! Begin with `specs/Saying.antt`, `specs/Segments.antt` and `specs/Running.antt`, then
-//! `operating.rt`.
+//! `operating.rt`. What names no source is our own.
 #![tactic(auto)]
 
 mod answered;

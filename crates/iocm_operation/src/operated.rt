@@ -1,7 +1,7 @@
 use crate::answered::Answered;
 use iocm_core::Closed;
 
-/// What came of a script. Own.
+/// What came of a script.
 #[derive(Drop)]
 pub struct Operated {
     /// The machine that it left, with its trace.

@@ -1,4 +1,4 @@
--- Scripts in which each round has the lines of one actor. Own.
+-- Scripts in which each round has the lines of one actor.
 use Rattle.std.specs.Prelude.{◌≡◌, ◌≢◌, ℕ, List, ◌++◌, map}
 use Rattle.std.specs.List.{AllByRecursion, flat_map}
 use Rattle.iocm_core.specs.Calls.{call_in}

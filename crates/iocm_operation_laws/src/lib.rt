@@ -3,7 +3,7 @@
 //! Where each round has the lines of one actor alone, there is one order: the calls stand in the
 //! trace as their lines stand in the script. So, with memory, such a script has one history.
 //!
-//! Begin with `specs/OneActor.antt`.
+//! Begin with `specs/OneActor.antt`. What names no source is our own.
 #![tactic(auto)]
 
 mod laws;

@@ -1,5 +1,5 @@
 -- What may happen between an edit and the edit that takes it back: whatever leaves the
--- configuration, the numbers and the places as they are. Own.
+-- configuration, the numbers and the places as they are.
 use Rattle.std.specs.Prelude.{◌≡◌}
 use Rattle.iocm_types.specs.declared.sub_id.SubId.{SubId}
 use Rattle.iocm_model.specs.Operation.State.{IsSound, HasConfigAndNumbersOf}

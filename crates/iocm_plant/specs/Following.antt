@@ -1,4 +1,4 @@
--- What the numbers and the seats follow: a change of the configuration. Own.
+-- What the numbers and the seats follow: a change of the configuration.
 use Rattle.std.specs.Prelude.{◌≡◌, ℕ, true, List, Option, Some}
 use Rattle.std.specs.List.Sorted.{IsStrictlySortedBy}
 use Rattle.std.specs.Option.{option_or}

@@ -1,5 +1,5 @@
 -- A machine in operation, as a value: its state, and what has a place in its tables and so can be
--- put in without memory. Own.
+-- put in without memory.
 use Rattle.std.specs.Prelude.{◌≡◌, ℕ, T, List, Option, None, Some}
 use Rattle.std.specs.List.{list_any, AllByRecursion}
 use Rattle.std.specs.Ordering.{eq_by_cmp}

@@ -1,4 +1,4 @@
--- Why a call on a machine is refused: by its definition, or for want of memory. Own.
+-- Why a call on a machine is refused: by its definition, or for want of memory.
 use Rattle.std.specs.Prelude.{◌≡◌, Bool, if◌then◌else◌, Option, None, Some, ◌⊎◌}
 use Rattle.std.specs.Option.{option_map, option_or}
 use Rattle.std.specs.FinMap.{contains_key}

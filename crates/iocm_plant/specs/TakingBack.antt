@@ -1,5 +1,5 @@
 -- When an edit can be performed without memory: it takes another one back, and what it brings has a
--- place. Own.
+-- place.
 use Rattle.std.specs.Prelude.{◌≡◌, ◌&&◌, true, is_some}
 use Rattle.std.specs.List.{AllByRecursion}
 use Rattle.std.specs.FinMap.{contains_key}

@@ -12,7 +12,7 @@
 //! a refused edit leaves the state as it was, no call loses a place, and what can be taken back can
 //! be so still after orders, events, and edits that were taken back (`laws.rt`). The lemmas of
 //! `proofs/` are this crate's own: no layer above cites them. Begin with `specs/Operating.antt`,
-//! then `plant.rt`, `performing.rt` and `unapply.rt`.
+//! then `plant.rt`, `performing.rt` and `unapply.rt`. What names no source is our own.
 #![tactic(auto)]
 
 mod following;

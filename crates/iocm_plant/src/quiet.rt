@@ -1,4 +1,4 @@
-/// Whether the subchannels that an edit alters are wanted quiet. Own.
+/// Whether the subchannels that an edit alters are wanted quiet.
 #[derive(Clone, Copy, Debug, PartialEq, Eq)]
 pub enum Quiet {
     /// One that is busy or status pending is in the way (B1).

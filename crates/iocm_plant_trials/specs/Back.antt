@@ -6,7 +6,6 @@ use Rattle.iocm_plant.specs.Operating.{Operating}
 use Rattle.iocm_plant.specs.Between.{StandsAsBefore}
 
 -- taken from a machine that stands as it does now, an edit leaves one that stands as it did before.
--- Own.
 abbrev pub LeadsBack : Carried → Operating → Operating → Type 0
 LeadsBack i before now = (p q : Operating) → StandsAsBefore now p → q.state ≡ state_after i.edit p.state
     → q.room ≡ p.room → StandsAsBefore before q

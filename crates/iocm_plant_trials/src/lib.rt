@@ -6,7 +6,8 @@
 //! and events (`orders.rt`), single edits (`edits.rt`). Edits are performed and taken back where
 //! memory may be wanted once (`performing.rt`), also one on the other (`rounds.rt`): those that
 //! lead from one deck to another (`shapes.rt`), and those that are drawn by chance, after each of
-//! which a machine that is opened afresh of the same records must show the same (`runs.rt`).
+//! which a machine that is opened afresh of the same records must show the same (`runs.rt`). What
+//! names no source is our own.
 #![tactic(auto)]
 
 #[cfg(test)]

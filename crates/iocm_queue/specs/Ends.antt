@@ -1,4 +1,4 @@
--- Operators and the worker, as values. Own.
+-- Operators and the worker, as values.
 use Rattle.std.specs.Prelude.{ℕ, List, [], ◌∷◌, ◌++◌, map}
 use Rattle.crossbeam_channel.specs.Fifo.{Held}
 use Rattle.crossbeam_channel.specs.declared.flavors.array.Key.{Key}

@@ -1,4 +1,4 @@
--- What a worker took in all. Own.
+-- What a worker took in all.
 use Rattle.std.specs.Prelude.{◌≡◌, IfOk, map}
 use Rattle.iocm_queue.specs.declared.taking.Haul.{Haul}
 use Rattle.iocm_queue.specs.Ends.{Channel}

@@ -1,4 +1,4 @@
--- What always holds of the fields of an operator, of what is left of one, and of the worker. Own.
+-- What always holds of the fields of an operator, of what is left of one, and of the worker.
 use Rattle.std.specs.Prelude.{◌≡◌, ℕ, true, List, [], ◌∷◌, ◌++◌, length}
 use Rattle.crossbeam_channel.specs.declared.flavors.array.Doing.{Doing}
 use Rattle.crossbeam_channel.specs.declared.flavors.array.Key.{Key}

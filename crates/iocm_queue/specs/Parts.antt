@@ -1,4 +1,4 @@
--- What each step makes of the parts of its passes. Own.
+-- What each step makes of the parts of its passes.
 use Rattle.std.specs.Prelude.{suc, true, false, [], ◌∷◌, ◌++◌}
 use Rattle.iocm_queue.specs.declared.message.Message.{Message}
 use Rattle.iocm_queue.specs.declared.part.Part.{Part}

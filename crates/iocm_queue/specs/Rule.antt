@@ -1,5 +1,5 @@
 -- The rule of the channel: what holds of the messages in it and of the parts of all passes, between
--- any two steps. Own.
+-- any two steps.
 use Rattle.std.specs.Prelude.{◌≡◌, ℕ, ◌<◌, ◌≤◌, true, List, [], ◌++◌}
 use mathlib.Core.Option.{some}
 use lib.ListN.{get_elem?}

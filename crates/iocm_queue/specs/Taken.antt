@@ -1,4 +1,4 @@
--- What was taken of each operator. Own.
+-- What was taken of each operator.
 use Rattle.std.specs.Prelude.{◌≡◌, ℕ, ◌==◌, Bool, true, false, cond, ◌||◌}
 use Rattle.std.specs.Prelude.{List, [], ◌∷◌, ◌++◌, filter, length, ⊤}
 use Rattle.iocm_queue.specs.declared.message.Item.{Item}

@@ -8,7 +8,7 @@
 //! took of that operator are those which that operator sent, in order, each once (`settle`).
 //!
 //! Begin with `specs/Taken.antt` and `worker.rt`; `exchanging.rt` has two operators and a worker in
-//! threads of their own.
+//! threads of their own. What names no source is our own.
 #![tactic(auto)]
 
 mod exchanging;

@@ -1,4 +1,4 @@
-/// What goes through the channel. Own.
+/// What goes through the channel.
 #[derive(Drop)]
 pub enum Message<T> {
     /// A line of the operator of this number.
@@ -7,7 +7,7 @@ pub enum Message<T> {
     End(u8),
 }
 
-/// What the worker takes. Own.
+/// What the worker takes.
 #[derive(Drop)]
 pub enum Item<T> {
     /// A line of the operator of this number; then its place among that operator's lines, from 0,

@@ -8,7 +8,7 @@ use std::marker::Model;
 use std::sync::Wait;
 
 /// An operator's end of the queue. Contracts see its channel, its number, and the lines that it has
-/// sent, in order. Own.
+/// sent, in order.
 #[derive(Drop)]
 pub struct Operator<T: Drop> {
     pub(crate) sender: Sender<T>,
@@ -29,7 +29,7 @@ impl<T: Drop> Model for Operator<T> {
 }
 
 /// What is left of an operator that has sent its end mark. Contracts see of it what they see of an
-/// operator. Own.
+/// operator.
 #[derive(Drop)]
 pub struct Finished<T: Drop> {
     pub(crate) pass: Token<T>,
@@ -48,7 +48,7 @@ impl<T: Drop> Model for Finished<T> {
     ghost invariant = { λ s. IsFinished s.number s.pass };
 }
 
-/// Q1: a line that was not sent, handed back, since the channel had no place. Own.
+/// Q1: a line that was not sent, handed back, since the channel had no place.
 #[derive(Drop)]
 pub struct Full<T> {
     /// The line.

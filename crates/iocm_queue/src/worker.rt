@@ -18,7 +18,7 @@ pub struct Progress {
 }
 
 /// The worker's end of the queue. Contracts see its channel, and the messages that it has taken, in
-/// order. Own.
+/// order.
 #[derive(Drop)]
 pub struct Worker<T: Drop> {
     pub(crate) sender: Sender<T>,

@@ -1,4 +1,4 @@
--- Operators' calls that the worker made. Own.
+-- Operators' calls that the worker made.
 use Rattle.std.specs.Prelude.{ℕ, ◌==◌, List, [], ◌∷◌, map, filter}
 use Rattle.iocm_core.specs.declared.call.Call.{Call}
 use Rattle.iocm_queue.specs.declared.message.Message.{Message}

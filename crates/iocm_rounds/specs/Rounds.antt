@@ -1,4 +1,4 @@
--- What a round makes of its calls. Own.
+-- What a round makes of its calls.
 use Rattle.std.specs.Prelude.{◌≡◌, ◌<◌, List, [], ◌++◌, Option, None, IfSome}
 use Rattle.std.specs.List.{AllByRecursion}
 use Rattle.iocm_core.specs.declared.call.Call.{Call}

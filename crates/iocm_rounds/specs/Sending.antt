@@ -1,4 +1,4 @@
--- What operators send. Own.
+-- What operators send.
 use Rattle.std.specs.Prelude.{◌≡◌, List, [], ◌++◌}
 use Rattle.iocm_core.specs.declared.call.Call.{Call}
 use Rattle.iocm_queue.specs.Ends.{Sending, Taking}

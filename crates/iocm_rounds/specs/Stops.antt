@@ -1,4 +1,4 @@
--- Why a round stops. Own.
+-- Why a round stops.
 use Rattle.std.specs.Prelude.{Option, None, Some}
 use Rattle.iocm_types.specs.declared.rule.Rule.{Rule}
 use Rattle.iocm_types.specs.declared.rule.Rule.TheVariants as rules

@@ -1,4 +1,4 @@
--- What the worker makes of the lines that it takes. Own.
+-- What the worker makes of the lines that it takes.
 use Rattle.std.specs.List.{AllByRecursion}
 use Rattle.std.specs.Prelude.{◌≡◌, ◌<◌, ℕ, ◌⊎◌, List, [], ◌∷◌, ◌++◌, map, Option, None, Some, IfSome}
 use Rattle.iocm_core.specs.declared.call.Call.{Call}

@@ -18,7 +18,7 @@ use std::alloc::Global;
 use std::sync::Wait;
 use std::thread::{Threads, join};
 
-/// A round that is over: what each actor has made of its calls. Own.
+/// A round that is over: what each actor has made of its calls.
 #[derive(Drop)]
 pub struct Driven<B: Identity> {
     /// The first image.

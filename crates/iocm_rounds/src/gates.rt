@@ -1,6 +1,6 @@
 use iocm_system::Gate;
 
-/// Who acts in a round. Own.
+/// Who acts in a round.
 #[derive(Clone, Copy, Debug, PartialEq, Eq)]
 pub enum Actor {
     /// The first image.
@@ -13,7 +13,7 @@ pub enum Actor {
     Q,
 }
 
-/// What the calls of all actors of a round pass. Own.
+/// What the calls of all actors of a round pass.
 pub trait Gates {
     /// Comes before the call of this index of an actor, counted from 0, on the actor's own thread.
     /// Whether the call may be made.
@@ -23,7 +23,7 @@ pub trait Gates {
     fn after(&self, actor: Actor, index: usize);
 }
 
-/// Every call goes through. Own.
+/// Every call goes through.
 #[derive(Clone, Copy, Debug)]
 pub struct AllOpen;
 

@@ -9,7 +9,7 @@
 //! calls, in order, each with its receipt; the seats have gained just those. Where nothing stopped
 //! the round, all calls were made.
 //!
-//! Begin with `specs/Rounds.antt` and `driving.rt`.
+//! Begin with `specs/Rounds.antt` and `driving.rt`. What names no source is our own.
 #![tactic(auto)]
 
 mod driving;

@@ -3,7 +3,7 @@ use iocm_core::Call;
 use iocm_system::Caller;
 use std::collections::VecDeque;
 
-/// The calls of a round, of each actor in order. Own.
+/// The calls of a round, of each actor in order.
 #[derive(Drop)]
 pub struct Round {
     /// Those of the first image.
@@ -16,7 +16,7 @@ pub struct Round {
     pub q: VecDeque<Call>,
 }
 
-/// From where the calls of a round are made. Own.
+/// From where the calls of a round are made.
 #[derive(Drop)]
 pub struct Seats<B: Identity> {
     /// The first image.

@@ -1,4 +1,4 @@
--- Rules of which each was tried by itself, with the key of the first record that breaks it. Own.
+-- Rules of which each was tried by itself, with the key of the first record that breaks it.
 use Rattle.std.specs.Prelude.{Option, None, Some, List, [], ◌∷◌}
 use Rattle.iocm_types.specs.declared.rule.Rule.{Rule}
 use Rattle.iocm_types.specs.declared.key.Key.{Key}

@@ -1,5 +1,5 @@
 -- Configurations that keep the rules but for some devices and online records: only these were
--- changed since the rules held. Own.
+-- changed since the rules held.
 use Rattle.std.specs.Prelude.{◌≡◌, Bool, true, false, None, List, map}
 use Rattle.std.specs.FinMap.{get}
 use Rattle.iocm_types.specs.declared.key.Key.{Key}

@@ -5,7 +5,7 @@ use iocm_types::{Key, Name};
 use std::alloc::Allocator;
 
 /// V1: an image whose name an image with a smaller key has. So a name is that of one image at the
-/// most. Own.
+/// most.
 #[derive(Drop)]
 pub struct NameTwice;
 

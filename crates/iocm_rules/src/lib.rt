@@ -12,7 +12,7 @@
 //! V1 to V4, the rules of names and of online records, stand here, those of control units in
 //! `iocm_unit_rules`, those of devices in `iocm_device_rules`. Most are a `Wanted` of
 //! `iocm_lookup`: of which kind the records are that break the rule, and whether a record does.
-//! Begin with `first_breach.rt`, then `names.rt`, then `near.rt`.
+//! Begin with `first_breach.rt`, then `names.rt`, then `near.rt`. What names no source is our own.
 #![tactic(auto)]
 
 mod breach;

@@ -9,7 +9,7 @@ use iocm_types::{Css, Name, PathKind};
 use std::alloc::Allocator;
 
 /// V2: a name in the access or candidate list of a path is that of no image of the path's channel
-/// subsystem. Own.
+/// subsystem.
 #[derive(Drop)]
 pub struct NameOfNoImage;
 

@@ -19,7 +19,7 @@ use iocm_types::{Chpid, Css, Key, Name, Named, PathKind};
 use std::alloc::Allocator;
 
 /// V4: the path of an online record isn't there, or neither of its lists has the name; or one image
-/// uses the path at a time, and an online record with a smaller key has the same path. Own.
+/// uses the path at a time, and an online record with a smaller key has the same path.
 #[derive(Drop)]
 pub struct WrongOnline<'a, I: Allocator> {
     pub index: &'a Index<I>,

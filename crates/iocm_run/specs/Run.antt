@@ -1,4 +1,4 @@
--- What a script that is run prints, and how it ends. Own.
+-- What a script that is run prints, and how it ends.
 use Rattle.std.specs.Prelude.{◌≡◌, ◌⊎◌, ℕ, List, [], ◌∷◌, ◌++◌, codes, length, map, Option, None, Some}
 use Rattle.std.specs.Prelude.{IsOk, Result, Ok, Err}
 use Rattle.std.specs.Fmt.{decimal}

@@ -1,4 +1,4 @@
--- The texts of files, and what they are read as. Own.
+-- The texts of files, and what they are read as.
 use Rattle.std.specs.Prelude.{◌≡◌, ℕ, Option, IfSome, List, [], ◌∷◌, ◌++◌, Result, Ok}
 use Rattle.iocm_types.specs.declared.fault.Fault.{Fault}
 use Rattle.iocm_types.specs.Fault.{◌>>=◌}

@@ -9,7 +9,7 @@
 //! the script's calls, with the table of the state to which that leads. Only want of memory
 //! (`refused M1`) may come instead, or the rule by which a round was stopped.
 //!
-//! Begin with `specs/Run.antt`, then `running.rt`.
+//! Begin with `specs/Run.antt`, then `running.rt`. What names no source is our own.
 #![tactic(auto)]
 
 mod changes;

@@ -1,5 +1,5 @@
 -- The run without a change: which entries of a history are left when a change goes with the steps
--- on its subchannels. Own.
+-- on its subchannels.
 use Rattle.std.specs.Prelude.{Bool, true, false, ◌&&◌, not, List, ◌++◌, filter}
 use Rattle.std.specs.List.{list_any}
 use Rattle.std.specs.FinMap.{keys}

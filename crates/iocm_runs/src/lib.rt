@@ -8,7 +8,7 @@
 //! changes that were undone and redone between. `specs/UndoAnswers.antt` and
 //! `specs/RedoAnswers.antt` say what each is answered, and `specs/Inverses.antt` that the inverse
 //! tree of each change takes it back. The functions here have empty bodies: their contracts are
-//! these laws.
+//! these laws. What names no source is our own.
 #![tactic(auto)]
 
 mod answers;

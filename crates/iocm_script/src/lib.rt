@@ -11,7 +11,7 @@
 //! Only want of memory, and L5 of a device that can't be read to its end, may come instead.
 //!
 //! Begin with `specs/Verbs.antt`, the table of commands, and `specs/Commands.antt`; then
-//! `specs/Lines.antt` and `specs/Scripts.antt`.
+//! `specs/Lines.antt` and `specs/Scripts.antt`. What names no source is our own.
 #![tactic(auto)]
 
 mod commands;

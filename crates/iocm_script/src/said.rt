@@ -1,13 +1,13 @@
 use iocm_types::{Order, SubId};
 
-/// The threads of images: each gives orders to subchannels, and tells what their devices do. Own.
+/// The threads of images: each gives orders to subchannels, and tells what their devices do.
 #[derive(Clone, Copy, Debug, PartialEq, Eq)]
 pub enum ImageThread {
     A,
     B,
 }
 
-/// The threads of operators: each changes the machine. Own.
+/// The threads of operators: each changes the machine.
 #[derive(Clone, Copy, Debug, PartialEq, Eq)]
 pub enum OperatorThread {
     P,
@@ -32,7 +32,7 @@ pub enum ImageCommand {
     DeviceEnd(SubId),
 }
 
-/// What the thread of an operator says. Own.
+/// What the thread of an operator says.
 #[derive(Clone, Copy, Debug, PartialEq, Eq)]
 pub enum OperatorCommand {
     /// The change deck of this number is activated at once. Those of the command line count from 1.

@@ -1,5 +1,5 @@
 -- What a change does to what is seen: the subchannels at which it differs, with what was seen and
--- what is seen afterwards. Own.
+-- what is seen afterwards.
 use Rattle.std.specs.Prelude.{◌≡◌, ◌==◌, false, true, List, map, filter, Option, None, Some, if◌then◌else◌}
 use Rattle.std.specs.List.{flat_map, filter_map}
 use Rattle.std.specs.Option.{option_eq}

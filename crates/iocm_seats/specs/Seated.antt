@@ -1,4 +1,4 @@
--- Seats: what a machine keeps at its subchannels, the view and the live record of each. Own.
+-- Seats: what a machine keeps at its subchannels, the view and the live record of each.
 use Rattle.std.specs.Prelude.{◌≡◌, true, T, List, map}
 use Rattle.std.specs.List.{list_any}
 use Rattle.std.specs.Ordering.{eq_by_cmp}

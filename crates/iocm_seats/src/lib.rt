@@ -10,7 +10,7 @@
 //!
 //! What the layer above may rely on: after either the seats show what is seen now and have the live
 //! records after the edit (`settled_seats_show`, `exchanged_seats_show`). Begin with
-//! `specs/Seated.antt`, `seats.rt` and `specs/Changes.antt`.
+//! `specs/Seated.antt`, `seats.rt` and `specs/Changes.antt`. What names no source is our own.
 #![tactic(auto)]
 
 mod changes;

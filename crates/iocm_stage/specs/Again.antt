@@ -1,4 +1,4 @@
--- Edits that are done again after they were taken back. Own.
+-- Edits that are done again after they were taken back.
 use Rattle.std.specs.Prelude.{List, [], ◌∷◌}
 use Rattle.iocm_model.specs.Operation.State.{State}
 use Rattle.iocm_model.specs.Change.Edit.{Edit, state_after}

@@ -1,5 +1,4 @@
 -- Edits that are done one after the other without memory: those that were, and those that are left.
--- Own.
 use Rattle.std.specs.Prelude.{◌≡◌, List, map}
 use Rattle.iocm_model.specs.Operation.State.{State}
 use Rattle.iocm_model.specs.Change.Edit.{Edit}

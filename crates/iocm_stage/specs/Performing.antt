@@ -1,4 +1,4 @@
--- Edits and trees that can be performed on a machine without memory, to some state. Own.
+-- Edits and trees that can be performed on a machine without memory, to some state.
 use Rattle.std.specs.Prelude.{List}
 use Rattle.iocm_model.specs.Operation.State.{State}
 use Rattle.iocm_tree.specs.Carried.{Carried}

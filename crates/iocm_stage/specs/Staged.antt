@@ -1,4 +1,4 @@
--- A change in stages on a machine. Own.
+-- A change in stages on a machine.
 use Rattle.std.specs.Prelude.{◌≡◌, ◌+◌, ◌≤◌, true, length, reverse, take, drop}
 use Rattle.std.specs.FinMap.{get}
 use Rattle.std.specs.Vec.{vec_capacity}

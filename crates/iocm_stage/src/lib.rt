@@ -9,7 +9,7 @@
 //! What the layer above may rely on: wherever steps come between, and no other change, so long as
 //! none is on a subchannel that is held, the edits do what they did when the change was begun, and
 //! an abort leaves the state as if it had not been. Begin with `specs/Staged.antt`, then
-//! `beginning.rt` and `staged.rt`.
+//! `beginning.rt` and `staged.rt`. What names no source is our own.
 #![tactic(auto)]
 
 mod beginning;

@@ -1,4 +1,4 @@
--- What a call asks, without its tree. Own.
+-- What a call asks, without its tree.
 use Rattle.iocm_core.specs.declared.call.Call.{Call}
 use Rattle.iocm_core.specs.declared.call.Call.TheVariants as calls
 use Rattle.iocm_system.specs.declared.asked.Asked.{Asked}

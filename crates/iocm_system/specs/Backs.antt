@@ -1,4 +1,4 @@
--- Calls that are handed back. Own.
+-- Calls that are handed back.
 use Rattle.std.specs.Prelude.{◌≡◌, ℕ, ◌≤◌}
 use Rattle.iocm_types.specs.declared.rule.Rule.{Rule}
 use Rattle.iocm_types.specs.declared.rule.Rule.TheVariants as rules

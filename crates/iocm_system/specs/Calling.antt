@@ -1,4 +1,4 @@
--- A call that a caller made, or got back. Own.
+-- A call that a caller made, or got back.
 use Rattle.std.specs.Prelude.{◌≡◌, ◌≤◌}
 use Rattle.iocm_core.specs.declared.call.Call.{Call}
 use Rattle.iocm_system.specs.Asking.{asked_by}

@@ -1,4 +1,4 @@
--- Two threads make one run of calls. Own.
+-- Two threads make one run of calls.
 use Rattle.std.specs.Prelude.{◌≡◌, List, ◌++◌, length}
 use Rattle.iocm_core.specs.Seen as seen
 use Rattle.iocm_core.specs.Told.{history_in}

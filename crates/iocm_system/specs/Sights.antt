@@ -1,4 +1,4 @@
--- Callers and the keeper, as values. Own.
+-- Callers and the keeper, as values.
 use Rattle.std.specs.Prelude.{◌≡◌, ℕ, suc, max, true, false, List, [], ◌∷◌, ◌++◌}
 use Rattle.iocm_core.specs.Seen as seen
 use Rattle.iocm_core.specs.declared.trace.Entry.{Entry}

@@ -1,4 +1,4 @@
--- The calls that a caller makes one after the other. Own.
+-- The calls that a caller makes one after the other.
 use Rattle.std.specs.Prelude.{◌≡◌, ℕ, suc, ◌≤◌, Option, Some, None, List, [], ◌∷◌, ◌++◌, map}
 use Rattle.iocm_types.specs.declared.rule.Rule.{Rule}
 use Rattle.iocm_types.specs.declared.rule.Rule.TheVariants as rules

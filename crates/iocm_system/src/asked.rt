@@ -4,7 +4,7 @@ ghost use Rattle.iocm_system.specs.Asking.{asked_by};
 use iocm_core::Call;
 use iocm_types::{Order, SubId};
 
-/// What was asked of a machine, without the change tree that a call may have. Own.
+/// What was asked of a machine, without the change tree that a call may have.
 #[derive(Clone, Copy, Debug, PartialEq, Eq)]
 pub enum Asked {
     /// An order of an image on its subchannel.

@@ -1,4 +1,4 @@
-/// What the calls of a thread pass, one after the other. Own.
+/// What the calls of a thread pass, one after the other.
 pub trait Gate {
     /// Comes before the call of this index, counted from 0. Whether the call may be made.
     fn before(&self, index: usize) -> bool;
@@ -7,7 +7,7 @@ pub trait Gate {
     fn after(&self, index: usize);
 }
 
-/// The gate through which every call goes. Own.
+/// The gate through which every call goes.
 #[derive(Clone, Copy, Debug)]
 pub struct Open;
 

@@ -11,7 +11,7 @@
 //! So whatever the threads did, it was one run of calls, in an order that all receipts agree with.
 //!
 //! Begin with `specs/Sights.antt`, `system.rt` and `desk.rt`; `together.rt` has two threads that
-//! make their calls.
+//! make their calls. What names no source is our own.
 #![tactic(auto)]
 
 mod asked;

@@ -1,4 +1,4 @@
--- The names of a caller that was split and joined again. Own.
+-- The names of a caller that was split and joined again.
 use Rattle.std.specs.Prelude.{ℕ, zero, suc, List, ◌++◌}
 use Rattle.iocm_board.specs.Names.{fresh, lend, next_of}
 use Rattle.iocm_board.specs.declared.view.Borne.{Borne}

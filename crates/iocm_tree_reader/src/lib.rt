@@ -7,7 +7,8 @@
 //! the first statement that has one; the limits on depth and leaves are tried after each statement.
 //! The tree lies under any allocator.
 //!
-//! Begin with `specs/Reading.antt` and `specs/Leaves.antt`, then `read.rt` and `reading.rt`.
+//! Begin with `specs/Reading.antt` and `specs/Leaves.antt`, then `read.rt` and `reading.rt`. What
+//! names no source is our own.
 #![tactic(auto)]
 
 mod examples;

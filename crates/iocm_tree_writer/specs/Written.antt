@@ -1,6 +1,6 @@
 -- How a change tree is written: a line for each leaf, with its verb in the name field; ROW, GROUP
 -- and CHOOSE stand before the lines of their parts, and END behind them. What comes along with an
--- edit isn't written. Own.
+-- edit isn't written.
 use Rattle.std.specs.Prelude.{ℕ, List, [], ◌∷◌, ◌++◌, map}
 use Rattle.iocm_columns.specs.declared.joined.Joined.{Joined}
 use Rattle.iocm_model.specs.Change.Edit.{Action}

@@ -7,7 +7,7 @@
 //! `specs/Written.antt` says, and `laws.rt` says that reading what was written gives the same tree.
 //!
 //! Begin with `specs/Written.antt` and `specs/Leaves.antt`, then `tree.rt`; `keys.rt` writes what
-//! is deleted.
+//! is deleted. What names no source is our own.
 #![tactic(auto)]
 
 mod keys;

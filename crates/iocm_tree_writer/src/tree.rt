@@ -61,7 +61,7 @@ fn put_parts<A: Allocator>(
 /// for each leaf, with ADD, DELETE or MODIFY in the name field, and ROW, GROUP or CHOOSE before and
 /// END behind the statements of parts. Operands stand in the canonical form; a deleted image is
 /// `(*,digit)`, a deleted limit `0`, a deleted device `(number,1)`. What comes along with an edit
-/// isn't written. It calls itself as deep as the tree is. (Own.)
+/// isn't written. It calls itself as deep as the tree is.
 ///
 /// `AllocError` (M1): memory was wanted.
 pub fn write_tree<A: Allocator>(alloc: Global, tree: &Tree<A>) -> Result<Vec<Joined>, AllocError>

@@ -1,7 +1,7 @@
 use crate::{Io, Refused};
 
 /// What a machine counts: its records, its subchannels, the changes that stand, and those that are
-/// undone. Own.
+/// undone.
 #[derive(Clone, Copy, Debug, PartialEq, Eq)]
 pub struct Counts {
     pub records: u64,

@@ -8,7 +8,8 @@
 //!
 //! The definitions in `specs/` that readers share: `Gives`, what a reader promises, and `each`, a
 //! list that is read item by item up to the first fault; the lemmas for such loops are in
-//! `proofs/Each.antt`. Begin with `fault.rt`, `key.rt` and `sub_id.rt`.
+//! `proofs/Each.antt`. Begin with `fault.rt`, `key.rt` and `sub_id.rt`. What names no source is our
+//! own.
 #![tactic(auto)]
 
 mod answer;

@@ -6,7 +6,7 @@
 //! configuration which units are on a path, and so compares nobody with everybody; no rule takes
 //! memory.
 //!
-//! Begin with `units.rt`, then `sharing.rt`.
+//! Begin with `units.rt`, then `sharing.rt`. What names no source is our own.
 #![tactic(auto)]
 
 mod links;

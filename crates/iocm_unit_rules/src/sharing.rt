@@ -20,7 +20,7 @@ use std::alloc::Allocator;
 
 /// V14: a unit with a smaller key shares a path on which both have the same link, where none equals
 /// none, has the same CUADD, where an absent one equals 00, and has a range that overlaps one of
-/// it. So no address on a link is that of two units. Own.
+/// it. So no address on a link is that of two units.
 #[derive(Drop)]
 pub struct SharedAddress<'a, I: Allocator> {
     /// The index of the configuration.

@@ -103,7 +103,7 @@ fn is_path_missing<A: Allocator>(config: &Config<A>, paths: &[CssPath]) -> bool
 }
 
 /// V6: in a channel subsystem with links a unit has another number of links than of paths. So the
-/// first link is that of the first path, and so on (IOCP User's Guide, LINK keyword). Own.
+/// first link is that of the first path, and so on (IOCP User's Guide, LINK keyword).
 #[derive(Drop)]
 pub struct WrongLinks;
 

@@ -1,5 +1,4 @@
 -- One edit: what it says, and what it does to the configuration, the numbers and the live records.
--- Own.
 use Rattle.std.specs.Prelude.{ℕ, nat_eq, Bool, ◌&&◌, not, if◌then◌else◌, Option, None, Some, List}
 use Rattle.std.specs.List.{filter_map}
 use Rattle.std.specs.Option.{option_map, option_eq}

@@ -1,5 +1,5 @@
 -- Effects: which cells of a state a change wrote, with the value after it; and what writing them
--- does. Own.
+-- does.
 use Rattle.std.specs.Prelude.{ℕ, ◌==◌, List, [], ◌∷◌, ◌++◌, Option}
 use Rattle.std.specs.FinMap.{FinMap, entries}
 use Rattle.iocm_types.specs.declared.key.Key.{Key}

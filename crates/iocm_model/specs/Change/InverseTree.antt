@@ -1,4 +1,4 @@
--- The tree that takes a change back. Own.
+-- The tree that takes a change back.
 use Rattle.std.specs.Prelude.{◌≡◌, List, [], ◌∷◌, Some}
 use Rattle.iocm_model.specs.Operation.State.{State, HasConfigAndNumbersOf}
 use Rattle.iocm_model.specs.Change.Edit.{Edit}

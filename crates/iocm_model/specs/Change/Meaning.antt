@@ -1,5 +1,5 @@
 -- What a change tree means in a state: a state with the edits that were performed, or a refusal
--- with its node. Own.
+-- with its node.
 use Rattle.std.specs.Prelude.{ℕ, ◌+◌, nat_lt, List, [], ◌∷◌, ◌++◌, Option, None, Some, Result, Ok, Err, if◌then◌else◌}
 use Rattle.iocm_types.specs.declared.refused.At.TheVariants.{Key, Nothing}
 use Rattle.iocm_types.specs.declared.refused.Refused.{Refused}

@@ -1,4 +1,4 @@
--- When an edit is refused. Own.
+-- When an edit is refused.
 use Rattle.std.specs.Prelude.{◌≡◌, ℕ, ◌==◌, Bool, true, false, ◌&&◌, ◌||◌, not, if◌then◌else◌}
 use Rattle.std.specs.Prelude.{Option, None, Some, List, [], ◌∷◌, filter}
 use Rattle.std.specs.List.{list_any, find}

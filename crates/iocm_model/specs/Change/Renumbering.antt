@@ -1,4 +1,4 @@
--- Subchannel numbers after a change of the configuration. Own.
+-- Subchannel numbers after a change of the configuration.
 use Rattle.std.specs.Prelude.{ℕ, ◌+◌, ◌==◌, ◌&&◌, nat_eq, Bool, not, if◌then◌else◌, List, [], ◌∷◌, map, filter, fold}
 use Rattle.std.specs.FinMap.{insert, entries, contains_key, retain_keys}
 use Rattle.iocm_types.specs.declared.place.Place.{Place}

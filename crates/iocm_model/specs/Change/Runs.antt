@@ -1,5 +1,5 @@
 -- Runs of edits, one after the other: what they do, whether they are accepted, what they write, and
--- their inverses. Own.
+-- their inverses.
 use Rattle.std.specs.Prelude.{List, [], ◌∷◌, ◌++◌, ◌≡◌, false, None}
 use Rattle.iocm_model.specs.Operation.State.{State}
 use Rattle.iocm_model.specs.Change.Edit.{Edit, state_after, config_after}

@@ -1,4 +1,4 @@
--- Change trees: edits in Rows, Groups and Chooses. Own.
+-- Change trees: edits in Rows, Groups and Chooses.
 use Rattle.std.specs.Prelude.{ℕ, ◌+◌, max, ◌==◌, if◌then◌else◌}
 use Rattle.iocm_model.specs.Change.Edit.{Edit}
 

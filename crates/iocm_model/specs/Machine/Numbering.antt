@@ -1,5 +1,5 @@
 -- Subchannel numbers: in each channel subsystem and subchannel set the devices that are reached
--- there have one each, the same in every image of the channel subsystem. Own.
+-- there have one each, the same in every image of the channel subsystem.
 use Rattle.std.specs.Prelude.{◌≡◌, ℕ, ◌+◌, ◌==◌, ◌&&◌, Bool, true, false, not, List, [], ◌∷◌, map, filter, Option, Some}
 use Rattle.std.specs.List.{flat_map, list_any}
 use Rattle.std.specs.Ordering.{eq_by_cmp}

@@ -1,4 +1,4 @@
--- The rules in their order, and the first that is broken. Own.
+-- The rules in their order, and the first that is broken.
 use Rattle.std.specs.Prelude.{Bool, if◌then◌else◌, Option, None, Some, List, [], ◌∷◌}
 use Rattle.iocm_types.specs.declared.rule.Rule.{Rule}
 use Rattle.iocm_types.specs.declared.rule.Rule.TheVariants.{V1, V2, V3, V4, V5, V6, V7, V8, V9, V10, V11, V12, V13, V14}
