@@ -28,18 +28,6 @@ fn a_text_is_made_and_copied(rt: HostRuntime) -> Result<(), Fail> {
     Ok(())
 }
 
-/// How long a text is to be, and what it then is.
-const PADDED: &[(usize, &[u8])] = &[(5, b"ABC  "), (2, b"AB")];
-
-#[test]
-fn a_text_is_padded_or_cut(rt: HostRuntime) -> Result<(), Fail> {
-    for (len, wanted) in PADDED {
-        let padded = Text::padded(rt.alloc(), b"ABC", *len, b' ')?;
-        assert_bytes(&rt, padded.as_slice(), wanted);
-    }
-    Ok(())
-}
-
 /// A key of each kind.
 fn keys() -> Option<[Key; 8]> {
     let css = Css::new(5)?;

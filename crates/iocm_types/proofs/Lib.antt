@@ -4,6 +4,7 @@ pub mod Entries
 pub mod Found
 pub mod Giving
 pub mod Lists
+pub mod Numbers
 pub mod Mapped
 pub mod Once
 pub mod Orderings

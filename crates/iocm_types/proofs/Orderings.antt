@@ -1,6 +1,6 @@
 -- What the result of a comparison tells.
-use Rattle.std.proofs.Common.{◌≡◌, ℕ, false, T, refl, sym, ap, ◌∙◌}
-use Rattle.std.specs.Ordering.{nat_cmp, is_lt, is_eq}
+use Rattle.std.proofs.Common.{◌≡◌, ℕ, T, refl, sym, ap, ◌∙◌}
+use Rattle.std.specs.Ordering.{nat_cmp, is_lt}
 use Rattle.std.specs.declared.cmp.Ordering.{Ordering}
 use Rattle.std.specs.declared.cmp.Ordering.TheVariants.{Less, Equal, Greater}
 use Rattle.std.specs.Cmp.{nat_cmp_total, tied_itself}

@@ -3,6 +3,7 @@ use Rattle.std.specs.Prelude.{◌≡◌, ℕ, ◌-◌, ◌≤◌, Bool, false, �
 use Rattle.std.specs.Prelude.{nat_eq, IsTrue, List, [], ◌∷◌, ◌++◌, length, take, drop}
 use Rattle.std.specs.Prelude.{replicate, codes, Option, Some, None, if◌then◌else◌}
 use Rattle.std.specs.List.{list_all}
+use Rattle.std.specs.Int.{w64, from_be_bytes}
 use Rattle.std.specs.Cmp.Lexicographic.{pointwise}
 use Rattle.std.proofs.Common.{arith, refl}
 use Rattle.std.proofs.lemmas.List.{length-take-le, take-append-drop}
@@ -29,6 +30,11 @@ is_name bytes =
 -- the name of these bytes, if they are one
 abbrev pub name_of : List ℕ → Option (List ℕ)
 name_of bytes = if is_name bytes then Some bytes else None
+
+-- the bytes of a name as a number of eight bytes, the first byte the highest; places past its end
+-- are zero
+abbrev pub number_of : List ℕ → ℕ
+number_of name = from_be_bytes w64 (name ++ replicate (8 - length name) 0)
 
 -- eight bytes, of which the first len are the name and the rest are zeros
 pub record IsPadded (bytes : List ℕ) (len : ℕ) : Type 0 where

@@ -1,6 +1,6 @@
 ghost use Rattle.std.specs.Prelude.{◌≡◌, ◌≤◌, length, slice_index_or, IsTrue};
 ghost use Rattle.std.specs.List.{list_all};
-ghost use Rattle.iocm_types.specs.Name.{is_name, name_of, begins_with_letter, is_letter_or_digit};
+ghost use Rattle.iocm_types.specs.Name.{is_name, name_of, number_of, begins_with_letter, is_letter_or_digit};
 
 use std::cmp::Ordering;
 use std::marker::Model;
@@ -61,6 +61,14 @@ impl Name {
     {
         &self.bytes[0..usize::from(self.len)]
     }
+
+    // Its bytes as one number, filled up with zeros: the greater name has the greater number.
+    fn number(&self) -> u64
+        ensures number { result ≡ number_of self.now }
+        ensures name { IsTrue (is_name self.now) }
+    {
+        u64::from_be_bytes(self.bytes)
+    }
 }
 
 // The byte at a place, or 0 past the end.
@@ -116,7 +124,8 @@ impl Eq for Name {
     ghost laws = { nat_list_eq_equiv };
 }
 
-/// By bytes, from left to right.
+/// By bytes, from left to right. A name has no zero byte, so its eight bytes are compared as one
+/// number.
 impl Ord for Name {
     ghost use Rattle.std.specs.Ordering.{nat_cmp};
     ghost use Rattle.std.specs.Cmp.Lexicographic.{slice_cmp};
@@ -132,7 +141,7 @@ impl Ord for Name {
     ghost matches_eq = { Prim.search (comparing, rules) };
 
     fn cmp(&self, other: &Self) -> Ordering {
-        self.as_bytes().cmp(other.as_bytes())
+        self.number().cmp(&other.number())
     }
 }
 

@@ -1,4 +1,4 @@
-ghost use Rattle.std.specs.Prelude.{◌≡◌, ◌-◌, [], ◌∷◌, ◌++◌, length, take, replicate, IfOk, OnErr, OnOk};
+ghost use Rattle.std.specs.Prelude.{◌≡◌, [], ◌∷◌, ◌++◌, length, IfOk, OnErr, OnOk};
 
 use std::alloc::{AllocError, Allocator, Global};
 use std::hash::{Hash, Hasher};
@@ -42,17 +42,6 @@ impl<A: Allocator> Text<A> {
         Ok(Text {
             bytes: Vec::from_slice(alloc, bytes)?,
         })
-    }
-
-    /// The first `len` bytes of `bytes`, filled up with `fill` to that length. Answers the want of
-    /// memory alone.
-    pub fn padded(alloc: A, bytes: &[u8], len: usize, fill: u8) -> Result<Self, AllocError>
-        ensures text { IfOk result (λ text. text ≡ take len bytes.now ++ replicate (len - length bytes.now) fill) }
-        ensures len { IfOk result (λ text. length text ≡ len) }
-    {
-        let mut text = Vec::from_slice(alloc, bytes)?;
-        text.resize(len, fill)?;
-        Ok(Text { bytes: text })
     }
 
     /// The bytes.
