@@ -4,3 +4,4 @@ mod Reading
 mod Rows
 mod Runs
 mod Within
+mod Without

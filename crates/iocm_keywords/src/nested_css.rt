@@ -3,6 +3,7 @@
 ghost use Rattle.std.specs.Prelude.{ℕ, ◌≡◌, ◌==◌, ◌&&◌, ◌||◌, ◌^◌, if◌then◌else◌, unwrap_or, ◌<◌, ◌≤◌, ◌+◌, ◌∷◌, []};
 ghost use Rattle.std.specs.Prelude.{List, true, false, is_some, IsSome, length, slice_index, slice_range, ◌++◌, IfOk};
 ghost use Rattle.std.specs.Prelude.{IfSome, MatchOption};
+ghost use Rattle.std.specs.List.{list_any};
 ghost use Rattle.iocm_statements.specs.Nesting as nesting;
 ghost use Rattle.iocm_statements.specs.Nesting.{step};
 ghost use Rattle.iocm_values.specs.Words.{ends_word};
@@ -259,8 +260,25 @@ impl Level {
 }
 
 /// Whether a word of the text, at any depth and inside any `CSS(..)`, is `CSS(..)` with two decimal
-/// numbers or more.
+/// numbers or more. A text without an S, as most are, isn't walked through.
+#[tactic(auto, using(crate::proofs::Without::none_without_s))]
 pub fn names_several_css(alloc: Global, text: &[u8]) -> Result<bool, AllocError>
+    ensures { IfOk result (λ answer. answer ≡ meaning.names_several_css text.now) }
+{
+    if !has_s(text) {
+        return Ok(false);
+    }
+    walk(alloc, text)
+}
+
+fn has_s(text: &[u8]) -> bool
+    ensures { result ≡ list_any (λ b. b == 83) text.now }
+{
+    text.iter().any(|byte| *byte == b'S')
+}
+
+/// The same by one walk over the text.
+fn walk(alloc: Global, text: &[u8]) -> Result<bool, AllocError>
     ensures { IfOk result (λ answer. answer ≡ meaning.names_several_css text.now) }
 {
     let mut outer: Vec<Level> = Vec::new(alloc);

@@ -1,27 +1,64 @@
--- The keys of records, as a set of keys tells them.
-use Rattle.std.proofs.Common.{◌≡◌, ℕ, ◌+◌, ◌<◌, ◌≤◌, Bool, true, false, cond, List, [], ◌∷◌, ◌++◌, length, get_or, take, drop, Option, Some, is_some, not, Ok, Err, refl, sym, ap, ◌∙◌, append_assoc}
+-- Which keys the records of a deck have, and what a further record does to what is claimed.
+use Rattle.std.proofs.Common.{◌≡◌, ℕ, ◌+◌, ◌<◌, ◌≤◌, ◌||◌, ◌⊎◌, Bool, true, false, cond, List, [], ◌∷◌, ◌++◌, length, get_or, take, drop, map, Option, Some, None, is_some, not, Result, Ok, Err, add-zero, inl, inr, refl, sym, ap, subst, ◌∙◌}
 use Rattle.std.proofs.Math.ListN.{drop_of_length-le}
-use Rattle.std.proofs.lemmas.Bool.{not-true, not-false}
-use Rattle.std.proofs.lemmas.List.{take_more, map-append}
-use Rattle.std.specs.Ordering.{is_eq}
-use Rattle.std.specs.Cmp.{eq_by_cmp_equiv}
+use Rattle.std.proofs.lemmas.Bool.{true≢false}
+use Rattle.std.proofs.lemmas.List.{get_or-drop, take_all, take_more, map-append, take-append-drop}
+use Rattle.std.proofs.lemmas.List.Folds.{list_any-append}
+use Rattle.std.specs.Prelude.{IfOk, OnOk}
+use Rattle.std.specs.List.{list_any}
+use Rattle.std.specs.Ordering.{is_eq, eq_by_cmp}
+use Rattle.std.specs.Cmp.{eq_by_cmp_equiv, both_ways, Equal-is}
+use Rattle.std.specs.declared.cmp.Ordering.TheVariants.{Less}
 use Rattle.std.specs.BTreeSet.{BTreeSet}
 use Rattle.std.specs.FinMap.{find}
-use Rattle.std.specs.FinMap.Entries.{find-append}
+use Rattle.std.specs.FinMap.Entries.{find-append, is_some-find}
 use Rattle.iocm_types.specs.declared.fault.Fault.{Fault}
 use Rattle.iocm_types.specs.declared.key.Key.{Key}
 use Rattle.iocm_types.specs.Key.{key_cmp}
-use Rattle.iocm_types.specs.KeyOrder.{keys_total}
+use Rattle.iocm_types.specs.KeyOrder.{keys_total, keys_exact}
 use Rattle.iocm_model.specs.Machine.Record.{Rec, key_of}
 use Rattle.iocm_model.specs.Machine.Configuration.{with_keys, HasNoKeyTwice}
-use Rattle.iocm_record_reader.specs.Deck.{with_records}
-use Rattle.iocm_record_reader.specs.Progress.{has_claimed, has_key, IsKept}
+use Rattle.iocm_record_reader.specs.declared.claimed.Claimed.{Claimed}
+use Rattle.iocm_record_reader.specs.Deck.{with_records, AreRefusedBehind, GoBehind}
+use Rattle.iocm_record_reader.specs.Progress.{has_claimed, has_key, is_device, Claims, IsInSet, IsKept, IsOpened, IsPast}
 use Rattle.iocm_types.proofs.Lists.{drop-item}
 use Rattle.iocm_types.proofs.Tests.{absent}
+
+-- ---- tests
 
 some_of : {A : Type 0} (b : Bool) (x : A) (o : Option A) → is_some (cond b (Some x) o) ≡ cond b true (is_some o)
 some_of true x o = refl
 some_of false x o = refl
+
+neither : (b c : Bool) → cond b true c ≡ false → (b ≡ false) × (c ≡ false)
+neither true c e = cc
+neither false c e = (refl, e)
+
+either : (b c : Bool) → (b ≡ true) ⊎ (c ≡ true) → cond b true c ≡ true
+either true c e = refl
+either false c (inl e) = absurd (true≢false (sym e))
+either false c (inr e) = e
+
+one_holds : (b c : Bool) → cond b true c ≡ true → (b ≡ true) ⊎ (c ≡ true)
+one_holds true c e = inl refl
+one_holds false c e = inr e
+
+-- ---- keys
+
+ties_alike : (p q : Key) → is_eq (key_cmp p q) ≡ is_eq (key_cmp q p)
+ties_alike p q = (eq_by_cmp_equiv keys_total).symm p q
+
+same_key : (p q : Key) → is_eq (key_cmp p q) ≡ true → p ≡ q
+same_key p q e = keys_exact p q ((Equal-is (key_cmp p q)).0 e)
+
+before_ties_not : (p q : Key) → key_cmp p q ≡ Less → is_eq (key_cmp q p) ≡ false
+before_ties_not p q before = ties_alike q p ∙ ap is_eq before
+
+-- the key of a device isn't that of another record
+no_device : (p q : Key) → is_device p ≡ true → is_device q ≡ false → is_eq (key_cmp p q) ≡ true → ⊥
+no_device p q device other same = true≢false (sym device ∙ ap is_device (same_key p q same) ∙ other)
+
+-- ---- the records' keys
 
 keyed_push : (records : List Rec) (r : Rec) → with_keys (records ++ r ∷ []) ≡ with_keys records ++ (key_of r, r) ∷ []
 keyed_push records r = map-append (λ (x : Rec). (key_of x, x)) records (r ∷ [])
@@ -32,10 +69,6 @@ pub has_key_push : (records : List Rec) (r : Rec) (q : Key) → has_key records 
 has_key_push records r q new =
     rw (keyed_push records r, find-append key_cmp keys_total (with_keys records) (key_of r) r q (absent _ new))
     (some_of (is_eq (key_cmp q (key_of r))) r (find key_cmp q (with_keys records)))
-
-neither : (b c : Bool) → cond b true c ≡ false → (b ≡ false) × (c ≡ false)
-neither true c e = cc
-neither false c e = (refl, e)
 
 -- a key that isn't there is neither the first record's nor another's
 new_to_both : (x : Rec) (records : List Rec) (key : Key) → has_key (x ∷ records) key ≡ false
@@ -57,45 +90,291 @@ apart_push (x ∷ records) r new apart =
       apart_push records r both.1 apart.1,
     )
 
--- a key that was not new is there
-pub was_there : (keys : BTreeSet Key) (records : List Rec) (key key' : Key) (is_new : Bool) → IsKept keys records → key ≡ key'
-    → is_new ≡ not (has_claimed keys key) → is_new ≡ false → has_key records key' ≡ true
-was_there keys records key key' is_new kept same told old = sym (kept.claimed key') ∙ not-false (has_claimed keys key') (sym (sym old ∙ told ∙ ap (λ k. not (has_claimed keys k)) same))
+-- ---- a key that goes into the set
 
--- a key that was new isn't there
-pub was_new : (keys : BTreeSet Key) (records : List Rec) (key key' : Key) (is_new : Bool) → IsKept keys records → key ≡ key'
-    → is_new ≡ not (has_claimed keys key) → is_new ≡ true → has_key records key' ≡ false
-was_new keys records key key' is_new kept same told new = sym (kept.claimed key') ∙ not-true (has_claimed keys key') (sym (sym new ∙ told ∙ ap (λ k. not (has_claimed keys k)) same))
+-- the set tells of a key whether it is new
+set_tells : (old : Claimed) (earlier : List Rec) (key : Key) → IsKept old earlier → IsInSet old.last key
+    → has_claimed old.keys key ≡ has_key earlier key
+set_tells old earlier key kept inside = both_ways (has_claimed old.keys key) (has_key earlier key) (kept.only key) (kept.all key inside)
+
+-- a device behind the last one is no key that only the set tells of
+past_is_outside : (last : Option Key) (p q : Key) → IsInSet last p → IsPast last q → is_eq (key_cmp q p) ≡ false
+past_is_outside None p q inside past = absurd past
+past_is_outside (Some last) p q inside past = by (is_eq (key_cmp q p)) refl
+  where
+    by : (b : Bool) → is_eq (key_cmp q p) ≡ b → b ≡ false
+    by true e = absurd (no_device q p past.0 inside e)
+    by false e = refl
+
+pub put_claims : (old new : Claimed) (earlier : List Rec) (key : Key) (is_new : Bool) → IsInSet old.last key
+    → is_new ≡ not (has_claimed old.keys key)
+    → ((q : Key) → has_claimed new.keys q ≡ cond (is_eq (key_cmp key q)) true (has_claimed old.keys q))
+    → new.last ≡ old.last → Claims old earlier key is_new new
+put_claims old new earlier key is_new inside told grows same kept =
+    (told ∙ ap not (set_tells old earlier key kept inside), goes_in)
+  where
+    goes_in : (r : Rec) → key_of r ≡ key → has_key earlier key ≡ false → IsKept new (earlier ++ r ∷ [])
+    goes_in r is none = record { only = only; all = all; past = past; apart = apart_push earlier r none_of_r kept.apart }
+      where
+        none_of_r : has_key earlier (key_of r) ≡ false
+        none_of_r = ap (has_key earlier) is ∙ none
+
+        pushed : (q : Key) → has_key (earlier ++ r ∷ []) q ≡ cond (is_eq (key_cmp q key)) true (has_key earlier q)
+        pushed q = has_key_push earlier r q none_of_r ∙ ap (λ k. cond (is_eq (key_cmp q k)) true (has_key earlier q)) is
+
+        put : (q : Key) → has_claimed new.keys q ≡ cond (is_eq (key_cmp q key)) true (has_claimed old.keys q)
+        put q = grows q ∙ ap (λ b. cond b true (has_claimed old.keys q)) (ties_alike key q)
+
+        only : (q : Key) → has_claimed new.keys q ≡ true → has_key (earlier ++ r ∷ []) q ≡ true
+        only q claimed = pushed q ∙ by (one_holds (is_eq (key_cmp q key)) (has_claimed old.keys q) (sym (put q) ∙ claimed))
+          where
+            by : (is_eq (key_cmp q key) ≡ true) ⊎ (has_claimed old.keys q ≡ true) → cond (is_eq (key_cmp q key)) true (has_key earlier q) ≡ true
+            by (inl e) = either _ _ (inl e)
+            by (inr e) = either _ _ (inr (kept.only q e))
+
+        all : (q : Key) → IsInSet new.last q → has_key (earlier ++ r ∷ []) q ≡ true → has_claimed new.keys q ≡ true
+        all q within there = put q ∙ by (one_holds (is_eq (key_cmp q key)) (has_key earlier q) (sym (pushed q) ∙ there))
+          where
+            by : (is_eq (key_cmp q key) ≡ true) ⊎ (has_key earlier q ≡ true) → cond (is_eq (key_cmp q key)) true (has_claimed old.keys q) ≡ true
+            by (inl e) = either _ _ (inl e)
+            by (inr e) = either _ _ (inr (kept.all q (subst (λ l. IsInSet l q) same within) e))
+
+        past : (q : Key) → IsPast new.last q → has_key (earlier ++ r ∷ []) q ≡ false
+        past q behind =
+            let before : IsPast old.last q = subst (λ l. IsPast l q) same behind in
+            pushed q ∙ ap (λ b. cond b true (has_key earlier q)) (past_is_outside old.last key q inside before) ∙ kept.past q before
+
+-- the same where the set was asked
+pub put_claims_if : {E : Type 0} (result : Result Bool E) (old new : Claimed) (earlier : List Rec) (key : Key) → IsInSet old.last key
+    → IfOk result (λ added. added ≡ not (has_claimed old.keys key))
+    → OnOk result ((q : Key) → has_claimed new.keys q ≡ cond (is_eq (key_cmp key q)) true (has_claimed old.keys q))
+    → new.last ≡ old.last → IfOk result (λ is_new. Claims old earlier key is_new new)
+put_claims_if (Ok is_new) old new earlier key inside told grows same = put_claims old new earlier key is_new inside told grows same
+put_claims_if (Err e) old new earlier key inside told grows same = tt
+
+-- and where all keys went into it before
+pub put_claims_after : {E : Type 0} (result : Result Bool E) (old whole new : Claimed) (earlier : List Rec) (key : Key) → IsOpened old earlier whole
+    → IfOk result (λ added. added ≡ not (has_claimed whole.keys key))
+    → OnOk result ((q : Key) → has_claimed new.keys q ≡ cond (is_eq (key_cmp key q)) true (has_claimed whole.keys q))
+    → new.last ≡ whole.last → IfOk result (λ is_new. Claims old earlier key is_new new)
+put_claims_after (Ok is_new) old whole new earlier key opened told grows same = λ kept.
+    let now = opened kept in
+    put_claims whole new earlier key is_new (subst (λ l. IsInSet l key) (sym now.1) tt) told grows same now.0
+put_claims_after (Err e) old whole new earlier key opened told grows same = tt
+
+-- ---- a device behind the last one
+
+behind_last : (old new : Claimed) (earlier : List Rec) (last key : Key) → old.last ≡ Some last → is_device key ≡ true
+    → key_cmp last key ≡ Less → new.keys ≡ old.keys → new.last ≡ Some key → Claims old earlier key true new
+behind_last old new earlier last key was device behind same now kept =
+    (sym (ap not new_key), goes_in)
+  where
+    past_last : (q : Key) → is_device q ≡ true → key_cmp last q ≡ Less → has_key earlier q ≡ false
+    past_last q is far = kept.past q (subst (λ l. IsPast l q) (sym was) (is, far))
+
+    new_key : has_key earlier key ≡ false
+    new_key = past_last key device behind
+
+    goes_in : (r : Rec) → key_of r ≡ key → has_key earlier key ≡ false → IsKept new (earlier ++ r ∷ [])
+    goes_in r is none = record { only = only; all = all; past = past; apart = apart_push earlier r none_of_r kept.apart }
+      where
+        none_of_r : has_key earlier (key_of r) ≡ false
+        none_of_r = ap (has_key earlier) is ∙ none
+
+        pushed : (q : Key) → has_key (earlier ++ r ∷ []) q ≡ cond (is_eq (key_cmp q key)) true (has_key earlier q)
+        pushed q = has_key_push earlier r q none_of_r ∙ ap (λ k. cond (is_eq (key_cmp q k)) true (has_key earlier q)) is
+
+        only : (q : Key) → has_claimed new.keys q ≡ true → has_key (earlier ++ r ∷ []) q ≡ true
+        only q claimed = pushed q ∙ either _ _ (inr (kept.only q (ap (λ keys. has_claimed keys q) (sym same) ∙ claimed)))
+
+        all : (q : Key) → IsInSet new.last q → has_key (earlier ++ r ∷ []) q ≡ true → has_claimed new.keys q ≡ true
+        all q within there = by (one_holds (is_eq (key_cmp q key)) (has_key earlier q) (sym (pushed q) ∙ there))
+          where
+            other : is_device q ≡ false
+            other = subst (λ l. IsInSet l q) now within
+
+            by : (is_eq (key_cmp q key) ≡ true) ⊎ (has_key earlier q ≡ true) → has_claimed new.keys q ≡ true
+            by (inl e) = absurd (no_device key q device other (ties_alike key q ∙ e))
+            by (inr e) = ap (λ keys. has_claimed keys q) same ∙ kept.all q (subst (λ l. IsInSet l q) (sym was) other) e
+
+        past : (q : Key) → IsPast new.last q → has_key (earlier ++ r ∷ []) q ≡ false
+        past q far =
+            let it : IsPast (Some key) q = subst (λ l. IsPast l q) now far in
+            pushed q ∙ ap (λ b. cond b true (has_key earlier q)) (before_ties_not key q it.1)
+            ∙ past_last q it.0 (keys_total.trans last key q behind it.1)
+
+pub device_claims : (old new : Claimed) (earlier : List Rec) (key : Key) → IsPast old.last key
+    → new.keys ≡ old.keys → new.last ≡ Some key → Claims old earlier key true new
+device_claims old new earlier key past same now = by old.last refl past
+  where
+    by : (l : Option Key) → old.last ≡ l → IsPast l key → Claims old earlier key true new
+    by None was past = absurd past
+    by (Some last) was past = behind_last old new earlier last key was past.0 past.1 same now
+
+-- ---- all keys go into the set
+
+has_key_is : (records : List Rec) (q : Key) → has_key records q ≡ list_any (eq_by_cmp key_cmp q) (map (λ e. e.0) (with_keys records))
+has_key_is records q = is_some-find key_cmp q (with_keys records)
+
+-- the records up to a place, and one more
+pub taken_more : (xs : List Rec) (i : ℕ) (r : Rec) → i < length xs → r ≡ get_or xs i r → take (i + 1) xs ≡ take i xs ++ r ∷ []
+taken_more xs i r within item = rw (take_more xs i r within, ← item) refl
+
+-- the keys of two parts
+has_key_append : (xs ys : List Rec) (q : Key) → has_key (xs ++ ys) q ≡ has_key xs q || has_key ys q
+has_key_append xs ys q =
+    has_key_is (xs ++ ys) q
+    ∙ ap (λ es. list_any (eq_by_cmp key_cmp q) (map (λ (e : Key × Rec). e.0) es)) (map-append (λ (x : Rec). (key_of x, x)) xs ys)
+    ∙ ap (list_any (eq_by_cmp key_cmp q)) (map-append (λ (e : Key × Rec). e.0) (with_keys xs) (with_keys ys))
+    ∙ list_any-append (eq_by_cmp key_cmp q) (map (λ (e : Key × Rec). e.0) (with_keys xs)) (map (λ (e : Key × Rec). e.0) (with_keys ys))
+    ∙ (λ i. sym (has_key_is xs q) i || sym (has_key_is ys q) i)
+
+one_or : (b c : Bool) → b || c ≡ true → (b ≡ true) ⊎ (c ≡ true)
+one_or true c e = inl refl
+one_or false c e = inr e
+
+or_one : (b c : Bool) → (b ≡ true) ⊎ (c ≡ true) → b || c ≡ true
+or_one true c e = refl
+or_one false c (inl e) = absurd (true≢false (sym e))
+or_one false c (inr e) = e
+
+or_none : (b : Bool) → b || false ≡ b
+or_none true = refl
+or_none false = refl
+
+-- one record has its own key alone
+key_of_one : (r : Rec) (q : Key) → has_key (r ∷ []) q ≡ is_eq (key_cmp q (key_of r))
+key_of_one r q = has_key_is (r ∷ []) q ∙ or_none (is_eq (key_cmp q (key_of r)))
+
+-- a record among others has one of their keys
+key_there : (xs : List Rec) (i : ℕ) (r : Rec) (q : Key) → i < length xs → r ≡ get_or xs i r → is_eq (key_cmp q (key_of r)) ≡ true
+    → has_key xs q ≡ true
+key_there xs i r q within item same =
+    ap (λ ys. has_key ys q) (sym (take-append-drop (i + 1) xs) ∙ ap (λ ys. ys ++ drop (i + 1) xs) (taken_more xs i r within item))
+    ∙ has_key_append (take i xs ++ r ∷ []) (drop (i + 1) xs) q
+    ∙ or_one _ _ (inl (has_key_append (take i xs) (r ∷ []) q ∙ or_one _ _ (inr (key_of_one r q ∙ same))))
+
+-- the set has what it had and the keys of some of these records, and no others
+pub record AreIn (old new : BTreeSet Key) (some all : List Rec) : Type 0 where
+  pub grown : (q : Key) → (has_claimed old q ≡ true) ⊎ (has_key some q ≡ true) → has_claimed new q ≡ true
+  pub only : (q : Key) → has_claimed new q ≡ true → (has_claimed old q ≡ true) ⊎ (has_key all q ≡ true)
+
+pub none_in : (old : BTreeSet Key) (all : List Rec) → AreIn old old [] all
+none_in old all = record { grown = grown; only = λ q e. inl e }
+  where
+    grown : (q : Key) → (has_claimed old q ≡ true) ⊎ (has_key [] q ≡ true) → has_claimed old q ≡ true
+    grown q (inl e) = e
+    grown q (inr e) = absurd (true≢false (sym e))
+
+pub one_in : (old now new : BTreeSet Key) (all : List Rec) (i : ℕ) (r : Rec) (key : Key) → i < length all → r ≡ get_or all i r → key ≡ key_of r
+    → ((q : Key) → has_claimed new q ≡ cond (is_eq (key_cmp key q)) true (has_claimed now q))
+    → AreIn old now (take i all) all → AreIn old new (take (i + 1) all) all
+one_in old now new all i r key within item is grows before = record { grown = grown; only = only }
+  where
+    put : (q : Key) → has_claimed new q ≡ cond (is_eq (key_cmp q (key_of r))) true (has_claimed now q)
+    put q = grows q ∙ ap (λ b. cond b true (has_claimed now q)) (ties_alike key q ∙ ap (λ k. is_eq (key_cmp q k)) is)
+
+    grown : (q : Key) → (has_claimed old q ≡ true) ⊎ (has_key (take (i + 1) all) q ≡ true) → has_claimed new q ≡ true
+    grown q (inl e) = put q ∙ either _ _ (inr (before.grown q (inl e)))
+    grown q (inr e) = put q ∙ by (one_or (has_key (take i all) q) (has_key (r ∷ []) q)
+        (sym (ap (λ xs. has_key xs q) (taken_more all i r within item) ∙ has_key_append (take i all) (r ∷ []) q) ∙ e))
+      where
+        by : (has_key (take i all) q ≡ true) ⊎ (has_key (r ∷ []) q ≡ true) → cond (is_eq (key_cmp q (key_of r))) true (has_claimed now q) ≡ true
+        by (inl there) = either _ _ (inr (before.grown q (inr there)))
+        by (inr same) = either _ _ (inl (sym (key_of_one r q) ∙ same))
+
+    only : (q : Key) → has_claimed new q ≡ true → (has_claimed old q ≡ true) ⊎ (has_key all q ≡ true)
+    only q claimed = by (one_holds (is_eq (key_cmp q (key_of r))) (has_claimed now q) (sym (put q) ∙ claimed))
+      where
+        by : (is_eq (key_cmp q (key_of r)) ≡ true) ⊎ (has_claimed now q ≡ true) → (has_claimed old q ≡ true) ⊎ (has_key all q ≡ true)
+        by (inl same) = inr (key_there all i r q within item same)
+        by (inr was) = before.only q was
+
+pub all_opened : (old new : Claimed) (earlier : List Rec) → AreIn old.keys new.keys earlier earlier → new.last ≡ None → IsOpened old earlier new
+all_opened old new earlier are none kept = (
+  record {
+    only = λ q e. by q (are.only q e);
+    all = λ q inside there. are.grown q (inr there);
+    past = λ q far. absurd (subst (λ l. IsPast l q) none far);
+    apart = kept.apart;
+  },
+  none,
+)
+  where
+    by : (q : Key) → (has_claimed old.keys q ≡ true) ⊎ (has_key earlier q ≡ true) → has_key earlier q ≡ true
+    by q (inl e) = kept.only q e
+    by q (inr e) = e
+
+-- ---- the records in turn
 
 -- a record whose key is new goes behind the others
-pub goes_in : (fault : Fault) (records xs : List Rec) (i : ℕ) (r : Rec) → i < length xs → r ≡ get_or xs i r → has_key records (key_of r) ≡ false
+goes_in : (fault : Fault) (records xs : List Rec) (i : ℕ) (r : Rec) → i < length xs → r ≡ get_or xs i r → has_key records (key_of r) ≡ false
     → with_records fault records (drop i xs) ≡ with_records fault (records ++ r ∷ []) (drop (i + 1) xs)
 unfolding with_records
 goes_in fault records xs i r within item new = rw (drop-item xs i r within item, new) refl
 
 -- a record whose key is there is refused
-pub refused : (fault : Fault) (records xs : List Rec) (i : ℕ) (r : Rec) → i < length xs → r ≡ get_or xs i r → has_key records (key_of r) ≡ true
+refused : (fault : Fault) (records xs : List Rec) (i : ℕ) (r : Rec) → i < length xs → r ≡ get_or xs i r → has_key records (key_of r) ≡ true
     → with_records fault records (drop i xs) ≡ Err fault
 unfolding with_records
 refused fault records xs i r within item there = rw (drop-item xs i r within item, there) refl
 
 -- after the last one
-pub all_in : (fault : Fault) (records xs : List Rec) (i : ℕ) → length xs ≤ i → with_records fault records (drop i xs) ≡ Ok records
+all_in : (fault : Fault) (records xs : List Rec) (i : ℕ) → length xs ≤ i → with_records fault records (drop i xs) ≡ Ok records
 unfolding with_records
 all_in fault records xs i past = rw (drop_of_length-le xs past) refl
 
--- one record more of those that go in
-pub taken_more : (earlier xs : List Rec) (i : ℕ) (r : Rec) → i < length xs → r ≡ get_or xs i r
-    → earlier ++ take (i + 1) xs ≡ (earlier ++ take i xs) ++ r ∷ []
-taken_more earlier xs i r within item = rw (take_more xs i r within, ← item) (sym (append_assoc earlier (take i xs) (r ∷ [])))
+-- the keys of the records up to a place are claimed, and the rest decides
+abbrev pub IsClaimedTo : Fault → List Rec → ℕ → Claimed → ℕ → Claimed → Type 0
+IsClaimedTo fault records from first at now = IsKept first (take from records)
+    → IsKept now (take at records)
+    × (with_records fault (take at records) (drop at records) ≡ with_records fault (take from records) (drop from records))
 
--- a set with a further key has the keys of the records with a further one
-pub kept_push : (keys keys' : BTreeSet Key) (records : List Rec) (r : Rec) → IsKept keys records
-    → has_key records (key_of r) ≡ false
-    → ((q : Key) → has_claimed keys' q ≡ cond (is_eq (key_cmp (key_of r) q)) true (has_claimed keys q))
-    → IsKept keys' (records ++ r ∷ [])
-kept_push keys keys' records r kept new grows = record {
-  claimed = λ q. grows q ∙ ap (λ b. cond b true (has_claimed keys q)) ((eq_by_cmp_equiv keys_total).symm (key_of r) q)
-      ∙ ap (cond (is_eq (key_cmp q (key_of r))) true) (kept.claimed q) ∙ sym (has_key_push records r q new);
-  apart = apart_push records r new kept.apart;
-}
+not_true : (b c : Bool) → b ≡ true → b ≡ not c → c ≡ false
+not_true b true is e = absurd (true≢false (sym is ∙ e))
+not_true b false is e = refl
+
+not_false : (b c : Bool) → b ≡ false → b ≡ not c → c ≡ true
+not_false b true is e = refl
+not_false b false is e = absurd (true≢false (sym e ∙ is))
+
+-- one record more, whose key is new
+pub claimed_next : (fault : Fault) (records earlier : List Rec) (from at : ℕ) (r : Rec) (key : Key) (is_new : Bool) (first old new : Claimed)
+    → at < length records → r ≡ get_or records at r → key ≡ key_of r → earlier ≡ take at records → Claims old earlier key is_new new
+    → is_new ≡ true → IsClaimedTo fault records from first at old → IsClaimedTo fault records from first (at + 1) new
+claimed_next fault records earlier from at r key is_new first old new within item is front claims new_key so_far = λ kept.
+    let before = so_far kept in
+    let claimed : Claims old (take at records) key is_new new = subst (λ xs. Claims old xs key is_new new) front claims in
+    let it = claimed before.0 in
+    let none : has_key (take at records) key ≡ false = not_true is_new _ new_key it.0 in
+    let more = taken_more records at r within item in (
+      subst (IsKept new) (sym more) (it.1 r (sym is) none),
+      ap (λ xs. with_records fault xs (drop (at + 1) records)) more
+          ∙ sym (goes_in fault (take at records) records at r within item (ap (has_key (take at records)) (sym is) ∙ none))
+          ∙ before.1,
+    )
+
+-- one whose key is there already
+pub claim_refused : (fault : Fault) (records earlier : List Rec) (from at : ℕ) (r : Rec) (key : Key) (is_new : Bool) (first old new : Claimed)
+    → at < length records → r ≡ get_or records at r → key ≡ key_of r → earlier ≡ take at records → Claims old earlier key is_new new
+    → is_new ≡ false → IsClaimedTo fault records from first at old → AreRefusedBehind fault first records from
+claim_refused fault records earlier from at r key is_new first old new within item is front claims old_key so_far = λ kept.
+    let before = so_far kept in
+    let claimed : Claims old (take at records) key is_new new = subst (λ xs. Claims old xs key is_new new) front claims in
+    let there : has_key (take at records) key ≡ true = not_false is_new _ old_key (claimed before.0).0 in
+    sym before.1 ∙ refused fault (take at records) records at r within item (ap (has_key (take at records)) (sym is) ∙ there)
+
+-- after the last one
+pub all_claimed : (fault : Fault) (records : List Rec) (from at : ℕ) (first now : Claimed) → length records ≤ at
+    → IsClaimedTo fault records from first at now → GoBehind fault first records from now
+all_claimed fault records from at first now past so_far = λ kept.
+    let it = so_far kept in
+    let all = take_all at records past in (
+      subst (IsKept now) all it.0,
+      sym it.1 ∙ all_in fault (take at records) records at past ∙ ap Ok all,
+    )
+
+-- the first record of those from a place on
+pub first_behind : (records rest : List Rec) (at : ℕ) (r : Rec) → rest ≡ drop at records → r ≡ get_or rest 0 r → r ≡ get_or records at r
+first_behind records rest at r is item =
+    item ∙ ap (λ xs. get_or xs 0 r) is ∙ get_or-drop at records 0 r ∙ ap (λ n. get_or records n r) (add-zero at)

@@ -1,12 +1,10 @@
 -- What a configuration deck means: the records of its statements, or the first fault.
 -- IOCP User's Guide; the order of faults is own.
 use Rattle.std.specs.Prelude.{◌≡◌, ℕ, ◌||◌, Bool, true, false, if◌then◌else◌, Option, None, Some}
-use Rattle.std.specs.Prelude.{List, [], ◌∷◌, ◌++◌, Result, Ok, Err, codes, unwrap_or}
+use Rattle.std.specs.Prelude.{List, [], ◌∷◌, ◌++◌, take, drop, Result, Ok, Err, codes, unwrap_or}
 use Rattle.std.specs.List.{list_any}
 use Rattle.std.specs.Option.{option_and_then}
-use Rattle.std.specs.BTreeSet.{BTreeSet}
 use Rattle.iocm_types.specs.declared.fault.Fault.{Fault}
-use Rattle.iocm_types.specs.declared.key.Key.{Key}
 use Rattle.iocm_types.specs.declared.rule.Rule.{Rule}
 use Rattle.iocm_types.specs.declared.rule.Rule.TheVariants.{S1, S3, S4, S5, S7, S8}
 use Rattle.iocm_types.specs.Fault.{◌>>=◌, at}
@@ -19,6 +17,7 @@ use Rattle.iocm_keywords.specs.Known.{lacks_required, is_other_form}
 use Rattle.iocm_keywords.specs.LeftOut.{is_left_out}
 use Rattle.iocm_operands.specs.Resource.{images_of}
 use Rattle.iocm_values.specs.Value.{value}
+use Rattle.iocm_record_reader.specs.declared.claimed.Claimed.{Claimed}
 use Rattle.iocm_record_reader.specs.Progress.{Progress, has_key, IsKept}
 use Rattle.iocm_record_reader.specs.Values.{carried_by}
 use Rattle.iocm_record_reader.specs.ResourceRecords.{resource_records}
@@ -88,15 +87,16 @@ with_records fault records [] = Ok records
 with_records fault records (r ∷ rs) =
     if has_key records (key_of r) then Err fault else with_records fault (records ++ r ∷ []) rs
 
--- some records go behind all records of which a set has the keys, and the set has theirs then
-abbrev pub GoBehind : Fault → BTreeSet Key → List Rec → BTreeSet Key → Type 0
-GoBehind fault old found new = (earlier : List Rec) → IsKept old earlier
-    → IsKept new (earlier ++ found) × (with_records fault earlier found ≡ Ok (earlier ++ found))
+-- where the keys of the records before a place are claimed, those from there on go behind them, and
+-- all keys are claimed then
+abbrev pub GoBehind : Fault → Claimed → List Rec → ℕ → Claimed → Type 0
+GoBehind fault old records from new = IsKept old (take from records)
+    → IsKept new records × (with_records fault (take from records) (drop from records) ≡ Ok records)
 
--- behind all those records they bring a key twice
-abbrev pub AreRefusedBehind : Fault → BTreeSet Key → List Rec → Type 0
-AreRefusedBehind fault keys found = (earlier : List Rec) → IsKept keys earlier
-    → with_records fault earlier found ≡ Err fault
+-- behind those records they bring a key twice
+abbrev pub AreRefusedBehind : Fault → Claimed → List Rec → ℕ → Type 0
+AreRefusedBehind fault claimed records from = IsKept claimed (take from records)
+    → with_records fault (take from records) (drop from records) ≡ Err fault
 
 -- what was read, with the records of a further statement
 abbrev pub with_statement : Fault → Progress → Operation → List Rec → Result Progress Fault

@@ -103,6 +103,32 @@ fn device_record(
     Ok(Record::new(RecordBody::Device(device)))
 }
 
+// The record of a device that is alone in its statement: it takes the fields as they are.
+fn only_record(first: DeviceFields, address: Option<u32>) -> Record
+    requires { IfSome address (λ n. n < 256) }
+    ensures { result ≡ meaning.device_record (device_of first) address 0 }
+{
+    let unit_address = address_at(address, 0, u32::from(first.number.number()));
+    Record::new(RecordBody::Device(DeviceFields {
+        unit_address,
+        ..first
+    }))
+}
+
+// The same, as the only record of its statement.
+fn only_records(
+    alloc: Global,
+    first: DeviceFields,
+    address: Option<u32>,
+) -> Result<Vec<Record>, AllocError>
+    requires { IfSome address (λ n. n < 256) }
+    ensures { IfOk result (λ records. records.items ≡ meaning.device_records (device_of first) address 1) }
+{
+    let mut records = Vec::new(alloc);
+    records.push(only_record(first, address))?;
+    Ok(records)
+}
+
 #[tactic(auto, using(crate::proofs::Places::places_more))]
 fn device_records(
     alloc: Global,
@@ -143,5 +169,8 @@ pub fn iodevice_records(
         candidates,
         carried: carried_by(alloc, Operation::Iodevice, operands)?,
     };
+    if devices.count == 1 {
+        return Ok(only_records(alloc, first, address)?);
+    }
     Ok(device_records(alloc, &first, address, devices.count)?)
 }

@@ -8,6 +8,7 @@
 #![tactic(auto)]
 
 mod chpid;
+mod claimed;
 mod deck;
 mod device;
 mod operands;

@@ -12,7 +12,7 @@ fn as_carried(alloc: Global, key: &OperandKey, text: &[u8]) -> Result<Carried, A
     ensures { IfOk result (λ carried. carried ≡ as_carried (key.now, text.now)) }
 {
     let keyword = match key {
-        OperandKey::Keyword(keyword) => Some(keyword.copy_in(alloc)?),
+        OperandKey::Keyword(keyword) => Some(Text::from_slice(alloc, keyword.as_slice())?),
         OperandKey::Bare(_) => None,
     };
     Ok(Carried::new(keyword, Text::from_slice(alloc, text)?))

@@ -1,47 +1,15 @@
-ghost use Rattle.std.specs.Prelude.{◌≡◌, ◌⊎◌, ◌∷◌, [], Bool, true, false};
-ghost use Rattle.std.specs.Prelude.{not, IfOk, IfErr, OnOk, if◌then◌else◌};
-ghost use Rattle.std.specs.Ordering.{is_eq};
-ghost use Rattle.iocm_types.specs.Fault.{memory, Gives};
-ghost use Rattle.iocm_types.specs.Key.{key_cmp};
-ghost use Rattle.iocm_types.specs.declared.key.Key.{Key};
+ghost use Rattle.std.specs.Prelude.{◌≡◌};
+ghost use Rattle.iocm_types.specs.Fault.{Gives};
 ghost use Rattle.iocm_model.specs.Machine.Configuration.{HasNoKeyTwice};
 ghost use Rattle.iocm_record_reader.specs.Deck as deck;
-ghost use Rattle.iocm_record_reader.specs.Deck.{AreRefusedBehind, GoBehind};
 ghost use Rattle.iocm_record_reader.specs.Deck.{with_statement, nothing_read};
-ghost use Rattle.iocm_record_reader.specs.Progress.{has_claimed};
 
+use crate::claimed::Claimed;
 use iocm_record::Record;
 use iocm_statements::Operation;
-use iocm_types::{Fault, Key};
-use std::alloc::{AllocError, Global};
-use std::collections::BTreeSet;
+use iocm_types::Fault;
+use std::alloc::Global;
 use std::marker::Model;
-
-// Puts a key into a set of keys, and answers whether it is new there.
-fn claim(keys: &mut BTreeSet<Key>, key: Key) -> Result<bool, AllocError>
-    ensures added { IfOk result (λ added. added ≡ not (has_claimed keys.old key)) }
-    ensures keys { OnOk result ((q : Key)
-        → has_claimed keys.new q ≡ (if is_eq (key_cmp key q) then true else has_claimed keys.old q)) }
-{
-    Ok(keys.insert(key)?)
-}
-
-/// Puts the keys of further records into the set of the keys of all records so far.
-///
-/// Answers `fault` at a key that is there already, and M1 without memory.
-pub fn claim_keys(keys: &mut BTreeSet<Key>, found: &[Record], fault: Fault) -> Result<(), Fault>
-    ensures claimed { OnOk result (GoBehind fault keys.old found.now keys.new) }
-    ensures refused { IfErr result (λ e. (e ≡ memory)
-        ⊎ ((e ≡ fault) × AreRefusedBehind fault keys.old found.now)) }
-{
-    for entry in found {
-        let is_new = claim(keys, entry.key())?;
-        if !is_new {
-            return Err(fault);
-        }
-    }
-    Ok(())
-}
 
 /// Whether a statement is ID.
 pub fn is_id(operation: Operation) -> bool
@@ -70,7 +38,7 @@ pub struct Progress {
     has_id: bool,
     has_resource: bool,
     records: Vec<Record>,
-    keys: BTreeSet<Key>,
+    claimed: Claimed,
 }
 
 impl Model for Progress {
@@ -80,7 +48,7 @@ impl Model for Progress {
 
     ghost view = { λ p. record { has_id = p.has_id; has_resource = p.has_resource; records = p.records.items } };
 
-    ghost invariant = { λ p. words.IsKept p.keys p.records.items };
+    ghost invariant = { λ p. words.IsKept p.claimed p.records.items };
 }
 
 impl Progress {
@@ -92,7 +60,7 @@ impl Progress {
             has_id: false,
             has_resource: false,
             records: Vec::new(alloc),
-            keys: BTreeSet::new(alloc),
+            claimed: Claimed::new(alloc),
         }
     }
 
@@ -126,16 +94,17 @@ impl Progress {
             has_id,
             has_resource,
             mut records,
-            mut keys,
+            mut claimed,
         } = self;
+        let from = records.len();
         let mut found = found;
-        claim_keys(&mut keys, &found, fault)?;
         records.append(&mut found)?;
+        claimed.claim_from(&records, from, fault)?;
         Ok(Progress {
             has_id: has_id || is_id(operation),
             has_resource: has_resource || is_resource(operation),
             records,
-            keys,
+            claimed,
         })
     }
 
@@ -148,7 +117,7 @@ impl Progress {
             has_id: _,
             has_resource: _,
             records,
-            keys: _,
+            claimed: _,
         } = self;
         records
     }

@@ -1,5 +1,5 @@
 -- Nesting, and the bytes at which it changes.
-use Rattle.std.proofs.Common.{◌≡◌, ℕ, true, false, not, ◌==◌, Some, refl, sym, ap, ◌∙◌, arith}
+use Rattle.std.proofs.Common.{◌≡◌, ℕ, ◌<◌, Bool, true, false, not, ◌==◌, Some, refl, sym, ap, ◌∙◌, arith}
 use Rattle.std.proofs.lemmas.Bool.{eqb-true, and_parts, not-true}
 use Rattle.std.proofs.lemmas.Bool.Decides.{nat_tests}
 use Rattle.iocm_statements.specs.declared.nesting.Nesting.{Nesting}
@@ -12,6 +12,15 @@ outside_is_start p out =
     let depth : p.depth ≡ 0 = eqb-true p.depth 0 (and_parts (not p.quoted) (p.depth == 0) out).1 in
     let quoted : p.quoted ≡ false = not-true p.quoted (and_parts (not p.quoted) (p.depth == 0) out).0 in
     λ i. record { depth = depth i; quoted = quoted i }
+
+-- a byte behind the comma in the code leaves the nesting: all bytes that change it come before
+pub letters_step : (p : Nesting) (b : ℕ) → 44 < b → step p b ≡ Some p
+unfolding step
+letters_step p b greater = by_quotes p.quoted
+  where
+    by_quotes : (q : Bool) → step (record p { quoted = q }) b ≡ Some (record p { quoted = q })
+    by_quotes true = grind (arith, nat_tests, greater)
+    by_quotes false = grind (arith, nat_tests, greater)
 
 pub start_is_outside : is_outside start ≡ true
 unfolding is_outside

@@ -4,9 +4,9 @@ ghost use Rattle.iocm_types.specs.Fault.{Gives};
 ghost use Rattle.iocm_statements.specs.Operands as operand;
 ghost use Rattle.iocm_statements.specs.Operands.{has_twins, same_key, without_twins};
 
-use crate::{OperandKey, Operands};
+use crate::{OperandKey, Operands, ShortText};
 use indexmap::IndexMap;
-use iocm_types::{Fault, Text};
+use iocm_types::Fault;
 use std::alloc::Global;
 
 /// The most operands whose keys are compared one with another. A deck has a statement for each
@@ -16,7 +16,7 @@ const FEW: usize = 8;
 /// The operands under their keys, unless two have the same key.
 pub(crate) fn keyed(
     alloc: Global,
-    operands: Vec<(OperandKey, Text)>,
+    operands: Vec<(OperandKey, ShortText)>,
     twice: Fault,
 ) -> Result<Operands, Fault>
     ensures { Gives (λ o. o) result (without_twins twice operands.items) }
@@ -32,7 +32,7 @@ pub(crate) fn keyed(
 
 /// Whether two of these operands have the same key: each is compared with those behind it.
 #[tactic(auto, using(crate::proofs::Twins::pairs))]
-fn have_twins(operands: &[(OperandKey, Text)]) -> bool
+fn have_twins(operands: &[(OperandKey, ShortText)]) -> bool
     ensures { result ≡ has_twins operands.now }
 {
     let mut rest = operands;
@@ -46,7 +46,7 @@ fn have_twins(operands: &[(OperandKey, Text)]) -> bool
 }
 
 /// Whether one of these operands has a key.
-fn has_key(operands: &[(OperandKey, Text)], key: &OperandKey) -> bool
+fn has_key(operands: &[(OperandKey, ShortText)], key: &OperandKey) -> bool
     ensures { result ≡ list_any (λ (other : operand.Operand). same_key other.0 key.now) operands.now }
 {
     operands.iter().any(|(other, _)| other == key)
@@ -55,7 +55,7 @@ fn has_key(operands: &[(OperandKey, Text)], key: &OperandKey) -> bool
 /// The same for operands of any number: they come one by one into a map.
 fn keyed_by_map(
     alloc: Global,
-    operands: Vec<(OperandKey, Text)>,
+    operands: Vec<(OperandKey, ShortText)>,
     twice: Fault,
 ) -> Result<Operands, Fault>
     ensures { Gives (λ o. o) result (without_twins twice operands.items) }

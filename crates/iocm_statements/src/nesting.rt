@@ -34,7 +34,7 @@ impl Nesting {
     pub fn cuts(self, byte: u8) -> bool
         ensures { result ≡ nesting.cuts self byte }
     {
-        self.is_outside() && byte == b','
+        byte == b',' && self.is_outside()
     }
 
     /// Whether `byte` is an equal sign that ends a keyword here.
@@ -42,16 +42,19 @@ impl Nesting {
     pub fn sets(self, byte: u8) -> bool
         ensures { result ≡ nesting.sets self byte }
     {
-        self.is_outside() && byte == b'='
+        byte == b'=' && self.is_outside()
     }
 
     /// The nesting behind `byte`; `None` behind a parenthesis that closes nothing.
-    #[tactic(auto, unfolding(crate::specs::Nesting::step))]
+    #[tactic(auto, using(crate::proofs::Nestings::letters_step), unfolding(crate::specs::Nesting::step))]
     pub fn after(self, byte: u8) -> Option<Self>
         requires { self.depth + 1 < 2 ^ 64 }
         ensures next { result ≡ nesting.step self byte }
         ensures depth { IfSome result (λ next. next.depth ≤ self.depth + 1) }
     {
+        if byte > b',' {
+            return Some(self);
+        }
         match byte {
             b'\'' => Some(Nesting {
                 quoted: !self.quoted,

@@ -1,16 +1,17 @@
-ghost use Rattle.std.specs.Prelude.{◌≡◌, ◌+◌, ◌≤◌, length, map, IfSome};
+ghost use Rattle.std.specs.Prelude.{◌≡◌, ◌+◌, ◌≤◌, length, map, IfOk, IfSome};
 ghost use Rattle.std.specs.List.{list_all};
 ghost use Rattle.iocm_types.specs.Fault.{Gives};
 ghost use Rattle.iocm_types.specs.Each.{each};
 ghost use Rattle.iocm_statements.specs.Nesting.{start};
 ghost use Rattle.iocm_statements.specs.Operands.{equals_from, is_keyword_byte, is_keyword, keyword_operand};
 ghost use Rattle.iocm_statements.specs.Operands.{operand_of, operand_texts};
+ghost use Rattle.iocm_statements.specs.declared.operands.OperandKey.TheVariants.{Keyword};
 
-use crate::OperandKey;
 use crate::nesting::Nesting;
 use crate::split::pieces;
-use iocm_types::{Fault, Text};
-use std::alloc::Global;
+use crate::{OperandKey, ShortText};
+use iocm_types::Fault;
+use std::alloc::{AllocError, Global};
 
 /// Where the first equal sign outside parentheses and quotes stands.
 #[tactic(auto, using(crate::proofs::Splitting::splitting))]
@@ -47,7 +48,7 @@ fn keyword_operand(
     text: &[u8],
     equals: usize,
     malformed: Fault,
-) -> Result<(OperandKey, Text), Fault>
+) -> Result<(OperandKey, ShortText), Fault>
     requires { equals + 1 ≤ length text.now }
     ensures { Gives (λ operand. operand) result (keyword_operand malformed text.now equals) }
 {
@@ -56,8 +57,20 @@ fn keyword_operand(
     if !is_keyword(keyword) {
         return Err(malformed);
     }
-    let key = OperandKey::Keyword(Text::from_slice(alloc, keyword)?);
-    Ok((key, Text::from_slice(alloc, value)?))
+    Ok(under_keyword(alloc, keyword, value)?)
+}
+
+/// The operand of a keyword and a value.
+fn under_keyword(
+    alloc: Global,
+    keyword: &[u8],
+    value: &[u8],
+) -> Result<(OperandKey, ShortText), AllocError>
+    ensures { IfOk result (λ operand. operand ≡ (Keyword keyword.now, value.now)) }
+{
+    let key = ShortText::from_slice(alloc, keyword)?;
+    let text = ShortText::from_slice(alloc, value)?;
+    Ok((OperandKey::Keyword(key), text))
 }
 
 /// The operand at this place of its statement.
@@ -66,7 +79,7 @@ fn make_operand(
     place: usize,
     text: &[u8],
     malformed: Fault,
-) -> Result<(OperandKey, Text), Fault>
+) -> Result<(OperandKey, ShortText), Fault>
     ensures { Gives (λ operand. operand) result (operand_of malformed place text.now) }
 {
     if text.is_empty() {
@@ -74,7 +87,7 @@ fn make_operand(
     }
     match equals_at(text) {
         Some(equals) => keyword_operand(alloc, text, equals, malformed),
-        None => Ok((OperandKey::Bare(place), Text::from_slice(alloc, text)?)),
+        None => Ok((OperandKey::Bare(place), ShortText::from_slice(alloc, text)?)),
     }
 }
 
@@ -84,7 +97,7 @@ pub(crate) fn make_operands(
     alloc: Global,
     texts: &[&[u8]],
     malformed: Fault,
-) -> Result<Vec<(OperandKey, Text)>, Fault>
+) -> Result<Vec<(OperandKey, ShortText)>, Fault>
     ensures { Gives (λ v. v.items) result (each (operand_of malformed) 0 (map (λ k. k.now) texts.now)) }
 {
     let mut operands = Vec::with_capacity(alloc, texts.len())?;

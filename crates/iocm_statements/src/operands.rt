@@ -2,8 +2,8 @@ ghost use Rattle.std.specs.Prelude.{◌≡◌, ◌<◌, length, slice_index_or, 
 ghost use Rattle.std.specs.Option.{option_copied};
 ghost use Rattle.iocm_statements.specs.Operands as operand;
 
+use crate::ShortText;
 use indexmap::IndexMap;
-use iocm_types::Text;
 use std::alloc::{AllocError, Global};
 use std::marker::Model;
 
@@ -11,7 +11,7 @@ use std::marker::Model;
 /// counted from 0 over all operands.
 #[derive(Debug, Drop, PartialEq, Eq, Hash)]
 pub enum OperandKey {
-    Keyword(Text),
+    Keyword(ShortText),
     Bare(usize),
 }
 
@@ -30,7 +30,7 @@ impl OperandKey {
 /// The operands of a statement in their order. Contracts see the list of keys and texts.
 #[derive(Drop)]
 pub struct Operands {
-    list: Vec<(OperandKey, Text)>,
+    list: Vec<(OperandKey, ShortText)>,
 }
 
 impl Model for Operands {
@@ -44,7 +44,7 @@ impl Model for Operands {
 
 impl Operands {
     /// The operands of a list.
-    pub(crate) fn from_list(list: Vec<(OperandKey, Text)>) -> Self
+    pub(crate) fn from_list(list: Vec<(OperandKey, ShortText)>) -> Self
         ensures { result ≡ list.items }
     {
         Operands { list }
@@ -54,7 +54,7 @@ impl Operands {
     /// statement for each device, so the map is let go. Answers the want of memory alone.
     pub(crate) fn from_map(
         alloc: Global,
-        map: IndexMap<OperandKey, Text>,
+        map: IndexMap<OperandKey, ShortText>,
     ) -> Result<Self, AllocError>
         ensures { IfOk result (λ operands. operands ≡ map.entries) }
     {

@@ -11,7 +11,7 @@ use iocm_types::{Fault, Rule};
 use std::alloc::Global;
 
 /// The operands of the operand part `text` of a statement at `line`.
-fn make_operand_map(alloc: Global, line: usize, text: &[u8]) -> Result<Operands, Fault>
+fn make_operands_of(alloc: Global, line: usize, text: &[u8]) -> Result<Operands, Fault>
     ensures { Gives (λ o. o) result (operands_of line text.now) }
 {
     let unmatched = Fault {
@@ -40,7 +40,7 @@ fn make_statement(alloc: Global, joined: &Joined) -> Result<Statement, Fault>
         line: joined.line,
     };
     let operation = Operation::named(joined.operation.as_slice()).ok_or(unknown)?;
-    let operands = make_operand_map(alloc, joined.line, joined.text.as_slice())?;
+    let operands = make_operands_of(alloc, joined.line, joined.text.as_slice())?;
     Ok(Statement {
         name: joined.name.copy_in(alloc)?,
         operation,

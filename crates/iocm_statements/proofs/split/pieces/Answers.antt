@@ -1,5 +1,5 @@
 -- A comma ends the piece at hand; another byte goes to it.
-use Rattle.std.proofs.Common.{◌≡◌, ◌+◌, refl, sym, ap, ◌∙◌, arith, rules, map, Bor, List, ℕ}
+use Rattle.std.proofs.Common.{◌+◌, refl, sym, ap, ◌∙◌, rules, map, Bor, List, ℕ}
 use Rattle.std.proofs.lemmas.List.{map-append}
 use Rattle.iocm_statements.proofs.Cutting.{cut_ends_piece, byte_joins_piece}
 use Rattle.iocm_statements.proofs.split.pieces.Goals.{then-cuts+in_ok-push, else-cuts+in_ok-nesting}

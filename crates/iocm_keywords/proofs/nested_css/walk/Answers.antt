@@ -2,8 +2,8 @@ use Rattle.std.proofs.Common.{refl, sym, ap, subst, ◌∙◌, ◌++◌, arith}
 use Rattle.std.specs.Prelude.{option_to_list}
 use Rattle.std.specs.List.{slice_get}
 use Rattle.iocm_keywords.proofs.Outer.{IsWalked, css_is_opened, css_is_closed, level_goes_on, ends_with, ends_without}
-use Rattle.iocm_keywords.proofs.nested_css.names_several_css.Goals.{then-opens_css+in_ok-push, else-opens_css+in-Some, else-opens_css+in_default}
-use Rattle.iocm_keywords.proofs.nested_css.names_several_css.Goals as goal
+use Rattle.iocm_keywords.proofs.nested_css.walk.Goals.{then-opens_css+in_ok-push, else-opens_css+in-Some, else-opens_css+in_default}
+use Rattle.iocm_keywords.proofs.nested_css.walk.Goals as goal
 
 pub loop-index-init : goal.loop-index-init
 loop-index-init c =

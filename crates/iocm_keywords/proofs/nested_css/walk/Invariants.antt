@@ -1,5 +1,5 @@
 use Rattle.iocm_keywords.proofs.Outer.{IsWalked}
-use Rattle.iocm_keywords.proofs.nested_css.names_several_css.Given as goal
+use Rattle.iocm_keywords.proofs.nested_css.walk.Given as goal
 
 abbrev pub invariant-loop-index : goal.invariant-loop-index
 invariant-loop-index l = IsWalked l.text l.outer.items l.index l.level
