@@ -1,6 +1,7 @@
 -- A walk over the records of one kind finds the first of all records that is so.
-use Rattle.std.proofs.Common.{◌≡◌, ℕ, ◌<◌, ◌≤◌, Bool, true, false, cond, nat_lt, ◌||◌, is_some, None, Some, List, [], ◌∷◌, map, T, refl, sym, ap, subst, ◌∙◌, arith}
-use Rattle.std.proofs.lemmas.Bool.{ltb-true}
+use Rattle.std.proofs.Common.{◌≡◌, ℕ, ◌≤◌, Bool, true, false, cond, nat_lt, ◌||◌, is_some, None, Some, List, [], ◌∷◌, map, T, refl, sym, ap, subst, ◌∙◌, arith}
+use Rattle.std.proofs.lemmas.Bool.{false≢true}
+use Rattle.std.proofs.lemmas.Bool.Decides.{nat_tests}
 use Rattle.std.proofs.lemmas.Map.Keys.{ge_from_not_lt}
 use Rattle.std.specs.Cmp.{nat_cmp_total}
 use Rattle.std.specs.Cmp.Lexicographic.{slice_cmp}
@@ -60,11 +61,11 @@ own_from first (e ∷ es) own = by (is_le (key_cmp first e.0)) (own_from first e
     by true rest = (own.0, rest)
     by false rest = rest
 
-module _ (is_so : Rec → Bool) (place : ℕ) (first : Key) (before : IsBeforeKind first place) (of_kind : AreOfKind is_so place) where
+module _ (is_so : Rec → Bool) (first : Key) (from : (r : Rec) → is_so r ≡ true → is_le (key_cmp first (key_of r)) ≡ true) where
   -- a record that stands before the first key is not so
   not_so : (e : Key × Rec) → e.0 ≡ key_of e.1 → is_le (key_cmp first e.0) ≡ false → (b : Bool) → is_so e.1 ≡ b → is_so e.1 ≡ false
   not_so e own behind true so =
-      let no : is_le (key_cmp first e.0) ≡ true = before e.0 (ap kind_of own ∙ of_kind e.1 so) in cc
+      let no : is_le (key_cmp first e.0) ≡ true = ap (λ (k : Key). is_le (key_cmp first k)) own ∙ from e.1 so in cc
   not_so e own behind false so = so
 
   same_from : (es : List (Key × Rec)) → AreOwn es → first_record is_so (in_entries (rows_from key_cmp first es)) ≡ first_record is_so (in_entries es)
@@ -79,14 +80,19 @@ module _ (is_so : Rec → Bool) (place : ℕ) (first : Key) (before : IsBeforeKi
       by true is same = ap (cond (is_so e.1) (Some e.1)) same
       by false is same = same ∙ ap (λ b. cond b (Some e.1) (first_record is_so (in_entries es))) (sym (not_so e own.0 is (is_so e.1) refl))
 
-  -- from the first key of its kind on nothing is missed
-  pub left_at_first : (c : Configuration) → IsKeyed c → IsLeft is_so (records_of c) (rows_from key_cmp first (entries c))
-  left_at_first c keyed =
+  -- from a key on that none that is so stands before nothing is missed
+  pub left_from : (c : Configuration) → IsKeyed c → IsLeft is_so (records_of c) (rows_from key_cmp first (entries c))
+  left_from c keyed =
       let own = own_entries c keyed in record {
         own = own_from first (entries c) own;
         up = is_sorted-where_key key_cmp (λ k. is_le (key_cmp first k)) (entries c) (entries_sorted c);
         same = same_from (entries c) own;
       }
+
+-- from the first key of its kind on nothing is missed
+pub left_at_first : (is_so : Rec → Bool) (place : ℕ) (first : Key) → IsBeforeKind first place → AreOfKind is_so place
+    → (c : Configuration) → IsKeyed c → IsLeft is_so (records_of c) (rows_from key_cmp first (entries c))
+left_at_first is_so place first before of_kind = left_from is_so first (λ r so. before (key_of r) (of_kind r so))
 
 -- ---- one entry more
 
@@ -129,7 +135,7 @@ begins_with_kind (key.Unit number) = refl
 begins_with_kind (key.Device set number) = refl
 begins_with_kind (key.Online css path name) = refl
 
-not_behind : (a b : ℕ) (r s : Ordering) → nat_cmp a b ≡ r → ordering_then r s ≡ Less → a ≤ b
+pub not_behind : (a b : ℕ) (r s : Ordering) → nat_cmp a b ≡ r → ordering_then r s ≡ Less → a ≤ b
 not_behind a b Less s is less = ge_from_not_lt b a (ap is_lt (nat_cmp_total.antisymm b a ∙ ap ordering_reverse is))
 not_behind a b Equal s is less = ge_from_not_lt b a (ap is_lt (nat_cmp_total.antisymm b a ∙ ap ordering_reverse is))
 not_behind a b Greater s is less = cc
@@ -139,31 +145,44 @@ pub kinds_rise : (a b : Key) → key_cmp a b ≡ Less → kind_of a ≤ kind_of 
 kinds_rise a b less = not_behind (kind_of a) (kind_of b) (nat_cmp (kind_of a) (kind_of b)) (slice_cmp nat_cmp (rest_of a) (rest_of b)) refl
     (sym (λ i. slice_cmp nat_cmp (begins_with_kind a i) (begins_with_kind b i)) ∙ less)
 
-module _ (is_so : Rec → Bool) (place : ℕ) (of_kind : AreOfKind is_so place) where
-  -- a record of a later kind is not so
-  later_kind : (r : Rec) → place < kind_of (key_of r) → (b : Bool) → is_so r ≡ b → is_so r ≡ false
-  later_kind r past true so = let same = of_kind r so in absurd (omega arith)
-  later_kind r past false so = so
+-- keys behind all records that are so; what is behind such a key is one
+pub record AreBehind (is_so : Rec → Bool) (past : Key → Bool) : Type 0 where
+  pub rise : (a b : Key) → key_cmp a b ≡ Less → past a ≡ true → past b ≡ true
+  pub none : (r : Rec) → is_so r ≡ true → past (key_of r) ≡ false
 
-  none_behind : (k : Key) (es : List (Key × Rec)) → place < kind_of k → AreOwn es → T (below_all key_cmp k es) → first_record is_so (in_entries es) ≡ None
+module _ (is_so : Rec → Bool) (past : Key → Bool) (behind : AreBehind is_so past) where
+  -- a record at such a key is not so
+  not_past : (e : Key × Rec) → e.0 ≡ key_of e.1 → past e.0 ≡ true → (b : Bool) → is_so e.1 ≡ b → is_so e.1 ≡ false
+  not_past e own is true so = absurd (false≢true (sym (ap past own ∙ behind.none e.1 so) ∙ is))
+  not_past e own is false so = so
+
+  none_behind : (k : Key) (es : List (Key × Rec)) → past k ≡ true → AreOwn es → T (below_all key_cmp k es) → first_record is_so (in_entries es) ≡ None
   unfolding first_record
-  none_behind k [] past own below = refl
-  none_behind k (e ∷ es) past own below =
-      let rise : kind_of k ≤ kind_of e.0 = kinds_rise k e.0 (less_is _ (first_holds (is_lt (key_cmp k e.0)) _ below)) in
-      let kind : kind_of e.0 ≡ kind_of (key_of e.1) = ap kind_of own.0 in
-      ap (λ b. cond b (Some e.1) (first_record is_so (in_entries es))) (later_kind e.1 (omega arith) (is_so e.1) refl)
-      ∙ none_behind k es past own.1 (second_holds _ _ below)
+  none_behind k [] is own below = refl
+  none_behind k (e ∷ es) is own below =
+      let here = behind.rise k e.0 (less_is _ (first_holds (is_lt (key_cmp k e.0)) _ below)) is in
+      ap (λ b. cond b (Some e.1) (first_record is_so (in_entries es))) (not_past e own.0 here (is_so e.1) refl)
+      ∙ none_behind k es is own.1 (second_holds _ _ below)
 
-  -- where the walk is past the kind, no record is so
-  pub none_past : (records : List Rec) (e : Key × Rec) (es : List (Key × Rec)) → nat_lt place (kind_of e.0) ≡ true → IsLeft is_so records (e ∷ es)
+  -- where the walk is behind them, no record is so
+  pub none_from : (records : List Rec) (e : Key × Rec) (es : List (Key × Rec)) → past e.0 ≡ true → IsLeft is_so records (e ∷ es)
       → None ≡ option_map key_of (first_record is_so records)
   unfolding first_record
-  none_past records e es test left =
-      let past = ltb-true place (kind_of e.0) test in
-      let kind : kind_of e.0 ≡ kind_of (key_of e.1) = ap kind_of left.own.0 in
+  none_from records e es is left =
       sym (ap (option_map key_of) (sym left.same
-      ∙ ap (λ b. cond b (Some e.1) (first_record is_so (in_entries es))) (later_kind e.1 (omega arith) (is_so e.1) refl)
-      ∙ none_behind e.0 es past left.own.1 (first_holds _ _ left.up)))
+      ∙ ap (λ b. cond b (Some e.1) (first_record is_so (in_entries es))) (not_past e left.own.0 is (is_so e.1) refl)
+      ∙ none_behind e.0 es is left.own.1 (first_holds _ _ left.up)))
+
+later_kind : (is_so : Rec → Bool) (place : ℕ) → AreOfKind is_so place → AreBehind is_so (λ k. nat_lt place (kind_of k))
+later_kind is_so place of_kind = record {
+  rise = λ a b less past. let up = kinds_rise a b less in grind (arith, nat_tests);
+  none = λ r so. let same = of_kind r so in grind (arith, nat_tests);
+}
+
+-- where the walk is past the kind, no record is so
+pub none_past : (is_so : Rec → Bool) (place : ℕ) → AreOfKind is_so place → (records : List Rec) (e : Key × Rec) (es : List (Key × Rec))
+    → nat_lt place (kind_of e.0) ≡ true → IsLeft is_so records (e ∷ es) → None ≡ option_map key_of (first_record is_so records)
+none_past is_so place of_kind = none_from is_so (λ k. nat_lt place (kind_of k)) (later_kind is_so place of_kind)
 
 -- where nothing is left, no record is so
 pub none_left : (is_so : Rec → Bool) (records : List Rec) → IsLeft is_so records [] → None ≡ option_map key_of (first_record is_so records)
