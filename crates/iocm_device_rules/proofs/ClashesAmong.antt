@@ -17,19 +17,20 @@ use Rattle.iocm_model.specs.Machine.Configuration.{Configuration, IsKeyed, looku
 use Rattle.iocm_model.specs.Rules.EachRule.{breaks_v10}
 use Rattle.iocm_model.specs.Rules.FirstBreach.{first_record}
 use Rattle.iocm_lookup.specs.Indexed.{IsIndexOf}
-use Rattle.iocm_lookup.specs.Among.{least_of, is_one_of}
+use Rattle.iocm_lookup.specs.Among.{least_of, is_one_of, is_so_at}
+use Rattle.iocm_lookup.specs.Repeats.{address_in}
+use Rattle.iocm_lookup.proofs.RepeatedUsers.{first_is_repeated}
 use Rattle.iocm_lookup.proofs.AtMost.{IsAtMost, least_at_most}
 use Rattle.iocm_lookup.proofs.Firsts.{IsSoAt, least_so_is_first}
 use Rattle.iocm_lookup.proofs.LeastAmong.{each_given_holds, least_among}
-use Rattle.iocm_device_rules.specs.Addresses.{address_in, clash_on, clash_at, units_in}
+use Rattle.iocm_device_rules.specs.Addresses.{unit_address, any_record, clash_on, clash_at, units_in}
 use Rattle.iocm_device_rules.specs.Among.{AreClashesAt}
-use Rattle.iocm_device_rules.proofs.Clashes.{first_is_clash}
 use Rattle.iocm_device_rules.proofs.Culprits.{IsCulprit, culprit_found, clash_breaks, clash_not_behind}
 
 module _ (c : Configuration) (t : Stored Naming (Unit {0})) (keyed : IsKeyed c) (of : IsIndexOf c t) where
   unit_gives : (n : ℕ) (k : Key) → clash_on (lookup_of c) (rows naming_cmp t) n ≡ Some k → IsSoAt (breaks_v10 c) (get c) k
   unit_gives n k is = clash_breaks c t keyed of n k
-      (first_is_clash (λ q. address_in (lookup_of c q)) (λ a. false) _ (users_in_order (thing.Record (key.Unit n)) (rows naming_cmp t)) k is)
+      (first_is_repeated (λ q. address_in unit_address (lookup_of c q)) (is_so_at any_record (lookup_of c)) (λ a. false) _ (users_in_order (thing.Record (key.Unit n)) (rows naming_cmp t)) k is)
 
   key_gives : (q k : Key) → clash_at (lookup_of c) (rows naming_cmp t) q ≡ Some k → IsSoAt (breaks_v10 c) (get c) k
   key_gives q = each_given_holds (clash_on (lookup_of c) (rows naming_cmp t)) (IsSoAt (breaks_v10 c) (get c)) unit_gives (units_in (get c q))

@@ -5,7 +5,7 @@ use Rattle.std.proofs.lemmas.Bool.{false≢true}
 use Rattle.std.proofs.lemmas.Bool.Decides.{nat_tests}
 use Rattle.std.proofs.lemmas.List.Folds.{list_any-append}
 use Rattle.std.specs.List.{list_any}
-use Rattle.std.specs.Option.{option_map}
+use Rattle.std.specs.Option.{option_map, option_map_or}
 use Rattle.std.specs.Ordering.{is_lt, eq_by_cmp}
 use Rattle.std.specs.FinMap.{get}
 use Rattle.iocm_types.specs.declared.key.Key.{Key}
@@ -30,12 +30,12 @@ use Rattle.iocm_model.proofs.Machine.OwnKeys.{keyed_own}
 use Rattle.iocm_lookup.specs.Indexed.{names, IsIndexOf}
 use Rattle.iocm_lookup.proofs.Anys.{or_later}
 use Rattle.iocm_lookup.proofs.Members.{record_found, record_there}
-use Rattle.iocm_lookup.proofs.Walks.{first_of_any}
-use Rattle.iocm_lookup.specs.Among.{least_of}
+use Rattle.iocm_lookup.specs.Among.{least_of, is_so_at}
 use Rattle.iocm_lookup.proofs.AtMost.{IsAtMost, least_at_most, least_is_given, IsGiver}
-use Rattle.iocm_lookup.proofs.Firsts.{IsSoAt, least_so_is_first, records_are_there}
-use Rattle.iocm_device_rules.specs.Addresses.{address_in, clash_on, clash_of}
-use Rattle.iocm_device_rules.proofs.Clashes.{IsClash, IsBefore, less_key, first_is_clash, clash_has_first}
+use Rattle.iocm_lookup.proofs.Firsts.{IsSoAt, least_so_is_first, records_are_there, none_is_so}
+use Rattle.iocm_lookup.specs.Repeats.{address_in}
+use Rattle.iocm_lookup.proofs.RepeatedUsers.{IsRepeated, IsBefore, less_key, first_is_repeated, repeated_has_first}
+use Rattle.iocm_device_rules.specs.Addresses.{unit_address, any_record, clash_on, clash_of}
 
 -- ---- tests
 
@@ -128,7 +128,7 @@ record IsDeviceAt (o : Option Rec) (at : ℕ) : Type 0 where
   is : o ≡ Some (device one)
   has : one.unit_address ≡ at
 
-device_at : (o : Option Rec) (at : ℕ) → address_in o ≡ Some at → IsDeviceAt o at
+device_at : (o : Option Rec) (at : ℕ) → address_in unit_address o ≡ Some at → IsDeviceAt o at
 device_at None at h = cc
 device_at (Some (device d)) at h = let same : d.unit_address ≡ at = cc in record { one = d; is = refl; has = same }
 device_at (Some (id x)) at h = cc
@@ -210,7 +210,11 @@ module _ (c : Configuration) (t : Stored Naming (Unit {0})) (keyed : IsKeyed c) 
   users n = users_in (thing.Record (key.Unit n)) (rows naming_cmp t)
 
   abbrev address : Key → Option ℕ
-  address k = address_in (lookup_of c k)
+  address k = address_in unit_address (lookup_of c k)
+
+  -- each is looked for
+  abbrev wanted : Key → Bool
+  wanted k = is_so_at any_record (lookup_of c) k
 
   abbrev no_address : ℕ → Bool
   no_address a = false
@@ -221,10 +225,10 @@ module _ (c : Configuration) (t : Stored Naming (Unit {0})) (keyed : IsKeyed c) 
 
   -- ---- a clash is a device that breaks the rule
 
-  pub clash_breaks : (n : ℕ) (k : Key) → IsClash address no_address (users n) k → IsSoAt (breaks_v10 c) (get c) k
+  pub clash_breaks : (n : ℕ) (k : Key) → IsRepeated address wanted no_address (users n) k → IsSoAt (breaks_v10 c) (get c) k
   clash_breaks n k clash = by clash.before
     where
-      with_both : (b : IsBefore address (users n) k clash.at) → IsDeviceAt (get c k) clash.at → IsDeviceAt (get c b.other) clash.at → IsSoAt (breaks_v10 c) (get c) k
+      with_both : (b : IsBefore address wanted (users n) k clash.at) → IsDeviceAt (get c k) clash.at → IsDeviceAt (get c b.other) clash.at → IsSoAt (breaks_v10 c) (get c) k
       with_both b d e = record {
         one = device d.one;
         there = d.is;
@@ -235,13 +239,13 @@ module _ (c : Configuration) (t : Stored Naming (Unit {0})) (keyed : IsKeyed c) 
             (sym (is_user n k d.one d.is) ∙ clash.there))));
       }
 
-      by : (no_address clash.at ≡ true) ⊎ IsBefore address (users n) k clash.at → IsSoAt (breaks_v10 c) (get c) k
+      by : (no_address clash.at ≡ true) ⊎ IsBefore address wanted (users n) k clash.at → IsSoAt (breaks_v10 c) (get c) k
       by (inl m) = absurd (false≢true m)
       by (inr b) = with_both b (device_at (get c k) clash.at clash.has) (device_at (get c b.other) clash.at b.has)
 
   giver_breaks : (r : Rec) (k : Key) → clash_of (lookup_of c) (rows naming_cmp t) r ≡ Some k → IsSoAt (breaks_v10 c) (get c) k
   giver_breaks (unit u) k is = clash_breaks u.number k
-      (first_is_clash address no_address (users u.number) (users_in_order (thing.Record (key.Unit u.number)) (rows naming_cmp t)) k is)
+      (first_is_repeated address wanted no_address (users u.number) (users_in_order (thing.Record (key.Unit u.number)) (rows naming_cmp t)) k is)
   giver_breaks (id x) k is = cc
   giver_breaks (resource x) k is = cc
   giver_breaks (image x) k is = cc
@@ -260,19 +264,20 @@ module _ (c : Configuration) (t : Stored Naming (Unit {0})) (keyed : IsKeyed c) 
   -- ---- a device that breaks the rule is a clash on a unit
 
   -- a device that breaks the rule is a clash on a common unit
-  pub clash_of_culprit : (k : Key) (culprit : IsCulprit c k) → IsClash address no_address (users culprit.before.unit) k
+  pub clash_of_culprit : (k : Key) (culprit : IsCulprit c k) → IsRepeated address wanted no_address (users culprit.before.unit) k
   clash_of_culprit k culprit =
       let d = culprit.one in
       let o = culprit.before in
       let e = o.other in
       record {
         there = is_user o.unit k d culprit.here ∙ o.in_own;
+        so = ap (λ r. option_map_or any_record r false) culprit.here;
         at = d.unit_address;
-        has = ap address_in culprit.here;
+        has = ap (address_in unit_address) culprit.here;
         before = inr (record {
           other = key_of (device e);
           there = is_user o.unit (key_of (device e)) e o.there ∙ o.in_other;
-          has = ap address_in o.there
+          has = ap (address_in unit_address) o.there
               ∙ ap Some (same_number e.unit_address d.unit_address (first_of (nat_eq e.unit_address d.unit_address) _ (second_of (stands_before (device e) (device d)) _ o.so)));
           less = less_key (key_cmp (key_of (device e)) k) (ap (λ (q : Key). is_lt (key_cmp (key_of (device e)) q)) (sym (keyed_own c keyed k (device d) culprit.here))
               ∙ first_of (stands_before (device e) (device d)) _ o.so);
@@ -283,19 +288,10 @@ module _ (c : Configuration) (t : Stored Naming (Unit {0})) (keyed : IsKeyed c) 
   pub clash_not_behind : (k : Key) (culprit : IsCulprit c k) → IsAtMost (clash_on (lookup_of c) (rows naming_cmp t) culprit.before.unit) k
   clash_not_behind k culprit =
       let n = culprit.before.unit in
-      let f = clash_has_first address no_address (users n) (users_in_order (thing.Record (key.Unit n)) (rows naming_cmp t)) k (clash_of_culprit k culprit) in
+      let f = repeated_has_first address wanted no_address (users n) (users_in_order (thing.Record (key.Unit n)) (rows naming_cmp t)) k (clash_of_culprit k culprit) in
       record { found = f.found; is = f.is; not_behind = f.not_behind }
 
   module _ (kept : first_record (breaks_v8 c) (records_of c) ≡ None) where
-    keeps : (k : Key) (r : Rec) → get c k ≡ Some r → (b : Bool) → breaks_v8 c r ≡ b → breaks_v8 c r ≡ false
-    keeps k r here true is = absurd (false≢true (sym (sym (first_of_any (breaks_v8 c) (records_of c)) ∙ ap (λ o. is_there (option_map key_of o)) kept)
-        ∙ record_there c (breaks_v8 c) k r here is))
-      where
-        is_there : Option Key → Bool
-        is_there None = false
-        is_there (Some q) = true
-    keeps k r here false is = is
-
     -- the unit that is there gives a key that is not behind it
     given : (k : Key) (culprit : IsCulprit c k) (r : Rec) → is_unit culprit.before.unit r ≡ true → IsAtMost (clash_of (lookup_of c) (rows naming_cmp t) r) k
     given k culprit (unit u) same = subst (λ (n : ℕ). IsAtMost (clash_on (lookup_of c) (rows naming_cmp t) n) k) (sym (same_number u.number culprit.before.unit same))
@@ -314,7 +310,7 @@ module _ (c : Configuration) (t : Stored Naming (Unit {0})) (keyed : IsKeyed c) 
       where
         none_missing : list_any (λ number. is_none (lookup_of c (key.Unit number))) d.units ≡ false
         none_missing = last_fails (length d.units == 0) (nat_lt 8 (length d.units)) (has_twice d.units)
-            (list_any (λ number. is_none (lookup_of c (key.Unit number))) d.units) (keeps k (device d) here (breaks_v8 c (device d)) refl)
+            (list_any (λ number. is_none (lookup_of c (key.Unit number))) d.units) (none_is_so (breaks_v8 c) c kept k (device d) here)
 
         by : (o : Option Rec) → get c (key.Unit n) ≡ o → list_any (is_unit n) (records_of c) ≡ true
         by None is = absurd (false≢true (sym none_missing ∙ number_there (λ number. is_none (lookup_of c (key.Unit number))) d.units n in_own (ap is_none is)))

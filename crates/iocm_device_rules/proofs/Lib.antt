@@ -1,4 +1,3 @@
-pub mod Clashes
 pub mod ClashesAmong
 pub mod Culprits
 pub mod JoinedPaths

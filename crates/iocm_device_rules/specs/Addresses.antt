@@ -1,38 +1,26 @@
 -- Devices with one unit address on a unit, and the least that has that of another before it.
-use Rattle.std.specs.Prelude.{ℕ, ◌==◌, ◌||◌, Bool, false, if◌then◌else◌, Option, None, Some, List, [], ◌∷◌}
+use Rattle.std.specs.Prelude.{ℕ, Bool, true, Option, None, Some, List, []}
 use Rattle.iocm_types.specs.declared.key.Key.{Key}
 use Rattle.iocm_types.specs.declared.key.Key.TheVariants as key
 use Rattle.iocm_types.specs.declared.named.Named.TheVariants as thing
 use Rattle.iocm_model.specs.Machine.Record.{Rec, unit, device}
 use Rattle.iocm_model.specs.Machine.Configuration.{Lookup}
-use Rattle.iocm_index.specs.Namings.{Namings, users_in}
+use Rattle.iocm_index.specs.Namings.{Namings}
 use Rattle.iocm_lookup.specs.Among.{least_of}
+use Rattle.iocm_lookup.specs.Repeats.{repeated_on}
 
--- the unit address of a device that is there
-abbrev pub address_in : Option Rec → Option ℕ
-address_in (Some (device d)) = Some d.unit_address
-address_in _ = None
+-- the unit address of a device
+abbrev pub unit_address : Rec → Option ℕ
+unit_address (device d) = Some d.unit_address
+unit_address _ = None
 
--- an address is one of those met
-abbrev pub is_met : (ℕ → Bool) → Option ℕ → Bool
-is_met met None = false
-is_met met (Some a) = met a
-
--- those met, and one more
-abbrev pub met_with : Option ℕ → (ℕ → Bool) → (ℕ → Bool)
-met_with None met b = met b
-met_with (Some a) met b = (b == a) || met b
-
--- of some keys the first whose address was met, or is that of a key before it
-abbrev pub first_clash : (Key → Option ℕ) → (ℕ → Bool) → List Key → Option Key
-first_clash address met [] = None
-first_clash address met (k ∷ ks) =
-    if is_met met (address k) then Some k else first_clash address (met_with (address k) met) ks
+-- each device is looked for whose unit address one before it has
+abbrev pub any_record : Rec → Bool
+any_record r = true
 
 -- of the users of a unit the first with the address of one before it
 abbrev pub clash_on : Lookup → Namings → ℕ → Option Key
-clash_on c index number =
-    first_clash (λ k. address_in (c k)) (λ a. false) (users_in (thing.Record (key.Unit number)) index)
+clash_on c index number = repeated_on unit_address any_record c index (thing.Record (key.Unit number))
 
 -- that of a unit record
 abbrev pub clash_of : Lookup → Namings → Rec → Option Key

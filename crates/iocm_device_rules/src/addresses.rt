@@ -1,6 +1,4 @@
-ghost use Rattle.std.specs.Prelude.{◌≡◌, ℕ, false, None, Some, get_or};
-ghost use Rattle.iocm_types.specs.declared.key.Key.TheVariants as key;
-ghost use Rattle.iocm_types.specs.declared.named.Named.TheVariants as thing;
+ghost use Rattle.std.specs.Prelude.{◌≡◌, None};
 ghost use Rattle.iocm_types.specs.Naming.{naming_cmp};
 ghost use Rattle.iocm_table.specs.Slots.{rows};
 ghost use Rattle.iocm_model.specs.Machine.Configuration.{lookup_of, records_of};
@@ -13,7 +11,7 @@ ghost use Rattle.iocm_lookup.specs.First.{first_key};
 
 use iocm_config::Config;
 use iocm_index::Index;
-use iocm_lookup::lesser;
+use iocm_lookup::{Addressed, first_repeated, lesser};
 use iocm_record::{Record, RecordBody};
 use iocm_types::{Key, Named, UnitNo};
 use std::alloc::Allocator;
@@ -71,42 +69,28 @@ pub(crate) fn first_clash<A: Allocator, I: Allocator>(
 ) -> Option<Key>
     ensures { result ≡ addresses.clash_on (lookup_of config.now.records) (rows naming_cmp index.now) unit }
 {
-    let mut met = [false; 256];
-    for user in index.users_of(Named::Record(Key::Unit(unit))) {
-        if meets(&mut met, address_of(config, &user)) {
-            return Some(user);
+    first_repeated(config, index, Named::Record(Key::Unit(unit)), &UnitAddress)
+}
+
+/// The unit address of a device, which no other device on one of its units has.
+#[derive(Drop)]
+struct UnitAddress;
+
+impl<A: Allocator> Addressed<A> for UnitAddress {
+    ghost use Rattle.iocm_device_rules.specs.Addresses.{unit_address, any_record};
+
+    ghost address_of = { λ s. unit_address };
+
+    ghost wants = { λ s c. any_record };
+
+    fn address(&self, entry: &Record<A>) -> Option<u8> {
+        match entry.body() {
+            RecordBody::Device(fields) => Some(fields.unit_address),
+            _ => None,
         }
     }
-    None
-}
 
-/// The unit address of a device that is there.
-fn address_of<A: Allocator>(config: &Config<A>, key: &Key) -> Option<u8>
-    ensures { result ≡ addresses.address_in (lookup_of config.now.records key.now) }
-{
-    record_address(config.get(key)?)
-}
-
-/// The unit address of a record, if it is that of a device.
-fn record_address<A: Allocator>(entry: &Record<A>) -> Option<u8>
-    ensures { result ≡ addresses.address_in (Some entry.now) }
-{
-    match entry.body() {
-        RecordBody::Device(fields) => Some(fields.unit_address),
-        _ => None,
+    fn is_wanted(&self, _config: &Config<A>, _entry: &Record<A>) -> bool {
+        true
     }
-}
-
-/// Notes that an address was met, and answers whether it was before.
-fn meets(met: &mut [bool; 256], address: Option<u8>) -> bool
-    ensures met { result ≡ addresses.is_met (λ a. get_or met.old a false) address }
-    ensures noted { (b : ℕ) → get_or met.new b false ≡ addresses.met_with address (λ a. get_or met.old a false) b }
-{
-    let Some(address) = address else {
-        return false;
-    };
-    let place = usize::from(address);
-    let was_met = met[place];
-    met[place] = true;
-    was_met
 }

@@ -1,5 +1,5 @@
 -- The first record that is so, found by its key: what is so and behind none that is so.
-use Rattle.std.proofs.Common.{◌≡◌, Bool, true, false, cond, Option, None, Some, List, [], ◌∷◌, T, refl, sym, ap, ◌∙◌}
+use Rattle.std.proofs.Common.{◌≡◌, Bool, true, false, cond, is_some, Option, None, Some, List, [], ◌∷◌, T, refl, sym, ap, ◌∙◌}
 use Rattle.std.proofs.lemmas.Bool.{false≢true}
 use Rattle.std.specs.List.{AllByRecursion}
 use Rattle.std.specs.Option.{option_map}
@@ -16,7 +16,8 @@ use Rattle.iocm_types.proofs.Tests.{first_holds, second_holds}
 use Rattle.iocm_model.specs.Machine.Record.{Rec, key_of}
 use Rattle.iocm_model.specs.Machine.Configuration.{Configuration, IsKeyed, records_of}
 use Rattle.iocm_model.specs.Rules.FirstBreach.{first_record}
-use Rattle.iocm_lookup.proofs.Walks.{AreOwn, in_entries, own_entries}
+use Rattle.iocm_lookup.proofs.Members.{record_there}
+use Rattle.iocm_lookup.proofs.Walks.{AreOwn, in_entries, own_entries, first_of_any}
 use Rattle.iocm_lookup.proofs.AtMost.{IsAtMost}
 
 -- what is found in entries that are all above a key is above it
@@ -102,3 +103,11 @@ found_each c (e ∷ es) up own is = (
 
 pub records_are_there : (c : Configuration) → IsKeyed c → AllByRecursion (λ r. get c (key_of r) ≡ Some r) (records_of c)
 records_are_there c keyed = found_each c (entries c) (entries_sorted c) (own_entries c keyed) (λ k r h. get-entries c k ∙ h)
+
+-- where there is no first record that is so, none that is there is
+pub none_is_so : (is_so : Rec → Bool) (c : Configuration) → first_record is_so (records_of c) ≡ None → (k : Key) (r : Rec) → get c k ≡ Some r → is_so r ≡ false
+none_is_so is_so c none k r here = by (is_so r) refl
+  where
+    by : (b : Bool) → is_so r ≡ b → is_so r ≡ false
+    by true is = absurd (false≢true (ap (λ o. is_some (option_map key_of o)) (sym none) ∙ first_of_any is_so (records_of c) ∙ record_there c is_so k r here is))
+    by false is = is

@@ -6,5 +6,6 @@ pub mod Leasts
 pub mod Linking
 pub mod Members
 pub mod NamedImages
+pub mod RepeatedUsers
 pub mod UserWalks
 pub mod Walks

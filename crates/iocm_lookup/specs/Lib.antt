@@ -4,3 +4,4 @@ pub mod Images
 pub mod Indexed
 pub mod Kinds
 pub mod OfKind
+pub mod Repeats

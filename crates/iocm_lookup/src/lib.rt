@@ -8,7 +8,8 @@
 //! What the layer above may rely on: what `first_wanted` answers is the first of all records, since
 //! a `Wanted` says of which kind those are that it looks for; and a naming is in the index exactly
 //! where the record of its user is in the configuration and names its thing (`IsIndexOf`).
-//! `is_image` and `is_image_in` look for an image of a name.
+//! `is_image` and `is_image_in` look for an image of a name, and `first_repeated` for two users of a
+//! thing that have one address on it.
 //!
 //! Begin with `wanted.rt`, then `specs/Indexed.antt`. What names no source is our own.
 #![tactic(auto)]
@@ -17,6 +18,7 @@ mod among;
 mod images;
 mod indexing;
 mod kind;
+mod repeats;
 mod subsystem;
 mod wanted;
 
@@ -24,5 +26,6 @@ pub use among::{first_wanted_among, is_wanted_at, lesser};
 pub use images::{is_image, is_image_in};
 pub use indexing::index_of;
 pub use kind::RecordKind;
+pub use repeats::{Addressed, first_repeated};
 pub use subsystem::subsystems;
 pub use wanted::{Wanted, first_wanted, is_any_wanted};
