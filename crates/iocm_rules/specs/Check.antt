@@ -15,7 +15,7 @@ use Rattle.iocm_lookup.specs.First.{first_key}
 abbrev pub Laws : Type 0
 Laws = List (Rule × (Rec → Bool))
 
--- V1 to V8; a rule behind them may rest on V8
+-- V1 to V8; a rule behind them may rest on V5 and on V8
 abbrev pub to_v8 : Configuration → Laws
 to_v8 c =
     (V1, breaks_v1 c) ∷ (V2, breaks_v2 c) ∷ (V3, breaks_v3 c) ∷ (V4, breaks_v4 c)

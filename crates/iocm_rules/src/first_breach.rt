@@ -2,7 +2,7 @@ ghost use Rattle.std.specs.Prelude.{◌≡◌, None, IfOk};
 ghost use Rattle.std.specs.Result.{result_err};
 ghost use Rattle.iocm_model.specs.Machine.Configuration.{records_of};
 ghost use Rattle.iocm_model.specs.Machine.Numbering.{Numbering, opening};
-ghost use Rattle.iocm_model.specs.Rules.EachRule.{breaks_v8};
+ghost use Rattle.iocm_model.specs.Rules.EachRule.{breaks_v5, breaks_v8};
 ghost use Rattle.iocm_model.specs.Rules.FirstBreach.{first_record, first_breach, first_breach_of};
 ghost use Rattle.iocm_lookup.specs.Indexed.{IsIndexOf};
 ghost use Rattle.iocm_rules.specs.Check.{from_v9, IsFirstPast};
@@ -21,7 +21,7 @@ use iocm_index::Index;
 use iocm_lookup::first_wanted;
 use iocm_numbers::Numbers;
 use iocm_types::{Key, Rule};
-use iocm_unit_rules::{SharedAddress, WrongLinks, WrongPaths, WrongRanges};
+use iocm_unit_rules::{WrongLinks, WrongPaths, WrongRanges, first_shared_address};
 use std::alloc::{AllocError, Allocator};
 
 /// The first breach of the rules V1 to V14: by rule, then by key. The index is that of the
@@ -84,13 +84,14 @@ fn first_of_all<A: Allocator, I: Allocator>(
     first_from_v9(config, past, index)
 }
 
-/// The first breach of V9 to V14, where no device breaks V8.
+/// The first breach of V9 to V14, where no unit breaks V5 and no device V8.
 fn first_from_v9<A: Allocator, I: Allocator>(
     config: &Config<A>,
     past: Option<Key>,
     index: &Index<I>,
 ) -> Option<Breach>
     requires index { IsIndexOf config.now.records index.now }
+    requires paths { first_record (breaks_v5 config.now.records) (records_of config.now.records) ≡ None }
     requires units { first_record (breaks_v8 config.now.records) (records_of config.now.records) ≡ None }
     ensures { (n : Numbering) → IsFirstPast config.now.records n past
         → result ≡ first_breach_of (from_v9 config.now.records n) (records_of config.now.records) }
@@ -101,6 +102,6 @@ fn first_from_v9<A: Allocator, I: Allocator>(
         (Rule::V11, first_wanted(config, &WrongPathList)),
         (Rule::V12, first_wanted(config, &CandidateOfNoImage)),
         (Rule::V13, past),
-        (Rule::V14, first_wanted(config, &SharedAddress { index })),
+        (Rule::V14, first_shared_address(config, index)),
     ])
 }

@@ -1,4 +1,5 @@
 pub mod Linked
 pub mod Overlaps
 pub mod PathNumbers
+pub mod SharedFirst
 pub mod Sharers

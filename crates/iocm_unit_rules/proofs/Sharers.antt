@@ -1,10 +1,8 @@
 -- The units that share an address are among those that name its paths.
 use Rattle.std.proofs.Common.{◌≡◌, ℕ, Bool, true, false, cond, ◌&&◌, ◌||◌, ◌==◌, nat_eq, List, [], ◌∷◌, map, Some, filter, refl, sym, ap, subst, ◌∙◌, arith}
-use Rattle.std.proofs.lemmas.Bool.{false≢true}
 use Rattle.std.proofs.lemmas.Bool.Decides.{nat_tests}
 use Rattle.std.specs.List.{list_any}
 use Rattle.std.specs.Ordering.{is_lt, eq_by_cmp}
-use Rattle.std.specs.FinMap.{get}
 use Rattle.iocm_types.specs.declared.css_path.CssPath.{CssPath}
 use Rattle.iocm_types.specs.declared.key.Key.TheVariants as key
 use Rattle.iocm_types.specs.declared.link.Link.{Link}
@@ -14,18 +12,19 @@ use Rattle.iocm_types.specs.declared.naming.Naming.{Naming}
 use Rattle.iocm_types.specs.Key.{key_cmp}
 use Rattle.iocm_types.specs.Naming.{named_cmp, naming_cmp}
 use Rattle.iocm_table.specs.Slots.{Stored, rows}
-use Rattle.iocm_index.specs.Namings.{users_in}
+use Rattle.iocm_types.proofs.Found.{ties_itself}
+use Rattle.iocm_index.proofs.Front.{named_total}
 use Rattle.iocm_index.proofs.Members.{users_name_it}
-use Rattle.iocm_model.specs.Machine.Record.{Rec, UnitRecord, id, resource, image, limit, path, unit, device, online, key_of}
+use Rattle.iocm_model.specs.Machine.Record.{UnitRecord, unit, key_of}
 use Rattle.iocm_model.specs.Machine.Configuration.{Configuration, IsKeyed, lookup_of}
 use Rattle.iocm_model.specs.Machine.Naming.{path_named}
 use Rattle.iocm_model.specs.Machine.Numbering.{subsystems}
 use Rattle.iocm_model.specs.Machine.PathList.{paths_in}
-use Rattle.iocm_model.specs.Rules.EachRule.{stands_before, some_before, answers_for, share_link, linked_paths, links_in, with_links, same_link, cuadd_or_zero}
+use Rattle.iocm_model.specs.Rules.EachRule.{stands_before, some_before, answers_for, share_link, linked_paths, links_in, with_links, same_link}
 use Rattle.iocm_lookup.specs.Indexed.{names, IsIndexOf}
-use Rattle.iocm_lookup.proofs.Anys.{any_implies, any_weaker}
-use Rattle.iocm_lookup.proofs.Members.{own_path, same_tests, record_found, record_there, user_found, user_there, AreUsersOf}
-use Rattle.iocm_unit_rules.specs.Sharing.{clashes, clashes_before}
+use Rattle.iocm_lookup.proofs.Anys.{any_implies, any_weaker, or_later}
+use Rattle.iocm_lookup.proofs.Members.{own_path, record_there, user_found}
+use Rattle.iocm_unit_rules.specs.Sharing.{clashes, clashes_before, clashes_on}
 use Rattle.iocm_unit_rules.proofs.PathNumbers.{is_path, path_among}
 
 -- three tests in another order
@@ -41,19 +40,23 @@ not_all_three true true false h = refl
 not_all_three true false c h = refl
 not_all_three false b c h = refl
 
-or_later : (a b : Bool) → b ≡ true → (a || b) ≡ true
-or_later true b h = refl
-or_later false b h = h
+neither_first : (a b : Bool) → (a || b) ≡ false → a ≡ false
+neither_first true b h = h
+neither_first false b h = refl
 
-first_of : (a b : Bool) → (a && b) ≡ true → a ≡ true
+neither_second : (a b : Bool) → (a || b) ≡ false → b ≡ false
+neither_second true b h = cc
+neither_second false b h = h
+
+pub first_of : (a b : Bool) → (a && b) ≡ true → a ≡ true
 first_of true b h = refl
 first_of false b h = cc
 
-second_of : (a b : Bool) → (a && b) ≡ true → b ≡ true
+pub second_of : (a b : Bool) → (a && b) ≡ true → b ≡ true
 second_of true b h = h
 second_of false b h = cc
 
-same_number : (a b : ℕ) → nat_eq a b ≡ true → a ≡ b
+pub same_number : (a b : ℕ) → nat_eq a b ≡ true → a ≡ b
 same_number a b h = grind (arith, nat_tests)
 
 turned : (a b : ℕ) → nat_eq a b ≡ nat_eq b a
@@ -101,7 +104,7 @@ named_among css n (p ∷ ps) any = by (is_path css n p) refl any (named_among cs
     by false is h more = or_later (eq_by_cmp named_cmp (thing.Record (key.Path css n)) (path_named p)) _ (more h)
 
 -- units that share a link share a path
-shared_path : (a b : UnitRecord) → share_link a b ≡ true
+pub shared_path : (a b : UnitRecord) → share_link a b ≡ true
     → list_any (λ (p : CssPath). names (thing.Record (key.Path p.css p.path)) (Some (unit b))) a.paths ≡ true
 shared_path a b shares = any_implies
     (λ css. list_any (λ (p : ℕ × Link). list_any (λ (q : ℕ × Link). (p.0 == q.0) && same_link p.1 q.1) (linked_paths css b)) (linked_paths css a)) subsystems
@@ -125,40 +128,36 @@ shared_path a b shares = any_implies
         (named_among css p.path b.paths (sym (path_among css p.path b.paths) ∙ second_of (nat_eq p.css css) _ both)))
         a.paths
 
--- ---- units that clash
+-- a path of a list that passes one test and not another
+pub record IsPathAmong (test fails : CssPath → Bool) (ps : List CssPath) : Type 0 where
+  pub path : CssPath
+  pub passes : test path ≡ true
+  pub passes_not : fails path ≡ false
+  pub named : list_any (eq_by_cmp named_cmp (path_named path)) (map path_named ps) ≡ true
 
-module _ (c : Configuration) (t : Stored Naming (Unit {0})) (keyed : IsKeyed c) (of : IsIndexOf c t) (u : UnitRecord) where
-  -- users that clash on a path
-  abbrev clash_on : CssPath → Bool
-  clash_on p = list_any (clashes_before (lookup_of c) u) (users_in (thing.Record (key.Path p.css p.path)) (rows naming_cmp t))
+pub path_found : (test fails : CssPath → Bool) (ps : List CssPath) → list_any test ps ≡ true → list_any fails ps ≡ false → IsPathAmong test fails ps
+path_found test fails [] any none = cc
+path_found test fails (p ∷ ps) any none = by (test p) refl any (path_found test fails ps)
+  where
+    by : (b : Bool) → test p ≡ b → (b || list_any test ps) ≡ true → (list_any test ps ≡ true → list_any fails ps ≡ false → IsPathAmong test fails ps) → IsPathAmong test fails (p ∷ ps)
+    by true is h more = record {
+      path = p;
+      passes = is;
+      passes_not = neither_first (fails p) _ none;
+      named = ap (λ b. b || list_any (eq_by_cmp named_cmp (path_named p)) (map path_named ps)) (ties_itself named_cmp named_total (path_named p));
+    }
+    by false is h more = let later = more h (neither_second (fails p) _ none) in record {
+      path = later.path;
+      passes = later.passes;
+      passes_not = later.passes_not;
+      named = or_later (eq_by_cmp named_cmp (path_named later.path) (path_named p)) _ later.named;
+    }
 
-  are_users : (p : CssPath) → AreUsersOf t (thing.Record (key.Path p.css p.path)) (users_in (thing.Record (key.Path p.css p.path)) (rows naming_cmp t))
-  are_users p k = users_name_it (thing.Record (key.Path p.css p.path)) (rows naming_cmp t) k
-
-  -- a user that clashes is a record that breaks the rule with it
-  there : list_any clash_on u.paths ≡ true → some_before c (unit u) (answers_for u) ≡ true
-  there = any_implies clash_on u.paths (λ p any.
-      let r = user_found c t (thing.Record (key.Path p.css p.path)) _ (clashes_before (lookup_of c) u) keyed of (are_users p) any in
-      record_there c (λ r. stands_before r (unit u) && answers_for u r) (key_of r.user) r.user r.there
-      (sym (ap (λ o. is_lt (key_cmp (key_of r.user) (key.Unit u.number)) && clashes u o) r.there) ∙ r.passes))
-
-  at_record : (r : Rec) → get c (key_of r) ≡ Some r → (stands_before r (unit u) && answers_for u r) ≡ true → list_any clash_on u.paths ≡ true
-  at_record (unit b) here h =
-      any_weaker (λ (p : CssPath). names (thing.Record (key.Path p.css p.path)) (Some (unit b))) clash_on
-      (λ p named. user_there c t (thing.Record (key.Path p.css p.path)) _ (clashes_before (lookup_of c) u) of (are_users p) (key_of (unit b)) (unit b) here named
-      (ap (λ o. is_lt (key_cmp (key.Unit b.number) (key.Unit u.number)) && clashes u o) here ∙ h))
-      u.paths (shared_path u b (first_of (share_link u b) _ (first_of (share_link u b && (cuadd_or_zero u == cuadd_or_zero b)) _ (second_of (stands_before (unit b) (unit u)) _ h))))
-  at_record (id x) here h = absurd (false≢true (second_of (stands_before (id x) (unit u)) false h))
-  at_record (resource x) here h = absurd (false≢true (second_of (stands_before (resource x) (unit u)) false h))
-  at_record (image x) here h = absurd (false≢true (second_of (stands_before (image x) (unit u)) false h))
-  at_record (limit x) here h = absurd (false≢true (second_of (stands_before (limit x) (unit u)) false h))
-  at_record (path x) here h = absurd (false≢true (second_of (stands_before (path x) (unit u)) false h))
-  at_record (device x) here h = absurd (false≢true (second_of (stands_before (device x) (unit u)) false h))
-  at_record (online x) here h = absurd (false≢true (second_of (stands_before (online x) (unit u)) false h))
-
-  back : some_before c (unit u) (answers_for u) ≡ true → list_any clash_on u.paths ≡ true
-  back any = let m = record_found c (λ r. stands_before r (unit u) && answers_for u r) keyed any in at_record m.member m.there m.passes
-
-  -- a unit before it that answers to one of its addresses is found among the users of its paths
-  pub clash_among_users : list_any clash_on u.paths ≡ some_before c (unit u) (answers_for u)
-  clash_among_users = same_tests _ _ there back
+-- a unit that shares an address with a user of a path breaks the rule
+pub clash_breaks : (c : Configuration) (t : Stored Naming (Unit {0})) → IsKeyed c → IsIndexOf c t → (u : UnitRecord) (p : CssPath)
+    → clashes_on (lookup_of c) (rows naming_cmp t) u p ≡ true → some_before c (unit u) (answers_for u) ≡ true
+clash_breaks c t keyed of u p any =
+    let r = user_found c t (thing.Record (key.Path p.css p.path)) _ (clashes_before (lookup_of c) u) keyed of
+    (users_name_it (thing.Record (key.Path p.css p.path)) (rows naming_cmp t)) any in
+    record_there c (λ r. stands_before r (unit u) && answers_for u r) (key_of r.user) r.user r.there
+    (sym (ap (λ o. is_lt (key_cmp (key_of r.user) (key.Unit u.number)) && clashes u o) r.there) ∙ r.passes)

@@ -1,11 +1,15 @@
-ghost use Rattle.std.specs.Prelude.{◌≡◌, ◌==◌, ◌&&◌, Some};
+ghost use Rattle.std.specs.Prelude.{◌≡◌, ◌==◌, ◌&&◌, None, Some};
 ghost use Rattle.std.specs.List.{list_any};
 ghost use Rattle.iocm_types.specs.Naming.{naming_cmp};
 ghost use Rattle.iocm_table.specs.Slots.{rows};
-ghost use Rattle.iocm_model.specs.Machine.Configuration.{lookup_of};
+ghost use Rattle.iocm_model.specs.Machine.Configuration.{lookup_of, records_of};
 ghost use Rattle.iocm_model.specs.Machine.Record.{unit};
 ghost use Rattle.iocm_model.specs.Rules.EachRule as model;
+ghost use Rattle.iocm_model.specs.Rules.EachRule.{breaks_v5, breaks_v14};
+ghost use Rattle.iocm_model.specs.Rules.FirstBreach.{first_record};
 ghost use Rattle.iocm_record.specs.Meaning.{unit_of};
+ghost use Rattle.iocm_lookup.specs.Among.{least_of};
+ghost use Rattle.iocm_lookup.specs.First.{first_key};
 ghost use Rattle.iocm_lookup.specs.Indexed.{IsIndexOf};
 ghost use Rattle.iocm_unit_rules.specs.Sharing as sharing;
 
@@ -13,7 +17,7 @@ use crate::links::shares_link;
 use crate::ranges::overlaps_any;
 use iocm_config::Config;
 use iocm_index::Index;
-use iocm_lookup::{RecordKind, Wanted};
+use iocm_lookup::{Addressed, first_repeated, lesser};
 use iocm_record::{Record, RecordBody, UnitFields};
 use iocm_types::{CssPath, Key, Named, UnitRange};
 use std::alloc::Allocator;
@@ -21,69 +25,103 @@ use std::alloc::Allocator;
 /// V14: a unit with a smaller key shares a path on which both have the same link, where none equals
 /// none, has the same CUADD, where an absent one equals 00, and has a range that overlaps one of
 /// it. So no address on a link is that of two units.
-#[derive(Drop)]
-pub struct SharedAddress<'a, I: Allocator> {
-    /// The index of the configuration.
-    pub index: &'a Index<I>,
+///
+/// The key of the first unit that breaks it, if one does; V5 is kept, so each path that a unit names
+/// is there. It goes path by path: of a path's units in order the first that shares an address with
+/// one before it is the least that breaks the rule there. The answer is the least of all paths'. A
+/// unit is compared with those before it on a path only where one of them has its CUADD.
+pub fn first_shared_address<A: Allocator, I: Allocator>(
+    config: &Config<A>,
+    index: &Index<I>,
+) -> Option<Key>
+    requires index { IsIndexOf config.now.records index.now }
+    requires paths { first_record (breaks_v5 config.now.records) (records_of config.now.records) ≡ None }
+    ensures { result ≡ first_key (breaks_v14 config.now.records) config.now.records }
+{
+    config.has_own_keys();
+    least_shared(config, index)
 }
 
-impl<'a, A: Allocator, I: Allocator> Wanted<A> for SharedAddress<'a, I> {
-    ghost use Rattle.std.specs.Prelude.{refl};
-    ghost use Rattle.iocm_model.specs.Rules.EachRule.{breaks_v14};
-    ghost use Rattle.iocm_lookup.specs.Indexed.{IsIndexOf};
-    ghost use Rattle.iocm_lookup.specs.OfKind.{only_units};
+/// The least of the units that share, on one of their paths, an address with one before them.
+fn least_shared<A: Allocator, I: Allocator>(config: &Config<A>, index: &Index<I>) -> Option<Key>
+    ensures { result ≡ least_of (sharing.shared_of (lookup_of config.now.records) (rows naming_cmp index.now)) None
+        (records_of config.now.records) }
+{
+    let mut least = None;
+    for (_, entry) in config.walk() {
+        least = lesser(least, shared_of(config, index, entry));
+    }
+    least
+}
 
-    ghost wants = { λ s c r. breaks_v14 c r };
+/// Of a path's units the first that shares an address with one before it; of other records none.
+fn shared_of<A: Allocator, I: Allocator>(
+    config: &Config<A>,
+    index: &Index<I>,
+    entry: &Record<A>,
+) -> Option<Key>
+    ensures { result ≡ sharing.shared_of (lookup_of config.now.records) (rows naming_cmp index.now) entry.now }
+{
+    match entry.body() {
+        RecordBody::Path(fields) => first_shared(
+            config,
+            index,
+            CssPath {
+                css: fields.css,
+                path: fields.number,
+            },
+        ),
+        _ => None,
+    }
+}
 
-    ghost fits = { λ s c. IsIndexOf c s.index.now };
+/// Of the units on a path, in order, the first that shares an address with one before it.
+fn first_shared<A: Allocator, I: Allocator>(
+    config: &Config<A>,
+    index: &Index<I>,
+    path: CssPath,
+) -> Option<Key>
+    ensures { result ≡ sharing.shared_on (lookup_of config.now.records) (rows naming_cmp index.now) path }
+{
+    first_repeated(
+        config,
+        index,
+        Named::Record(Key::Path(path.css, path.path)),
+        &SharedCuadd { index, path },
+    )
+}
 
-    ghost place = { 5 };
+/// The CUADD of the units on a path; of these are looked for those that share an address with one
+/// before them.
+#[derive(Drop)]
+struct SharedCuadd<'a, I: Allocator> {
+    index: &'a Index<I>,
+    path: CssPath,
+}
 
-    ghost of_kind = { λ s c. only_units (breaks_v14 c)
-        (λ _. refl) (λ _. refl) (λ _. refl) (λ _. refl) (λ _. refl) (λ _. refl) (λ _. refl) };
+impl<'a, A: Allocator, I: Allocator> Addressed<A> for SharedCuadd<'a, I> {
+    ghost use Rattle.iocm_types.specs.Naming.{naming_cmp};
+    ghost use Rattle.iocm_table.specs.Slots.{rows};
+    ghost use Rattle.iocm_model.specs.Machine.Configuration.{lookup_of};
+    ghost use Rattle.iocm_unit_rules.specs.Sharing.{cuadd_of, shares_on};
 
-    fn kind(&self) -> RecordKind {
-        RecordKind::Unit
+    ghost address_of = { λ s. cuadd_of };
+
+    ghost wants = { λ s c. shares_on (lookup_of c) (rows naming_cmp s.index.now) s.path };
+
+    fn address(&self, entry: &Record<A>) -> Option<u8> {
+        match entry.body() {
+            RecordBody::Unit(fields) => Some(cuadd_or_zero(fields)),
+            _ => None,
+        }
     }
 
     fn is_wanted(&self, config: &Config<A>, entry: &Record<A>) -> bool {
         match entry.body() {
-            RecordBody::Unit(fields) => is_shared(config, self.index, fields),
+            RecordBody::Unit(fields) => is_shared_on(config, self.index, fields, self.path),
             _ => false,
         }
     }
-}
-
-/// Whether a unit breaks V14. Only units on its paths are looked at.
-fn is_shared<A: Allocator, I: Allocator>(
-    config: &Config<A>,
-    index: &Index<I>,
-    fields: &UnitFields<A>,
-) -> bool
-    requires { IsIndexOf config.now.records index.now }
-    ensures { result ≡ model.breaks_v14 config.now.records (unit (unit_of fields.now)) }
-{
-    config.has_own_keys();
-    is_shared_on_any(config, index, fields)
-}
-
-/// Whether on one of a unit's paths a unit with a smaller key answers to one of its addresses.
-#[tactic(auto, using(iocm_types::proofs::Any::any_steps))]
-fn is_shared_on_any<A: Allocator, I: Allocator>(
-    config: &Config<A>,
-    index: &Index<I>,
-    fields: &UnitFields<A>,
-) -> bool
-    ensures { result ≡ list_any
-        (sharing.clashes_on (lookup_of config.now.records) (rows naming_cmp index.now) (unit_of fields.now))
-        fields.now.paths }
-{
-    for path in fields.paths.as_slice() {
-        if is_shared_on(config, index, fields, *path) {
-            return true;
-        }
-    }
-    false
 }
 
 /// Whether on a path a unit with a smaller key answers to one of a unit's addresses.

@@ -9,7 +9,7 @@ use Rattle.iocm_rules.proofs.first_breach.first_from_v9.Goals as goal
 pub returns : goal.returns
 returns g c n is = c.first_of.ensures ∙ found_is
     ((V9, c.first_wanted.result) ∷ (V10, c.first_address_twice.result) ∷ (V11, c.first_wanted-2.result) ∷ (V12, c.first_wanted-3.result)
-    ∷ (V13, c.args.past) ∷ (V14, c.first_wanted-4.result) ∷ [])
+    ∷ (V13, c.args.past) ∷ (V14, c.first_shared_address.result) ∷ [])
     (from_v9 c.args.config.now.records n) (records_of c.args.config.now.records) (
       refl,
       (
@@ -22,7 +22,7 @@ returns g c n is = c.first_of.ensures ∙ found_is
               refl,
               (
                 c.first_wanted-2.ensures,
-                (refl, (c.first_wanted-3.ensures, (refl, (is, (refl, (c.first_wanted-4.ensures, tt)))))),
+                (refl, (c.first_wanted-3.ensures, (refl, (is, (refl, (c.first_shared_address.ensures, tt)))))),
               ),
             ),
           ),
