@@ -5,6 +5,8 @@ from . import places
 
 ERROR = re.compile(r"^(?:note: )?(?:\./)?(\S+?):(\d+):\d+: (.*)")
 FORM = re.compile(r"has no field|is not in scope|has no `|was not admitted")
+UNREAD = re.compile(r"is not in scope|is no name|operand is missing|expected the end|cannot continue")
+LAW = re.compile(r"^\./(specs/\S+\.antt):\d+:\d+: error: .*`(\w+)`, which was rejected")
 BY_FORM = "refused by its proof's form alone"
 GOAL = re.compile(r"\(`([\w.+-]+)`\)|^error: `([\w.+-]+)`")
 
@@ -50,6 +52,25 @@ def verdict_on(functions, crate, output, proved):
         return f"{BY_FORM}: {lines[0][:160]}"
     goals = [found[1] or found[2] for found in map(GOAL.search, of_contract) if found]
     return f"refused at {', '.join(dict.fromkeys(goals))}" if goals else f"refused: {of_contract[0][:160]}"
+
+
+def verdict_on_definition(output, changed):
+    """The verdict on an edit of a definition by what a check said that didn't prove the crate: the first law, clause or proof that is
+    false by it. Where the prover can't read one of the changed files, nothing was tried."""
+    lines = output.split("\n")
+    law = next(filter(None, map(LAW.search, lines)), None)
+    if law:
+        return f"refused by the law `{law[2]}` of {law[1]}"
+    told = [at for at in map(ERROR.match, lines) if at and at[3].startswith(("error", "it is not proved", "`search`"))]
+    unread = next((at for at in told if at[1] in changed and UNREAD.search(at[3])), None)
+    if unread:
+        return f"BAD EDIT: the prover cannot read the edited text: {unread[0][:200]}"
+    if not any(it.startswith(("logic=", "rt: rt check")) for it in lines):
+        return f"NOT JUDGED: {output[-400:]}"
+    of_contract = [at for at in told if not FORM.search(at[3])]
+    if told and not of_contract:
+        return f"{BY_FORM}: {told[0][0][:160]}"
+    return f"refused: {of_contract[0][0][:160]}" if of_contract else f"refused: {lines[-2][:160]}"
 
 
 def verdicts(batch, crate, output):
