@@ -31,8 +31,9 @@ use Rattle.iocm_lookup.proofs.AtMost.{IsAtMost, least_at_most, least_is_given, I
 use Rattle.iocm_lookup.proofs.Firsts.{IsSoAt, least_so_is_first, records_are_there, none_is_so}
 use Rattle.iocm_lookup.proofs.Members.{record_found, record_there, user_there}
 use Rattle.iocm_lookup.proofs.RepeatedUsers.{IsRepeated, less_key, first_is_repeated, repeated_has_first}
+use Rattle.iocm_unit_rules.specs.Links.{share_link_on}
 use Rattle.iocm_unit_rules.specs.Sharing.{clashes, clashes_before, cuadd_of, shares_on, shared_on, shared_of}
-use Rattle.iocm_unit_rules.proofs.Sharers.{first_of, second_of, same_number, shared_path, path_found, clash_breaks}
+use Rattle.iocm_unit_rules.proofs.Sharers.{with_middle, first_of, second_of, same_number, shared_path, path_found, clash_breaks}
 
 last_fails : (a b c d : Bool) → (a || b || c || d) ≡ false → d ≡ false
 last_fails true b c d h = absurd (false≢true (sym h))
@@ -120,7 +121,7 @@ module _ (c : Configuration) (t : Stored Naming (Unit {0})) (keyed : IsKeyed c) 
   -- ---- what breaks the rule is given on a path
 
   -- a unit before another that answers to one of its addresses, and a path that is there, which both
-  -- name
+  -- name with the same link
   record IsSharer (u : UnitRecord) : Type 0 where
     other : UnitRecord
     there : get c (key_of (unit other)) ≡ Some (unit other)
@@ -128,6 +129,7 @@ module _ (c : Configuration) (t : Stored Naming (Unit {0})) (keyed : IsKeyed c) 
     on : CssPath
     in_own : names (thing.Record (key.Path on.css on.path)) (Some (unit u)) ≡ true
     in_other : names (thing.Record (key.Path on.css on.path)) (Some (unit other)) ≡ true
+    alike : share_link_on on.css on.path u other ≡ true
     is_there : is_none (lookup_of c (key.Path on.css on.path)) ≡ false
 
   abbrev is_missing : CssPath → Bool
@@ -138,8 +140,8 @@ module _ (c : Configuration) (t : Stored Naming (Unit {0})) (keyed : IsKeyed c) 
   sharer_by u present (unit v) there so =
       let answers = second_of (stands_before (unit v) (unit u)) _ so in
       let link = first_of (share_link u v) _ (first_of (share_link u v && (cuadd_or_zero u == cuadd_or_zero v)) _ answers) in
-      let p = path_found (λ (q : CssPath). names (thing.Record (key.Path q.css q.path)) (Some (unit v))) is_missing u.paths (shared_path u v link) present in
-      record { other = v; there = there; so = so; on = p.path; in_own = p.named; in_other = p.passes; is_there = p.passes_not }
+      let p = path_found (λ (q : CssPath). names (thing.Record (key.Path q.css q.path)) (Some (unit v)) && share_link_on q.css q.path u v) is_missing u.paths (shared_path u v link) present in
+      record { other = v; there = there; so = so; on = p.path; in_own = p.named; in_other = first_of _ _ p.passes; alike = second_of (names (thing.Record (key.Path p.path.css p.path.path)) (Some (unit v))) _ p.passes; is_there = p.passes_not }
   sharer_by u present (id x) there so = absurd (false≢true (second_of (stands_before (id x) (unit u)) false so))
   sharer_by u present (resource x) there so = absurd (false≢true (second_of (stands_before (resource x) (unit u)) false so))
   sharer_by u present (image x) there so = absurd (false≢true (second_of (stands_before (image x) (unit u)) false so))
@@ -156,9 +158,10 @@ module _ (c : Configuration) (t : Stored Naming (Unit {0})) (keyed : IsKeyed c) 
       record {
         there = is_user s.on k u here s.in_own;
         so = ap (λ o. option_map_or (shares_on (lookup_of c) (rows naming_cmp t) s.on) o false) here
-            ∙ user_there c t (thing.Record (key.Path s.on.css s.on.path)) (users s.on) (clashes_before (lookup_of c) u) of
+            ∙ user_there c t (thing.Record (key.Path s.on.css s.on.path)) (users s.on) (clashes_before (lookup_of c) u s.on) of
             (users_name_it (thing.Record (key.Path s.on.css s.on.path)) (rows naming_cmp t)) (key_of (unit v)) (unit v) s.there s.in_other
-            (ap (λ o. is_lt (key_cmp (key.Unit v.number) (key.Unit u.number)) && clashes u o) s.there ∙ s.so);
+            (ap (λ o. is_lt (key_cmp (key.Unit v.number) (key.Unit u.number)) && clashes s.on u o) s.there
+            ∙ with_middle (stands_before (unit v) (unit u)) (share_link_on s.on.css s.on.path u v) (answers_for u (unit v)) s.so s.alike);
         at = cuadd_or_zero u;
         has = ap (address_in cuadd_of) here;
         before = inr (record {

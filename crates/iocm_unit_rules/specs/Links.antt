@@ -13,6 +13,11 @@ use Rattle.iocm_model.specs.Rules.EachRule.{links_in, linked_paths, same_link}
 abbrev pub is_on_link : ℕ → UnitRecord → ℕ × Link → Bool
 is_on_link css u p = list_any (λ (q : ℕ × Link). (p.0 == q.0) && same_link p.1 q.1) (linked_paths css u)
 
+-- two units have the path of this number of a channel subsystem with the same link
+abbrev pub share_link_on : ℕ → ℕ → UnitRecord → UnitRecord → Bool
+share_link_on css number a b =
+    list_any (λ (p : ℕ × Link). (number == p.0) && is_on_link css b p) (linked_paths css a)
+
 -- there are links in a channel subsystem, and other than as many as paths
 abbrev pub has_other_links : List CssPath → List CssLink → ℕ → Bool
 has_other_links paths links css =

@@ -55,7 +55,7 @@ fn is_linked<A: Allocator>(css: Css, number: Chpid, link: Link, fields: &UnitFie
     let links = fields.links.as_slice();
     let mut ordinal = 0;
     for path in fields.paths.as_slice() {
-        if is_path_linked(css, *path, link_at(css, ordinal, links), number, link) {
+        if is_path_linked(css, *path, ordinal, links, number, link) {
             return true;
         }
         ordinal += step(path.css == css);
@@ -63,19 +63,56 @@ fn is_linked<A: Allocator>(css: Css, number: Chpid, link: Link, fields: &UnitFie
     false
 }
 
-/// Whether a path with a link is the path of this number of a channel subsystem, and with this
-/// link.
-fn is_path_linked(css: Css, path: CssPath, has: Link, number: Chpid, link: Link) -> bool
-    ensures { result ≡ ((path.css == css) && ((number == path.path) && model.same_link link has)) }
+/// Whether a path is that of this number of a channel subsystem, and the link at its place is this
+/// one.
+fn is_path_linked(
+    css: Css,
+    path: CssPath,
+    place: usize,
+    links: &[CssLink],
+    number: Chpid,
+    wanted: Link,
+) -> bool
+    ensures { result ≡ ((path.css == css) && ((number == path.path)
+        && model.same_link wanted (get_or (model.links_in css links.now) place link.None))) }
 {
-    path.css == css && is_it(path.path, has, number, link)
+    path.css == css && number == path.path && same_link(wanted, link_at(css, place, links))
 }
 
-/// Whether a path number with a link is this one with this link.
-fn is_it(path: Chpid, has: Link, number: Chpid, link: Link) -> bool
-    ensures { result ≡ ((number == path) && model.same_link link has) }
+/// Whether two units have a path with the same link.
+pub fn is_on_one_link<A: Allocator>(
+    path: &CssPath,
+    fields: &UnitFields<A>,
+    other: &UnitFields<A>,
+) -> bool
+    ensures { result ≡ unit_links.share_link_on path.now.css path.now.path (unit_of fields.now) (unit_of other.now) }
 {
-    number == path && same_link(link, has)
+    let links = fields.links.as_slice();
+    let mut ordinal = 0;
+    for own in fields.paths.as_slice() {
+        if is_on_its_link(path, *own, ordinal, links, other) {
+            return true;
+        }
+        ordinal += step(own.css == path.css);
+    }
+    false
+}
+
+/// Whether a path is this one, and a unit has it with the link at its place.
+fn is_on_its_link<A: Allocator>(
+    path: &CssPath,
+    own: CssPath,
+    place: usize,
+    links: &[CssLink],
+    other: &UnitFields<A>,
+) -> bool
+    ensures { result ≡ ((own.css == path.now.css) && ((path.now.path == own.path)
+        && unit_links.is_on_link path.now.css (unit_of other.now)
+        (own.path, get_or (model.links_in path.now.css links.now) place link.None))) }
+{
+    own.css == path.css
+        && path.path == own.path
+        && is_linked(path.css, own.path, link_at(path.css, place, links), other)
 }
 
 // How far a path goes on among the links of its channel subsystem.

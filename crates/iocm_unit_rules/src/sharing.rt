@@ -1,5 +1,8 @@
 ghost use Rattle.std.specs.Prelude.{◌≡◌, ◌==◌, ◌&&◌, None, Some};
 ghost use Rattle.std.specs.List.{list_any};
+ghost use Rattle.std.specs.Ordering.{is_lt};
+ghost use Rattle.iocm_types.specs.declared.key.Key.TheVariants as key;
+ghost use Rattle.iocm_types.specs.Key.{key_cmp};
 ghost use Rattle.iocm_types.specs.Naming.{naming_cmp};
 ghost use Rattle.iocm_table.specs.Slots.{rows};
 ghost use Rattle.iocm_model.specs.Machine.Configuration.{lookup_of, records_of};
@@ -11,9 +14,10 @@ ghost use Rattle.iocm_record.specs.Meaning.{unit_of};
 ghost use Rattle.iocm_lookup.specs.Among.{least_of};
 ghost use Rattle.iocm_lookup.specs.First.{first_key};
 ghost use Rattle.iocm_lookup.specs.Indexed.{IsIndexOf};
+ghost use Rattle.iocm_unit_rules.specs.Links as links;
 ghost use Rattle.iocm_unit_rules.specs.Sharing as sharing;
 
-use crate::links::shares_link;
+use crate::links::{is_on_one_link, shares_link};
 use crate::ranges::overlaps_any;
 use iocm_config::Config;
 use iocm_index::Index;
@@ -124,7 +128,8 @@ impl<'a, A: Allocator, I: Allocator> Addressed<A> for SharedCuadd<'a, I> {
     }
 }
 
-/// Whether on a path a unit with a smaller key answers to one of a unit's addresses.
+/// Whether on a path a unit with a smaller key answers to one of a unit's addresses, on the link that
+/// the path has there. The users come in order, so those behind the unit are not looked at.
 fn is_shared_on<A: Allocator, I: Allocator>(
     config: &Config<A>,
     index: &Index<I>,
@@ -135,45 +140,82 @@ fn is_shared_on<A: Allocator, I: Allocator>(
         (unit_of fields.now) path }
 {
     for user in index.users_of(Named::Record(Key::Path(path.css, path.path))) {
-        if clashes_before(config, fields, &user) {
-            return true;
+        if let Some(answer) = told_by(config, &path, fields, &user) {
+            return answer;
         }
     }
     false
 }
 
-/// Whether a key is that of a unit before this one that answers to one of its addresses.
-fn clashes_before<A: Allocator>(config: &Config<A>, fields: &UnitFields<A>, user: &Key) -> bool
-    ensures { result ≡ sharing.clashes_before (lookup_of config.now.records) (unit_of fields.now) user.now }
+/// What a user of a path says of itself and of those behind it: whether one is before a unit and
+/// answers to one of its addresses. One that isn't before the unit says no, one that answers yes, and
+/// others say nothing.
+fn told_by<A: Allocator>(
+    config: &Config<A>,
+    path: &CssPath,
+    fields: &UnitFields<A>,
+    user: &Key,
+) -> Option<bool>
+    ensures { result ≡ sharing.told_by (lookup_of config.now.records) (unit_of fields.now) path.now user.now }
 {
-    user.order(Key::Unit(fields.number)).is_lt() && clashes(config, fields, user)
+    if !is_before(user, fields) {
+        return Some(false);
+    }
+    if clashes(config, path, fields, user) {
+        Some(true)
+    } else {
+        None
+    }
 }
 
-/// Whether a key is that of a unit that answers to one of a unit's addresses.
-fn clashes<A: Allocator>(config: &Config<A>, fields: &UnitFields<A>, user: &Key) -> bool
-    ensures { result ≡ sharing.clashes (unit_of fields.now) (lookup_of config.now.records user.now) }
+/// Whether a key is less than that of a unit.
+fn is_before<A: Allocator>(user: &Key, fields: &UnitFields<A>) -> bool
+    ensures { result ≡ is_lt (key_cmp user.now (key.Unit fields.now.number)) }
+{
+    user.order(Key::Unit(fields.number)).is_lt()
+}
+
+/// Whether a key is that of a unit that answers to one of a unit's addresses, on the link of a path.
+fn clashes<A: Allocator>(
+    config: &Config<A>,
+    path: &CssPath,
+    fields: &UnitFields<A>,
+    user: &Key,
+) -> bool
+    ensures { result ≡ sharing.clashes path.now (unit_of fields.now) (lookup_of config.now.records user.now) }
 {
     match config.get(user) {
-        Some(entry) => record_clashes(fields, entry),
+        Some(entry) => record_clashes(path, fields, entry),
         None => false,
     }
 }
 
-/// Whether a record is that of a unit that answers to one of a unit's addresses.
-fn record_clashes<A: Allocator>(fields: &UnitFields<A>, entry: &Record<A>) -> bool
-    ensures { result ≡ sharing.clashes (unit_of fields.now) (Some entry.now) }
+/// Whether a record is that of a unit that answers to one of a unit's addresses, on the link of a
+/// path.
+fn record_clashes<A: Allocator>(path: &CssPath, fields: &UnitFields<A>, entry: &Record<A>) -> bool
+    ensures { result ≡ sharing.clashes path.now (unit_of fields.now) (Some entry.now) }
 {
     match entry.body() {
-        RecordBody::Unit(other) => answers_for(fields, other),
+        RecordBody::Unit(other) => answers_for(path, fields, other),
         _ => false,
     }
 }
 
-/// Whether a unit answers to one of another's addresses. The links are looked at last.
-fn answers_for<A: Allocator>(fields: &UnitFields<A>, other: &UnitFields<A>) -> bool
-    ensures { result ≡ model.answers_for (unit_of fields.now) (unit (unit_of other.now)) }
+/// Whether a unit answers to one of another's addresses, on the link of a path. The links are looked
+/// at last.
+fn answers_for<A: Allocator>(path: &CssPath, fields: &UnitFields<A>, other: &UnitFields<A>) -> bool
+    ensures { result ≡ sharing.clashes path.now (unit_of fields.now) (Some (unit (unit_of other.now))) }
 {
-    answers_on_one_link(fields, other) && shares_link(fields, other)
+    answers_on_one_link(fields, other) && shares_links(path, fields, other)
+}
+
+/// Whether two units have a path with the same link. Then they share a link, as the rule has it, so the
+/// second test is made once at the most.
+fn shares_links<A: Allocator>(path: &CssPath, fields: &UnitFields<A>, other: &UnitFields<A>) -> bool
+    ensures { result ≡ (links.share_link_on path.now.css path.now.path (unit_of fields.now) (unit_of other.now)
+        && model.share_link (unit_of fields.now) (unit_of other.now)) }
+{
+    is_on_one_link(path, fields, other) && shares_link(fields, other)
 }
 
 /// Whether two units have the same CUADD, and ranges that overlap.
