@@ -15,7 +15,8 @@ use Rattle.iocm_model.proofs.Change.Steps.{steps_stay_sound}
 use Rattle.iocm_model.proofs.Change.EditsGoBack.{inverse_gives, lived_after}
 use Rattle.iocm_index.specs.Namings.{namings_of}
 use Rattle.iocm_plant.specs.Operating.{HasNamingRoom, KeepsPlaces, KeepsRoom}
-use Rattle.iocm_plant.specs.Between.{SamePlacesAreKept, PlacesAreKeptOn, StandsAsItDoes, StandsOn, StepsLeaveItStanding, CanStillUnapply, TakenBackItStandsAsBefore}
+use Rattle.iocm_plant.specs.Between.{SamePlacesAreKept, PlacesAreKeptOn, StandsAsItDoes, StandsOn, StepsLeaveItStanding, CanStillUnapply}
+use Rattle.iocm_plant.specs.Between.{TakenBackItStandsAsBefore}
 
 -- ---- what holds of each holds on
 
@@ -40,7 +41,8 @@ places_are_kept_on a b c before after = record {
 
 -- where the places are the same, none is lost
 pub same_places_are_kept : SamePlacesAreKept
-same_places_are_kept old new same = subst (KeepsRoom old) (sym same) (record { same_keys = λ key h. h; same_numbers = λ row h. h; same_namings = λ key h. h; same_subchannels = λ key h. h })
+same_places_are_kept old new same = subst (KeepsRoom old) (sym same)
+    (record { same_keys = λ key h. h; same_numbers = λ row h. h; same_namings = λ key h. h; same_subchannels = λ key h. h })
 
 pub stands_as_it_does : StandsAsItDoes
 stands_as_it_does p sound = record {
@@ -87,7 +89,8 @@ can_still_unapply i p q can stands = record {
   };
 }
 
-back_as_before : (e : Edit) (s u : State) (carried : Lives) → IsSound s → HasConfigAndNumbersOf u (state_after e s) → HasSameKeys carried (inverse_of e s).lives
+back_as_before : (e : Edit) (s u : State) (carried : Lives) → IsSound s → HasConfigAndNumbersOf u (state_after e s)
+    → HasSameKeys carried (inverse_of e s).lives
     → HasConfigAndNumbersOf (state_after (record (inverse_of e s) { lives = carried }) u) s
 back_as_before e s u carried sound like same =
     let is = inverse_gives e s u carried sound like same in record {
@@ -101,5 +104,6 @@ taken_back_it_stands_as_before e i p q r t was =
     let like : HasConfigAndNumbersOf r.state (state_after e p.state) = subst (HasConfigAndNumbersOf r.state) was.performed was.stands.state in record {
       state = subst (λ (s : State). HasConfigAndNumbersOf s p.state) (sym (was.taken_back ∙ ap (λ (k : Edit). state_after k r.state) was.inverse))
           (back_as_before e p.state r.state i.lives was.sound like was.lives);
-      room = places_are_kept_on p.room q.room t.room was.room_kept (places_are_kept_on q.room r.room t.room was.stands.room (same_places_are_kept r.room t.room was.same_room));
+      room = places_are_kept_on p.room q.room t.room was.room_kept
+          (places_are_kept_on q.room r.room t.room was.stands.room (same_places_are_kept r.room t.room was.same_room));
     }

@@ -1,6 +1,7 @@
 -- Where neither a place nor an image that may be affected is looked at, the same is seen: so all
 -- that is seen differently is among the candidates.
-use Rattle.std.proofs.Common.{◌≡◌, ℕ, ◌<◌, ◌==◌, Bool, true, false, cond, ◌||◌, List, [], ◌∷◌, map, Option, Some, None, is_some, eq-eqb, eqb-true, nat_eq, arith, ◌⊎◌, inl, inr, refl, sym, ap, subst, ◌∙◌}
+use Rattle.std.proofs.Common.{◌≡◌, ℕ, ◌<◌, ◌==◌, Bool, true, false, cond, ◌||◌, List, [], ◌∷◌, map, Option, Some, None}
+use Rattle.std.proofs.Common.{is_some, eq-eqb, eqb-true, nat_eq, arith, ◌⊎◌, inl, inr, refl, sym, ap, subst, ◌∙◌}
 use Rattle.std.specs.List.{list_any, filter, flat_map, AllByRecursion}
 use Rattle.std.specs.Option.{option_and_then, option_eq}
 use Rattle.std.specs.Ordering.{eq_by_cmp}
@@ -47,7 +48,8 @@ among_one i cell (c ∷ cells) same among = by (eq_by_cmp cell_cmp cell c) refl 
 
     by : (b : Bool) → eq_by_cmp cell_cmp cell c ≡ b → (t : Bool) → (c.css == i.css) ≡ t → (b || list_any (eq_by_cmp cell_cmp cell) cells) ≡ true
         → (list_any (eq_by_cmp cell_cmp cell) cells ≡ true → is_among (subchannel_at i cell) rest ≡ true)
-        → is_among (subchannel_at i cell) (map (subchannel_at i) (cond t (c ∷ filter (λ (d : NumberCell). d.css == i.css) cells) (filter (λ (d : NumberCell). d.css == i.css) cells))) ≡ true
+        → is_among (subchannel_at i cell) (map (subchannel_at i)
+        (cond t (c ∷ filter (λ (d : NumberCell). d.css == i.css) cells) (filter (λ (d : NumberCell). d.css == i.css) cells))) ≡ true
     by true tied true own h more =
         let is : cell ≡ c = same_key cell_cmp cells_exact cell c tied in
         or_first (eq_by_cmp sub_id_cmp (subchannel_at i cell) (subchannel_at i c)) (is_among (subchannel_at i cell) rest)
@@ -62,10 +64,12 @@ among_one i cell (c ∷ cells) same among = by (eq_by_cmp cell_cmp cell c) refl 
     by false tied false own h more = more h
 
 among_candidates : (i : images.Image) (cell : NumberCell) (seeing : List images.Image) (cells : List NumberCell) → i.css ≡ cell.css
-    → list_any (eq_by_cmp image_cmp i) seeing ≡ true → list_any (eq_by_cmp cell_cmp cell) cells ≡ true → is_among (subchannel_at i cell) (candidates seeing cells) ≡ true
+    → list_any (eq_by_cmp image_cmp i) seeing ≡ true → list_any (eq_by_cmp cell_cmp cell) cells ≡ true
+    → is_among (subchannel_at i cell) (candidates seeing cells) ≡ true
 among_candidates i cell [] cells same image among = cc
 among_candidates i cell (j ∷ seeing) cells same image among =
-    list_any-append (eq_by_cmp sub_id_cmp (subchannel_at i cell)) (map (subchannel_at j) (filter (λ (c : NumberCell). c.css == j.css) cells)) (candidates seeing cells)
+    list_any-append (eq_by_cmp sub_id_cmp (subchannel_at i cell)) (map (subchannel_at j) (filter (λ (c : NumberCell). c.css == j.css) cells))
+    (candidates seeing cells)
     ∙ by (eq_by_cmp image_cmp i j) refl image (λ h. among_candidates i cell seeing cells same h among)
   where
     here : List SubId
@@ -93,7 +97,8 @@ place_of x device = record { css = x.image.css; set = x.set; device = device }
 abbrev pub image_there : Configuration → SubId → Option ImageRecord
 image_there c x = option_and_then as_image (lookup_of c (Image x.image.css x.image.mif))
 
-seen_at : (c : Configuration) (n : Numbering) (x : SubId) (device : ℕ) → device_at n (cell_of x) ≡ Some device → view_at c n x ≡ sight_at c x.image.mif (place_of x device)
+seen_at : (c : Configuration) (n : Numbering) (x : SubId) (device : ℕ) → device_at n (cell_of x) ≡ Some device
+    → view_at c n x ≡ sight_at c x.image.mif (place_of x device)
 seen_at c n x device is = ap (λ o. option_and_then (λ (i : ImageRecord). option_and_then (image_view (lookup_of c) i x.set) o) (image_there c x)) is
 
 abbrev nothing : Option View
@@ -104,7 +109,9 @@ nothing_of None = refl
 nothing_of (Some i) = refl
 
 seen_none : (c : Configuration) (n : Numbering) (x : SubId) → device_at n (cell_of x) ≡ None → view_at c n x ≡ None
-seen_none c n x is = ap (λ o. option_and_then (λ (i : ImageRecord). option_and_then (image_view (lookup_of c) i x.set) o) (image_there c x)) is ∙ nothing_of (image_there c x)
+seen_none c n x is =
+    ap (λ o. option_and_then (λ (i : ImageRecord). option_and_then (image_view (lookup_of c) i x.set) o) (image_there c x)) is
+    ∙ nothing_of (image_there c x)
 
 -- no image sees anything
 blind : (c : Configuration) (x : SubId) (device : ℕ) → image_there c x ≡ None → sight_at c x.image.mif (place_of x device) ≡ None
@@ -122,7 +129,8 @@ part_of part [] p h = cc
 part_of part (i ∷ is) p h = by (or_cases _ _ (sym (list_any-append (eq_by_cmp place_cmp p) (part i) (flat_map part is)) ∙ h)) (part_of part is p)
   where
     by : ((list_any (eq_by_cmp place_cmp p) (part i) ≡ true) ⊎ (list_any (eq_by_cmp place_cmp p) (flat_map part is) ≡ true))
-        → (list_any (eq_by_cmp place_cmp p) (flat_map part is) ≡ true → (j : ℕ) × (list_any (nat_eq j) is ≡ true) × (list_any (eq_by_cmp place_cmp p) (part j) ≡ true))
+        → (list_any (eq_by_cmp place_cmp p) (flat_map part is) ≡ true
+        → (j : ℕ) × (list_any (nat_eq j) is ≡ true) × (list_any (eq_by_cmp place_cmp p) (part j) ≡ true))
         → (j : ℕ) × (list_any (nat_eq j) (i ∷ is) ≡ true) × (list_any (eq_by_cmp place_cmp p) (part j) ≡ true)
     by (inl e) more = (i, or_first (nat_eq i i) (list_any (nat_eq i) is) (eq-eqb i i refl), e)
     by (inr e) more = let rest = more e in (rest.0, or_right (nat_eq rest.0 i) (list_any (nat_eq rest.0) is) rest.1, rest.2)
@@ -140,7 +148,8 @@ range_of c p h =
     let css = part_of (λ css. flat_map (λ set. places_at css set (reached_devices c css set)) sets) subsystems p h in
     let set = part_of (λ set. places_at css.0 set (reached_devices c css.0 set)) sets p css.2 in
     let at = is_at css.0 set.0 (reached_devices c css.0 set.0) p set.2 in (
-      subst (λ k. k < 6) (sym at.css_is) (below_of 6 subsystems (omega arith, (omega arith, (omega arith, (omega arith, (omega arith, (omega arith, tt)))))) css.0 css.1),
+      subst (λ k. k < 6) (sym at.css_is) (below_of 6 subsystems
+          (omega arith, (omega arith, (omega arith, (omega arith, (omega arith, (omega arith, tt)))))) css.0 css.1),
       subst (λ k. k < 4) (sym at.set_is) (below_of 4 sets (omega arith, (omega arith, (omega arith, (omega arith, tt)))) set.0 set.1),
     )
 
@@ -152,8 +161,10 @@ Stay d n m = (p : Place) (k : ℕ) → is_reached_at d p ≡ true → get n p �
 
 -- each number at these places, before and after, has its cell among these
 pub record AreLookedAt (n m : Numbering) (places : List Place) (cells : List NumberCell) : Type 0 where
-  pub before : (p : Place) (k : ℕ) → list_any (eq_by_cmp place_cmp p) places ≡ true → get n p ≡ Some k → list_any (eq_by_cmp cell_cmp (record { css = p.css; set = p.set; number = k })) cells ≡ true
-  pub after : (p : Place) (k : ℕ) → list_any (eq_by_cmp place_cmp p) places ≡ true → get m p ≡ Some k → list_any (eq_by_cmp cell_cmp (record { css = p.css; set = p.set; number = k })) cells ≡ true
+  pub before : (p : Place) (k : ℕ) → list_any (eq_by_cmp place_cmp p) places ≡ true → get n p ≡ Some k
+      → list_any (eq_by_cmp cell_cmp (record { css = p.css; set = p.set; number = k })) cells ≡ true
+  pub after : (p : Place) (k : ℕ) → list_any (eq_by_cmp place_cmp p) places ≡ true → get m p ≡ Some k
+      → list_any (eq_by_cmp cell_cmp (record { css = p.css; set = p.set; number = k })) cells ≡ true
 
 there : {A : Type 0} (o : Option A) (a : A) → o ≡ Some a → is_some o ≡ true
 there o a is = ap is_some is
@@ -167,7 +178,8 @@ module _ (c d : Configuration) (n m : Numbering) (numbered : AreNumbersOf c n) (
   -- as before
   pub IsSameThere : Type 0
   IsSameThere = (device : ℕ) → (get n (place_of x device) ≡ Some x.number) ⊎ (get m (place_of x device) ≡ Some x.number)
-      → (is_reached_at c (place_of x device) ≡ is_reached_at d (place_of x device)) × (sight_at c x.image.mif (place_of x device) ≡ sight_at d x.image.mif (place_of x device))
+      → (is_reached_at c (place_of x device) ≡ is_reached_at d (place_of x device))
+      × (sight_at c x.image.mif (place_of x device) ≡ sight_at d x.image.mif (place_of x device))
 
   came_from : (device : ℕ) → is_reached_at c (place_of x device) ≡ is_reached_at d (place_of x device) → get m (place_of x device) ≡ Some x.number
       → get n (place_of x device) ≡ Some x.number
@@ -189,8 +201,10 @@ module _ (c d : Configuration) (n m : Numbering) (numbered : AreNumbersOf c n) (
       by (Some device) before b after =
           let had : get n (place_of x device) ≡ Some x.number = has_number n (cell_of x) device before in
           let both = same device (inl had) in
-          let now : is_reached_at d (place_of x device) ≡ true = sym both.0 ∙ sym (numbered.exact (place_of x device)) ∙ there (get n (place_of x device)) x.number had in
-          let has : device_at m (cell_of x) ≡ Some device = has_device m renumbered.apart (place_of x device) x.number (stay (place_of x device) x.number now had) in
+          let now : is_reached_at d (place_of x device) ≡ true =
+          sym both.0 ∙ sym (numbered.exact (place_of x device)) ∙ there (get n (place_of x device)) x.number had in
+          let has : device_at m (cell_of x) ≡ Some device =
+          has_device m renumbered.apart (place_of x device) x.number (stay (place_of x device) x.number now had) in
           seen_at c n x device before ∙ both.1 ∙ sym (seen_at d m x device has)
       by None before (Some device) after =
           let has : get m (place_of x device) ≡ Some x.number = has_number m (cell_of x) device after in
@@ -210,7 +224,8 @@ module _ (c d : Configuration) (n m : Numbering) (numbered : AreNumbersOf c n) (
   image_of = x.image
 
   -- a device that has the number has a place in the ranges
-  in_range : (device : ℕ) → (get n (place_of x device) ≡ Some x.number) ⊎ (get m (place_of x device) ≡ Some x.number) → (x.image.css < 6) × (x.set < 4)
+  in_range : (device : ℕ) → (get n (place_of x device) ≡ Some x.number) ⊎ (get m (place_of x device) ≡ Some x.number)
+      → (x.image.css < 6) × (x.set < 4)
   in_range device (inl had) = range_of c (place_of x device) (sym (numbered.exact (place_of x device)) ∙ there (get n (place_of x device)) x.number had)
   in_range device (inr has) = range_of d (place_of x device) (sym (renumbered.exact (place_of x device)) ∙ there (get m (place_of x device)) x.number has)
 

@@ -1,5 +1,6 @@
 -- The numbers and the seats follow a change of the configuration.
-use Rattle.std.proofs.Common.{◌≡◌, ℕ, Bool, true, false, ◌||◌, ◌⊎◌, inl, inr, List, [], ◌∷◌, ◌++◌, map, Option, refl, sym, ap, subst, ◌∙◌}
+use Rattle.std.proofs.Common.{◌≡◌, ℕ, Bool, true, false, ◌||◌, ◌⊎◌, inl, inr, List, [], ◌∷◌, ◌++◌, map, Option, refl, sym}
+use Rattle.std.proofs.Common.{ap, subst, ◌∙◌}
 use Rattle.std.proofs.lemmas.Bool.{or_cases, or_right}
 use Rattle.std.proofs.lemmas.List.Folds.{list_any-append}
 use Rattle.std.specs.List.{list_any, AllByRecursion}
@@ -36,11 +37,14 @@ use Rattle.iocm_plant.specs.declared.following.LookedAt.{LookedAt}
 use Rattle.iocm_plant.specs.Following.{WasChanged, WasRenumbered}
 use Rattle.iocm_plant.proofs.Candidates.{AreLookedAt, looked_for}
 
-less_of : (p q : Place) (ps : List Place) → AllByRecursion (λ y. place_cmp p y ≡ Less) ps → list_any (eq_by_cmp place_cmp q) ps ≡ true → place_cmp p q ≡ Less
+less_of : (p q : Place) (ps : List Place) → AllByRecursion (λ y. place_cmp p y ≡ Less) ps → list_any (eq_by_cmp place_cmp q) ps ≡ true
+    → place_cmp p q ≡ Less
 less_of p q [] all among = cc
 less_of p q (x ∷ ps) all among = by (or_cases _ _ among) (less_of p q ps all.1)
   where
-    by : ((eq_by_cmp place_cmp q x ≡ true) ⊎ (list_any (eq_by_cmp place_cmp q) ps ≡ true)) → (list_any (eq_by_cmp place_cmp q) ps ≡ true → place_cmp p q ≡ Less) → place_cmp p q ≡ Less
+    by : ((eq_by_cmp place_cmp q x ≡ true) ⊎ (list_any (eq_by_cmp place_cmp q) ps ≡ true))
+        → (list_any (eq_by_cmp place_cmp q) ps ≡ true → place_cmp p q ≡ Less)
+        → place_cmp p q ≡ Less
     by (inl tied) rest = ap (place_cmp p) (same_key place_cmp places_exact q x tied) ∙ all.0
     by (inr more) rest = rest more
 
@@ -75,10 +79,12 @@ or_left false b h = cc
 
 -- all that is seen differently is looked at
 pub all_looked_at : (d : Configuration) (m : Numbering) (seats : Seats) (at : LookedAt) (sorted : List NumberCell) → WasRenumbered d m seats at
-    → ((cell : NumberCell) → list_any (eq_by_cmp cell_cmp cell) sorted ≡ list_any (eq_by_cmp cell_cmp cell) (at.cells.items ++ cells_at m at.affected.places.items))
+    → ((cell : NumberCell) → list_any (eq_by_cmp cell_cmp cell) sorted
+    ≡ list_any (eq_by_cmp cell_cmp cell) (at.cells.items ++ cells_at m at.affected.places.items))
     → AreCandidates (get (views_seated seats)) (view_at d m) (candidates at.affected.images.items sorted)
 all_looked_at d m seats at sorted was same x differ =
-    looked_for was.changed.before d was.first m was.changed.numbered was.now_numbered was.stay places at.affected.images.items sorted was.changed.affected looked x
+    looked_for was.changed.before d was.first m was.changed.numbered was.now_numbered was.stay places at.affected.images.items sorted
+    was.changed.affected looked x
     (ap (λ v. option_eq same_view v (view_at d m x)) (sym seen) ∙ differ)
   where
     places : List Place
@@ -90,7 +96,8 @@ all_looked_at d m seats at sorted was same x differ =
     seen : get (views_seated seats) x ≡ view_at was.changed.before was.first x
     seen = ap (λ v. get v x) was.changed.seated ∙ seen_is was.changed.before was.first was.changed.keyed x
 
-    among_both : (cell : NumberCell) → list_any (eq_by_cmp cell_cmp cell) sorted ≡ (list_any (eq_by_cmp cell_cmp cell) cells || list_any (eq_by_cmp cell_cmp cell) (cells_at m places))
+    among_both : (cell : NumberCell) → list_any (eq_by_cmp cell_cmp cell) sorted
+        ≡ (list_any (eq_by_cmp cell_cmp cell) cells || list_any (eq_by_cmp cell_cmp cell) (cells_at m places))
     among_both cell = same cell ∙ list_any-append (eq_by_cmp cell_cmp cell) cells (cells_at m places)
 
     looked : AreLookedAt was.first m places sorted
@@ -99,5 +106,6 @@ all_looked_at d m seats at sorted was same x differ =
           among_both cell ∙ or_left (list_any (eq_by_cmp cell_cmp cell) cells) (list_any (eq_by_cmp cell_cmp cell) (cells_at m places))
           (ap (list_any (eq_by_cmp cell_cmp cell)) was.changed.cells_are ∙ cells_are_listed was.first places p k among has);
       after = λ p k among has. let cell : NumberCell = record { css = p.css; set = p.set; number = k } in
-          among_both cell ∙ or_right (list_any (eq_by_cmp cell_cmp cell) cells) (list_any (eq_by_cmp cell_cmp cell) (cells_at m places)) (cells_are_listed m places p k among has);
+          among_both cell ∙ or_right (list_any (eq_by_cmp cell_cmp cell) cells) (list_any (eq_by_cmp cell_cmp cell) (cells_at m places))
+          (cells_are_listed m places p k among has);
     }

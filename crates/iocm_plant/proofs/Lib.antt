@@ -1,10 +1,17 @@
+mod Altered
 mod Between
 mod Candidates
 mod Counted
+mod Exchanged
 mod Follows
+mod Inside
 mod Opening
 mod Performed
+mod Placed
 mod Records
+mod Refused
+mod Renumbered
+mod RowsMet
 mod Sorted
 mod Stepping
 mod TakenBack

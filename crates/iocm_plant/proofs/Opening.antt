@@ -33,7 +33,8 @@ find_seat x [] = refl
 find_seat x (row ∷ rows) = ap (cond (eq_by_cmp sub_id_cmp x row.0) (Some (seat_of row.1))) (find_seat x rows)
     ∙ turned seat_of (eq_by_cmp sub_id_cmp x row.0) row.1 (find sub_id_cmp x rows)
 
-find_live : (x : SubId) (rows : List (SubId × View)) → find sub_id_cmp x (map fresh_row rows) ≡ option_map (λ (v : View). fresh v.pim) (find sub_id_cmp x rows)
+find_live : (x : SubId) (rows : List (SubId × View))
+    → find sub_id_cmp x (map fresh_row rows) ≡ option_map (λ (v : View). fresh v.pim) (find sub_id_cmp x rows)
 find_live x [] = refl
 find_live x (row ∷ rows) = ap (cond (eq_by_cmp sub_id_cmp x row.0) (Some (fresh row.1.pim))) (find_live x rows)
     ∙ turned (λ (v : View). fresh v.pim) (eq_by_cmp sub_id_cmp x row.0) row.1 (find sub_id_cmp x rows)
@@ -61,7 +62,8 @@ module _ (rows : List (SubId × View)) (seats : Seats) (is : seats ≡ from_entr
       live_seated seats x ∙ ap live_in (seat_at x) ∙ live_of_seat (find sub_id_cmp x rows) ∙ sym (find_live x rows)
       ∙ sym (get-from_entries sub_ids_total (map fresh_row rows) x))
 
-module _ (c : Configuration) (n : Numbering) (index : Stored Naming (Unit {0})) (seats : Seats) (keyed : IsKeyed c) (first : n ≡ opening c) (indexed : IsIndexOf c index)
+module _ (c : Configuration) (n : Numbering) (index : Stored Naming (Unit {0})) (seats : Seats) (keyed : IsKeyed c) (first : n ≡ opening c)
+    (indexed : IsIndexOf c index)
     (is : seats ≡ from_entries (map fresh_seat (views c n))) where
   pub opens : IsOperating c n index seats
   opens = record {
@@ -72,4 +74,8 @@ module _ (c : Configuration) (n : Numbering) (index : Stored Naming (Unit {0})) 
   }
 
   pub opening_is : state_of c n seats ≡ opening_state c
-  opening_is = λ i. record { config = c; numbers = first i; lives = (fresh_seats_live (views c n) seats is ∙ (λ j. from_entries (map fresh_row (views c (first j))))) i }
+  opening_is = λ i. record {
+    config = c;
+    numbers = first i;
+    lives = (fresh_seats_live (views c n) seats is ∙ (λ j. from_entries (map fresh_row (views c (first j))))) i;
+  }

@@ -47,10 +47,13 @@ of_record r n = one_naming (key_of r) n (named_by r)
 -- ---- the index
 
 module _ (c : Configuration) (key : Key) where
-  out_by : (t : Stored Naming (Unit {0})) (n : Naming) (r : Rec) (b e : Bool) → eq_by_cmp key_cmp n.user key ≡ b → names n.named (Some r) ≡ e → get c key ≡ Some r
+  out_by : (t : Stored Naming (Unit {0})) (n : Naming) (r : Rec) (b e : Bool) → eq_by_cmp key_cmp n.user key ≡ b → names n.named (Some r) ≡ e
+      → get c key ≡ Some r
       → is_linked t n ≡ names n.named (get c n.user) → (not (e && b) && is_linked t n) ≡ names n.named (cond b None (get c n.user))
   out_by t n r true e tied is here linked =
-      ap (λ z. not (e && true) && z) (linked ∙ ap (λ z. names n.named (get c z)) (same_key key_cmp keys_exact n.user key tied) ∙ ap (names n.named) here ∙ is) ∙ none e
+      ap (λ z. not (e && true) && z) (linked ∙ ap (λ z. names n.named (get c z)) (same_key key_cmp keys_exact n.user key tied)
+      ∙ ap (names n.named) here ∙ is)
+      ∙ none e
     where
       none : (e : Bool) → (not (e && true) && e) ≡ false
       none true = refl
@@ -62,7 +65,8 @@ module _ (c : Configuration) (key : Key) where
   pub unlinked : (t u : Stored Naming (Unit {0})) (r : Rec) → IsKeyed c → get c key ≡ Some r → IsIndexOf c t
       → ((n : Naming) → is_linked u n ≡ (not (is_naming_of r n) && is_linked t n)) → IsIndexOf (remove c key) u
   unlinked t u r keyed here index left n =
-      left n ∙ ap (λ b. not b && is_linked t n) (of_record r n ∙ ap (λ k. names n.named (Some r) && eq_by_cmp key_cmp n.user k) (keyed_own c keyed key r here))
+      left n ∙ ap (λ b. not b && is_linked t n)
+      (of_record r n ∙ ap (λ k. names n.named (Some r) && eq_by_cmp key_cmp n.user k) (keyed_own c keyed key r here))
       ∙ out_by t n r (eq_by_cmp key_cmp n.user key) (names n.named (Some r)) refl refl here (index n)
       ∙ ap (names n.named) (sym (get-remove keys_total c key n.user))
 
@@ -73,7 +77,8 @@ module _ (c : Configuration) (key : Key) where
 
   -- where there is no record nothing is taken out
   pub none_unlinked : (t : Stored Naming (Unit {0})) → get c key ≡ None → IsIndexOf c t → IsIndexOf (remove c key) t
-  none_unlinked t none index n = index n ∙ none_by t n (eq_by_cmp key_cmp n.user key) refl none ∙ ap (names n.named) (sym (get-remove keys_total c key n.user))
+  none_unlinked t none index n =
+      index n ∙ none_by t n (eq_by_cmp key_cmp n.user key) refl none ∙ ap (names n.named) (sym (get-remove keys_total c key n.user))
 
 in_by : (c : Configuration) (t : Stored Naming (Unit {0})) (n : Naming) (r : Rec) (b e : Bool) → names n.named (Some r) ≡ e
     → is_linked t n ≡ names n.named (cond b None (get c n.user)) → ((e && b) || is_linked t n) ≡ names n.named (cond b (Some r) (get c n.user))
@@ -87,5 +92,6 @@ pub linked : (c : Configuration) (t u : Stored Naming (Unit {0})) (r : Rec) → 
     → ((n : Naming) → is_linked u n ≡ (is_naming_of r n || is_linked t n)) → IsIndexOf (insert c (key_of r) r) u
 linked c t u r index more n =
     more n ∙ ap (λ b. b || is_linked t n) (of_record r n)
-    ∙ in_by c t n r (eq_by_cmp key_cmp n.user (key_of r)) (names n.named (Some r)) refl (index n ∙ ap (names n.named) (get-remove keys_total c (key_of r) n.user))
+    ∙ in_by c t n r (eq_by_cmp key_cmp n.user (key_of r)) (names n.named (Some r)) refl
+    (index n ∙ ap (names n.named) (get-remove keys_total c (key_of r) n.user))
     ∙ ap (names n.named) (sym (get-insert keys_total c (key_of r) r n.user))

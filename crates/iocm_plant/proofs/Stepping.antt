@@ -19,78 +19,122 @@ use Rattle.iocm_seats.specs.declared.seat.Seat.{Seat}
 use Rattle.iocm_seats.specs.Lent.{IsChangedAt}
 use Rattle.iocm_seats.specs.Seated.{Seats, Seated, views_seated, lives_seated}
 use Rattle.iocm_seats.proofs.Settled.{view_in, live_in, view_seated, live_seated}
-use Rattle.iocm_plant.specs.Operating.{IsOperating, room_of, state_of}
+use Rattle.iocm_plant.specs.declared.plant.Plant.TheInside.{Inside}
+use Rattle.iocm_plant.specs.Operating.{Operating, IsOperating, state_of}
+use Rattle.iocm_plant.proofs.Inside.{AreOperating, state_in, operating_in}
 
 -- the loan of a seat that is there has ended
 pub changed_seat : {B : Type 0} (lent : Option B) (seat : B) → lent ≡ Some seat → (t : Seated) (x : SubId) (u : Seated) (s : Seat)
     → OnSome lent (IsChangedAt t x u s) → IsChangedAt t x u s
 changed_seat lent seat is t x u s changed = subst (λ o. OnSome o (IsChangedAt t x u s)) is changed
 
--- what has a place
-pub same_room : (c : config.Stored) (n : Numbered) (index : Stored Naming (Unit {0})) (t u : Seated) → u.places ≡ t.places → room_of c n index u ≡ room_of c n index t
-same_room c n index t u same = λ i. record (room_of c n index t) { subchannels = same i }
-
 zipped : (o : Option Seat) → option_zip (view_in o) (live_in o) ≡ option_map (λ (s : Seat). (s.view, s.live)) o
 zipped None = refl
 zipped (Some s) = refl
 
+-- a seat with another live record
+abbrev seat_with : Seat → Live → Seat
+seat_with s l = record { view = s.view; live = l }
+
 module _ (seats : Seats) (x : SubId) (s : Seat) (l : Live) (here : get seats x ≡ Some s) where
   abbrev with_live : Seats
-  with_live = insert seats x (record { view = s.view; live = l })
+  with_live = insert seats x (seat_with s l)
 
-  seen_by : (b : Bool) (q : SubId) → eq_by_cmp sub_id_cmp q x ≡ b → view_in (cond b (Some (record { view = s.view; live = l })) (get seats q)) ≡ view_in (get seats q)
+  seen_by : (b : Bool) (q : SubId) → eq_by_cmp sub_id_cmp q x ≡ b → view_in (cond b (Some (seat_with s l)) (get seats q)) ≡ view_in (get seats q)
   seen_by true q tied = sym (ap (λ z. view_in (get seats z)) (same_key sub_id_cmp sub_ids_exact q x tied) ∙ ap view_in here)
   seen_by false q other = refl
 
   -- the same is seen
   pub seen_as_before : views_seated with_live ≡ views_seated seats
   seen_as_before = same_map sub_ids_total sub_ids_exact _ _ (λ q.
-      view_seated with_live q ∙ ap view_in (get-insert sub_ids_total seats x (record { view = s.view; live = l }) q)
+      view_seated with_live q ∙ ap view_in (get-insert sub_ids_total seats x (seat_with s l) q)
       ∙ seen_by (eq_by_cmp sub_id_cmp q x) q refl ∙ sym (view_seated seats q))
 
-  lived_by : (b : Bool) (q : SubId) → live_in (cond b (Some (record { view = s.view; live = l })) (get seats q)) ≡ cond b (Some l) (live_in (get seats q))
+  lived_by : (b : Bool) (q : SubId) → live_in (cond b (Some (seat_with s l)) (get seats q)) ≡ cond b (Some l) (live_in (get seats q))
   lived_by true q = refl
   lived_by false q = refl
 
   -- the live record is the new one
   pub lives_now : lives_seated with_live ≡ insert (lives_seated seats) x l
   lives_now = same_map sub_ids_total sub_ids_exact _ _ (λ q.
-      live_seated with_live q ∙ ap live_in (get-insert sub_ids_total seats x (record { view = s.view; live = l }) q)
+      live_seated with_live q ∙ ap live_in (get-insert sub_ids_total seats x (seat_with s l) q)
       ∙ lived_by (eq_by_cmp sub_id_cmp q x) q ∙ ap (cond (eq_by_cmp sub_id_cmp q x) (Some l)) (sym (live_seated seats q))
       ∙ sym (get-insert sub_ids_total (lives_seated seats) x l q))
 
-module _ (c : Configuration) (n : Numbering) (index : Stored Naming (Unit {0})) (seats : Seats) (before : IsOperating c n index seats) (x : SubId) where
-  subchannel_is : subchannel_in (state_of c n seats) x ≡ option_map (λ (s : Seat). (s.view, s.live)) (get seats x)
-  subchannel_is = (λ i. option_zip ((ap (λ v. get v x) (sym before.seated) ∙ view_seated seats x) i) (live_seated seats x i)) ∙ zipped (get seats x)
+-- ---- a subchannel that isn't there
 
-  pub none_there : get seats x ≡ None → subchannel_in (state_of c n seats) x ≡ None
-  none_there none = subchannel_is ∙ ap (option_map (λ (s : Seat). (s.view, s.live))) none
+-- the tables with other seats
+abbrev pub with_seats : Inside → Seated → Inside
+with_seats p t = record p { seats = t }
 
-  pub one_there : (s : Seat) → get seats x ≡ Some s → subchannel_in (state_of c n seats) x ≡ Some (s.view, s.live)
-  one_there s here = subchannel_is ∙ ap (option_map (λ (s : Seat). (s.view, s.live))) here
+-- what is there at a subchannel
+subchannel_is : (p : Inside) → AreOperating p → (x : SubId)
+    → subchannel_in (state_in p) x ≡ option_map (λ (s : Seat). (s.view, s.live)) (get p.seats.seats x)
+subchannel_is p before x =
+    (λ i. option_zip ((ap (λ v. get v x) (sym before.seated) ∙ view_seated p.seats.seats x) i) (live_seated p.seats.seats x i))
+    ∙ zipped (get p.seats.seats x)
 
-  -- no seat: nothing changes
-  module _ (q : Seats) (same_seats : q ≡ seats) (none : get seats x ≡ None) where
-    pub same_operating : IsOperating c n index q
-    same_operating = subst (IsOperating c n index) (sym same_seats) before
+-- what has a place is as it was
+room_still : {old : Operating} (p : Inside) (t : Seated) → operating_in p ≡ old → t.places ≡ p.seats.places
+    → (operating_in (with_seats p t)).room ≡ old.room
+room_still p t is same = (λ i. record (operating_in p).room { subchannels = same i }) ∙ ap (λ (k : Operating). k.room) is
 
-    pub same_state : (step : Step) → state_of c n q ≡ after_step x step (state_of c n seats)
-    same_state step = ap (state_of c n) same_seats
-        ∙ sym (ap (λ p. record (state_of c n seats) { lives = lives_after_step x step p (lives_seated seats) }) (none_there none))
+-- a subchannel isn't there, and the seats stay as they are
+pub record FoundNone (old : Operating) (p : Inside) (x : SubId) (t : Seated) : Type 0 where
+  pub is : operating_in p ≡ old
+  pub before : AreOperating p
+  pub none : get p.seats.seats x ≡ None
+  pub same_seats : t.seats ≡ p.seats.seats
+  pub same_places : t.places ≡ p.seats.places
 
-  -- a seat: it has the live record that the step leaves
-  module _ (q : Seats) (s : Seat) (l : Live) (here : get seats x ≡ Some s) (seats_are : q ≡ insert seats x (record { view = s.view; live = l })) where
-    pub operating_after : IsOperating c n index q
-    operating_after = record {
-      keyed = before.keyed;
-      numbered = before.numbered;
-      indexed = before.indexed;
-      seated = ap views_seated seats_are ∙ seen_as_before seats x s l here ∙ before.seated;
-    }
+module _ {old : Operating} {p : Inside} {x : SubId} {t : Seated} (w : FoundNone old p x t) where
+  pub none_there : subchannel_in old.state x ≡ None
+  none_there = ap (λ (k : Operating). subchannel_in k.state x) (sym w.is)
+      ∙ subchannel_is p w.before x ∙ ap (option_map (λ (s : Seat). (s.view, s.live))) w.none
 
-    pub state_after_step : (step : Step) → l ≡ live_after_step step s.view s.live → state_of c n q ≡ after_step x step (state_of c n seats)
-    state_after_step step left =
-        let lives : lives_seated q ≡ lives_after_step x step (subchannel_in (state_of c n seats) x) (lives_seated seats) =
-        ap lives_seated seats_are ∙ lives_now seats x s l here ∙ ap (insert (lives_seated seats) x) left
-        ∙ sym (ap (λ p. lives_after_step x step p (lives_seated seats)) (one_there s here)) in
-        λ i. record { config = c; numbers = n; lives = lives i }
+  -- what always holds holds still
+  pub still_operating : AreOperating (with_seats p t)
+  still_operating = subst (IsOperating p.config.records p.numbers.numbers p.index) (sym w.same_seats) w.before
+
+  -- a step changes nothing
+  pub state_still : (step : Step) → state_in (with_seats p t) ≡ after_step x step old.state
+  state_still step = ap (state_of p.config.records p.numbers.numbers) w.same_seats ∙ ap (λ (k : Operating). k.state) w.is
+      ∙ sym (ap (λ o. record old.state { lives = lives_after_step x step o old.state.lives }) none_there)
+
+  pub same_room : (operating_in (with_seats p t)).room ≡ old.room
+  same_room = room_still p t w.is w.same_places
+
+-- ---- a subchannel that is there
+
+-- the seat of a subchannel has got another live record
+pub record FoundSeat (old : Operating) (p : Inside) (x : SubId) (s : Seat) (l : Live) (t : Seated) : Type 0 where
+  pub is : operating_in p ≡ old
+  pub before : AreOperating p
+  pub here : get p.seats.seats x ≡ Some s
+  pub changed : IsChangedAt p.seats x t (seat_with s l)
+
+module _ {old : Operating} {p : Inside} {x : SubId} {s : Seat} {l : Live} {t : Seated} (w : FoundSeat old p x s l t) where
+  pub one_there : subchannel_in old.state x ≡ Some (s.view, s.live)
+  one_there = ap (λ (k : Operating). subchannel_in k.state x) (sym w.is)
+      ∙ subchannel_is p w.before x ∙ ap (option_map (λ (s : Seat). (s.view, s.live))) w.here
+
+  -- what always holds holds again
+  pub operating_after : AreOperating (with_seats p t)
+  operating_after = record {
+    keyed = w.before.keyed;
+    numbered = w.before.numbered;
+    indexed = w.before.indexed;
+    seated = ap views_seated w.changed.seats ∙ seen_as_before p.seats.seats x s l w.here ∙ w.before.seated;
+  }
+
+  -- where the live record is the one that a step leaves, the state is the one after it
+  pub state_after_step : (step : Step) → l ≡ live_after_step step s.view s.live → state_in (with_seats p t) ≡ after_step x step old.state
+  state_after_step step left =
+      let lives : lives_seated t.seats ≡ lives_after_step x step (subchannel_in old.state x) (lives_seated p.seats.seats) =
+      ap lives_seated w.changed.seats ∙ lives_now p.seats.seats x s l w.here ∙ ap (insert (lives_seated p.seats.seats) x) left
+      ∙ sym (ap (λ o. lives_after_step x step o (lives_seated p.seats.seats)) one_there) in
+      (λ i. record (state_in p) { lives = lives i })
+      ∙ (λ i. record (w.is i).state { lives = lives_after_step x step (subchannel_in old.state x) (w.is i).state.lives })
+
+  pub room_as_before : (operating_in (with_seats p t)).room ≡ old.room
+  room_as_before = room_still p t w.is w.changed.places

@@ -40,9 +40,9 @@ StepsLeaveItStanding = (x : SubId) (step : Step) (p q : Operating)
 abbrev pub CanStillUnapply : Type 0
 CanStillUnapply = (i : Carried) (p q : Operating) → CanUnapply i p → StandsAsBefore p q → CanUnapply i q
 
--- an edit was performed, and later taken back, by its inverse with the live records that are kept
--- or any others of the same subchannels: the machine before it, after it, when it is taken back,
--- and then
+-- an edit was performed, and later taken back by its inverse, with the live records that were kept
+-- or any others of the same subchannels. The machines are those before the edit, after it, when it
+-- is taken back, and after that
 pub record WasTakenBack (e i : Edit) (before done standing undone : Operating) : Type 0 where
   pub sound : IsSound before.state
   pub performed : done.state ≡ state_after e before.state

@@ -1,4 +1,4 @@
--- What the numbers and the seats follow: a change of the configuration.
+-- How the numbers and the seats follow a change of the configuration.
 use Rattle.std.specs.Prelude.{◌≡◌, ℕ, true, List, Option, Some}
 use Rattle.std.specs.List.Sorted.{IsStrictlySortedBy}
 use Rattle.std.specs.Option.{option_or}
@@ -26,11 +26,12 @@ use Rattle.iocm_plant.specs.declared.following.Followed.{Followed}
 use Rattle.iocm_plant.specs.declared.following.LookedAt.{LookedAt}
 use Rattle.iocm_plant.specs.declared.following.Told.{Told}
 use Rattle.iocm_plant.specs.declared.quiet.Quiet.{Quiet}
+use Rattle.iocm_plant.specs.InTheWay.{settling_refusal}
 use Rattle.iocm_plant.specs.Refusing.{refusal_by_number}
-use Rattle.iocm_plant.specs.Seating.{settling_refusal, TellsOfSettling}
+use Rattle.iocm_plant.specs.Seating.{TellsOfSettling}
 
--- a configuration was changed, from one in which these are the numbers and the seats, and it is
--- looked at all places and images that may be affected, and at the number cells of the numbers at
+-- a configuration was changed, from one in which these are the numbers and the seats. The places
+-- and images that are looked at are all that may be affected. The cells are those of the numbers at
 -- these places
 pub record WasChanged (d : Configuration) (n : Numbering) (seats : Seats) (at : LookedAt) : Type 0 where
   pub before : Configuration
@@ -40,14 +41,14 @@ pub record WasChanged (d : Configuration) (n : Numbering) (seats : Seats) (at : 
   pub affected : AreAllAffected before d at.affected.places.items at.affected.images.items
   pub cells_are : at.cells.items ≡ cells_at n at.affected.places.items
 
--- and these are the numbers now: those of devices that stay are as they were
+-- the numbers have followed it: those of devices that stay are as they were
 pub record WasRenumbered (d : Configuration) (m : Numbering) (seats : Seats) (at : LookedAt) : Type 0 where
   pub first : Numbering
   pub changed : WasChanged d first seats at
   pub now_numbered : AreNumbersOf d m
   pub stay : (p : Place) (k : ℕ) → is_reached_at d p ≡ true → get first p ≡ Some k → get m p ≡ Some k
 
--- it is looked at places in order, and at images in order
+-- the places that are looked at are in order, and so are the images
 abbrev pub ArePlacesInOrder : LookedAt → Type 0
 ArePlacesInOrder at = IsStrictlySortedBy place_cmp at.affected.places.items
 
@@ -69,24 +70,24 @@ pub record TellsOfSeats (d : Configuration) (m : Numbering) (seats : Seats) (tol
   pub settled : TellsOfSettling seats (seen_changes d m seats) told.kept.items told.meets.items
   pub subchannels : told.touched.subchannels.items ≡ seen_changes d m seats
 
--- what is told of numbers and seats that have followed: the numbers that were freed, those that
--- were given, the number cells that changed, and what is told of seats
+-- what is told of numbers and seats that have followed: the numbers freed and given, the number
+-- cells that changed, and what is told of seats
 pub record TellsAll (d : Configuration) (n m : Numbering) (seats : Seats) (f : Followed) : Type 0 where
   pub freed : f.renumbered.freed.items ≡ freed_numbers n m
   pub given : f.renumbered.given.items ≡ freed_numbers m n
   pub cells : f.told.touched.numbers.items ≡ numbers.changes_between n m
   pub altered : TellsOfSeats d m seats f.told
 
--- why seats don't follow: an altered subchannel isn't quiet, where that is wanted
+-- why seats don't follow: an altered subchannel that has to be quiet isn't
 abbrev pub seating_refusal : Configuration → Numbering → Seats → Quiet → Option Refused
 seating_refusal d m seats quiet = settling_refusal seats (seen_changes d m seats) quiet
 
--- why numbers and seats don't follow: a number that comes along is taken, or else that
+-- why numbers and seats don't follow: a number that comes along is taken, or else the seats don't
 abbrev pub following_refusal : Configuration → Numbering → Seats → Key → List (Place × ℕ) → Quiet → Option Refused
 following_refusal d n seats key carried quiet =
     option_or (refusal_by_number key (is_number_taken d n carried))
     (seating_refusal d (numbers_after d carried n) seats quiet)
 
--- the same with what comes along
+-- the same of what comes along with an edit
 abbrev pub refusal_with : Configuration → Numbering → Seats → Brought → Option Refused
 refusal_with d n seats brought = following_refusal d n seats brought.key brought.places.items brought.quiet

@@ -1,5 +1,6 @@
 pub mod Between
 pub mod Following
+pub mod InTheWay
 pub mod Operating
 pub mod Performing
 pub mod Refusing

@@ -76,8 +76,8 @@ operating_of c n index seats = record {
   room = room_of c n index seats;
 }
 
--- what always holds of the tables: each record stands under its own key, the numbers are those of
--- the configuration, the index tells who names whom in it, and the seats show what is seen
+-- what always holds of the tables: each record stands under its own key, and the numbers are those
+-- of the configuration. The index tells who names whom in it, and the seats show what is seen
 pub record IsOperating (c : Configuration) (n : Numbering) (index : Stored Naming (Unit {0}))
     (seats : Seats) : Type 0 where
   pub keyed : IsKeyed c

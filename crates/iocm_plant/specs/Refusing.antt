@@ -44,12 +44,12 @@ opening_refusal c = refusal_by_breach (first_breach c (opening c))
 abbrev pub refusal_by_number : keys.Key → Bool → Option Refused
 refusal_by_number key taken = if taken then Some (refusal_at E4 (Key key)) else None
 
--- B1 names the subchannel, where altered subchannels are wanted quiet
+-- B1 names the subchannel, where altered subchannels have to be quiet
 abbrev pub refusal_by_quiet : Quiet → Option SubId → Option Refused
 refusal_by_quiet Wanted found = refusal_by_subchannel found
 refusal_by_quiet Whatever found = None
 
--- why an edit is refused where altered subchannels are wanted quiet, or where it doesn't matter
+-- why an edit is refused where altered subchannels have to be quiet, or where they needn't be
 abbrev pub refusal_when : Quiet → Edit → State → Option Refused
 refusal_when quiet e s =
     option_or (refusal_by_key e.action (contains_key s.config (action_key e.action)))

@@ -15,10 +15,10 @@ use Rattle.iocm_model.specs.Laws.Runs.{HasSameKeys}
 use Rattle.iocm_tree.specs.Carried.{Carried}
 use Rattle.iocm_plant.specs.Operating.{Room, Operating, HasPlaceIn, HasNamingRoom, HasNumberRoom}
 
--- an edit that takes another one back, where the configuration and the numbers are those that this
--- one left: it is its inverse, with its live records or any others of the same subchannels; and it
--- has room for the way back, for the numbers that it frees and for the subchannels that it alters
--- and finds
+-- an edit takes another one back, where the configuration and the numbers are those that the other
+-- one left. It is the inverse of the other one, with its live records or any others of the same
+-- subchannels. For its own way back it has room for the numbers that it frees, and for the
+-- subchannels that it alters and finds
 pub record TakesBack (i : Carried) (c : Configuration) (n : Numbering) : Type 0 where
   pub edit : Edit
   pub state : State

@@ -9,8 +9,9 @@ ghost use Rattle.iocm_seats.specs.declared.view_change.ViewChange as changed;
 ghost use Rattle.iocm_seats.specs.Seated.{lives_seated, views_seated, KeepsPlaces};
 ghost use Rattle.iocm_seats.specs.Settling.{settled_all, lives_met, AreSeen};
 ghost use Rattle.iocm_tree.specs.Carried.{AreInOrder};
+ghost use Rattle.iocm_plant.specs.InTheWay.{first_in_the_way, settling_refusal};
 ghost use Rattle.iocm_plant.specs.Refusing.{Hinders};
-ghost use Rattle.iocm_plant.specs.Seating.{first_in_the_way, settling_refusal, TellsOfSettling};
+ghost use Rattle.iocm_plant.specs.Seating.{TellsOfSettling};
 
 use crate::obstacle::Obstacle;
 use crate::quiet::Quiet;

@@ -15,7 +15,8 @@ use Rattle.iocm_plant.proofs.following.list_altered.Goals as goal
 
 pub list_changes-requires-clause-all : goal.list_changes-requires-clause-all
 list_changes-requires-clause-all c =
-    subst (λ (xs : List Image × List NumberCell). AreCandidates (get (views_seated c.args.seats.now.seats)) (view_at c.args.config.now.records c.args.numbers.now.numbers) (candidates xs.0 xs.1))
+    subst (λ (xs : List Image × List NumberCell). AreCandidates (get (views_seated c.args.seats.now.seats))
+    (view_at c.args.config.now.records c.args.numbers.now.numbers) (candidates xs.0 xs.1))
     (sym (λ i. (c.as_slice-2.ensures.value i, c.as_slice-3.ensures.value i)))
     (all_looked_at c.args.config.now.records c.args.numbers.now.numbers c.args.seats.now.seats c.args.at c.in_ok-cells.cells.items c.requires.changed
     (λ cell. c.in_ok-cells.ensures.same cell ∙ ap (list_any (eq_by_cmp cell_cmp cell)) (c.in_ok-list_cells.ensures

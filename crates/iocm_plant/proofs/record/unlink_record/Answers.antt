@@ -8,4 +8,5 @@ returns-in-Some-clause-index c = unlinked c.args.config.now.records c.args.key.n
     (sym c.get.ensures ∙ ap option_copied c.in-Some.is) c.requires c.unlink.ensures.linked
 
 pub returns-in_default-clause-index : goal.returns-in_default-clause-index
-returns-in_default-clause-index c = none_unlinked c.args.config.now.records c.args.key.now c.args.index.now (sym c.get.ensures ∙ ap option_copied c.in_default.is) c.requires
+returns-in_default-clause-index c =
+    none_unlinked c.args.config.now.records c.args.key.now c.args.index.now (sym c.get.ensures ∙ ap option_copied c.in_default.is) c.requires

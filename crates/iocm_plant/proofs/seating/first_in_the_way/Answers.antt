@@ -2,7 +2,7 @@ use Rattle.std.proofs.Common.{map, sym, ap, ◌∙◌}
 use Rattle.iocm_model.specs.Change.Refusal.{first_not_quiet}
 use Rattle.iocm_seats.specs.declared.view_change.ViewChange.{ViewChange}
 use Rattle.iocm_plant.specs.declared.quiet.Quiet.{Quiet}
-use Rattle.iocm_plant.specs.Seating.{first_in_the_way}
+use Rattle.iocm_plant.specs.InTheWay.{first_in_the_way}
 use Rattle.iocm_plant.proofs.seating.first_in_the_way.Goals as goal
 
 pub returns-in-Wanted : goal.returns-in-Wanted
