@@ -31,7 +31,8 @@ same_head x y xs ys h = cc
 same_tail : {A : Type 0} (x y : A) (xs ys : List A) → x ∷ xs ≡ y ∷ ys → xs ≡ ys
 same_tail x y xs ys h = cc
 
-way_back_is : (ds : List Applied) (es : List Edit) (s : State) → map told_in ds ≡ told_of_all es s → map (λ (i : Carried). i.edit) (way_back ds) ≡ inverses es s
+way_back_is : (ds : List Applied) (es : List Edit) (s : State) → map told_in ds ≡ told_of_all es s
+    → map (λ (i : Carried). i.edit) (way_back ds) ≡ inverses es s
 way_back_is [] [] s h = refl
 way_back_is [] (e ∷ es) s h = cc
 way_back_is (a ∷ ds) [] s h = cc
@@ -67,7 +68,8 @@ numbers_are (e ∷ es) s = λ i. cells_are s.numbers (state_after e s).numbers (
 
 altered_are : (es : List Edit) (s : State) → subchannels_told (told_of_all es s) ≡ (cells_written_by_all es s).subchannels
 altered_are [] s = refl
-altered_are (e ∷ es) s = λ i. subchannels_are (get (views_in s)) (get (views_in (state_after e s))) (cells_written e s).subchannels i ++ altered_are es (state_after e s) i
+altered_are (e ∷ es) s =
+    λ i. subchannels_are (get (views_in s)) (get (views_in (state_after e s))) (cells_written e s).subchannels i ++ altered_are es (state_after e s) i
 
 pub cells_told_are : (log : Log) (es : List Edit) (s : State) → map told_in log.done.items ≡ told_of_all es s → log.keys.items ≡ map key_of_edit es
     → cells_told log ≡ cells_written_by_all es s
@@ -83,6 +85,7 @@ each_told : (ds : List Applied) → AreToldBy (touched_in ds) (map told_in ds)
 each_told [] = tt
 each_told (d ∷ ds) = ((refl, refl), each_told ds)
 
-pub are_told : (ds : List Applied) (performed : List Touched) (es : List Edit) (s : State) → performed ≡ touched_in ds → map told_in ds ≡ told_of_all es s
+pub are_told : (ds : List Applied) (performed : List Touched) (es : List Edit) (s : State) → performed ≡ touched_in ds
+    → map told_in ds ≡ told_of_all es s
     → AreToldBy performed (told_of_all es s)
 are_told ds performed es s is told = subst (λ ts. AreToldBy ts (told_of_all es s)) (sym is) (subst (AreToldBy (touched_in ds)) told (each_told ds))

@@ -21,7 +21,8 @@ stands p q lived same room = record {
   room = room;
 }
 
-pub leads_still : CanStillUnapply → (is : List Carried) (s : State) (p q : Operating) → LeadsTo is s p → HasLives q.state → q.state ≡ p.state → KeepsRoom p.room q.room
+pub leads_still : CanStillUnapply → (is : List Carried) (s : State) (p q : Operating) → LeadsTo is s p → HasLives q.state → q.state ≡ p.state
+    → KeepsRoom p.room q.room
     → LeadsTo is s q
 leads_still still [] s p q leads lived same room = same ∙ leads
 leads_still still (i ∷ is) s p q leads lived same room = (
@@ -32,13 +33,15 @@ leads_still still (i ∷ is) s p q leads lived same room = (
       (subst HasLives (sym after) (lived_after i.edit q.state lived)) refl (subst (KeepsRoom p.room) (sym places) room),
 )
 
-pub leads_on : CanStillUnapply → (js is : List Carried) (s : State) (p q : Operating) → LeadsTo js p.state q → LeadsTo is s p → HasLives q.state → KeepsRoom p.room q.room
+pub leads_on : CanStillUnapply → (js is : List Carried) (s : State) (p q : Operating) → LeadsTo js p.state q → LeadsTo is s p → HasLives q.state
+    → KeepsRoom p.room q.room
     → LeadsTo (js ++ is) s q
 leads_on still [] is s p q later leads lived room = leads_still still is s p q leads lived later room
 leads_on still (j ∷ js) is s p q later leads lived room = (
   later.0,
   λ t after places.
-      leads_on still js is s p t (later.1 t after places) leads (subst HasLives (sym after) (lived_after j.edit q.state lived)) (subst (KeepsRoom p.room) (sym places) room),
+      leads_on still js is s p t (later.1 t after places) leads (subst HasLives (sym after) (lived_after j.edit q.state lived))
+      (subst (KeepsRoom p.room) (sym places) room),
 )
 
 pub way_back_append : (ds bs : List Applied) → way_back (ds ++ bs) ≡ way_back bs ++ way_back ds

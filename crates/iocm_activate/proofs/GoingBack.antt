@@ -1,6 +1,7 @@
 -- Changes that are those of an edit turned round are just what it is to go back, cell by cell; and
 -- so along a whole run.
-use Rattle.std.proofs.Common.{◌≡◌, ℕ, Bool, true, false, cond, not, ◌&&◌, ◌||◌, List, [], ◌∷◌, ◌++◌, map, length, reverse, Option, Some, None, refl, sym, ap, subst, ◌∙◌, arith, eqb-true, eq-eqb}
+use Rattle.std.proofs.Common.{◌≡◌, ℕ, Bool, true, false, cond, not, ◌&&◌, ◌||◌, List, [], ◌∷◌, ◌++◌, map, length, reverse}
+use Rattle.std.proofs.Common.{Option, Some, None, refl, sym, ap, subst, ◌∙◌, arith, eqb-true, eq-eqb}
 use Rattle.std.specs.Prelude.{nat_eq}
 use Rattle.std.specs.List.{list_any, list_all}
 use Rattle.std.specs.Option.{option_eq, option_and_then}
@@ -60,7 +61,8 @@ all_hold test each (k ∷ ks) = and_from _ _ (each k) (all_hold test each ks)
 module _ {K X C : Type 0} {R : K → K → Ordering} (total : IsTotalOrder R) (exact : IsAntisymmetric R) (same : X → X → Bool)
     (are : (a b : Option X) → option_eq same a b ≡ true → a ≡ b) (own : (a : Option X) → option_eq same a a ≡ true)
     (turned : C → C → Bool) (change : (K → Option X) → (K → Option X) → K → C)
-    (turns : (v w p q : K → Option X) (k l : K) → turned (change v w k) (change p q l) ≡ (eq_by_cmp R k l && (option_eq same (v k) (q l) && option_eq same (w k) (p l)))) where
+    (turns : (v w p q : K → Option X) (k l : K)
+    → turned (change v w k) (change p q l) ≡ (eq_by_cmp R k l && (option_eq same (v k) (q l) && option_eq same (w k) (p l)))) where
   -- all changes between two maps
   abbrev changes : FinMap R X → FinMap R X → List C
   changes m n = map (change (get m) (get n)) (differing same m n)
@@ -84,7 +86,8 @@ module _ {K X C : Type 0} {R : K → K → Ordering} (total : IsTotalOrder R) (e
   values_at v w p q [] h x there = absurd (false≢true there)
   values_at v w p q (k ∷ ks) h x there = by (eq_by_cmp R x k) refl there (values_at v w p q ks (and_parts _ _ h).1 x)
     where
-      by : (b : Bool) → eq_by_cmp R x k ≡ b → (b || list_any (eq_by_cmp R x) ks) ≡ true → (list_any (eq_by_cmp R x) ks ≡ true → AreTurned v w p q x) → AreTurned v w p q x
+      by : (b : Bool) → eq_by_cmp R x k ≡ b → (b || list_any (eq_by_cmp R x) ks) ≡ true → (list_any (eq_by_cmp R x) ks ≡ true → AreTurned v w p q x)
+          → AreTurned v w p q x
       by true e found further =
           let here = and_parts _ _ (sym (turns v w p q k k) ∙ (and_parts _ _ h).0) in
           subst (AreTurned v w p q) (sym (same_key R exact x k e)) (and_parts _ _ here.1)
@@ -100,7 +103,8 @@ module _ {K X C : Type 0} {R : K → K → Ordering} (total : IsTotalOrder R) (e
 
   module _ (old new here there : FinMap R X) where
     -- where the changes are turned round, each cell goes back
-    back_at : pointwise turned (changes here there) (changes old new) ≡ true → (x : K) → goes_back_at same (get old x) (get new x) (get here x) (get there x) ≡ true
+    back_at : pointwise turned (changes here there) (changes old new) ≡ true → (x : K)
+        → goes_back_at same (get old x) (get new x) (get here x) (get there x) ≡ true
     back_at h x = by (option_eq same (get old x) (get new x)) refl
       where
         keys_are : differing same here there ≡ differing same old new
@@ -113,18 +117,23 @@ module _ {K X C : Type 0} {R : K → K → Ordering} (total : IsTotalOrder R) (e
         differ = sym (in_differing total exact same here there x) ∙ ap (list_any (eq_by_cmp R x)) keys_are ∙ in_differing total exact same old new x
 
         by : (b : Bool) → option_eq same (get old x) (get new x) ≡ b → goes_back_at same (get old x) (get new x) (get here x) (get there x) ≡ true
-        by true e = ap (λ b. cond b (option_eq same (get here x) (get there x)) (option_eq same (get here x) (get new x) && option_eq same (get there x) (get old x))) e
+        by true e = ap (λ b. cond b (option_eq same (get here x) (get there x))
+            (option_eq same (get here x) (get new x) && option_eq same (get there x) (get old x))) e
             ∙ holds_since _ (differ ∙ ap not e)
         by false e =
-            let both = values_at (get here) (get there) (get old) (get new) (differing same old new) along x (in_differing total exact same old new x ∙ ap not e) in
-            ap (λ b. cond b (option_eq same (get here x) (get there x)) (option_eq same (get here x) (get new x) && option_eq same (get there x) (get old x))) e
+            let both = values_at (get here) (get there) (get old) (get new) (differing same old new) along x
+            (in_differing total exact same old new x ∙ ap not e) in
+            ap (λ b. cond b (option_eq same (get here x) (get there x))
+            (option_eq same (get here x) (get new x) && option_eq same (get there x) (get old x))) e
             ∙ and_from _ _ both.0 both.1
 
     -- where each cell goes back, the maps differ at the same keys
-    differ_alike : goes_back same old new here there ≡ true → (x : K) → option_eq same (get here x) (get there x) ≡ option_eq same (get old x) (get new x)
+    differ_alike : goes_back same old new here there ≡ true → (x : K)
+        → option_eq same (get here x) (get there x) ≡ option_eq same (get old x) (get new x)
     differ_alike h x = by (option_eq same (get old x) (get new x)) refl
       where
-        by : (b : Bool) → option_eq same (get old x) (get new x) ≡ b → option_eq same (get here x) (get there x) ≡ option_eq same (get old x) (get new x)
+        by : (b : Bool) → option_eq same (get old x) (get new x) ≡ b
+            → option_eq same (get here x) (get there x) ≡ option_eq same (get old x) (get new x)
         by true e = stays_at same (get old x) (get new x) (get here x) (get there x) e (goes_back_here exact same old new here there h x) ∙ sym e
         by false e =
             let both = turns_at same (get old x) (get new x) (get here x) (get there x) e (goes_back_here exact same old new here there h x) in
@@ -134,7 +143,8 @@ module _ {K X C : Type 0} {R : K → K → Ordering} (total : IsTotalOrder R) (e
             ∙ sym e
 
     keys_alike : goes_back same old new here there ≡ true → differing same here there ≡ differing same old new
-    keys_alike h = same_members R total exact (differing same here there) (differing same old new) (differing_rise R same here there) (differing_rise R same old new)
+    keys_alike h = same_members R total exact (differing same here there) (differing same old new) (differing_rise R same here there)
+        (differing_rise R same old new)
         (λ x. in_differing total exact same here there x ∙ ap not (differ_alike h x) ∙ sym (in_differing total exact same old new x))
 
     back_turns : goes_back same old new here there ≡ true → pointwise turned (changes here there) (changes old new) ≡ true
@@ -196,7 +206,8 @@ back_append [] ys (a ∷ cs) bs u long = absurd (omega (arith, long))
 back_append (x ∷ xs) ys [] bs u long = absurd (omega (arith, long))
 back_append (x ∷ xs) ys (a ∷ cs) bs u long = on (gone_back x a u) (λ w. back_append xs ys cs bs w (omega (arith, long)))
   where
-    on : (o : Option State) → ((w : State) → gone_back_along (parts_of (xs ++ ys)) (cs ++ bs) w ≡ option_and_then (gone_back_along (parts_of ys) bs) (gone_back_along (parts_of xs) cs w))
+    on : (o : Option State) → ((w : State) → gone_back_along (parts_of (xs ++ ys)) (cs ++ bs) w
+        ≡ option_and_then (gone_back_along (parts_of ys) bs) (gone_back_along (parts_of xs) cs w))
         → option_and_then (gone_back_along (parts_of (xs ++ ys)) (cs ++ bs)) o
         ≡ option_and_then (gone_back_along (parts_of ys) bs) (option_and_then (gone_back_along (parts_of xs) cs) o)
     on None further = refl

@@ -74,7 +74,8 @@ all_near : (keys : List Key) → list_all is_near_key keys ≡ true → AreNear 
 all_near [] all key there = absurd (false≢true there)
 all_near (k ∷ ks) all key there = by (eq_by_cmp key_cmp key k) refl there (all_near ks ((and_parts (is_near_key k) (list_all is_near_key ks) all).1) key)
   where
-    by : (b : Bool) → eq_by_cmp key_cmp key k ≡ b → (b || is_one_of key ks) ≡ true → (is_one_of key ks ≡ true → is_near_key key ≡ true) → is_near_key key ≡ true
+    by : (b : Bool) → eq_by_cmp key_cmp key k ≡ b → (b || is_one_of key ks) ≡ true → (is_one_of key ks ≡ true → is_near_key key ≡ true)
+        → is_near_key key ≡ true
     by true same there further = ap is_near_key (same_key key_cmp keys_exact key k same) ∙ (and_parts (is_near_key k) (list_all is_near_key ks) all).0
     by false other there further = further there
 

@@ -3,6 +3,7 @@ mod Back
 mod GoingBack
 mod Kept
 mod Leaves
+mod Next
 mod Pairs
 mod Parts
 mod Runs

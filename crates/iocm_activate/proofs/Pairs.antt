@@ -9,13 +9,16 @@ module _ {A B : Type 0} (same : A → B → Bool) (xs : List A) (ys : List B) wh
   begins = refl
 
   at : (i : ℕ) (x : A) (y : B) → i < length xs → x ≡ get_or xs i x → i < length ys → y ≡ get_or ys i y
-      → pointwise same xs ys ≡ pointwise same (drop i xs) (drop i ys) → pointwise same xs ys ≡ (same x y && pointwise same (drop (i + 1) xs) (drop (i + 1) ys))
+      → pointwise same xs ys ≡ pointwise same (drop i xs) (drop i ys)
+      → pointwise same xs ys ≡ (same x y && pointwise same (drop (i + 1) xs) (drop (i + 1) ys))
   at i x y first is_x second is_y so_far = so_far ∙ (λ j. pointwise same (drop-item xs i x first is_x j) (drop-item ys i y second is_y j))
 
   -- a pair that is the same
   pub goes_on : (i : ℕ) (x : A) (y : B) → i < length xs → x ≡ get_or xs i x → i < length ys → y ≡ get_or ys i y
-      → pointwise same xs ys ≡ pointwise same (drop i xs) (drop i ys) → same x y ≡ true → pointwise same xs ys ≡ pointwise same (drop (i + 1) xs) (drop (i + 1) ys)
-  goes_on i x y first is_x second is_y so_far h = at i x y first is_x second is_y so_far ∙ ap (λ b. b && pointwise same (drop (i + 1) xs) (drop (i + 1) ys)) h
+      → pointwise same xs ys ≡ pointwise same (drop i xs) (drop i ys) → same x y ≡ true
+      → pointwise same xs ys ≡ pointwise same (drop (i + 1) xs) (drop (i + 1) ys)
+  goes_on i x y first is_x second is_y so_far h =
+      at i x y first is_x second is_y so_far ∙ ap (λ b. b && pointwise same (drop (i + 1) xs) (drop (i + 1) ys)) h
 
   -- one that isn't
   pub stops : (i : ℕ) (x : A) (y : B) → i < length xs → x ≡ get_or xs i x → i < length ys → y ≡ get_or ys i y
@@ -23,5 +26,6 @@ module _ {A B : Type 0} (same : A → B → Bool) (xs : List A) (ys : List B) wh
   stops i x y first is_x second is_y so_far h = at i x y first is_x second is_y so_far ∙ ap (λ b. b && pointwise same (drop (i + 1) xs) (drop (i + 1) ys)) h
 
   -- no pair is left
-  pub ends : (i : ℕ) → length xs ≤ i → length ys ≤ i → pointwise same xs ys ≡ pointwise same (drop i xs) (drop i ys) → pointwise same xs ys ≡ true
+  pub ends : (i : ℕ) → length xs ≤ i → length ys ≤ i → pointwise same xs ys ≡ pointwise same (drop i xs) (drop i ys)
+      → pointwise same xs ys ≡ true
   ends i past over so_far = so_far ∙ (λ j. pointwise same (drop_all i xs past j) (drop_all i ys over j))

@@ -1,5 +1,5 @@
 -- The parts of a node, one after the other: what they mean follows from what each means.
-use Rattle.std.proofs.Common.{◌≡◌, ℕ, ◌+◌, ◌<◌, ◌^◌, get_or, List, [], ◌++◌, length, take, drop, Option, Some, None, refl, sym, ap, subst, ◌∙◌, arith}
+use Rattle.std.proofs.Common.{◌≡◌, ℕ, ◌+◌, List, [], ◌++◌, length, map, take, drop, Option, Some, None, refl, sym, ap, subst, ◌∙◌}
 use Rattle.std.specs.Prelude.{Ok, Err}
 use Rattle.std.specs.Option.{option_map}
 use Rattle.std.proofs.lemmas.List.{append-nil, append_assoc, drop_at, take_at}
@@ -8,17 +8,17 @@ use Rattle.iocm_types.specs.declared.refused.Refused.{Refused}
 use Rattle.iocm_model.specs.Operation.State.{State, HasLives}
 use Rattle.iocm_model.specs.Rules.FirstBreach.{Breach, first_breach}
 use Rattle.iocm_model.specs.Change.Edit.{Edit}
-use Rattle.iocm_model.specs.Change.Tree.{ChangeTree, Parts, none, part, nodes_of, nodes_in}
+use Rattle.iocm_model.specs.Change.Tree.{ChangeTree, Parts, none, part, nodes_of}
 use Rattle.iocm_model.specs.Change.Meaning.{Outcome, after_run, and_then, or_else, unless_broken, if_rules_hold, node_meaning, parts_meaning, choice_meaning}
-use Rattle.iocm_tree.specs.Trees.{tree_of, parts_of, plain_tree, plain_parts}
+use Rattle.iocm_tree.specs.Trees.{tree_of, plain_tree}
 use Rattle.iocm_tree.specs.declared.tree.Tree.{Tree}
-use Rattle.iocm_tree.proofs.Trees.{rest_at}
 use Rattle.iocm_plant.specs.Between.{CanStillUnapply, PlacesAreKeptOn, SamePlacesAreKept}
 use Rattle.iocm_plant.specs.Operating.{Operating, KeepsRoom}
-use Rattle.iocm_activate.specs.Told.{way_back, LeadsTo, CanTakeBack}
+use Rattle.iocm_activate.specs.Told.{key_of_edit, way_back, LeadsTo, CanTakeBack}
 use Rattle.iocm_activate.specs.Walked.{Ran, Answers, outcome_of}
 use Rattle.iocm_activate.specs.Going.{GoesOn, ChoosesOn}
 use Rattle.iocm_activate.specs.declared.log.Log.{Log}
+use Rattle.iocm_activate.proofs.Next.{IsNext, from, next_and_rest}
 use Rattle.iocm_activate.proofs.Runs.{ran_nothing, ran_nowhere, ran_on}
 
 -- ---- what was done before, too
@@ -42,7 +42,8 @@ goes_first same ps n p log = record { ran = ran_nowhere same p log; further = no
 
 -- one part more was performed
 pub goes_next : {m : Outcome} {t : ChangeTree} {ps : Parts} {n : ℕ} {p : Operating} {first : Log} {q : Operating} {second : Log} {r : Operating} {third : Log}
-    → PlacesAreKeptOn → CanStillUnapply → GoesOn m (part t ps) n p first q second → Answers (node_meaning t n q.state) q second r third None → HasLives r.state
+    → PlacesAreKeptOn → CanStillUnapply → GoesOn m (part t ps) n p first q second → Answers (node_meaning t n q.state) q second r third None
+    → HasLives r.state
     → GoesOn m ps (n + nodes_of t) p first r third
 goes_next {m} {t} {ps} {n} {p} {first} {q} {second} {r} {third} places still g a lived = record {
   ran = ran_on places still g.ran a.ran lived;
@@ -52,7 +53,8 @@ goes_next {m} {t} {ps} {n} {p} {first} {q} {second} {r} {third} places still g a
 
 -- one part was refused
 pub goes_no_further : {m : Outcome} {t : ChangeTree} {ps : Parts} {n : ℕ} {p : Operating} {first : Log} {q : Operating} {second : Log} {r : Operating} {third : Log}
-    {why : Refused} → PlacesAreKeptOn → CanStillUnapply → GoesOn m (part t ps) n p first q second → Answers (node_meaning t n q.state) q second r third (Some why) → HasLives r.state
+    {why : Refused} → PlacesAreKeptOn → CanStillUnapply → GoesOn m (part t ps) n p first q second
+    → Answers (node_meaning t n q.state) q second r third (Some why) → HasLives r.state
     → Answers m p first r third (Some why)
 goes_no_further {m} {t} {ps} {n} {p} {first} {q} {second} {r} {third} {why} places still g a lived = record {
   ran = ran_on places still g.ran a.ran lived;
@@ -73,13 +75,18 @@ goes_to_the_end {m} {n} {p} {first} {q} {second} g = record {
 abbrev pub breach_at : ℕ → Option Breach → Option Refused
 breach_at n o = option_map (λ (b : Breach). record { rule = b.rule; node = Some n; at = Key b.key }) o
 
-broken_or_not : (b : Option Breach) (n : ℕ) (s : State) (es : List Edit) → unless_broken b n (record { state = s; edits = es }) ≡ outcome_of (breach_at n b) s es
+broken_or_not : (b : Option Breach) (n : ℕ) (s : State) (es : List Edit) → unless_broken b n (record {
+  state = s;
+  edits =
+      es;
+}) ≡ outcome_of (breach_at n b) s es
 broken_or_not (Some b) n s es = refl
 broken_or_not None n s es = refl
 
 -- a node was performed, and then the rules were looked at
 pub closed : {m : Outcome} {p : Operating} {first : Log} {q : Operating} {second : Log} → SamePlacesAreKept → PlacesAreKeptOn → CanStillUnapply
-    → (n : ℕ) (third : Log) (answer : Option Refused) → Answers m p first q second None → third.done.items ≡ second.done.items → third.keys.items ≡ second.keys.items → HasLives q.state
+    → (n : ℕ) (third : Log) (answer : Option Refused) → Answers m p first q second None → third.done.items ≡ second.done.items
+    → third.keys.items ≡ second.keys.items → HasLives q.state
     → answer ≡ breach_at n (first_breach q.state.config q.state.numbers) → Answers (if_rules_hold n m) p first q third answer
 closed {m} {p} {first} {q} {second} same places still n third answer a done keys lived is = record {
   ran = ran_on places still a.ran (ran_nothing q second q third refl (same q.room q.room refl) done keys) lived;
@@ -94,12 +101,14 @@ closed_before m n p first q second why a = record { ran = a.ran; means = ap (if_
 
 -- ---- a Choose
 
-pub chooses_first : SamePlacesAreKept → (ps : Parts) (n : ℕ) (last : Refused) (p : Operating) (log : Log) → ChoosesOn (choice_meaning ps n last p.state) ps n last p log p log
+pub chooses_first : SamePlacesAreKept → (ps : Parts) (n : ℕ) (last : Refused) (p : Operating) (log : Log)
+    → ChoosesOn (choice_meaning ps n last p.state) ps n last p log p log
 chooses_first same ps n last p log = record { ran = ran_nowhere same p log; nothing = refl; further = refl }
 
 -- a part was accepted
 pub chosen : {m : Outcome} {t : ChangeTree} {ps : Parts} {n : ℕ} {last : Refused} {p : Operating} {first : Log} {q : Operating} {second : Log} {r : Operating} {third : Log}
-    → PlacesAreKeptOn → CanStillUnapply → ChoosesOn m (part t ps) n last p first q second → Answers (if_rules_hold n (node_meaning t n q.state)) q second r third None → HasLives r.state
+    → PlacesAreKeptOn → CanStillUnapply → ChoosesOn m (part t ps) n last p first q second
+    → Answers (if_rules_hold n (node_meaning t n q.state)) q second r third None → HasLives r.state
     → Answers m p first r third None
 chosen {m} {t} {ps} {n} {last} {p} {first} {q} {second} {r} {third} places still g a lived = record {
   ran = ran_on places still g.ran a.ran lived;
@@ -108,7 +117,8 @@ chosen {m} {t} {ps} {n} {last} {p} {first} {q} {second} {r} {third} places still
 }
 
 -- a part was refused, and is taken back
-pub chooses_next : {m : Outcome} {t : ChangeTree} {ps : Parts} {n : ℕ} {last why : Refused} {p : Operating} {first : Log} {q : Operating} {second : Log} {r : Operating} {third : Log}
+pub chooses_next : {m : Outcome} {t : ChangeTree} {ps : Parts} {n : ℕ} {last
+    why : Refused} {p : Operating} {first : Log} {q : Operating} {second : Log} {r : Operating} {third : Log}
     → PlacesAreKeptOn → CanStillUnapply → (u : Operating) (fourth : Log) → ChoosesOn m (part t ps) n last p first q second
     → Answers (if_rules_hold n (node_meaning t n q.state)) q second r third (Some why)
     → u.state ≡ q.state → u.room ≡ r.room → fourth.done.items ≡ second.done.items → fourth.keys.items ≡ second.keys.items → HasLives u.state
@@ -127,33 +137,42 @@ none_chosen {m} {n} {last} {p} {first} {q} {second} g = record { ran = g.ran; me
 
 -- ---- what was done since a mark
 
-pub leads_since : (p : Operating) (first : Log) (q : Operating) (second : Log) (n : ℕ) → Ran p first q second → n ≡ length first.done.items
-    → LeadsTo (way_back (drop n second.done.items)) p.state q
-leads_since p first q second n ran mark =
-    subst (λ ds. LeadsTo (way_back ds) p.state q) (sym (ap (drop n) ran.log ∙ drop_at first.done.items ran.done n (sym mark))) ran.back
-
-pub can_take_back : (p : Operating) (first : Log) (q : Operating) (second : Log) (n : ℕ) → Ran p first q second → n ≡ length first.done.items
-    → CanTakeBack (drop n second.done.items) q
-can_take_back p first q second n ran mark = record { state = p.state; leads = leads_since p first q second n ran mark }
+-- a place of the log was marked, and then a walk ran on
+pub record RanFromMark (p : Operating) (first : Log) (q : Operating) (second : Log) (done keys : ℕ) : Type 0 where
+  pub ran : Ran p first q second
+  pub done_mark : done ≡ length first.done.items
+  pub keys_mark : keys ≡ length first.keys.items
 
 -- what was there before the mark
-pub before_mark : {X : Type 0} (old more all left : List X) (n : ℕ) → all ≡ old ++ more → n ≡ length old → left ≡ take n all → left ≡ old
+before_mark : {X : Type 0} (old more all left : List X) (n : ℕ) → all ≡ old ++ more → n ≡ length old → left ≡ take n all → left ≡ old
 before_mark old more all left n is mark taken = taken ∙ ap (take n) is ∙ take_at old more n (sym mark)
+
+module _ {p : Operating} {first : Log} {q : Operating} {second : Log} {done keys : ℕ} (w : RanFromMark p first q second done keys) where
+  -- what was done since leads back to the state from then
+  pub leads_since : LeadsTo (way_back (drop done second.done.items)) p.state q
+  leads_since = subst (λ ds. LeadsTo (way_back ds) p.state q)
+      (sym (ap (drop done) w.ran.log ∙ drop_at first.done.items w.ran.done done (sym w.done_mark))) w.ran.back
+
+  pub can_take_back : CanTakeBack (drop done second.done.items) q
+  can_take_back = record { state = p.state; leads = leads_since }
+
+  -- the log up to the mark tells what it told then
+  pub done_then : (third : Log) → third.done.items ≡ take done second.done.items → third.done.items ≡ first.done.items
+  done_then third taken = before_mark first.done.items w.ran.done second.done.items third.done.items done w.ran.log w.done_mark taken
+
+  pub keys_then : (third : Log) → third.keys.items ≡ take keys second.keys.items → third.keys.items ≡ first.keys.items
+  keys_then third taken =
+      before_mark first.keys.items (map key_of_edit w.ran.edits) second.keys.items third.keys.items keys w.ran.keys w.keys_mark taken
 
 -- ---- parts in memory
 
--- the numbers of the nodes from one part on: that part's, and those of the parts from the next on
-pub fewer : {A : Type 0} → (shown : List (Tree A)) (i : ℕ) (x : Tree A) → i < length shown → x ≡ get_or shown i x → (n : ℕ)
-    → n + nodes_in (plain_parts (parts_of (drop i shown))) < 2 ^ 64
-    → (n + nodes_of (plain_tree (tree_of x))) + nodes_in (plain_parts (parts_of (drop (i + 1) shown))) < 2 ^ 64
-fewer shown i x within is n few = let r = ap (λ ps. nodes_in (plain_parts ps)) (rest_at shown i x within is) in omega (arith, r, few)
+module _ {A : Type 0} {shown : List (Tree A)} {i : ℕ} {x : Tree A} (next : IsNext shown i x) where
+  -- in the middle of parts, at one of them
+  pub goes_at : {m : Outcome} {n : ℕ} {p : Operating} {first : Log} {q : Operating} {second : Log}
+      → GoesOn m (from shown i) n p first q second → GoesOn m (part (plain_tree (tree_of x)) (from shown (i + 1))) n p first q second
+  goes_at {m} {n} {p} {first} {q} {second} g = subst (λ ps. GoesOn m ps n p first q second) (next_and_rest next) g
 
-pub goes_at : {A : Type 0} {m : Outcome} {n : ℕ} {p : Operating} {first : Log} {q : Operating} {second : Log}
-    → (shown : List (Tree A)) (i : ℕ) (x : Tree A) → i < length shown → x ≡ get_or shown i x → GoesOn m (plain_parts (parts_of (drop i shown))) n p first q second
-    → GoesOn m (part (plain_tree (tree_of x)) (plain_parts (parts_of (drop (i + 1) shown)))) n p first q second
-goes_at {A} {m} {n} {p} {first} {q} {second} shown i x within is g = subst (λ ps. GoesOn m (plain_parts ps) n p first q second) (rest_at shown i x within is) g
-
-pub chooses_at : {A : Type 0} {m : Outcome} {n : ℕ} {last : Refused} {p : Operating} {first : Log} {q : Operating} {second : Log}
-    → (shown : List (Tree A)) (i : ℕ) (x : Tree A) → i < length shown → x ≡ get_or shown i x → ChoosesOn m (plain_parts (parts_of (drop i shown))) n last p first q second
-    → ChoosesOn m (part (plain_tree (tree_of x)) (plain_parts (parts_of (drop (i + 1) shown)))) n last p first q second
-chooses_at {A} {m} {n} {last} {p} {first} {q} {second} shown i x within is g = subst (λ ps. ChoosesOn m (plain_parts ps) n last p first q second) (rest_at shown i x within is) g
+  pub chooses_at : {m : Outcome} {n : ℕ} {last : Refused} {p : Operating} {first : Log} {q : Operating} {second : Log}
+      → ChoosesOn m (from shown i) n last p first q second
+      → ChoosesOn m (part (plain_tree (tree_of x)) (from shown (i + 1))) n last p first q second
+  chooses_at {m} {n} {last} {p} {first} {q} {second} g = subst (λ ps. ChoosesOn m ps n last p first q second) (next_and_rest next) g

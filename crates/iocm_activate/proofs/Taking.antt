@@ -32,12 +32,14 @@ latest : (mark : ℕ) (old new : List Applied) (a : Applied) (s : State) (p : Op
 latest mark old new a s p more is h = subst (λ js. LeadsTo js s p) (latest_is mark old new a more is) h
 
 -- the last edit can be taken back
-pub last_can : (mark : ℕ) (p q : Operating) (all old new : List Applied) (a : Applied) → IsTaking mark p all q old → mark < length old → old ≡ new ++ a ∷ []
+pub last_can : (mark : ℕ) (p q : Operating) (all old new : List Applied) (a : Applied) → IsTaking mark p all q old → mark < length old
+    → old ≡ new ++ a ∷ []
     → CanUnapply a.inverse q
 last_can mark p q all old new a taking more is = (latest mark old new a taking.can.state q more is taking.can.leads).0
 
 -- it is taken back
-pub one_taken : (mark : ℕ) (p q r : Operating) (all old new : List Applied) (a : Applied) → IsTaking mark p all q old → mark < length old → old ≡ new ++ a ∷ []
+pub one_taken : (mark : ℕ) (p q r : Operating) (all old new : List Applied) (a : Applied) → IsTaking mark p all q old → mark < length old
+    → old ≡ new ++ a ∷ []
     → r.state ≡ state_after a.inverse.edit q.state → r.room ≡ q.room → IsTaking mark p all r new
 one_taken mark p q r all old new a taking more is state room = record {
   can = record { state = taking.can.state; leads = (latest mark old new a taking.can.state q more is taking.can.leads).1 r state room };

@@ -1,6 +1,7 @@
 -- In the middle of telling of a change: the edits of a log go over to the inverse tree, the last
 -- one first.
-use Rattle.std.proofs.Common.{◌≡◌, ◌<◌, ◌≤◌, ◌+◌, List, [], ◌∷◌, ◌++◌, length, map, reverse, refl, sym, ap, ◌∙◌, arith, rules, Vec}
+use Rattle.std.proofs.Common.{◌≡◌, ◌<◌, ◌≤◌, ◌+◌, List, [], ◌∷◌, ◌++◌, length, map, reverse, refl, sym, ap, ◌∙◌}
+use Rattle.std.proofs.Common.{arith, rules, Vec}
 use Rattle.std.specs.Vec.{vec_capacity}
 use Rattle.std.proofs.lemmas.List.{append_assoc, append-nil, map-append, reverse-append, length-append}
 use Rattle.iocm_tree.specs.Carried.{Carried}
@@ -38,11 +39,13 @@ tells_first all parts performed none no_more room more_room = record {
 
 -- the last of those that are left goes over
 pub one_told : {A : Type 0} (all : List Applied) (parts more : Vec (Tree A) A) (performed after : Vec Touched A) (old new : List Applied) (a : Applied)
-    → IsTelling all parts performed old → old ≡ new ++ a ∷ [] → more.items ≡ parts.items ++ Leaf a.inverse ∷ [] → vec_capacity more ≡ vec_capacity parts
+    → IsTelling all parts performed old → old ≡ new ++ a ∷ [] → more.items ≡ parts.items ++ Leaf a.inverse ∷ []
+    → vec_capacity more ≡ vec_capacity parts
     → after.items ≡ performed.items ++ a.touched ∷ [] → vec_capacity after ≡ vec_capacity performed → IsTelling all more after new
 one_told {A = A} all parts more performed after old new a telling is put capacity told same = record {
   inverse = ap (λ ps. map tree_of ps ++ map leaf (way_back new)) put
-      ∙ ap (λ ts. ts ++ map leaf (way_back new)) (map-append tree_of parts.items (Leaf a.inverse ∷ []) ∙ ap (λ t. map tree_of parts.items ++ t ∷ []) (tree-Leaf A a.inverse))
+      ∙ ap (λ ts. ts ++ map leaf (way_back new))
+      (map-append tree_of parts.items (Leaf a.inverse ∷ []) ∙ ap (λ t. map tree_of parts.items ++ t ∷ []) (tree-Leaf A a.inverse))
       ∙ append_assoc (map tree_of parts.items) (leaf a.inverse ∷ []) (map leaf (way_back new))
       ∙ ap (λ is. map tree_of parts.items ++ map leaf is) (sym (ap way_back is ∙ way_back_append new (a ∷ []))) ∙ telling.inverse;
   told = ap (λ ds. touched new ++ reverse ds) told ∙ ap (λ ds. touched new ++ ds) (reverse-append performed.items (a.touched ∷ []))
@@ -61,19 +64,23 @@ has_room all parts performed old new a telling is = let l = ap length is ∙ len
 
 pub has_more_room : {A : Type 0} (all : List Applied) (parts : Vec (Tree A) A) (performed : Vec Touched A) (old new : List Applied) (a : Applied)
     → IsTelling all parts performed old → old ≡ new ++ a ∷ [] → length performed.items < vec_capacity performed
-has_more_room all parts performed old new a telling is = let l = ap length is ∙ length-append new (a ∷ []) in let r = telling.more_room in omega (arith, l, r)
+has_more_room all parts performed old new a telling is = let l = ap length is ∙ length-append new (a ∷ []) in let r =
+    telling.more_room in omega (arith, l, r)
 
 -- all went over
 leaves_are_parts : (is : List Carried) → parts_from (map leaf is) ≡ leaves_from is
 leaves_are_parts [] = refl
 leaves_are_parts (i ∷ is) = ap (part (leaf i)) (leaves_are_parts is)
 
-pub row_told : {A : Type 0} (all : List Applied) (parts : Vec (Tree A) A) (performed : Vec Touched A) (left : List Applied) → IsTelling all parts performed left → left ≡ []
+pub row_told : {A : Type 0} (all : List Applied) (parts : Vec (Tree A) A) (performed : Vec Touched A) (left : List Applied) → IsTelling all parts performed left
+    → left ≡ []
     → tree_of (Row parts) ≡ row (leaves_from (way_back all))
 row_told all parts performed left telling none = tree-Row parts
-    ∙ ap (λ ts. row (parts_from ts)) (sym (ap (λ ds. map tree_of parts.items ++ map leaf (way_back ds)) none ∙ append-nil (map tree_of parts.items)) ∙ telling.inverse)
+    ∙ ap (λ ts. row (parts_from ts)) (sym (ap (λ ds. map tree_of parts.items ++ map leaf (way_back ds)) none ∙ append-nil (map tree_of parts.items))
+    ∙ telling.inverse)
     ∙ ap row (leaves_are_parts (way_back all))
 
-pub touched_told : {A : Type 0} (all : List Applied) (parts : Vec (Tree A) A) (performed : Vec Touched A) (left : List Applied) → IsTelling all parts performed left → left ≡ []
+pub touched_told : {A : Type 0} (all : List Applied) (parts : Vec (Tree A) A) (performed : Vec Touched A) (left : List Applied)
+    → IsTelling all parts performed left → left ≡ []
     → reverse performed.items ≡ touched_in all
 touched_told all parts performed left telling none = sym (ap (λ ds. touched ds ++ reverse performed.items) none) ∙ telling.told

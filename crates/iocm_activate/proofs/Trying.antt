@@ -1,6 +1,7 @@
 -- An edit that is tried as the way back of another one: what it leaves, and that it can be taken
 -- back itself.
-use Rattle.std.proofs.Common.{◌≡◌, ℕ, ◌+◌, ◌<◌, ◌≤◌, Bool, true, false, cond, not, ◌&&◌, ◌||◌, List, [], ◌∷◌, ◌++◌, length, get_or, drop, reverse, Option, Some, None, is_some, refl, sym, ap, subst, ◌∙◌}
+use Rattle.std.proofs.Common.{◌≡◌, ℕ, ◌+◌, ◌<◌, ◌≤◌, Bool, true, false, cond, not, ◌&&◌, ◌||◌, List, [], ◌∷◌}
+use Rattle.std.proofs.Common.{◌++◌, length, get_or, drop, reverse, Option, Some, None, is_some, refl, sym, ap, subst, ◌∙◌}
 use Rattle.std.specs.Prelude.{Result, Ok, Err}
 use Rattle.std.specs.Option.{option_or, option_and_then}
 use Rattle.std.specs.Result.{result_err, is_ok}
@@ -36,20 +37,22 @@ use Rattle.iocm_activate.specs.declared.log.Log.{Log}
 use Rattle.iocm_tree.specs.Carried.{Carried}
 use Rattle.iocm_tree.specs.Trees.{CarriedTree, CarriedParts, leaf, row, group, choose, edit_in, tree_of, parts_of, plain_tree, plain_parts}
 use Rattle.iocm_tree.specs.declared.tree.Tree.{Tree}
-use Rattle.iocm_tree.proofs.Trees.{rest_at, none_left}
 use Rattle.iocm_activate.specs.Fitting.{is_turned_number, is_turned_view, gone_back, gone_back_along, part_gone_back, way_gone, IsOnTheWay}
 use Rattle.iocm_activate.proofs.GoingBack.{all_back}
 use Rattle.iocm_activate.proofs.Back.{leads_still, leads_on, way_back_append}
+use Rattle.iocm_activate.proofs.Next.{IsNext, from, next_and_rest, none_next}
 use Rattle.iocm_activate.proofs.Runs.{leads_back}
 
 -- ---- refusals where it doesn't matter whether subchannels are quiet
 
-neither : (k : Option Refused) (taken : Bool) (r : Refused) → option_or k (option_or (cond taken (Some r) None) None) ≡ None → (is_some k || taken) ≡ false
+neither : (k : Option Refused) (taken : Bool) (r : Refused) → option_or k (option_or (cond taken (Some r) None) None) ≡ None
+    → (is_some k || taken) ≡ false
 neither None false r h = refl
 neither None true r h = cc
 neither (Some x) taken r h = cc
 
-either : (k : Option Refused) (taken : Bool) (r why : Refused) → option_or k (option_or (cond taken (Some r) None) None) ≡ Some why → (is_some k || taken) ≡ true
+either : (k : Option Refused) (taken : Bool) (r why : Refused) → option_or k (option_or (cond taken (Some r) None) None) ≡ Some why
+    → (is_some k || taken) ≡ true
 either (Some x) taken r why h = refl
 either None true r why h = refl
 either None false r why h = cc
@@ -59,11 +62,13 @@ second_fails false b h = h
 second_fails true b h = cc
 
 pub not_barred : (e : Edit) (s : State) → refusal_when Whatever e s ≡ None → is_barred e s ≡ false
-not_barred e s h = neither (refusal_by_key e.action (contains_key s.config (action_key e.action))) (is_number_taken (config_after e.action s.config) s.numbers e.places)
+not_barred e s h = neither (refusal_by_key e.action (contains_key s.config (action_key e.action)))
+    (is_number_taken (config_after e.action s.config) s.numbers e.places)
     (refusal_at E4 (Key (action_key e.action))) h
 
 pub barred : (e : Edit) (s : State) (why : Refused) → refusal_when Whatever e s ≡ Some why → is_barred e s ≡ true
-barred e s why h = either (refusal_by_key e.action (contains_key s.config (action_key e.action))) (is_number_taken (config_after e.action s.config) s.numbers e.places)
+barred e s why h = either (refusal_by_key e.action (contains_key s.config (action_key e.action)))
+    (is_number_taken (config_after e.action s.config) s.numbers e.places)
     (refusal_at E4 (Key (action_key e.action))) why h
 
 pub carries_free : (e : Edit) (s : State) → refusal_when Whatever e s ≡ None → CarryFreeNumbers (e ∷ []) s
@@ -92,7 +97,8 @@ refused e was s t why due =
 
 -- ---- it can be taken back
 
-pub leads_after : CanStillUnapply → (p q : Operating) (e : Edit) (a : Applied) (old new : List Applied) → IsSound p.state → CarryFreeNumbers (e ∷ []) p.state
+pub leads_after : CanStillUnapply → (p q : Operating) (e : Edit) (a : Applied) (old new : List Applied) → IsSound p.state
+    → CarryFreeNumbers (e ∷ []) p.state
     → Performs e p a q → KeepsRoom p.room q.room → new ≡ old ++ a ∷ []
     → (s : State) → LeadsTo (way_back old) s p → LeadsTo (way_back new) s q
 leads_after still p q e a old new sound free made room done s leads =
@@ -101,7 +107,8 @@ leads_after still p q e a old new sound free made room done s leads =
     (subst HasLives (sym made.state) (lived_after e p.state sound.lived)) room)
 
 -- nothing was done
-pub leads_same : CanStillUnapply → (p q : Operating) (old new : List Applied) → HasLives p.state → q.state ≡ p.state → KeepsRoom p.room q.room → new ≡ old
+pub leads_same : CanStillUnapply → (p q : Operating) (old new : List Applied) → HasLives p.state → q.state ≡ p.state → KeepsRoom p.room q.room
+    → new ≡ old
     → (s : State) → LeadsTo (way_back old) s p → LeadsTo (way_back new) s q
 leads_same still p q old new lived same room done s leads =
     leads_still still (way_back new) s p q (subst (λ ds. LeadsTo (way_back ds) s p) (sym done) leads) (subst HasLives (sym same) lived) same room
@@ -111,7 +118,8 @@ leads_same still p q old new lived same room done s leads =
 on_the_last : (left rest : List Touched) (was : Touched) → left ≡ rest ++ was ∷ [] → reverse left ≡ was ∷ reverse rest
 on_the_last left rest was is = ap reverse is ∙ reverse-append rest (was ∷ [])
 
-pub sets_out : {A : Type 0} → SamePlacesAreKept → (shown xs : List (Tree A)) (ds : List Touched) (p : Operating) (log : Log) → shown ≡ xs → WereKept log p.state
+pub sets_out : {A : Type 0} → SamePlacesAreKept → (shown xs : List (Tree A)) (ds : List Touched) (p : Operating) (log : Log) → shown ≡ xs
+    → WereKept log p.state
     → IsOnTheWay (gone_back_along (plain_parts (parts_of xs)) (reverse ds) p.state) (plain_parts (parts_of shown)) ds p log p log
 sets_out same shown xs ds p log all kept = record {
   further = ap (λ ps. gone_back_along (plain_parts (parts_of ps)) (reverse ds) p.state) (sym all);
@@ -120,42 +128,45 @@ sets_out same shown xs ds p log all kept = record {
   kept = kept;
 }
 
-module _ {A : Type 0} (whole : Option State) (shown : List (Tree A)) (i : ℕ) (p : Operating) (first : Log) (q : Operating) (second : Log) where
-  -- one part with its own
-  at_part : (x : Tree A) → i < length shown → x ≡ get_or shown i x → (left rest : List Touched) (was : Touched) → left ≡ rest ++ was ∷ []
-      → IsOnTheWay whole (plain_parts (parts_of (drop i shown))) left p first q second
-      → whole ≡ option_and_then (gone_back_along (plain_parts (parts_of (drop (i + 1) shown))) (reverse rest)) (part_gone_back (plain_tree (tree_of x)) was q.state)
-  at_part x within is left rest was last way = way.further
-      ∙ (λ j. gone_back_along (plain_parts (rest_at shown i x within is j)) (on_the_last left rest was last j) q.state)
+-- a part is reached on the way
+pub record Reached {A : Type 0} (whole : Option State) (shown : List (Tree A)) (i : ℕ) (x : Tree A) (left : List Touched) (p : Operating) (first : Log)
+    (q : Operating) (second : Log) : Type 0 where
+  pub next : IsNext shown i x
+  pub way : IsOnTheWay whole (from shown i) left p first q second
 
-  pub goes_on : PlacesAreKeptOn → (x : Tree A) → i < length shown → x ≡ get_or shown i x → (left rest : List Touched) (was : Touched) → left ≡ rest ++ was ∷ []
-      → IsOnTheWay whole (plain_parts (parts_of (drop i shown))) left p first q second
-      → (r : Operating) (third : Log) → part_gone_back (plain_tree (tree_of x)) was q.state ≡ Some r.state
-      → ((s : State) → LeadsTo (way_back second.done.items) s q → LeadsTo (way_back third.done.items) s r) → KeepsRoom q.room r.room → WereKept third r.state
-      → IsOnTheWay whole (plain_parts (parts_of (drop (i + 1) shown))) rest p first r third
-  goes_on places x within is left rest was last way r third gone back room kept = record {
-    further = at_part x within is left rest was last way
-        ∙ ap (option_and_then (gone_back_along (plain_parts (parts_of (drop (i + 1) shown))) (reverse rest))) gone;
-    back = λ s leads. back s (way.back s leads);
-    room = places p.room q.room r.room way.room room;
+module _ {A : Type 0} {whole : Option State} {shown : List (Tree A)} {i : ℕ} {x : Tree A} {left : List Touched} {p : Operating} {first : Log}
+    {q : Operating} {second : Log} (r : Reached whole shown i x left p first q second) where
+  -- with the last of what is left it goes back, or not, and then the rest does
+  at_part : (rest : List Touched) (was : Touched) → left ≡ rest ++ was ∷ []
+      → whole ≡ option_and_then (gone_back_along (from shown (i + 1)) (reverse rest)) (part_gone_back (plain_tree (tree_of x)) was q.state)
+  at_part rest was last = r.way.further ∙ (λ j. gone_back_along (next_and_rest r.next j) (on_the_last left rest was last j) q.state)
+
+  -- it goes back
+  pub goes_on : PlacesAreKeptOn → (rest : List Touched) (was : Touched) → left ≡ rest ++ was ∷ [] → (u : Operating) (third : Log)
+      → part_gone_back (plain_tree (tree_of x)) was q.state ≡ Some u.state
+      → ((s : State) → LeadsTo (way_back second.done.items) s q → LeadsTo (way_back third.done.items) s u) → KeepsRoom q.room u.room
+      → WereKept third u.state → IsOnTheWay whole (from shown (i + 1)) rest p first u third
+  goes_on places rest was last u third gone back room kept = record {
+    further = at_part rest was last ∙ ap (option_and_then (gone_back_along (from shown (i + 1)) (reverse rest))) gone;
+    back = λ s leads. back s (r.way.back s leads);
+    room = places p.room q.room u.room r.way.room room;
     kept = kept;
   }
 
-  -- one that doesn't go back
-  pub stops : (x : Tree A) → i < length shown → x ≡ get_or shown i x → (left rest : List Touched) (was : Touched) → left ≡ rest ++ was ∷ []
-      → IsOnTheWay whole (plain_parts (parts_of (drop i shown))) left p first q second → part_gone_back (plain_tree (tree_of x)) was q.state ≡ None → whole ≡ None
-  stops x within is left rest was last way gone = at_part x within is left rest was last way
-      ∙ ap (option_and_then (gone_back_along (plain_parts (parts_of (drop (i + 1) shown))) (reverse rest))) gone
+  -- it doesn't go back
+  pub stops : (rest : List Touched) (was : Touched) → left ≡ rest ++ was ∷ [] → part_gone_back (plain_tree (tree_of x)) was q.state ≡ None
+      → whole ≡ None
+  stops rest was last gone = at_part rest was last ∙ ap (option_and_then (gone_back_along (from shown (i + 1)) (reverse rest))) gone
 
-  -- one with nothing to take back
-  pub lacks_its_own : (x : Tree A) → i < length shown → x ≡ get_or shown i x → (left : List Touched) → left ≡ []
-      → IsOnTheWay whole (plain_parts (parts_of (drop i shown))) left p first q second → whole ≡ None
-  lacks_its_own x within is left none way = way.further
-      ∙ (λ j. gone_back_along (plain_parts (rest_at shown i x within is j)) (reverse (none j)) q.state)
+  -- nothing is left that it could take back
+  pub lacks_its_own : left ≡ [] → whole ≡ None
+  lacks_its_own none = r.way.further ∙ (λ j. gone_back_along (next_and_rest r.next j) (reverse (none j)) q.state)
 
-  -- no part is left
-  pub arrives : length shown ≤ i → (left : List Touched) → IsOnTheWay whole (plain_parts (parts_of (drop i shown))) left p first q second → whole ≡ Some q.state
-  arrives past left way = way.further ∙ ap (λ ps. gone_back_along (plain_parts ps) (reverse left) q.state) (none_left shown i past)
+-- no part is left
+pub arrives : {A : Type 0} {whole : Option State} {left : List Touched} {p : Operating} {first : Log} {q : Operating} {second : Log}
+    → (shown : List (Tree A)) (i : ℕ) → length shown ≤ i → IsOnTheWay whole (from shown i) left p first q second → whole ≡ Some q.state
+arrives {A} {whole} {left} {p} {first} {q} {second} shown i past way =
+    way.further ∙ ap (λ ps. gone_back_along ps (reverse left) q.state) (none_next shown i past)
 
 -- a part that is no edit
 pub no_edit : (t : CarriedTree) (was : Touched) (s : State) → edit_in t ≡ None → part_gone_back (plain_tree t) was s ≡ None
@@ -183,14 +194,22 @@ is_row _ = false
 -- change fits
 pub fits_by : (t : CarriedTree) (ps : CarriedParts) (ds : List Touched) (u : State) (is : Bool) → t ≡ row ps
     → is ≡ keeps_the_rules (gone_back_along (plain_parts ps) (reverse ds) u)
-    → (es : List Edit) (s : State) → plain_tree t ≡ inverse_tree es s → AreToldBy ds (told_of_all es s) → is ≡ fits (record { edits = es; from = s }) u
+    → (es : List Edit) (s : State) → plain_tree t ≡ inverse_tree es s → AreToldBy ds (told_of_all es s) → is ≡ fits (record {
+      edits = es;
+      from =
+          s;
+    }) u
 fits_by t ps ds u is shape kept es s same told = kept
     ∙ ap (λ p. keeps_the_rules (gone_back_along p (reverse ds) u)) (ap parts_in (sym (ap plain_tree shape) ∙ same))
     ∙ ap keeps_the_rules (all_back ds es s u told)
 
 -- a tree that isn't a Row takes nothing back
 pub fits_not : (t : CarriedTree) (ds : List Touched) (u : State) (is : Bool) → is_row (plain_tree t) ≡ false
-    → (es : List Edit) (s : State) → plain_tree t ≡ inverse_tree es s → AreToldBy ds (told_of_all es s) → is ≡ fits (record { edits = es; from = s }) u
+    → (es : List Edit) (s : State) → plain_tree t ≡ inverse_tree es s → AreToldBy ds (told_of_all es s) → is ≡ fits (record {
+      edits = es;
+      from =
+          s;
+    }) u
 fits_not t ds u is other es s same told = absurd (false≢true (sym other ∙ ap is_row same))
 
 -- whether there is no breach

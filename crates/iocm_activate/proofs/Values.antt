@@ -12,7 +12,8 @@ use Rattle.iocm_activate.specs.Effects.{with_values}
 
 module _ {K X : Type 0} {R : K → K → Ordering} where
   -- some cells, and then others
-  pub with_both : (m : FinMap R X) (ks js : List K) (cells : FinMap R (Option X)) → with_values m (ks ++ js) cells ≡ with_values m js (with_values m ks cells)
+  pub with_both : (m : FinMap R X) (ks js : List K) (cells : FinMap R (Option X))
+      → with_values m (ks ++ js) cells ≡ with_values m js (with_values m ks cells)
   with_both m [] js cells = refl
   with_both m (k ∷ ks) js cells = with_both m ks js (insert cells k (get m k))
 

@@ -1,5 +1,6 @@
 -- A whole tree: what its activation answers, from the walk through it.
-use Rattle.std.proofs.Common.{◌≡◌, ℕ, ◌+◌, ◌<◌, ◌≤◌, ◌^◌, nat_lt, Bool, true, false, cond, arith, List, [], ◌++◌, map, Option, Some, None, refl, sym, ap, subst, ◌∙◌}
+use Rattle.std.proofs.Common.{◌≡◌, ℕ, ◌+◌, ◌<◌, ◌≤◌, ◌^◌, nat_lt, Bool, true, false, cond, arith, List, [], ◌++◌, map}
+use Rattle.std.proofs.Common.{Option, Some, None, refl, sym, ap, subst, ◌∙◌}
 use Rattle.std.specs.Prelude.{Ok, Err, Result}
 use Rattle.std.specs.Result.{IfOk, OnOk, OnErr}
 use Rattle.std.proofs.Math.Nat.{mul-le-mul_right}
@@ -17,68 +18,92 @@ use Rattle.iocm_tree.specs.Limits.{limit_refusal, meaning_unless}
 use Rattle.iocm_tree.specs.Trees.{CarriedTree, row, plain_tree}
 use Rattle.iocm_plant.specs.Operating.{Operating}
 use Rattle.iocm_plant.specs.declared.touched.Touched.{Touched}
-use Rattle.iocm_activate.specs.Done.{edits_of, leaves_from, touched_in, AreToldBy, IsWayBack}
+use Rattle.iocm_activate.specs.Done.{edits_of, edits_meant, leaves_from, touched_in, AreToldBy}
 use Rattle.iocm_activate.specs.Effects.{cells_told}
 use Rattle.iocm_activate.specs.Told.{key_of_edit, told_in, told_of_all, way_back, LeadsTo, CanTakeBack}
 use Rattle.iocm_activate.specs.Walked.{Ran, Answers}
 use Rattle.iocm_activate.specs.declared.log.Log.{Log}
 use Rattle.iocm_activate.proofs.Activated.{inverse_is, cells_told_are, are_told}
 
--- the log tells of these edits alone
-told_alone : (p : Operating) (first : Log) (q : Operating) (log : Log) → (ran : Ran p first q log) → first.done.items ≡ [] → log.done.items ≡ ran.done
-told_alone p first q log ran none = ran.log ∙ ap (λ ds. ds ++ ran.done) none
+-- a machine was changed by a walk, and the log told of nothing before
+pub record WasWalked (p q : Operating) (log : Log) : Type 0 where
+  pub first : Log
+  pub none : first.done.items ≡ []
+  pub ran : Ran p first q log
 
-pub leads_back : (p : Operating) (first : Log) (q : Operating) (log : Log) → Ran p first q log → first.done.items ≡ [] → LeadsTo (way_back log.done.items) p.state q
-leads_back p first q log ran none = subst (λ ds. LeadsTo (way_back ds) p.state q) (sym (told_alone p first q log ran none)) ran.back
+-- a tree was walked whole, and accepted
+pub record WasAccepted (t : ChangeTree) (p q : Operating) (log : Log) : Type 0 where
+  pub first : Log
+  pub none : first.done.items ≡ []
+  pub no_keys : first.keys.items ≡ []
+  pub answers : Answers (meaning t p.state) p first q log None
 
-pub can_take_all_back : (p : Operating) (first : Log) (q : Operating) (log : Log) → Ran p first q log → first.done.items ≡ [] → CanTakeBack log.done.items q
-can_take_all_back p first q log ran none = record { state = p.state; leads = leads_back p first q log ran none }
+-- ---- what was done can be taken back
 
-all_told : (p : Operating) (first : Log) (q : Operating) (log : Log) → (ran : Ran p first q log) → first.done.items ≡ [] → map told_in log.done.items ≡ told_of_all ran.edits p.state
-all_told p first q log ran none = ap (map told_in) (told_alone p first q log ran none) ∙ ran.told
+module _ {p q : Operating} {log : Log} (w : WasWalked p q log) where
+  -- the log tells of these edits alone
+  told_alone : log.done.items ≡ w.ran.done
+  told_alone = w.ran.log ∙ ap (λ ds. ds ++ w.ran.done) w.none
 
--- a tree was accepted
-pub means_now : (m : Outcome) (p : Operating) (first : Log) (q : Operating) (log : Log) (now : State) → Answers m p first q log None → now ≡ q.state
-    → m ≡ Ok (record { state = now; edits = edits_of m })
-means_now m p first q log now a same = a.means ∙ (λ i. Ok (record { state = sym same i; edits = ap edits_of (sym a.means) i }))
+  all_told : map told_in log.done.items ≡ told_of_all w.ran.edits p.state
+  all_told = ap (map told_in) told_alone ∙ w.ran.told
 
-pub inverse_now : (m : Outcome) (p : Operating) (first : Log) (q : Operating) (log : Log) (t : CarriedTree) → Answers m p first q log None → first.done.items ≡ []
-    → t ≡ row (leaves_from (way_back log.done.items)) → plain_tree t ≡ inverse_tree (edits_of m) p.state
-inverse_now m p first q log t a none shape = ap plain_tree shape ∙ inverse_is log.done.items a.ran.edits p.state (all_told p first q log a.ran none)
-    ∙ ap (λ es. inverse_tree es p.state) (sym (ap edits_of a.means))
+  -- the way back leads to the state from before
+  pub leads_back : LeadsTo (way_back log.done.items) p.state q
+  leads_back = subst (λ ds. LeadsTo (way_back ds) p.state q) (sym told_alone) w.ran.back
 
-pub takes_back_now : (t : ChangeTree) (p : Operating) (first : Log) (q : Operating) (log : Log) (r : CarriedTree) → IsSound p.state → KeepsTheRules p.state
-    → Answers (meaning t p.state) p first q log None → plain_tree r ≡ inverse_tree (edits_of (meaning t p.state)) p.state
-    → TakesBack (plain_tree r) (edits_of (meaning t p.state)) p.state
-takes_back_now t p first q log r sound kept a is =
-    subst (λ x. TakesBack x (edits_of (meaning t p.state)) p.state) (sym is)
-    (subst (λ es. TakesBack (inverse_tree es p.state) es p.state) (sym (ap edits_of a.means))
-    (inverse_trees_take_back t p.state (record { state = q.state; edits = a.ran.edits }) sound kept a.means))
+  pub can_take_all_back : CanTakeBack log.done.items q
+  can_take_all_back = record { state = p.state; leads = leads_back }
 
-pub kept_by : (t : ChangeTree) (p : Operating) (first : Log) (q : Operating) (log : Log) → Answers (meaning t p.state) p first q log None → KeepsTheRules q.state
-kept_by t p first q log a = (accepted_trees_are_runs t p.state (record { state = q.state; edits = a.ran.edits }) a.means).rules
+-- ---- what is told of a tree that was accepted
 
-pub back_now : (p : Operating) (first : Log) (q : Operating) (log : Log) (t : CarriedTree) → Ran p first q log → first.done.items ≡ []
-    → t ≡ row (leaves_from (way_back log.done.items)) → IsWayBack t p.state q
-back_now p first q log t ran none shape = record { edits = way_back log.done.items; shape = shape; leads = leads_back p first q log ran none }
+module _ {t : ChangeTree} {p q : Operating} {log : Log} (w : WasAccepted t p q log) where
+  -- it is a walk
+  abbrev pub walked : WasWalked p q log
+  walked = record { first = w.first; none = w.none; ran = w.answers.ran }
 
-pub effect_now : (m : Outcome) (p : Operating) (first : Log) (q : Operating) (log : Log) (f : Effect) → Answers m p first q log None → first.done.items ≡ [] → first.keys.items ≡ []
-    → f ≡ values_in q.state (cells_told log) → f ≡ effect_of (edits_of m) p.state
-effect_now m p first q log f a none no_keys is = is
-    ∙ ap (values_in q.state) (cells_told_are log a.ran.edits p.state (all_told p first q log a.ran none) (a.ran.keys ∙ ap (λ ks. ks ++ map key_of_edit a.ran.edits) no_keys))
-    ∙ ap (λ s. values_in s (cells_written_by_all a.ran.edits p.state)) a.ran.state ∙ ap (λ es. effect_of es p.state) (sym (ap edits_of a.means))
+  -- the edits that were performed are those that the tree means
+  edits_are : w.answers.ran.edits ≡ edits_meant t p.state
+  edits_are = sym (ap edits_of w.answers.means)
 
-pub told_now : (m : Outcome) (p : Operating) (first : Log) (q : Operating) (log : Log) (performed : List Touched) → Answers m p first q log None → first.done.items ≡ []
-    → performed ≡ touched_in log.done.items → AreToldBy performed (told_of_all (edits_of m) p.state)
-told_now m p first q log performed a none is = subst (λ es. AreToldBy performed (told_of_all es p.state)) (sym (ap edits_of a.means))
-    (are_told log.done.items performed a.ran.edits p.state is (all_told p first q log a.ran none))
+  -- the row of what takes each of them back is the inverse tree
+  pub inverse_now : (r : CarriedTree) → r ≡ row (leaves_from (way_back log.done.items)) → plain_tree r ≡ inverse_tree (edits_meant t p.state) p.state
+  inverse_now r shape = ap plain_tree shape ∙ inverse_is log.done.items w.answers.ran.edits p.state (all_told walked)
+      ∙ ap (λ es. inverse_tree es p.state) edits_are
+
+  -- and takes them back by its meaning
+  pub takes_back_now : (r : CarriedTree) → IsSound p.state → KeepsTheRules p.state → r ≡ row (leaves_from (way_back log.done.items))
+      → TakesBack (plain_tree r) (edits_meant t p.state) p.state
+  takes_back_now r sound kept shape = subst (λ x. TakesBack x (edits_meant t p.state) p.state) (sym (inverse_now r shape))
+      (subst (λ es. TakesBack (inverse_tree es p.state) es p.state) edits_are
+      (inverse_trees_take_back t p.state (record { state = q.state; edits = w.answers.ran.edits }) sound kept w.answers.means))
+
+  -- the rules are kept
+  pub kept_by : KeepsTheRules q.state
+  kept_by = (accepted_trees_are_runs t p.state (record { state = q.state; edits = w.answers.ran.edits }) w.answers.means).rules
+
+  -- the effect is that of the edits
+  pub effect_now : (f : Effect) → f ≡ values_in q.state (cells_told log) → f ≡ effect_of (edits_meant t p.state) p.state
+  effect_now f is = is
+      ∙ ap (values_in q.state) (cells_told_are log w.answers.ran.edits p.state (all_told walked)
+      (w.answers.ran.keys ∙ ap (λ ks. ks ++ map key_of_edit w.answers.ran.edits) w.no_keys))
+      ∙ ap (λ s. values_in s (cells_written_by_all w.answers.ran.edits p.state)) w.answers.ran.state ∙ ap (λ es. effect_of es p.state) edits_are
+
+  -- and so is what is told of each
+  pub told_now : (performed : List Touched) → performed ≡ touched_in log.done.items → AreToldBy performed (told_of_all (edits_meant t p.state) p.state)
+  told_now performed is = subst (λ es. AreToldBy performed (told_of_all es p.state)) edits_are
+      (are_told log.done.items performed w.answers.ran.edits p.state is (all_told walked))
 
 -- ---- the answer of a whole tree
 
-pub whole : (t : ChangeTree) (over answer field : Option Refused) (p : Operating) (first : Log) (q : Operating) (log : Log) → over ≡ None
-    → ((s : State) → meaning t s ≡ meaning_unless over t s) → field ≡ answer → Answers (if_rules_hold 0 (node_meaning t 0 p.state)) p first q log field
+-- within the limits a tree means what its walk means
+pub whole : {answer field : Option Refused} {p : Operating} {first : Log} {q : Operating} {log : Log} → (t : ChangeTree) (over : Option Refused)
+    → over ≡ None
+    → ((s : State) → meaning t s ≡ meaning_unless over t s) → field ≡ answer
+    → Answers (if_rules_hold 0 (node_meaning t 0 p.state)) p first q log field
     → Answers (meaning t p.state) p first q log answer
-whole t over answer field p first q log within means is a = subst (λ m. Answers m p first q log answer) (sym (means p.state ∙ ap (λ o. meaning_unless o t p.state) within))
+whole {answer} {field} {p} {first} {q} {log} t over within means is a =
+    subst (λ m. Answers m p first q log answer) (sym (means p.state ∙ ap (λ o. meaning_unless o t p.state) within))
     (subst (Answers (if_rules_hold 0 (node_meaning t 0 p.state)) p first q log) is a)
 
 -- a tree within the limits has few nodes
@@ -101,10 +126,12 @@ few_nodes t within =
 
 -- ---- whether it is finished or not
 
+-- what follows from an answer's fact holds of the answer
 pub ok_then : {T E : Type 0} (r : Result T E) {P Q : T → Type 0} → IfOk r P → ((x : T) → P x → Q x) → IfOk r Q
 ok_then (Ok x) h f = f x h
 ok_then (Err e) h f = tt
 
+-- what follows on both answers holds
 pub either_way : {T E : Type 0} (r : Result T E) {P Q A : Type 0} → OnOk r P → OnErr r Q → (P → A) → (Q → A) → A
 either_way (Ok x) p q f g = f p
 either_way (Err e) p q f g = g q

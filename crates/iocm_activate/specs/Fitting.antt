@@ -1,5 +1,5 @@
--- Whether edits that take others back do so in a state: each undoes just what the other one did,
--- number cell by number cell and view by view.
+-- Whether edits that take others back do so in a state. Each has to undo just what the other one
+-- did, number cell by number cell and view by view.
 use Rattle.std.specs.Prelude.{◌≡◌, ◌==◌, Bool, ◌&&◌, not, if◌then◌else◌, Option, None, Some, List, [], ◌∷◌, reverse}
 use Rattle.std.specs.Option.{option_eq, option_and_then}
 use Rattle.std.specs.Ordering.{eq_by_cmp}
@@ -30,8 +30,8 @@ abbrev pub is_turned_view : ViewChange → ViewChange → Bool
 is_turned_view now was = eq_by_cmp sub_id_cmp now.subchannel was.subchannel
     && (option_eq same_view now.before was.after && option_eq same_view now.after was.before)
 
--- the state that an edit leaves, if it can be performed there, be the subchannels quiet or not, and
--- its changes are those of another one turned round
+-- the state that an edit leaves, if it can be performed there, be the subchannels quiet or not. Its
+-- changes have to be those of another one turned round
 abbrev pub gone_back : Edit → Touched → State → Option State
 gone_back e was s = let t = state_after e s in
     if not (is_barred e s)
@@ -54,9 +54,8 @@ gone_back_along (part p ps) (d ∷ ds) s = option_and_then (gone_back_along ps d
 abbrev pub way_gone : Bool → State → Option State
 way_gone went s = if went then Some s else None
 
--- in the middle of the way: some parts went back, each with its own, and how far all of them go is
--- how far the rest goes from here. What was done can be taken back, and so can what was done before
--- it
+-- in the middle of the way: some parts went back, each with its own. How far all of them go is how
+-- far the rest goes from here. What was done can be taken back, and so can what was done before it
 pub record IsOnTheWay (whole : Option State) (rest : Parts) (left : List Touched) (before : Operating) (old : Log)
     (now : Operating) (log : Log) : Type 0 where
   pub further : whole ≡ gone_back_along rest (reverse left) now.state

@@ -12,9 +12,9 @@ use Rattle.iocm_plant.specs.declared.touched.Applied.{Applied}
 use Rattle.iocm_activate.specs.Told.{told_in, told_of_all, key_of_edit, way_back, LeadsTo}
 use Rattle.iocm_activate.specs.declared.log.Log.{Log}
 
--- some edits were accepted and performed, one after the other: the machine is in the state after
--- them, the log tells of each of them behind what it told before, and they can be taken back
--- without memory
+-- some edits were accepted and performed, one after the other. The machine is in the state after
+-- them, and the log tells of each of them after what it told before. They can be taken back without
+-- memory
 pub record Ran (before : Operating) (old : Log) (after : Operating) (new : Log) : Type 0 where
   pub edits : List Edit
   pub accepted : AreAccepted edits before.state

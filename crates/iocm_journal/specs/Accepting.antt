@@ -22,7 +22,7 @@ use Rattle.iocm_journal.specs.Now.{IsJournalOf}
 use Rattle.iocm_journal.specs.declared.journal.Journal.{Journal}
 use Rattle.iocm_journal.specs.declared.kept.Kept.{Kept}
 
--- an entry is right after a history, and accepts a change under the next number; an inverse tree,
+-- an entry is right after a history, and accepts a change under the next number. The inverse tree,
 -- what was performed and what was written are those of that change
 pub record AcceptsAChange (opening : State) (h : History) (e : Entry)
     (inverse : ChangeTree) (performed : List Touched) (f : Effect) : Type 0 where
@@ -44,8 +44,8 @@ TakesIn inverse performed old new = (opening : State) (h : History) (fs : List E
 abbrev pub newly_kept : Tree Global → Vec Touched Global → Kept
 newly_kept inverse performed = record { inverse = inverse; performed = performed; stands = true; undone_after = 0 }
 
--- a journal accepts a change, with the tree that takes it back and what was performed: it keeps one
--- more change, which stands; those that were undone become past; and it takes the change in
+-- a journal accepts a change, with the tree that takes it back and what was performed. It keeps one
+-- more change, which stands, and those that were undone become past. It takes the change in
 pub record Accepts (inverse : Tree Global) (performed : Vec Touched Global) (old new : Journal) : Type 0 where
   pub changes : new.changes.items ≡ old.changes.items ++ newly_kept inverse performed ∷ []
   pub standing : new.standing ≡ old.standing + 1

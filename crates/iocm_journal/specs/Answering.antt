@@ -29,8 +29,8 @@ pub record IsNext (opening : State) (h : History) (e : Entry) (j : Journal) (fs 
   pub right : IsRight opening h e
   pub now : IsNow opening (e ∷ h) j fs p
 
--- a journal and its machine go on by an entry: whatever history they were of, with no change
--- staged, the entry is right after it, and they are of the history with the entry then
+-- a journal and its machine go on by an entry. Whatever history they were of, with no change
+-- staged, the entry is right after it. Then they are of the history with the entry
 abbrev pub GoOnBy : Entry → List Effect → Journal → Operating → Journal → Operating → Type 0
 GoOnBy e fs j p new after = (opening : State) (h : History) → IsNow opening h j fs p
     → IsNext opening h e new fs after

@@ -5,8 +5,8 @@
 //! machine that is built anew of these values (`player.rt`, `rebuilt.rt`). The trials above compare
 //! its answers with those of the core, and its machine with what the core leaves.
 //!
-//! The calls (`draws.rt`) are those of four images and an operator on a small machine of two channel
-//! subsystems and two subchannel sets, whose changes often meet.
+//! The calls (`draws.rt`) are those of four images and an operator on a small machine. It has two
+//! channel subsystems and two subchannel sets, so that changes often meet.
 #![tactic(auto)]
 
 mod draws;

@@ -15,13 +15,16 @@ loop-applied-preserved c =
     let m = cells_of c.args.numbers.now.numbers in
     let later = numbers_told (map told_in (drop (c.loop-applied.applied-index + 1) c.args.done.now)) in
     let here = cells_changed c.applied-item.result.touched.numbers.items in
-    ap (with_values m later) (c.in_ok-add_numbers.ensures ∙ ap (λ cs. with_values m (cells_changed cs) (rows cell_cmp c.loop-applied.cells)) c.as_slice.ensures.value)
+    ap (with_values m later) (c.in_ok-add_numbers.ensures
+    ∙ ap (λ cs. with_values m (cells_changed cs) (rows cell_cmp c.loop-applied.cells)) c.as_slice.ensures.value)
     ∙ sym (with_both m here later (rows cell_cmp c.loop-applied.cells))
-    ∙ ap (λ ds. with_values m (numbers_told (map told_in ds)) (rows cell_cmp c.loop-applied.cells)) (sym (drop-item c.args.done.now c.loop-applied.applied-index c.applied-item.result c.loop-applied-test.true c.applied-item.is))
+    ∙ ap (λ ds. with_values m (numbers_told (map told_in ds)) (rows cell_cmp c.loop-applied.cells))
+    (sym (drop-item c.args.done.now c.loop-applied.applied-index c.applied-item.result c.loop-applied-test.true c.applied-item.is))
     ∙ c.loop-applied.invariant
 
 pub returns : goal.returns
 returns c =
     let past : length c.args.done.now ≤ c.loop-applied.applied-index = omega (arith, c.loop-applied-test.false) in
-    sym (ap (λ ds. with_values (cells_of c.args.numbers.now.numbers) (numbers_told (map told_in ds)) (rows cell_cmp c.loop-applied.cells)) (drop_all c.loop-applied.applied-index c.args.done.now past))
+    sym (ap (λ ds. with_values (cells_of c.args.numbers.now.numbers) (numbers_told (map told_in ds)) (rows cell_cmp c.loop-applied.cells))
+    (drop_all c.loop-applied.applied-index c.args.done.now past))
     ∙ c.loop-applied.invariant ∙ all_values cells_total cells_exact (cells_of c.args.numbers.now.numbers) (numbers_told (map told_in c.args.done.now))

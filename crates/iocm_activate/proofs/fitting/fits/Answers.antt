@@ -21,7 +21,8 @@ take_all_back-requires g c = record {
 
 pub returns-in-Row-clause-fits : goal.returns-in-Row-clause-fits
 returns-in-Row-clause-fits g c = ok_then c.try_back-answer.result c.try_back-answer.ensures.fits
-    (λ is kept. fits_by (tree_of c.args.inverse.now) (parts_of c.in-Row.parts.items) c.args.performed.now c.args.plant.now.state is (ap tree_of c.in-Row.is ∙ tree-Row c.in-Row.parts) kept)
+    (λ is kept. fits_by (tree_of c.args.inverse.now) (parts_of c.in-Row.parts.items) c.args.performed.now c.args.plant.now.state is
+    (ap tree_of c.in-Row.is ∙ tree-Row c.in-Row.parts) kept)
 
 pub returns-in-Row-clause-same : goal.returns-in-Row-clause-same
 returns-in-Row-clause-same g c = c.take_all_back.ensures.undone c.args.plant.now.state
