@@ -21,6 +21,7 @@ stands p q lived same room = record {
   room = room;
 }
 
+-- edits lead to a state still where the machine is in the state from then, and no place is lost
 pub leads_still : CanStillUnapply → (is : List Carried) (s : State) (p q : Operating) → LeadsTo is s p → HasLives q.state → q.state ≡ p.state
     → KeepsRoom p.room q.room
     → LeadsTo is s q
@@ -33,6 +34,7 @@ leads_still still (i ∷ is) s p q leads lived same room = (
       (subst HasLives (sym after) (lived_after i.edit q.state lived)) refl (subst (KeepsRoom p.room) (sym places) room),
 )
 
+-- edits that lead to where others begin, and those others, lead on to where these lead
 pub leads_on : CanStillUnapply → (js is : List Carried) (s : State) (p q : Operating) → LeadsTo js p.state q → LeadsTo is s p → HasLives q.state
     → KeepsRoom p.room q.room
     → LeadsTo (js ++ is) s q
@@ -44,6 +46,7 @@ leads_on still (j ∷ js) is s p q later leads lived room = (
       (subst (KeepsRoom p.room) (sym places) room),
 )
 
+-- the way back of edits and more: that of the later ones first
 pub way_back_append : (ds bs : List Applied) → way_back (ds ++ bs) ≡ way_back bs ++ way_back ds
 way_back_append [] bs = sym (append-nil (way_back bs))
 way_back_append (a ∷ ds) bs = ap (λ is. is ++ (a.inverse ∷ [])) (way_back_append ds bs) ∙ append_assoc (way_back bs) (way_back ds) (a.inverse ∷ [])

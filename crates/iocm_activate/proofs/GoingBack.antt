@@ -11,7 +11,7 @@ use Rattle.std.specs.Cmp.{IsTotalOrder}
 use Rattle.std.specs.Cmp.Lexicographic.{pointwise}
 use Rattle.std.specs.FinMap.{FinMap, IsAntisymmetric, get}
 use Rattle.std.proofs.lemmas.Bool.{and_parts, and_from, or_left, or_right, false≢true, false_from_ne_true}
-use Rattle.std.proofs.lemmas.List.{reverse-append, length-append, length-reverse}
+use Rattle.std.proofs.lemmas.List.{reverse-append, length-reverse}
 use Rattle.iocm_types.specs.declared.place.NumberCell.{NumberCell}
 use Rattle.iocm_types.specs.declared.sub_id.SubId.{SubId}
 use Rattle.iocm_types.specs.declared.view.View.{View}
@@ -86,7 +86,8 @@ module _ {K X C : Type 0} {R : K → K → Ordering} (total : IsTotalOrder R) (e
   values_at v w p q [] h x there = absurd (false≢true there)
   values_at v w p q (k ∷ ks) h x there = by (eq_by_cmp R x k) refl there (values_at v w p q ks (and_parts _ _ h).1 x)
     where
-      by : (b : Bool) → eq_by_cmp R x k ≡ b → (b || list_any (eq_by_cmp R x) ks) ≡ true → (list_any (eq_by_cmp R x) ks ≡ true → AreTurned v w p q x)
+      by : (b : Bool) → eq_by_cmp R x k ≡ b → (b || list_any (eq_by_cmp R x) ks) ≡ true
+          → (list_any (eq_by_cmp R x) ks ≡ true → AreTurned v w p q x)
           → AreTurned v w p q x
       by true e found further =
           let here = and_parts _ _ (sym (turns v w p q k k) ∙ (and_parts _ _ h).0) in

@@ -37,6 +37,7 @@ kept_still old new s t kept keys mark same = record {
   within = let k = kept.within in let l = ap length keys in omega (arith, k, l, mark);
 }
 
+-- the numbers of edits and more are free where those of each are
 carry_append : (es fs : List Edit) (s : State) → CarryFreeNumbers es s → CarryFreeNumbers fs (state_after_all es s) → CarryFreeNumbers (es ++ fs) s
 carry_append [] fs s free more = more
 carry_append (e ∷ es) fs s free more = (free.0, carry_append es fs (state_after e s) free.1 more)

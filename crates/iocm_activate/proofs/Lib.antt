@@ -10,5 +10,6 @@ mod Runs
 mod Taking
 mod Telling
 mod Trying
+mod UnderWay
 mod Values
 mod Whole

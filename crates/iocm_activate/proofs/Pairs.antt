@@ -5,9 +5,11 @@ use Rattle.std.proofs.lemmas.List.{drop_all}
 use Rattle.iocm_types.proofs.Lists.{drop-item}
 
 module _ {A B : Type 0} (same : A → B → Bool) (xs : List A) (ys : List B) where
+  -- all of them are left at first
   pub begins : pointwise same xs ys ≡ pointwise same (drop 0 xs) (drop 0 ys)
   begins = refl
 
+  -- one pair, and those from the next on
   at : (i : ℕ) (x : A) (y : B) → i < length xs → x ≡ get_or xs i x → i < length ys → y ≡ get_or ys i y
       → pointwise same xs ys ≡ pointwise same (drop i xs) (drop i ys)
       → pointwise same xs ys ≡ (same x y && pointwise same (drop (i + 1) xs) (drop (i + 1) ys))

@@ -23,13 +23,16 @@ use Rattle.iocm_activate.proofs.Runs.{ran_nothing, ran_nowhere, ran_on}
 
 -- ---- what was done before, too
 
+-- after nothing, an outcome is itself
 nothing_first : (s : State) (o : Outcome) → o ≡ after_run (record { state = s; edits = [] }) o
 nothing_first s (Ok r) = refl
 nothing_first s (Err why) = refl
 
+-- some edits were performed, and led to a state
 abbrev done_in : State → List Edit → Outcome
 done_in s es = Ok (record { state = s; edits = es })
 
+-- after some edits and more is after all of them
 after_both : (s t : State) (es fs : List Edit) (o : Outcome)
     → after_run (record { state = s; edits = es }) (after_run (record { state = t; edits = fs }) o) ≡ after_run (record { state = t; edits = es ++ fs }) o
 after_both s t es fs (Ok r) = ap (done_in r.state) (sym (append_assoc es fs r.edits))
@@ -37,6 +40,7 @@ after_both s t es fs (Err why) = refl
 
 -- ---- a Row or a Group
 
+-- at first all parts are left
 pub goes_first : SamePlacesAreKept → (ps : Parts) (n : ℕ) (p : Operating) (log : Log) → GoesOn (parts_meaning ps n p.state) ps n p log p log
 goes_first same ps n p log = record { ran = ran_nowhere same p log; further = nothing_first p.state (parts_meaning ps n p.state) }
 
@@ -52,7 +56,8 @@ goes_next {m} {t} {ps} {n} {p} {first} {q} {second} {r} {third} places still g a
 }
 
 -- one part was refused
-pub goes_no_further : {m : Outcome} {t : ChangeTree} {ps : Parts} {n : ℕ} {p : Operating} {first : Log} {q : Operating} {second : Log} {r : Operating} {third : Log}
+pub goes_no_further : {m : Outcome} {t : ChangeTree} {ps : Parts} {n : ℕ} {p : Operating} {first : Log} {q : Operating} {second : Log}
+    {r : Operating} {third : Log}
     {why : Refused} → PlacesAreKeptOn → CanStillUnapply → GoesOn m (part t ps) n p first q second
     → Answers (node_meaning t n q.state) q second r third (Some why) → HasLives r.state
     → Answers m p first r third (Some why)
@@ -75,6 +80,7 @@ goes_to_the_end {m} {n} {p} {first} {q} {second} g = record {
 abbrev pub breach_at : ℕ → Option Breach → Option Refused
 breach_at n o = option_map (λ (b : Breach). record { rule = b.rule; node = Some n; at = Key b.key }) o
 
+-- a breach is the answer at its node, if there is one
 broken_or_not : (b : Option Breach) (n : ℕ) (s : State) (es : List Edit) → unless_broken b n (record {
   state = s;
   edits =
@@ -101,12 +107,14 @@ closed_before m n p first q second why a = record { ran = a.ran; means = ap (if_
 
 -- ---- a Choose
 
+-- at first all parts are left
 pub chooses_first : SamePlacesAreKept → (ps : Parts) (n : ℕ) (last : Refused) (p : Operating) (log : Log)
     → ChoosesOn (choice_meaning ps n last p.state) ps n last p log p log
 chooses_first same ps n last p log = record { ran = ran_nowhere same p log; nothing = refl; further = refl }
 
 -- a part was accepted
-pub chosen : {m : Outcome} {t : ChangeTree} {ps : Parts} {n : ℕ} {last : Refused} {p : Operating} {first : Log} {q : Operating} {second : Log} {r : Operating} {third : Log}
+pub chosen : {m : Outcome} {t : ChangeTree} {ps : Parts} {n : ℕ} {last : Refused} {p : Operating} {first : Log} {q : Operating} {second : Log}
+    {r : Operating} {third : Log}
     → PlacesAreKeptOn → CanStillUnapply → ChoosesOn m (part t ps) n last p first q second
     → Answers (if_rules_hold n (node_meaning t n q.state)) q second r third None → HasLives r.state
     → Answers m p first r third None
@@ -153,6 +161,7 @@ module _ {p : Operating} {first : Log} {q : Operating} {second : Log} {done keys
   leads_since = subst (λ ds. LeadsTo (way_back ds) p.state q)
       (sym (ap (drop done) w.ran.log ∙ drop_at first.done.items w.ran.done done (sym w.done_mark))) w.ran.back
 
+  -- so it can be taken back
   pub can_take_back : CanTakeBack (drop done second.done.items) q
   can_take_back = record { state = p.state; leads = leads_since }
 
@@ -160,6 +169,7 @@ module _ {p : Operating} {first : Log} {q : Operating} {second : Log} {done keys
   pub done_then : (third : Log) → third.done.items ≡ take done second.done.items → third.done.items ≡ first.done.items
   done_then third taken = before_mark first.done.items w.ran.done second.done.items third.done.items done w.ran.log w.done_mark taken
 
+  -- and has the keys that it had then
   pub keys_then : (third : Log) → third.keys.items ≡ take keys second.keys.items → third.keys.items ≡ first.keys.items
   keys_then third taken =
       before_mark first.keys.items (map key_of_edit w.ran.edits) second.keys.items third.keys.items keys w.ran.keys w.keys_mark taken
@@ -172,6 +182,7 @@ module _ {A : Type 0} {shown : List (Tree A)} {i : ℕ} {x : Tree A} (next : IsN
       → GoesOn m (from shown i) n p first q second → GoesOn m (part (plain_tree (tree_of x)) (from shown (i + 1))) n p first q second
   goes_at {m} {n} {p} {first} {q} {second} g = subst (λ ps. GoesOn m ps n p first q second) (next_and_rest next) g
 
+  -- the same of a Choose
   pub chooses_at : {m : Outcome} {n : ℕ} {last : Refused} {p : Operating} {first : Log} {q : Operating} {second : Log}
       → ChoosesOn m (from shown i) n last p first q second
       → ChoosesOn m (part (plain_tree (tree_of x)) (from shown (i + 1))) n last p first q second

@@ -18,6 +18,7 @@ use Rattle.iocm_activate.specs.Walked.{Ran}
 use Rattle.iocm_activate.specs.declared.log.Log.{Log}
 use Rattle.iocm_activate.proofs.Back.{leads_on, way_back_append, undone}
 
+-- what is told of edits and more is what is told of each
 pub told_append : (es fs : List Edit) (s : State) → told_of_all (es ++ fs) s ≡ told_of_all es s ++ told_of_all fs (state_after_all es s)
 told_append [] fs s = refl
 told_append (e ∷ es) fs s = ap (λ ts. told_of e s ∷ ts) (told_append es fs (state_after e s))
@@ -41,6 +42,7 @@ ran_nothing p old q new same room done keys = record {
   keys = keys ∙ sym (append-nil old.keys.items);
 }
 
+-- where nothing changed, nothing was performed
 abbrev pub ran_nowhere : SamePlacesAreKept → (p : Operating) (log : Log) → Ran p log p log
 ran_nowhere same p log = ran_nothing p log p log refl (same p.room p.room refl) refl refl
 

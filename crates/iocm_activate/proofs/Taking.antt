@@ -16,17 +16,21 @@ pub record IsTaking (mark : ℕ) (before : Operating) (all : List Applied) (now 
   pub room : now.room ≡ before.room
   pub first : take mark left ≡ take mark all
 
+-- at first nothing was taken back
 pub begins : (mark : ℕ) (p : Operating) (all : List Applied) → CanTakeBack (drop mark all) p → IsTaking mark p all p all
 begins mark p all can = record { can = can; leads = λ s h. h; room = refl; first = refl }
 
+-- what is before the mark stays
 kept_all : (mark : ℕ) (old new : List Applied) (a : Applied) → mark < length old → old ≡ new ++ a ∷ [] → mark ≤ length new
 kept_all mark old new a more is = let both = ap length is ∙ length-append new (a ∷ []) in omega (arith, more, both)
 
+-- the last that was done since the mark
 latest_is : (mark : ℕ) (old new : List Applied) (a : Applied) → mark < length old → old ≡ new ++ a ∷ []
     → way_back (drop mark old) ≡ a.inverse ∷ way_back (drop mark new)
 latest_is mark old new a more is = ap (λ ds. way_back (drop mark ds)) is ∙ ap way_back (drop-append-le mark new (a ∷ []) (kept_all mark old new a more is))
     ∙ way_back_append (drop mark new) (a ∷ [])
 
+-- it can be taken back first
 latest : (mark : ℕ) (old new : List Applied) (a : Applied) (s : State) (p : Operating) → mark < length old → old ≡ new ++ a ∷ []
     → LeadsTo (way_back (drop mark old)) s p → LeadsTo (a.inverse ∷ way_back (drop mark new)) s p
 latest mark old new a s p more is h = subst (λ js. LeadsTo js s p) (latest_is mark old new a more is) h
@@ -53,5 +57,6 @@ pub all_taken : (mark : ℕ) (p q : Operating) (all left : List Applied) → IsT
     → (s : State) → LeadsTo (way_back (drop mark all)) s p → q.state ≡ s
 all_taken mark p q all left taking few s h = subst (λ ds. LeadsTo (way_back ds) s q) (drop_all mark left few) (taking.leads s h)
 
+-- at last what was done before the mark is left
 pub first_left : (mark : ℕ) (p q : Operating) (all left : List Applied) → IsTaking mark p all q left → length left ≤ mark → left ≡ take mark all
 first_left mark p q all left taking few = sym (take_all mark left few) ∙ taking.first

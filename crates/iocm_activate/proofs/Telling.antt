@@ -14,6 +14,7 @@ use Rattle.iocm_activate.specs.Done.{leaves_from, touched_in}
 use Rattle.iocm_activate.specs.Told.{way_back}
 use Rattle.iocm_activate.proofs.Back.{way_back_append}
 
+-- what each did, the last first
 abbrev touched : List Applied → List Touched
 touched = touched_in
 
@@ -24,6 +25,7 @@ pub record IsTelling {A : Type 0} (all : List Applied) (parts : Vec (Tree A) A) 
   room : length parts.items + length left ≤ vec_capacity parts
   more_room : length performed.items + length left ≤ vec_capacity performed
 
+-- an edit is a leaf
 tree-Leaf : (A : Type 0) (e : Carried) → tree_of {A = A} (Leaf e) ≡ leaf e
 tree-Leaf A e = search (rules, the_lemmas)
 
@@ -62,6 +64,7 @@ pub has_room : {A : Type 0} (all : List Applied) (parts : Vec (Tree A) A) (perfo
     → IsTelling all parts performed old → old ≡ new ++ a ∷ [] → length parts.items < vec_capacity parts
 has_room all parts performed old new a telling is = let l = ap length is ∙ length-append new (a ∷ []) in let r = telling.room in omega (arith, l, r)
 
+-- and for what it did
 pub has_more_room : {A : Type 0} (all : List Applied) (parts : Vec (Tree A) A) (performed : Vec Touched A) (old new : List Applied) (a : Applied)
     → IsTelling all parts performed old → old ≡ new ++ a ∷ [] → length performed.items < vec_capacity performed
 has_more_room all parts performed old new a telling is = let l = ap length is ∙ length-append new (a ∷ []) in let r =
@@ -72,7 +75,9 @@ leaves_are_parts : (is : List Carried) → parts_from (map leaf is) ≡ leaves_f
 leaves_are_parts [] = refl
 leaves_are_parts (i ∷ is) = ap (part (leaf i)) (leaves_are_parts is)
 
-pub row_told : {A : Type 0} (all : List Applied) (parts : Vec (Tree A) A) (performed : Vec Touched A) (left : List Applied) → IsTelling all parts performed left
+-- once all are told, the parts are the way back
+pub row_told : {A : Type 0} (all : List Applied) (parts : Vec (Tree A) A) (performed : Vec Touched A) (left : List Applied)
+    → IsTelling all parts performed left
     → left ≡ []
     → tree_of (Row parts) ≡ row (leaves_from (way_back all))
 row_told all parts performed left telling none = tree-Row parts
@@ -80,6 +85,7 @@ row_told all parts performed left telling none = tree-Row parts
     ∙ telling.inverse)
     ∙ ap row (leaves_are_parts (way_back all))
 
+-- and what each did is told
 pub touched_told : {A : Type 0} (all : List Applied) (parts : Vec (Tree A) A) (performed : Vec Touched A) (left : List Applied)
     → IsTelling all parts performed left → left ≡ []
     → reverse performed.items ≡ touched_in all

@@ -1,7 +1,7 @@
 -- An edit that is tried as the way back of another one: what it leaves, and that it can be taken
 -- back itself.
-use Rattle.std.proofs.Common.{◌≡◌, ℕ, ◌+◌, ◌<◌, ◌≤◌, Bool, true, false, cond, not, ◌&&◌, ◌||◌, List, [], ◌∷◌}
-use Rattle.std.proofs.Common.{◌++◌, length, get_or, drop, reverse, Option, Some, None, is_some, refl, sym, ap, subst, ◌∙◌}
+use Rattle.std.proofs.Common.{◌≡◌, ℕ, ◌+◌, ◌≤◌, Bool, true, false, cond, not, ◌&&◌, ◌||◌, List, [], ◌∷◌}
+use Rattle.std.proofs.Common.{◌++◌, length, reverse, Option, Some, None, is_some, refl, sym, ap, subst, ◌∙◌}
 use Rattle.std.specs.Prelude.{Result, Ok, Err}
 use Rattle.std.specs.Option.{option_or, option_and_then}
 use Rattle.std.specs.Result.{result_err, is_ok}
@@ -45,32 +45,38 @@ use Rattle.iocm_activate.proofs.Runs.{leads_back}
 
 -- ---- refusals where it doesn't matter whether subchannels are quiet
 
+-- neither refusal applies where none does
 neither : (k : Option Refused) (taken : Bool) (r : Refused) → option_or k (option_or (cond taken (Some r) None) None) ≡ None
     → (is_some k || taken) ≡ false
 neither None false r h = refl
 neither None true r h = cc
 neither (Some x) taken r h = cc
 
+-- one of them applies where one does
 either : (k : Option Refused) (taken : Bool) (r why : Refused) → option_or k (option_or (cond taken (Some r) None) None) ≡ Some why
     → (is_some k || taken) ≡ true
 either (Some x) taken r why h = refl
 either None true r why h = refl
 either None false r why h = cc
 
+-- where neither holds, the second doesn't
 second_fails : (a b : Bool) → (a || b) ≡ false → b ≡ false
 second_fails false b h = h
 second_fails true b h = cc
 
+-- an edit that is accepted, be the subchannels quiet or not, is not barred
 pub not_barred : (e : Edit) (s : State) → refusal_when Whatever e s ≡ None → is_barred e s ≡ false
 not_barred e s h = neither (refusal_by_key e.action (contains_key s.config (action_key e.action)))
     (is_number_taken (config_after e.action s.config) s.numbers e.places)
     (refusal_at E4 (Key (action_key e.action))) h
 
+-- one that is refused then is barred
 pub barred : (e : Edit) (s : State) (why : Refused) → refusal_when Whatever e s ≡ Some why → is_barred e s ≡ true
 barred e s why h = either (refusal_by_key e.action (contains_key s.config (action_key e.action)))
     (is_number_taken (config_after e.action s.config) s.numbers e.places)
     (refusal_at E4 (Key (action_key e.action))) why h
 
+-- the numbers that come along with an accepted edit are free
 pub carries_free : (e : Edit) (s : State) → refusal_when Whatever e s ≡ None → CarryFreeNumbers (e ∷ []) s
 carries_free e s h = (second_fails _ _ (not_barred e s h), tt)
 
@@ -97,6 +103,7 @@ refused e was s t why due =
 
 -- ---- it can be taken back
 
+-- an edit was performed, and is taken back first
 pub leads_after : CanStillUnapply → (p q : Operating) (e : Edit) (a : Applied) (old new : List Applied) → IsSound p.state
     → CarryFreeNumbers (e ∷ []) p.state
     → Performs e p a q → KeepsRoom p.room q.room → new ≡ old ++ a ∷ []
@@ -115,9 +122,11 @@ leads_same still p q old new lived same room done s leads =
 
 -- ---- along the way
 
+-- what is left, from its end
 on_the_last : (left rest : List Touched) (was : Touched) → left ≡ rest ++ was ∷ [] → reverse left ≡ was ∷ reverse rest
 on_the_last left rest was is = ap reverse is ∙ reverse-append rest (was ∷ [])
 
+-- at first all parts are left, and all that was performed
 pub sets_out : {A : Type 0} → SamePlacesAreKept → (shown xs : List (Tree A)) (ds : List Touched) (p : Operating) (log : Log) → shown ≡ xs
     → WereKept log p.state
     → IsOnTheWay (gone_back_along (plain_parts (parts_of xs)) (reverse ds) p.state) (plain_parts (parts_of shown)) ds p log p log
@@ -182,10 +191,12 @@ an_edit t c was s o is gone = ap (λ p. part_gone_back (plain_tree p) was s) is 
 
 -- ---- a whole change
 
+-- the parts of a Row
 abbrev pub parts_in : ChangeTree → Parts
 parts_in (model.row ps) = ps
 parts_in _ = model.none
 
+-- whether a tree is a Row
 abbrev pub is_row : ChangeTree → Bool
 is_row (model.row ps) = true
 is_row _ = false

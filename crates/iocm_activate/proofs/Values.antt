@@ -18,6 +18,7 @@ module _ {K X : Type 0} {R : K → K → Ordering} where
   with_both m (k ∷ ks) js cells = with_both m ks js (insert cells k (get m k))
 
 module _ {K X : Type 0} {R : K → K → Ordering} (total : IsTotalOrder R) (exact : IsAntisymmetric R) where
+  -- one key more: at it its value is found
   later_first : (a b : Bool) (m : FinMap R X) (k q : K) (o : Option (Option X)) → eq_by_cmp R q k ≡ a
       → cond b (Some (get m q)) (cond a (Some (get m k)) o) ≡ cond (a || b) (Some (get m q)) o
   later_first true true m k q o e = refl
@@ -25,6 +26,7 @@ module _ {K X : Type 0} {R : K → K → Ordering} (total : IsTotalOrder R) (exa
   later_first false true m k q o e = refl
   later_first false false m k q o e = refl
 
+  -- each of some keys has its value then, and any other what it had
   get_with_values : (m : FinMap R X) (ks : List K) (cells : FinMap R (Option X)) (q : K)
       → get (with_values m ks cells) q ≡ cond (list_any (eq_by_cmp R q) ks) (Some (get m q)) (get cells q)
   get_with_values m [] cells q = refl

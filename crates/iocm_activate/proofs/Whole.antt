@@ -8,7 +8,7 @@ use Rattle.iocm_types.specs.declared.refused.Refused.{Refused}
 use Rattle.iocm_model.specs.Operation.State.{State, IsSound}
 use Rattle.iocm_model.specs.Change.Effect.{Effect, values_in}
 use Rattle.iocm_model.specs.Change.InverseTree.{inverse_tree, TakesBack}
-use Rattle.iocm_model.specs.Change.Meaning.{Outcome, if_rules_hold, node_meaning, meaning}
+use Rattle.iocm_model.specs.Change.Meaning.{if_rules_hold, node_meaning, meaning}
 use Rattle.iocm_model.specs.Change.Runs.{cells_written_by_all, effect_of}
 use Rattle.iocm_model.specs.Change.Tree.{ChangeTree, depth_of, leaves_of, nodes_of, most_depth, most_leaves}
 use Rattle.iocm_model.specs.Laws.Trees.{KeepsTheRules}
@@ -45,6 +45,7 @@ module _ {p q : Operating} {log : Log} (w : WasWalked p q log) where
   told_alone : log.done.items ≡ w.ran.done
   told_alone = w.ran.log ∙ ap (λ ds. ds ++ w.ran.done) w.none
 
+  -- and what is told of them is what they did
   all_told : map told_in log.done.items ≡ told_of_all w.ran.edits p.state
   all_told = ap (map told_in) told_alone ∙ w.ran.told
 
@@ -52,6 +53,7 @@ module _ {p q : Operating} {log : Log} (w : WasWalked p q log) where
   pub leads_back : LeadsTo (way_back log.done.items) p.state q
   leads_back = subst (λ ds. LeadsTo (way_back ds) p.state q) (sym told_alone) w.ran.back
 
+  -- so all can be taken back
   pub can_take_all_back : CanTakeBack log.done.items q
   can_take_all_back = record { state = p.state; leads = leads_back }
 
@@ -112,9 +114,11 @@ neither true b x y h = cc
 neither false true x y h = cc
 neither false false x y h = (refl, refl)
 
+-- what is not more than a limit is within it
 no_more : (n most : ℕ) → nat_lt most n ≡ false → n ≤ most
 no_more n most h = grind arith
 
+-- so the numbers of its nodes fit
 pub few_nodes : (t : ChangeTree) → limit_refusal t ≡ None → 0 + nodes_of t < 2 ^ 64
 few_nodes t within =
     let both = neither (nat_lt most_depth (depth_of t)) (nat_lt most_leaves (leaves_of t)) _ _ within in

@@ -34,9 +34,11 @@ changed_subchannels v w [] = refl
 changed_subchannels v w (x ∷ xs) = ap (λ ys. x ∷ ys) (changed_subchannels v w xs)
 
 module _ (lives : Lives) (v w : SubId → Option View) where
+  -- the live records at some subchannels, each with its subchannel
   abbrev met_at : List SubId → List (SubId × Live)
   met_at xs = lives_met lives (map (view_change v w) xs)
 
+  -- one row more: whether a subchannel is found in it or behind it
   found_by : (x k : SubId) (o : Option Live) (rest : List (SubId × Live)) (b among : Bool) → eq_by_cmp sub_id_cmp x k ≡ b → get lives k ≡ o
       → find sub_id_cmp x rest ≡ cond among (get lives x) None → (b ≡ true → among ≡ false)
       → find sub_id_cmp x (cons_option (option_map (λ (l : Live). (k, l)) o) rest) ≡ cond (b || among) (get lives x) None
@@ -46,10 +48,12 @@ module _ (lives : Lives) (v w : SubId → Option View) where
   found_by x k None rest false among other is more apart = more
   found_by x k (Some l) rest false among other is more apart = rw other more
 
+  -- a subchannel before all of some is none of them
   none_before : (k : SubId) (xs : List SubId) → AllByRecursion (λ y. sub_id_cmp k y ≡ Less) xs → is_among k xs ≡ false
   none_before k [] all = refl
   none_before k (x ∷ xs) all = rw (ap is_eq all.0) (none_before k xs all.1)
 
+  -- at one of them its live record is found, elsewhere none
   find_met_at : (xs : List SubId) → IsStrictlySortedBy sub_id_cmp xs → (x : SubId)
       → find sub_id_cmp x (met_at xs) ≡ cond (is_among x xs) (get lives x) None
   find_met_at [] rise x = refl
@@ -57,15 +61,18 @@ module _ (lives : Lives) (v w : SubId → Option View) where
       (find_met_at xs (sorted_tail sub_id_cmp k xs rise) x)
       (λ tied. ap (λ z. is_among z xs) (same_key sub_id_cmp sub_ids_exact x k tied) ∙ none_before k xs (sorted_head sub_id_cmp k xs rise))
 
+  -- one row more: what stands before all of them stands before it too
   below_by : (k y : SubId) (o : Option Live) (rest : List (SubId × Live)) → sub_id_cmp k y ≡ Less → T (below_all sub_id_cmp k rest)
       → T (below_all sub_id_cmp k (cons_option (option_map (λ (l : Live). (y, l)) o) rest))
   below_by k y None rest less below = below
   below_by k y (Some l) rest less below = both_hold (is_lt (sub_id_cmp k y)) (below_all sub_id_cmp k rest) (subst (λ r. T (is_lt r)) (sym less) tt) below
 
+  -- what stands before some subchannels stands before their rows
   below_met : (k : SubId) (xs : List SubId) → AllByRecursion (λ y. sub_id_cmp k y ≡ Less) xs → T (below_all sub_id_cmp k (met_at xs))
   below_met k [] all = tt
   below_met k (y ∷ xs) all = below_by k y (get lives y) (met_at xs) all.0 (below_met k xs all.1)
 
+  -- one row more stands in order
   sorted_by : (k : SubId) (o : Option Live) (rest : List (SubId × Live)) → T (below_all sub_id_cmp k rest) → T (is_sorted sub_id_cmp rest)
       → T (is_sorted sub_id_cmp (cons_option (option_map (λ (l : Live). (k, l)) o) rest))
   sorted_by k None rest below up = up
@@ -84,6 +91,7 @@ module _ (lives : Lives) (v w : SubId → Option View) where
       get-from_sorted sub_id_cmp (met_at xs) x (met_at_sorted xs rise) ∙ find_met_at xs rise x
       ∙ ap (λ b. cond b (get lives x) None) (exactly x) ∙ sym (get_retained sub_ids_total sub_ids_exact lives test x))
 
+  -- one change more: whether its subchannel is left
   left_by : (x k : SubId) (rest : List ViewChange) (b t among : Bool) → eq_by_cmp sub_id_cmp x k ≡ b → is_some (w k) ≡ t
       → is_among x (map (λ (ch : ViewChange). ch.subchannel) rest) ≡ (among && is_some (w x))
       → is_among x (map (λ (ch : ViewChange). ch.subchannel) (cond t (view_change v w k ∷ rest) rest)) ≡ ((b || among) && is_some (w x))
@@ -106,17 +114,20 @@ module _ (lives : Lives) (v w : SubId → Option View) where
 
 -- ---- rows in order
 
+-- what stands before the subchannels of rows stands before the rows
 rows_below : (k : SubId) (rows : List (SubId × Live)) → AllByRecursion (λ y. sub_id_cmp k y ≡ Less) (keys_of rows) → T (below_all sub_id_cmp k rows)
 rows_below k [] all = tt
 rows_below k (row ∷ rows) all =
     both_hold (is_lt (sub_id_cmp k row.0)) (below_all sub_id_cmp k rows) (subst (λ r. T (is_lt r)) (sym all.0) tt) (rows_below k rows all.1)
 
+-- rows stand in order where their subchannels do
 rows_up : (rows : List (SubId × Live)) → IsStrictlySortedBy sub_id_cmp (keys_of rows) → T (is_sorted sub_id_cmp rows)
 rows_up [] rise = tt
 rows_up (row ∷ rows) rise =
     both_hold (below_all sub_id_cmp row.0 rows) (is_sorted sub_id_cmp rows) (rows_below row.0 rows (sorted_head sub_id_cmp row.0 (keys_of rows) rise))
     (rows_up rows (sorted_tail sub_id_cmp row.0 (keys_of rows) rise))
 
+-- the subchannels that are left are those at which something is seen, in their order
 left_are : (v w : SubId → Option View) (xs : List SubId) → subchannels_left (map (view_change v w) xs) ≡ filter (λ x. is_some (w x)) xs
 left_are v w [] = refl
 left_are v w (x ∷ xs) = by (is_some (w x)) (left_are v w xs)

@@ -64,6 +64,7 @@ module _ {e : Edit} {p : Inside} {d : Configuration} {m : Numbering} (w : HasCha
   pub altered_are : differing same_view (views_seated p.seats.seats) (views_of d m) ≡ altered_by e (state_in p)
   altered_are = λ i. differing same_view (w.before.seated i) (seen_new i)
 
+  -- and at no other
   pub is_altered_at : (x : SubId) → is_among x (differing same_view (views_seated p.seats.seats) (views_of d m))
       ≡ is_altered (state_in p) (state_after e (state_in p)) x
   is_altered_at x = in_differing sub_ids_total sub_ids_exact same_view (views_seated p.seats.seats) (views_of d m) x
@@ -73,6 +74,7 @@ module _ {e : Edit} {p : Inside} {d : Configuration} {m : Numbering} (w : HasCha
   pub told_altered : seen_changes d m p.seats.seats ≡ changes_between (views_in (state_in p)) (views_in (state_after e (state_in p)))
   told_altered = λ i. changes_between (w.before.seated i) (seen_new i)
 
+  -- and of the numbers
   pub told_numbers : numbers.changes_between p.numbers.numbers m
       ≡ numbers.changes_between p.numbers.numbers (state_after e (state_in p)).numbers
   told_numbers = ap (numbers.changes_between p.numbers.numbers) numbers_new
@@ -93,6 +95,7 @@ pub record HaveFollowed (e : Edit) (again : Action) (p q : Inside) (f : Followed
   pub seat_room : KeepsPlaces p.seats q.seats
 
 module _ {e : Edit} {again : Action} {p q : Inside} {f : Followed} (w : HaveFollowed e again p q f) where
+  -- the configuration and the numbers are those after the edit
   has_changed : HasChanged e p q.config.records q.numbers.numbers
   has_changed = record { before = w.before; changed = w.exchanged.there; renumbered = w.numbers }
 
@@ -118,6 +121,7 @@ module _ {e : Edit} {again : Action} {p q : Inside} {f : Followed} (w : HaveFoll
   abbrev altered : List SubId
   altered = differing same_view (views_seated p.seats.seats) (views_of q.config.records q.numbers.numbers)
 
+  -- they are in order
   altered_rise : IsStrictlySortedBy sub_id_cmp altered
   altered_rise = differing_rise sub_id_cmp same_view (views_seated p.seats.seats) (views_of q.config.records q.numbers.numbers)
 
@@ -137,6 +141,7 @@ module _ {e : Edit} {again : Action} {p q : Inside} {f : Followed} (w : HaveFoll
       ∙ met_at_retained (lives_seated p.seats.seats) (get (views_seated p.seats.seats)) (get (views_of q.config.records q.numbers.numbers)) altered
       (is_altered (state_in p) (state_after e (state_in p))) altered_rise (is_altered_at has_changed)
 
+  -- the numbers that were freed are those by the definition
   freed_are : f.renumbered.freed.items ≡ freed_numbers p.numbers.numbers (state_after e (state_in p)).numbers
   freed_are = w.told.freed ∙ ap (freed_numbers p.numbers.numbers) (numbers_new has_changed)
 

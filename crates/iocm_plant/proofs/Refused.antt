@@ -32,6 +32,7 @@ module _ (e : Edit) (p : Inside) (before : AreOperating p) (d : Configuration) (
   abbrev m : Numbering
   m = numbers_after d e.places p.numbers.numbers
 
+  -- the subchannels that are seen differently are those that the edit alters
   subchannels_are : map (λ (ch : ViewChange). ch.subchannel) (seen_changes d m p.seats.seats) ≡ altered_by e (state_in p)
   subchannels_are = changed_subchannels (get (views_seated p.seats.seats)) (get (views_of d m))
       (differing same_view (views_seated p.seats.seats) (views_of d m))

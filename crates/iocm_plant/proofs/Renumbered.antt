@@ -36,6 +36,7 @@ module _ {d : Configuration} {carried : List (Place × ℕ)} {old new : Numbered
   agree : Agree old.numbers new.numbers
   agree = subst (Agree old.numbers) (sym w.now) (changes_agree d carried old.numbers)
 
+  -- and the other way round
   agree_back : Agree new.numbers old.numbers
   agree_back = agree_both_ways old.numbers new.numbers agree
 

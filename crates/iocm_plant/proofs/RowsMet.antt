@@ -30,6 +30,7 @@ module _ (lives : Lives) where
       back (Some l) h = refl
   found_by row rest x false among tied has more = more
 
+  -- at one of them its live record is found, elsewhere none
   found_met : (rows : List (SubId × Live)) (x : SubId) → (is_among x (keys_of rows) ≡ true → is_some (get lives x) ≡ true)
       → find sub_id_cmp x (map (met lives) rows) ≡ cond (is_among x (keys_of rows)) (get lives x) None
   found_met [] x has = refl
@@ -37,6 +38,7 @@ module _ (lives : Lives) where
       (λ tied. has (ap (λ b. b || is_among x (keys_of rows)) tied))
       (found_met rows x (λ h. has (or_right (eq_by_cmp sub_id_cmp x row.0) (is_among x (keys_of rows)) h)))
 
+  -- what stands before rows stands before them with their live records
   below_met : (k : SubId) (rows : List (SubId × Live)) → T (below_all sub_id_cmp k rows) → T (below_all sub_id_cmp k (map (met lives) rows))
   below_met k [] below = tt
   below_met k (row ∷ rows) below =
@@ -49,14 +51,17 @@ module _ (lives : Lives) where
       both_hold (below_all sub_id_cmp row.0 (map (met lives) rows)) (is_sorted sub_id_cmp (map (met lives) rows)) (below_met row.0 rows (first_holds _ _ up))
       (met_sorted rows (second_holds _ _ up))
 
+  -- the subchannels are the same
   met_keys : (rows : List (SubId × Live)) → keys_of (map (met lives) rows) ≡ keys_of rows
   met_keys [] = refl
   met_keys (row ∷ rows) = ap (λ xs. row.0 ∷ xs) (met_keys rows)
 
+  -- a live record, if it is there, is itself
   own_by : (o : Option Live) → cond (is_some o) o None ≡ o
   own_by None = refl
   own_by (Some l) = refl
 
+  -- where none is there, none is kept
   kept_by : (altered there : Bool) (o : Option Live) → is_some o ≡ there → cond (altered && there) o None ≡ cond altered o None
   kept_by true there o is = ap (λ b. cond b o None) (sym is) ∙ own_by o
   kept_by false there o is = refl

@@ -4,16 +4,10 @@ use Rattle.std.specs.Option.{option_map, option_zip, OnSome}
 use Rattle.std.specs.Ordering.{eq_by_cmp}
 use Rattle.std.specs.FinMap.{get, insert, same_map, get-insert}
 use Rattle.iocm_types.specs.declared.live.Live.{Live}
-use Rattle.iocm_types.specs.declared.naming.Naming.{Naming}
 use Rattle.iocm_types.specs.declared.sub_id.SubId.{SubId}
 use Rattle.iocm_types.specs.SubId.{sub_id_cmp}
 use Rattle.iocm_types.specs.KeyOrder.{sub_ids_total, sub_ids_exact}
 use Rattle.iocm_types.proofs.Found.{same_key}
-use Rattle.iocm_table.specs.Slots.{Stored}
-use Rattle.iocm_config.specs.Stored as config
-use Rattle.iocm_numbers.specs.Numbered.{Numbered}
-use Rattle.iocm_model.specs.Machine.Configuration.{Configuration}
-use Rattle.iocm_model.specs.Machine.Numbering.{Numbering}
 use Rattle.iocm_model.specs.Operation.Step.{Step, subchannel_in, live_after_step, lives_after_step, after_step}
 use Rattle.iocm_seats.specs.declared.seat.Seat.{Seat}
 use Rattle.iocm_seats.specs.Lent.{IsChangedAt}
@@ -28,6 +22,7 @@ pub changed_seat : {B : Type 0} (lent : Option B) (seat : B) → lent ≡ Some s
     → OnSome lent (IsChangedAt t x u s) → IsChangedAt t x u s
 changed_seat lent seat is t x u s changed = subst (λ o. OnSome o (IsChangedAt t x u s)) is changed
 
+-- view and live record of a seat that is there, together
 zipped : (o : Option Seat) → option_zip (view_in o) (live_in o) ≡ option_map (λ (s : Seat). (s.view, s.live)) o
 zipped None = refl
 zipped (Some s) = refl
@@ -37,9 +32,11 @@ abbrev seat_with : Seat → Live → Seat
 seat_with s l = record { view = s.view; live = l }
 
 module _ (seats : Seats) (x : SubId) (s : Seat) (l : Live) (here : get seats x ≡ Some s) where
+  -- the seats with this one changed
   abbrev with_live : Seats
   with_live = insert seats x (seat_with s l)
 
+  -- at each subchannel the same view
   seen_by : (b : Bool) (q : SubId) → eq_by_cmp sub_id_cmp q x ≡ b → view_in (cond b (Some (seat_with s l)) (get seats q)) ≡ view_in (get seats q)
   seen_by true q tied = sym (ap (λ z. view_in (get seats z)) (same_key sub_id_cmp sub_ids_exact q x tied) ∙ ap view_in here)
   seen_by false q other = refl
@@ -50,6 +47,7 @@ module _ (seats : Seats) (x : SubId) (s : Seat) (l : Live) (here : get seats x �
       view_seated with_live q ∙ ap view_in (get-insert sub_ids_total seats x (seat_with s l) q)
       ∙ seen_by (eq_by_cmp sub_id_cmp q x) q refl ∙ sym (view_seated seats q))
 
+  -- and the same live record, but at this one
   lived_by : (b : Bool) (q : SubId) → live_in (cond b (Some (seat_with s l)) (get seats q)) ≡ cond b (Some l) (live_in (get seats q))
   lived_by true q = refl
   lived_by false q = refl
@@ -88,6 +86,7 @@ pub record FoundNone (old : Operating) (p : Inside) (x : SubId) (t : Seated) : T
   pub same_places : t.places ≡ p.seats.places
 
 module _ {old : Operating} {p : Inside} {x : SubId} {t : Seated} (w : FoundNone old p x t) where
+  -- nothing is at it
   pub none_there : subchannel_in old.state x ≡ None
   none_there = ap (λ (k : Operating). subchannel_in k.state x) (sym w.is)
       ∙ subchannel_is p w.before x ∙ ap (option_map (λ (s : Seat). (s.view, s.live))) w.none
@@ -101,6 +100,7 @@ module _ {old : Operating} {p : Inside} {x : SubId} {t : Seated} (w : FoundNone 
   state_still step = ap (state_of p.config.records p.numbers.numbers) w.same_seats ∙ ap (λ (k : Operating). k.state) w.is
       ∙ sym (ap (λ o. record old.state { lives = lives_after_step x step o old.state.lives }) none_there)
 
+  -- and no place is lost
   pub same_room : (operating_in (with_seats p t)).room ≡ old.room
   same_room = room_still p t w.is w.same_places
 
@@ -114,6 +114,7 @@ pub record FoundSeat (old : Operating) (p : Inside) (x : SubId) (s : Seat) (l : 
   pub changed : IsChangedAt p.seats x t (seat_with s l)
 
 module _ {old : Operating} {p : Inside} {x : SubId} {s : Seat} {l : Live} {t : Seated} (w : FoundSeat old p x s l t) where
+  -- its view and its live record are at it
   pub one_there : subchannel_in old.state x ≡ Some (s.view, s.live)
   one_there = ap (λ (k : Operating). subchannel_in k.state x) (sym w.is)
       ∙ subchannel_is p w.before x ∙ ap (option_map (λ (s : Seat). (s.view, s.live))) w.here
@@ -136,5 +137,6 @@ module _ {old : Operating} {p : Inside} {x : SubId} {s : Seat} {l : Live} {t : S
       (λ i. record (state_in p) { lives = lives i })
       ∙ (λ i. record (w.is i).state { lives = lives_after_step x step (subchannel_in old.state x) (w.is i).state.lives })
 
+  -- and no place is lost
   pub room_as_before : (operating_in (with_seats p t)).room ≡ old.room
   room_as_before = room_still p t w.is w.changed.places

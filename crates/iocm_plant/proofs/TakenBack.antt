@@ -45,6 +45,7 @@ abbrev pub edit_of : Action → List (Place × ℕ) → List (SubId × Live) →
 edit_of action places kept frees meets =
     record { edit = record { action = action; places = places; lives = from_sorted kept }; frees = frees; meets = keys_of meets }
 
+-- something is kept where the test passes and something is there
 some_by : (b : Bool) (o : Option Live) → is_some (cond b o None) ≡ (b && is_some o)
 some_by true o = refl
 some_by false o = refl
@@ -58,6 +59,7 @@ pub record CanBePerformed {A : Type 0} (parts : Parts A) (p : Inside) : Type 0 w
   pub order : HasOrder parts
 
 module _ {A : Type 0} {parts : Parts A} {p : Inside} (w : CanBePerformed parts p) where
+  -- the numbers that are there
   abbrev n : Numbering
   n = p.numbers.numbers
 
@@ -65,6 +67,7 @@ module _ {A : Type 0} {parts : Parts A} {p : Inside} (w : CanBePerformed parts p
   abbrev taken : Edit
   taken = w.can.back.edit
 
+  -- the state from before that edit
   abbrev first : State
   first = w.can.back.state
 
@@ -73,6 +76,7 @@ module _ {A : Type 0} {parts : Parts A} {p : Inside} (w : CanBePerformed parts p
   config_is = ap (λ a. config_after a p.config.records) w.can.back.action ∙ ap (config_after (inverse_of taken first).action) w.can.back.is_config
       ∙ config_back taken.action first.config w.can.back.sound.keyed
 
+  -- a device that has a number there and here has the same
   agree : numbers.Agree n first.numbers
   agree = agree_both_ways first.numbers n
       (subst (numbers.Agree first.numbers) (sym w.can.back.is_numbers) (changes_agree (state_after taken first).config taken.places first.numbers))
@@ -123,30 +127,39 @@ abbrev pub way_back : {A : Type 0} → Parts A → Action → Seats → Carried
 way_back parts again seats = edit_of again parts.frees.items (map (met (lives_seated seats)) parts.meets.items) parts.places.items parts.kept.items
 
 module _ {A : Type 0} {parts : Parts A} {again : Action} {p q : Inside} (w : WasUnapplied parts again p q) where
+  -- the edit takes another one back
   abbrev back : TakesBack (carried_of parts) p.config.records p.numbers.numbers
   back = w.here.can.back
 
+  -- the state from before that one
   abbrev s : State
   s = back.state
 
+  -- and the one that it left
   abbrev t : State
   t = state_after back.edit back.state
 
+  -- the edit that is performed
   abbrev e : Edit
   e = (carried_of parts).edit
 
+  -- the state in which it is
   abbrev u : State
   u = state_in p
 
+  -- what is seen afterwards
   abbrev now : Views
   now = views_of q.config.records q.numbers.numbers
 
+  -- the configuration is the one from before that one
   config_now : q.config.records ≡ s.config
   config_now = w.exchanged.there ∙ config_is w.here
 
+  -- and so are the numbers
   numbers_now : q.numbers.numbers ≡ s.numbers
   numbers_now = w.numbers ∙ numbers_are w.here
 
+  -- and what is seen
   seen_now : now ≡ views_in s
   seen_now = λ i. views_of (config_now i) (numbers_now i)
 
@@ -162,6 +175,7 @@ module _ {A : Type 0} {parts : Parts A} {again : Action} {p q : Inside} (w : Was
     apart = w.here.order.kept_rise;
   }
 
+  -- the numbers are those by the definition
   numbers_new : q.numbers.numbers ≡ (state_after e u).numbers
   numbers_new = numbers_now ∙ sym (renumbered w.here)
 
@@ -190,6 +204,7 @@ module _ {A : Type 0} {parts : Parts A} {again : Action} {p q : Inside} (w : Was
 
   -- ---- the edit that takes this back
 
+  -- what is seen is what is seen after the edit
   seen_new : now ≡ views_in (state_after e u)
   seen_new = λ i. views_of (w.exchanged.there i) (numbers_new i)
 
@@ -202,6 +217,7 @@ module _ {A : Type 0} {parts : Parts A} {again : Action} {p q : Inside} (w : Was
       ∙ (λ i. not (option_eq same_view (get (w.here.before.seated i) x) (get (seen_new i) x)) && is_some (get (w.here.before.seated i) x)))
       (sound_state p w.here.before).lived
 
+  -- it brings the numbers that this one freed
   freed_are : parts.frees.items ≡ freed_numbers p.numbers.numbers (state_after e u).numbers
   freed_are = back.frees ∙ ap (freed_numbers p.numbers.numbers) (sym (renumbered w.here))
 

@@ -1,4 +1,4 @@
-use Rattle.std.proofs.Common.{◌≡◌, None, sym, ap, subst, ◌∙◌, length}
+use Rattle.std.proofs.Common.{◌≡◌, sym, ap, subst, ◌∙◌, length}
 use Rattle.iocm_model.specs.Laws.Trees.{KeepsTheRules}
 use Rattle.iocm_tree.specs.Trees.{tree_of, plain_tree}
 use Rattle.iocm_plant.specs.Operating.{Operating}

@@ -1,11 +1,8 @@
-use Rattle.std.proofs.Common.{◌<◌, ◌^◌, ◌+◌, ◌*◌, map}
+use Rattle.std.proofs.Common.{◌+◌, ◌*◌, map}
 use Rattle.iocm_model.specs.Change.Meaning.{parts_meaning, choice_meaning, without_parts}
-use Rattle.iocm_model.specs.Change.Tree.{nodes_in}
 use Rattle.iocm_tree.specs.Trees.{tree_of, parts_of, plain_parts}
 use Rattle.iocm_tree.proofs.Trees.{nodes, nodes_among}
-use Rattle.iocm_activate.specs.Walked.{WereKept}
-use Rattle.iocm_activate.specs.Going.{GoesOn, ChoosesOn}
-use Rattle.iocm_activate.proofs.Next.{from}
+use Rattle.iocm_activate.proofs.UnderWay.{WalksOn, TriesOn}
 use Rattle.iocm_activate.proofs.walk.+walk.Given as goal
 
 abbrev pub decreases-walk : goal.decreases-walk
@@ -25,14 +22,11 @@ decreases-walk_first g l = 4 * nodes_among (map tree_of l.parts.now.items) + 3
 
 -- how far a walk through parts in order has come
 abbrev pub invariant-walk_all-loop-part : goal.invariant-walk_all-loop-part
-invariant-walk_all-loop-part g l =
-    (l.next + nodes_in (from l.part-items l.part-index) < 2 ^ 64) × (WereKept l.log l.plant.state
-    × GoesOn (parts_meaning (plain_parts (parts_of l.parts.items)) l.node l.initial.plant.state) (from l.part-items l.part-index) l.next
-    l.initial.plant l.initial.log l.plant l.log)
+invariant-walk_all-loop-part g l = WalksOn (parts_meaning (plain_parts (parts_of l.parts.items)) l.node l.initial.plant.state)
+    l.part-items l.part-index l.next l.initial.plant l.initial.log l.plant l.log
 
 -- and how far one through the parts of a Choose
 abbrev pub invariant-walk_first-loop-part : goal.invariant-walk_first-loop-part
 invariant-walk_first-loop-part g l =
-    (l.next + nodes_in (from l.part-items l.part-index) < 2 ^ 64) × (WereKept l.log l.plant.state
-    × ChoosesOn (choice_meaning (plain_parts (parts_of l.parts.items)) (l.node + 1) (without_parts l.node) l.initial.plant.state)
-    (from l.part-items l.part-index) l.next l.last l.initial.plant l.initial.log l.plant l.log)
+    TriesOn (choice_meaning (plain_parts (parts_of l.parts.items)) (l.node + 1) (without_parts l.node) l.initial.plant.state)
+    l.part-items l.part-index l.next l.last l.initial.plant l.initial.log l.plant l.log

@@ -18,7 +18,7 @@ use Rattle.iocm_seats.specs.Exchange.{met}
 use Rattle.iocm_seats.specs.Seated.{lives_seated, HasPlace}
 use Rattle.iocm_tree.specs.Carried.{Carried, AreInOrder, action_of}
 use Rattle.iocm_plant.specs.declared.plant.Plant.TheInside.{Inside}
-use Rattle.iocm_plant.specs.Operating.{Operating, HasPlaceIn, KeepsPlaces}
+use Rattle.iocm_plant.specs.Operating.{HasPlaceIn, KeepsPlaces}
 use Rattle.iocm_plant.specs.TakingBack.{CanUnapply}
 use Rattle.iocm_plant.proofs.Inside.{operating_in}
 use Rattle.iocm_plant.proofs.RowsMet.{met_sorted}
