@@ -216,7 +216,7 @@ fn run_on<
     Ok(ExitCode::from(status.code()))
 }
 
-/// Prints that memory is missing, through a buffer without room, which takes none.
+/// Prints that memory is missing. Its buffer has no room, so that it needs no memory itself.
 fn refuse_memory<R: Print + AllocGlobal>(rt: &R) -> Result<ExitCode, ConsoleError> {
     let Ok(writer) = BufWriter::with_capacity(rt.alloc(), 0, io::writer(rt)) else {
         unreachable!()
