@@ -13,11 +13,10 @@ use Rattle.iocm_model.specs.Machine.Numbering.{opening}
 use Rattle.iocm_model.specs.Rules.FirstBreach.{Breach, first_breach}
 use Rattle.iocm_deck_writer.specs.Canonical.{canonical_deck}
 use Rattle.iocm_round_trip.proofs.Same.{configuration_is_read_again}
-use Rattle.iocm_console.specs.declared.command.DeckCommand.{DeckCommand}
 use Rattle.iocm_console.specs.declared.command.DeckCommand.TheVariants.{Write}
 use Rattle.iocm_console.specs.declared.status.Status.TheVariants.{Done}
 use Rattle.iocm_console.specs.Again.{PrintsTheSame}
-use Rattle.iocm_console.specs.Command.{answered, shown_by}
+use Rattle.iocm_console.specs.Command.{shown_by}
 use Rattle.iocm_console.specs.Opening.{configuration_in, opened_or_refused, unless_breached}
 use Rattle.iocm_console.specs.Write.{canonical_done}
 

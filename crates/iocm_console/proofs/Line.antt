@@ -1,16 +1,26 @@
 -- A line of the table, byte by byte.
-use Rattle.std.proofs.Common.{◌≡◌, ℕ, ◌/◌, ◌%◌, ◌<◌, List, [], ◌∷◌, ◌++◌, refl, ◌∙◌}
+use Rattle.std.proofs.Common.{◌≡◌, ℕ, ◌/◌, ◌%◌, ◌<◌, List, [], ◌∷◌, ◌++◌, refl, ◌∙◌, arith}
 use Rattle.std.proofs.lemmas.List.{append_assoc}
+use Rattle.iocm_types.specs.Print.{hex4}
 use Rattle.iocm_types.specs.declared.sub_id.SubId.{SubId}
 use Rattle.iocm_types.specs.declared.view.View.{View}
 use Rattle.iocm_model.specs.Machine.Table.{line_of, chpids}
 use Rattle.iocm_console.proofs.Hexadecimal.{glyph, hex2_digits, hex4_digits, left2_digits, left3_digits}
 
+-- the digits of a half-word, byte by byte
+hex4_pairs : (n : ℕ) → n < 65536
+    → hex4 n ≡ glyph (n / 256 / 16) ∷ glyph (n / 256 % 16) ∷ glyph (n % 256 / 16) ∷ glyph (n % 256 % 16) ∷ []
+hex4_pairs n small =
+    let first : n / 4096 ≡ n / 256 / 16 = omega arith in
+    let third : n / 16 % 16 ≡ n % 256 / 16 = omega arith in
+    let fourth : n % 16 ≡ n % 256 % 16 = omega arith in
+    hex4_digits n small ∙ (λ i. glyph (first i) ∷ glyph (n / 256 % 16) ∷ glyph (third i) ∷ glyph (fourth i) ∷ [])
+
 -- the numbers of a line in their places, and then the paths
 pub line_by_places : (s : SubId) (v : View) → s.image.css < 16 → s.image.mif < 16 → s.set < 16 → s.number < 65536 → v.device < 65536 → v.pim < 256 → v.pam < 256
     → glyph s.image.css ∷ 32 ∷ 32 ∷ 32 ∷ glyph s.image.mif ∷ 32 ∷ 32 ∷ glyph s.set ∷ 32 ∷ 32 ∷ 32
-    ∷ glyph (s.number / 4096) ∷ glyph (s.number / 256 % 16) ∷ glyph (s.number / 16 % 16) ∷ glyph (s.number % 16) ∷ 32
-    ∷ glyph (v.device / 4096) ∷ glyph (v.device / 256 % 16) ∷ glyph (v.device / 16 % 16) ∷ glyph (v.device % 16) ∷ 32
+    ∷ glyph (s.number / 256 / 16) ∷ glyph (s.number / 256 % 16) ∷ glyph (s.number % 256 / 16) ∷ glyph (s.number % 256 % 16) ∷ 32
+    ∷ glyph (v.device / 256 / 16) ∷ glyph (v.device / 256 % 16) ∷ glyph (v.device % 256 / 16) ∷ glyph (v.device % 256 % 16) ∷ 32
     ∷ glyph (v.pim / 16) ∷ glyph (v.pim % 16) ∷ 32 ∷ 32 ∷ glyph (v.pam / 16) ∷ glyph (v.pam % 16) ∷ 32 ∷ chpids v.paths
     ≡ line_of (s, v)
 line_by_places s v css mif set number device pim pam =
@@ -18,8 +28,8 @@ line_by_places s v css mif set number device pim pam =
       left3_digits s.image.css css,
       left2_digits s.image.mif mif,
       left3_digits s.set set,
-      hex4_digits s.number number,
-      hex4_digits v.device device,
+      hex4_pairs s.number number,
+      hex4_pairs v.device device,
       hex2_digits v.pim pim,
       hex2_digits v.pam pam,
     ) refl

@@ -1,13 +1,12 @@
 -- What is shown of a configuration as it is opened, by its first breach.
-use Rattle.std.proofs.Common.{◌≡◌, ◌⊎◌, ℕ, List, Option, None, Some, Result, Ok, Err, IfOk, inl, inr, sym, ap, subst, ◌∙◌}
+use Rattle.std.proofs.Common.{◌≡◌, ℕ, List, Option, Result, Ok, Err, IfOk, inl, sym, ap, subst}
 use Rattle.iocm_model.specs.Machine.Configuration.{Configuration}
 use Rattle.iocm_model.specs.Machine.Numbering.{Numbering, opening}
 use Rattle.iocm_model.specs.Rules.FirstBreach.{Breach, first_breach}
 use Rattle.iocm_console.specs.declared.output.Output.{Output}
 use Rattle.iocm_console.specs.declared.status.Status.{Status}
 use Rattle.iocm_console.specs.declared.error.ConsoleError.{ConsoleError}
-use Rattle.iocm_types.specs.Fault.{memory}
-use Rattle.iocm_console.specs.Opening.{Shown, breached, unless_breached, opened, refused, Says, SaysIfMemory}
+use Rattle.iocm_console.specs.Opening.{Shown, unless_breached, opened, Says, SaysIfMemory}
 
 -- with this first breach at its numbers at opening
 pub opened_is : (show : Configuration → Numbering → Shown) (c : Configuration) (b : Option Breach)

@@ -1,5 +1,5 @@
 -- Refusals of changes as they are stated by hand: about a subchannel, and about a change.
-use Rattle.std.specs.Prelude.{◌≡◌, ℕ, None, Some, codes}
+use Rattle.std.specs.Prelude.{◌≡◌, None, Some, codes}
 use Rattle.iocm_types.specs.declared.refused.At.TheVariants.{Subchannel, Change}
 use Rattle.iocm_types.specs.declared.refused.Refused.{Refused}
 use Rattle.iocm_types.specs.declared.rule.Rule.TheVariants.{B1, J2}

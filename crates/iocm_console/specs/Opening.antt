@@ -1,11 +1,9 @@
 -- A deck that is opened: what it describes is a configuration that keeps the rules, or it is
 -- refused.
-use Rattle.std.specs.Prelude.{◌≡◌, ◌⊎◌, ℕ, List, ◌∷◌, [], ◌++◌, codes, Option, None, Some, Result, Ok, Err}
+use Rattle.std.specs.Prelude.{◌≡◌, ◌⊎◌, ℕ, List, Option, None, Some, Result, Ok, Err}
 use Rattle.iocm_types.specs.declared.fault.Fault.{Fault}
 use Rattle.iocm_types.specs.declared.refused.Refused as refusal
 use Rattle.iocm_types.specs.Fault.{◌>>=◌, memory}
-use Rattle.iocm_types.specs.Key.{key_text}
-use Rattle.iocm_types.specs.Rule.{rule_text}
 use Rattle.iocm_columns.specs.declared.card.Card.{Card}
 use Rattle.iocm_columns.specs.Statements.{statements_of}
 use Rattle.iocm_statements.specs.declared.statement.Statement.{Statement}

@@ -3,7 +3,7 @@ ghost use Rattle.std.specs.Io.KnownBytes.{Appends};
 ghost use Rattle.arrayvec.specs.ArrayVec.{array_vec_len};
 ghost use Rattle.iocm_model.specs.Machine.Table.{line_of, heading, chpids};
 
-use crate::digits::digit;
+use crate::digits::{digit, digits};
 use arrayvec::ArrayVec;
 use iocm_types::{Chpid, SubId, View};
 use std::io;
@@ -52,10 +52,10 @@ fn put_path(line: &mut ArrayVec<u8, LONGEST>, path: Chpid)
     ensures text { line.new.items ≡ line.old.items ++ chpids (path ∷ []) }
     ensures length { array_vec_len line.new ≡ array_vec_len line.old + 3 }
 {
-    let number = path.number();
+    let [high, low] = digits(path.number());
     line.push(b' ');
-    line.push(digit(number / 16));
-    line.push(digit(number % 16));
+    line.push(high);
+    line.push(low);
 }
 
 /// The part of a line before its paths, 28 places.
@@ -63,10 +63,13 @@ fn put_path(line: &mut ArrayVec<u8, LONGEST>, path: Chpid)
 fn numbers(id: SubId, view: &View) -> [u8; 28]
     ensures { result ++ chpids view.now.paths ≡ line_of (id, view.now) }
 {
-    let number = id.number;
+    let [n1, n2] = digits((id.number / 256) as u8);
+    let [n3, n4] = digits((id.number % 256) as u8);
     let device = view.device.number();
-    let pim = view.pim.bits();
-    let pam = view.pam.bits();
+    let [d1, d2] = digits((device / 256) as u8);
+    let [d3, d4] = digits((device % 256) as u8);
+    let [i1, i2] = digits(view.pim.bits());
+    let [a1, a2] = digits(view.pam.bits());
     [
         digit(id.image.css.number()),
         b' ',
@@ -79,22 +82,22 @@ fn numbers(id: SubId, view: &View) -> [u8; 28]
         b' ',
         b' ',
         b' ',
-        digit((number / 4096) as u8),
-        digit((number / 256 % 16) as u8),
-        digit((number / 16 % 16) as u8),
-        digit((number % 16) as u8),
+        n1,
+        n2,
+        n3,
+        n4,
         b' ',
-        digit((device / 4096) as u8),
-        digit((device / 256 % 16) as u8),
-        digit((device / 16 % 16) as u8),
-        digit((device % 16) as u8),
+        d1,
+        d2,
+        d3,
+        d4,
         b' ',
-        digit(pim / 16),
-        digit(pim % 16),
+        i1,
+        i2,
         b' ',
         b' ',
-        digit(pam / 16),
-        digit(pam % 16),
+        a1,
+        a2,
         b' ',
     ]
 }

@@ -1,7 +1,7 @@
 -- By the first breach of what is opened.
 use Rattle.std.proofs.Common.{None, Some}
 use Rattle.iocm_model.specs.Machine.Numbering.{opening}
-use Rattle.iocm_console.specs.Opening.{opened, breached, refused}
+use Rattle.iocm_console.specs.Opening.{opened, breached}
 use Rattle.iocm_console.specs.Command.{shown_by}
 use Rattle.iocm_console.proofs.Opened.{opened_is, says_named, says_surely}
 use Rattle.iocm_console.proofs.Showing.{says_memory}
