@@ -26,15 +26,18 @@ at_end [] x = refl
 at_end (y ∷ xs) x = at_end xs x
 
 -- the answer with the newest change's number tells of it
-pub told_newest : (fs : List Effect) (f : Effect) (n : ℕ) → n ≡ length fs + 1 → effect_told (fs ++ f ∷ []) (answers.Changed n) ≡ effect_in f
+pub told_newest : (fs : List Effect) (f : Effect) (n : ℕ) → n ≡ length fs + 1
+    → effect_told (fs ++ f ∷ []) (answers.Changed n) ≡ effect_in f
 told_newest fs f n is =
     let place : n - 1 ≡ length fs = omega (arith, is) in
-    ap (λ k. option_map_or effect_in (slice_get (fs ++ f ∷ []) k) no_effect) place ∙ ap (λ o. option_map_or effect_in o no_effect) (at_end fs f)
+    ap (λ k. option_map_or effect_in (slice_get (fs ++ f ∷ []) k) no_effect) place
+    ∙ ap (λ o. option_map_or effect_in o no_effect) (at_end fs f)
 
-module _ (opening : State) (h : History) (m n : Installation) (it : IsInstallationOf opening h m) (call : Call) (done : Done) (c : Change) (told : Tells done c)
+module _ (opening : State) (h : History) (m n : Installation) (it : IsInstallationOf opening h m) (call : Call)
+    (done : Done) (c : Change) (told : Tells done c)
     (accepts : AcceptsOne done m n) where
   abbrev number : ℕ
-  number = length m.journal.changes.items + 1
+  number = length m.journal.changes + 1
 
   abbrev e : Entry
   e = record { call = call; answer = answers.Changed ((journal_of h).count + 1); effect = effect_of_change c }
@@ -57,7 +60,15 @@ module _ (opening : State) (h : History) (m n : Installation) (it : IsInstallati
     is = subst (λ z. IsInstallationOf opening (z ∷ h) n) (sym entry_is) (record {
       journal = subst (IsJournalOf opening (e ∷ h) n.journal) (sym accepts.changes)
           (accepts.journal.takes_in opening h m.changes.items e done.effect it.journal
-          (record { right = right; answer = refl; change = c; there = there; takes_back = told.inverse; told = told.performed; wrote = told.effect }));
+          (record {
+            right = right;
+            answer = refl;
+            change = c;
+            there = there;
+            takes_back = told.inverse;
+            told = told.performed;
+            wrote = told.effect;
+          }));
       stage = subst (λ g. IsStagedAs g n.stage (state_at opening (e ∷ h)) n.plant) (sym idle)
           (subst (λ g. IsStagedAs None g (state_at opening (e ∷ h)) n.plant) (sym none) state);
       room = subst (λ g. HasRoomFor g n) (sym none) tt;

@@ -8,7 +8,8 @@ use Rattle.iocm_journal.specs.Now.{IsJournalOf}
 use Rattle.iocm_core.specs.Running.{IsStagedAs, HasRoomFor, IsInstallationOf}
 use Rattle.iocm_core.specs.declared.installation.Installation.{Installation}
 
-pub nothing_asked : (s : State) (m : Installation) → IsInUse s → IsJournalOf s [] m.journal [] → m.changes.items ≡ [] → m.stage ≡ None → m.plant.state ≡ s → IsInstallationOf s [] m
+pub nothing_asked : (s : State) (m : Installation) → IsInUse s → IsJournalOf s [] m.journal [] → m.changes.items ≡ []
+    → m.stage ≡ None → m.plant.state ≡ s → IsInstallationOf s [] m
 unfolding account
 nothing_asked s m used journal changes none state = record {
   journal = subst (IsJournalOf s [] m.journal) (sym changes) journal;

@@ -15,7 +15,8 @@ use Rattle.iocm_core.specs.Running.{IsStagedAs, IsInstallationOf}
 use Rattle.iocm_core.specs.declared.installation.Installation.{Installation}
 
 -- with an entry that changes nothing, an installation is that of the history with it
-pub idle_now : OtherEntriesLeaveIt → (opening : State) (h : History) (m : Installation) (e : Entry) → IsInstallationOf opening h m → IsRight opening h e → LeavesTheJournal e.answer → LeavesTheState e.answer
+pub idle_now : OtherEntriesLeaveIt → (opening : State) (h : History) (m : Installation) (e : Entry)
+    → IsInstallationOf opening h m → IsRight opening h e → LeavesTheJournal e.answer → LeavesTheState e.answer
     → stage_of opening (e ∷ h) ≡ stage_of opening h → IsInstallationOf opening (e ∷ h) m
 idle_now others opening h m e it right same_journal same_state stage = record {
   journal = others opening h e m.journal m.changes.items it.journal right same_journal;
@@ -31,7 +32,8 @@ idle_now others opening h m e it right same_journal same_state stage = record {
         (subst (λ s. IsStagedAs (stage_of opening h) m.stage s m.plant) (sym state) it.stage)
 
 -- a refused call leaves what is staged
-pub refused_stage : (opening : State) (h : History) (call : Call) (why : Refused) → stage_of opening (plain_entry call (answers.Refused why) ∷ h) ≡ stage_of opening h
+pub refused_stage : (opening : State) (h : History) (call : Call) (why : Refused)
+    → stage_of opening (plain_entry call (answers.Refused why) ∷ h) ≡ stage_of opening h
 unfolding account
 refused_stage opening h (at x made) why = refl
 refused_stage opening h (activate p) why = refl
@@ -44,11 +46,16 @@ refused_stage opening h (redo n) why = refl
 refused_stage opening h show why = refl
 
 -- a refused call leaves the installation
-pub refused_now : OtherEntriesLeaveIt → (opening : State) (h : History) (m : Installation) (call : Call) (why : Refused) → IsInstallationOf opening h m → IsRight opening h (plain_entry call (answers.Refused why))
+pub refused_now : OtherEntriesLeaveIt
+    → (opening : State) (h : History) (m : Installation) (call : Call) (why : Refused) → IsInstallationOf opening h m
+    → IsRight opening h (plain_entry call (answers.Refused why))
     → IsInstallationOf opening (plain_entry call (answers.Refused why) ∷ h) m
-refused_now others opening h m call why it right = idle_now others opening h m (plain_entry call (answers.Refused why)) it right tt tt (refused_stage opening h call why)
+refused_now others opening h m call why it right =
+    idle_now others opening h m (plain_entry call (answers.Refused why)) it right tt tt
+    (refused_stage opening h call why)
 
 -- nor does one that shows
-pub shown_stage : (opening : State) (h : History) (counts : Counts) → stage_of opening (plain_entry show (answers.Shown counts) ∷ h) ≡ stage_of opening h
+pub shown_stage : (opening : State) (h : History) (counts : Counts)
+    → stage_of opening (plain_entry show (answers.Shown counts) ∷ h) ≡ stage_of opening h
 unfolding account
 shown_stage opening h counts = refl

@@ -1,10 +1,13 @@
 -- A history with one entry more, as it is told.
-use Rattle.std.proofs.Common.{◌≡◌, ◌≤◌, ◌<◌, ℕ, zero, suc, ◌+◌, ◌-◌, List, [], ◌∷◌, ◌++◌, length, map, reverse, refl, sym, ap, ◌∙◌, arith}
+use Rattle.std.proofs.Common.{◌≡◌, ◌≤◌, ◌<◌, ℕ, zero, suc, ◌+◌, ◌-◌, List, [], ◌∷◌, ◌++◌}
+use Rattle.std.proofs.Common.{length, map, reverse, refl, sym, ap, ◌∙◌, arith}
 use Rattle.std.proofs.lemmas.List.{append-nil, map-append, reverse-append, length-map, length-reverse, length-append}
 use Rattle.std.specs.List.{slice_get, AllByRecursion}
 use Rattle.std.specs.Option.{option_map_or}
 use Rattle.iocm_types.specs.declared.answer.Answer.{Answer}
 use Rattle.iocm_types.specs.declared.answer.Answer.TheVariants as answers
+use Rattle.iocm_model.specs.Change.Effect as model
+use Rattle.iocm_history.specs.Entry as history
 use Rattle.iocm_history.specs.Entry.{no_effect}
 use Rattle.iocm_activate.specs.Effects.{effect_in}
 use Rattle.iocm_activate.specs.declared.effect.Effect.{Effect}
@@ -20,7 +23,8 @@ at_front (x ∷ xs) ys (suc n) low = at_front xs ys n (omega arith)
 -- what an answer tells of stays, where more is known of changes
 told_still : (fs gs : List Effect) (answer : Answer) → IsWithin (length fs) answer → effect_told (fs ++ gs) answer ≡ effect_told fs answer
 told_still fs gs (answers.Changed n) within =
-    let low = within.0 in let high = within.1 in ap (λ o. option_map_or effect_in o no_effect) (at_front fs gs (n - 1) (omega (arith, low, high)))
+    let low = within.0 in let high = within.1 in
+    ap (λ o. option_map_or effect_in o no_effect) (at_front fs gs (n - 1) (omega (arith, low, high)))
 told_still fs gs (answers.Io io) within = refl
 told_still fs gs (answers.Begun b) within = refl
 told_still fs gs (answers.Ended b) within = refl
@@ -70,21 +74,29 @@ going_on (answers.Redone n) old new same = record { more = []; is = same ∙ sym
 going_on (answers.Shown n) old new same = record { more = []; is = same ∙ sym (append-nil old); within = tt }
 going_on (answers.Refused why) old new same = record { more = []; is = same ∙ sym (append-nil old); within = tt }
 
+abbrev entry_with : history.Call → Answer → model.Effect → history.Entry
+entry_with call answer effect = record { call = call; answer = answer; effect = effect }
+
 -- the entries so far tell the same
-entries_still : (fs gs : List Effect) (es : List Entry) → AllByRecursion (λ (e : Entry). IsWithin (length fs) e.answer) es → map (entry_in (fs ++ gs)) es ≡ map (entry_in fs) es
+entries_still : (fs gs : List Effect) (es : List Entry)
+    → AllByRecursion (λ (e : Entry). IsWithin (length fs) e.answer) es
+    → map (entry_in (fs ++ gs)) es ≡ map (entry_in fs) es
 entries_still fs gs [] within = refl
 entries_still fs gs (e ∷ es) within =
-    (λ i. record { call = call_in e.call; answer = e.answer; effect = told_still fs gs e.answer within.0 i } ∷ entries_still fs gs es within.1 i)
+    (λ i. entry_with (call_in e.call) e.answer (told_still fs gs e.answer within.0 i) ∷ entries_still fs gs es within.1 i)
 
 -- the history with one entry more
-pub one_more : (old new : List Effect) (es : List Entry) (e : Entry) → AllByRecursion (λ (d : Entry). IsWithin (length old) d.answer) es → GoesOnWith e.answer old new
+pub one_more : (old new : List Effect) (es : List Entry) (e : Entry)
+    → AllByRecursion (λ (d : Entry). IsWithin (length old) d.answer) es → GoesOnWith e.answer old new
     → history_in new (es ++ e ∷ []) ≡ entry_told new (call_in e.call) e.answer ∷ history_in old es
 one_more old new es e within goes =
     let m = going_on e.answer old new goes in
     ap reverse (map-append (entry_in new) es (e ∷ [])) ∙ reverse-append (map (entry_in new) es) (entry_in new e ∷ [])
-    ∙ ap (λ ds. entry_told new (call_in e.call) e.answer ∷ reverse ds) (ap (λ fs. map (entry_in fs) es) m.is ∙ entries_still old m.more es within)
+    ∙ ap (λ ds. entry_told new (call_in e.call) e.answer ∷ reverse ds)
+    (ap (λ fs. map (entry_in fs) es) m.is ∙ entries_still old m.more es within)
 
-all_more : (k l : ℕ) → k ≤ l → (es : List Entry) → AllByRecursion (λ (d : Entry). IsWithin k d.answer) es → AllByRecursion (λ (d : Entry). IsWithin l d.answer) es
+all_more : (k l : ℕ) → k ≤ l → (es : List Entry) → AllByRecursion (λ (d : Entry). IsWithin k d.answer) es
+    → AllByRecursion (λ (d : Entry). IsWithin l d.answer) es
 all_more k l more [] within = tt
 all_more k l more (e ∷ es) within = (within_more k l more e.answer within.0, all_more k l more es within.1)
 
@@ -94,7 +106,8 @@ one_behind k [] e all one = (one, tt)
 one_behind k (d ∷ es) e all one = (all.0, one_behind k es e all.1 one)
 
 -- and each of its answers tells of one of the changes that are known
-pub within_still : (old new : List Effect) (es : List Entry) (e : Entry) → AllByRecursion (λ (d : Entry). IsWithin (length old) d.answer) es → GoesOnWith e.answer old new
+pub within_still : (old new : List Effect) (es : List Entry) (e : Entry)
+    → AllByRecursion (λ (d : Entry). IsWithin (length old) d.answer) es → GoesOnWith e.answer old new
     → AllByRecursion (λ (d : Entry). IsWithin (length new) d.answer) (es ++ e ∷ [])
 within_still old new es e within goes =
     let m = going_on e.answer old new goes in

@@ -14,6 +14,7 @@ use Rattle.iocm_activate.proofs.effect.Effect.TheSendSync as effect
 use Rattle.iocm_activate.specs.contracts.effect.Effect as Effect
 use Rattle.iocm_activate.specs.contracts.done.Done as Done
 use Rattle.iocm_journal.specs.contracts.journal.Journal as Journal
+use Rattle.iocm_journal.specs.contracts.journal.Journal.TheInside as journal_inside
 use Rattle.iocm_journal.specs.contracts.kept.Kept as Kept
 use Rattle.iocm_journal.specs.contracts.kept.Undone as Undone
 use Rattle.iocm_plant.proofs.touched.Touched.TheSendSync as touched
@@ -41,22 +42,42 @@ touched_send : IsSend Touched.the_row
 touched_send = touched.the_send
 
 kept_send : IsSend Kept.the_row
-kept_send = declared_send Kept.the_type (tree_send, (search (touched_send, crosses, sendable) depth 20, (search sendable depth 20, (search sendable depth 20, tt))))
+kept_send =
+    declared_send Kept.the_type (
+      tree_send,
+      (search (touched_send, crosses, sendable) depth 20, (search sendable depth 20, (search sendable depth 20, tt))),
+    )
 
 undone_send : IsSend Undone.the_row
 undone_send = declared_send Undone.the_type (search sendable depth 20, (tree_send, tt))
 
 journal_send : IsSend Journal.the_row
-journal_send = declared_send Journal.the_type (search (kept_send, crosses, sendable) depth 20, (search sendable depth 20, (search (undone_send, crosses, sendable) depth 20, tt)))
+journal_send =
+    view_send _ _ _ _ _
+    (declared_send journal_inside.the_type (
+      search (kept_send, crosses, sendable) depth 20,
+      (search sendable depth 20, (search (undone_send, crosses, sendable) depth 20, tt)),
+    ))
 
 done_send : IsSend Done.the_row
 done_send = declared_send Done.the_type (tree_send, (effect_send, (search (touched_send, crosses, sendable) depth 20, tt)))
 
 staged_send : IsSend Staged.the_row
-staged_send = declared_send Staged.the_type (done_send, (search (edit_send, crosses, sendable) depth 20, (search (edit_send, crosses, sendable) depth 20, tt)))
+staged_send =
+    declared_send Staged.the_type (
+      done_send,
+      (search (edit_send, crosses, sendable) depth 20, (search (edit_send, crosses, sendable) depth 20, tt)),
+    )
 
 installation_send : IsSend Installation.the_row
-installation_send = declared_send Installation.the_type (plant.the_send, (journal_send, (search (staged_send, crosses, sendable) depth 20, (search (effect_send, crosses, sendable) depth 20, tt))))
+installation_send =
+    declared_send Installation.the_type (
+      plant.the_send,
+      (
+        journal_send,
+        (search (staged_send, crosses, sendable) depth 20, (search (effect_send, crosses, sendable) depth 20, tt)),
+      ),
+    )
 
 pub call_send : IsSend Call.the_row
 call_send = search (tree_send, crosses, sendable) depth 60 fits 20000
@@ -65,4 +86,12 @@ pub entry_send : IsSend Entry.the_row
 entry_send = declared_send Entry.the_type (call_send, (answer.the_send, tt))
 
 pub core_send : IsSend Core.the_row
-core_send = view_send _ _ _ _ _ (declared_send inside.the_type (installation_send, (search (config.the_send, crosses, sendable) depth 20, (search (entry_send, crosses, sendable) depth 20, (search sendable depth 20, tt)))))
+core_send =
+    view_send _ _ _ _ _
+    (declared_send inside.the_type (
+      installation_send,
+      (
+        search (config.the_send, crosses, sendable) depth 20,
+        (search (entry_send, crosses, sendable) depth 20, (search sendable depth 20, tt)),
+      ),
+    ))

@@ -1,5 +1,5 @@
 -- What the acceptance of a change, or its beginning, does to an installation.
-use Rattle.std.specs.Prelude.{◌≡◌, ◌<◌, ℕ, ◌+◌, [], ◌∷◌, ◌++◌, length, Ok, Some, None}
+use Rattle.std.specs.Prelude.{◌≡◌, ◌<◌, ℕ, ◌+◌, [], ◌∷◌, ◌++◌, length, Ok, Some, None, IsTrue}
 use Rattle.std.specs.Vec.{vec_len, vec_capacity}
 use Rattle.iocm_model.specs.Operation.State.{State}
 use Rattle.iocm_model.specs.Change.Tree.{ChangeTree}
@@ -20,7 +20,7 @@ pub record KeepsTheRest (old new : Installation) : Type 0 where
 -- there is memory for one more change
 pub record HasRoomForAChange (i : Installation) : Type 0 where
   pub changes : vec_len i.changes < vec_capacity i.changes
-  pub journal : vec_len i.journal.changes < vec_capacity i.journal.changes
+  pub journal : IsTrue i.journal.has_room
 
 -- an installation accepts a change that was done: it knows what that wrote, and its journal accepts
 -- it
@@ -33,7 +33,7 @@ pub record IsAccepted (c : Change) (state : State) (old : Installation) (n : ℕ
   pub done : Done
   pub tells : Tells done c
   pub accepts : AcceptsOne done old new
-  pub number : n ≡ length old.journal.changes.items + 1
+  pub number : n ≡ length old.journal.changes + 1
   pub stage : new.stage ≡ None
   pub state_is : new.plant.state ≡ state
 

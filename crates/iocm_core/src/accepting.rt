@@ -1,4 +1,4 @@
-ghost use Rattle.std.specs.Prelude.{◌≡◌, ◌+◌, ◌≤◌, length, OnOk};
+ghost use Rattle.std.specs.Prelude.{◌≡◌, ◌+◌, length, OnOk};
 ghost use Rattle.iocm_core.specs.Accepting.{AcceptsOne, HasRoomForAChange, KeepsTheRest};
 
 use crate::installation::Installation;
@@ -20,9 +20,8 @@ impl Installation {
     /// Accepts a change that was done, for which there is memory. It gives the change's number.
     /// Can't answer want of memory.
     pub fn accept(&mut self, done: Done) -> u64
-        requires room { HasRoomForAChange self.old }
-        requires few { self.old.journal.standing ≤ length self.old.journal.changes.items }
-        ensures number { result ≡ length self.old.journal.changes.items + 1 }
+        requires { HasRoomForAChange self.old }
+        ensures number { result ≡ length self.old.journal.changes + 1 }
         ensures accepted { AcceptsOne done self.old self.new }
         ensures plant { self.new.plant ≡ self.old.plant }
         ensures stage { self.new.stage ≡ self.old.stage }

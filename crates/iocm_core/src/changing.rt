@@ -122,8 +122,7 @@ impl Installation {
         ensures stage { OnErr result (self.new.stage ≡ self.old.stage) }
         ensures rest { OnErr result (KeepsTheRest self.old self.new) }
     {
-        // For the proof alone: no more changes stand than were accepted, and the journal with room
-        // is one of the same history.
+        // For the proof alone: the journal with room is one of the same history.
         journals_keep_to_histories();
         if self.make_room().is_err() {
             return Err(Refused::NO_MEMORY);

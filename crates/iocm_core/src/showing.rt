@@ -32,7 +32,7 @@ impl Core {
     pub fn changes(&self) -> u64
         ensures { result ≡ (journal_of self.now.history).count }
     {
-        self.installation.journal.changes.len() as u64
+        self.installation.journal.count()
     }
 
     /// How many edits were advanced of the change in stages, if one was begun.

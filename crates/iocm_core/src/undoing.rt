@@ -65,8 +65,8 @@ impl Installation {
         Answer::Shown(Counts {
             records: self.plant.config().len() as u64,
             subchannels: self.plant.subchannels() as u64,
-            standing: self.journal.standing,
-            undone: self.journal.undone(),
+            standing: self.journal.standing(),
+            undone: self.journal.undone_count(),
         })
     }
 }

@@ -14,8 +14,8 @@ use Rattle.iocm_tree.specs.Trees.{plain_tree, tree_of}
 use Rattle.iocm_activate.specs.declared.done.Done.{Done}
 use Rattle.iocm_activate.specs.declared.effect.Effect.{Effect}
 use Rattle.iocm_stage.specs.Staged.{Tells}
+use Rattle.iocm_journal.specs.Journaled.{Journaled}
 use Rattle.iocm_journal.specs.Now.{IsJournalOf}
-use Rattle.iocm_journal.specs.declared.journal.Journal.{Journal}
 use Rattle.iocm_journal.specs.declared.kept.Kept.{Kept}
 
 -- a kept change is there in the history, under its number, and its inverse tree takes it back
@@ -26,8 +26,8 @@ pub record HasItsInverse (opening : State) (h : History) (n : ℕ) (k : Kept) : 
 
 -- so it is of each change of a journal beside its history, counted from 1
 abbrev pub KeptInversesTakeBack : Type 0
-KeptInversesTakeBack = (opening : State) (h : History) (j : Journal) (fs : List Effect) (n : ℕ) (k : Kept) (f : Effect)
-    → IsJournalOf opening h j fs → slice_get j.changes.items n ≡ Some k → slice_get fs n ≡ Some f
+KeptInversesTakeBack = (opening : State) (h : History) (j : Journaled) (fs : List Effect) (n : ℕ) (k : Kept)
+    (f : Effect) → IsJournalOf opening h j fs → slice_get j.changes n ≡ Some k → slice_get fs n ≡ Some f
     → HasItsInverse opening h (n + 1) k
 
 -- and of what is told of a change that is staged in a legal history

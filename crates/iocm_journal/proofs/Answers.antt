@@ -1,11 +1,20 @@
--- Answers that leave a journal as it is.
-use Rattle.std.proofs.Common.{◌≡◌, ℕ, false, refl}
+-- Answers that leave a journal as it is, and refusals as answers.
+use Rattle.std.proofs.Common.{◌≡◌, ℕ, false, Option, Some, None, option_map, refl}
 use Rattle.iocm_types.specs.declared.answer.Answer.{Answer}
 use Rattle.iocm_types.specs.declared.answer.Answer.TheVariants as answers
+use Rattle.iocm_types.specs.declared.sub_id.SubId.{SubId}
 use Rattle.iocm_history.specs.Journal.{Journal, journal_after}
+use Rattle.iocm_history.specs.Legal.{unless_not_quiet}
 use Rattle.iocm_history.specs.RedoLaws.{undoes_or_redoes}
 use Rattle.iocm_history.specs.Reckoning.{undone_then}
 use Rattle.iocm_journal.specs.Answering.{LeavesTheJournal}
+use Rattle.iocm_journal.specs.Deciding.{not_quiet, unless_refused}
+
+-- a refusal with B1, as an answer
+pub unless_busy : (answer : Answer) (quiet : Option SubId)
+    → unless_refused answer (option_map not_quiet quiet) ≡ unless_not_quiet quiet answer
+unless_busy answer (Some x) = refl
+unless_busy answer None = refl
 
 pub same_journal : (a : Answer) (b : Journal) → LeavesTheJournal a → journal_after a b ≡ b
 same_journal (answers.Io io) b stays = refl

@@ -1,5 +1,6 @@
 -- A journal of a history is one of the history with an entry more.
-use Rattle.std.proofs.Common.{◌≡◌, ◌⊎◌, inl, inr, ℕ, zero, suc, ◌+◌, ◌≤◌, true, false, Some, List, [], ◌∷◌, ◌++◌, length, map, reverse, Vec, Global, refl, sym, ap, subst, ◌∙◌, arith}
+use Rattle.std.proofs.Common.{◌≡◌, ◌⊎◌, inl, inr, ℕ, zero, suc, ◌+◌, ◌≤◌, true, false, Some, List, [], ◌∷◌, ◌++◌}
+use Rattle.std.proofs.Common.{length, map, reverse, Vec, Global, refl, sym, ap, subst, ◌∙◌, arith}
 use Rattle.std.proofs.lemmas.Bool.{or_from, eq-eqb, ne_eqb}
 use Rattle.std.proofs.lemmas.List.{length-append}
 use Rattle.std.proofs.lemmas.Option.{slice_get_within}
@@ -7,12 +8,14 @@ use Rattle.std.specs.List.{slice_get, AllByRecursion}
 use Rattle.iocm_types.specs.declared.answer.Answer.TheVariants as answers
 use Rattle.iocm_model.specs.Operation.State.{State}
 use Rattle.iocm_model.specs.Change.InverseTree.{inverse_tree}
+use Rattle.iocm_model.specs.Change.Meaning.{meaning, state_reached}
+use Rattle.iocm_model.specs.Change.Tree.{ChangeTree}
 use Rattle.iocm_history.specs.Entry.{Entry, History}
 use Rattle.iocm_history.specs.Change.{Change, effect_of_change}
 use Rattle.iocm_history.specs.MarkedEntry.{change_at}
-use Rattle.iocm_history.specs.Account.{marked_entries}
+use Rattle.iocm_history.specs.Account.{marked_entries, state_at}
 use Rattle.iocm_history.specs.Journal.{is_in, journal_after, journal_of}
-use Rattle.iocm_history.specs.Legal.{IsRight}
+use Rattle.iocm_history.specs.Legal.{IsLegal, IsRight}
 use Rattle.iocm_history.specs.RedoLaws.{undoes_or_redoes}
 use Rattle.iocm_tree.specs.Trees.{plain_tree, tree_of}
 use Rattle.iocm_tree.specs.declared.tree.Tree.{Tree}
@@ -28,7 +31,7 @@ use Rattle.iocm_journal.specs.Kept.{IsKept, IsRedoable}
 use Rattle.iocm_journal.specs.Now.{IsJournalOf}
 use Rattle.iocm_journal.specs.declared.kept.Kept.{Kept}
 use Rattle.iocm_journal.specs.declared.kept.Undone.{Undone}
-use Rattle.iocm_journal.specs.declared.journal.Journal.{Journal}
+use Rattle.iocm_journal.specs.Journaled.{Journaled}
 use Rattle.iocm_journal.proofs.Answers.{same_journal, same_undone, no_undo}
 use Rattle.iocm_history.proofs.Found.{changes_stay_there}
 use Rattle.iocm_journal.proofs.NeverUndone.{never_undone}
@@ -36,7 +39,8 @@ use Rattle.iocm_journal.proofs.NeverUndone.{never_undone}
 -- ---- places
 
 -- an item of a list to which one was added is one of the list, or the new one
-pub of_pushed : {A : Type 0} (xs : List A) (x : A) (n : ℕ) (y : A) → slice_get (xs ++ x ∷ []) n ≡ Some y → (slice_get xs n ≡ Some y) ⊎ ((n ≡ length xs) × (x ≡ y))
+pub of_pushed : {A : Type 0} (xs : List A) (x : A) (n : ℕ) (y : A) → slice_get (xs ++ x ∷ []) n ≡ Some y
+    → (slice_get xs n ≡ Some y) ⊎ ((n ≡ length xs) × (x ≡ y))
 of_pushed [] x zero y is = inr (refl, cc)
 of_pushed [] x (suc n) y is = cc
 of_pushed (z ∷ xs) x zero y is = inl is
@@ -48,6 +52,11 @@ of_pushed (z ∷ xs) x (suc n) y is = by (of_pushed xs x n y is)
 
 one_more : (n : ℕ) → n + 1 ≡ suc n
 one_more n = omega arith
+
+-- a history with an entry is legal, and leads to what a tree means in the state before
+abbrev pub MeansWith : State → History → Entry → ChangeTree → Type 0
+MeansWith opening h e t =
+    IsLegal opening (e ∷ h) × (state_reached (meaning t (state_at opening h)) ≡ Some (state_at opening (e ∷ h)))
 
 -- ---- a change that is undone stays so
 
@@ -70,7 +79,8 @@ module _ (opening : State) (h : History) (e : Entry) where
 
 -- ---- an entry that leaves the journal
 
-module _ (opening : State) (h : History) (e : Entry) (j : Journal) (fs : List Effect) (i : IsJournalOf opening h j fs) (right : IsRight opening h e)
+module _ (opening : State) (h : History) (e : Entry) (j : Journaled) (fs : List Effect)
+    (i : IsJournalOf opening h j fs) (right : IsRight opening h e)
     (stays : LeavesTheJournal e.answer) where
   journal_same : journal_of (e ∷ h) ≡ journal_of h
   journal_same = same_journal e.answer (journal_of h) stays
@@ -96,16 +106,19 @@ module _ (opening : State) (h : History) (e : Entry) (j : Journal) (fs : List Ef
     legal = (right, i.legal);
     count = ap (λ b. b.count) journal_same ∙ i.count;
     effects = i.effects;
-    kept = λ n k f at_k at_f. kept_still (n + 1) k f (let within = slice_get_within j.changes.items n k at_k in let all = i.count in omega arith) (i.kept n k f at_k at_f);
+    kept = λ n k f at_k at_f. kept_still (n + 1) k f (let within = slice_get_within j.changes n k at_k in
+        let all = i.count in omega arith) (i.kept n k f at_k at_f);
     standing = i.standing ∙ sym (ap (λ b. length b.standing) journal_same);
     undone = i.undone ∙ sym (ap (λ b. reverse b.undone) journal_same);
-    redoable = all_redoable_still opening h e j.undone.items (none_undone j.undone.items) i.redoable;
+    redoable = all_redoable_still opening h e j.undone (none_undone j.undone) i.redoable;
   }
 
 -- ---- a change that is accepted
 
-module _ (opening : State) (h : History) (e : Entry) (j : Journal) (fs : List Effect) (i : IsJournalOf opening h j fs) (right : IsRight opening h e)
-    (answer : e.answer ≡ answers.Changed ((journal_of h).count + 1)) (c : Change) (there : change_at ((journal_of h).count + 1) (marked_entries opening (e ∷ h)) ≡ Some c) where
+module _ (opening : State) (h : History) (e : Entry) (j : Journaled) (fs : List Effect)
+    (i : IsJournalOf opening h j fs) (right : IsRight opening h e)
+    (answer : e.answer ≡ answers.Changed ((journal_of h).count + 1)) (c : Change)
+    (there : change_at ((journal_of h).count + 1) (marked_entries opening (e ∷ h)) ≡ Some c) where
   abbrev count : ℕ
   count = (journal_of h).count
 
@@ -130,7 +143,8 @@ module _ (opening : State) (h : History) (e : Entry) (j : Journal) (fs : List Ef
       in_rest = rw (ne_eqb n (count + 1) (λ same. omega arith)) refl
 
   newest : (k : Kept) (f : Effect) → k.stands ≡ true → k.undone_after ≡ 0 → plain_tree (tree_of k.inverse) ≡ inverse_tree c.edits c.from
-      → AreToldBy k.performed.items (told_of_all c.edits c.from) → effect_in f ≡ effect_of_change c → IsKept opening (e ∷ h) (count + 1) k f
+      → AreToldBy k.performed.items (told_of_all c.edits c.from) → effect_in f ≡ effect_of_change c
+      → IsKept opening (e ∷ h) (count + 1) k f
   newest k f stands never inverse performed effect = record {
     change = c;
     there = there;
@@ -141,8 +155,9 @@ module _ (opening : State) (h : History) (e : Entry) (j : Journal) (fs : List Ef
     undone = never ∙ sym (undone_stays (count + 1) ∙ never_undone opening h (count + 1) i.used i.legal (inr (omega arith)));
   }
 
-  accepted : (j' : Journal) (k : Kept) (f : Effect) → j'.changes.items ≡ j.changes.items ++ k ∷ [] → j'.standing ≡ j.standing + 1 → j'.undone.items ≡ []
-      → k.stands ≡ true → k.undone_after ≡ 0 → plain_tree (tree_of k.inverse) ≡ inverse_tree c.edits c.from → AreToldBy k.performed.items (told_of_all c.edits c.from)
+  accepted : (j' : Journaled) (k : Kept) (f : Effect) → j'.changes ≡ j.changes ++ k ∷ [] → j'.standing ≡ j.standing + 1 → j'.undone ≡ []
+      → k.stands ≡ true → k.undone_after ≡ 0 → plain_tree (tree_of k.inverse) ≡ inverse_tree c.edits c.from
+      → AreToldBy k.performed.items (told_of_all c.edits c.from)
       → effect_in f ≡ effect_of_change c → IsJournalOf opening (e ∷ h) j' (fs ++ f ∷ [])
   accepted j' k f changes standing undone stands never inverse performed effect = record {
     used = i.used;
@@ -150,34 +165,43 @@ module _ (opening : State) (h : History) (e : Entry) (j : Journal) (fs : List Ef
     count = ap (λ b. b.count) journal_then ∙ ap (λ n. n + 1) i.count ∙ sym longer;
     effects = length-append fs (f ∷ []) ∙ ap (λ n. n + 1) i.effects ∙ sym longer;
     kept = each;
-    standing = standing ∙ ap (λ n. n + 1) i.standing ∙ one_more (length (journal_of h).standing) ∙ sym (ap (λ b. length b.standing) journal_then);
+    standing = standing ∙ ap (λ n. n + 1) i.standing ∙ one_more (length (journal_of h).standing)
+        ∙ sym (ap (λ b. length b.standing) journal_then);
     undone = ap (map (λ (u : Undone). u.number)) undone ∙ sym (ap (λ b. reverse b.undone) journal_then);
     redoable = subst (AllByRecursion (IsRedoable opening (e ∷ h))) (sym undone) tt;
   }
     where
-      longer : length j'.changes.items ≡ length j.changes.items + 1
-      longer = ap length changes ∙ length-append j.changes.items (k ∷ [])
+      longer : length j'.changes ≡ length j.changes + 1
+      longer = ap length changes ∙ length-append j.changes (k ∷ [])
 
-      old_kept : (n : ℕ) (l : Kept) (g : Effect) → slice_get j.changes.items n ≡ Some l → slice_get fs n ≡ Some g → IsKept opening (e ∷ h) (n + 1) l g
-      old_kept n l g at_l at_g = older (n + 1) l g (let within = slice_get_within j.changes.items n l at_l in let all = i.count in omega arith) (i.kept n l g at_l at_g)
+      old_kept : (n : ℕ) (l : Kept) (g : Effect) → slice_get j.changes n ≡ Some l → slice_get fs n ≡ Some g
+          → IsKept opening (e ∷ h) (n + 1) l g
+      old_kept n l g at_l at_g = older (n + 1) l g (let within = slice_get_within j.changes n l at_l in
+          let all = i.count in omega arith) (i.kept n l g at_l at_g)
 
-      new_kept : (n : ℕ) (l : Kept) (g : Effect) → n ≡ length j.changes.items → k ≡ l → f ≡ g → IsKept opening (e ∷ h) (n + 1) l g
+      new_kept : (n : ℕ) (l : Kept) (g : Effect) → n ≡ length j.changes → k ≡ l → f ≡ g → IsKept opening (e ∷ h) (n + 1) l g
       new_kept n l g at is_k is_f = subst (λ z. IsKept opening (e ∷ h) (z + 1) l g) (i.count ∙ sym at)
-          (subst (λ z. IsKept opening (e ∷ h) (count + 1) z g) is_k (subst (λ z. IsKept opening (e ∷ h) (count + 1) k z) is_f (newest k f stands never inverse performed effect)))
+          (subst (λ z. IsKept opening (e ∷ h) (count + 1) z g) is_k
+          (subst (λ z. IsKept opening (e ∷ h) (count + 1) k z) is_f
+          (newest k f stands never inverse performed effect)))
 
-      by : (n : ℕ) (l : Kept) (g : Effect) → (slice_get j.changes.items n ≡ Some l) ⊎ ((n ≡ length j.changes.items) × (k ≡ l))
+      by : (n : ℕ) (l : Kept) (g : Effect) → (slice_get j.changes n ≡ Some l) ⊎ ((n ≡ length j.changes) × (k ≡ l))
           → (slice_get fs n ≡ Some g) ⊎ ((n ≡ length fs) × (f ≡ g)) → IsKept opening (e ∷ h) (n + 1) l g
       by n l g (inl at_l) (inl at_g) = old_kept n l g at_l at_g
       by n l g (inr at_l) (inr at_g) = new_kept n l g at_l.0 at_l.1 at_g.1
-      by n l g (inl at_l) (inr at_g) = let within = slice_get_within j.changes.items n l at_l in let same = i.effects in let end = at_g.0 in absurd (omega arith)
-      by n l g (inr at_l) (inl at_g) = let within = slice_get_within fs n g at_g in let same = i.effects in let end = at_l.0 in absurd (omega arith)
+      by n l g (inl at_l) (inr at_g) = let within = slice_get_within j.changes n l at_l in let same = i.effects in
+          let end = at_g.0 in absurd (omega arith)
+      by n l g (inr at_l) (inl at_g) = let within = slice_get_within fs n g at_g in let same = i.effects in
+          let end = at_l.0 in absurd (omega arith)
 
-      each : (n : ℕ) (l : Kept) (g : Effect) → slice_get j'.changes.items n ≡ Some l → slice_get (fs ++ f ∷ []) n ≡ Some g → IsKept opening (e ∷ h) (n + 1) l g
-      each n l g at_l at_g = by n l g (of_pushed j.changes.items k n l (sym (ap (λ xs. slice_get xs n) changes) ∙ at_l)) (of_pushed fs f n g at_g)
+      each : (n : ℕ) (l : Kept) (g : Effect) → slice_get j'.changes n ≡ Some l → slice_get (fs ++ f ∷ []) n ≡ Some g
+          → IsKept opening (e ∷ h) (n + 1) l g
+      each n l g at_l at_g = by n l g (of_pushed j.changes k n l (sym (ap (λ xs. slice_get xs n) changes) ∙ at_l))
+          (of_pushed fs f n g at_g)
 
 -- a journal that keeps one more change accepts it
-pub accepts : (inverse : Tree Global) (performed : Vec Touched Global) (j j' : Journal)
-    → j'.changes.items ≡ j.changes.items ++ newly_kept inverse performed ∷ [] → j'.standing ≡ j.standing + 1 → j'.undone.items ≡ []
+pub accepts : (inverse : Tree Global) (performed : Vec Touched Global) (j j' : Journaled)
+    → j'.changes ≡ j.changes ++ newly_kept inverse performed ∷ [] → j'.standing ≡ j.standing + 1 → j'.undone ≡ []
     → Accepts inverse performed j j'
 accepts inverse performed j j' changes standing undone = record {
   changes = changes;

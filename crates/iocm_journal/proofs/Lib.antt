@@ -2,7 +2,7 @@ mod Answers
 mod Taken
 mod Rows
 mod NeverUndone
-mod Few
+mod Counts
 mod Passing
 mod Places
 mod GoingOn

@@ -1,5 +1,6 @@
 -- The last place that passes a test.
-use Rattle.std.proofs.Common.{◌≡◌, ◌⊎◌, inl, inr, ℕ, zero, suc, ◌+◌, ◌<◌, ◌≤◌, Bool, true, false, ◌&&◌, cond, eqb, List, Option, Some, None, refl, sym, ap, ◌∙◌, arith}
+use Rattle.std.proofs.Common.{◌≡◌, ◌⊎◌, inl, inr, ℕ, zero, suc, ◌+◌, ◌<◌, ◌≤◌, Bool, true, false, ◌&&◌, cond, eqb}
+use Rattle.std.proofs.Common.{List, Option, Some, None, length, refl, sym, ap, ◌∙◌, arith}
 use Rattle.std.proofs.lemmas.Bool.{eqb-true, eq-eqb, le-ltb}
 use Rattle.iocm_activate.specs.declared.effect.Effect.{Effect}
 use Rattle.iocm_journal.specs.Standing.{is_on, last_passing, share_at, stands_at}
@@ -15,7 +16,9 @@ below_or_last k n low = by (eqb k n) refl
   where
     by : (b : Bool) → eqb k n ≡ b → (k < n) ⊎ (k ≡ n)
     by true is = inr (eqb-true k n is)
-    by false is = inl (let apart = (λ (same : k ≡ n). let yes : true ≡ false = sym (eq-eqb k n same) ∙ is in absurd (cc_false yes)) in less k n low apart)
+    by false is =
+        inl (let apart = (λ (same : k ≡ n). let yes : true ≡ false = sym (eq-eqb k n same) ∙ is in
+        absurd (cc_false yes)) in less k n low apart)
       where
         cc_false : true ≡ false → ⊥
         cc_false e = cc
@@ -39,7 +42,8 @@ pub last_passing_is : (passes : ℕ → Bool) (n : ℕ) → IsLastPassing passes
 last_passing_is passes zero = λ k low. absurd (omega (arith, low))
 last_passing_is passes (suc n) = by (passes n) refl (last_passing_is passes n)
   where
-    by : (b : Bool) → passes n ≡ b → IsLastPassing passes n (last_passing passes n) → IsLastPassing passes (suc n) (cond b (Some n) (last_passing passes n))
+    by : (b : Bool) → passes n ≡ b → IsLastPassing passes n (last_passing passes n)
+        → IsLastPassing passes (suc n) (cond b (Some n) (last_passing passes n))
     by true is rest = (omega arith, is, λ k more less. absurd (omega (arith, more, less)))
     by false is rest = one_longer passes n (last_passing passes n) is rest
 
@@ -54,9 +58,16 @@ pub passing_here : (passes : ℕ → Bool) (n k : ℕ) → n ≡ k + 1 → passe
 passing_here passes n k is on = ap (last_passing passes) (to_suc n k is) ∙ ap (λ b. cond b (Some k) (last_passing passes k)) on
 
 -- on a change that fits stands none of the changes up to it; on one that doesn't, none of none
-pub none_left : (ks : List Kept) (fs : List Effect) (place n : ℕ) (fits : Bool) → n ≤ cond fits (place + 1) 0 → last_passing (is_on ks fs place fits) n ≡ None
+pub none_left : (ks : List Kept) (fs : List Effect) (place n : ℕ) (fits : Bool) → n ≤ cond fits (place + 1) 0
+    → last_passing (is_on ks fs place fits) n ≡ None
 none_left ks fs place zero fits low = refl
 none_left ks fs place (suc n) false low = absurd (omega (arith, low))
 none_left ks fs place (suc n) true low =
-    ap (λ b. cond (b && (stands_at ks n && share_at fs place n)) (Some n) (last_passing (is_on ks fs place true) n)) (le-ltb place n (omega (arith, low)))
+    ap (λ b. cond (b && (stands_at ks n && share_at fs place n)) (Some n) (last_passing (is_on ks fs place true) n))
+    (le-ltb place n (omega (arith, low)))
     ∙ none_left ks fs place n true (omega (arith, low))
+
+-- the same is found in the same list
+pub found_same : (fs : List Effect) (place : ℕ) (fits : Bool) {ks vs : List Kept} → ks ≡ vs
+    → last_passing (is_on vs fs place fits) (length vs) ≡ last_passing (is_on ks fs place fits) (length ks)
+found_same fs place fits same = sym (ap (λ xs. last_passing (is_on xs fs place fits) (length xs)) same)

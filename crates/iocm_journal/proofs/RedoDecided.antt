@@ -1,5 +1,6 @@
 -- Why a redo is refused, by what the journal and the machine say.
-use Rattle.std.proofs.Common.{◌≡◌, ℕ, zero, suc, ◌+◌, ◌-◌, ◌≤◌, Bool, true, false, ◌&&◌, not, cond, eqb, Option, Some, None, List, [], ◌∷◌, ◌++◌, length, map, reverse, refl, sym, ap, ◌∙◌, arith}
+use Rattle.std.proofs.Common.{◌≡◌, ℕ, zero, suc, ◌+◌, ◌-◌, ◌≤◌, Bool, true, false, ◌&&◌, not, cond, eqb, Option, Some}
+use Rattle.std.proofs.Common.{None, List, [], ◌∷◌, ◌++◌, length, map, reverse, refl, sym, ap, ◌∙◌, arith}
 use Rattle.std.specs.Prelude.{nat_le}
 use Rattle.std.specs.Option.{option_map, option_map_or}
 use Rattle.std.proofs.lemmas.Bool.{eqb-true, eq-eqb, ne_eqb, le-leb, leb-true}
@@ -42,11 +43,13 @@ length_mapped : {A : Type 0} (f : A → ℕ) (us : List A) → length (map f us)
 length_mapped f [] = refl
 length_mapped f (u ∷ us) = ap suc (length_mapped f us)
 
-read_end : (o : Option Undone) (m n : ℕ) → option_map (λ (u : Undone). u.number) o ≡ Some m → option_map_or (λ (u : Undone). eqb u.number n) o false ≡ eqb n m
+read_end : (o : Option Undone) (m n : ℕ) → option_map (λ (u : Undone). u.number) o ≡ Some m
+    → option_map_or (λ (u : Undone). eqb u.number n) o false ≡ eqb n m
 read_end (Some u) m n is = let same : u.number ≡ m = cc in ap (λ k. eqb k n) same ∙ eqb_turned m n
 read_end None m n is = cc
 
-pub last_is : (us : List Undone) (ns : List ℕ) (n : ℕ) → map (λ (u : Undone). u.number) us ≡ reverse ns → is_last us n ≡ is_last_undone n ns
+pub last_is : (us : List Undone) (ns : List ℕ) (n : ℕ) → map (λ (u : Undone). u.number) us ≡ reverse ns
+    → is_last us n ≡ is_last_undone n ns
 last_is us [] n is = none us is
   where
     none : (vs : List Undone) → map (λ (u : Undone). u.number) vs ≡ [] → is_last vs n ≡ false
@@ -54,7 +57,8 @@ last_is us [] n is = none us is
     none (v ∷ vs) e = cc
 last_is us (m ∷ ms) n is =
     let whole : map (λ (u : Undone). u.number) us ≡ reverse ms ++ m ∷ [] = is ∙ reverse-append (m ∷ []) ms in
-    let long : length us ≡ length (reverse ms) + 1 = sym (length_mapped (λ (u : Undone). u.number) us) ∙ ap length whole ∙ length-append (reverse ms) (m ∷ []) in
+    let long : length us ≡ length (reverse ms) + 1 = sym (length_mapped (λ (u : Undone). u.number) us)
+    ∙ ap length whole ∙ length-append (reverse ms) (m ∷ []) in
     let end : length us - 1 ≡ length (reverse ms) = omega (arith, long) in
     read_end (slice_get us (length us - 1)) m n
     (sym (get_mapped (λ (u : Undone). u.number) us (length us - 1)) ∙ (λ z. slice_get (whole z) (end z)) ∙ at_end (reverse ms) m)
@@ -78,7 +82,9 @@ module _ (opening : State) (h : History) (used : IsInUse opening) (legal : IsLeg
 
   abbrev answer_by : Bool → Bool → Bool → Answer
   answer_by last among past =
-      cond last (unless_not_quiet quiet (answers.Redone n)) (cond among (answers.Refused (refusal_at J3 Nothing)) (cond past (answers.Refused (refusal_at J3 Nothing)) (answers.Refused (refusal_at J1 Nothing))))
+      cond last (unless_not_quiet quiet (answers.Redone n))
+      (cond among (answers.Refused (refusal_at J3 Nothing))
+      (cond past (answers.Refused (refusal_at J3 Nothing)) (answers.Refused (refusal_at J1 Nothing))))
 
   -- what is no change that was accepted isn't undone, nor past
   undone_off : is_in n b.undone ≡ false → is_past n b ≡ false → answers.Refused (refusal_at J1 Nothing) ≡ redo_answer n b quiet
@@ -97,7 +103,10 @@ module _ (opening : State) (h : History) (used : IsInUse opening) (legal : IsLeg
       past false d low high = refl
 
   pub it_stands : is_in n b.standing ≡ true → answers.Refused (refusal_at J1 Nothing) ≡ redo_answer n b quiet
-  it_stands here = undone_off (off (is_in n b.undone) refl) (ap (λ c. nat_le 1 n && nat_le n b.count && not c && not (is_in n b.undone)) here ∙ third (nat_le 1 n) (nat_le n b.count) (not (is_in n b.undone)))
+  it_stands here =
+      undone_off (off (is_in n b.undone) refl)
+      (ap (λ c. nat_le 1 n && nat_le n b.count && not c && not (is_in n b.undone)) here
+      ∙ third (nat_le 1 n) (nat_le n b.count) (not (is_in n b.undone)))
     where
       off : (c : Bool) → is_in n b.undone ≡ c → c ≡ false
       off true is = let bounds = undone_were_accepted opening h n used legal is in absurd (differ (sym here ∙ bounds.2))
@@ -108,7 +117,8 @@ module _ (opening : State) (h : History) (used : IsInUse opening) (legal : IsLeg
       third true false e = refl
       third false d e = refl
 
-  pub not_last : 1 ≤ n → n ≤ b.count → is_in n b.standing ≡ false → is_last_undone n b.undone ≡ false → answers.Refused (refusal_at J3 Nothing) ≡ redo_answer n b quiet
+  pub not_last : 1 ≤ n → n ≤ b.count → is_in n b.standing ≡ false → is_last_undone n b.undone ≡ false
+      → answers.Refused (refusal_at J3 Nothing) ≡ redo_answer n b quiet
   not_last low high off last =
       by (is_in n b.undone) refl ∙ sym (ap (λ c. answer_by c (is_in n b.undone) (is_past n b)) last)
     where
@@ -117,7 +127,10 @@ module _ (opening : State) (h : History) (used : IsInUse opening) (legal : IsLeg
 
       by : (c : Bool) → is_in n b.undone ≡ c → answers.Refused (refusal_at J3 Nothing) ≡ answer_by false c (is_past n b)
       by true is = refl
-      by false is = sym (ap (answer_by false false) (all (nat_le 1 n) (nat_le n b.count) (is_in n b.standing) (is_in n b.undone) (le-leb 1 n low) (le-leb n b.count high) off is))
+      by false is =
+          sym (ap (answer_by false false)
+          (all (nat_le 1 n) (nat_le n b.count) (is_in n b.standing) (is_in n b.undone) (le-leb 1 n low)
+          (le-leb n b.count high) off is))
 
   pub it_is_last : is_last_undone n b.undone ≡ true → unless_not_quiet quiet (answers.Redone n) ≡ redo_answer n b quiet
   it_is_last last = sym (ap (λ c. answer_by c (is_in n b.undone) (is_past n b)) last)

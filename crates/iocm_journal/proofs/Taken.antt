@@ -1,5 +1,6 @@
 -- Changes of one item of a list, and lists turned round.
-use Rattle.std.proofs.Common.{◌≡◌, ◌≢◌, ◌⊎◌, inl, inr, ℕ, zero, suc, ◌<◌, Bool, true, false, ◌||◌, eqb, Some, List, [], ◌∷◌, ◌++◌, length, map, reverse, refl, ap, ◌∙◌, arith}
+use Rattle.std.proofs.Common.{◌≡◌, ◌≢◌, ◌⊎◌, inl, inr, ℕ, zero, suc, ◌<◌, Bool, true, false, ◌||◌, eqb, Some, List}
+use Rattle.std.proofs.Common.{[], ◌∷◌, ◌++◌, length, map, reverse, refl, ap, ◌∙◌, arith}
 use Rattle.std.proofs.lemmas.Bool.{eq-eqb}
 use Rattle.std.proofs.lemmas.List.{reverse-append}
 use Rattle.std.proofs.Math.ListN.{set}
@@ -26,7 +27,8 @@ of_set (z ∷ xs) zero x (suc n) y is = inl ((λ e. cc), is)
 of_set (z ∷ xs) (suc i) x zero y is = inl ((λ e. cc), is)
 of_set (z ∷ xs) (suc i) x (suc n) y is = by (of_set xs i x n y is)
   where
-    by : ((n ≢ i) × (slice_get xs n ≡ Some y)) ⊎ ((n ≡ i) × (x ≡ y)) → ((suc n ≢ suc i) × (slice_get xs n ≡ Some y)) ⊎ ((suc n ≡ suc i) × (x ≡ y))
+    by : ((n ≢ i) × (slice_get xs n ≡ Some y)) ⊎ ((n ≡ i) × (x ≡ y))
+        → ((suc n ≢ suc i) × (slice_get xs n ≡ Some y)) ⊎ ((suc n ≡ suc i) × (x ≡ y))
     by (inl it) = inl ((λ e. it.0 (omega (arith, e))), it.1)
     by (inr it) = inr (ap suc it.0, it.1)
 
@@ -59,7 +61,11 @@ in_reverse k (n ∷ ns) =
 module _ {A : Type 0} (number : A → ℕ) (P : ℕ → Type 0) where
   pub all_by_number : (us : List A) → ((m : ℕ) → is_in m (map number us) ≡ true → P m) → AllByRecursion (λ u. P (number u)) us
   all_by_number [] each = tt
-  all_by_number (u ∷ us) each = (each (number u) (first (number u) (map number us)), all_by_number us (λ m among. each m (later m (number u) (map number us) among)))
+  all_by_number (u ∷ us) each = (
+    each (number u) (first (number u) (map number us)),
+    all_by_number us
+        (λ m among. each m (later m (number u) (map number us) among)),
+  )
     where
       first : (m : ℕ) (ms : List ℕ) → is_in m (m ∷ ms) ≡ true
       first m ms = rw (eq-eqb m m refl) refl

@@ -19,7 +19,7 @@ use Rattle.iocm_activate.specs.Effects.{effect_in}
 use Rattle.iocm_activate.specs.Told.{told_of_all}
 use Rattle.iocm_activate.specs.declared.effect.Effect.{Effect}
 use Rattle.iocm_journal.specs.Now.{IsJournalOf}
-use Rattle.iocm_journal.specs.declared.journal.Journal.{Journal}
+use Rattle.iocm_journal.specs.Journaled.{Journaled}
 use Rattle.iocm_journal.specs.declared.kept.Kept.{Kept}
 
 -- an entry is right after a history, and accepts a change under the next number. The inverse tree,
@@ -35,7 +35,7 @@ pub record AcceptsAChange (opening : State) (h : History) (e : Entry)
   pub wrote : effect_in f ≡ effect_of_change change
 
 -- a journal takes such a change in: whatever history it was of, it is of that with the entry then
-abbrev pub TakesIn : ChangeTree → List Touched → Journal → Journal → Type 0
+abbrev pub TakesIn : ChangeTree → List Touched → Journaled → Journaled → Type 0
 TakesIn inverse performed old new = (opening : State) (h : History) (fs : List Effect) (e : Entry) (f : Effect)
     → IsJournalOf opening h old fs → AcceptsAChange opening h e inverse performed f
     → IsJournalOf opening (e ∷ h) new (fs ++ f ∷ [])
@@ -46,8 +46,8 @@ newly_kept inverse performed = record { inverse = inverse; performed = performed
 
 -- a journal accepts a change, with the tree that takes it back and what was performed. It keeps one
 -- more change, which stands, and those that were undone become past. It takes the change in
-pub record Accepts (inverse : Tree Global) (performed : Vec Touched Global) (old new : Journal) : Type 0 where
-  pub changes : new.changes.items ≡ old.changes.items ++ newly_kept inverse performed ∷ []
+pub record Accepts (inverse : Tree Global) (performed : Vec Touched Global) (old new : Journaled) : Type 0 where
+  pub changes : new.changes ≡ old.changes ++ newly_kept inverse performed ∷ []
   pub standing : new.standing ≡ old.standing + 1
-  pub undone : new.undone.items ≡ []
+  pub undone : new.undone ≡ []
   pub takes_in : TakesIn (plain inverse) performed.items old new

@@ -9,7 +9,7 @@ use Rattle.iocm_history.specs.Legal.{IsRight}
 use Rattle.iocm_activate.specs.declared.effect.Effect.{Effect}
 use Rattle.iocm_plant.specs.Operating.{Operating}
 use Rattle.iocm_journal.specs.Now.{IsNow}
-use Rattle.iocm_journal.specs.declared.journal.Journal.{Journal}
+use Rattle.iocm_journal.specs.Journaled.{Journaled}
 
 -- this answer, or the refusal
 abbrev pub answer_or : Answer → Result (Unit {0}) Refused → Answer
@@ -24,14 +24,14 @@ abbrev pub redo_made : ℕ → Result (Unit {0}) Refused → Entry
 redo_made n came = plain_entry (redo n) (answer_or (answers.Redone n) came)
 
 -- an entry is right after a history, and journal and machine are then as it leaves them
-pub record IsNext (opening : State) (h : History) (e : Entry) (j : Journal) (fs : List Effect)
+pub record IsNext (opening : State) (h : History) (e : Entry) (j : Journaled) (fs : List Effect)
     (p : Operating) : Type 0 where
   pub right : IsRight opening h e
   pub now : IsNow opening (e ∷ h) j fs p
 
 -- a journal and its machine go on by an entry. Whatever history they were of, with no change
 -- staged, the entry is right after it. Then they are of the history with the entry
-abbrev pub GoOnBy : Entry → List Effect → Journal → Operating → Journal → Operating → Type 0
+abbrev pub GoOnBy : Entry → List Effect → Journaled → Operating → Journaled → Operating → Type 0
 GoOnBy e fs j p new after = (opening : State) (h : History) → IsNow opening h j fs p
     → IsNext opening h e new fs after
 

@@ -1,3 +1,4 @@
+pub mod Journaled
 pub mod Standing
 pub mod Kept
 pub mod Now

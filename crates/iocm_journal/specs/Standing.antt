@@ -1,13 +1,19 @@
 -- Which changes stand on a change, by what a journal keeps.
-use Rattle.std.specs.Prelude.{ℕ, ◌+◌, ◌-◌, ◌==◌, length, nat_lt, nat_le, Bool, true, false, not}
+use Rattle.std.specs.Prelude.{◌≡◌, ℕ, ◌+◌, ◌-◌, ◌==◌, length, nat_lt, nat_le, Bool, true, false, not}
 use Rattle.std.specs.Prelude.{◌&&◌, if◌then◌else◌, List, Option, None, Some, zero, suc}
 use Rattle.std.specs.List.{slice_get}
 use Rattle.std.specs.Option.{option_map_or}
+use Rattle.iocm_model.specs.Change.Edit.{Edit}
+use Rattle.iocm_model.specs.Change.InverseTree.{inverse_tree}
 use Rattle.iocm_model.specs.Change.Tree.{ChangeTree, row, none}
+use Rattle.iocm_model.specs.Operation.State.{State}
 use Rattle.iocm_history.specs.Change.{share_a_cell}
+use Rattle.iocm_history.specs.Fits.{fits}
 use Rattle.iocm_tree.specs.Trees.{plain_tree, tree_of}
 use Rattle.iocm_activate.specs.declared.effect.Effect.{Effect}
+use Rattle.iocm_activate.specs.Done.{AreToldBy}
 use Rattle.iocm_activate.specs.Effects.{effect_in}
+use Rattle.iocm_activate.specs.Told.{told_of_all}
 use Rattle.iocm_journal.specs.declared.kept.Kept.{Kept}
 use Rattle.iocm_journal.specs.declared.kept.Undone.{Undone}
 
@@ -18,6 +24,11 @@ stands_at ks at = option_map_or (λ (k : Kept). k.stands) (slice_get ks at) fals
 
 abbrev pub undone_since_at : List Kept → ℕ → ℕ → Bool
 undone_since_at ks count at = option_map_or (λ (k : Kept). nat_le count k.undone_after) (slice_get ks at) false
+
+-- whether the change that is kept, whatever it was, fits a state
+abbrev pub IsWhetherItFits : Kept → State → Bool → Type 0
+IsWhetherItFits k now is = (es : List Edit) (s : State) → plain_tree (tree_of k.inverse) ≡ inverse_tree es s
+    → AreToldBy k.performed.items (told_of_all es s) → is ≡ fits (record { edits = es; from = s }) now
 
 -- the tree that takes the change at a place back; a Row of nothing past the end
 abbrev pub inverse_at : List Kept → ℕ → ChangeTree

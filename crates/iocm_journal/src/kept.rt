@@ -1,5 +1,12 @@
-use iocm_plant::Touched;
+ghost use Rattle.std.specs.Prelude.{◌≡◌, IfOk};
+ghost use Rattle.iocm_model.specs.Laws.Trees.{KeepsTheRules};
+ghost use Rattle.iocm_plant.specs.Operating.{KeepsRoom};
+ghost use Rattle.iocm_journal.specs.Standing.{IsWhetherItFits};
+
+use iocm_activate::fits;
+use iocm_plant::{Plant, Touched};
 use iocm_tree::Tree;
+use std::alloc::{AllocError, Global};
 
 /// An accepted change, as the journal keeps it. The word is own.
 #[derive(Drop)]
@@ -22,4 +29,18 @@ pub struct Undone {
     /// The tree that does it again, where the configuration and the numbers are as its undo left
     /// them.
     pub redo: Tree,
+}
+
+impl Kept {
+    /// Whether the change fits a machine that keeps the rules. The state stays as it is.
+    ///
+    /// `AllocError` (M1): memory was wanted.
+    pub fn fits(&self, alloc: Global, plant: &mut Plant) -> Result<bool, AllocError>
+        requires { KeepsTheRules plant.old.state }
+        ensures fits { IfOk result (λ is. IsWhetherItFits self.now plant.old.state is) }
+        ensures same { plant.new.state ≡ plant.old.state }
+        ensures room { KeepsRoom plant.old.room plant.new.room }
+    {
+        fits(alloc, plant, &self.inverse, self.performed.as_slice())
+    }
 }

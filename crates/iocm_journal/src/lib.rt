@@ -9,9 +9,9 @@
 //! What the layer above may rely on: beside a history (`IsJournalOf`) the journal answers undo and
 //! redo as the history's definition says, and leaves the machine in the state to which the history
 //! then leads. `accept` leaves it one of the history with the entry that accepts the change, and an
-//! entry that is about no change leaves it one as it is (`laws.rt`). Begin with `specs/Kept.antt`
-//! and `specs/Now.antt`, then `journal.rt`, `undo.rt` and `redo.rt`. What names no source is our
-//! own.
+//! entry that is about no change leaves it one as it is (`laws.rt`). Contracts see a journal as
+//! `Journaled`. Begin with `specs/Journaled.antt`, `specs/Kept.antt` and `specs/Now.antt`, then
+//! `journal.rt`, `undo.rt` and `redo.rt`. What names no source is our own.
 #![tactic(auto)]
 
 mod journal;
@@ -24,5 +24,4 @@ mod standing_on;
 mod undo;
 
 pub use journal::Journal;
-pub use kept::{Kept, Undone};
 pub use laws::journals_keep_to_histories;

@@ -1,5 +1,5 @@
-ghost use Rattle.std.specs.Prelude.{◌≡◌, ◌<◌, ◌+◌, ◌++◌, ◌∷◌, [], ℕ, true, length, Some, slice_set};
-ghost use Rattle.std.specs.Prelude.{IfOk, IfErr, OnOk, OnErr, MatchOption, ◌≤◌};
+ghost use Rattle.std.specs.Prelude.{◌≡◌, ◌<◌, ◌+◌, ◌++◌, ◌∷◌, [], length, Some, slice_set};
+ghost use Rattle.std.specs.Prelude.{IfOk, IfErr, IsFalse, IsTrue, OnOk, OnErr, MatchOption};
 ghost use Rattle.std.specs.Result.{result_err};
 ghost use Rattle.std.specs.List.{slice_get};
 ghost use Rattle.iocm_model.specs.Change.Meaning.{meaning};
@@ -14,13 +14,14 @@ ghost use Rattle.iocm_journal.specs.Deciding.{IsRedoDecided};
 ghost use Rattle.iocm_journal.specs.declared.kept.Kept.{Kept};
 ghost use Rattle.iocm_journal.specs.Moving.{KeepsTheSame, WasRedone, again};
 ghost use Rattle.iocm_journal.specs.Now.{BelongTogether, IsNow};
-ghost use Rattle.iocm_journal.specs.Standing.{is_last, redo_at_end};
+ghost use Rattle.iocm_journal.specs.Standing.{is_last, redo_at_end, stands_at};
 
-use crate::quiet::first_not_quiet;
-use crate::{Journal, Undone};
+use crate::Journal;
+use crate::kept::Undone;
+use crate::quiet::refused_for_not_quiet;
 use iocm_activate::{Effect, activate};
 use iocm_plant::Plant;
-use iocm_types::{At, Refused, Rule};
+use iocm_types::{Refused, Rule};
 use std::alloc::Global;
 
 impl Journal {
@@ -55,27 +56,28 @@ impl Journal {
         ensures decided { (opening : State) (h : History) → IsNow opening h self.now changes.now plant.now
             → IsRedoDecided opening h number (result_err result) }
         ensures number { IfOk result (λ place. number ≡ place + 1) }
-        ensures last { OnOk result (is_last self.now.undone.items number ≡ true) }
-        ensures within { IfOk result (λ place. place < length self.now.changes.items) }
+        ensures last { OnOk result (IsTrue (is_last self.now.undone number)) }
+        ensures within { IfOk result (λ place. place < length self.now.changes) }
+        ensures undone { IfOk result (λ place. IsFalse (stands_at self.now.changes place)) }
     {
         let Some(place) = self.place(number) else {
             return Err(Refused::of(Rule::J1));
         };
-        if self.changes[place].stands {
+        if self.kept_at(place).stands {
             return Err(Refused::of(Rule::J1));
         }
         if !self.is_last_undone(number) {
             return Err(Refused::of(Rule::J3));
         }
-        match first_not_quiet(plant, &changes[place]) {
-            Some(subchannel) => Err(Refused::about(Rule::B1, At::Subchannel(subchannel))),
+        match refused_for_not_quiet(plant, &changes[place]) {
+            Some(why) => Err(why),
             None => Ok(place),
         }
     }
 
     /// Whether the change of a number is the last one undone.
     fn is_last_undone(&self, number: u64) -> bool
-        ensures { result ≡ is_last self.now.undone.items number }
+        ensures { result ≡ is_last self.now.undone number }
     {
         match self.undone.last() {
             Some(undone) => undone.number == number,
@@ -89,12 +91,12 @@ impl Journal {
     /// The refusal that the tree means, or M1: memory was wanted.
     fn do_again(&mut self, alloc: Global, plant: &mut Plant, place: usize) -> Result<(), Refused>
         requires rules { KeepsTheRules plant.old.state }
-        requires place { place < length self.old.changes.items }
-        requires last { is_last self.old.undone.items (place + 1) ≡ true }
-        requires few { self.old.standing ≤ length self.old.changes.items }
+        requires place { place < length self.old.changes }
+        requires undone { IsFalse (stands_at self.old.changes place) }
+        requires last { IsTrue (is_last self.old.undone (place + 1)) }
         ensures done { OnOk result (WasRedone self.old place plant.old.state plant.new.state self.new) }
         ensures refused { IfErr result (IsDue (refusal_in
-            (meaning (redo_at_end self.old.undone.items) plant.old.state))) }
+            (meaning (redo_at_end self.old.undone) plant.old.state))) }
         ensures same { OnErr result (plant.new.state ≡ plant.old.state) }
         ensures journal { OnErr result (KeepsTheSame self.old self.new) }
         ensures room { KeepsRoom plant.old.room plant.new.room }
@@ -114,13 +116,13 @@ impl Journal {
     /// Notes that the last change undone, at this place, stands again. It gives what was kept of it
     /// while it was undone. Can't answer want of memory.
     fn note_redone(&mut self, place: usize) -> Option<Undone>
-        requires place { place < length self.old.changes.items }
-        requires few { self.old.standing ≤ length self.old.changes.items }
-        ensures changes { (k : Kept) → slice_get self.old.changes.items place ≡ Some k
-            → self.new.changes.items ≡ slice_set self.old.changes.items place (again k) }
+        requires place { place < length self.old.changes }
+        requires undone { IsFalse (stands_at self.old.changes place) }
+        ensures changes { (k : Kept) → slice_get self.old.changes place ≡ Some k
+            → self.new.changes ≡ slice_set self.old.changes place (again k) }
         ensures standing { self.new.standing ≡ self.old.standing + 1 }
-        ensures undone { MatchOption result (self.old.undone.items ≡ [])
-            (λ last. self.old.undone.items ≡ self.new.undone.items ++ last ∷ []) }
+        ensures undone { MatchOption result (self.old.undone ≡ [])
+            (λ last. self.old.undone ≡ self.new.undone ++ last ∷ []) }
     {
         let kept = &mut self.changes[place];
         kept.stands = true;

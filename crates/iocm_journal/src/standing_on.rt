@@ -1,7 +1,7 @@
 ghost use Rattle.std.specs.Prelude.{◌≡◌, ◌<◌, ◌+◌, length, MatchOption, not, ◌&&◌, nat_le};
 ghost use Rattle.iocm_journal.specs.Standing.{is_on, last_passing};
 
-use crate::Kept;
+use crate::kept::Kept;
 use crate::sharing::share_a_cell;
 use iocm_activate::Effect;
 

@@ -1,28 +1,24 @@
-ghost use Rattle.std.specs.Prelude.{◌≡◌, ◌<◌, ◌+◌, ◌++◌, ◌∷◌, [], ℕ, true, false, length, Some};
-ghost use Rattle.std.specs.Prelude.{slice_set, IfOk, IfErr, OnOk, OnErr, MatchOption};
-ghost use Rattle.std.specs.Vec.{vec_len, vec_capacity};
-ghost use Rattle.std.specs.List.{slice_get};
+ghost use Rattle.std.specs.Prelude.{◌≡◌, ◌<◌, ◌+◌, ℕ, length, MatchOption};
+ghost use Rattle.std.specs.Prelude.{IfOk, IfErr, IsFalse, IsTrue, OnOk, OnErr};
 ghost use Rattle.iocm_model.specs.Change.Meaning.{meaning};
 ghost use Rattle.iocm_model.specs.Laws.Trees.{KeepsTheRules};
 ghost use Rattle.iocm_model.specs.Operation.State.{State};
 ghost use Rattle.iocm_history.specs.Entry.{History};
-ghost use Rattle.iocm_tree.specs.Trees.{plain_tree, tree_of};
 ghost use Rattle.iocm_plant.specs.Operating.{KeepsRoom};
 ghost use Rattle.iocm_plant.specs.Refusing.{IsDue};
 ghost use Rattle.iocm_activate.specs.Done.{refusal_in};
 ghost use Rattle.iocm_journal.specs.Answering.{GoOnBy, undo_made};
 ghost use Rattle.iocm_journal.specs.Deciding.{IsUndoDecided};
-ghost use Rattle.iocm_journal.specs.declared.kept.Kept.{Kept};
-ghost use Rattle.iocm_journal.specs.Moving.{KeepsTheSame, WasUndone, no_more};
+ghost use Rattle.iocm_journal.specs.Moving.{KeepsTheSame, WasUndone};
 ghost use Rattle.iocm_journal.specs.Now.{BelongTogether, IsNow};
 ghost use Rattle.iocm_journal.specs.Standing.{inverse_at, stands_at};
 
-use crate::quiet::first_not_quiet;
+use crate::Journal;
+use crate::kept::Undone;
+use crate::quiet::refused_for_not_quiet;
 use crate::standing_on::greatest_on;
-use crate::{Journal, Undone};
-use iocm_activate::{Effect, activate, fits};
+use iocm_activate::{Effect, activate};
 use iocm_plant::Plant;
-use iocm_tree::Tree;
 use iocm_types::{At, Refused, Rule};
 use std::alloc::{AllocError, Global};
 
@@ -59,11 +55,11 @@ impl Journal {
 
     /// The place of a change that stands, counted from 0.
     fn standing_place(&self, number: u64) -> Option<usize>
-        ensures { MatchOption result ((at : ℕ) → number ≡ at + 1 → stands_at self.now.changes.items at ≡ false)
-            (λ at. (number ≡ at + 1) × (stands_at self.now.changes.items at ≡ true)) }
+        ensures { MatchOption result ((at : ℕ) → number ≡ at + 1 → IsFalse (stands_at self.now.changes at))
+            (λ at. (number ≡ at + 1) × IsTrue (stands_at self.now.changes at)) }
     {
         let place = self.place(number)?;
-        if !self.changes[place].stands {
+        if !self.kept_at(place).stands {
             return None;
         }
         Some(place)
@@ -80,22 +76,18 @@ impl Journal {
         place: usize,
     ) -> Result<Option<Refused>, AllocError>
         requires now { BelongTogether self.now changes.now plant.old }
-        requires stands { stands_at self.now.changes.items place ≡ true }
-        requires place { place < length self.now.changes.items }
+        requires place { place < length self.now.changes }
+        requires stands { IsTrue (stands_at self.now.changes place) }
         ensures decided { IfOk result (λ why. (opening : State) (h : History)
             → IsNow opening h self.now changes.now plant.old → IsUndoDecided opening h (place + 1) why) }
         ensures same { plant.new.state ≡ plant.old.state }
         ensures room { KeepsRoom plant.old.room plant.new.room }
     {
-        let kept = &self.changes[place];
-        let is_fit = fits(alloc, plant, &kept.inverse, kept.performed.as_slice())?;
+        let is_fit = self.kept_at(place).fits(alloc, plant)?;
         if let Some(other) = greatest_on(self.changes.as_slice(), changes, place, is_fit) {
             return Ok(Some(Refused::about(Rule::J2, At::Change(other as u64 + 1))));
         }
-        match first_not_quiet(plant, &changes[place]) {
-            Some(subchannel) => Ok(Some(Refused::about(Rule::B1, At::Subchannel(subchannel)))),
-            None => Ok(None),
-        }
+        Ok(refused_for_not_quiet(plant, &changes[place]))
     }
 
     /// Takes the standing change at a place back, by its inverse tree; it is the last one undone
@@ -104,11 +96,11 @@ impl Journal {
     /// The refusal that the inverse tree means, or M1: memory was wanted.
     fn take_back(&mut self, alloc: Global, plant: &mut Plant, place: usize) -> Result<(), Refused>
         requires rules { KeepsTheRules plant.old.state }
-        requires place { place < length self.old.changes.items }
-        requires some { 0 < self.old.standing }
+        requires place { place < length self.old.changes }
+        requires stands { IsTrue (stands_at self.old.changes place) }
         ensures done { OnOk result (WasUndone self.old place plant.old.state plant.new.state self.new) }
         ensures refused { IfErr result (IsDue (refusal_in
-            (meaning (inverse_at self.old.changes.items place) plant.old.state))) }
+            (meaning (inverse_at self.old.changes place) plant.old.state))) }
         ensures same { OnErr result (plant.new.state ≡ plant.old.state) }
         ensures journal { OnErr result (KeepsTheSame self.old self.new) }
         ensures room { KeepsRoom plant.old.room plant.new.room }
@@ -118,34 +110,18 @@ impl Journal {
         }
         match activate(alloc, plant, &self.changes[place].inverse) {
             Ok(done) => {
-                self.note_undone(place, done.inverse);
+                let count = self.changes.len() as u64;
+                let kept = &mut self.changes[place];
+                kept.stands = false;
+                kept.undone_after = count;
+                self.standing -= 1;
+                self.undone.push_reserved(Undone {
+                    number: place as u64 + 1,
+                    redo: done.inverse,
+                });
                 Ok(())
             }
             Err(why) => Err(why),
         }
-    }
-
-    /// Notes that the change at a place doesn't stand any more, with the tree that does it again,
-    /// for which there is room. Can't answer want of memory.
-    fn note_undone(&mut self, place: usize, redo: Tree)
-        requires place { place < length self.old.changes.items }
-        requires some { 0 < self.old.standing }
-        requires room { vec_len self.old.undone < vec_capacity self.old.undone }
-        ensures changes { (k : Kept) → slice_get self.old.changes.items place ≡ Some k
-            → self.new.changes.items ≡ slice_set self.old.changes.items place
-            (no_more (length self.old.changes.items) k) }
-        ensures standing { self.new.standing + 1 ≡ self.old.standing }
-        ensures undone { self.new.undone.items ≡ self.old.undone.items
-            ++ record { number = place + 1; redo = redo } ∷ [] }
-    {
-        let count = self.changes.len() as u64;
-        let kept = &mut self.changes[place];
-        kept.stands = false;
-        kept.undone_after = count;
-        self.standing -= 1;
-        self.undone.push_reserved(Undone {
-            number: place as u64 + 1,
-            redo,
-        });
     }
 }

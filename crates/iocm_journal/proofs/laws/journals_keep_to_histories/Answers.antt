@@ -1,5 +1,4 @@
 -- The laws are proved of the definitions.
-use Rattle.iocm_journal.proofs.Few.{none_too_many}
 use Rattle.iocm_journal.proofs.GoingOn.{goes_on}
 use Rattle.iocm_journal.proofs.Refused.{kept_the_same}
 use Rattle.iocm_journal.proofs.laws.journals_keep_to_histories.Goals as goal
@@ -9,6 +8,3 @@ returns-clause-others c = goes_on
 
 pub returns-clause-same : goal.returns-clause-same
 returns-clause-same c = kept_the_same
-
-pub returns-clause-few : goal.returns-clause-few
-returns-clause-few c = none_too_many

@@ -7,4 +7,6 @@ use Rattle.iocm_table.specs.Slots.{rows}
 use Rattle.iocm_journal.proofs.sharing.has_one_of.Given as goal
 
 abbrev pub invariant-loop-key : goal.invariant-loop-key
-invariant-loop-key g l = list_any (contains_key (rows g.K.TableKey.order l.table)) (keys_of l.key-iterator) ≡ list_any (contains_key (rows g.K.TableKey.order l.table)) (keys (rows g.K.TableKey.order l.other))
+invariant-loop-key g l =
+    list_any (contains_key (rows g.K.TableKey.order l.table)) (keys_of l.key-iterator) ≡ list_any
+    (contains_key (rows g.K.TableKey.order l.table)) (keys (rows g.K.TableKey.order l.other))

@@ -7,5 +7,9 @@ use Rattle.iocm_core.proofs.calling.Core.close.Goals as goal
 
 pub settled-requires : goal.settled-requires
 settled-requires c = staged_or_none c.self.inside.installation
-    (record { opening = opening_state c.self.inside.opening.records; history = history_in c.self.inside.installation.changes.items c.self.inside.entries.items; is = c.self.invariant.installation })
+    (record {
+      opening = opening_state c.self.inside.opening.records;
+      history = history_in c.self.inside.installation.changes.items c.self.inside.entries.items;
+      is = c.self.invariant.installation;
+    })
     c.self.inside.installation.stage refl

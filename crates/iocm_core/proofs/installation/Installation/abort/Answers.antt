@@ -13,10 +13,17 @@ pub abort-requires : goal.abort-requires
 abort-requires c = is_staged c.args.self.now c.in-Some.staged c.requires (sym c.in-Some.ensures.value)
 
 pub returns-in-Some-clause-answers : goal.returns-in-Some-clause-answers
-returns-in-Some-clause-answers c = λ opening h it. abort_answered c.journals_keep_to_histories.ensures.others opening h c.args.self.now (record { plant = c.abort.new.plant; journal = c.args.self.now.journal; stage = c.take.new.self; changes = c.args.self.now.changes }) c.in-Some.staged it
-    (sym c.in-Some.ensures.value) c.abort.ensures.state c.in-Some.ensures.after refl refl
+returns-in-Some-clause-answers c = λ opening h it.
+    let m = c.args.self.now in
+    let laws = c.journals_keep_to_histories.ensures in
+    abort_answered laws.others opening h m (record m { plant = c.abort.new.plant; stage = c.take.new.self })
+    c.in-Some.staged it (sym c.in-Some.ensures.value) c.abort.ensures.state c.in-Some.ensures.after refl refl
 
 pub returns-in-None-clause-answers : goal.returns-in-None-clause-answers
-returns-in-None-clause-answers c = λ opening h it. let none = sym c.in-None.ensures.value in
-    refuses_taken c.journals_keep_to_histories.ensures.others opening h c.args.self.now (record { plant = c.args.self.now.plant; journal = c.args.self.now.journal; stage = c.take.new.self; changes = c.args.self.now.changes }) history.abort (refusal_at O2 Nothing) it none refl refl c.in-None.ensures.after refl
-    (abort_o2 opening h (idle opening h c.args.self.now it none).none)
+returns-in-None-clause-answers c = λ opening h it.
+    let m = c.args.self.now in
+    let laws = c.journals_keep_to_histories.ensures in
+    let none = sym c.in-None.ensures.value in
+    refuses_taken laws.others opening h m (record m { stage = c.take.new.self }) history.abort (refusal_at O2 Nothing)
+    it none refl refl c.in-None.ensures.after refl
+    (abort_o2 opening h (idle opening h m it none).none)

@@ -11,22 +11,36 @@ use Rattle.iocm_core.proofs.Rightness.{activate_o1}
 use Rattle.iocm_core.proofs.installation.Installation.activate.Goals as goal
 
 pub returns-then-is_some-clause-answers : goal.returns-then-is_some-clause-answers
-returns-then-is_some-clause-answers c = λ opening h it. let g = staged_if opening h c.args.self.now it c.if-is_some.ensures in
+returns-then-is_some-clause-answers c = λ opening h it.
+    let m = c.args.self.now in
+    let laws = c.journals_keep_to_histories.ensures in
+    let g = staged_if opening h m it c.if-is_some.ensures in
     let t = plain_tree (tree_of c.args.tree.now) in
-    refuses c.journals_keep_to_histories.ensures.others opening h c.args.self.now (history.activate t) (refusal_at O1 Nothing) it (activate_o1 opening h g.0 t g.1)
+    refuses laws.others opening h m (history.activate t) (refusal_at O1 Nothing) it (activate_o1 opening h g.0 t g.1)
 
 pub returns-in-Some-clause-answers : goal.returns-in-Some-clause-answers
-returns-in-Some-clause-answers c = λ opening h it. let t = plain_tree (tree_of c.args.tree.now) in
-    refuses c.journals_keep_to_histories.ensures.others opening h c.args.self.now (history.activate t) c.in-Some.why it
-    (activation_over_a_limit opening h c.args.self.now t c.in-Some.why it (none_if c.args.self.now.stage c.if-is_some.ensures) c.in-Some.ensures.meaning)
+returns-in-Some-clause-answers c = λ opening h it.
+    let m = c.args.self.now in
+    let laws = c.journals_keep_to_histories.ensures in
+    let t = plain_tree (tree_of c.args.tree.now) in
+    refuses laws.others opening h m (history.activate t) c.in-Some.why it
+    (activation_over_a_limit opening h m t c.in-Some.why it (none_if m.stage c.if-is_some.ensures)
+    c.in-Some.ensures.meaning)
 
 pub returns-in-Ok-clause-answers : goal.returns-in-Ok-clause-answers
-returns-in-Ok-clause-answers c = λ opening h it. activation_answered opening h c.args.self.now c.try_to_activate.new.self (plain_tree (tree_of c.args.tree.now)) c.in-Ok.number it
-    (none_if c.args.self.now.stage c.if-is_some.ensures) c.in-Ok.ensures.done
+returns-in-Ok-clause-answers c = λ opening h it.
+    let m = c.args.self.now in
+    let t = plain_tree (tree_of c.args.tree.now) in
+    activation_answered opening h m c.try_to_activate.new.self t c.in-Ok.number it
+    (none_if m.stage c.if-is_some.ensures) c.in-Ok.ensures.done
 
 pub returns-in-Err-clause-answers : goal.returns-in-Err-clause-answers
-returns-in-Err-clause-answers c = λ opening h it. let none = none_if c.args.self.now.stage c.if-is_some.ensures in
+returns-in-Err-clause-answers c = λ opening h it.
+    let m = c.args.self.now in
+    let laws = c.journals_keep_to_histories.ensures in
+    let none = none_if m.stage c.if-is_some.ensures in
     let t = plain_tree (tree_of c.args.tree.now) in
-    refuses c.journals_keep_to_histories.ensures.others opening h c.try_to_activate.new.self (history.activate t) c.in-Err.why
-    (kept_idle c.journals_keep_to_histories.ensures.same opening h c.args.self.now c.try_to_activate.new.self it none (c.in-Err.ensures.stage ∙ none) c.in-Err.ensures.same c.in-Err.ensures.rest)
-    (activation_refused opening h c.args.self.now t c.in-Err.why it none (sym c.in_default.ensures.value) c.in-Err.ensures.refused)
+    refuses laws.others opening h c.try_to_activate.new.self (history.activate t) c.in-Err.why
+    (kept_idle laws.same opening h m c.try_to_activate.new.self it none (c.in-Err.ensures.stage ∙ none)
+    c.in-Err.ensures.same c.in-Err.ensures.rest)
+    (activation_refused opening h m t c.in-Err.why it none (sym c.in_default.ensures.value) c.in-Err.ensures.refused)

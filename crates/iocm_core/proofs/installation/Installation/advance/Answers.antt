@@ -13,9 +13,16 @@ pub advance-requires : goal.advance-requires
 advance-requires c = is_staged c.args.self.now c.in-Some.staged c.requires c.in-Some.is
 
 pub returns-in-Some-clause-answers : goal.returns-in-Some-clause-answers
-returns-in-Some-clause-answers c = λ opening h it. advance_answered c.journals_keep_to_histories.ensures.others opening h c.args.self.now (record { plant = c.advance.new.plant; journal = c.args.self.now.journal; stage = Some c.advance.new.self; changes = c.args.self.now.changes })
-    c.in-Some.staged c.advance.new.self c.advance.result it c.in-Some.is c.advance.ensures.stage c.advance.ensures.left refl refl refl
+returns-in-Some-clause-answers c = λ opening h it.
+    let m = c.args.self.now in
+    let laws = c.journals_keep_to_histories.ensures in
+    advance_answered laws.others opening h m (record m { plant = c.advance.new.plant; stage = Some c.advance.new.self })
+    c.in-Some.staged c.advance.new.self c.advance.result it c.in-Some.is c.advance.ensures.stage c.advance.ensures.left
+    refl refl refl
 
 pub returns-in-None-clause-answers : goal.returns-in-None-clause-answers
-returns-in-None-clause-answers c = λ opening h it. refuses c.journals_keep_to_histories.ensures.others opening h c.args.self.now history.advance (refusal_at O2 Nothing) it
-    (advance_o2 opening h (idle opening h c.args.self.now it c.in-None.is).none)
+returns-in-None-clause-answers c = λ opening h it.
+    let m = c.args.self.now in
+    let laws = c.journals_keep_to_histories.ensures in
+    refuses laws.others opening h m history.advance (refusal_at O2 Nothing) it
+    (advance_o2 opening h (idle opening h m it c.in-None.is).none)

@@ -6,10 +6,17 @@ use Rattle.iocm_core.proofs.Stepping.{held_answered, step_answered}
 use Rattle.iocm_core.proofs.installation.Installation.device_begin.Goals as goal
 
 pub returns-then-holds-clause-answers : goal.returns-then-holds-clause-answers
-returns-then-holds-clause-answers c = λ opening h it. held_answered c.journals_keep_to_histories.ensures.others opening h c.args.self.now c.args.subchannel.now device_begin it (sym (c.if-holds.ensures opening h it))
+returns-then-holds-clause-answers c = λ opening h it.
+    let laws = c.journals_keep_to_histories.ensures in
+    held_answered laws.others opening h c.args.self.now c.args.subchannel.now device_begin it
+    (sym (c.if-holds.ensures opening h it))
 
 pub returns-clause-answers : goal.returns-clause-answers
-returns-clause-answers c = λ opening h it. step_answered c.steps_elsewhere_pass_a_stage.ensures c.journals_keep_to_histories.ensures.others opening h c.args.self.now
-    (record { plant = c.device_begin.new.self; journal = c.args.self.now.journal; stage = c.args.self.now.stage; changes = c.args.self.now.changes }) c.args.subchannel.now device_begin it (sym (c.if-holds.ensures opening h it))
+returns-clause-answers c = λ opening h it.
+    let m = c.args.self.now in
+    let laws = c.journals_keep_to_histories.ensures in
+    step_answered c.steps_elsewhere_pass_a_stage.ensures laws.others opening h m
+    (record m { plant = c.device_begin.new.self }) c.args.subchannel.now device_begin it
+    (sym (c.if-holds.ensures opening h it))
     c.device_begin.ensures.state c.device_begin.ensures.kept refl refl refl
     (answers.Begun c.device_begin.result) (ap answers.Begun c.device_begin.ensures.answer)

@@ -11,12 +11,17 @@ use Rattle.iocm_core.proofs.Kept.{rules_kept, on_ok}
 use Rattle.iocm_core.proofs.installation.Installation.try_to_begin.Goals as goal
 
 pub begin-requires : goal.begin-requires
-begin-requires c = record { kept = subst (λ (p : Operating). KeepsTheRules p.state) (sym c.make_room.ensures.plant) (rules_kept c.args.self.now c.requires.running c.requires.idle) }
+begin-requires c =
+    let kept = rules_kept c.args.self.now c.requires.running c.requires.idle in
+    record { kept = subst (λ (p : Operating). KeepsTheRules p.state) (sym c.make_room.ensures.plant) kept }
 
 pub returns-in-Ok-clause-done : goal.returns-in-Ok-clause-done
 returns-in-Ok-clause-done c =
     let t = plain_tree (tree_of c.args.tree.now) in
-    begun_by t c.args.self.now c.make_room.new.self (record { plant = c.begin.new.plant; journal = c.make_room.new.self.journal; stage = Some c.in-Ok.staged; changes = c.make_room.new.self.changes })
-    c.make_room.ensures.plant c.make_room.ensures.rest c.begin.new.plant c.in-Ok.staged c.left-edits.result
-    (state_after_all (edits_of (meaning t c.make_room.new.self.plant.state)) c.make_room.new.self.plant.state) (on_ok c.make_room.result c.if-is_err.ensures.value c.make_room.ensures.room)
+    let r = c.make_room.new.self in
+    let room = c.make_room.ensures in
+    begun_by t c.args.self.now r (record r { plant = c.begin.new.plant; stage = Some c.in-Ok.staged })
+    room.plant room.rest c.begin.new.plant c.in-Ok.staged c.left-edits.result
+    (state_after_all (edits_of (meaning t r.plant.state)) r.plant.state)
+    (on_ok c.make_room.result c.if-is_err.ensures.value room.room)
     c.in-Ok.ensures.means c.in-Ok.ensures.staged c.left-edits.ensures refl refl refl refl
