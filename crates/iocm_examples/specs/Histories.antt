@@ -40,8 +40,8 @@ abbrev pub history_of : Script → History
 history_of script = run base_opened (calls_of script)
 
 -- each call of a script gives its answer
-abbrev pub Answers : Script → Type 0
-Answers script = reverse (answers_of (history_of script)) ≡ map (λ (row : Call × Answer). row.1) script
+abbrev pub GivesItsAnswers : Script → Type 0
+GivesItsAnswers script = reverse (answers_of (history_of script)) ≡ map (λ (row : Call × Answer). row.1) script
 
 -- the state after the first calls of a script
 abbrev pub after : ℕ → Script → State
@@ -117,7 +117,7 @@ latest_first =
 
 -- numbers come back with the undo and with the redo
 pub record LatestFirst : Type 0 where
-  pub answers : Answers latest_first
+  pub answers : GivesItsAnswers latest_first
   pub freed : number_of 0x1001 (after 2 latest_first) ≡ None
   pub used_again : number_of 0x2000 (after 2 latest_first) ≡ Some 1
   pub back : number_of 0x1001 (after 5 latest_first) ≡ Some 1
@@ -138,7 +138,7 @@ a_choose_undone =
 
 -- its undo brings the record, the number and the live records of 1003 back
 pub record AChooseUndone : Type 0 where
-  pub answers : Answers a_choose_undone
+  pub answers : GivesItsAnswers a_choose_undone
   pub stays : get (after 3 a_choose_undone).config (device_key 0x1000) ≡ Some (device_on_1000 0x1000 0x00)
   pub deleted : get (after 3 a_choose_undone).config (device_key 0x1003) ≡ None
   pub no_live : get (after 3 a_choose_undone).lives (subchannel 1 3) ≡ None
@@ -161,7 +161,7 @@ steps_elsewhere =
 
 -- steps on a subchannel that a change didn't alter stay through its undo: it alone is marked
 pub record StepsElsewhere : Type 0 where
-  pub answers : Answers steps_elsewhere
+  pub answers : GivesItsAnswers steps_elsewhere
   pub marks : marks_after 6 steps_elsewhere ≡ kept ∷ kept ∷ undone_with 1 ∷ kept ∷ kept ∷ kept ∷ []
   pub live : get (after 6 steps_elsewhere).lives (subchannel 1 2)
       ≡ Some (record { enabled = true; lpm = 0x80; parm = 7; phase = Idle })
@@ -178,7 +178,7 @@ pending_status =
     ∷ []
 
 pub record PendingStatus : Type 0 where
-  pub answers : Answers pending_status
+  pub answers : GivesItsAnswers pending_status
   pub refused : number_of 0x1001 (after 4 pending_status) ≡ Some 1
   pub deleted : number_of 0x1001 (after 6 pending_status) ≡ None
 
@@ -242,7 +242,7 @@ a_path_undone =
 -- the undo strikes what LPB did since the change, and the redo brings it back; what was done while
 -- the change was undone is lost
 pub record APathUndone : Type 0 where
-  pub answers : Answers a_path_undone
+  pub answers : GivesItsAnswers a_path_undone
   pub struck : marks_after 4 a_path_undone ≡ kept ∷ undone_with 1 ∷ undone_with 1 ∷ kept ∷ []
   pub back : marks_after 6 a_path_undone ≡ kept ∷ kept ∷ kept ∷ kept ∷ lost ∷ kept ∷ []
   pub undone : get (after 4 a_path_undone).lives (subchannel 2 0) ≡ Some (enabled_with 0x40)
@@ -281,7 +281,7 @@ a_busy_undo =
 
 -- the steps on its subchannel go with it, and come back with it
 pub record ABusyUndo : Type 0 where
-  pub answers : Answers a_busy_undo
+  pub answers : GivesItsAnswers a_busy_undo
   pub number : number_of 0x1004 (after 1 a_busy_undo) ≡ Some 4
   pub refused : number_of 0x1004 (after 4 a_busy_undo) ≡ Some 4
   pub struck : marks_after 8 a_busy_undo
@@ -314,7 +314,7 @@ a_busy_redo =
 
 -- what was done while a change was undone is lost for good, also when it is undone once more
 pub record ABusyRedo : Type 0 where
-  pub answers : Answers a_busy_redo
+  pub answers : GivesItsAnswers a_busy_redo
   pub marks : marks_after 15 a_busy_redo
       ≡ undone_with 1 ∷ kept ∷ lost ∷ lost ∷ lost ∷ lost ∷ kept ∷ lost ∷ lost ∷ kept
       ∷ lost ∷ lost ∷ kept ∷ undone_with 1 ∷ kept ∷ []
@@ -341,7 +341,7 @@ undone_in_turn =
 -- each undo strikes what was not struck before it, and each redo takes back what its own undo
 -- struck
 pub record UndoneInTurn : Type 0 where
-  pub answers : Answers undone_in_turn
+  pub answers : GivesItsAnswers undone_in_turn
   pub both_undone : marks_after 7 undone_in_turn
       ≡ undone_with 1 ∷ undone_with 1 ∷ undone_with 2 ∷ undone_with 2 ∷ kept ∷ undone_with 1 ∷ kept ∷ []
   pub first_redone : marks_after 8 undone_in_turn

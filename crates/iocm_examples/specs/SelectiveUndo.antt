@@ -20,7 +20,7 @@ use Rattle.iocm_history.specs.Account.{replay, marked_entries}
 use Rattle.iocm_examples.specs.BaseDeck.{lpa, lpb, path_record, css_path, device_on_1000}
 use Rattle.iocm_examples.specs.BaseDeck.{device_key, subchannel, unit_on}
 use Rattle.iocm_examples.specs.Edits.{base_opened, added, deleted, modified, add_0fff, online_51}
-use Rattle.iocm_examples.specs.Histories.{Script, history_of, Answers, after, marks_after, number_of}
+use Rattle.iocm_examples.specs.Histories.{Script, history_of, GivesItsAnswers, after, marks_after, number_of}
 use Rattle.iocm_examples.specs.Histories.{change_by, orders, enables, code, refused}
 
 -- a device that comes in
@@ -39,7 +39,7 @@ cells_apart =
 
 -- the second keeps its number, and the first gets its own again
 pub record CellsApart : Type 0 where
-  pub answers : Answers cells_apart
+  pub answers : GivesItsAnswers cells_apart
   pub marks : marks_after 3 cells_apart ≡ undone_with 1 ∷ kept ∷ kept ∷ []
   pub gone : number_of 0x0FFF (after 3 cells_apart) ≡ None
   pub stays : number_of 0x1004 (after 3 cells_apart) ≡ Some 5
@@ -284,6 +284,6 @@ cells_before_the_last =
 
 -- the device keeps 0 there, and has 7 besides
 pub record TwoNumbersForAWhile : Type 0 where
-  pub answers : Answers two_numbers_for_a_while
+  pub answers : GivesItsAnswers two_numbers_for_a_while
   pub keeps : device_of 0 cells_before_the_last ≡ Some 0x3000
   pub besides : device_of 7 cells_before_the_last ≡ Some 0x3000

@@ -11,7 +11,7 @@ use Rattle.iocm_model.specs.Change.Tree.{leaf, group, choose}
 use Rattle.iocm_history.specs.Entry.{activate, begin, advance, commit, abort, undo, redo, show}
 use Rattle.iocm_examples.specs.BaseDeck.{device_on_1000, device_key, subchannel}
 use Rattle.iocm_examples.specs.Edits.{base_opened, deleted, add_0fff}
-use Rattle.iocm_examples.specs.Histories.{Script, Answers, after, number_of, change_by, orders}
+use Rattle.iocm_examples.specs.Histories.{Script, GivesItsAnswers, after, number_of, change_by, orders}
 use Rattle.iocm_examples.specs.Histories.{ends, enables, code, status, refused, stored}
 use Rattle.iocm_examples.specs.Trees.{exchange}
 
@@ -57,7 +57,7 @@ counted_down =
     ∷ []
 
 pub record CountedDown : Type 0 where
-  pub answers : Answers counted_down
+  pub answers : GivesItsAnswers counted_down
   pub before : get (after 6 counted_down).config (device_key 0x1003) ≡ Some (device_on_1000 0x1003 0x03)
   pub committed : get (after 7 counted_down).config (device_key 0x1003) ≡ Some (device_on_1000 0x1003 0x02)
 
@@ -66,7 +66,7 @@ abbrev pub left_staged : Script
 left_staged = (begin (leaf (deleted (device_key 0x1003))), Staged 1) ∷ (advance, Left 0) ∷ []
 
 pub record LeftStaged : Type 0 where
-  pub answers : Answers left_staged
+  pub answers : GivesItsAnswers left_staged
   pub state : after 2 left_staged ≡ base_opened
 
 -- subchannels that are to come are held too, orders and device ends
@@ -101,7 +101,7 @@ aborted_at_each_stage =
 
 -- and the machine is as it was opened each time
 pub record AbortedAtEachStage : Type 0 where
-  pub answers : Answers aborted_at_each_stage
+  pub answers : GivesItsAnswers aborted_at_each_stage
   pub none : after 2 aborted_at_each_stage ≡ base_opened
   pub one : after 5 aborted_at_each_stage ≡ base_opened
   pub two : after 9 aborted_at_each_stage ≡ base_opened
@@ -128,6 +128,6 @@ past_by_a_commit =
     ∷ []
 
 pub record PastByACommit : Type 0 where
-  pub answers : Answers past_by_a_commit
+  pub answers : GivesItsAnswers past_by_a_commit
   pub committed : number_of 0x1003 (after 11 past_by_a_commit) ≡ None
   pub undone : number_of 0x1003 (after 13 past_by_a_commit) ≡ Some 3

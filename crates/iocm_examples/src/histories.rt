@@ -1,5 +1,5 @@
 ghost use Rattle.iocm_examples.specs.Histories.{
-  Answers,
+  GivesItsAnswers,
   LatestFirst,
   three_changes,
   empty_changes,
@@ -42,8 +42,8 @@ ghost use Rattle.iocm_examples.specs.Starts.{taken_back, ended_before_it_began, 
 /// the refusals name: runs on the example deck, computed from the definitions.
 pub fn undo_and_redo_are_as_worked()
     ensures latest_first { LatestFirst }
-    ensures three { Answers three_changes }
-    ensures empty { Answers empty_changes }
+    ensures three { GivesItsAnswers three_changes }
+    ensures empty { GivesItsAnswers empty_changes }
 {}
 
 /// Steps that stand in the way of a change, and steps on subchannels that a change doesn't alter,
@@ -57,9 +57,9 @@ pub fn steps_elsewhere_are_as_worked()
 /// Steps on subchannels that a change altered: the undo waits until they are quiet and strikes the
 /// steps since the change, and the redo brings these back: computed.
 pub fn steps_on_altered_subchannels_are_as_worked()
-    ensures online { Answers a_path_comes_online }
+    ensures online { GivesItsAnswers a_path_comes_online }
     ensures undone { APathUndone }
-    ensures in_use { Answers a_path_in_use }
+    ensures in_use { GivesItsAnswers a_path_in_use }
     ensures busy { ABusyUndo }
     ensures busy_redo { ABusyRedo }
     ensures in_turn { UndoneInTurn }
@@ -70,12 +70,12 @@ pub fn steps_on_altered_subchannels_are_as_worked()
 /// one is undone; and which refusal comes first: computed.
 pub fn undo_under_later_changes_is_as_worked()
     ensures apart { CellsApart }
-    ensures turned { Answers paths_turned }
-    ensures address { Answers an_address_taken }
-    ensures earlier { Answers an_earlier_undone }
-    ensures stood_on { Answers stood_on_and_busy }
-    ensures not_last { Answers not_last_and_busy }
-    ensures nothing { Answers nothing_in_common }
+    ensures turned { GivesItsAnswers paths_turned }
+    ensures address { GivesItsAnswers an_address_taken }
+    ensures earlier { GivesItsAnswers an_earlier_undone }
+    ensures stood_on { GivesItsAnswers stood_on_and_busy }
+    ensures not_last { GivesItsAnswers not_last_and_busy }
+    ensures nothing { GivesItsAnswers nothing_in_common }
 {}
 
 /// What is in the way of an undo: an earlier change that was undone also once it is past, a later
@@ -83,21 +83,21 @@ pub fn undo_under_later_changes_is_as_worked()
 /// has a number alone in common. And a history in which a device has two numbers for a while once a
 /// change is undone: computed.
 pub fn what_is_in_the_way_is_as_worked()
-    ensures past { Answers a_past_one }
-    ensures later { Answers a_later_undone }
-    ensures put_back { Answers put_back_at_once }
-    ensures number { Answers a_number_in_common }
+    ensures past { GivesItsAnswers a_past_one }
+    ensures later { GivesItsAnswers a_later_undone }
+    ensures put_back { GivesItsAnswers put_back_at_once }
+    ensures number { GivesItsAnswers a_number_in_common }
     ensures two_numbers { TwoNumbersForAWhile }
 {}
 
 /// Changes in stages: what is held, what is left, what a Commit and an Abort do, and what waits for
 /// them: computed.
 pub fn stages_are_as_worked()
-    ensures aborted { Answers held_and_aborted }
-    ensures decided { Answers decided_at_begin }
+    ensures aborted { GivesItsAnswers held_and_aborted }
+    ensures decided { GivesItsAnswers decided_at_begin }
     ensures counted { CountedDown }
     ensures left_staged { LeftStaged }
-    ensures to_come { Answers held_before_they_are_there }
+    ensures to_come { GivesItsAnswers held_before_they_are_there }
     ensures each_stage { AbortedAtEachStage }
     ensures past { PastByACommit }
 {}
@@ -105,8 +105,8 @@ pub fn stages_are_as_worked()
 /// Starts that are pending: CANCEL takes them back, a device begin makes them active, and until
 /// then they stand in the way of changes: computed.
 pub fn pending_starts_are_as_worked()
-    ensures taken_back { Answers taken_back }
-    ensures ended { Answers ended_before_it_began }
-    ensures in_the_way { Answers in_the_way }
-    ensures staged { Answers held_when_staged }
+    ensures taken_back { GivesItsAnswers taken_back }
+    ensures ended { GivesItsAnswers ended_before_it_began }
+    ensures in_the_way { GivesItsAnswers in_the_way }
+    ensures staged { GivesItsAnswers held_when_staged }
 {}

@@ -2,7 +2,7 @@
 use Rattle.std.proofs.Common.{None, List, [], ◌∷◌, refl}
 use Rattle.iocm_types.specs.declared.order.Order.TheVariants.{Store}
 use Rattle.iocm_examples.specs.BaseDeck.{device_on_1000, device_key, subchannel, unit_on}
-use Rattle.iocm_examples.specs.Histories.{Answers}
+use Rattle.iocm_examples.specs.Histories.{GivesItsAnswers}
 use Rattle.iocm_examples.proofs.Listed.Trees.{in_group, no_parts, parts_listed}
 use Rattle.iocm_examples.proofs.Listed.States.{ListedEdit}
 use Rattle.iocm_examples.proofs.Listed.Histories.{ListedCall, activating, undoes, redoes}
@@ -25,14 +25,14 @@ put_back_calls =
     ∷ undoes 1
     ∷ []
 
-pub put_back_answers : Answers put_back_by_a_later
+pub put_back_answers : GivesItsAnswers put_back_by_a_later
 unfolding made_by
 put_back_answers = answers_are put_back_calls (refl, (refl, tt))
 
 abbrev from_one_calls : List ListedCall
 from_one_calls = redoes 0 ∷ undoes 0 ∷ activating (in_group no_parts) [] ∷ undoes 0 ∷ undoes 1 ∷ redoes 0 ∷ redoes 1 ∷ []
 
-pub from_one_answers : Answers numbers_from_one
+pub from_one_answers : GivesItsAnswers numbers_from_one
 unfolding made_by
 from_one_answers = answers_are from_one_calls (refl, tt)
 
@@ -57,7 +57,7 @@ meanwhile_calls =
     ∷ undoes 1
     ∷ []
 
-pub meanwhile_answers : Answers seen_meanwhile
+pub meanwhile_answers : GivesItsAnswers seen_meanwhile
 unfolding made_by
 meanwhile_answers = answers_are meanwhile_calls (refl, (refl, (refl, tt)))
 
@@ -68,6 +68,6 @@ seen_without_calls =
     ∷ changes (plain_delete (device_key 0x1004))
     ∷ []
 
-pub seen_without_answers : Answers seen_without
+pub seen_without_answers : GivesItsAnswers seen_without
 unfolding made_by
 seen_without_answers = answers_are seen_without_calls (refl, (refl, tt))

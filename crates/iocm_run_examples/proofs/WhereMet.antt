@@ -26,7 +26,7 @@ use Rattle.iocm_history.proofs.LegalRuns.{runs_are_legal}
 use Rattle.iocm_history.proofs.Stages.{abort_leaves_the_other_steps}
 use Rattle.iocm_examples.specs.BaseDeck.{base, device_key, subchannel}
 use Rattle.iocm_examples.specs.Edits.{base_opened, deleted, add_0fff}
-use Rattle.iocm_examples.specs.Histories.{Answers, calls_of, history_of, steps_elsewhere, a_path_undone, undone_in_turn, change_by, number_of}
+use Rattle.iocm_examples.specs.Histories.{GivesItsAnswers, calls_of, history_of, steps_elsewhere, a_path_undone, undone_in_turn, change_by, number_of}
 use Rattle.iocm_examples.specs.SelectiveUndo.{cells_apart, add_1004}
 use Rattle.iocm_examples.proofs.OnLists.{states_on_lists}
 use Rattle.iocm_examples.proofs.Listed.Views.{entries-configuration_of}
@@ -159,7 +159,7 @@ in_stages_calls =
     ∷ ordered (subchannel 1 3) Store
     ∷ []
 
-in_stages_answers : Answers a_deletion_in_stages
+in_stages_answers : GivesItsAnswers a_deletion_in_stages
 unfolding made_by
 in_stages_answers = answers_are in_stages_calls (refl, tt)
 
@@ -204,7 +204,7 @@ given_up_calls =
     ∷ ordered (subchannel 1 3) Store
     ∷ []
 
-given_up_answers : Answers a_deletion_given_up
+given_up_answers : GivesItsAnswers a_deletion_given_up
 unfolding made_by
 given_up_answers = answers_are given_up_calls (refl, tt)
 

@@ -9,7 +9,7 @@ use Rattle.iocm_history.specs.RedoLaws.{IsRedone}
 use Rattle.iocm_history.specs.StageLaws.{abort_entry, IsStagedUntil, LeavesTheSteps}
 use Rattle.iocm_examples.specs.BaseDeck.{device_key, subchannel}
 use Rattle.iocm_examples.specs.Edits.{base_opened, deleted, add_0fff}
-use Rattle.iocm_examples.specs.Histories.{Script, Answers, history_of, change_by, orders, enables, code}
+use Rattle.iocm_examples.specs.Histories.{Script, GivesItsAnswers, history_of, change_by, orders, enables, code}
 use Rattle.iocm_examples.specs.Histories.{stored, steps_elsewhere, a_path_undone, undone_in_turn}
 use Rattle.iocm_examples.specs.SelectiveUndo.{cells_apart}
 use Rattle.iocm_runs.specs.UndoneRun.{IsUndoneAlone, IsRunWithout}
@@ -63,7 +63,7 @@ a_deletion_in_stages =
     ∷ []
 
 pub record ADeletionInStages : Type 0 where
-  pub answers : Answers a_deletion_in_stages
+  pub answers : GivesItsAnswers a_deletion_in_stages
   pub met : IsUndoneInStages base_opened (first 0 a_deletion_in_stages)
       (latest_of_first 2 3 a_deletion_in_stages) (latest_of_first 2 6 a_deletion_in_stages)
       (leaf (deleted (device_key 0x1003))) 1 1 (entry_after 3 a_deletion_in_stages commit)
@@ -82,7 +82,7 @@ a_deletion_given_up =
     ∷ []
 
 pub record ADeletionGivenUp : Type 0 where
-  pub answers : Answers a_deletion_given_up
+  pub answers : GivesItsAnswers a_deletion_given_up
   pub met : IsStagedUntil base_opened [] (leaf (deleted (device_key 0x1003))) 1
       (latest_of_first 2 3 a_deletion_given_up) abort_entry
   pub run : LeavesTheSteps base_opened [] (latest_of_first 2 3 a_deletion_given_up)

@@ -7,7 +7,7 @@ use Rattle.iocm_model.specs.Change.Edit.{Edit}
 use Rattle.iocm_history.specs.Entry.{undo}
 use Rattle.iocm_examples.specs.BaseDeck.{device_key, subchannel, unit_on}
 use Rattle.iocm_examples.specs.Edits.{deleted, modified}
-use Rattle.iocm_examples.specs.Histories.{Script, Answers, after, number_of, change_by, orders, stored}
+use Rattle.iocm_examples.specs.Histories.{Script, GivesItsAnswers, after, number_of, change_by, orders, stored}
 use Rattle.iocm_examples.specs.SelectiveUndo.{add_1004, cells_apart}
 
 -- of two devices that come in the first alone is undone, or never comes
@@ -18,7 +18,7 @@ without_the_first = (change_by add_1004, Changed 1) ∷ []
 -- had
 pub record NumbersAnew : Type 0 where
   pub kept : number_of 0x1004 (after 3 cells_apart) ≡ Some 5
-  pub answers : Answers without_the_first
+  pub answers : GivesItsAnswers without_the_first
   pub anew : number_of 0x1004 (after 1 without_the_first) ≡ Some 4
 
 -- the paths of a unit change places

@@ -1,4 +1,4 @@
-ghost use Rattle.iocm_examples.specs.Histories.{Answers};
+ghost use Rattle.iocm_examples.specs.Histories.{GivesItsAnswers};
 ghost use Rattle.iocm_run_examples.specs.Fitting.{FromAnotherValue, NotThereToDelete, ThereToAdd};
 ghost use Rattle.iocm_run_examples.specs.InTheWay.{put_back_by_a_later, numbers_from_one};
 ghost use Rattle.iocm_run_examples.specs.Premises.{
@@ -17,14 +17,14 @@ ghost use Rattle.iocm_run_examples.specs.WithoutAChange.{NumbersAnew, seen_meanw
 pub fn runs_without_a_change_are_as_worked()
     ensures numbers { NumbersAnew }
     ensures no_run { NoRunWithoutTheFirst }
-    ensures seen { Answers seen_meanwhile }
-    ensures without { Answers seen_without }
+    ensures seen { GivesItsAnswers seen_meanwhile }
+    ensures without { GivesItsAnswers seen_without }
 {}
 
 /// An undo under a later change that put a subchannel back, and changes of number 0: computed.
 pub fn what_blocks_is_as_worked()
-    ensures put_back { Answers put_back_by_a_later }
-    ensures from_one { Answers numbers_from_one }
+    ensures put_back { GivesItsAnswers put_back_by_a_later }
+    ensures from_one { GivesItsAnswers numbers_from_one }
 {}
 
 /// Changes that don't fit a state because an inverse would come from another value, or is refused

@@ -6,7 +6,7 @@ use Rattle.iocm_examples.proofs.Listed.Trees.{in_group, in_choose, no_parts, par
 use Rattle.iocm_examples.proofs.Listed.Histories.{ListedCall, activating, undoes, redoes, shows}
 use Rattle.iocm_examples.proofs.Computed.Edits.{plain_add, plain_delete}
 use Rattle.iocm_examples.proofs.Computed.Runs.{changes, ordered, ended, enabled, made_by, AreRight, answers_are, marks_are, number_is, record_is, live_is}
-use Rattle.iocm_examples.specs.Histories.{Answers, LatestFirst, AChooseUndone, StepsElsewhere, PendingStatus, three_changes, empty_changes, a_path_comes_online, APathUndone, a_path_in_use, ABusyUndo, ABusyRedo, UndoneInTurn}
+use Rattle.iocm_examples.specs.Histories.{GivesItsAnswers, LatestFirst, AChooseUndone, StepsElsewhere, PendingStatus, three_changes, empty_changes, a_path_comes_online, APathUndone, a_path_in_use, ABusyUndo, ABusyRedo, UndoneInTurn}
 
 abbrev latest_first_calls : List ListedCall
 latest_first_calls =
@@ -115,7 +115,7 @@ three_changes_calls =
     ∷ shows
     ∷ []
 
-pub three_changes_answers : Answers three_changes
+pub three_changes_answers : GivesItsAnswers three_changes
 unfolding made_by
 three_changes_answers =
     answers_are three_changes_calls (refl, (refl, (refl, tt)))
@@ -132,7 +132,7 @@ empty_changes_calls =
     ∷ shows
     ∷ []
 
-pub empty_changes_answers : Answers empty_changes
+pub empty_changes_answers : GivesItsAnswers empty_changes
 unfolding made_by
 empty_changes_answers = answers_are empty_changes_calls (refl, (tt, (refl, tt)))
 
@@ -144,7 +144,7 @@ a_path_comes_online_calls =
     ∷ ordered (subchannel 2 0) Start
     ∷ []
 
-pub a_path_comes_online_answers : Answers a_path_comes_online
+pub a_path_comes_online_answers : GivesItsAnswers a_path_comes_online
 unfolding made_by
 a_path_comes_online_answers = answers_are a_path_comes_online_calls (refl, tt)
 
@@ -182,7 +182,7 @@ a_path_in_use_calls =
     ∷ undoes 1
     ∷ []
 
-pub a_path_in_use_answers : Answers a_path_in_use
+pub a_path_in_use_answers : GivesItsAnswers a_path_in_use
 unfolding made_by
 a_path_in_use_answers = answers_are a_path_in_use_calls (refl, tt)
 

@@ -8,7 +8,7 @@ use Rattle.iocm_examples.proofs.Listed.States.{ListedEdit}
 use Rattle.iocm_examples.proofs.Listed.Histories.{ListedCall, activating, undoes, redoes, shows}
 use Rattle.iocm_examples.proofs.Computed.Edits.{plain_add, plain_delete, plain_modify}
 use Rattle.iocm_examples.proofs.Computed.Runs.{changes, ordered, enabled, made_by, AreRight, answers_are, marks_are, number_is, device_is}
-use Rattle.iocm_examples.specs.Histories.{Answers}
+use Rattle.iocm_examples.specs.Histories.{GivesItsAnswers}
 use Rattle.iocm_examples.specs.SelectiveUndo.{CellsApart, paths_turned, an_address_taken, an_earlier_undone, stood_on_and_busy, not_last_and_busy, nothing_in_common, a_past_one, a_later_undone, put_back_at_once, unseen_device, a_number_in_common, unit_with, path_of_css_1, device_on_two, of_lpc, TwoNumbersForAWhile}
 
 abbrev cells_apart_calls : List ListedCall
@@ -39,7 +39,7 @@ paths_turned_calls =
     ∷ undoes 1
     ∷ []
 
-pub paths_turned_answers : Answers paths_turned
+pub paths_turned_answers : GivesItsAnswers paths_turned
 unfolding made_by
 paths_turned_answers = answers_are paths_turned_calls (refl, (refl, tt))
 
@@ -52,7 +52,7 @@ an_address_taken_calls =
     ∷ undoes 1
     ∷ []
 
-pub an_address_taken_answers : Answers an_address_taken
+pub an_address_taken_answers : GivesItsAnswers an_address_taken
 unfolding made_by
 an_address_taken_answers = answers_are an_address_taken_calls (refl, (refl, tt))
 
@@ -68,7 +68,7 @@ an_earlier_undone_calls =
     ∷ undoes 1
     ∷ []
 
-pub an_earlier_undone_answers : Answers an_earlier_undone
+pub an_earlier_undone_answers : GivesItsAnswers an_earlier_undone
 unfolding made_by
 an_earlier_undone_answers = answers_are an_earlier_undone_calls (refl, (refl, (refl, tt)))
 
@@ -81,7 +81,7 @@ stood_on_and_busy_calls =
     ∷ undoes 1
     ∷ []
 
-pub stood_on_and_busy_answers : Answers stood_on_and_busy
+pub stood_on_and_busy_answers : GivesItsAnswers stood_on_and_busy
 unfolding made_by
 stood_on_and_busy_answers = answers_are stood_on_and_busy_calls (refl, (refl, tt))
 
@@ -98,7 +98,7 @@ not_last_and_busy_calls =
     ∷ redoes 2
     ∷ []
 
-pub not_last_and_busy_answers : Answers not_last_and_busy
+pub not_last_and_busy_answers : GivesItsAnswers not_last_and_busy
 unfolding made_by
 not_last_and_busy_answers = answers_are not_last_and_busy_calls (refl, (refl, tt))
 
@@ -115,7 +115,7 @@ nothing_in_common_calls =
     ∷ shows
     ∷ []
 
-pub nothing_in_common_answers : Answers nothing_in_common
+pub nothing_in_common_answers : GivesItsAnswers nothing_in_common
 unfolding made_by
 nothing_in_common_answers = answers_are nothing_in_common_calls (refl, (refl, (refl, tt)))
 
@@ -134,7 +134,7 @@ a_past_one_calls =
     ∷ undoes 3
     ∷ []
 
-pub a_past_one_answers : Answers a_past_one
+pub a_past_one_answers : GivesItsAnswers a_past_one
 unfolding made_by
 a_past_one_answers = answers_are a_past_one_calls (refl, (refl, (refl, (refl, (refl, tt)))))
 
@@ -148,7 +148,7 @@ a_later_undone_calls =
     ∷ undoes 1
     ∷ []
 
-pub a_later_undone_answers : Answers a_later_undone
+pub a_later_undone_answers : GivesItsAnswers a_later_undone
 unfolding made_by
 a_later_undone_answers = answers_are a_later_undone_calls (refl, (refl, (refl, tt)))
 
@@ -168,7 +168,7 @@ put_back_at_once_calls =
     ∷ undoes 1
     ∷ []
 
-pub put_back_at_once_answers : Answers put_back_at_once
+pub put_back_at_once_answers : GivesItsAnswers put_back_at_once
 unfolding made_by
 put_back_at_once_answers = answers_are put_back_at_once_calls (refl, (refl, (refl, tt)))
 
@@ -186,7 +186,7 @@ a_number_in_common_calls =
     ∷ undoes 3
     ∷ []
 
-pub a_number_in_common_answers : Answers a_number_in_common
+pub a_number_in_common_answers : GivesItsAnswers a_number_in_common
 unfolding made_by
 a_number_in_common_answers = answers_are a_number_in_common_calls (refl, (refl, (refl, (refl, (refl, tt)))))
 

@@ -8,7 +8,7 @@ use Rattle.iocm_examples.proofs.Listed.Histories.{ListedCall, activating, beginn
 use Rattle.iocm_examples.proofs.Computed.Edits.{base_is, plain_delete}
 use Rattle.iocm_examples.proofs.Computed.Runs.{changes, ordered, ended, enabled, made_by, AreRight, answers_are, state_is, number_is, record_is}
 use Rattle.iocm_examples.specs.Edits.{base_opened}
-use Rattle.iocm_examples.specs.Histories.{Answers}
+use Rattle.iocm_examples.specs.Histories.{GivesItsAnswers}
 use Rattle.iocm_examples.specs.Stages.{held_and_aborted, decided_at_begin, CountedDown, LeftStaged, held_before_they_are_there, AbortedAtEachStage, PastByACommit}
 use Rattle.iocm_examples.proofs.Computed.Edits.{the_0fff}
 use Rattle.iocm_examples.proofs.Computed.Trees.{exchange_listed}
@@ -33,7 +33,7 @@ held_and_aborted_calls =
     ∷ committing
     ∷ []
 
-pub held_and_aborted_answers : Answers held_and_aborted
+pub held_and_aborted_answers : GivesItsAnswers held_and_aborted
 unfolding made_by
 held_and_aborted_answers = answers_are held_and_aborted_calls (refl, tt)
 
@@ -49,7 +49,7 @@ decided_at_begin_calls =
     ∷ ordered (subchannel 1 0) Store
     ∷ []
 
-pub decided_at_begin_answers : Answers decided_at_begin
+pub decided_at_begin_answers : GivesItsAnswers decided_at_begin
 unfolding made_by
 decided_at_begin_answers = answers_are decided_at_begin_calls (refl, tt)
 
@@ -93,7 +93,7 @@ held_before_they_are_there_calls =
     ∷ ordered (subchannel 1 4) Start
     ∷ []
 
-pub held_before_they_are_there_answers : Answers held_before_they_are_there
+pub held_before_they_are_there_answers : GivesItsAnswers held_before_they_are_there
 unfolding made_by
 held_before_they_are_there_answers = answers_are held_before_they_are_there_calls (refl, tt)
 

@@ -4,7 +4,7 @@ use Rattle.iocm_types.specs.declared.order.Order.TheVariants.{Start, Cancel, Tes
 use Rattle.iocm_types.specs.declared.sub_id.SubId.{SubId}
 use Rattle.iocm_model.specs.Operation.Step.{device_begin}
 use Rattle.iocm_examples.specs.BaseDeck.{device_key, subchannel}
-use Rattle.iocm_examples.specs.Histories.{Answers}
+use Rattle.iocm_examples.specs.Histories.{GivesItsAnswers}
 use Rattle.iocm_examples.specs.Starts.{taken_back, ended_before_it_began, in_the_way, held_when_staged}
 use Rattle.iocm_examples.proofs.Listed.Histories.{ListedCall, stepping, beginning}
 use Rattle.iocm_examples.proofs.Listed.States.{ListedEdit}
@@ -34,7 +34,7 @@ taken_back_calls =
     ∷ ordered (subchannel 1 0) Test
     ∷ []
 
-pub taken_back_answers : Answers taken_back
+pub taken_back_answers : GivesItsAnswers taken_back
 unfolding made_by
 taken_back_answers = answers_are taken_back_calls tt
 
@@ -49,7 +49,7 @@ ended_before_it_began_calls =
     ∷ ordered (subchannel 1 4) Cancel
     ∷ []
 
-pub ended_before_it_began_answers : Answers ended_before_it_began
+pub ended_before_it_began_answers : GivesItsAnswers ended_before_it_began
 unfolding made_by
 ended_before_it_began_answers = answers_are ended_before_it_began_calls tt
 
@@ -62,7 +62,7 @@ in_the_way_calls =
     ∷ changes (plain_delete (device_key 0x1000))
     ∷ []
 
-pub in_the_way_answers : Answers in_the_way
+pub in_the_way_answers : GivesItsAnswers in_the_way
 unfolding made_by
 in_the_way_answers = answers_are in_the_way_calls (tt, (refl, tt))
 
@@ -81,6 +81,6 @@ held_when_staged_calls =
     ∷ begun (subchannel 1 3)
     ∷ []
 
-pub held_when_staged_answers : Answers held_when_staged
+pub held_when_staged_answers : GivesItsAnswers held_when_staged
 unfolding made_by
 held_when_staged_answers = answers_are held_when_staged_calls (tt, (refl, tt))
