@@ -1,9 +1,10 @@
 -- The lines of a list are those of its parts, one after the other.
-use Rattle.std.proofs.Common.{◌≡◌, ℕ, ◌==◌, ◌+◌, ◌<◌, List, [], ◌∷◌, ◌++◌, length, take, map, filter, get_or, Bool, true, false, Some, None, arith, refl, ◌∙◌, sym, ap}
+use Rattle.std.proofs.Common.{◌≡◌, ℕ, ◌==◌, ◌+◌, ◌<◌, List, [], ◌∷◌, ◌++◌, length, take, map, filter, get_or, Bool, true, false, not, Option, Some, None, arith, refl, ◌∙◌, sym, ap}
 use Rattle.std.specs.List.{flat_map, filter_map}
 use Rattle.std.proofs.lemmas.List.{take_more, map-append, append-nil, append_assoc}
 use Rattle.std.proofs.lemmas.List.Elements.{filter-append, filter_map-append}
 use Rattle.std.proofs.lemmas.Grind.{flat_map-append}
+use Rattle.std.proofs.lemmas.Bool.{eqb-true, not-false}
 use Rattle.std.proofs.lemmas.Bool.Decides.{nat_tests}
 use Rattle.iocm_types.specs.declared.place.NumberCell.{NumberCell}
 use Rattle.iocm_record.specs.declared.record.RecordBody.{RecordBody}
@@ -19,7 +20,8 @@ use Rattle.iocm_model.specs.Machine.Table.{line_of, heading, table_of}
 use Rattle.iocm_model.specs.Machine.View.{row_at, image_view}
 use Rattle.iocm_types.specs.declared.view.View.{View}
 use Rattle.iocm_console.specs.declared.cells.CellDevice.{CellDevice}
-use Rattle.iocm_console.specs.Lines.{CellDevices, celled, lines_of, image_lines, record_lines}
+use Rattle.iocm_console.specs.declared.subsystem_cells.SubsystemCells.{SubsystemCells}
+use Rattle.iocm_console.specs.Lines.{CellDevices, celled, lines_of, image_lines, record_lines, AreNear, HaveSameLines}
 
 -- the lines of an image at some cells and at further ones
 pub image_lines-append : (c : Lookup) (i : ImageRecord) (xs ys : CellDevices) → image_lines c i (xs ++ ys) ≡ image_lines c i xs ++ image_lines c i ys
@@ -114,3 +116,35 @@ table_lines c n cells places =
     append_assoc heading (10 ∷ []) _
     ∙ ap (λ (xs : List ℕ). heading ++ 10 ∷ xs) (rw (← places) (sym (lines_of-flat_map
     (λ i. filter_map (row_at (lookup_of c) i) (filter (λ (e : NumberCell × ℕ). e.0.css == i.css) cells)) (filter_map as_image (records_of c)))))
+
+-- cells without a first or a last one of another channel subsystem have the same lines
+pub without_first : (css : ℕ) (first : CellDevice) (rest more all : List CellDevice) → rest ≡ first ∷ more → (first.cell.css == css) ≡ false
+    → HaveSameLines css (celled rest) (celled all) → HaveSameLines css (celled more) (celled all)
+without_first css first rest more all is other same c i here =
+    ap (λ xs. xs ++ image_lines c i (celled more)) (sym (other_css c i (first.cell, first.device) (ap (λ n. first.cell.css == n) here ∙ other)))
+    ∙ sym (image_lines-append c i ((first.cell, first.device) ∷ []) (celled more))
+    ∙ ap (λ xs. image_lines c i (celled xs)) (sym is) ∙ same c i here
+
+pub without_last : (css : ℕ) (last : CellDevice) (rest more all : List CellDevice) → rest ≡ more ++ last ∷ [] → (last.cell.css == css) ≡ false
+    → HaveSameLines css (celled rest) (celled all) → HaveSameLines css (celled more) (celled all)
+without_last css last rest more all is other same c i here =
+    sym (append-nil (image_lines c i (celled more)))
+    ∙ ap (λ xs. image_lines c i (celled more) ++ xs) (sym (other_css c i (last.cell, last.device) (ap (λ n. last.cell.css == n) here ∙ other)))
+    ∙ sym (image_lines-append c i (celled more) ((last.cell, last.device) ∷ []))
+    ∙ ap (image_lines c i) (sym (map-append (λ (e : CellDevice). (e.cell, e.device)) more (last ∷ [])))
+    ∙ ap (λ xs. image_lines c i (celled xs)) (sym is) ∙ same c i here
+
+-- a record has the same lines by the cells of its image's channel subsystem
+pub near_lines : (c : Lookup) (near : SubsystemCells) (all : CellDevices) (r : Rec) → AreNear all near
+    → ((i : ImageRecord) → as_image r ≡ Some i → i.css ≡ near.css)
+    → record_lines c (celled near.cells.now) (r ∷ []) ≡ record_lines c all (r ∷ [])
+unfolding record_lines
+near_lines c near all r same here = by (as_image r) refl
+  where
+    by : (o : Option ImageRecord) → as_image r ≡ o → record_lines c (celled near.cells.now) (r ∷ []) ≡ record_lines c all (r ∷ [])
+    by None is = rw is refl
+    by (Some i) is = rw is (ap (λ xs. xs ++ []) (same c i (here i is)))
+
+-- two channel subsystems that don't differ are one
+pub same_css : (a b : ℕ) → not (a == b) ≡ false → a ≡ b
+same_css a b same = eqb-true a b (not-false (a == b) same)

@@ -1,5 +1,5 @@
 -- The lines of the table, image by image.
-use Rattle.std.specs.Prelude.{ℕ, ◌==◌, List, [], ◌∷◌, ◌++◌, map, filter}
+use Rattle.std.specs.Prelude.{ℕ, ◌≡◌, ◌==◌, List, [], ◌∷◌, ◌++◌, map, filter}
 use Rattle.std.specs.List.{flat_map, filter_map}
 use Rattle.iocm_types.specs.declared.place.NumberCell.{NumberCell}
 use Rattle.iocm_types.specs.declared.sub_id.SubId.{SubId}
@@ -10,6 +10,7 @@ use Rattle.iocm_model.specs.Machine.Table.{line_of}
 use Rattle.iocm_model.specs.Machine.View.{row_at}
 use Rattle.iocm_console.specs.declared.table.PrintedImage.{PrintedImage}
 use Rattle.iocm_console.specs.declared.cells.CellDevice.{CellDevice}
+use Rattle.iocm_console.specs.declared.subsystem_cells.SubsystemCells.{SubsystemCells}
 
 -- number cells with their devices
 abbrev pub CellDevices : Type 0
@@ -30,6 +31,14 @@ image_lines c i cells = lines_of (filter_map (row_at c i) (filter (λ (e : Numbe
 -- the lines of the images among some records
 unfoldable pub record_lines : Lookup → CellDevices → List Rec → List ℕ
 record_lines c cells records = flat_map (λ i. image_lines c i cells) (filter_map as_image records)
+
+-- at one list of cells as at another each image of a channel subsystem has the same lines
+abbrev pub HaveSameLines : ℕ → CellDevices → CellDevices → Type 0
+HaveSameLines css some all = (c : Lookup) (i : ImageRecord) → i.css ≡ css → image_lines c i some ≡ image_lines c i all
+
+-- cells that serve for a channel subsystem in place of all cells
+abbrev pub AreNear : CellDevices → SubsystemCells → Type 0
+AreNear all near = HaveSameLines near.css (celled near.cells.now) all
 
 -- the record of an image
 abbrev pub image_record : PrintedImage → ImageRecord

@@ -29,6 +29,7 @@ mod output;
 mod refusal;
 mod row;
 mod status;
+mod subsystem_cells;
 mod table;
 
 pub use canonical::write_text;

@@ -7,12 +7,13 @@ ghost use Rattle.iocm_console.specs.Show.{table_at, table_done};
 
 use crate::cells::{CellDevice, gather_cells};
 use crate::opening::refuse;
+use crate::subsystem_cells::{SubsystemCells, css_of_image};
 use crate::{ConsoleError, Output, Status};
 use iocm_config::Config;
 use iocm_derive::ImageSight;
 use iocm_numbers::Numbers;
 use iocm_record::{Record, RecordBody};
-use iocm_types::{Fault, Image, Name, SubId};
+use iocm_types::{Css, Fault, Image, Name, SubId};
 use std::alloc::Allocator;
 use std::io::Write;
 
@@ -63,7 +64,8 @@ pub fn write_lines<A: Allocator, W: Write + Drop>(
     Ok(Status::Done)
 }
 
-/// Writes the lines of all images at some number cells.
+/// Writes the lines of all images at some number cells. The images of a channel subsystem come one
+/// after the other, and each goes over the cells of its own alone.
 fn write_rows<A: Allocator, W: Write + Drop>(
     output: &mut Output<W>,
     config: &Config<A>,
@@ -74,8 +76,13 @@ fn write_rows<A: Allocator, W: Write + Drop>(
     ensures works { OnOk result (has_failed output.new ≡ has_failed output.old) }
     ensures fault { IfErr result (FailedToWrite output.new) }
 {
+    let mut near = SubsystemCells::of(cells, Css::FIRST);
     for (_, entry) in config.walk() {
-        write_record(output, config, entry, cells)?;
+        let css = css_of_image(entry, near.css);
+        if css != near.css {
+            near = SubsystemCells::of(cells, css);
+        }
+        write_record(output, config, entry, near.cells)?;
     }
     Ok(())
 }
