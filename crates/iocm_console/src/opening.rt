@@ -11,7 +11,6 @@ ghost use Rattle.iocm_console.specs.Opening.{refused, breached, declined, Says};
 use crate::{ConsoleError, Output, Status};
 use iocm_columns::{Card, join};
 use iocm_config::Config;
-use iocm_lookup::index_of;
 use iocm_record::Record;
 use iocm_record_reader::from_statements;
 use iocm_rules::{Breach, check_at_opening};
@@ -58,8 +57,7 @@ pub fn read_statements(alloc: Global, cards: &[Card]) -> Result<Vec<Statement>, 
 pub fn breach_of(alloc: Global, config: &Config) -> Result<Option<Breach>, AllocError>
     ensures { IfOk result (λ breach. breach ≡ first_breach config.now.records (model.opening config.now.records)) }
 {
-    let index = index_of(alloc, config)?;
-    check_at_opening(alloc, config, &index)
+    check_at_opening(alloc, config)
 }
 
 /// Answers where the lines of a deck are not there: it cannot be read, or a line is refused.

@@ -1,4 +1,4 @@
-ghost use Rattle.std.specs.Prelude.{◌≡◌, not, is_none, nat_eq, Some, unwrap_or, []};
+ghost use Rattle.std.specs.Prelude.{◌≡◌, not, is_none, nat_eq, unwrap_or, []};
 ghost use Rattle.std.specs.List.{list_any};
 ghost use Rattle.iocm_types.specs.declared.key.Key.TheVariants as key;
 ghost use Rattle.iocm_model.specs.Machine.Configuration.{lookup_of};
@@ -11,7 +11,6 @@ use iocm_config::Config;
 use iocm_lookup::{RecordKind, Wanted, is_image};
 use iocm_record::{DeviceFields, Record, RecordBody};
 use iocm_types::{Key, List, Name, UnitNo};
-use iocm_unit_rules::is_address_held;
 use std::alloc::Allocator;
 
 /// V8: a device with no unit, over eight, one twice, or one that isn't there. The limit of eight is
@@ -97,72 +96,6 @@ fn is_unit_missing<A: Allocator>(config: &Config<A>, units: &[UnitNo]) -> bool
         }
     }
     false
-}
-
-/// V9: the ranges of one of a device's units don't hold its unit address.
-#[derive(Drop)]
-pub struct AddressNotHeld;
-
-impl<A: Allocator> Wanted<A> for AddressNotHeld {
-    ghost use Rattle.std.specs.Prelude.{refl};
-    ghost use Rattle.iocm_model.specs.Rules.EachRule.{breaks_v9};
-    ghost use Rattle.iocm_lookup.specs.OfKind.{only_devices};
-
-    ghost wants = { λ s c r. breaks_v9 c r };
-
-    ghost fits = { λ s c. Unit {0} };
-
-    ghost place = { 6 };
-
-    ghost of_kind = { λ s c. only_devices (breaks_v9 c)
-        (λ _. refl) (λ _. refl) (λ _. refl) (λ _. refl) (λ _. refl) (λ _. refl) (λ _. refl) };
-
-    fn kind(&self) -> RecordKind {
-        RecordKind::Device
-    }
-
-    fn is_wanted(&self, config: &Config<A>, entry: &Record<A>) -> bool {
-        match entry.body() {
-            RecordBody::Device(fields) => {
-                is_address_lacked(config, fields.unit_address, fields.units.as_slice())
-            }
-            _ => false,
-        }
-    }
-}
-
-/// Whether one of these units that is there lacks an address.
-#[tactic(auto, using(iocm_types::proofs::Any::any_steps))]
-fn is_address_lacked<A: Allocator>(config: &Config<A>, address: u8, units: &[UnitNo]) -> bool
-    ensures { result ≡ list_any
-        (λ number. model.lacks_address address (lookup_of config.now.records (key.Unit number))) units.now }
-{
-    for unit in units {
-        if lacks_address(config, address, *unit) {
-            return true;
-        }
-    }
-    false
-}
-
-/// Whether a unit that is there lacks an address.
-fn lacks_address<A: Allocator>(config: &Config<A>, address: u8, unit: UnitNo) -> bool
-    ensures { result ≡ model.lacks_address address (lookup_of config.now.records (key.Unit unit)) }
-{
-    match config.get(&Key::Unit(unit)) {
-        Some(entry) => record_lacks_address(address, entry),
-        None => false,
-    }
-}
-
-/// Whether a record is that of a unit that lacks an address.
-fn record_lacks_address<A: Allocator>(address: u8, entry: &Record<A>) -> bool
-    ensures { result ≡ model.lacks_address address (Some entry.now) }
-{
-    match entry.body() {
-        RecordBody::Unit(fields) => !is_address_held(address, fields.ranges.as_slice()),
-        _ => false,
-    }
 }
 
 /// V12: a candidate of a device is no image of any channel subsystem.

@@ -160,7 +160,7 @@ fn is_past_limit_in<A: Allocator, N: Allocator>(
 }
 
 /// Below which number the subchannels of a set stay in a channel subsystem.
-fn limit_in<A: Allocator>(config: &Config<A>, css: Css, set: SetNo) -> u16
+pub(crate) fn limit_in<A: Allocator>(config: &Config<A>, css: Css, set: SetNo) -> u16
     ensures { result ≡ past.limit_there (lookup_of config.now.records) css set }
 {
     match config.get(&Key::Limit(css, set)) {

@@ -8,14 +8,16 @@ ghost use Rattle.iocm_numbers.specs.Opening.{rows_at_opening};
 ghost use Rattle.iocm_device_rules.specs.Past as past;
 
 use crate::limits::{first_limit, first_past_limit, limit_of_cell};
+use crate::set_counts::is_any_set_over;
 use iocm_config::Config;
 use iocm_numbers::{opening, opening_rows};
 use iocm_types::{Key, NumberCell, Place};
 use std::alloc::{AllocError, Allocator};
 
 /// V13 with the numbers at opening: the key of the first device that breaks it, if one does. Where
-/// no number is at or above its limit, as is the rule, the list of the numbers tells, and no table
-/// is made of them.
+/// no set has more devices than a limit of it, as is the rule, their count tells, without memory.
+/// Where a set has, the numbers are listed; only where one of these is at or above its limit is a
+/// table made of them.
 ///
 /// `AllocError` (M1): memory was wanted.
 pub fn first_past_limit_at_opening<A: Allocator, B: Allocator + Copy>(
@@ -25,6 +27,9 @@ pub fn first_past_limit_at_opening<A: Allocator, B: Allocator + Copy>(
     ensures { IfOk result (λ past. past ≡ first_key
         (model.breaks_v13 config.now.records (numbering.opening config.now.records)) config.now.records) }
 {
+    if !is_any_set_over(config) {
+        return Ok(None);
+    }
     if !is_any_past_at_opening(alloc, config)? {
         return Ok(None);
     }

@@ -1,4 +1,5 @@
 pub mod Anys
+pub mod Apart
 pub mod AtMost
 pub mod Firsts
 pub mod LeastAmong
@@ -6,6 +7,9 @@ pub mod Leasts
 pub mod Linking
 pub mod Members
 pub mod NamedImages
+pub mod OnlineBefore
 pub mod RepeatedUsers
+pub mod SubsystemNames
+pub mod Twins
 pub mod UserWalks
 pub mod Walks

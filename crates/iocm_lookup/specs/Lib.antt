@@ -5,3 +5,5 @@ pub mod Indexed
 pub mod Kinds
 pub mod OfKind
 pub mod Repeats
+pub mod Rising
+pub mod There

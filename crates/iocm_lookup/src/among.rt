@@ -91,7 +91,7 @@ pub fn lesser(least: Option<Key>, other: Option<Key>) -> Option<Key>
     }
 }
 
-fn is_before(key: &Key, other: &Key) -> bool
+pub(crate) fn is_before(key: &Key, other: &Key) -> bool
     ensures { result ≡ is_lt (key_cmp key.now other.now) }
 {
     key.order(*other).is_lt()

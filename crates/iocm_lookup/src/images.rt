@@ -62,7 +62,7 @@ pub fn is_image_in<A: Allocator>(config: &Config<A>, css: Css, name: Name) -> bo
 }
 
 /// A key that is not behind any image of a channel subsystem.
-fn before_images(css: Css) -> Key
+pub(crate) fn before_images(css: Css) -> Key
     ensures { (mif : ℕ) → is_le (key_cmp result (key.Image css mif)) ≡ true }
 {
     match (subsystem_before(css), Mif::new(15)) {
@@ -72,7 +72,7 @@ fn before_images(css: Css) -> Key
 }
 
 /// The channel subsystem before this one, if there is one.
-fn subsystem_before(css: Css) -> Option<Css>
+pub(crate) fn subsystem_before(css: Css) -> Option<Css>
     ensures { IfSome result (λ other. other < css) }
 {
     let number = css.number();
@@ -83,7 +83,7 @@ fn subsystem_before(css: Css) -> Option<Css>
 }
 
 /// Whether a key is behind those of the images of a channel subsystem.
-fn is_past_images(key: &Key, css: Css) -> bool
+pub(crate) fn is_past_images(key: &Key, css: Css) -> bool
     ensures { result ≡ images.is_past_images css key.now }
 {
     match key {

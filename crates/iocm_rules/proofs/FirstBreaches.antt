@@ -1,11 +1,15 @@
 -- What is found of rules, each tried by itself, is the first breach of them.
-use Rattle.std.proofs.Common.{◌≡◌, true, false, is_some, Option, None, Some, List, [], ◌∷◌, ◌++◌, refl, ap, ◌∙◌}
+use Rattle.std.proofs.Common.{◌≡◌, Bool, Option, None, Some, List, [], ◌∷◌, ◌++◌, refl, sym, ap, ◌∙◌}
 use Rattle.std.specs.Option.{option_map}
 use Rattle.iocm_types.specs.declared.rule.Rule.{Rule}
 use Rattle.iocm_types.specs.declared.key.Key.{Key}
 use Rattle.iocm_model.specs.Machine.Record.{Rec, key_of}
-use Rattle.iocm_model.specs.Rules.FirstBreach.{Breach, first_record, first_breach_of, breach_or}
-use Rattle.iocm_rules.specs.Check.{Laws}
+use Rattle.iocm_types.specs.declared.rule.Rule.TheVariants.{V5, V6, V7, V8}
+use Rattle.iocm_model.specs.Machine.Configuration.{Configuration, records_of}
+use Rattle.iocm_model.specs.Machine.Numbering.{Numbering}
+use Rattle.iocm_model.specs.Rules.EachRule.{breaks_v5, breaks_v6, breaks_v7, breaks_v8}
+use Rattle.iocm_model.specs.Rules.FirstBreach.{Breach, first_record, first_breach, first_breach_of, breach_or}
+use Rattle.iocm_rules.specs.Check.{Laws, to_v8, from_v9}
 use Rattle.iocm_rules.specs.Found.{found_or, first_found}
 
 -- ---- each of some rules
@@ -47,11 +51,30 @@ behind (l ∷ ls) more records = ap (breach_or l.0 (first_record l.1 records)) (
     by None = refl
     by (Some r) = refl
 
--- by whether one was found before
-pub found_before : (first further : Option Breach) → is_some first ≡ true → else_breach first further ≡ first
-found_before None further is = cc
-found_before (Some b) further is = refl
+-- where none was found, each rule is kept
+none_or : (rule : Rule) (o : Option Rec) (further : Option Breach) → None ≡ breach_or rule o further → (o ≡ None) × (None ≡ further)
+none_or rule None further is = (refl, is)
+none_or rule (Some r) further is = cc
 
-pub none_before : (first further : Option Breach) → is_some first ≡ false → else_breach first further ≡ further
-none_before None further is = refl
-none_before (Some b) further is = cc
+pub kept_and_others : (rule : Rule) (breaks : Rec → Bool) (ls : Laws) (records : List Rec) → None ≡ first_breach_of ((rule, breaks) ∷ ls) records
+    → (first_record breaks records ≡ None) × (None ≡ first_breach_of ls records)
+unfolding first_breach_of
+kept_and_others rule breaks ls records is = none_or rule (first_record breaks records) (first_breach_of ls records) is
+
+module _ (c : Configuration) (none : None ≡ first_breach_of (to_v8 c) (records_of c)) where
+  after_v4 : None ≡ first_breach_of ((V5, breaks_v5 c) ∷ (V6, breaks_v6 c) ∷ (V7, breaks_v7 c) ∷ (V8, breaks_v8 c) ∷ []) (records_of c)
+  after_v4 = (kept_and_others _ _ _ _ (kept_and_others _ _ _ _ (kept_and_others _ _ _ _ (kept_and_others _ _ _ _ none).1).1).1).1
+
+  pub v5_is_kept : first_record (breaks_v5 c) (records_of c) ≡ None
+  v5_is_kept = (kept_and_others _ _ _ _ after_v4).0
+
+  pub v8_is_kept : first_record (breaks_v8 c) (records_of c) ≡ None
+  v8_is_kept = (kept_and_others _ _ _ _ (kept_and_others _ _ _ _ (kept_and_others _ _ _ _ (kept_and_others _ _ _ _ after_v4).1).1).1).0
+
+  -- and the first breach is that of the further rules
+  pub from_v9_is_first : (n : Numbering) → first_breach_of (from_v9 c n) (records_of c) ≡ first_breach c n
+  from_v9_is_first n = sym (behind (to_v8 c) (from_v9 c n) (records_of c) ∙ ap (λ o. else_breach o (first_breach_of (from_v9 c n) (records_of c))) (sym none))
+
+-- where one was found, it is the first
+pub to_v8_is_first : (c : Configuration) (n : Numbering) (b : Breach) → Some b ≡ first_breach_of (to_v8 c) (records_of c) → Some b ≡ first_breach c n
+to_v8_is_first c n b is = sym (behind (to_v8 c) (from_v9 c n) (records_of c) ∙ ap (λ o. else_breach o (first_breach_of (from_v9 c n) (records_of c))) (sym is))

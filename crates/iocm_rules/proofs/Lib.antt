@@ -4,4 +4,3 @@ pub mod NearEdits
 pub mod NearRules
 pub mod OnPaths
 pub mod OneChange
-pub mod OnlineUsers

@@ -1,25 +1,14 @@
 -- Online records that are looked for among the users of a path.
 use Rattle.std.specs.Prelude.{◌≡◌, ℕ, ◌&&◌, ◌==◌, Bool, true, false, if◌then◌else◌, Option, None, Some, List, [], ◌∷◌}
 use Rattle.std.specs.List.{list_any}
-use Rattle.std.specs.Ordering.{is_lt}
 use Rattle.iocm_types.specs.declared.key.Key.{Key}
 use Rattle.iocm_types.specs.declared.key.Key.TheVariants.{Online, Path}
 use Rattle.iocm_types.specs.declared.named.Named.TheVariants.{Record}
-use Rattle.iocm_types.specs.Key.{key_cmp}
 use Rattle.iocm_index.specs.Namings.{Namings, users_in}
 use Rattle.iocm_model.specs.Machine.Record.{Rec, OnlineRecord, online}
 use Rattle.iocm_model.specs.Machine.Configuration.{Configuration, Lookup, lookup_of}
 use Rattle.iocm_model.specs.Rules.EachRule.{breaks_v4}
 use Rattle.iocm_lookup.specs.Among.{is_so_at}
-
--- the key of an online record
-abbrev pub is_online_key : Key → Bool
-is_online_key (Online css path name) = true
-is_online_key _ = false
-
--- one before a key
-abbrev pub is_online_before : Key → Key → Bool
-is_online_before key user = is_lt (key_cmp user key) && is_online_key user
 
 -- the key of an online record of a path
 abbrev pub is_key_at_path : ℕ → ℕ → Key → Bool

@@ -3,7 +3,8 @@
 //! `check` answers the first breach, by rule and then by key, as the model's definitions have it,
 //! in time about in proportion to the records: it takes no memory, and compares nobody with
 //! everybody. Which records name a thing it asks an `Index` of the configuration.
-//! `check_at_opening` answers it for the numbers at opening, which it lists and makes no table of.
+//! `check_at_opening` answers it for the numbers at opening. It needs neither a table of these nor an
+//! index, and makes one only where a rule may be broken that can't be told without it.
 //!
 //! `check_near` answers the same where since the rules held only devices and online records were
 //! changed, and looks at the keys of these alone and at what shares a unit or a path with them.

@@ -3,7 +3,7 @@ ghost use Rattle.std.specs.List.{list_any};
 ghost use Rattle.iocm_model.specs.Rules.EachRule as model;
 
 use iocm_config::Config;
-use iocm_lookup::{RecordKind, Wanted, is_image_in};
+use iocm_lookup::{RecordKind, SubsystemImages, Wanted};
 use iocm_record::{Record, RecordBody};
 use iocm_types::{Css, Name, PathKind};
 use std::alloc::Allocator;
@@ -54,16 +54,17 @@ fn lists_stranger<A: Allocator>(
     ensures { result ≡ list_any (λ name. not (model.is_image_in config.now.records css name))
         (access.now ++ candidates.now) }
 {
-    has_stranger(config, css, access) || has_stranger(config, css, candidates)
+    let images = SubsystemImages::new(config, css);
+    has_stranger(&images, access) || has_stranger(&images, candidates)
 }
 
 /// Whether a name is that of no image of a channel subsystem.
 #[tactic(auto, using(iocm_types::proofs::Any::any_steps))]
-fn has_stranger<A: Allocator>(config: &Config<A>, css: Css, names: &[Name]) -> bool
-    ensures { result ≡ list_any (λ name. not (model.is_image_in config.now.records css name)) names.now }
+fn has_stranger<A: Allocator>(images: &SubsystemImages<'_, A>, names: &[Name]) -> bool
+    ensures { result ≡ list_any (λ name. not (model.is_image_in images.now.records images.now.css name)) names.now }
 {
     for name in names {
-        if !is_image_in(config, css, *name) {
+        if !images.has(*name) {
             return true;
         }
     }

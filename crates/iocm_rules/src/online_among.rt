@@ -83,7 +83,7 @@ fn first_wrong_user<A: Allocator, I: Allocator>(
         (users_in (thing.Record (key.Path css path)) (rows naming_cmp index.now)) }
 {
     for user in index.users_of(Named::Record(Key::Path(css, path))) {
-        if is_wanted_at(config, &WrongOnline { index }, &user) {
+        if is_wanted_at(config, &WrongOnline, &user) {
             return Some(user);
         }
     }

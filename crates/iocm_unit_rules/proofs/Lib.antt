@@ -1,3 +1,5 @@
+pub mod LinkNumbers
+pub mod LinksApart
 pub mod Linked
 pub mod Overlaps
 pub mod PathNumbers

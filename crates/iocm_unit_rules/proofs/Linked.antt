@@ -9,7 +9,7 @@ use Rattle.iocm_model.specs.Machine.PathList.{paths_in}
 use Rattle.iocm_model.specs.Rules.EachRule.{with_links}
 
 -- the first path has the link at its place
-first_linked : (x : ℕ) (xs : List ℕ) (ls : List Link) (k : ℕ) → with_links (x ∷ xs) (drop k ls) ≡ (x, get_or ls k link.None) ∷ with_links xs (drop (suc k) ls)
+pub first_linked : (x : ℕ) (xs : List ℕ) (ls : List Link) (k : ℕ) → with_links (x ∷ xs) (drop k ls) ≡ (x, get_or ls k link.None) ∷ with_links xs (drop (suc k) ls)
 first_linked x xs [] zero = refl
 first_linked x xs [] (suc k) = refl
 first_linked x xs (l ∷ ls) zero = refl

@@ -1,2 +1,3 @@
+pub mod LinkNumbers
 pub mod Links
 pub mod Sharing

@@ -4,18 +4,24 @@
 //! V5, V6 and V7 are `Wanted`s, which `first_wanted` of `iocm_lookup` looks for among the unit
 //! records: what each wants is exactly what the model's predicate says. `first_shared_address` (V14)
 //! answers the first unit that breaks its rule itself: it goes path by path, asks the index of the
-//! configuration which units are on a path, and so compares nobody with everybody. No rule takes
-//! memory.
+//! configuration which units are on a path, and so compares nobody with everybody. These rules take
+//! no memory.
 //!
-//! Begin with `units.rt`, then `sharing.rt`. What names no source is our own.
+//! Where a configuration has no index yet, `first_shared_address_at_opening` answers V14. It lists
+//! the addresses that units have on their paths, and makes an index only where one is there twice.
+//!
+//! Begin with `units.rt`, then `sharing.rt`, then `sharing_at_opening.rt`. What names no source is
+//! our own.
 #![tactic(auto)]
 
 mod links;
 mod path_lists;
 mod ranges;
 mod sharing;
+mod sharing_at_opening;
 mod units;
 
 pub use ranges::{WrongRanges, is_address_held};
 pub use sharing::first_shared_address;
+pub use sharing_at_opening::first_shared_address_at_opening;
 pub use units::{WrongLinks, WrongPaths};

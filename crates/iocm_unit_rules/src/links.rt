@@ -116,7 +116,7 @@ fn is_on_its_link<A: Allocator>(
 }
 
 // How far a path goes on among the links of its channel subsystem.
-fn step(is_in: bool) -> usize
+pub fn step(is_in: bool) -> usize
     ensures value { result ≡ (if is_in then 1 else 0) }
     ensures small { result ≤ 1 }
 {
@@ -125,7 +125,7 @@ fn step(is_in: bool) -> usize
 
 /// The link at a place, counted from 0, of those in a channel subsystem; past the end there is
 /// none.
-fn link_at(css: Css, place: usize, links: &[CssLink]) -> Link
+pub fn link_at(css: Css, place: usize, links: &[CssLink]) -> Link
     ensures { result ≡ get_or (model.links_in css links.now) place link.None }
 {
     let mut left = place;

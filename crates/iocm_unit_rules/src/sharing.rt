@@ -228,7 +228,7 @@ fn answers_on_one_link<A: Allocator>(fields: &UnitFields<A>, other: &UnitFields<
 }
 
 /// The address of a unit; absent is 00.
-fn cuadd_or_zero<A: Allocator>(fields: &UnitFields<A>) -> u8
+pub(crate) fn cuadd_or_zero<A: Allocator>(fields: &UnitFields<A>) -> u8
     ensures { result ≡ model.cuadd_or_zero (unit_of fields.now) }
 {
     fields.cuadd.unwrap_or(0)

@@ -8,21 +8,21 @@ use Rattle.iocm_rules.proofs.first_breach.first_from_v9.Goals as goal
 
 pub returns : goal.returns
 returns g c n is = c.first_of.ensures ∙ found_is
-    ((V9, c.first_wanted.result) ∷ (V10, c.first_address_twice.result) ∷ (V11, c.first_wanted-2.result) ∷ (V12, c.first_wanted-3.result)
-    ∷ (V13, c.args.past) ∷ (V14, c.first_shared_address.result) ∷ [])
+    ((V9, c.first_wanted_by_named.result) ∷ (V10, c.args.searched.now.twice) ∷ (V11, c.first_wanted.result) ∷ (V12, c.first_wanted-2.result)
+    ∷ (V13, c.args.searched.now.past) ∷ (V14, c.args.searched.now.shared) ∷ [])
     (from_v9 c.args.config.now.records n) (records_of c.args.config.now.records) (
       refl,
       (
-        c.first_wanted.ensures,
+        c.first_wanted_by_named.ensures,
         (
           refl,
           (
-            c.first_address_twice.ensures,
+            c.requires.twice,
             (
               refl,
               (
-                c.first_wanted-2.ensures,
-                (refl, (c.first_wanted-3.ensures, (refl, (is, (refl, (c.first_shared_address.ensures, tt)))))),
+                c.first_wanted.ensures,
+                (refl, (c.first_wanted-2.ensures, (refl, (is, (refl, (c.requires.shared, tt)))))),
               ),
             ),
           ),
