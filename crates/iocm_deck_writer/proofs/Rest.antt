@@ -46,3 +46,7 @@ other_lengths same [] [] other = absurd (other refl)
 other_lengths same [] (y ∷ ys) other = refl
 other_lengths same (x ∷ xs) [] other = refl
 other_lengths same (x ∷ xs) (y ∷ ys) other = ap (λ b. same x y && b) (other_lengths same xs ys (λ e. other (ap suc e))) ∙ and-false (same x y)
+
+pub ruleset find_steps = (find_goes_on, find_here, find_ends)
+
+pub ruleset same_steps = (same_goes_on, same_fails, same_ends, other_lengths)

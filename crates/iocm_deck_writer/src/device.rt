@@ -35,7 +35,7 @@ fn same_operand<A: Allocator>(a: &Carried<A>, b: &Carried<A>) -> bool
 }
 
 // The same operands in the same order.
-#[tactic(auto, using(crate::proofs::Rest::same_goes_on, crate::proofs::Rest::same_fails, crate::proofs::Rest::same_ends, crate::proofs::Rest::other_lengths))]
+#[tactic(auto, using(crate::proofs::Rest::same_steps))]
 fn same_operands<A: Allocator>(a: &[Carried<A>], b: &[Carried<A>]) -> bool
     ensures { result ≡ pointwise meaning.same_operand a.now b.now }
 {

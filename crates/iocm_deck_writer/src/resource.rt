@@ -43,7 +43,7 @@ fn is_limit_at(css: Css, set: u8, limit: LimitEntry) -> bool
 }
 
 // The limit of a set of a channel subsystem, if it has one.
-#[tactic(auto, using(crate::proofs::Rest::find_goes_on, crate::proofs::Rest::find_here, crate::proofs::Rest::find_ends))]
+#[tactic(auto, using(crate::proofs::Rest::find_steps))]
 fn limit_at(limits: &[LimitEntry], css: Css, set: u8) -> Option<u16>
     ensures { result
         ≡ option_map (λ (l : LimitRecord). l.limit) (find (limits_operand.is_limit_at css set) limits.now) }

@@ -1,7 +1,7 @@
 -- Which keys the records of a deck have, and what a further record does to what is claimed.
-use Rattle.std.proofs.Common.{◌≡◌, ℕ, ◌+◌, ◌<◌, ◌≤◌, ◌||◌, ◌⊎◌, Bool, true, false, cond, List, [], ◌∷◌, ◌++◌, length, get_or, take, drop, map, Option, Some, None, is_some, not, Result, Ok, Err, add-zero, inl, inr, refl, sym, ap, subst, ◌∙◌}
+use Rattle.std.proofs.Common.{◌≡◌, ℕ, ◌+◌, ◌<◌, ◌≤◌, ◌||◌, ◌⊎◌, ◌==◌, Bool, true, false, cond, List, [], ◌∷◌, ◌++◌, length, get_or, take, drop, map, Option, Some, None, is_some, not, Result, Ok, Err, add-zero, inl, inr, refl, sym, ap, subst, ◌∙◌}
 use Rattle.std.proofs.Math.ListN.{drop_of_length-le}
-use Rattle.std.proofs.lemmas.Bool.{true≢false}
+use Rattle.std.proofs.lemmas.Bool.{true≢false, eq-eqb, eqb-true}
 use Rattle.std.proofs.lemmas.List.{get_or-drop, take_all, take_more, map-append, take-append-drop}
 use Rattle.std.proofs.lemmas.List.Folds.{list_any-append}
 use Rattle.std.specs.Prelude.{IfOk, OnOk}
@@ -20,7 +20,7 @@ use Rattle.iocm_model.specs.Machine.Record.{Rec, key_of}
 use Rattle.iocm_model.specs.Machine.Configuration.{with_keys, HasNoKeyTwice}
 use Rattle.iocm_record_reader.specs.declared.claimed.Claimed.{Claimed}
 use Rattle.iocm_record_reader.specs.Deck.{with_records, AreRefusedBehind, GoBehind}
-use Rattle.iocm_record_reader.specs.Progress.{has_claimed, has_key, is_device, Claims, IsInSet, IsKept, IsOpened, IsPast}
+use Rattle.iocm_record_reader.specs.Progress.{has_claimed, has_key, last_like, place_of, Claims, IsAfter, IsInSet, IsKept, IsNoted, IsOpened, IsPast, WasNoted}
 use Rattle.iocm_types.proofs.Lists.{drop-item}
 use Rattle.iocm_types.proofs.Tests.{absent}
 
@@ -53,10 +53,6 @@ same_key p q e = keys_exact p q ((Equal-is (key_cmp p q)).0 e)
 
 before_ties_not : (p q : Key) → key_cmp p q ≡ Less → is_eq (key_cmp q p) ≡ false
 before_ties_not p q before = ties_alike q p ∙ ap is_eq before
-
--- the key of a device isn't that of another record
-no_device : (p q : Key) → is_device p ≡ true → is_device q ≡ false → is_eq (key_cmp p q) ≡ true → ⊥
-no_device p q device other same = true≢false (sym device ∙ ap is_device (same_key p q same) ∙ other)
 
 -- ---- the records' keys
 
@@ -93,23 +89,19 @@ apart_push (x ∷ records) r new apart =
 -- ---- a key that goes into the set
 
 -- the set tells of a key whether it is new
-set_tells : (old : Claimed) (earlier : List Rec) (key : Key) → IsKept old earlier → IsInSet old.last key
+set_tells : (old : Claimed) (earlier : List Rec) (key : Key) → IsKept old earlier → IsInSet old.lasts
     → has_claimed old.keys key ≡ has_key earlier key
 set_tells old earlier key kept inside = both_ways (has_claimed old.keys key) (has_key earlier key) (kept.only key) (kept.all key inside)
 
--- a device behind the last one is no key that only the set tells of
-past_is_outside : (last : Option Key) (p q : Key) → IsInSet last p → IsPast last q → is_eq (key_cmp q p) ≡ false
-past_is_outside None p q inside past = absurd past
-past_is_outside (Some last) p q inside past = by (is_eq (key_cmp q p)) refl
-  where
-    by : (b : Bool) → is_eq (key_cmp q p) ≡ b → b ≡ false
-    by true e = absurd (no_device q p past.0 inside e)
-    by false e = refl
+-- where only the set tells, no key is past the others
+inside_not_past : (lasts : Option (List (Option Key))) (q : Key) → IsInSet lasts → IsPast lasts q → ⊥
+inside_not_past None q inside past = past
+inside_not_past (Some lasts) q inside past = inside
 
-pub put_claims : (old new : Claimed) (earlier : List Rec) (key : Key) (is_new : Bool) → IsInSet old.last key
+pub put_claims : (old new : Claimed) (earlier : List Rec) (key : Key) (is_new : Bool) → IsInSet old.lasts
     → is_new ≡ not (has_claimed old.keys key)
     → ((q : Key) → has_claimed new.keys q ≡ cond (is_eq (key_cmp key q)) true (has_claimed old.keys q))
-    → new.last ≡ old.last → Claims old earlier key is_new new
+    → new.lasts ≡ old.lasts → Claims old earlier key is_new new
 put_claims old new earlier key is_new inside told grows same kept =
     (told ∙ ap not (set_tells old earlier key kept inside), goes_in)
   where
@@ -132,23 +124,21 @@ put_claims old new earlier key is_new inside told grows same kept =
             by (inl e) = either _ _ (inl e)
             by (inr e) = either _ _ (inr (kept.only q e))
 
-        all : (q : Key) → IsInSet new.last q → has_key (earlier ++ r ∷ []) q ≡ true → has_claimed new.keys q ≡ true
+        all : (q : Key) → IsInSet new.lasts → has_key (earlier ++ r ∷ []) q ≡ true → has_claimed new.keys q ≡ true
         all q within there = put q ∙ by (one_holds (is_eq (key_cmp q key)) (has_key earlier q) (sym (pushed q) ∙ there))
           where
             by : (is_eq (key_cmp q key) ≡ true) ⊎ (has_key earlier q ≡ true) → cond (is_eq (key_cmp q key)) true (has_claimed old.keys q) ≡ true
             by (inl e) = either _ _ (inl e)
-            by (inr e) = either _ _ (inr (kept.all q (subst (λ l. IsInSet l q) same within) e))
+            by (inr e) = either _ _ (inr (kept.all q (subst IsInSet same within) e))
 
-        past : (q : Key) → IsPast new.last q → has_key (earlier ++ r ∷ []) q ≡ false
-        past q behind =
-            let before : IsPast old.last q = subst (λ l. IsPast l q) same behind in
-            pushed q ∙ ap (λ b. cond b true (has_key earlier q)) (past_is_outside old.last key q inside before) ∙ kept.past q before
+        past : (q : Key) → IsPast new.lasts q → has_key (earlier ++ r ∷ []) q ≡ false
+        past q far = absurd (inside_not_past old.lasts q inside (subst (λ l. IsPast l q) same far))
 
 -- the same where the set was asked
-pub put_claims_if : {E : Type 0} (result : Result Bool E) (old new : Claimed) (earlier : List Rec) (key : Key) → IsInSet old.last key
+pub put_claims_if : {E : Type 0} (result : Result Bool E) (old new : Claimed) (earlier : List Rec) (key : Key) → IsInSet old.lasts
     → IfOk result (λ added. added ≡ not (has_claimed old.keys key))
     → OnOk result ((q : Key) → has_claimed new.keys q ≡ cond (is_eq (key_cmp key q)) true (has_claimed old.keys q))
-    → new.last ≡ old.last → IfOk result (λ is_new. Claims old earlier key is_new new)
+    → new.lasts ≡ old.lasts → IfOk result (λ is_new. Claims old earlier key is_new new)
 put_claims_if (Ok is_new) old new earlier key inside told grows same = put_claims old new earlier key is_new inside told grows same
 put_claims_if (Err e) old new earlier key inside told grows same = tt
 
@@ -156,24 +146,36 @@ put_claims_if (Err e) old new earlier key inside told grows same = tt
 pub put_claims_after : {E : Type 0} (result : Result Bool E) (old whole new : Claimed) (earlier : List Rec) (key : Key) → IsOpened old earlier whole
     → IfOk result (λ added. added ≡ not (has_claimed whole.keys key))
     → OnOk result ((q : Key) → has_claimed new.keys q ≡ cond (is_eq (key_cmp key q)) true (has_claimed whole.keys q))
-    → new.last ≡ whole.last → IfOk result (λ is_new. Claims old earlier key is_new new)
+    → new.lasts ≡ whole.lasts → IfOk result (λ is_new. Claims old earlier key is_new new)
 put_claims_after (Ok is_new) old whole new earlier key opened told grows same = λ kept.
     let now = opened kept in
-    put_claims whole new earlier key is_new (subst (λ l. IsInSet l key) (sym now.1) tt) told grows same now.0
+    put_claims whole new earlier key is_new (subst IsInSet (sym now.1) tt) told grows same now.0
 put_claims_after (Err e) old whole new earlier key opened told grows same = tt
 
--- ---- a device behind the last one
+-- ---- a key that is greater than the last one of its kind
 
-behind_last : (old new : Claimed) (earlier : List Rec) (last key : Key) → old.last ≡ Some last → is_device key ≡ true
-    → key_cmp last key ≡ Less → new.keys ≡ old.keys → new.last ≡ Some key → Claims old earlier key true new
-behind_last old new earlier last key was device behind same now kept =
-    (sym (ap not new_key), goes_in)
+-- so is one that is greater than such a key, and of its kind
+after_both : (last : Option Key) (key q : Key) → IsAfter last key → key_cmp key q ≡ Less → IsAfter last q
+after_both None key q after far = tt
+after_both (Some last) key q after far = keys_total.trans last key q after far
+
+-- keys of kinds at different places don't tie
+kinds_apart : (q key : Key) → (place_of q == place_of key) ≡ false → is_eq (key_cmp q key) ≡ false
+kinds_apart q key other = by (is_eq (key_cmp q key)) refl
   where
-    past_last : (q : Key) → is_device q ≡ true → key_cmp last q ≡ Less → has_key earlier q ≡ false
-    past_last q is far = kept.past q (subst (λ l. IsPast l q) (sym was) (is, far))
+    by : (b : Bool) → is_eq (key_cmp q key) ≡ b → b ≡ false
+    by true e = absurd (true≢false (sym (eq-eqb (place_of q) (place_of key) (ap place_of (same_key q key e))) ∙ other))
+    by false e = refl
+
+noted : (old new : Claimed) (lasts now : List (Option Key)) (earlier : List Rec) (key : Key) → old.lasts ≡ Some lasts → new.lasts ≡ Some now
+    → IsAfter (last_like lasts key) key → IsNoted lasts key now → new.keys ≡ old.keys → Claims old earlier key true new
+noted old new lasts now earlier key was is_now after notes same kept = (sym (ap not new_key), goes_in)
+  where
+    past_last : (q : Key) → IsAfter (last_like lasts q) q → has_key earlier q ≡ false
+    past_last q far = kept.past q (subst (λ l. IsPast l q) (sym was) far)
 
     new_key : has_key earlier key ≡ false
-    new_key = past_last key device behind
+    new_key = past_last key after
 
     goes_in : (r : Rec) → key_of r ≡ key → has_key earlier key ≡ false → IsKept new (earlier ++ r ∷ [])
     goes_in r is none = record { only = only; all = all; past = past; apart = apart_push earlier r none_of_r kept.apart }
@@ -187,29 +189,30 @@ behind_last old new earlier last key was device behind same now kept =
         only : (q : Key) → has_claimed new.keys q ≡ true → has_key (earlier ++ r ∷ []) q ≡ true
         only q claimed = pushed q ∙ either _ _ (inr (kept.only q (ap (λ keys. has_claimed keys q) (sym same) ∙ claimed)))
 
-        all : (q : Key) → IsInSet new.last q → has_key (earlier ++ r ∷ []) q ≡ true → has_claimed new.keys q ≡ true
-        all q within there = by (one_holds (is_eq (key_cmp q key)) (has_key earlier q) (sym (pushed q) ∙ there))
-          where
-            other : is_device q ≡ false
-            other = subst (λ l. IsInSet l q) now within
+        all : (q : Key) → IsInSet new.lasts → has_key (earlier ++ r ∷ []) q ≡ true → has_claimed new.keys q ≡ true
+        all q within there = absurd (subst IsInSet is_now within)
 
-            by : (is_eq (key_cmp q key) ≡ true) ⊎ (has_key earlier q ≡ true) → has_claimed new.keys q ≡ true
-            by (inl e) = absurd (no_device key q device other (ties_alike key q ∙ e))
-            by (inr e) = ap (λ keys. has_claimed keys q) same ∙ kept.all q (subst (λ l. IsInSet l q) (sym was) other) e
+        by : (q : Key) (b : Bool) → (place_of q == place_of key) ≡ b → IsAfter (cond b (Some key) (last_like lasts q)) q
+            → (is_eq (key_cmp q key) ≡ false) × (has_key earlier q ≡ false)
+        by q true alike far = (
+          before_ties_not key q far,
+          past_last q (subst (λ n. IsAfter (get_or lasts n None) q) (sym (eqb-true (place_of q) (place_of key) alike)) (after_both (last_like lasts key) key q after far)),
+        )
+        by q false other far = (kinds_apart q key other, past_last q far)
 
-        past : (q : Key) → IsPast new.last q → has_key (earlier ++ r ∷ []) q ≡ false
+        past : (q : Key) → IsPast new.lasts q → has_key (earlier ++ r ∷ []) q ≡ false
         past q far =
-            let it : IsPast (Some key) q = subst (λ l. IsPast l q) now far in
-            pushed q ∙ ap (λ b. cond b true (has_key earlier q)) (before_ties_not key q it.1)
-            ∙ past_last q it.0 (keys_total.trans last key q behind it.1)
+            let it = by q (place_of q == place_of key) refl (subst (λ o. IsAfter o q) (notes q) (subst (λ l. IsPast l q) is_now far)) in
+            pushed q ∙ ap (λ b. cond b true (has_key earlier q)) it.0 ∙ it.1
 
-pub device_claims : (old new : Claimed) (earlier : List Rec) (key : Key) → IsPast old.last key
-    → new.keys ≡ old.keys → new.last ≡ Some key → Claims old earlier key true new
-device_claims old new earlier key past same now = by old.last refl past
+pub noted_claims : (old new : Claimed) (earlier : List Rec) (key : Key) → IsPast old.lasts key → new.keys ≡ old.keys
+    → WasNoted old.lasts key new.lasts → Claims old earlier key true new
+noted_claims old new earlier key past same notes = by old.lasts new.lasts refl refl past notes
   where
-    by : (l : Option Key) → old.last ≡ l → IsPast l key → Claims old earlier key true new
-    by None was past = absurd past
-    by (Some last) was past = behind_last old new earlier last key was past.0 past.1 same now
+    by : (l m : Option (List (Option Key))) → old.lasts ≡ l → new.lasts ≡ m → IsPast l key → WasNoted l key m → Claims old earlier key true new
+    by None m was is_now past notes = absurd past
+    by (Some lasts) None was is_now past notes = absurd notes
+    by (Some lasts) (Some now) was is_now past notes = noted old new lasts now earlier key was is_now past notes same
 
 -- ---- all keys go into the set
 
@@ -290,7 +293,7 @@ one_in old now new all i r key within item is grows before = record { grown = gr
         by (inl same) = inr (key_there all i r q within item same)
         by (inr was) = before.only q was
 
-pub all_opened : (old new : Claimed) (earlier : List Rec) → AreIn old.keys new.keys earlier earlier → new.last ≡ None → IsOpened old earlier new
+pub all_opened : (old new : Claimed) (earlier : List Rec) → AreIn old.keys new.keys earlier earlier → new.lasts ≡ None → IsOpened old earlier new
 all_opened old new earlier are none kept = (
   record {
     only = λ q e. by q (are.only q e);

@@ -1,26 +1,27 @@
-ghost use Rattle.std.specs.Prelude.{◌≡◌, ◌≤◌, ◌⊎◌, ◌&&◌, [], Bool, Some, None, length, not, IfErr, IfOk, OnOk, if◌then◌else◌};
+ghost use Rattle.std.specs.Prelude.{◌≡◌, ◌≤◌, ◌<◌, ◌⊎◌, [], Bool, None, length, true, not};
+ghost use Rattle.std.specs.Prelude.{IfErr, IfOk, OnOk, if◌then◌else◌};
 ghost use Rattle.std.specs.Ordering.{is_eq, is_lt};
 ghost use Rattle.iocm_types.specs.Fault.{memory};
 ghost use Rattle.iocm_types.specs.Key.{key_cmp};
 ghost use Rattle.iocm_types.specs.declared.key.Key as keys;
 ghost use Rattle.iocm_record_reader.specs.Deck.{AreRefusedBehind, GoBehind};
-ghost use Rattle.iocm_record_reader.specs.Progress.{has_claimed, is_device, Claims, IsComing, IsKept, IsOpened};
+ghost use Rattle.iocm_record_reader.specs.Progress.{has_claimed, place_of, Claims};
+ghost use Rattle.iocm_record_reader.specs.Progress.{IsAfter, IsComing, IsKept, IsNoted, IsOpened, WasNoted};
 
 use iocm_record::Record;
 use iocm_types::{Fault, Key};
 use std::alloc::{AllocError, Global};
 use std::collections::BTreeSet;
 
-/// The keys that the records of a deck have so far. Most decks have their devices in the order of
-/// their keys. As long as they come so, the key of the last one tells for all of them which are
-/// new, and no set of their keys is made.
+/// The keys that the records of a deck have so far. Most decks have the records of each kind in the
+/// order of their keys. As long as they come so, the key of the last one of a kind tells for all of
+/// them which are new, and no set of keys is made.
 #[derive(Drop)]
 pub struct Claimed {
-    /// The keys of all records, but for those of devices that came in order.
+    /// The keys of all records, once one came out of order.
     keys: BTreeSet<Key>,
-    /// The key of the last device, or a lesser one before the first; none where a device came out
-    /// of order.
-    last: Option<Key>,
+    /// The key of the last record of each kind, while all come in order.
+    lasts: Option<[Option<Key>; 8]>,
 }
 
 impl Claimed {
@@ -30,7 +31,7 @@ impl Claimed {
     {
         Claimed {
             keys: BTreeSet::new(alloc),
-            last: Some(Key::Id),
+            lasts: Some([None; 8]),
         }
     }
 
@@ -53,14 +54,14 @@ impl Claimed {
         Ok(())
     }
 
-    // Claims the key of a record behind these, and answers whether it is new.
+    // Claims the key of a record after these, and answers whether it is new.
     fn claim(&mut self, earlier: &[Record], key: Key) -> Result<bool, AllocError>
         ensures { IfOk result (λ is_new. Claims self.old earlier.now key is_new self.new) }
     {
         match self.coming(&key) {
             Coming::InSet => self.put(key),
             Coming::Past => {
-                self.last = Some(key);
+                self.note(key);
                 Ok(true)
             }
             Coming::OutOfOrder => {
@@ -70,20 +71,27 @@ impl Claimed {
         }
     }
 
-    // How a key comes behind those that are claimed.
+    // How a key comes after those that are claimed.
     fn coming(&self, key: &Key) -> Coming
-        ensures { IsComing self.now.last key.now result }
+        ensures { IsComing self.now.lasts key.now result }
     {
-        let Some(last) = &self.last else {
+        let Some(lasts) = &self.lasts else {
             return Coming::InSet;
         };
-        if !is_device(key) {
-            return Coming::InSet;
-        }
-        if is_before(last, key) {
+        if is_after(&lasts[place_of(key)], key) {
             Coming::Past
         } else {
             Coming::OutOfOrder
+        }
+    }
+
+    // Notes a key as the last of its kind.
+    fn note(&mut self, key: Key)
+        ensures keys { self.new.keys ≡ self.old.keys }
+        ensures lasts { WasNoted self.old.lasts key self.new.lasts }
+    {
+        if let Some(lasts) = &mut self.lasts {
+            note_last(lasts, key);
         }
     }
 
@@ -92,7 +100,7 @@ impl Claimed {
         ensures added { IfOk result (λ added. added ≡ not (has_claimed self.old.keys key)) }
         ensures keys { OnOk result ((q : keys.Key)
             → has_claimed self.new.keys q ≡ (if is_eq (key_cmp key q) then Bool.true else has_claimed self.old.keys q)) }
-        ensures last { self.new.last ≡ self.old.last }
+        ensures lasts { self.new.lasts ≡ self.old.lasts }
     {
         Ok(self.keys.insert(key)?)
     }
@@ -104,28 +112,45 @@ impl Claimed {
         for entry in earlier {
             self.put(entry.key())?;
         }
-        self.last = None;
+        self.lasts = None;
         Ok(())
     }
 }
 
-/// How a key comes behind those that are claimed.
+/// How a key comes after those that are claimed.
 #[derive(Clone, Copy)]
 enum Coming {
     /// The set tells whether it is new.
     InSet,
-    /// It is that of a device behind the last one.
+    /// It is greater than that of the last record of its kind, so it is new.
     Past,
-    /// It is that of a device, and the first that comes out of order.
+    /// It is the first that comes out of order.
     OutOfOrder,
 }
 
-fn is_device(key: &Key) -> bool
-    ensures { result ≡ is_device key.now }
+// The place of a key's kind in the order of keys, counted from 0.
+fn place_of(key: &Key) -> usize
+    ensures place { result ≡ place_of key.now }
+    ensures within { result < 8 }
 {
     match key {
-        Key::Device(_, _) => true,
-        _ => false,
+        Key::Id => 0,
+        Key::Resource => 1,
+        Key::Image(_, _) => 2,
+        Key::Limit(_, _) => 3,
+        Key::Path(_, _) => 4,
+        Key::Unit(_) => 5,
+        Key::Device(_, _) => 6,
+        Key::Online(_, _, _) => 7,
+    }
+}
+
+fn is_after(last: &Option<Key>, key: &Key) -> bool
+    ensures { result ≡ true → IsAfter last.now key.now }
+{
+    match last {
+        Some(last) => is_before(last, key),
+        None => true,
     }
 }
 
@@ -133,4 +158,10 @@ fn is_before(one: &Key, other: &Key) -> bool
     ensures { result ≡ is_lt (key_cmp one.now other.now) }
 {
     one.cmp(other).is_lt()
+}
+
+fn note_last(lasts: &mut [Option<Key>; 8], key: Key)
+    ensures { IsNoted lasts.old key lasts.new }
+{
+    lasts[place_of(&key)] = Some(key);
 }
