@@ -30,10 +30,10 @@ abbrev pub AreOf : Configuration → List (Key × Rec) → Type 0
 AreOf m rows = AllByRecursion (λ e. get m e.0 ≡ Some e.1) rows
 
 -- the tables of the paths that the image of this name reaches, and of those that are online to it;
--- rows of the configuration; and what the image sees by some units
+-- the devices of the configuration; and what the image sees by some units
 pub record IsSighted (m : Configuration) (css : ℕ) (name : List ℕ) (tables : PathTables)
-    (walk : List (Key × Rec)) (last : UnitsView) : Type 0 where
+    (devices : Configuration) (last : UnitsView) : Type 0 where
   pub reached_paths : IsTableOf (reaches (lookup_of m) css name) tables.reached
   pub online_paths : IsTableOf (is_online (lookup_of m) css name) tables.online
-  pub rows : AreOf m walk
+  pub same : devices ≡ m
   pub seen : IsSeenBy (lookup_of m) css name last

@@ -1,17 +1,13 @@
 ghost use Rattle.std.specs.Prelude.{◌≡◌};
-ghost use Rattle.std.specs.Option.{option_copied, option_map};
 ghost use Rattle.iocm_model.specs.Machine.Configuration.{lookup_of};
 ghost use Rattle.iocm_model.specs.Machine.View as model;
-ghost use Rattle.iocm_record.specs.Meaning.{device_of};
 
-use crate::lookup::{device_under, find_device, walk_behind, walk_from};
+use crate::device_walk::DeviceWalk;
 use crate::path_tables::{PathTables, path_tables};
 use crate::reach::{ImageRecords, Reach};
 use crate::units_view::{UnitsView, are_same, units_view, view_by};
 use iocm_config::Config;
-use iocm_record::{DeviceFields, Record};
-use iocm_table::Rows;
-use iocm_types::{Chpid, Css, DevNo, Image, Key, Mask, Name, Paths, SetNo, View};
+use iocm_types::{Chpid, Css, DevNo, Image, Mask, Name, Paths, SetNo, View};
 use std::alloc::Allocator;
 use std::marker::Model;
 
@@ -24,8 +20,7 @@ pub struct ImageSight<'a, A: Allocator> {
     image: Image,
     name: Name,
     tables: PathTables,
-    /// The records behind that of the last device, where the next one's is looked for first.
-    walk: Rows<'a, Key, Record<A>>,
+    devices: DeviceWalk<'a, A>,
     /// What the image sees by the units of the last device.
     last: UnitsView<'a>,
 }
@@ -49,7 +44,7 @@ impl<'a, A: Allocator> Model for ImageSight<'a, A> {
       image = record { css = s.image.css; mif = s.image.mif; name = s.name };
     } };
 
-    ghost invariant = { λ s. IsSighted s.config.now.records s.image.css s.name s.tables s.walk s.last };
+    ghost invariant = { λ s. IsSighted s.config.now.records s.image.css s.name s.tables s.devices s.last };
 }
 
 impl<'a, A: Allocator> ImageSight<'a, A> {
@@ -66,7 +61,7 @@ impl<'a, A: Allocator> ImageSight<'a, A> {
             image,
             name,
             tables: path_tables(config, image.css, name),
-            walk: walk_from(config, &Key::Device(SetNo::FIRST, DevNo::new(0))),
+            devices: DeviceWalk::new(config),
             last: units_view(&records, &[]),
         }
     }
@@ -84,28 +79,12 @@ impl<'a, A: Allocator> ImageSight<'a, A> {
         ensures view { result ≡ model.image_view (lookup_of self.old.records) self.old.image set device }
         ensures same { self.new ≡ self.old }
     {
-        let fields = self.find_next(set, device)?;
+        let fields = self.devices.find(set, device)?;
         let units = fields.units.as_slice();
         if !are_same(self.last.units, units) {
             self.last = units_view(self, units);
         }
         view_by(self, &self.last, fields)
-    }
-
-    /// The device of a number in a set, if there is one. It is looked for behind the last one
-    /// first.
-    fn find_next(&mut self, set: SetNo, device: DevNo) -> Option<&'a DeviceFields<A>>
-        ensures device { option_map device_of (option_copied result)
-            ≡ model.device_record (lookup_of self.old.records) set device }
-        ensures same { self.new ≡ self.old }
-    {
-        if let Some((key, entry)) = self.walk.next() {
-            if let Some(fields) = device_under(key, entry, set, device) {
-                return Some(fields);
-            }
-        }
-        self.walk = walk_behind(self.config, &Key::Device(set, device));
-        find_device(self.config, set, device)
     }
 }
 

@@ -2,9 +2,9 @@
 //!
 //! Each function reads a `Config`, and `view_at` its `Numbers` too, and answers exactly what its
 //! definition says. None can answer want of memory. `view_at` is what an image sees at one
-//! subchannel; `path_list`, `sees`, `pim` and `pam` are its parts. `ImageSight` gives the views of
-//! one image at many devices, one after the other: it keeps tables of the image's paths, where the
-//! walk over the devices stands, and what it sees by the last device's control units. `CellSight`
+//! subchannel; `path_list`, `sees`, `pim` and `pam` are its parts. `DeviceWalk` finds many devices,
+//! one after the other. `ImageSight` gives the views of one image at many devices: it keeps such a
+//! walk, tables of the image's paths, and what it sees by the last device's control units. `CellSight`
 //! gives the views of many images at one number cell: what the images of its channel subsystem
 //! share there is looked up once. `ImageNames` gives the names of many images, one after the other.
 //! Begin with `view.rt`, then `reach.rt` for what both ways share.
@@ -12,6 +12,7 @@
 
 mod cell_image;
 mod cell_sight;
+mod device_walk;
 mod image_names;
 mod image_sight;
 mod lookup;
@@ -27,6 +28,7 @@ mod units_view;
 mod view;
 
 pub use cell_sight::CellSight;
+pub use device_walk::DeviceWalk;
 pub use image_names::ImageNames;
 pub use image_sight::ImageSight;
 pub use lookup::name_of_image;

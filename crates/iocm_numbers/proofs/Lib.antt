@@ -13,6 +13,7 @@ pub mod Lowest
 pub mod OneCarried
 pub mod OneLess
 pub mod OneMore
+pub mod OpeningCells
 pub mod PathsThere
 pub mod Restored
 pub mod Steps

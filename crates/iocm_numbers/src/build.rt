@@ -63,7 +63,7 @@ fn note_row(words: &mut [u64], row: &(Place, u16))
 }
 
 /// The number cell of each row, with its device.
-fn list_cells<B: Allocator>(
+pub(crate) fn list_cells<B: Allocator>(
     alloc: B,
     rows: &[(Place, u16)],
 ) -> Result<Vec<(NumberCell, DevNo), B>, AllocError>

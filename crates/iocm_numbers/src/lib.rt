@@ -10,7 +10,7 @@
 //! `lowest_free` is the least number that no device has.
 //!
 //! Begin with `numbers.rt`; `bits.rt` has the bits, `first_numbers.rt` the numbers at opening,
-//! `taken.rt` which carried numbers are taken, `renumber.rt` the numbers after a change,
+//! `first_cells.rt` their cells, `taken.rt` which carried numbers are taken, `renumber.rt` the numbers after a change,
 //! `changes.rt` what it did to them, and `exchange.rt` how a change is taken back. What names no
 //! source is our own.
 #![tactic(auto)]
@@ -20,6 +20,7 @@ mod build;
 mod changes;
 mod device_reach;
 mod exchange;
+mod first_cells;
 mod first_numbers;
 mod gathered;
 mod laws;
@@ -33,6 +34,7 @@ mod renumber;
 mod renumbered;
 mod taken;
 
+pub use first_cells::opening_cells;
 pub use first_numbers::{opening, opening_rows};
 pub use laws::exchanges_lead_from_one_to_the_other;
 pub use looked_at::sort_apart;

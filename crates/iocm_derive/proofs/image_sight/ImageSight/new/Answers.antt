@@ -4,6 +4,6 @@ pub invariant_of-result : goal.invariant_of-result
 invariant_of-result g c = record {
   reached_paths = c.path_tables.ensures.reached;
   online_paths = c.path_tables.ensures.online;
-  rows = c.walk_from.ensures;
+  same = c.new.ensures;
   seen = rw c.new-records.ensures at c.units_view.ensures.seen;
 }
