@@ -1,9 +1,9 @@
 -- What `apply` said, from what its steps said.
-use Rattle.std.proofs.Common.{◌≡◌, ◌≢◌, ◌⊎◌, ℕ, List, [], ◌∷◌, ◌++◌, Option, None, Some, Result, Ok, Err, OnOk, IfOk, IfErr, IfSome, inl, inr, refl, sym, ap, subst, ◌∙◌}
+use Rattle.std.proofs.Common.{◌≡◌, ◌≢◌, ℕ, List, ◌++◌, Option, None, Some, Result, Ok, Err, OnOk, IfOk, IfErr, IfSome, inl, inr, refl, sym, ap, subst, ◌∙◌}
 use Rattle.std.specs.FinMap.{len}
 use Rattle.iocm_types.specs.declared.fault.Fault.{Fault}
 use Rattle.iocm_types.specs.declared.refused.Refused.{Refused}
-use Rattle.iocm_types.specs.Fault.{◌>>=◌, Fails, memory}
+use Rattle.iocm_types.specs.Fault.{◌>>=◌, Fails}
 use Rattle.iocm_columns.specs.Cards.{cards_of}
 use Rattle.iocm_columns.specs.declared.card.Card.{Card}
 use Rattle.iocm_columns.specs.Device.{unreadable, GivesIfReadable}
@@ -15,7 +15,7 @@ use Rattle.iocm_model.specs.Change.Meaning.{Outcome}
 use Rattle.iocm_model.specs.Change.Runs.{effect_of}
 use Rattle.iocm_model.specs.Change.Tree.{ChangeTree}
 use Rattle.iocm_tree.specs.Trees.{CarriedTree}
-use Rattle.iocm_plant.specs.Refusing.{IsDue, no_memory, refusal_by_breach}
+use Rattle.iocm_plant.specs.Refusing.{IsDue, refusal_by_breach}
 use Rattle.iocm_activate.specs.Done.{refusal_in}
 use Rattle.iocm_console.specs.declared.output.Output.{Output}
 use Rattle.iocm_console.specs.declared.status.Status.{Status}
@@ -25,7 +25,7 @@ use Rattle.iocm_console.specs.Opening.{Shown, configuration_in, declined, refuse
 use Rattle.iocm_console.specs.Output.{FailedToWrite, Prints}
 use Rattle.iocm_console.proofs.Printing.{appends_then}
 use Rattle.iocm_apply.specs.declared.report.Report.{Report}
-use Rattle.iocm_apply.specs.Apply.{change_in, lines_tried, made, reported, tried, IsRefused, IsRefusedDeck}
+use Rattle.iocm_apply.specs.Apply.{lines_tried, made, reported, tried, IsRefused, IsRefusedDeck}
 
 -- the report of a change that was made
 pub made_is : (report : Report) (s t : State) (o : Outcome) (es : List Edit) (altered : ℕ) (back : ChangeTree) → o ≡ Ok (record { state = t; edits = es })

@@ -1,8 +1,6 @@
 -- The comments of parts that are put behind a text, part by part.
-use Rattle.std.proofs.Common.{◌≡◌, ℕ, ◌+◌, ◌<◌, ◌≤◌, List, [], ◌∷◌, ◌++◌, length, get_or, drop, sym, ap, ◌∙◌, append_assoc, append-nil}
-use Rattle.std.specs.List.{flat_map}
+use Rattle.std.proofs.Common.{◌≡◌, ℕ, ◌+◌, ◌<◌, ◌≤◌, List, ◌++◌, length, get_or, drop, sym, ap, ◌∙◌, append_assoc, append-nil}
 use Rattle.std.proofs.lemmas.Grind.{flat_map-append}
-use Rattle.iocm_model.specs.Change.Edit.{Edit}
 use Rattle.iocm_tree.specs.Trees.{parts_of, plain_parts, plain_tree, tree_of}
 use Rattle.iocm_tree.specs.declared.tree.Tree.{Tree}
 use Rattle.iocm_tree.proofs.Trees.{rest_at, none_left}

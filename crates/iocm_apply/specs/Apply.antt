@@ -11,7 +11,7 @@ use Rattle.iocm_model.specs.Machine.Table.{table_of}
 use Rattle.iocm_model.specs.Operation.State.{State, opening_state}
 use Rattle.iocm_model.specs.Rules.FirstBreach.{Breach, first_breach}
 use Rattle.iocm_model.specs.Change.InverseTree.{inverse_tree}
-use Rattle.iocm_model.specs.Change.Meaning.{Outcome, Performed, meaning}
+use Rattle.iocm_model.specs.Change.Meaning.{Outcome, meaning}
 use Rattle.iocm_model.specs.Change.Runs.{effect_of}
 use Rattle.iocm_model.specs.Change.Tree.{ChangeTree}
 use Rattle.iocm_tree.specs.Trees.{CarriedTree, plain_tree}

@@ -1,6 +1,6 @@
 -- A remark as it is stated by hand: of a subchannel that is enabled, by some of its paths, with a
 -- parameter and a status pending.
-use Rattle.std.specs.Prelude.{◌≡◌, ℕ, true, codes}
+use Rattle.std.specs.Prelude.{◌≡◌, true, codes}
 use Rattle.iocm_types.specs.declared.live.Function.TheVariants.{Start}
 use Rattle.iocm_types.specs.declared.live.Live.{Live}
 use Rattle.iocm_types.specs.declared.live.Phase.TheVariants.{Pending}

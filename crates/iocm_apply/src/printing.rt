@@ -1,7 +1,6 @@
 ghost use Rattle.std.specs.Prelude.{◌≡◌, IfOk, IfErr, OnOk};
 ghost use Rattle.iocm_model.specs.Machine.Table.{table_of};
 ghost use Rattle.iocm_console.specs.declared.status.Status.TheVariants as status;
-ghost use Rattle.iocm_console.specs.Lines.{celled};
 ghost use Rattle.iocm_console.specs.Opening.{Says, SaysIfMemory};
 ghost use Rattle.iocm_console.specs.Output.{has_failed, IsHandedOn, FailedToWrite};
 ghost use Rattle.iocm_console.specs.Show.{table_at};
@@ -14,9 +13,8 @@ ghost use Rattle.iocm_apply.specs.WayBack.{way_back_text};
 use crate::back::way_back;
 use crate::report::Report;
 use iocm_activate::Done;
-use iocm_config::Config;
 use iocm_console::{
-    CellDevice, ConsoleError, Output, Status, gather_cells, refuse, write_lines, write_text,
+    ConsoleError, Output, Status, TableCells, gather_cells, refuse, write_lines, write_text,
 };
 use iocm_plant::Plant;
 use iocm_tree::Tree;
@@ -64,8 +62,8 @@ fn print_machine<W: Write + Drop>(
     ensures handed_on { OnOk result (IsHandedOn output.new) }
     ensures fault { IfErr result (FailedToWrite output.new) }
 {
-    match gather_cells(alloc, plant.numbers().cells()) {
-        Ok(cells) => print_lines(altered, plant.config(), &cells, output),
+    match gather_cells(alloc, plant.config(), plant.numbers().cells()) {
+        Ok(cells) => print_lines(altered, &cells, output),
         Err(error) => refuse(Fault::from(error), output),
     }
 }
@@ -74,18 +72,17 @@ fn print_machine<W: Write + Drop>(
 /// want of memory.
 fn print_lines<W: Write + Drop>(
     altered: usize,
-    config: &Config,
-    cells: &[CellDevice],
+    cells: &TableCells<'_, Global, Global>,
     output: &mut Output<W>,
 ) -> Result<Status, ConsoleError>
     ensures text { IfOk result (Says W.contents output.old output.new
-        (table_below altered (table_at config.now.records (celled cells.now)).text)) }
+        (table_below altered (table_at cells.now.records cells.now.cells).text)) }
     ensures works { OnOk result (has_failed output.new ≡ has_failed output.old) }
     ensures handed_on { OnOk result (IsHandedOn output.new) }
     ensures fault { IfErr result (FailedToWrite output.new) }
 {
     output.changed(altered)?;
-    write_lines(output, config, cells)
+    write_lines(output, cells)
 }
 
 /// Prints the change deck of a tree that takes a change back. All memory is taken before the first

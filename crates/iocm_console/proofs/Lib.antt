@@ -1,6 +1,8 @@
 pub mod Again
+pub mod Alike
 pub mod Hexadecimal
 pub mod Line
+pub mod NextLine
 pub mod Opened
 mod Pairs
 pub mod Printing

@@ -1,8 +1,8 @@
 -- The lines of a list are those of its parts, one after the other.
-use Rattle.std.proofs.Common.{◌≡◌, ℕ, ◌==◌, ◌+◌, ◌<◌, List, [], ◌∷◌, ◌++◌, length, take, map, filter, get_or, Bool, true, false, not, Option, Some, None, arith, refl, ◌∙◌, sym, ap}
-use Rattle.std.specs.List.{flat_map, filter_map}
+use Rattle.std.proofs.Common.{◌≡◌, ℕ, ◌==◌, ◌+◌, ◌<◌, List, [], ◌∷◌, ◌++◌, length, take, map, filter, get_or, Bool, true, false, not, Option, Some, None, arith, refl, ◌∙◌, sym, ap, subst, suc}
+use Rattle.std.specs.List.{All, flat_map, filter_map}
 use Rattle.std.proofs.lemmas.List.{take_more, map-append, append-nil, append_assoc}
-use Rattle.std.proofs.lemmas.List.Elements.{filter-append, filter_map-append}
+use Rattle.std.proofs.lemmas.List.Elements.{All-pop, filter-append, filter_map-append}
 use Rattle.std.proofs.lemmas.Grind.{flat_map-append}
 use Rattle.std.proofs.lemmas.Bool.{eqb-true, not-false}
 use Rattle.std.proofs.lemmas.Bool.Decides.{nat_tests}
@@ -21,6 +21,9 @@ use Rattle.iocm_model.specs.Machine.View.{row_at, image_view}
 use Rattle.iocm_types.specs.declared.view.View.{View}
 use Rattle.iocm_console.specs.declared.cells.CellDevice.{CellDevice}
 use Rattle.iocm_console.specs.declared.subsystem_cells.SubsystemCells.{SubsystemCells}
+use Rattle.iocm_console.specs.Alike.{IsAlike, StayAlike}
+use Rattle.iocm_console.specs.Gathered.{Gathered}
+use Rattle.iocm_console.specs.Show.{table_at}
 use Rattle.iocm_console.specs.Lines.{CellDevices, celled, lines_of, image_lines, record_lines, AreNear, HaveSameLines}
 
 -- the lines of an image at some cells and at further ones
@@ -117,6 +120,11 @@ table_lines c n cells places =
     ∙ ap (λ (xs : List ℕ). heading ++ 10 ∷ xs) (rw (← places) (sym (lines_of-flat_map
     (λ i. filter_map (row_at (lookup_of c) i) (filter (λ (e : NumberCell × ℕ). e.0.css == i.css) cells)) (filter_map as_image (records_of c)))))
 
+-- so is the table of cells that are those of the numbers
+pub table_of_cells : (t : Gathered) (c : Configuration) (n : Numbering) → t.records ≡ c → t.cells ≡ entries (cells_of n)
+    → (table_at t.records t.cells).text ≡ table_of c n
+table_of_cells t c n same places = ap (λ m. (table_at m t.cells).text) same ∙ table_lines c n t.cells places
+
 -- cells without a first or a last one of another channel subsystem have the same lines
 pub without_first : (css : ℕ) (first : CellDevice) (rest more all : List CellDevice) → rest ≡ first ∷ more → (first.cell.css == css) ≡ false
     → HaveSameLines css (celled rest) (celled all) → HaveSameLines css (celled more) (celled all)
@@ -133,6 +141,15 @@ without_last css last rest more all is other same c i here =
     ∙ sym (image_lines-append c i (celled more) ((last.cell, last.device) ∷ []))
     ∙ ap (image_lines c i) (sym (map-append (λ (e : CellDevice). (e.cell, e.device)) more (last ∷ [])))
     ∙ ap (λ xs. image_lines c i (celled xs)) (sym is) ∙ same c i here
+
+-- and they are alike where all cells are
+pub alike_after_first : (first : CellDevice) (rest more all : List CellDevice) → rest ≡ first ∷ more → StayAlike rest all → StayAlike more all
+alike_after_first first rest more all is stay c h k d within =
+    let whole : All (IsAlike c) (first ∷ more) = subst (All (IsAlike c)) is (stay c h) in
+    whole (suc k) d (omega arith)
+
+pub alike_before_last : (last : CellDevice) (rest more all : List CellDevice) → rest ≡ more ++ last ∷ [] → StayAlike rest all → StayAlike more all
+alike_before_last last rest more all is stay c h = (All-pop (IsAlike c) rest more (Some last) is (stay c h)).0
 
 -- a record has the same lines by the cells of its image's channel subsystem
 pub near_lines : (c : Lookup) (near : SubsystemCells) (all : CellDevices) (r : Rec) → AreNear all near

@@ -1,10 +1,13 @@
 pub mod Again
+pub mod Alike
 pub mod Changed
 pub mod Check
 pub mod Command
 pub mod Digits
 pub mod Examples
+pub mod Gathered
 pub mod Lines
+pub mod NextLine
 pub mod Opening
 pub mod Output
 pub mod Refusal

@@ -1,32 +1,142 @@
-ghost use Rattle.std.specs.Prelude.{◌≡◌, IfOk};
+ghost use Rattle.std.specs.Prelude.{◌≡◌, All, IfOk};
+ghost use Rattle.std.specs.FinMap.{entries};
+ghost use Rattle.iocm_model.specs.Machine.Configuration.{lookup_of};
+ghost use Rattle.iocm_model.specs.Machine.Numbering.{cells_of, opening};
 ghost use Rattle.iocm_console.specs.Lines.{celled};
+ghost use Rattle.iocm_console.specs.Alike.{IsAlike, IsThere, devices_of};
 
+use crate::like_devices::{LikeDevice, first_like};
+use iocm_config::Config;
+use iocm_numbers::opening_cells;
 use iocm_table::Rows;
 use iocm_types::{DevNo, NumberCell};
 use std::alloc::{AllocError, Allocator};
+use std::marker::Model;
 
 /// A number cell that is taken, and the device that has it.
 #[derive(Clone, Copy, Drop)]
-pub struct CellDevice {
+pub(crate) struct CellDevice {
     pub cell: NumberCell,
     pub device: DevNo,
+    /// A device of the same set that each image sees by the same paths, or doesn't see either. Of
+    /// devices that follow each other it is the first.
+    pub like: DevNo,
 }
 
-/// The number cells of a walk with their devices, in its order: each image goes over all of them.
+/// The number cells of a configuration that are taken, with their devices, in their order. What
+/// devices have in common is noted once, for all images that go over them. Contracts see the
+/// configuration and the cells.
+#[derive(Drop)]
+pub struct TableCells<'a, A: Allocator, B: Allocator> {
+    config: &'a Config<A>,
+    cells: Vec<CellDevice, B>,
+}
+
+impl<'a, A: Allocator, B: Allocator> Model for TableCells<'a, A, B> {
+    ghost use Rattle.std.specs.Prelude.{refl, All};
+    ghost use Rattle.std.specs.FinMap as map;
+    ghost use Rattle.std.specs.Coded.{code_by, coded×, coded_list, codes};
+    ghost use Rattle.iocm_model.specs.Machine.Configuration.{Configuration, lookup_of};
+    ghost use Rattle.iocm_console.specs.Lines.{CellDevices, celled};
+    ghost use Rattle.iocm_console.specs.Gathered.{Gathered};
+    ghost use Rattle.iocm_console.specs.Alike.{IsAlike};
+
+    ghost Value = { Gathered };
+
+    ghost coded = { code_by (Configuration × CellDevices)
+        (coded× (map.code (Prim.hlevel codes) (Prim.hlevel codes)) (coded_list (Prim.hlevel codes)))
+        (λ t. (t.records, t.cells)) (λ p. record { records = p.0; cells = p.1 }) (λ _. refl) };
+
+    ghost view = { λ t. record { records = t.config.now.records; cells = celled t.cells.items } };
+
+    ghost invariant = { λ t. All (IsAlike (lookup_of t.config.now.records)) t.cells.items };
+}
+
+impl<'a, A: Allocator, B: Allocator> TableCells<'a, A, B> {
+    /// The configuration.
+    pub(crate) fn config(&self) -> &Config<A>
+        ensures { result.now.records ≡ self.now.records }
+    {
+        self.config
+    }
+
+    /// The cells, each with a device that its own is like.
+    pub(crate) fn as_slice(&self) -> &[CellDevice]
+        ensures cells { celled result.now ≡ self.now.cells }
+        ensures alike { All (IsAlike (lookup_of self.now.records)) result.now }
+    {
+        self.cells.as_slice()
+    }
+}
+
+/// The number cells of a walk over a configuration's numbers with their devices, in its order: each
+/// image goes over all of them. Each device is looked up once.
 ///
 /// `AllocError` (M1): memory was wanted.
-pub fn gather_cells<A: Allocator>(
-    alloc: A,
+pub fn gather_cells<'a, A: Allocator, B: Allocator>(
+    alloc: B,
+    config: &'a Config<A>,
     taken: Rows<'_, NumberCell, DevNo>,
-) -> Result<Vec<CellDevice, A>, AllocError>
-    ensures { IfOk result (λ cells. celled cells.items ≡ taken.entry) }
+) -> Result<TableCells<'a, A, B>, AllocError>
+    ensures records { IfOk result (λ t. t.records ≡ config.entry.now.records) }
+    ensures cells { IfOk result (λ t. t.cells ≡ taken.entry) }
 {
     let mut cells = Vec::new(alloc);
+    let mut last = LikeDevice::first(config);
     for (cell, device) in taken {
-        cells.push(CellDevice {
-            cell: *cell,
-            device: *device,
-        })?;
+        cells.push(compared(&mut last, *cell, *device))?;
     }
-    Ok(cells)
+    Ok(TableCells { config, cells })
+}
+
+/// The number cells that are taken in a configuration as it is opened, with their devices. No table
+/// of the numbers is made.
+///
+/// `AllocError` (M1): memory was wanted.
+pub fn opened_cells<'a, A: Allocator, B: Allocator + Copy>(
+    alloc: B,
+    config: &'a Config<A>,
+) -> Result<TableCells<'a, A, B>, AllocError>
+    ensures records { IfOk result (λ t. t.records ≡ config.entry.now.records) }
+    ensures cells { IfOk result (λ t. t.cells ≡ entries (cells_of (opening config.entry.now.records))) }
+{
+    let taken = opening_cells(alloc, config)?;
+    listed_cells(alloc, config, taken.as_slice())
+}
+
+/// Number cells with their devices, of a list of both.
+fn listed_cells<'a, A: Allocator, B: Allocator>(
+    alloc: B,
+    config: &'a Config<A>,
+    taken: &[(NumberCell, DevNo)],
+) -> Result<TableCells<'a, A, B>, AllocError>
+    ensures records { IfOk result (λ t. t.records ≡ config.entry.now.records) }
+    ensures cells { IfOk result (λ t. t.cells ≡ taken.now) }
+{
+    let mut cells = Vec::with_capacity(alloc, taken.len())?;
+    let mut last = LikeDevice::first(config);
+    for row in taken {
+        cells.push(compared(&mut last, row.0, row.1))?;
+    }
+    Ok(TableCells { config, cells })
+}
+
+/// A number cell with its device, which is compared with one before it.
+fn compared<A: Allocator>(
+    last: &mut LikeDevice<'_, A>,
+    cell: NumberCell,
+    device: DevNo,
+) -> CellDevice
+    requires { IsThere last.old }
+    ensures there { IsThere last.new }
+    ensures records { devices_of last.new ≡ devices_of last.old }
+    ensures cell { result.cell ≡ cell }
+    ensures device { result.device ≡ device }
+    ensures alike { IsAlike (lookup_of (devices_of last.old)) result }
+{
+    CellDevice {
+        cell,
+        device,
+        like: first_like(last, cell.set, device),
+    }
 }

@@ -6,7 +6,6 @@ ghost use Rattle.iocm_columns.specs.Device.{reader_of, reads_of, IsOpen, IsWhole
 ghost use Rattle.iocm_console.specs.Output.{has_failed, IsHandedOn, FailedToWrite};
 ghost use Rattle.iocm_console.specs.Opening.{configuration_in, opened, opened_or_refused, refused, Says, SaysIfMemory};
 ghost use Rattle.iocm_console.specs.Command.{answered, shown_by};
-ghost use Rattle.iocm_console.specs.Show.{table_done};
 
 use crate::accepted::accept;
 use crate::canonical::write_canonical;
@@ -15,7 +14,6 @@ use crate::table::write_table;
 use crate::{ConsoleError, Output, Status};
 use iocm_columns::{Card, Device, read_cards};
 use iocm_config::Config;
-use iocm_numbers::opening;
 use iocm_types::Fault;
 use std::alloc::Global;
 use std::io::{Read, Write};
@@ -123,25 +121,7 @@ fn answer_kept<W: Write + Drop>(
 {
     match command {
         DeckCommand::Check => accept(config, output),
-        DeckCommand::Show => show_opened(alloc, config, output),
+        DeckCommand::Show => write_table(alloc, output, config),
         DeckCommand::Write => write_canonical(alloc, output, config),
-    }
-}
-
-/// Prints the table of a configuration with the numbers at opening, or that memory is wanted.
-fn show_opened<W: Write + Drop>(
-    alloc: Global,
-    config: &Config,
-    output: &mut Output<W>,
-) -> Result<Status, ConsoleError>
-    ensures text { IfOk result (SaysIfMemory W.contents output.old output.new
-        (table_done config.now.records (model.opening config.now.records))) }
-    ensures works { OnOk result (has_failed output.new ≡ has_failed output.old) }
-    ensures handed_on { OnOk result (IsHandedOn output.new) }
-    ensures fault { IfErr result (FailedToWrite output.new) }
-{
-    match opening(alloc, config) {
-        Ok(numbers) => write_table(alloc, output, config, &numbers),
-        Err(error) => refuse(Fault::from(error), output),
     }
 }

@@ -24,6 +24,8 @@ mod command;
 mod digits;
 mod error;
 mod laws;
+mod like_devices;
+mod next_line;
 mod opening;
 mod output;
 mod refusal;
@@ -33,7 +35,7 @@ mod subsystem_cells;
 mod table;
 
 pub use canonical::write_text;
-pub use cells::{CellDevice, gather_cells};
+pub use cells::{TableCells, gather_cells, opened_cells};
 pub use change_refusal::{ChangeRefusal, SubchannelName};
 pub use command::{DeckCommand, answer_deck};
 pub use error::ConsoleError;
@@ -41,6 +43,6 @@ pub use laws::{refusals_of_changes_are_as_worked, what_is_written_is_read_again}
 pub use opening::{answer_unread, read_config, read_statements, refuse, refuse_change};
 pub use output::Output;
 pub use refusal::{BreachRefusal, Refusal};
-pub use row::{write_heading, write_row};
+pub use row::write_heading;
 pub use status::Status;
 pub use table::{write_lines, write_table};

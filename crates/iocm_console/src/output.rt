@@ -1,16 +1,16 @@
 ghost use Rattle.std.specs.Prelude.{◌≡◌, false, ◌++◌, ◌∷◌, [], IsOk, IsErr, OnOk, OnErr, IfErr};
 ghost use Rattle.std.specs.Io.Buffered.{writer_contents};
 ghost use Rattle.std.specs.Io.KnownBytes.{Keeps};
-ghost use Rattle.iocm_model.specs.Machine.Table.{line_of, heading};
+ghost use Rattle.iocm_model.specs.Machine.Table.{heading};
 ghost use Rattle.iocm_console.specs.Output.{writer_of, has_failed, IsHandedOn, Prints, PrintsLine, FailedToWrite};
 ghost use Rattle.iocm_console.specs.Check.{accepted_text};
 ghost use Rattle.iocm_console.specs.Refusal.{refusal_line, breach_line, change_refusal_line};
 ghost use Rattle.iocm_console.specs.Changed.{changed_text};
 
-use crate::row::{write_heading, write_row};
+use crate::row::write_heading;
 use crate::{BreachRefusal, ChangeRefusal, ConsoleError, Refusal};
 use iocm_rules::Breach;
-use iocm_types::{Fault, Refused, SubId, View};
+use iocm_types::{Fault, Refused};
 use std::io::{BufWriter, Write};
 use std::{fmt, io};
 
@@ -64,16 +64,6 @@ impl<W: Write + Drop> Output<W> {
         ensures fault { IfErr result (FailedToWrite self.new) }
     {
         let written = write_heading(&mut self.writer);
-        self.note(written)
-    }
-
-    /// Writes the line of a subchannel. Can't answer want of memory.
-    pub(crate) fn row(&mut self, id: SubId, view: &View) -> Result<(), ConsoleError>
-        ensures text { OnOk result (Prints W.contents self.old self.new (line_of (id, view.now) ++ 10 ∷ [])) }
-        ensures works { OnOk result (has_failed self.new ≡ has_failed self.old) }
-        ensures fault { IfErr result (FailedToWrite self.new) }
-    {
-        let written = write_row(&mut self.writer, id, view);
         self.note(written)
     }
 

@@ -1,17 +1,22 @@
-ghost use Rattle.std.specs.Prelude.{◌≡◌, ◌≤◌, ◌+◌, ◌++◌, ◌∷◌, [], OnOk, length};
+ghost use Rattle.std.specs.Prelude.{◌≡◌, ◌≤◌, ◌⊎◌, ◌+◌, ◌++◌, ◌∷◌, [], OnOk, length, take, drop, codes};
 ghost use Rattle.std.specs.Io.KnownBytes.{Appends};
 ghost use Rattle.arrayvec.specs.ArrayVec.{array_vec_len};
+ghost use Rattle.iocm_types.specs.Print.{hex4};
 ghost use Rattle.iocm_model.specs.Machine.Table.{line_of, heading, chpids};
+ghost use Rattle.iocm_console.specs.NextLine.{with_numbers};
 
 use crate::digits::{digit, digits};
 use arrayvec::ArrayVec;
-use iocm_types::{Chpid, SubId, View};
+use iocm_types::{Chpid, DevNo, SubId, View};
 use std::io;
 use std::io::Write;
 
 /// The most bytes of a line: 28 before the paths, three for each of at most eight paths, and its
 /// end.
 const LONGEST: usize = 53;
+
+/// A line of the table with its end, or no bytes.
+pub(crate) type Line = ArrayVec<u8, LONGEST>;
 
 /// Writes the heading of the table, with its end. Can't answer want of memory.
 pub fn write_heading<W: Write>(writer: &mut W) -> io::Result<()>
@@ -20,19 +25,9 @@ pub fn write_heading<W: Write>(writer: &mut W) -> io::Result<()>
     writeln!(writer, "CSS IM SET SUBC DEVN PIM PAM CHPIDS")
 }
 
-/// Writes the line of a subchannel, with its end, as one piece. Can't answer want of memory.
-pub fn write_row<W: Write>(writer: &mut W, id: SubId, view: &View) -> io::Result<()>
-    ensures { OnOk result
-        (Appends (W.contents writer.old) (W.contents writer.new) (line_of (id, view.now) ++ 10 ∷ [])) }
-{
-    let mut line = ArrayVec::new();
-    put_line(&mut line, id, view);
-    writer.write_all(line.as_slice())
-}
-
 /// Puts the line of a subchannel, with its end, where no byte is.
 #[inline]
-fn put_line(line: &mut ArrayVec<u8, LONGEST>, id: SubId, view: &View)
+pub(crate) fn put_line(line: &mut Line, id: SubId, view: &View)
     requires { line.old.items ≡ [] }
     ensures { line.new.items ≡ line_of (id, view.now) ++ 10 ∷ [] }
 {
@@ -47,7 +42,7 @@ fn put_line(line: &mut ArrayVec<u8, LONGEST>, id: SubId, view: &View)
 
 /// Puts the number of a path at the end of a line, with a blank before it.
 #[inline]
-fn put_path(line: &mut ArrayVec<u8, LONGEST>, path: Chpid)
+fn put_path(line: &mut Line, path: Chpid)
     requires { array_vec_len line.old + 3 ≤ 53 }
     ensures text { line.new.items ≡ line.old.items ++ chpids (path ∷ []) }
     ensures length { array_vec_len line.new ≡ array_vec_len line.old + 3 }
@@ -100,4 +95,38 @@ fn numbers(id: SubId, view: &View) -> [u8; 28]
         a2,
         b' ',
     ]
+}
+
+/// Puts another subchannel number and another device number into a line, if there is one.
+#[inline]
+pub(crate) fn put_numbers(line: &mut Line, number: u16, device: DevNo)
+    requires { (line.old.items ≡ []) ⊎ (20 ≤ array_vec_len line.old) }
+    ensures none { line.old.items ≡ [] → line.new.items ≡ [] }
+    ensures numbers { 20 ≤ array_vec_len line.old → line.new.items ≡ with_numbers number device line.old.items }
+{
+    if !line.is_empty() {
+        put_two_numbers(line.as_mut_slice(), &two_numbers(number, device));
+    }
+}
+
+/// Puts the part of a line from its subchannel number to its device number.
+#[inline]
+fn put_two_numbers(line: &mut [u8], part: &[u8; 9])
+    requires { 20 ≤ length line.old }
+    ensures { line.new ≡ take 11 line.old ++ (part.now ++ drop 20 line.old) }
+{
+    line[11..20].copy_from_slice(part);
+}
+
+/// A subchannel number and a device number with a blank between.
+#[inline]
+fn two_numbers(number: u16, device: DevNo) -> [u8; 9]
+    ensures { result ≡ hex4 number ++ (codes " " ++ hex4 device) }
+{
+    let [n1, n2] = digits((number / 256) as u8);
+    let [n3, n4] = digits((number % 256) as u8);
+    let device = device.number();
+    let [d1, d2] = digits((device / 256) as u8);
+    let [d3, d4] = digits((device % 256) as u8);
+    [n1, n2, n3, n4, b' ', d1, d2, d3, d4]
 }

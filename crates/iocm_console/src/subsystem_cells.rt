@@ -1,6 +1,7 @@
 ghost use Rattle.std.specs.Prelude.{◌≡◌, Some};
 ghost use Rattle.iocm_model.specs.Machine.Configuration.{as_image};
 ghost use Rattle.iocm_model.specs.Machine.Record.{ImageRecord};
+ghost use Rattle.iocm_console.specs.Alike.{StayAlike};
 ghost use Rattle.iocm_console.specs.Lines.{celled, AreNear, HaveSameLines};
 
 use crate::cells::CellDevice;
@@ -21,6 +22,7 @@ impl<'c> SubsystemCells<'c> {
     /// Those of a channel subsystem.
     pub fn of(cells: &'c [CellDevice], css: Css) -> Self
         ensures near { AreNear (celled cells.now) result }
+        ensures alike { StayAlike result.cells.now cells.now }
         ensures css { result.css ≡ css }
     {
         let cells = without_back(without_front(cells, css), css);
@@ -40,7 +42,8 @@ pub(crate) fn css_of_image<A: Allocator>(entry: &Record<A>, other: Css) -> Css
 
 /// The cells from the first of a channel subsystem on.
 fn without_front(cells: &[CellDevice], css: Css) -> &[CellDevice]
-    ensures { HaveSameLines css (celled result.now) (celled cells.now) }
+    ensures lines { HaveSameLines css (celled result.now) (celled cells.now) }
+    ensures alike { StayAlike result.now cells.now }
 {
     let mut rest = cells;
     while let Some((first, more)) = rest.split_first() {
@@ -54,7 +57,8 @@ fn without_front(cells: &[CellDevice], css: Css) -> &[CellDevice]
 
 /// The cells up to the last of a channel subsystem.
 fn without_back(cells: &[CellDevice], css: Css) -> &[CellDevice]
-    ensures { HaveSameLines css (celled result.now) (celled cells.now) }
+    ensures lines { HaveSameLines css (celled result.now) (celled cells.now) }
+    ensures alike { StayAlike result.now cells.now }
 {
     let mut rest = cells;
     while let Some((last, more)) = rest.split_last() {

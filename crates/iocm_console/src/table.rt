@@ -1,19 +1,22 @@
-ghost use Rattle.std.specs.Prelude.{◌≡◌, [], ◌∷◌, OnOk, IfOk, IfErr};
-ghost use Rattle.iocm_model.specs.Machine.Configuration.{lookup_of, records_of};
+ghost use Rattle.std.specs.Prelude.{◌≡◌, [], ◌∷◌, All, OnOk, IfOk, IfErr};
+ghost use Rattle.iocm_model.specs.Machine.Configuration.{lookup_of, records_of, IsKeyed};
+ghost use Rattle.iocm_model.specs.Machine.Numbering.{opening};
+ghost use Rattle.iocm_console.specs.Alike.{IsAlike};
 ghost use Rattle.iocm_console.specs.Lines.{celled, image_lines, record_lines, image_record};
 ghost use Rattle.iocm_console.specs.Output.{has_failed, IsHandedOn, Prints, FailedToWrite};
 ghost use Rattle.iocm_console.specs.Opening.{Says, SaysIfMemory};
 ghost use Rattle.iocm_console.specs.Show.{table_at, table_done};
 
-use crate::cells::{CellDevice, gather_cells};
+use crate::cells::{CellDevice, TableCells, opened_cells};
+use crate::next_line::next_line;
 use crate::opening::refuse;
+use crate::row::Line;
 use crate::subsystem_cells::{SubsystemCells, css_of_image};
 use crate::{ConsoleError, Output, Status};
 use iocm_config::Config;
 use iocm_derive::ImageSight;
-use iocm_numbers::Numbers;
 use iocm_record::{Record, RecordBody};
-use iocm_types::{Css, Fault, Image, Name, SubId};
+use iocm_types::{Css, Fault, Image, Name};
 use std::alloc::Allocator;
 use std::io::Write;
 
@@ -24,42 +27,41 @@ struct PrintedImage {
     name: Name,
 }
 
-/// Prints the table of subchannels. All memory is taken before the first byte is written.
+/// Prints the table of subchannels of a configuration as it is opened. All memory is taken before
+/// the first byte is written.
 ///
 /// M1, a refusal, which is printed: memory was wanted.
-pub fn write_table<A: Allocator, B: Allocator, C: Allocator + Drop, W: Write + Drop>(
-    alloc: C,
+pub fn write_table<A: Allocator, B: Allocator + Copy + Drop, W: Write + Drop>(
+    alloc: B,
     output: &mut Output<W>,
     config: &Config<A>,
-    numbers: &Numbers<B>,
 ) -> Result<Status, ConsoleError>
-    ensures text { IfOk result
-        (SaysIfMemory W.contents output.old output.new (table_done config.now.records numbers.now.numbers)) }
+    ensures text { IfOk result (SaysIfMemory W.contents output.old output.new
+        (table_done config.now.records (opening config.now.records))) }
     ensures works { OnOk result (has_failed output.new ≡ has_failed output.old) }
     ensures handed_on { OnOk result (IsHandedOn output.new) }
     ensures fault { IfErr result (FailedToWrite output.new) }
 {
-    match gather_cells(alloc, numbers.cells()) {
-        Ok(cells) => write_lines(output, config, cells.as_slice()),
+    match opened_cells(alloc, config) {
+        Ok(cells) => write_lines(output, &cells),
         Err(error) => refuse(Fault::from(error), output),
     }
 }
 
 /// Prints the heading and the lines of all images at some number cells. Can't answer want of
 /// memory.
-pub fn write_lines<A: Allocator, W: Write + Drop>(
+pub fn write_lines<A: Allocator, B: Allocator, W: Write + Drop>(
     output: &mut Output<W>,
-    config: &Config<A>,
-    cells: &[CellDevice],
+    cells: &TableCells<'_, A, B>,
 ) -> Result<Status, ConsoleError>
     ensures text { IfOk result
-        (Says W.contents output.old output.new (table_at config.now.records (celled cells.now))) }
+        (Says W.contents output.old output.new (table_at cells.now.records cells.now.cells)) }
     ensures works { OnOk result (has_failed output.new ≡ has_failed output.old) }
     ensures handed_on { OnOk result (IsHandedOn output.new) }
     ensures fault { IfErr result (FailedToWrite output.new) }
 {
     output.heading()?;
-    write_rows(output, config, cells)?;
+    write_rows(output, cells.config(), cells.as_slice())?;
     output.flush()?;
     Ok(Status::Done)
 }
@@ -71,6 +73,7 @@ fn write_rows<A: Allocator, W: Write + Drop>(
     config: &Config<A>,
     cells: &[CellDevice],
 ) -> Result<(), ConsoleError>
+    requires { All (IsAlike (lookup_of config.now.records)) cells.now }
     ensures text { OnOk result (Prints W.contents output.old output.new
         (record_lines (lookup_of config.now.records) (celled cells.now) (records_of config.now.records))) }
     ensures works { OnOk result (has_failed output.new ≡ has_failed output.old) }
@@ -94,6 +97,7 @@ fn write_record<A: Allocator, W: Write + Drop>(
     entry: &Record<A>,
     cells: &[CellDevice],
 ) -> Result<(), ConsoleError>
+    requires { All (IsAlike (lookup_of config.now.records)) cells.now }
     ensures text { OnOk result (Prints W.contents output.old output.new
         (record_lines (lookup_of config.now.records) (celled cells.now) (entry.now ∷ []))) }
     ensures works { OnOk result (has_failed output.new ≡ has_failed output.old) }
@@ -120,75 +124,52 @@ fn write_image<A: Allocator, W: Write + Drop>(
     image: &PrintedImage,
     cells: &[CellDevice],
 ) -> Result<(), ConsoleError>
+    requires { All (IsAlike (lookup_of config.now.records)) cells.now }
     ensures text { OnOk result (Prints W.contents output.old output.new
         (image_lines (lookup_of config.now.records) (image_record image.now) (celled cells.now))) }
     ensures works { OnOk result (has_failed output.new ≡ has_failed output.old) }
     ensures fault { IfErr result (FailedToWrite output.new) }
 {
+    // For the proof alone: each record stands under its own key, so a view is of the device that
+    // was asked for.
+    config.has_own_keys();
     let mut sight = ImageSight::new(config, image.image, image.name);
     write_cells(output, &mut sight, cells)
 }
 
-/// Writes the lines of an image at some number cells.
+/// Writes the lines of an image at some number cells, each by the one before it.
 fn write_cells<A: Allocator, W: Write + Drop>(
     output: &mut Output<W>,
     sight: &mut ImageSight<'_, A>,
     cells: &[CellDevice],
 ) -> Result<(), ConsoleError>
+    requires keyed { IsKeyed sight.old.records }
+    requires alike { All (IsAlike (lookup_of sight.old.records)) cells.now }
     ensures text { OnOk result (Prints W.contents output.old output.new
         (image_lines (lookup_of sight.old.records) sight.old.image (celled cells.now))) }
     ensures same { sight.new ≡ sight.old }
     ensures works { OnOk result (has_failed output.new ≡ has_failed output.old) }
     ensures fault { IfErr result (FailedToWrite output.new) }
 {
+    let mut line = Line::new();
+    let mut last = None;
     for place in cells {
-        write_cell(output, sight, *place)?;
+        next_line(&mut line, sight, last, place);
+        last = Some(*place);
+        write_line(output, &line)?;
     }
     Ok(())
 }
 
-/// Writes the line of an image at a number cell, if the cell is of its channel subsystem and the
-/// image sees the device there.
-fn write_cell<A: Allocator, W: Write + Drop>(
-    output: &mut Output<W>,
-    sight: &mut ImageSight<'_, A>,
-    place: CellDevice,
-) -> Result<(), ConsoleError>
-    ensures text { OnOk result (Prints W.contents output.old output.new
-        (image_lines (lookup_of sight.old.records) sight.old.image (celled (place ∷ [])))) }
-    ensures same { sight.new ≡ sight.old }
+/// Writes a line, if there is one.
+#[inline]
+fn write_line<W: Write + Drop>(output: &mut Output<W>, line: &Line) -> Result<(), ConsoleError>
+    ensures text { OnOk result (Prints W.contents output.old output.new line.now.items) }
     ensures works { OnOk result (has_failed output.new ≡ has_failed output.old) }
     ensures fault { IfErr result (FailedToWrite output.new) }
 {
-    let image = sight.image();
-    if place.cell.css != image.css {
+    if line.is_empty() {
         return Ok(());
     }
-    write_seen(output, sight, place)
-}
-
-/// Writes the line of an image at a number cell of its channel subsystem, if it sees the device
-/// there.
-fn write_seen<A: Allocator, W: Write + Drop>(
-    output: &mut Output<W>,
-    sight: &mut ImageSight<'_, A>,
-    place: CellDevice,
-) -> Result<(), ConsoleError>
-    requires { place.cell.css ≡ sight.old.image.css }
-    ensures text { OnOk result (Prints W.contents output.old output.new
-        (image_lines (lookup_of sight.old.records) sight.old.image (celled (place ∷ [])))) }
-    ensures same { sight.new ≡ sight.old }
-    ensures works { OnOk result (has_failed output.new ≡ has_failed output.old) }
-    ensures fault { IfErr result (FailedToWrite output.new) }
-{
-    let cell = place.cell;
-    let id = SubId {
-        image: sight.image(),
-        set: cell.set,
-        number: cell.number,
-    };
-    match sight.view(cell.set, place.device) {
-        Some(view) => output.row(id, &view),
-        None => Ok(()),
-    }
+    output.bytes(line.as_slice())
 }

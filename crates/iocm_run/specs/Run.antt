@@ -20,7 +20,7 @@ use Rattle.iocm_operation.specs.declared.operated.Operated.{Operated}
 use Rattle.iocm_operation.specs.Running.{IsOperation}
 use Rattle.iocm_console.specs.declared.output.Output.{Output}
 use Rattle.iocm_console.specs.declared.status.Status.{Status}
-use Rattle.iocm_console.specs.Lines.{CellDevices}
+use Rattle.iocm_console.specs.Gathered.{Gathered}
 use Rattle.iocm_console.specs.Show.{table_at, table_done}
 use Rattle.iocm_console.specs.Opening.{Shown, Says, breached, configuration_in, declined, refused}
 use Rattle.iocm_answers.specs.Answers.{answer_line}
@@ -48,9 +48,9 @@ with_answers o table =
 abbrev pub ran : Operated → Shown
 ran o = let s = o.closed.plant.state in with_answers o (table_done s.config s.numbers)
 
--- the same at some number cells
-abbrev pub ran_at : Operated → CellDevices → Shown
-ran_at o cells = with_answers o (table_at o.closed.plant.state.config cells)
+-- the same with the table of some number cells
+abbrev pub ran_at : Operated → Gathered → Shown
+ran_at o cells = with_answers o (table_at cells.records cells.cells)
 
 -- the rule by which a run was stopped
 abbrev pub stopped : Rule → Shown

@@ -1,12 +1,11 @@
 //! What is printed of a script that was run.
 ghost use Rattle.std.specs.Prelude.{◌≡◌, ◌∷◌, ◌++◌, [], IfOk, IfErr, OnOk, length};
-ghost use Rattle.iocm_console.specs.Lines.{celled};
 ghost use Rattle.iocm_console.specs.Opening.{Says, SaysIfMemory};
 ghost use Rattle.iocm_console.specs.Output.{has_failed, IsHandedOn, FailedToWrite, Prints};
 ghost use Rattle.iocm_run.specs.Run.{answers_text, ran, ran_at};
 
 use iocm_answers::write_answer;
-use iocm_console::{CellDevice, ConsoleError, Output, Status, gather_cells, refuse, write_lines};
+use iocm_console::{ConsoleError, Output, Status, TableCells, gather_cells, refuse, write_lines};
 use iocm_operation::{Answered, Operated};
 use iocm_types::Fault;
 use std::alloc::Global;
@@ -27,7 +26,8 @@ pub(crate) fn print_run<W: Write + Drop>(
     ensures handed_on { OnOk result (IsHandedOn output.new) }
     ensures fault { IfErr result (FailedToWrite output.new) }
 {
-    match gather_cells(alloc, operated.closed.plant.numbers().cells()) {
+    let plant = &operated.closed.plant;
+    match gather_cells(alloc, plant.config(), plant.numbers().cells()) {
         Ok(cells) => print_lines(operated, &cells, output),
         Err(error) => refuse(Fault::from(error), output),
     }
@@ -53,17 +53,17 @@ impl fmt::Display for TraceLine {
 /// want of memory.
 fn print_lines<W: Write + Drop>(
     operated: &Operated,
-    cells: &[CellDevice],
+    cells: &TableCells<'_, Global, Global>,
     output: &mut Output<W>,
 ) -> Result<Status, ConsoleError>
-    ensures text { IfOk result (Says W.contents output.old output.new (ran_at operated.now (celled cells.now))) }
+    ensures text { IfOk result (Says W.contents output.old output.new (ran_at operated.now cells.now)) }
     ensures works { OnOk result (has_failed output.new ≡ has_failed output.old) }
     ensures handed_on { OnOk result (IsHandedOn output.new) }
     ensures fault { IfErr result (FailedToWrite output.new) }
 {
     print_answers(&operated.answers, output)?;
     output.line(TraceLine(operated.closed.trace.entries.len()))?;
-    write_lines(output, operated.closed.plant.config(), cells)
+    write_lines(output, cells)
 }
 
 /// Prints answers, each behind the number of its line. Can't answer want of memory.

@@ -1,4 +1,4 @@
-use Rattle.std.proofs.Common.{Ok, Err, ap, sym, subst, ◌∙◌}
+use Rattle.std.proofs.Common.{ap, sym, subst, ◌∙◌}
 use Rattle.iocm_columns.specs.Device.{GivesIfReadable}
 use Rattle.iocm_console.proofs.Opened.{says_named}
 use Rattle.iocm_apply.specs.Apply.{change_in, lines_tried, tried}

@@ -5,7 +5,8 @@ use Rattle.iocm_console.proofs.Showing.{appends_kept}
 use Rattle.iocm_console.proofs.table.write_lines.Goals as goal
 
 pub returns-clause-text : goal.returns-clause-text
-returns-clause-text g c = (
-  appends_kept _ _ _ _ (appends_then _ _ _ _ _ c.in_ok-heading.ensures.text c.in_ok-write_rows.ensures.text) c.in_ok-flush.ensures.text,
-  refl,
-)
+returns-clause-text g c =
+    let rows = rw (c.config.ensures, c.as_slice.ensures.cells) at c.in_ok-write_rows.ensures.text in (
+      appends_kept _ _ _ _ (appends_then _ _ _ _ _ c.in_ok-heading.ensures.text rows) c.in_ok-flush.ensures.text,
+      refl,
+    )

@@ -17,6 +17,7 @@ loop-entry-init g c = record {
   text = appends_as _ _ _ _ (appends_nothing _) (record_lines-nil _ _);
   works = refl;
   near = c.of-near.ensures.near;
+  alike = c.of-near.ensures.alike (lookup_of c.args.config.now.records) c.requires;
 }
 
 pub loop-entry-preserved : goal.loop-entry-preserved
@@ -34,6 +35,10 @@ loop-entry-preserved g c =
           (record_lines_more (lookup_of c.args.config.now.records) all deref_pair c.loop-entry.yielded (c.in-Some.field-0-0, c.in-Some.entry));
       works = c.in_ok-write_record.ensures.works ∙ c.loop-entry.invariant.works;
       near = now.0;
+      alike = elim c.if-ne.branch [
+        | then-ne w ↦ rw w.near-is (w.of-near-then-ne.ensures.alike (lookup_of c.args.config.now.records) c.requires)
+        | else-ne w ↦ rw w.near-is c.loop-entry.invariant.alike
+      ];
     }
 
 pub returns-clause-text : goal.returns-clause-text
@@ -43,3 +48,9 @@ returns-clause-text g c =
     subst (λ (es : List (Key × Rec)). Prints g.W.Write.contents c.args.output.now c.loop-entry.output
     (record_lines (lookup_of c.args.config.now.records) (celled c.args.cells.now) (map (λ (e : Key × Rec). e.1) es)))
     all.0 c.loop-entry.invariant.text
+
+pub write_record-requires : goal.write_record-requires
+write_record-requires g c = elim c.if-ne.branch [
+  | then-ne w ↦ rw w.near-is (w.of-near-then-ne.ensures.alike (lookup_of c.args.config.now.records) c.requires)
+  | else-ne w ↦ rw w.near-is c.loop-entry.invariant.alike
+]

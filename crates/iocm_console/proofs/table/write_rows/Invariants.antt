@@ -1,7 +1,9 @@
 -- The lines of the records so far are written.
 use Rattle.std.proofs.Common.{◌≡◌}
+use Rattle.std.specs.List.{All}
 use Rattle.std.specs.Map.Iter.{deref_pair}
 use Rattle.iocm_model.specs.Machine.Configuration.{lookup_of}
+use Rattle.iocm_console.specs.Alike.{IsAlike}
 use Rattle.iocm_console.specs.Lines.{celled, record_lines, AreNear}
 use Rattle.iocm_console.specs.Output.{has_failed, Prints}
 use Rattle.iocm_console.proofs.Rows.{records_in}
@@ -12,4 +14,5 @@ invariant-loop-entry g l = record {
   text : Prints g.W.Write.contents l.initial.output l.output (record_lines (lookup_of l.config.records) (celled l.cells) (records_in deref_pair l.yielded));
   works : has_failed l.output ≡ has_failed l.initial.output;
   near : AreNear (celled l.cells) l.near;
+  alike : All (IsAlike (lookup_of l.config.records)) l.near.cells.now;
 }

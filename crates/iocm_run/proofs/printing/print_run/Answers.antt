@@ -1,8 +1,7 @@
 -- The cells of the numbers are all cells of the table.
 use Rattle.std.proofs.Common.{ap, ◌∙◌}
 use Rattle.iocm_console.specs.declared.status.Status.TheVariants.{Done}
-use Rattle.iocm_console.specs.Lines.{celled}
-use Rattle.iocm_console.proofs.Rows.{table_lines}
+use Rattle.iocm_console.proofs.Rows.{table_of_cells}
 use Rattle.iocm_console.proofs.Showing.{says_as, says_memory}
 use Rattle.iocm_model.specs.Machine.Table.{table_of}
 use Rattle.iocm_run.specs.Run.{ran, ran_at, with_answers}
@@ -12,9 +11,11 @@ pub returns-in-Ok-clause-text : goal.returns-in-Ok-clause-text
 returns-in-Ok-clause-text g c =
     let o = c.args.operated.now in
     let s = o.closed.plant.state in
-    says_as g.W.Write.contents c.args.output.now c.print_lines.new.output c.print_lines.result (ran_at o (celled c.deref.result.now)) (ran o)
+    let cells = c.in-Ok.cells in
+    says_as g.W.Write.contents c.args.output.now c.print_lines.new.output c.print_lines.result (ran_at o cells) (ran o)
     (ap (λ text. with_answers o (record { text = text; status = Done }))
-    (table_lines s.config c.numbers.result.now.numbers (celled c.deref.result.now) (ap celled c.deref.ensures.value ∙ c.in-Ok.ensures ∙ c.cells.ensures) ∙ ap (table_of s.config) c.numbers.ensures))
+    (table_of_cells cells c.config.result.now.records c.numbers.result.now.numbers c.in-Ok.ensures.records (c.in-Ok.ensures.cells ∙ c.cells.ensures)
+    ∙ (λ j. table_of (c.config.ensures j) (c.numbers.ensures j))))
     c.print_lines.ensures.text
 
 pub returns-in-Err-clause-text : goal.returns-in-Err-clause-text
