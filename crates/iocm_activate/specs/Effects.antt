@@ -19,7 +19,11 @@ use Rattle.iocm_activate.specs.declared.log.Log.{Log}
 
 -- the model's effect
 abbrev pub effect_in : Effect → model.Effect
-effect_in e = record { records = rows key_cmp e.records; numbers = rows cell_cmp e.numbers; lives = rows sub_id_cmp e.lives }
+effect_in e = record {
+  records = rows key_cmp e.records;
+  numbers = rows cell_cmp e.numbers;
+  lives = rows sub_id_cmp e.lives;
+}
 
 -- the number cells that edits changed, and the subchannels that they altered
 abbrev pub cells_changed : List NumberChange → List NumberCell

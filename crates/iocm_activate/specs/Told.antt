@@ -34,7 +34,11 @@ told_of_all (e ∷ es) s = told_of e s ∷ told_of_all es (state_after e s)
 
 -- what is kept in memory of an edit
 abbrev pub told_in : Applied → Told
-told_in a = record { inverse = a.inverse.edit; numbers = a.touched.numbers.items; subchannels = a.touched.subchannels.items }
+told_in a = record {
+  inverse = a.inverse.edit;
+  numbers = a.touched.numbers.items;
+  subchannels = a.touched.subchannels.items;
+}
 
 -- the key of an edit
 abbrev pub key_of_edit : Edit → Key

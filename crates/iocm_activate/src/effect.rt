@@ -128,8 +128,8 @@ fn add_lives(
     plant: &Plant,
     changes: &[ViewChange],
 ) -> Result<(), AllocError>
-    ensures { OnOk result (rows sub_id_cmp cells.new ≡ with_values plant.now.state.lives (subchannels_changed changes.now)
-        (rows sub_id_cmp cells.old)) }
+    ensures { OnOk result (rows sub_id_cmp cells.new
+        ≡ with_values plant.now.state.lives (subchannels_changed changes.now) (rows sub_id_cmp cells.old)) }
 {
     for change in changes {
         add_cell(cells, change.subchannel, plant.live(change.subchannel))?;

@@ -73,10 +73,11 @@ impl Journal {
         self.changes.len() as u64
     }
 
-    /// How many of them stand.
+    /// How many of them stand, not more than there are.
     pub fn standing(&self) -> u64
         ensures number { result ≡ self.now.standing }
         ensures counted { result ≡ count_standing self.now.changes }
+        ensures most { result ≤ length self.now.changes }
     {
         self.standing
     }

@@ -68,7 +68,13 @@ state_of c n seats = record { config = c; numbers = n; lives = lives_seated seat
 
 -- the places of the tables
 abbrev pub room_of : config.Stored → Numbered → Stored Naming (Unit {0}) → Seated → Room
-room_of c n index seats = record { keys = c.places; places = n.place_room; cells = n.cell_room; namings = index.places; subchannels = seats.places }
+room_of c n index seats = record {
+  keys = c.places;
+  places = n.place_room;
+  cells = n.cell_room;
+  namings = index.places;
+  subchannels = seats.places;
+}
 
 abbrev pub operating_of : config.Stored → Numbered → Stored Naming (Unit {0}) → Seated → Operating
 operating_of c n index seats = record {

@@ -45,10 +45,19 @@ impl Model for Plant {
         (coded× (coded_list (Prim.hlevel codes))
         (coded× (coded_list (Prim.hlevel codes))
         (coded× (coded_list (Prim.hlevel codes)) (coded_list (Prim.hlevel codes)))))))
-        (λ p. ((p.state.config, (p.state.numbers, p.state.lives)), (p.room.keys, (p.room.places, (p.room.cells, (p.room.namings, p.room.subchannels))))))
+        (λ p. (
+          (p.state.config, (p.state.numbers, p.state.lives)),
+          (p.room.keys, (p.room.places, (p.room.cells, (p.room.namings, p.room.subchannels)))),
+        ))
         (λ c. record {
           state = record { config = c.0.0; numbers = c.0.1.0; lives = c.0.1.1 };
-          room = record { keys = c.1.0; places = c.1.1.0; cells = c.1.1.1.0; namings = c.1.1.1.1.0; subchannels = c.1.1.1.1.1 };
+          room = record {
+            keys = c.1.0;
+            places = c.1.1.0;
+            cells = c.1.1.1.0;
+            namings = c.1.1.1.1.0;
+            subchannels = c.1.1.1.1.1;
+          };
         }) (λ _. refl) };
 
     ghost view = { λ p. operating_of p.config p.numbers p.index p.seats };
