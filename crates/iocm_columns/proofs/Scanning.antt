@@ -1,8 +1,10 @@
 -- The columns that belong to a part, column by column.
-use Rattle.std.proofs.Common.{◌≡◌, ℕ, ◌+◌, ◌<◌, Bool, true, false, List, [], ◌∷◌, ◌++◌, length, get_or, take, drop, refl, sym, ◌∙◌, ◌≤◌, arith}
+use Rattle.std.proofs.Common.{◌≡◌, ℕ, zero, suc, ◌+◌, ◌<◌, Bool, true, false, List, [], ◌∷◌, ◌++◌, length, get_or, take, drop, slice_index, eqb, fold, refl, sym, ap, ◌∙◌, ◌≤◌, arith}
+use Rattle.std.proofs.lemmas.Bool.{or_parts}
 use Rattle.std.proofs.lemmas.List.{take_more, drop_more, append-nil, append_assoc, take_all}
 use Rattle.std.proofs.lemmas.List.Sums.{fold_more}
 use Rattle.std.proofs.Math.ListN.{drop_of_length-le}
+use Rattle.memchr.specs.Find.{is_byte2}
 use Rattle.iocm_columns.specs.Part.{ends, front, switched}
 
 -- the front ends at this column
@@ -26,4 +28,23 @@ unfolding front
 front_is_all inside xs i past =
     rw (drop_of_length-le xs past, append-nil (take i xs)) (take_all i xs past ∙ sym (take_all (length xs) xs (omega arith)))
 
-pub ruleset scanning = (front_ends, front_goes_on, front_is_all, fold_more, take_all)
+-- columns without a blank and a quote belong to the front, and leave inside as it is
+pub front_plain : (inside : Bool) (xs : List ℕ) (n : ℕ) → ((i : ℕ) → i < n → is_byte2 32 39 (slice_index xs i) ≡ false) → n ≤ length xs
+    → take n xs ++ front inside (drop n xs) ≡ front inside xs
+unfolding front ends switched
+front_plain inside xs zero plain within = refl
+front_plain inside [] (suc n) plain within = elim within [ ]
+front_plain inside (x ∷ xs) (suc n) plain within =
+    let first : (eqb x 32 ≡ false) × (eqb x 39 ≡ false) = or_parts (eqb x 32) (eqb x 39) (plain 0 (omega arith)) in
+    rw (first.0, first.1) (ap (λ ys. x ∷ ys) (front_plain inside xs n (λ i below. plain (suc i) (omega (arith, below))) (omega (arith, within))))
+
+pub quoting_plain : (inside : Bool) (xs : List ℕ) (n : ℕ) → ((i : ℕ) → i < n → is_byte2 32 39 (slice_index xs i) ≡ false) → n ≤ length xs
+    → inside ≡ fold switched inside (take n xs)
+unfolding switched
+quoting_plain inside xs zero plain within = refl
+quoting_plain inside [] (suc n) plain within = elim within [ ]
+quoting_plain inside (x ∷ xs) (suc n) plain within =
+    let first : (eqb x 32 ≡ false) × (eqb x 39 ≡ false) = or_parts (eqb x 32) (eqb x 39) (plain 0 (omega arith)) in
+    rw (first.1, fold) (quoting_plain inside xs n (λ i below. plain (suc i) (omega (arith, below))) (omega (arith, within)))
+
+pub ruleset scanning = (front_ends, front_goes_on, front_is_all, front_plain, quoting_plain, fold_more, take_all)

@@ -1,11 +1,13 @@
-ghost use Rattle.std.specs.Prelude.{◌≡◌, ◌≤◌, [], length, take, IfOk, OnOk};
+ghost use Rattle.std.specs.Prelude.{◌≡◌, ◌<◌, ◌≤◌, ℕ, false, [], length, slice_index, take, IfOk, OnOk};
 ghost use Rattle.std.specs.List.{fold};
 ghost use Rattle.iocm_columns.specs.Part.{switched, is_quoting, ends, front, going_of};
 ghost use Rattle.iocm_columns.specs.Part.{ends_in_comma, part_after, continued};
+ghost use Rattle.memchr.specs.Find.{is_byte2};
 
 use crate::going::Going;
 use crate::words::skip_blanks;
 use iocm_types::Text;
+use memchr::memchr2;
 use std::alloc::{AllocError, Global};
 use std::marker::Model;
 
@@ -88,19 +90,27 @@ fn find_front(quoting: bool, columns: &[u8]) -> Front
     ensures quoting { result.quoting ≡ fold switched quoting (take result.len columns.now) }
 {
     let mut inside = quoting;
-    for (place, byte) in columns.iter().enumerate() {
-        if ends_part(inside, *byte) {
+    for place in plain_len(columns)..columns.len() {
+        if ends_part(inside, columns[place]) {
             return Front {
                 len: place,
                 quoting: inside,
             };
         }
-        inside = switch(inside, *byte);
+        inside = switch(inside, columns[place]);
     }
     Front {
         len: columns.len(),
         quoting: inside,
     }
+}
+
+/// How many columns stand before the first blank or quote: they belong to the part in any case.
+fn plain_len(columns: &[u8]) -> usize
+    ensures within { result ≤ length columns.now }
+    ensures plain { (i : ℕ) → i < result → is_byte2 32 39 (slice_index columns.now i) ≡ false }
+{
+    memchr2(b' ', b'\'', columns).unwrap_or(columns.len())
 }
 
 #[tactic(auto, unfolding(crate::specs::Part::switched))]

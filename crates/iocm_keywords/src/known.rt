@@ -3,7 +3,7 @@ ghost use Rattle.std.specs.List.{list_any};
 ghost use Rattle.iocm_keywords.specs.Known as meaning;
 ghost use Rattle.iocm_keywords.specs.Known.{seen_row};
 
-use iocm_statements::{OperandKey, Operands, Operation};
+use iocm_statements::{OperandKey, Operands, Operation, is_same_word};
 
 /// The form that a known operand stands in.
 #[derive(Clone, Copy, Debug, PartialEq, Eq)]
@@ -133,7 +133,7 @@ pub fn form_in(rows: &[Row], word: &[u8]) -> Option<Form>
     ensures { result ≡ meaning.form_in (map seen_row rows.now) word.now }
 {
     for row in rows {
-        if word == row.word {
+        if is_same_word(word, row.word) {
             return Some(row.form);
         }
     }

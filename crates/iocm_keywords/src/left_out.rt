@@ -6,7 +6,7 @@ ghost use Rattle.iocm_values.specs.Words.{words};
 
 use crate::known::{Form, form_in, has_value, table, word_of};
 use crate::nested_css::names_several_css;
-use iocm_statements::{OperandKey, Operands, Operation};
+use iocm_statements::{OperandKey, Operands, Operation, is_same_word};
 use iocm_values::{Value, is_hex_number, words};
 use std::alloc::{AllocError, Global};
 
@@ -44,12 +44,12 @@ fn is_form_left_out(
 {
     match operation {
         Operation::Chpid => {
-            if keyword != b"PATH".as_slice() {
+            if !is_same_word(keyword, b"PATH") {
                 return Ok(false);
             }
             names_several_paths(alloc, text)
         }
-        Operation::Iodevice => Ok(keyword == b"SCHSET".as_slice() && is_list(Value::new(text))),
+        Operation::Iodevice => Ok(is_same_word(keyword, b"SCHSET") && is_list(Value::new(text))),
         _ => Ok(false),
     }
 }

@@ -3,6 +3,7 @@ mod Looked
 pub mod Nestings
 pub mod Relation
 pub mod Runs
+mod Same
 pub mod Saying
 mod Splitting
 mod Twins

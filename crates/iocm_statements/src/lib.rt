@@ -24,6 +24,7 @@ mod short_text;
 mod split;
 mod statement;
 mod unread;
+mod word;
 
 pub use laws::{
     operands_are_what_their_texts_say, operations_are_named, pieces_are_those_of_the_text,
@@ -36,3 +37,4 @@ pub use short_text::ShortText;
 pub use split::pieces;
 pub use statement::Statement;
 pub use unread::{Unread, or_malformed};
+pub use word::is_same_word;

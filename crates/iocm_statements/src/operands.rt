@@ -2,7 +2,7 @@ ghost use Rattle.std.specs.Prelude.{◌≡◌, ◌<◌, length, slice_index_or, 
 ghost use Rattle.std.specs.Option.{option_copied};
 ghost use Rattle.iocm_statements.specs.Operands as operand;
 
-use crate::ShortText;
+use crate::{ShortText, is_same_word};
 use indexmap::IndexMap;
 use std::alloc::{AllocError, Global};
 use std::marker::Model;
@@ -21,7 +21,7 @@ impl OperandKey {
         ensures { result ≡ operand.is_under keyword.now self.now }
     {
         match self {
-            OperandKey::Keyword(word) => word.as_slice() == keyword,
+            OperandKey::Keyword(word) => is_same_word(word.as_slice(), keyword),
             OperandKey::Bare(_) => false,
         }
     }
@@ -113,6 +113,6 @@ fn is_bare_word(key: &OperandKey, text: &[u8], word: &[u8]) -> bool
 {
     match key {
         OperandKey::Keyword(_) => false,
-        OperandKey::Bare(_) => text == word,
+        OperandKey::Bare(_) => is_same_word(text, word),
     }
 }

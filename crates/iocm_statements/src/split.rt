@@ -6,6 +6,9 @@ use crate::Unread;
 use crate::nesting::Nesting;
 use std::alloc::Global;
 
+/// How many pieces there is room for at first: most lists have no more.
+const USUAL: usize = 16;
+
 /// Cuts `text` at its commas outside parentheses and quotes: `A,(B,C)` gives `A` and `(B,C)`, and
 /// the empty text gives one empty piece.
 ///
@@ -15,7 +18,7 @@ use std::alloc::Global;
 pub fn pieces<'a>(alloc: Global, text: &'a [u8]) -> Result<Vec<&'a [u8]>, Unread>
     ensures { Reads (λ v. map (λ k. k.now) v.items) result (pieces_of text.now) }
 {
-    let mut pieces = Vec::new(alloc);
+    let mut pieces = Vec::with_capacity(alloc, USUAL)?;
     let mut from = 0;
     let mut nesting = Nesting::start();
     for (index, byte) in text.iter().enumerate() {
