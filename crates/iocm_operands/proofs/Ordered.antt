@@ -14,23 +14,15 @@ use Rattle.iocm_values.specs.CssLists.{begins_with_css, begins_with_group, is_gr
 use Rattle.iocm_values.specs.NameSet.{name_cmp, with_name, name_set}
 use Rattle.iocm_values.specs.Reading.{◌>>=◌, every, gathered}
 use Rattle.iocm_values.specs.Value.{Value, word, list, items}
+use Rattle.iocm_values.proofs.Rising.{AreSorted, AllBehind, fold_again}
 use Rattle.iocm_operands.specs.Again.{IsNameSet, AreByCss}
 use Rattle.iocm_operands.proofs.Given.{no_value, same_value, step_gave, test_gave, css_small, values_some, every_gave}
 use Rattle.iocm_operands.proofs.Grouped.{all_css}
 
 -- ---- sets of names
 
-abbrev pub AreSorted : List (List ℕ) → Type 0
-AreSorted names = IsStrictlySortedBy name_cmp names
-
-abbrev AllBehind : List ℕ → List (List ℕ) → Type 0
-AllBehind name names = AllByRecursion (λ other. name_cmp name other ≡ Less) names
-
 greater_is_less : (a b : List ℕ) → name_cmp a b ≡ Greater → name_cmp b a ≡ Less
 greater_is_less a b greater = nat_list_cmp_total.antisymm b a ∙ ap ordering_reverse greater
-
-less_is_greater : (a b : List ℕ) → name_cmp a b ≡ Less → name_cmp b a ≡ Greater
-less_is_greater a b less = nat_list_cmp_total.antisymm b a ∙ ap ordering_reverse less
 
 behind_with : (first name : List ℕ) (names : List (List ℕ)) → name_cmp first name ≡ Less → AllBehind first names → AllBehind first (with_name names name)
 behind_with first name [] less behind = (less, tt)
@@ -62,23 +54,6 @@ sorted_fold (name ∷ names) set sorted = sorted_fold names (with_name set name)
 none_sorted : AreSorted []
 unfolding IsStrictlySortedBy
 none_sorted = tt
-
-behind_middle : (first : List ℕ) (front : List (List ℕ)) (name : List ℕ) (rest : List (List ℕ)) → AllBehind first (front ++ name ∷ rest) → name_cmp first name ≡ Less
-behind_middle first [] name rest behind = behind.0
-behind_middle first (n ∷ front) name rest behind = behind_middle first front name rest behind.1
-
-goes_last : (front : List (List ℕ)) (name : List ℕ) (rest : List (List ℕ)) → AreSorted (front ++ name ∷ rest) → with_name front name ≡ front ++ name ∷ []
-unfolding IsStrictlySortedBy
-goes_last [] name rest sorted = refl
-goes_last (n ∷ front) name rest sorted =
-    rw (less_is_greater n name (behind_middle n front name rest sorted.0)) (ap (λ ns. n ∷ ns) (goes_last front name rest sorted.1))
-
-fold_again : (names front : List (List ℕ)) → AreSorted (front ++ names) → fold with_name front names ≡ front ++ names
-fold_again [] front sorted = sym (append-nil front)
-fold_again (name ∷ names) front sorted =
-    let moved : front ++ name ∷ names ≡ (front ++ name ∷ []) ++ names = sym (append_assoc front (name ∷ []) names) in
-    ap (λ set. fold with_name set names) (goes_last front name names sorted)
-    ∙ fold_again names (front ++ name ∷ []) (subst AreSorted moved sorted) ∙ sym moved
 
 -- the names of a set rise
 pub set_is_sorted : (names : List (List ℕ)) → AreSorted (name_set names)

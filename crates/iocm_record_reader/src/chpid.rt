@@ -1,5 +1,6 @@
 ghost use Rattle.std.specs.Prelude.{◌≡◌, ◌++◌, map, IfOk, OnOk};
 ghost use Rattle.iocm_types.specs.Fault.{Gives};
+ghost use Rattle.iocm_operands.specs.Resource.{names_in};
 ghost use Rattle.iocm_record_reader.specs.ChpidRecords as meaning;
 
 use crate::operands::carried_by;
@@ -68,34 +69,41 @@ fn kind_of(operands: &Operands, partition: &Option<Partition>) -> Option<PathKin
     }
 }
 
-fn copy_names(alloc: Global, names: &[Name]) -> Result<List<Name>, AllocError>
-    ensures { IfOk result (λ list. list ≡ names.now) }
+// The names of all images of a channel subsystem. They are gathered where a default wants them.
+fn all_names(alloc: Global, css: Css, images: &[ImageEntry]) -> Result<List<Name>, AllocError>
+    ensures { IfOk result (λ list. list ≡ names_in css images.now) }
 {
-    Ok(List::from_vec(Vec::from_slice(alloc, names)?))
+    Ok(List::from_vec(names_in(alloc, css, images)?))
 }
 
 fn default_candidates(
     alloc: Global,
+    css: Css,
+    images: &[ImageEntry],
     kind: PathKind,
-    all: &[Name],
     access: &List<Name>,
 ) -> Result<List<Name>, AllocError>
-    ensures { IfOk result (λ list. list ≡ meaning.default_candidates kind all.now access.now) }
+    ensures { IfOk result (λ list. list ≡ meaning.default_candidates kind (names_in css images.now) access.now) }
 {
     match kind {
         PathKind::Dedicated => access.copy_in(alloc),
-        PathKind::Shared => copy_names(alloc, all),
-        PathKind::Reconfigurable => copy_names(alloc, all),
+        PathKind::Shared => all_names(alloc, css, images),
+        PathKind::Reconfigurable => all_names(alloc, css, images),
     }
 }
 
-fn default_lists(alloc: Global, kind: PathKind, all: &[Name]) -> Result<Lists, AllocError>
-    ensures { IfOk result (λ lists. lists ≡ meaning.default_lists kind all.now) }
+fn default_lists(
+    alloc: Global,
+    css: Css,
+    images: &[ImageEntry],
+    kind: PathKind,
+) -> Result<Lists, AllocError>
+    ensures { IfOk result (λ lists. lists ≡ meaning.default_lists kind (names_in css images.now)) }
 {
     match kind {
         PathKind::Shared => Ok(Lists {
-            access: copy_names(alloc, all)?,
-            candidates: copy_names(alloc, all)?,
+            access: all_names(alloc, css, images)?,
+            candidates: all_names(alloc, css, images)?,
         }),
         _ => Ok(Lists {
             access: List::from_vec(Vec::new(alloc)),
@@ -107,11 +115,12 @@ fn default_lists(alloc: Global, kind: PathKind, all: &[Name]) -> Result<Lists, A
 // The lists of a path, with PARTITION or without.
 fn lists_of(
     alloc: Global,
+    css: Css,
+    images: &[ImageEntry],
     kind: PathKind,
-    all: &[Name],
     partition: Option<Partition>,
 ) -> Result<Lists, AllocError>
-    ensures { IfOk result (λ lists. lists ≡ meaning.lists_of kind all.now partition) }
+    ensures { IfOk result (λ lists. lists ≡ meaning.lists_of kind (names_in css images.now) partition) }
 {
     match partition {
         Some(partition) => {
@@ -122,11 +131,11 @@ fn lists_of(
             } = partition;
             let candidates = match candidates {
                 Some(candidates) => candidates,
-                None => default_candidates(alloc, kind, all, &access)?,
+                None => default_candidates(alloc, css, images, kind, &access)?,
             };
             Ok(Lists { access, candidates })
         }
-        None => default_lists(alloc, kind, all),
+        None => default_lists(alloc, css, images, kind),
     }
 }
 
@@ -156,7 +165,7 @@ fn path_records(
 {
     let Lists { access, candidates } = lists;
     let online = access.copy_in(alloc)?;
-    let mut records = Vec::new(alloc);
+    let mut records = Vec::with_capacity(alloc, 1 + online.as_slice().len())?;
     records.push(Record::new(RecordBody::Path(PathFields {
         css: path.css,
         number: path.path,
@@ -183,8 +192,7 @@ pub fn chpid_records(
     let path = chpid_path(alloc, operands, malformed)?;
     let partition = chpid_partition(alloc, path.css, operands, malformed)?;
     let kind = kind_of(operands, &partition).ok_or(malformed)?;
-    let all = names_in(alloc, path.css, images)?;
-    let lists = lists_of(alloc, kind, &all, partition)?;
+    let lists = lists_of(alloc, path.css, images, kind, partition)?;
     let carried = carried_by(alloc, Operation::Chpid, operands)?;
     Ok(path_records(alloc, path, kind, lists, carried)?)
 }

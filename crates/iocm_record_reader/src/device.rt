@@ -140,7 +140,7 @@ fn device_records(
     requires address { IfSome address (λ n. n + count ≤ 256) }
     ensures { IfOk result (λ records. records.items ≡ meaning.device_records (device_of first.now) address count) }
 {
-    let mut records = Vec::new(alloc);
+    let mut records = Vec::with_capacity(alloc, count as usize)?;
     for place in 0..count {
         records.push(device_record(alloc, first, address, place)?)?;
     }

@@ -7,3 +7,4 @@ pub mod Numerals
 pub mod Passing
 pub mod Pieces
 pub mod Reading
+pub mod Rising

@@ -80,7 +80,7 @@ pub fn values<'a>(alloc: Global, text: &'a [u8]) -> Result<Vec<Value<'a>>, Unrea
     ensures { Reads (λ v. map seen v.items) result (meaning.values text.now) }
 {
     let pieces = pieces(alloc, text)?;
-    let mut values = Vec::new(alloc);
+    let mut values = Vec::with_capacity(alloc, pieces.len())?;
     for piece in &pieces {
         values.push(Value::new(piece))?;
     }
