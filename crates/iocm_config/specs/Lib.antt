@@ -1,1 +1,2 @@
+pub mod OnlineLast
 pub mod Stored

@@ -9,6 +9,7 @@ ghost use Rattle.iocm_model.specs.Machine.Configuration.{with_keys, configuratio
 ghost use Rattle.iocm_table.specs.Slots.{rows_from};
 ghost use Rattle.iocm_config.specs.Stored.{HasPlace, RecordsHavePlaces};
 
+use crate::listed::list_by_key;
 use iocm_record::Record;
 use iocm_table::{Rows, Table};
 use iocm_types::Key;
@@ -156,17 +157,4 @@ impl<A: Allocator> Config<A> {
     {
         self.table.take(key)
     }
-}
-
-/// Records, each with its key before it.
-fn list_by_key<A: Allocator, B: Allocator, C: Allocator>(
-    alloc: C,
-    records: Vec<Record<A>, B>,
-) -> Result<Vec<(Key, Record<A>), C>, AllocError>
-    ensures { IfOk result (λ listed. vec_items listed ≡ with_keys records.items) }
-{
-    records
-        .into_iter()
-        .map(|entry| (entry.key(), entry))
-        .collect(alloc)
 }

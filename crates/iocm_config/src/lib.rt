@@ -9,5 +9,6 @@
 #![tactic(auto)]
 
 mod config;
+mod listed;
 
 pub use config::Config;
