@@ -30,10 +30,11 @@ abbrev pub AreOf : Configuration → List (Key × Rec) → Type 0
 AreOf m rows = AllByRecursion (λ e. get m e.0 ≡ Some e.1) rows
 
 -- the tables of the paths that the image of this name reaches, and of those that are online to it;
--- the devices of the configuration; and what the image sees by some units
+-- the devices and the control units of the configuration; and what the image sees by some units
 pub record IsSighted (m : Configuration) (css : ℕ) (name : List ℕ) (tables : PathTables)
-    (devices : Configuration) (last : UnitsView) : Type 0 where
+    (devices units : Configuration) (last : UnitsView) : Type 0 where
   pub reached_paths : IsTableOf (reaches (lookup_of m) css name) tables.reached
   pub online_paths : IsTableOf (is_online (lookup_of m) css name) tables.online
-  pub same : devices ≡ m
+  pub same_devices : devices ≡ m
+  pub same_units : units ≡ m
   pub seen : IsSeenBy (lookup_of m) css name last

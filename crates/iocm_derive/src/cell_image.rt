@@ -1,8 +1,6 @@
 ghost use Rattle.std.specs.Prelude.{◌≡◌, true, Some};
-ghost use Rattle.std.specs.List.{list_any};
 ghost use Rattle.iocm_model.specs.Machine.Configuration.{lookup_of};
-ghost use Rattle.iocm_model.specs.Machine.Mask.{installed};
-ghost use Rattle.iocm_model.specs.Machine.PathList.{path_list, view_paths};
+ghost use Rattle.iocm_model.specs.Machine.PathList.{view_paths};
 ghost use Rattle.iocm_model.specs.Machine.Sight as sight;
 ghost use Rattle.iocm_model.specs.Machine.View as model;
 ghost use Rattle.iocm_record.specs.Meaning.{device_of};
@@ -12,10 +10,11 @@ use crate::lookup::is_path_online;
 use crate::masks::installed_paths;
 use crate::paths::copy_paths;
 use crate::reach::Reach;
-use crate::sight::{is_candidate, reaches_units};
+use crate::reaching::is_reached;
+use crate::sight::is_candidate;
 use iocm_config::Config;
 use iocm_record::DeviceFields;
-use iocm_types::{Chpid, Css, Mask, Name, Paths, UnitNo, View};
+use iocm_types::{Chpid, Css, Name, Paths, View};
 use std::alloc::Allocator;
 
 /// The image of a name in the channel subsystem of a number cell.
@@ -94,28 +93,4 @@ fn view_by_paths<A: Allocator>(
         pim,
         pam: image.sight.pam(image.name),
     })
-}
-
-/// Whether an image reaches one of the paths of these units, by its path-installed mask over the
-/// first eight. Only where it reaches none of eight the units are asked for further ones.
-fn is_reached<A: Allocator, R: Reach<A>>(
-    reach: &R,
-    units: &[UnitNo],
-    paths: &Paths,
-    pim: Mask,
-) -> bool
-    requires paths { paths.now ≡ view_paths (lookup_of (R.records reach.now)) (R.subsystem reach.now) units.now }
-    requires pim { pim
-        ≡ installed (lookup_of (R.records reach.now)) (R.subsystem reach.now) (R.called reach.now) paths.now }
-    ensures { result ≡ list_any
-        (sight.reaches (lookup_of (R.records reach.now)) (R.subsystem reach.now) (R.called reach.now))
-        (path_list (lookup_of (R.records reach.now)) (R.subsystem reach.now) units.now) }
-{
-    if pim.bits() != 0 {
-        return true;
-    }
-    if !paths.is_full() {
-        return false;
-    }
-    reaches_units(reach, units)
 }

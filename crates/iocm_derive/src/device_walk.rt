@@ -4,10 +4,10 @@ ghost use Rattle.iocm_model.specs.Machine.Configuration.{lookup_of};
 ghost use Rattle.iocm_model.specs.Machine.View as model;
 ghost use Rattle.iocm_record.specs.Meaning.{device_of};
 
-use crate::lookup::{device_under, find_device, walk_behind, walk_from};
+use crate::lookup::device_fields;
+use crate::record_walk::RecordWalk;
 use iocm_config::Config;
-use iocm_record::{DeviceFields, Record};
-use iocm_table::Rows;
+use iocm_record::DeviceFields;
 use iocm_types::{DevNo, Key, SetNo};
 use std::alloc::Allocator;
 use std::marker::Model;
@@ -16,24 +16,19 @@ use std::marker::Model;
 /// without a search. Contracts see the configuration.
 #[derive(Drop)]
 pub struct DeviceWalk<'a, A: Allocator> {
-    config: &'a Config<A>,
-    /// The records after that of the last device, where the next one is sought first.
-    rows: Rows<'a, Key, Record<A>>,
+    records: RecordWalk<'a, A>,
 }
 
 impl<'a, A: Allocator> Model for DeviceWalk<'a, A> {
     ghost use Rattle.std.specs.FinMap as map;
     ghost use Rattle.std.specs.Coded.{codes};
     ghost use Rattle.iocm_model.specs.Machine.Configuration.{Configuration};
-    ghost use Rattle.iocm_derive.specs.Sighted.{AreOf};
 
     ghost Value = { Configuration };
 
     ghost coded = { map.code (Prim.hlevel codes) (Prim.hlevel codes) };
 
-    ghost view = { λ w. w.config.now.records };
-
-    ghost invariant = { λ w. AreOf w.config.now.records w.rows };
+    ghost view = { λ w. w.records };
 }
 
 impl<'a, A: Allocator> DeviceWalk<'a, A> {
@@ -42,8 +37,7 @@ impl<'a, A: Allocator> DeviceWalk<'a, A> {
         ensures { result ≡ config.entry.now.records }
     {
         DeviceWalk {
-            config,
-            rows: walk_from(config, &Key::Device(SetNo::FIRST, DevNo::new(0))),
+            records: RecordWalk::new(config),
         }
     }
 
@@ -54,12 +48,6 @@ impl<'a, A: Allocator> DeviceWalk<'a, A> {
             ≡ model.device_record (lookup_of self.old) set device }
         ensures same { self.new ≡ self.old }
     {
-        if let Some((key, entry)) = self.rows.next() {
-            if let Some(fields) = device_under(key, entry, set, device) {
-                return Some(fields);
-            }
-        }
-        self.rows = walk_behind(self.config, &Key::Device(set, device));
-        find_device(self.config, set, device)
+        device_fields(self.records.find(&Key::Device(set, device))?)
     }
 }

@@ -4,7 +4,9 @@ ghost use Rattle.iocm_model.specs.Machine.View as model;
 
 use crate::device_walk::DeviceWalk;
 use crate::path_tables::{PathTables, path_tables};
+use crate::paths::next_paths_of_units;
 use crate::reach::{ImageRecords, Reach};
+use crate::record_walk::RecordWalk;
 use crate::units_view::{UnitsView, are_same, units_view, view_by};
 use iocm_config::Config;
 use iocm_types::{Chpid, Css, DevNo, Image, Mask, Name, Paths, SetNo, View};
@@ -21,6 +23,8 @@ pub struct ImageSight<'a, A: Allocator> {
     name: Name,
     tables: PathTables,
     devices: DeviceWalk<'a, A>,
+    /// The records of control units.
+    units: RecordWalk<'a, A>,
     /// What the image sees by the units of the last device.
     last: UnitsView<'a>,
 }
@@ -44,7 +48,7 @@ impl<'a, A: Allocator> Model for ImageSight<'a, A> {
       image = record { css = s.image.css; mif = s.image.mif; name = s.name };
     } };
 
-    ghost invariant = { λ s. IsSighted s.config.now.records s.image.css s.name s.tables s.devices s.last };
+    ghost invariant = { λ s. IsSighted s.config.now.records s.image.css s.name s.tables s.devices s.units s.last };
 }
 
 impl<'a, A: Allocator> ImageSight<'a, A> {
@@ -62,7 +66,8 @@ impl<'a, A: Allocator> ImageSight<'a, A> {
             name,
             tables: path_tables(config, image.css, name),
             devices: DeviceWalk::new(config),
-            last: units_view(&records, &[]),
+            units: RecordWalk::new(config),
+            last: units_view(&records, &[], Paths::new()),
         }
     }
 
@@ -82,7 +87,8 @@ impl<'a, A: Allocator> ImageSight<'a, A> {
         let fields = self.devices.find(set, device)?;
         let units = fields.units.as_slice();
         if !are_same(self.last.units, units) {
-            self.last = units_view(self, units);
+            let paths = next_paths_of_units(&mut self.units, self.image.css, units);
+            self.last = units_view(self, units, paths);
         }
         view_by(self, &self.last, fields)
     }

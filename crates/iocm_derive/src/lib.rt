@@ -23,6 +23,8 @@ mod path_records;
 mod path_tables;
 mod paths;
 mod reach;
+mod reaching;
+mod record_walk;
 mod sight;
 mod units_view;
 mod view;

@@ -39,22 +39,6 @@ pub fn device_fields<A: Allocator>(entry: &Record<A>) -> Option<&DeviceFields<A>
     }
 }
 
-/// The device of a record under a key, if the key is that of this number in this set.
-pub fn device_under<'a, A: Allocator>(
-    under: &Key,
-    entry: &'a Record<A>,
-    set: SetNo,
-    device: DevNo,
-) -> Option<&'a DeviceFields<A>>
-    ensures { IfSome result (λ fields. (under.now ≡ key.Device set device)
-        × (as_device entry.entry.now ≡ Some (meaning.device_of fields.now))) }
-{
-    match under {
-        Key::Device(of_set, number) if *of_set == set && *number == device => device_fields(entry),
-        _ => None,
-    }
-}
-
 /// The rows of all records from a key on.
 pub fn walk_from<'a, A: Allocator>(config: &'a Config<A>, from: &Key) -> Rows<'a, Key, Record<A>>
     ensures { AreOf config.entry.now.records result }
@@ -95,7 +79,14 @@ pub fn name_of_image<A: Allocator>(config: &Config<A>, image: Image) -> Option<N
 pub fn find_paths<A: Allocator>(config: &Config<A>, unit: UnitNo) -> &[CssPath]
     ensures { result.now ≡ all_paths (lookup_of config.now.records (key.Unit unit)) }
 {
-    let Some(entry) = config.get(&Key::Unit(unit)) else {
+    paths_in(config.get(&Key::Unit(unit)))
+}
+
+/// The paths of a control unit, if the record is there and that of one; else none.
+pub fn paths_in<A: Allocator>(found: Option<&Record<A>>) -> &[CssPath]
+    ensures { result.now ≡ all_paths (option_copied found.entry) }
+{
+    let Some(entry) = found else {
         return &[];
     };
     match entry.body() {

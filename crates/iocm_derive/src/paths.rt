@@ -5,10 +5,11 @@ ghost use Rattle.iocm_model.specs.Machine.PathList.{paths_in, unit_paths, view_p
 ghost use Rattle.iocm_record.specs.Meaning.{device_of};
 ghost use Rattle.iocm_derive.specs.Derived.{paths_at, paths_of};
 
-use crate::lookup::{find_device, find_paths};
+use crate::lookup::{find_device, find_paths, paths_in};
+use crate::record_walk::RecordWalk;
 use iocm_config::Config;
 use iocm_record::DeviceFields;
-use iocm_types::{Css, CssPath, DevNo, Paths, SetNo, UnitNo};
+use iocm_types::{Css, CssPath, DevNo, Key, Paths, SetNo, UnitNo};
 use std::alloc::Allocator;
 
 /// The first eight paths by which a channel subsystem reaches a device: the paths of its control
@@ -41,6 +42,22 @@ pub fn paths_of_units<A: Allocator>(config: &Config<A>, css: Css, units: &[UnitN
     let mut paths = Paths::new();
     for unit in units {
         add_paths(&mut paths, css, find_paths(config, *unit));
+    }
+    paths
+}
+
+/// The same, where the units are mostly found one after the other.
+pub fn next_paths_of_units<A: Allocator>(
+    records: &mut RecordWalk<'_, A>,
+    css: Css,
+    units: &[UnitNo],
+) -> Paths
+    ensures paths { result ≡ view_paths (lookup_of records.old) css units.now }
+    ensures same { records.new ≡ records.old }
+{
+    let mut paths = Paths::new();
+    for unit in units {
+        add_paths(&mut paths, css, paths_in(records.find(&Key::Unit(*unit))));
     }
     paths
 }

@@ -1,13 +1,15 @@
 ghost use Rattle.std.specs.Prelude.{◌≡◌, ◌↔◌, IsTrue};
 ghost use Rattle.iocm_model.specs.Machine.Configuration.{lookup_of};
+ghost use Rattle.iocm_model.specs.Machine.PathList.{view_paths};
 ghost use Rattle.iocm_model.specs.Machine.View as model;
 ghost use Rattle.iocm_record.specs.Meaning.{device_of};
 ghost use Rattle.iocm_derive.specs.Sighted.{IsSeenBy};
 
 use crate::masks::{available_paths, installed_paths};
-use crate::paths::{copy_paths, paths_of_units};
+use crate::paths::copy_paths;
 use crate::reach::Reach;
-use crate::sight::{is_candidate, reaches_units};
+use crate::reaching::is_reached;
+use crate::sight::is_candidate;
 use iocm_record::DeviceFields;
 use iocm_types::{Mask, Paths, UnitNo, View};
 use std::alloc::Allocator;
@@ -23,16 +25,21 @@ pub struct UnitsView<'a> {
     pub pam: Mask,
 }
 
-/// What an image sees by these units.
-pub fn units_view<'a, A: Allocator, R: Reach<A>>(reach: &R, units: &'a [UnitNo]) -> UnitsView<'a>
+/// What an image sees by these units, whose first eight paths in its channel subsystem are these.
+pub fn units_view<'a, A: Allocator, R: Reach<A>>(
+    reach: &R,
+    units: &'a [UnitNo],
+    paths: Paths,
+) -> UnitsView<'a>
+    requires paths { paths ≡ view_paths (lookup_of (R.records reach.now)) (R.subsystem reach.now) units.now }
     ensures units { result.units.now ≡ units.entry.now }
     ensures seen { IsSeenBy (lookup_of (R.records reach.now)) (R.subsystem reach.now) (R.called reach.now) result }
 {
-    let paths = paths_of_units(reach.config(), reach.css(), units);
+    let pim = installed_paths(reach, &paths);
     UnitsView {
         units,
-        is_reached: reaches_units(reach, units),
-        pim: installed_paths(reach, &paths),
+        is_reached: is_reached(reach, units, &paths, pim),
+        pim,
         pam: available_paths(reach, &paths),
         paths,
     }

@@ -5,6 +5,7 @@ ghost use Rattle.iocm_model.specs.Machine.View as model;
 ghost use Rattle.iocm_record.specs.Meaning.{device_of};
 
 use crate::lookup::{find_device, find_image};
+use crate::paths::paths_of_units;
 use crate::reach::{ImageRecords, Reach};
 use crate::sight::is_candidate;
 use crate::units_view::{units_view, view_by};
@@ -70,6 +71,8 @@ fn view_if_seen<A: Allocator, R: Reach<A>>(reach: &R, device: &DeviceFields<A>) 
     if !is_candidate(device.candidates.as_ref(), reach.name()) {
         return None;
     }
-    let by = units_view(reach, device.units.as_slice());
+    let units = device.units.as_slice();
+    let paths = paths_of_units(reach.config(), reach.css(), units);
+    let by = units_view(reach, units, paths);
     view_by(reach, &by, device)
 }

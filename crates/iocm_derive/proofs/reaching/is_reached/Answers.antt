@@ -5,7 +5,7 @@ use Rattle.iocm_model.specs.Machine.Mask.{mask_from}
 use Rattle.iocm_model.specs.Machine.PathList.{path_list}
 use Rattle.iocm_model.specs.Machine.Sight.{reaches}
 use Rattle.iocm_derive.proofs.Reached.{reached_by_mask, reached_by_none}
-use Rattle.iocm_derive.proofs.cell_image.is_reached.Goals as goal
+use Rattle.iocm_derive.proofs.reaching.is_reached.Goals as goal
 
 pub returns-then-bits-ne0 : goal.returns-then-bits-ne0
 returns-then-bits-ne0 g c =
