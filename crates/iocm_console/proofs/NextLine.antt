@@ -72,7 +72,7 @@ like_parts a b like =
 pub like_devices : (c : Lookup) (a b : CellDevice) → are_like a b ≡ true → IsAlike c a → IsAlike c b → AreAlike c a.cell.set a.device b.device
 like_devices c a b like ours theirs =
     let parts = like_parts a b like in
-    sym ours ∙ subst (λ s. AreAlike c s a.like b.device) (sym parts.1.0) (subst (λ l. AreAlike c b.cell.set l b.device) (sym parts.1.1) theirs)
+    sym ours.0 ∙ subst (λ s. AreAlike c s a.like b.device) (sym parts.1.0) (subst (λ l. AreAlike c b.cell.set l b.device) (sym parts.1.1) theirs.0)
 
 -- a line before is none or a long one
 pub old_line : (number device : ℕ) (old new : List ℕ) → IsNextLine number device old new → (old ≡ []) ⊎ (20 ≤ length old)

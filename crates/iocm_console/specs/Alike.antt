@@ -1,6 +1,7 @@
 -- Devices that an image sees alike: on the same control units, with the same candidates.
-use Rattle.std.specs.Prelude.{◌≡◌, ℕ, ◌==◌, ◌&&◌, Bool, List, All, Option}
+use Rattle.std.specs.Prelude.{◌≡◌, ℕ, ◌==◌, ◌&&◌, Bool, List, ◌++◌, All, Option, codes}
 use Rattle.std.specs.Option.{option_map, option_copied}
+use Rattle.iocm_types.specs.Print.{hex4}
 use Rattle.iocm_model.specs.Machine.Record.{DeviceRecord}
 use Rattle.iocm_model.specs.Machine.Configuration.{Configuration, Lookup, lookup_of}
 use Rattle.iocm_model.specs.Machine.View.{device_record}
@@ -16,9 +17,13 @@ seen_by d = (d.units, d.candidates)
 abbrev pub AreAlike : Lookup → ℕ → ℕ → ℕ → Type 0
 AreAlike c set a b = option_map seen_by (device_record c set a) ≡ option_map seen_by (device_record c set b)
 
--- the device of a number cell is like the one that is noted there
+-- what is noted of the numbers of a cell and of its device is how they are printed
+abbrev pub IsPrinted : CellDevice → Type 0
+IsPrinted e = e.numbers ≡ hex4 e.cell.number ++ (codes " " ++ hex4 e.device)
+
+-- the device of a number cell is like the one that is noted there, and the numbers are as printed
 abbrev pub IsAlike : Lookup → CellDevice → Type 0
-IsAlike c e = AreAlike c e.cell.set e.like e.device
+IsAlike c e = AreAlike c e.cell.set e.like e.device × IsPrinted e
 
 -- each cell of a list is alike where each of another list is
 abbrev pub StayAlike : List CellDevice → List CellDevice → Type 0

@@ -6,6 +6,7 @@ ghost use Rattle.iocm_console.specs.Lines.{celled};
 ghost use Rattle.iocm_console.specs.Alike.{IsAlike, IsThere, devices_of};
 
 use crate::like_devices::{LikeDevice, first_like};
+use crate::row::two_numbers;
 use iocm_config::Config;
 use iocm_numbers::opening_cells;
 use iocm_table::Rows;
@@ -21,6 +22,8 @@ pub(crate) struct CellDevice {
     /// A device of the same set that each image sees by the same paths, or doesn't see either. Of
     /// devices that follow each other it is the first.
     pub like: DevNo,
+    /// The number of the cell and that of the device as they are printed, with a blank between.
+    pub numbers: [u8; 9],
 }
 
 /// The number cells of a configuration that are taken, with their devices, in their order. What
@@ -138,5 +141,6 @@ fn compared<A: Allocator>(
         cell,
         device,
         like: first_like(last, cell.set, device),
+        numbers: two_numbers(cell.number, device),
     }
 }

@@ -34,7 +34,7 @@ pub(crate) fn next_line<A: Allocator>(
             // For the proof alone: each number fills its place in a line.
             have_digits(&image, &cell);
             have_digits(&image, place);
-            put_numbers(line, place.cell.number, place.device);
+            put_numbers(line, place);
         }
         _ => put_seen(line, sight, image, place),
     }

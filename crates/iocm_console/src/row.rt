@@ -3,8 +3,10 @@ ghost use Rattle.std.specs.Io.KnownBytes.{Appends};
 ghost use Rattle.arrayvec.specs.ArrayVec.{array_vec_len};
 ghost use Rattle.iocm_types.specs.Print.{hex4};
 ghost use Rattle.iocm_model.specs.Machine.Table.{line_of, heading, chpids};
+ghost use Rattle.iocm_console.specs.Alike.{IsPrinted};
 ghost use Rattle.iocm_console.specs.NextLine.{with_numbers};
 
+use crate::cells::CellDevice;
 use crate::digits::{digit, digits};
 use arrayvec::ArrayVec;
 use iocm_types::{Chpid, DevNo, SubId, View};
@@ -97,15 +99,17 @@ fn numbers(id: SubId, view: &View) -> [u8; 28]
     ]
 }
 
-/// Puts another subchannel number and another device number into a line, if there is one.
+/// Puts the number of another cell and that of its device into a line, if there is one.
 #[inline]
-pub(crate) fn put_numbers(line: &mut Line, number: u16, device: DevNo)
-    requires { (line.old.items ≡ []) ⊎ (20 ≤ array_vec_len line.old) }
+pub(crate) fn put_numbers(line: &mut Line, place: &CellDevice)
+    requires line { (line.old.items ≡ []) ⊎ (20 ≤ array_vec_len line.old) }
+    requires printed { IsPrinted place.now }
     ensures none { line.old.items ≡ [] → line.new.items ≡ [] }
-    ensures numbers { 20 ≤ array_vec_len line.old → line.new.items ≡ with_numbers number device line.old.items }
+    ensures numbers { 20 ≤ array_vec_len line.old
+        → line.new.items ≡ with_numbers place.now.cell.number place.now.device line.old.items }
 {
     if !line.is_empty() {
-        put_two_numbers(line.as_mut_slice(), &two_numbers(number, device));
+        put_two_numbers(line.as_mut_slice(), &place.numbers);
     }
 }
 
@@ -119,8 +123,7 @@ fn put_two_numbers(line: &mut [u8], part: &[u8; 9])
 }
 
 /// A subchannel number and a device number with a blank between.
-#[inline]
-fn two_numbers(number: u16, device: DevNo) -> [u8; 9]
+pub(crate) fn two_numbers(number: u16, device: DevNo) -> [u8; 9]
     ensures { result ≡ hex4 number ++ (codes " " ++ hex4 device) }
 {
     let [n1, n2] = digits((number / 256) as u8);
