@@ -21,7 +21,8 @@ use Rattle.iocm_table.specs.Slots.{rows_from}
 use Rattle.iocm_model.specs.Machine.Record.{Rec, ImageRecord, key_of, id, resource, image, limit, path, unit, device, online}
 use Rattle.iocm_model.specs.Machine.Configuration.{Configuration, IsKeyed, with_keys, records_of}
 use Rattle.iocm_lookup.specs.Kinds.{kind_of}
-use Rattle.iocm_lookup.proofs.Walks.{in_entries, AreOwn, own_entries, kinds_rise}
+use Rattle.iocm_lookup.specs.Entries.{AreOwn, in_entries}
+use Rattle.iocm_lookup.proofs.Walks.{own_entries, kinds_rise}
 use Rattle.iocm_affected.specs.declared.images.Group.{Group}
 use Rattle.iocm_affected.specs.Listing.{is_of, images_at, images_in}
 

@@ -25,7 +25,7 @@ use Rattle.iocm_console.specs.Opening.{Shown, configuration_in, declined, refuse
 use Rattle.iocm_console.specs.Output.{FailedToWrite, Prints}
 use Rattle.iocm_console.proofs.Printing.{appends_then}
 use Rattle.iocm_apply.specs.declared.report.Report.{Report}
-use Rattle.iocm_apply.specs.Apply.{lines_tried, made, reported, tried, IsRefused, IsRefusedDeck}
+use Rattle.iocm_apply.specs.Apply.{applied, applied_to, lines_tried, made, reported, tried, IsRefused, IsRefusedDeck}
 
 -- the report of a change that was made
 pub made_is : (report : Report) (s t : State) (o : Outcome) (es : List Edit) (altered : ℕ) (back : ChangeTree) → o ≡ Ok (record { state = t; edits = es })
@@ -45,6 +45,12 @@ lines_are view change x read is gives = go (subst (λ (c : Result _ Fault). Give
     go : GivesIfReadable view (Ok x) read → read ≡ Ok (view x)
     go (inl bad) = cc
     go (inr e) = e
+
+-- what is printed of the bytes of a deck whose lines were read
+pub applied_lines : {X : Type 0} (view : X → List Card) (x : X) (bytes : List ℕ) → GivesIfReadable view (Ok x) (cards_of bytes)
+    → (report : Report) (lines : List ℕ) → applied report bytes lines ≡ applied_to report (configuration_in (view x)) (cards_of lines)
+applied_lines view x bytes gives report lines =
+    ap (λ (r : Result (List Card) Fault). applied_to report (r >>= configuration_in) (cards_of lines)) (lines_are view (Ok x) x (cards_of bytes) refl gives)
 
 -- a deck whose lines were read is refused by them
 pub refused_lines : {X : Type 0} (view : X → List Card) (x : X) (cards : List Card) (bytes : List ℕ) → cards ≡ view x → GivesIfReadable view (Ok x) (cards_of bytes)

@@ -76,7 +76,7 @@ pub fn apply_change<R: Read, S: Read, W: Write + Drop>(
     match read_cards(alloc, deck, limit) {
         Ok(cards) => {
             let lines = read_cards(alloc, change, limit);
-            apply_to_deck(alloc, heap, report, &cards, lines, output)
+            apply_to_deck(alloc, heap, report, cards, lines, output)
         }
         Err(fault) => answer_unread(fault, output),
     }
@@ -88,18 +88,18 @@ fn apply_to_deck<W: Write + Drop>(
     alloc: Global,
     heap: usize,
     report: Report,
-    deck: &[Card],
+    deck: Vec<Card>,
     change: Result<Vec<Card>, Fault>,
     output: &mut Output<W>,
 ) -> Result<Status, ConsoleError>
     ensures text { (read : Result (List card.Card) fault.Fault) → GivesIfReadable (λ v. v.items) change read
         → IfOk result (SaysIfMemory W.contents output.old output.new
-        (applied_to report (configuration_in deck.now) read)) }
+        (applied_to report (configuration_in deck.items) read)) }
     ensures done { IfOk result (λ status. status ≡ Done → IsOk change) }
     ensures works { OnOk result (has_failed output.new ≡ has_failed output.old) }
     ensures handed_on { OnOk result (IsHandedOn output.new) }
     ensures unreadable { result ≡ Err ConsoleError.Read → change ≡ Err unreadable }
-    ensures first { IsRefused (configuration_in deck.now) → result ≡ Err ConsoleError.Read → ⊥ }
+    ensures first { IsRefused (configuration_in deck.items) → result ≡ Err ConsoleError.Read → ⊥ }
     ensures untouched { result ≡ Err ConsoleError.Read → output.new ≡ output.old }
     ensures unwritable { result ≡ Err ConsoleError.Write → has_failed output.new ≡ true }
 {

@@ -60,7 +60,7 @@ pub fn answer_deck<R: Read, W: Write + Drop>(
     ensures unwritable { result ≡ Err ConsoleError.Write → has_failed output.new ≡ true }
 {
     match read_cards(alloc, device, limit) {
-        Ok(cards) => answer_cards(alloc, command, &cards, output),
+        Ok(cards) => answer_cards(alloc, command, cards, output),
         Err(fault) => answer_unread(fault, output),
     }
 }
@@ -69,11 +69,11 @@ pub fn answer_deck<R: Read, W: Write + Drop>(
 fn answer_cards<W: Write + Drop>(
     alloc: Global,
     command: DeckCommand,
-    cards: &[Card],
+    cards: Vec<Card>,
     output: &mut Output<W>,
 ) -> Result<Status, ConsoleError>
     ensures text { IfOk result (SaysIfMemory W.contents output.old output.new
-        (opened_or_refused (shown_by command) (configuration_in cards.now))) }
+        (opened_or_refused (shown_by command) (configuration_in cards.items))) }
     ensures works { OnOk result (has_failed output.new ≡ has_failed output.old) }
     ensures handed_on { OnOk result (IsHandedOn output.new) }
     ensures fault { IfErr result (FailedToWrite output.new) }

@@ -69,8 +69,8 @@ fn are_alike<A: Allocator>(a: Option<&DeviceFields<A>>, b: Option<&DeviceFields<
     match (a, b) {
         (None, None) => true,
         (Some(a), Some(b)) => {
-            are_same_units(a.units.as_slice(), b.units.as_slice())
-                && are_same_candidates(&a.candidates, &b.candidates)
+            are_same_units(a.lists.units(), b.lists.units())
+                && are_same_candidates(a.lists.candidates(), b.lists.candidates())
         }
         _ => false,
     }
@@ -83,8 +83,8 @@ fn are_same_units(a: &[UnitNo], b: &[UnitNo]) -> bool
 }
 
 /// Whether two lists of candidates are the same, or there is neither.
-fn are_same_candidates<A: Allocator>(a: &Option<List<Name, A>>, b: &Option<List<Name, A>>) -> bool
-    ensures { IsTrue result ↔ (a.now ≡ b.now) }
+fn are_same_candidates<A: Allocator>(a: Option<&List<Name, A>>, b: Option<&List<Name, A>>) -> bool
+    ensures { IsTrue result ↔ (option_copied a.entry ≡ option_copied b.entry) }
 {
     match (a, b) {
         (None, None) => true,

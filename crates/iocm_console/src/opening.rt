@@ -4,12 +4,14 @@ ghost use Rattle.iocm_model.specs.Machine.Configuration.{HasNoKeyTwice};
 ghost use Rattle.iocm_model.specs.Machine.Numbering as model;
 ghost use Rattle.iocm_model.specs.Rules.FirstBreach.{first_breach};
 ghost use Rattle.iocm_columns.specs.Device.{unreadable};
+ghost use Rattle.iocm_columns.specs.Statements.{statements_of};
+ghost use Rattle.iocm_statements.specs.Statement.{parsed};
 ghost use Rattle.iocm_console.specs.Output.{has_failed, IsHandedOn, FailedToWrite};
 ghost use Rattle.iocm_console.specs.Opening.{configuration_in, records_in, statements_in};
 ghost use Rattle.iocm_console.specs.Opening.{refused, breached, declined, Says};
 
 use crate::{ConsoleError, Output, Status};
-use iocm_columns::{Card, join};
+use iocm_columns::{Card, Joined, join};
 use iocm_config::Config;
 use iocm_record::Record;
 use iocm_record_reader::from_statements;
@@ -25,9 +27,10 @@ const UNREADABLE: Fault = Fault {
     line: 0,
 };
 
-/// The configuration of the lines of a deck, or its first fault.
-pub fn read_config(alloc: Global, cards: &[Card]) -> Result<Config, Fault>
-    ensures { Gives (λ c. c.records) result (configuration_in cards.now) }
+/// The configuration of the lines of a deck, or its first fault. The lines are let go as soon as
+/// they are joined.
+pub fn read_config(alloc: Global, cards: Vec<Card>) -> Result<Config, Fault>
+    ensures { Gives (λ c. c.records) result (configuration_in cards.items) }
 {
     let records = read_records(alloc, cards)?;
     Ok(Config::from_records(alloc, records)?)
@@ -35,12 +38,27 @@ pub fn read_config(alloc: Global, cards: &[Card]) -> Result<Config, Fault>
 
 /// The records of the lines of a deck, no two of one key, or its first fault. The statements are
 /// let go.
-fn read_records(alloc: Global, cards: &[Card]) -> Result<Vec<Record>, Fault>
-    ensures records { Gives (λ v. v.items) result (records_in cards.now) }
+fn read_records(alloc: Global, cards: Vec<Card>) -> Result<Vec<Record>, Fault>
+    ensures records { Gives (λ v. v.items) result (records_in cards.items) }
     ensures apart { IfOk result (λ v. HasNoKeyTwice v.items) }
 {
-    let statements = read_statements(alloc, cards)?;
+    let joined = join_lines(alloc, cards)?;
+    let statements = parse_joined(alloc, joined)?;
     from_statements(alloc, &statements)
+}
+
+/// The lines of a deck, joined, or their first fault. They are let go.
+fn join_lines(alloc: Global, cards: Vec<Card>) -> Result<Vec<Joined>, Fault>
+    ensures { Gives (λ v. v.items) result (statements_of cards.items) }
+{
+    join(alloc, &cards)
+}
+
+/// The statements of joined lines, or their first fault. The lines are let go.
+fn parse_joined(alloc: Global, joined: Vec<Joined>) -> Result<Vec<Statement>, Fault>
+    ensures { Gives (λ v. v.items) result (parsed joined.items) }
+{
+    parse(alloc, &joined)
 }
 
 /// The statements of the lines of a deck, or its first fault. The lines as they were joined are let

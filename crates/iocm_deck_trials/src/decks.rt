@@ -132,13 +132,13 @@ fn show_units(text: &mut String, units: &[UnitNo]) -> Result<(), Fail> {
 }
 
 fn show_device(text: &mut String, device: &DeviceFields) -> Result<(), Fail> {
-    show_units(text, device.units.as_slice())?;
+    show_units(text, device.lists.units())?;
     write!(text, " at {:02X}", device.unit_address)?;
-    if let Some(candidates) = &device.candidates {
+    if let Some(candidates) = device.lists.candidates() {
         write!(text, " for")?;
         show_names(text, candidates)?;
     }
-    show_carried(text, &device.carried)
+    show_carried(text, device.lists.carried())
 }
 
 fn show_body(text: &mut String, body: &RecordBody) -> Result<(), Fail> {

@@ -1,7 +1,7 @@
 ghost use Rattle.std.specs.Prelude.{◌≡◌, ◌<◌, ◌^◌, ◌++◌, map, IfOk, OnOk};
 ghost use Rattle.std.specs.Cmp.Lexicographic.{pointwise};
 ghost use Rattle.std.specs.List.{flat_map};
-ghost use Rattle.std.specs.Option.{option_map};
+ghost use Rattle.std.specs.Option.{option_copied, option_map};
 ghost use Rattle.iocm_operands.specs.Device as operand;
 ghost use Rattle.iocm_record.specs.Meaning as fields;
 ghost use Rattle.iocm_values.specs.NameSet.{names_text};
@@ -51,8 +51,8 @@ fn same_operands<A: Allocator>(a: &[Carried<A>], b: &[Carried<A>]) -> bool
 }
 
 // The same candidates, or no list of them.
-fn same_candidates<A: Allocator>(a: &Option<List<Name, A>>, b: &Option<List<Name, A>>) -> bool
-    ensures { result ≡ meaning.same_candidates a.now b.now }
+fn same_candidates<A: Allocator>(a: Option<&List<Name, A>>, b: Option<&List<Name, A>>) -> bool
+    ensures { result ≡ meaning.same_candidates (option_copied a.entry) (option_copied b.entry) }
 {
     match (a, b) {
         (None, None) => true,
@@ -65,9 +65,9 @@ fn are_alike<A: Allocator>(a: &DeviceFields<A>, b: &DeviceFields<A>) -> bool
     ensures { result ≡ meaning.are_alike (fields.device_of a.now) (fields.device_of b.now) }
 {
     a.set == b.set
-        && a.units.as_slice() == b.units.as_slice()
-        && same_candidates(&a.candidates, &b.candidates)
-        && same_operands(a.carried.as_slice(), b.carried.as_slice())
+        && a.lists.units() == b.lists.units()
+        && same_candidates(a.lists.candidates(), b.lists.candidates())
+        && same_operands(a.lists.carried(), b.lists.carried())
 }
 
 // Whether a device is the next of a run of so many.
@@ -121,9 +121,9 @@ fn set_value(alloc: Global, set: SetNo) -> Result<Option<Text>, AllocError>
 
 fn candidates_value<A: Allocator>(
     alloc: Global,
-    candidates: &Option<List<Name, A>>,
+    candidates: Option<&List<Name, A>>,
 ) -> Result<Option<Text>, AllocError>
-    ensures { IfOk result (λ text. text ≡ option_map names_text candidates.now) }
+    ensures { IfOk result (λ text. text ≡ option_map names_text (option_copied candidates.entry)) }
 {
     match candidates {
         None => Ok(None),
@@ -143,13 +143,13 @@ fn iodevice_operands<A: Allocator>(
     let mut operands = Vec::new(alloc);
     let devices = devices_text(alloc, first.number, count)?;
     put_valued(alloc, &mut operands, b"ADDRESS", Some(devices))?;
-    let units = units_value(alloc, first.units.as_slice())?;
+    let units = units_value(alloc, first.lists.units())?;
     put_valued(alloc, &mut operands, b"CUNUMBR", units)?;
     let address = two_digits(alloc, first.unit_address)?;
     put_valued(alloc, &mut operands, b"UNITADD", Some(address))?;
     let set = set_value(alloc, first.set)?;
     put_valued(alloc, &mut operands, b"SCHSET", set)?;
-    let candidates = candidates_value(alloc, &first.candidates)?;
+    let candidates = candidates_value(alloc, first.lists.candidates())?;
     put_valued(alloc, &mut operands, b"PARTITION", candidates)?;
     Ok(operands)
 }
@@ -164,7 +164,7 @@ fn iodevice_statement<A: Allocator>(
         (λ s. s ≡ meaning.iodevice_statement (record { first = fields.device_of first.now; count = count })) }
 {
     let mut operands = iodevice_operands(alloc, first, count)?;
-    put_carried(alloc, &mut operands, first.carried.as_slice())?;
+    put_carried(alloc, &mut operands, first.lists.carried())?;
     Ok(CanonicalStatement::new(Operation::Iodevice, operands))
 }
 

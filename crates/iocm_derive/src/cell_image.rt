@@ -61,10 +61,10 @@ pub fn view_in_cell<A: Allocator>(
     paths: &Paths,
 ) -> Option<View>
     requires device { sight.now.device ≡ Some (device_of device.now) }
-    requires paths { paths.now ≡ view_paths (lookup_of sight.now.records) sight.now.cell.css device.now.units }
+    requires paths { paths.now ≡ view_paths (lookup_of sight.now.records) sight.now.cell.css device.now.lists.units }
     ensures { result ≡ model.view_if_seen (lookup_of sight.now.records) sight.now.cell.css name (device_of device.now) }
 {
-    if !is_candidate(device.candidates.as_ref(), name) {
+    if !is_candidate(device.lists.candidates(), name) {
         return None;
     }
     view_by_paths(&CellImage { sight, name }, device, paths)
@@ -78,13 +78,13 @@ fn view_by_paths<A: Allocator>(
 ) -> Option<View>
     requires device { image.now.sight.now.device ≡ Some (device_of device.now) }
     requires paths { paths.now
-        ≡ view_paths (lookup_of image.now.sight.now.records) image.now.sight.now.cell.css device.now.units }
-    requires candidate { sight.is_candidate image.now.name device.now.candidates ≡ true }
+        ≡ view_paths (lookup_of image.now.sight.now.records) image.now.sight.now.cell.css device.now.lists.units }
+    requires candidate { sight.is_candidate image.now.name device.now.lists.candidates ≡ true }
     ensures { result ≡ model.view_if_seen (lookup_of image.now.sight.now.records) image.now.sight.now.cell.css
         image.now.name (device_of device.now) }
 {
     let pim = installed_paths(image, paths);
-    if !is_reached(image, device.units.as_slice(), paths, pim) {
+    if !is_reached(image, device.lists.units(), paths, pim) {
         return None;
     }
     Some(View {

@@ -200,7 +200,7 @@ fn online_to_all<A: Allocator>(
 ) -> Option<[NamedMask; 16]>
     ensures { IfSome result (λ masks. AreOnlineMasks config.now.records css paths.now masks) }
 {
-    if device?.candidates.is_some() {
+    if device?.lists.candidates().is_some() {
         return None;
     }
     online_masks(config, css, paths)

@@ -85,7 +85,7 @@ impl<'a, A: Allocator> ImageSight<'a, A> {
         ensures same { self.new ≡ self.old }
     {
         let fields = self.devices.find(set, device)?;
-        let units = fields.units.as_slice();
+        let units = fields.lists.units();
         if !are_same(self.last.units, units) {
             let paths = next_paths_of_units(&mut self.units, self.image.css, units);
             self.last = units_view(self, units, paths);

@@ -30,7 +30,7 @@ pub fn paths_of_device<A: Allocator>(
     ensures { result ≡ paths_of (lookup_of config.now.records) css (option_map device_of (option_copied device.entry)) }
 {
     match device {
-        Some(fields) => paths_of_units(config, css, fields.units.as_slice()),
+        Some(fields) => paths_of_units(config, css, fields.lists.units()),
         None => Paths::new(),
     }
 }

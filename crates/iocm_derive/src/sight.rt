@@ -33,8 +33,8 @@ fn sees_device<A: Allocator, R: Reach<A>>(reach: &R, device: &DeviceFields<A>) -
     ensures { result ≡ model.sees (lookup_of (R.records reach.now)) (R.subsystem reach.now) (R.called reach.now)
         (device_of device.now) }
 {
-    is_candidate(device.candidates.as_ref(), reach.name())
-        && reaches_units(reach, device.units.as_slice())
+    is_candidate(device.lists.candidates(), reach.name())
+        && reaches_units(reach, device.lists.units())
 }
 
 /// Whether no candidates are listed, or the name is among them.

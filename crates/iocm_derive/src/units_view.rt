@@ -58,12 +58,12 @@ pub fn view_by<A: Allocator, R: Reach<A>>(
     by: &UnitsView,
     device: &DeviceFields<A>,
 ) -> Option<View>
-    requires units { by.now.units.now ≡ device.now.units }
+    requires units { by.now.units.now ≡ device.now.lists.units }
     requires seen { IsSeenBy (lookup_of (R.records reach.now)) (R.subsystem reach.now) (R.called reach.now) by.now }
     ensures { result ≡ model.view_if_seen (lookup_of (R.records reach.now)) (R.subsystem reach.now)
         (R.called reach.now) (device_of device.now) }
 {
-    if !is_candidate(device.candidates.as_ref(), reach.name()) {
+    if !is_candidate(device.lists.candidates(), reach.name()) {
         return None;
     }
     if !by.is_reached {

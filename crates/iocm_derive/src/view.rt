@@ -68,10 +68,10 @@ fn view_if_seen<A: Allocator, R: Reach<A>>(reach: &R, device: &DeviceFields<A>) 
     ensures { result ≡ model.view_if_seen (lookup_of (R.records reach.now)) (R.subsystem reach.now)
         (R.called reach.now) (device_of device.now) }
 {
-    if !is_candidate(device.candidates.as_ref(), reach.name()) {
+    if !is_candidate(device.lists.candidates(), reach.name()) {
         return None;
     }
-    let units = device.units.as_slice();
+    let units = device.lists.units();
     let paths = paths_of_units(reach.config(), reach.css(), units);
     let by = units_view(reach, units, paths);
     view_by(reach, &by, device)

@@ -11,8 +11,20 @@ use Rattle.iocm_model.specs.Machine.Configuration.{Configuration, IsKeyed, recor
 use Rattle.iocm_model.specs.Machine.Record.{Rec, DeviceRecord, id, resource, image, limit, path, unit, device, online}
 use Rattle.iocm_model.specs.Rules.EachRule.{breaks_v10, answers_on, has_twice, some_before}
 use Rattle.iocm_lookup.specs.First.{first_key}
+use Rattle.iocm_lookup.proofs.KindWalks.{GivesOfKind}
 use Rattle.iocm_lookup.proofs.Apart.{Common, turned, common_of_two, none_clashes}
 use Rattle.iocm_device_rules.specs.OnUnits.{number_on, numbers_of, unit_numbers}
+
+-- records of other kinds have none
+pub only_devices_give : GivesOfKind 6 unit_numbers
+only_devices_give (id x) is = refl
+only_devices_give (resource x) is = refl
+only_devices_give (image x) is = refl
+only_devices_give (limit x) is = refl
+only_devices_give (path x) is = refl
+only_devices_give (unit x) is = refl
+only_devices_give (device x) is = absurd (false≢true (sym is))
+only_devices_give (online x) is = refl
 
 -- ---- one unit more
 

@@ -1,4 +1,5 @@
 pub mod AddressesApart
+pub mod AnyRule
 pub mod ClashesAmong
 pub mod Culprits
 pub mod JoinedPaths

@@ -1,17 +1,18 @@
 -- How many devices a set has: one record more, and that their numbers at opening are below.
-use Rattle.std.proofs.Common.{◌≡◌, ℕ, zero, suc, ◌+◌, ◌^◌, ◌<◌, ◌≤◌, Bool, true, false, cond, nat_eq, nat_le, ◌&&◌, ◌||◌, List, [], ◌∷◌, map, filter, length, get_or, refl, sym, ap, ◌∙◌, arith}
+use Rattle.std.proofs.Common.{◌≡◌, ℕ, zero, suc, ◌+◌, ◌^◌, ◌<◌, ◌≤◌, Bool, true, false, cond, nat_eq, nat_le, ◌&&◌, ◌||◌, List, [], ◌∷◌, map, filter, length, get_or, replicate, nat_lt, refl, sym, ap, ◌∙◌, arith}
 use Rattle.std.proofs.lemmas.Bool.{false≢true}
 use Rattle.std.proofs.lemmas.Bool.Decides.{nat_tests}
 use Rattle.std.proofs.lemmas.List.Folds.{list_any-append}
+use Rattle.std.specs.FinMap.{entries, len, len-entries}
 use Rattle.std.specs.List.{list_any, flat_map, filter_map}
 use Rattle.iocm_types.specs.declared.key.Key.{Key}
 use Rattle.iocm_model.specs.Machine.Configuration.{Configuration, Lookup, as_device, devices_of, lookup_of, records_of}
 use Rattle.iocm_model.specs.Machine.Numbering.{subsystems, sets, is_reached, reached_devices, numbers_from}
 use Rattle.iocm_model.specs.Machine.Record.{Rec, DeviceRecord, id, resource, image, limit, path, unit, device, online}
-use Rattle.iocm_lookup.proofs.Walks.{in_entries}
+use Rattle.iocm_lookup.specs.Kinds.{of_kind}
 use Rattle.iocm_numbers.specs.Opening.{rows_at_opening}
 use Rattle.iocm_device_rules.specs.Past.{is_row_past, limit_there}
-use Rattle.iocm_device_rules.specs.SetCounts.{count_among, is_set_over}
+use Rattle.iocm_device_rules.specs.SetCounts.{count_among, is_limit_below, is_limit_below_in, is_set_over}
 
 -- ---- one record more
 
@@ -115,10 +116,79 @@ none_counted (suc (suc zero)) = refl
 none_counted (suc (suc (suc zero))) = refl
 none_counted (suc (suc (suc (suc k)))) = refl
 
-as_many : (es : List (Key × Rec)) → length (in_entries es) ≡ length es
+-- other records are not counted
+devices_of_kind : (rs : List Rec) → filter_map as_device (of_kind 6 rs) ≡ filter_map as_device rs
+devices_of_kind [] = refl
+devices_of_kind (device d ∷ rs) = ap (λ ds. d ∷ ds) (devices_of_kind rs)
+devices_of_kind (id x ∷ rs) = devices_of_kind rs
+devices_of_kind (resource x ∷ rs) = devices_of_kind rs
+devices_of_kind (image x ∷ rs) = devices_of_kind rs
+devices_of_kind (limit x ∷ rs) = devices_of_kind rs
+devices_of_kind (path x ∷ rs) = devices_of_kind rs
+devices_of_kind (unit x ∷ rs) = devices_of_kind rs
+devices_of_kind (online x ∷ rs) = devices_of_kind rs
+
+pub counted_by_kind : (s : ℕ) (rs : List Rec) → count_among s (of_kind 6 rs) ≡ count_among s rs
+counted_by_kind s rs = ap (λ ds. length (filter (λ (d : DeviceRecord). nat_eq d.set s) ds)) (devices_of_kind rs)
+
+-- a count fits as long as the records do
+pub count_fits : (s n : ℕ) (rs : List Rec) → n ≤ count_among s rs → length rs < 2 ^ 63 → n + 1 < 2 ^ 64
+count_fits s n rs least fits = let most = at_most_records s rs in omega arith
+
+-- ---- limits and numbers for each set
+
+module _ (p q : ℕ → Bool) (less : (s : ℕ) → s < 4 → q s ≡ false → p s ≡ false) where
+  at_each_set : list_any q sets ≡ false → list_any p sets ≡ false
+  at_each_set none = by (q 0) (q 1) (q 2) (q 3) refl refl refl refl none
+    where
+      by : (a b c d : Bool) → q 0 ≡ a → q 1 ≡ b → q 2 ≡ c → q 3 ≡ d → (a || (b || (c || (d || false)))) ≡ false → list_any p sets ≡ false
+      by true b c d q0 q1 q2 q3 h = absurd (false≢true (sym h))
+      by false true c d q0 q1 q2 q3 h = absurd (false≢true (sym h))
+      by false false true d q0 q1 q2 q3 h = absurd (false≢true (sym h))
+      by false false false true q0 q1 q2 q3 h = absurd (false≢true (sym h))
+      by false false false false q0 q1 q2 q3 h =
+          (λ i. less 0 (omega arith) q0 i || (less 1 (omega arith) q1 i || (less 2 (omega arith) q2 i || (less 3 (omega arith) q3 i || false))))
+
+none_fewer : {A : Type 0} (p q : A → Bool) → ((x : A) → q x ≡ false → p x ≡ false) → (xs : List A) → list_any q xs ≡ false → list_any p xs ≡ false
+none_fewer p q less [] none = refl
+none_fewer p q less (x ∷ xs) none = by (q x) refl none (none_fewer p q less xs)
+  where
+    by : (b : Bool) → q x ≡ b → (b || list_any q xs) ≡ false → (list_any q xs ≡ false → list_any p xs ≡ false) → (p x || list_any p xs) ≡ false
+    by true is h more = absurd (false≢true (sym h))
+    by false is h more = (λ i. less x is i || more h i)
+
+each_of_four : (n s : ℕ) → s < 4 → get_or (replicate 4 n) s 0 ≡ n
+each_of_four n zero within = refl
+each_of_four n (suc zero) within = refl
+each_of_four n (suc (suc zero)) within = refl
+each_of_four n (suc (suc (suc zero))) within = refl
+each_of_four n (suc (suc (suc (suc k)))) within = absurd (omega arith)
+
+as_many : (es : List (Key × Rec)) → length (map (λ (e : Key × Rec). e.1) es) ≡ length es
 as_many [] = refl
 as_many (e ∷ es) = ap suc (as_many es)
 
--- a count fits as long as the entries do
-pub count_fits : (s n : ℕ) (es : List (Key × Rec)) → n ≤ count_among s (in_entries es) → length es < 2 ^ 63 → n + 1 < 2 ^ 64
-count_fits s n es least fits = let most = at_most_records s (in_entries es) in let same = as_many es in omega arith
+in_few : (c : Configuration) (css s : ℕ) → s < 4 → is_limit_below c (replicate 4 (len c)) css s ≡ false → is_set_over c css s ≡ false
+in_few c css s within below =
+    let most : count_among s (records_of c) ≤ length (records_of c) = at_most_records s (records_of c) in
+    let same : length (records_of c) ≡ len c = as_many (entries c) ∙ sym (len-entries c) in
+    let named : get_or (replicate 4 (len c)) s 0 ≡ len c = each_of_four (len c) s within in
+    grind (arith, nat_tests)
+
+-- where no limit is below the number of all records, no set has more devices than a limit
+pub none_with_few : (c : Configuration) → list_any (is_limit_below_in c (replicate 4 (len c))) subsystems ≡ false
+    → list_any (λ css. list_any (is_set_over c css) sets) subsystems ≡ false
+none_with_few c = none_fewer (λ css. list_any (is_set_over c css) sets) (is_limit_below_in c (replicate 4 (len c)))
+    (λ css. at_each_set (is_set_over c css) (is_limit_below c (replicate 4 (len c)) css) (in_few c css)) subsystems
+
+-- with the number of its devices for each set, a limit is below where the set has more
+pub over_by_counts : (c : Configuration) (in_sets : List ℕ) → ((s : ℕ) → s < 4 → get_or in_sets s 0 ≡ count_among s (records_of c))
+    → list_any (is_limit_below_in c in_sets) subsystems ≡ list_any (λ css. list_any (is_set_over c css) sets) subsystems
+over_by_counts c in_sets exact = ap (λ (f : ℕ → Bool). list_any f subsystems) (λ i css. in_one css i)
+  where
+    below : ℕ → ℕ → ℕ → Bool
+    below css s n = nat_lt (limit_there (lookup_of c) css s) n
+
+    in_one : (css : ℕ) → is_limit_below_in c in_sets css ≡ list_any (is_set_over c css) sets
+    in_one css = (λ i. below css 0 (exact 0 (omega arith) i) || (below css 1 (exact 1 (omega arith) i)
+        || (below css 2 (exact 2 (omega arith) i) || (below css 3 (exact 3 (omega arith) i) || false))))

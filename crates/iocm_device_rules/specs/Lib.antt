@@ -5,3 +5,4 @@ pub mod OnUnits
 pub mod Past
 pub mod SameUnits
 pub mod SetCounts
+pub mod WrongDevices

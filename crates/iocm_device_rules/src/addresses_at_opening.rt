@@ -8,7 +8,7 @@ ghost use Rattle.iocm_device_rules.specs.OnUnits as numbers;
 
 use crate::addresses::first_address_twice;
 use iocm_config::Config;
-use iocm_lookup::{index_of, is_any_twice};
+use iocm_lookup::{RecordKind, index_of, is_any_twice, records_of_kind};
 use iocm_record::{Record, RecordBody};
 use iocm_types::{Key, UnitNo};
 use std::alloc::{AllocError, Allocator};
@@ -43,7 +43,7 @@ fn list_numbers<A: Allocator, B: Allocator>(
 {
     // Most records are devices, and most devices have one unit.
     let mut listed = Vec::with_capacity(alloc, config.len())?;
-    for (_, entry) in config.walk() {
+    for entry in records_of_kind(config, RecordKind::Device) {
         list_of_record(&mut listed, entry)?;
     }
     Ok(listed)
@@ -58,7 +58,7 @@ fn list_of_record<A: Allocator, B: Allocator>(
 {
     match entry.body() {
         RecordBody::Device(fields) => {
-            list_on_units(listed, fields.unit_address, fields.units.as_slice())
+            list_on_units(listed, fields.unit_address, fields.lists.units())
         }
         _ => Ok(()),
     }

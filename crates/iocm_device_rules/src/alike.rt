@@ -1,6 +1,7 @@
-ghost use Rattle.std.specs.Prelude.{◌≡◌, true};
+ghost use Rattle.std.specs.Prelude.{◌≡◌, ◌&&◌, true};
 ghost use Rattle.std.specs.Option.{option_copied};
 ghost use Rattle.iocm_device_rules.specs.SameUnits.{AreOnSameUnits, units_on};
+ghost use Rattle.iocm_device_rules.specs.WrongDevices.{is_without_candidates};
 
 use iocm_record::{Record, RecordBody};
 use iocm_types::UnitNo;
@@ -22,7 +23,24 @@ fn units_on<A: Allocator>(entry: &Record<A>) -> Option<&[UnitNo]>
     ensures { option_copied result ≡ units_on entry.now }
 {
     match entry.body() {
-        RecordBody::Device(fields) => Some(fields.units.as_slice()),
+        RecordBody::Device(fields) => Some(fields.lists.units()),
         _ => None,
+    }
+}
+
+/// Whether two records are those of devices that list no candidates.
+pub fn are_without_candidates<A: Allocator>(entry: &Record<A>, other: &Record<A>) -> bool
+    ensures { result ≡ (is_without_candidates entry.now && is_without_candidates other.now) }
+{
+    is_without_candidates(entry) && is_without_candidates(other)
+}
+
+/// Whether a record is that of a device that lists no candidates.
+fn is_without_candidates<A: Allocator>(entry: &Record<A>) -> bool
+    ensures { result ≡ is_without_candidates entry.now }
+{
+    match entry.body() {
+        RecordBody::Device(fields) => fields.lists.candidates().is_none(),
+        _ => false,
     }
 }

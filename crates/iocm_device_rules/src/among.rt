@@ -110,7 +110,7 @@ fn units_of<A: Allocator>(entry: &Record<A>) -> &[UnitNo]
     ensures { result.now ≡ addresses.units_in (Some entry.now) }
 {
     match entry.body() {
-        RecordBody::Device(fields) => fields.units.as_slice(),
+        RecordBody::Device(fields) => fields.lists.units(),
         _ => &[],
     }
 }

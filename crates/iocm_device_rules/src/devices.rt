@@ -1,5 +1,6 @@
 ghost use Rattle.std.specs.Prelude.{◌≡◌, not, is_none, nat_eq, unwrap_or, []};
 ghost use Rattle.std.specs.List.{list_any};
+ghost use Rattle.std.specs.Option.{option_copied};
 ghost use Rattle.iocm_types.specs.declared.key.Key.TheVariants as key;
 ghost use Rattle.iocm_model.specs.Machine.Configuration.{lookup_of};
 ghost use Rattle.iocm_model.specs.Machine.Record.{device};
@@ -52,7 +53,7 @@ impl<A: Allocator> Wanted<A> for WrongUnits {
 fn has_wrong_units<A: Allocator>(config: &Config<A>, fields: &DeviceFields<A>) -> bool
     ensures { result ≡ model.breaks_v8 config.now.records (device (device_of fields.now)) }
 {
-    let units = fields.units.as_slice();
+    let units = fields.lists.units();
     let is_over = 8 < units.len();
     let is_twice = is_unit_twice(units);
     let is_missing = is_unit_missing(config, units);
@@ -122,15 +123,16 @@ impl<A: Allocator> Wanted<A> for CandidateOfNoImage {
 
     fn is_wanted(&self, config: &Config<A>, entry: &Record<A>) -> bool {
         match entry.body() {
-            RecordBody::Device(fields) => lists_stranger(config, &fields.candidates),
+            RecordBody::Device(fields) => lists_stranger(config, fields.lists.candidates()),
             _ => false,
         }
     }
 }
 
 /// Whether candidates are listed, and one is no image.
-fn lists_stranger<A: Allocator>(config: &Config<A>, candidates: &Option<List<Name, A>>) -> bool
-    ensures { result ≡ list_any (λ name. not (model.is_image config.now.records name)) (unwrap_or candidates.now []) }
+fn lists_stranger<A: Allocator>(config: &Config<A>, candidates: Option<&List<Name, A>>) -> bool
+    ensures { result ≡ list_any (λ name. not (model.is_image config.now.records name))
+        (unwrap_or (option_copied candidates.entry) []) }
 {
     match candidates {
         Some(names) => has_stranger(config, names.as_slice()),

@@ -81,7 +81,7 @@ fn is_not_held<'a, A: Allocator>(
 {
     match entry.body() {
         RecordBody::Device(fields) => {
-            is_address_lacked(config, last, fields.unit_address, fields.units.as_slice())
+            is_address_lacked(config, last, fields.unit_address, fields.lists.units())
         }
         _ => false,
     }

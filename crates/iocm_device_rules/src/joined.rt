@@ -39,7 +39,7 @@ impl<A: Allocator> Wanted<A> for WrongPathList {
 
     fn is_wanted(&self, config: &Config<A>, entry: &Record<A>) -> bool {
         match entry.body() {
-            RecordBody::Device(fields) => is_list_wrong(config, fields.units.as_slice()),
+            RecordBody::Device(fields) => is_list_wrong(config, fields.lists.units()),
             _ => false,
         }
     }

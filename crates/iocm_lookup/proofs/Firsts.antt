@@ -17,7 +17,8 @@ use Rattle.iocm_model.specs.Machine.Record.{Rec, key_of}
 use Rattle.iocm_model.specs.Machine.Configuration.{Configuration, IsKeyed, records_of}
 use Rattle.iocm_model.specs.Rules.FirstBreach.{first_record}
 use Rattle.iocm_lookup.proofs.Members.{record_there}
-use Rattle.iocm_lookup.proofs.Walks.{AreOwn, in_entries, own_entries, first_of_any}
+use Rattle.iocm_lookup.specs.Entries.{AreOwn, in_entries}
+use Rattle.iocm_lookup.proofs.Walks.{own_entries, first_of_any}
 use Rattle.iocm_lookup.proofs.AtMost.{IsAtMost}
 
 -- what is found in entries that are all above a key is above it

@@ -2,6 +2,7 @@ pub mod Anys
 pub mod Apart
 pub mod AtMost
 pub mod Firsts
+pub mod KindWalks
 pub mod LeastAmong
 pub mod Leasts
 pub mod Linking

@@ -13,7 +13,8 @@ use Rattle.iocm_model.specs.Machine.Record.{Rec, key_of}
 use Rattle.iocm_model.specs.Machine.Configuration.{Configuration, IsKeyed, records_of}
 use Rattle.iocm_lookup.specs.Images.{is_named_in, is_past_images, has_name, AreNamesIn}
 use Rattle.iocm_lookup.proofs.NamedImages.{images_before, images_from, image_in_subsystem}
-use Rattle.iocm_lookup.proofs.Walks.{AreOwn, IsLeft, in_entries, left_from, none_from, first_of_any}
+use Rattle.iocm_lookup.specs.Entries.{AreOwn, in_entries}
+use Rattle.iocm_lookup.proofs.Walks.{IsLeft, left_from, none_from, first_of_any}
 
 -- the names so far, and those of the entries that are left, are those of all records
 pub record IsGathering (css : ℕ) (records : List Rec) (names : List (Option (List ℕ))) (es : List (Key × Rec)) : Type 0 where

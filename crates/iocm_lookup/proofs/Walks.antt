@@ -1,5 +1,5 @@
 -- A walk over the records of one kind finds the first of all records that is so.
-use Rattle.std.proofs.Common.{◌≡◌, ℕ, ◌≤◌, Bool, true, false, cond, nat_lt, ◌||◌, is_some, None, Some, List, [], ◌∷◌, map, T, refl, sym, ap, subst, ◌∙◌, arith}
+use Rattle.std.proofs.Common.{◌≡◌, ℕ, ◌≤◌, Bool, true, false, cond, nat_lt, ◌||◌, is_some, None, Some, List, [], ◌∷◌, T, refl, sym, ap, subst, ◌∙◌, arith}
 use Rattle.std.proofs.lemmas.Bool.{false≢true}
 use Rattle.std.proofs.lemmas.Bool.Decides.{nat_tests}
 use Rattle.std.proofs.lemmas.Map.Keys.{ge_from_not_lt}
@@ -21,16 +21,8 @@ use Rattle.iocm_table.specs.Slots.{rows_from}
 use Rattle.iocm_model.specs.Machine.Record.{Rec, key_of}
 use Rattle.iocm_model.specs.Machine.Configuration.{Configuration, IsKeyed, with_keys, records_of}
 use Rattle.iocm_model.specs.Rules.FirstBreach.{first_record}
+use Rattle.iocm_lookup.specs.Entries.{in_entries, AreOwn}
 use Rattle.iocm_lookup.specs.Kinds.{kind_of, IsBeforeKind}
-
--- the records of some entries
-abbrev pub in_entries : List (Key × Rec) → List Rec
-in_entries es = map (λ (e : Key × Rec). e.1) es
-
--- each entry's key is its record's own
-abbrev pub AreOwn : List (Key × Rec) → Type 0
-AreOwn [] = Unit {0}
-AreOwn (e ∷ es) = (e.0 ≡ key_of e.1) × AreOwn es
 
 own_keys : (rs : List Rec) → AreOwn (with_keys rs)
 own_keys [] = tt
@@ -53,7 +45,7 @@ AreOfKind is_so place = (r : Rec) → is_so r ≡ true → kind_of (key_of r) �
 
 -- ---- from the first key on
 
-own_from : (first : Key) (es : List (Key × Rec)) → AreOwn es → AreOwn (rows_from key_cmp first es)
+pub own_from : (first : Key) (es : List (Key × Rec)) → AreOwn es → AreOwn (rows_from key_cmp first es)
 own_from first [] own = tt
 own_from first (e ∷ es) own = by (is_le (key_cmp first e.0)) (own_from first es own.1)
   where

@@ -1,9 +1,10 @@
 -- The kinds of records, in the order of keys.
-use Rattle.std.specs.Prelude.{◌≡◌, ◌<◌, ℕ, true}
+use Rattle.std.specs.Prelude.{◌≡◌, ◌==◌, ◌<◌, ℕ, true, List, filter}
 use Rattle.std.specs.Ordering.{is_le}
 use Rattle.iocm_types.specs.declared.key.Key.{Key}
 use Rattle.iocm_types.specs.declared.key.Key.TheVariants as key
 use Rattle.iocm_types.specs.Key.{key_cmp}
+use Rattle.iocm_model.specs.Machine.Record.{Rec, key_of}
 use Rattle.iocm_lookup.specs.declared.kind.RecordKind.{RecordKind}
 use Rattle.iocm_lookup.specs.declared.kind.RecordKind.TheVariants as kind
 
@@ -25,6 +26,10 @@ place_of kind.Path = 4
 place_of kind.Unit = 5
 place_of kind.Device = 6
 place_of kind.Online = 7
+
+-- the records of a kind, in their order
+abbrev pub of_kind : ℕ → List Rec → List Rec
+of_kind place rs = filter (λ (r : Rec). kind_of (key_of r) == place) rs
 
 -- no key of a kind stands before this one
 abbrev pub IsBeforeKind : Key → ℕ → Type 0

@@ -1,4 +1,5 @@
 pub mod Among
+pub mod Entries
 pub mod First
 pub mod Images
 pub mod Indexed

@@ -1,4 +1,4 @@
-ghost use Rattle.std.specs.Prelude.{◌≡◌, nat_lt};
+ghost use Rattle.std.specs.Prelude.{◌≡◌, ◌==◌, nat_lt};
 ghost use Rattle.iocm_lookup.specs.Kinds as kinds;
 ghost use Rattle.iocm_lookup.specs.Kinds.{IsBeforeKind, IsBehindEarlier};
 
@@ -40,6 +40,13 @@ impl RecordKind {
         ensures { result ≡ nat_lt (kinds.place_of self) (kinds.kind_of key.now) }
     {
         self.place() < place_of_key(key)
+    }
+
+    /// Whether a key is one of this kind.
+    pub(crate) fn is_of(self, key: &Key) -> bool
+        ensures { result ≡ (kinds.kind_of key.now == kinds.place_of self) }
+    {
+        place_of_key(key) == self.place()
     }
 
     /// The place of the kind in the order of keys, counted from 0.

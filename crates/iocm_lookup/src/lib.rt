@@ -2,9 +2,10 @@
 //!
 //! By key `Config::get` answers. By kind `first_wanted` does, the key of the first record that is
 //! `Wanted`: it walks over the records of one kind alone, which stand side by side in the order of
-//! keys. `first_wanted_by_named` is for records that are judged by others that they name, and keeps
-//! the one that was found last. `first_wanted_among` answers the same where only records at some keys
-//! can be wanted. Who names a thing an `Index` answers; `index_of` builds that of a configuration.
+//! keys. `records_of_kind` gives them one after the other. `first_wanted_by_named` is for records
+//! that are judged by others that they name, and keeps the one that was found last.
+//! `first_wanted_among` answers the same where only records at some keys can be wanted. Who names a
+//! thing an `Index` answers; `index_of` builds that of a configuration.
 //!
 //! What the layer above may rely on: what `first_wanted` answers is the first of all records, since
 //! a `Wanted` says of which kind those are that it looks for; and a naming is in the index exactly
@@ -22,6 +23,7 @@ mod images;
 mod indexing;
 mod kept;
 mod kind;
+mod kind_walk;
 mod onlines;
 mod repeats;
 mod subsystem;
@@ -34,6 +36,7 @@ pub use images::{is_image, is_image_in};
 pub use indexing::index_of;
 pub use kept::{WantedByNamed, first_wanted_by_named, get_after};
 pub use kind::RecordKind;
+pub use kind_walk::{KindWalk, records_of_kind};
 pub use onlines::is_online_before;
 pub use repeats::{Addressed, first_repeated};
 pub use subsystem::subsystems;

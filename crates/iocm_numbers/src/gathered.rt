@@ -36,7 +36,7 @@ pub fn gather_devices<A: Allocator, B: Allocator>(
         let Some(fields) = device_fields(entry) else {
             continue;
         };
-        let units = fields.units.as_slice();
+        let units = fields.lists.units();
         let reached = reached_by(config, &last, units);
         last = UnitsReach { units, reached };
         devices.push(DeviceReach {

@@ -42,7 +42,7 @@ fn is_device_reached<A: Allocator>(config: &Config<A>, css: Css, entry: &Record<
     ensures { result ≡ is_record_reached (lookup_of config.now.records) css (Some entry.now) }
 {
     match entry.body() {
-        RecordBody::Device(fields) => is_reached(config, css, fields.units.as_slice()),
+        RecordBody::Device(fields) => is_reached(config, css, fields.lists.units()),
         _ => false,
     }
 }

@@ -2,7 +2,7 @@
 use crate::player::Player;
 use iocm_core::Call;
 use iocm_plant::Plant;
-use iocm_record::{DeviceFields, Record, RecordBody, UnitFields};
+use iocm_record::{DeviceFields, DeviceLists, Record, RecordBody, UnitFields};
 use iocm_tree::{Edit, Tree};
 use iocm_trial_machines::{below, enabled, is_heads, name, subchannel};
 use iocm_types::Order::{Cancel, Clear, Halt, Start, Store, Test};
@@ -63,10 +63,8 @@ fn draw_device(alloc: Global, dice: &mut Pcg32) -> Result<Record, Fail> {
     Ok(Record::new(RecordBody::Device(DeviceFields {
         set,
         number: DevNo::new(0x1000 + number as u16),
-        units: List::from_vec(vec![in alloc; unit]?),
         unit_address: address as u8,
-        candidates,
-        carried: Vec::new(alloc),
+        lists: DeviceLists::new(alloc, vec![in alloc; unit]?, candidates, Vec::new(alloc))?,
     })))
 }
 
@@ -94,14 +92,15 @@ fn draw_unit(alloc: Global, dice: &mut Pcg32) -> Result<Record, Fail> {
         start: 0,
         count: 256,
     };
-    Ok(Record::new(RecordBody::Unit(UnitFields {
+    let fields = UnitFields {
         number: unit_number(place)?,
         paths: List::from_vec(paths),
         ranges: List::from_vec(vec![in alloc; all]?),
         links: List::from_vec(Vec::new(alloc)),
         cuadd: Some(place as u8),
         carried: Vec::new(alloc),
-    })))
+    };
+    Ok(Record::of_unit(alloc, fields)?)
 }
 
 /// That a path is online to an image of the first channel subsystem, or to that of the second.

@@ -35,10 +35,10 @@ abbrev pub device_of : {A : Type 0} → DeviceFields A → DeviceRecord
 device_of d = record {
   set = d.set;
   number = d.number;
-  units = d.units;
+  units = d.lists.units;
   unit_address = d.unit_address;
-  candidates = d.candidates;
-  carried = d.carried.items;
+  candidates = d.lists.candidates;
+  carried = d.lists.carried;
 }
 
 -- the record of these fields
@@ -47,7 +47,7 @@ record_of (Id carried) = id carried.items
 record_of (Resource carried) = resource carried.items
 record_of (Image css mif name) = image (record { css = css; mif = mif; name = name })
 record_of (Limit css set number) = limit (record { css = css; set = set; limit = number })
-record_of (Path p) = path (path_of p)
-record_of (Unit u) = unit (unit_of u)
+record_of (Path p) = path (path_of p.value)
+record_of (Unit u) = unit (unit_of u.value)
 record_of (Device d) = device (device_of d)
 record_of (Online css number name) = online (record { css = css; path = number; name = name })

@@ -46,16 +46,10 @@ pub fn copy_device<A: Allocator, B: Allocator + Clone>(
 ) -> Result<DeviceFields<B>, AllocError>
     ensures { IfOk result (λ copy. device_of copy ≡ device_of device.now) }
 {
-    let candidates = match &device.candidates {
-        Some(names) => Some(names.copy_in(alloc.clone()?)?),
-        None => None,
-    };
     Ok(DeviceFields {
         set: device.set,
         number: device.number,
-        units: device.units.copy_in(alloc.clone()?)?,
         unit_address: device.unit_address,
-        candidates,
-        carried: copy_carried(&device.carried, alloc)?,
+        lists: device.lists.copy_in(alloc)?,
     })
 }

@@ -1,4 +1,5 @@
 ghost use Rattle.std.specs.Prelude.{◌≡◌, [], ◌++◌, length, map, slice_get, unwrap_or};
+ghost use Rattle.std.specs.Option.{option_copied};
 ghost use Rattle.iocm_model.specs.Machine.Naming as names;
 
 use iocm_types::{CssPath, Key, List, Name, Named, UnitNo};
@@ -38,8 +39,8 @@ fn unit_at(units: &[UnitNo], place: usize) -> Option<Named>
     Some(Named::Record(Key::Unit(*unit)))
 }
 
-fn candidate_at<A: Allocator>(candidates: &Option<List<Name, A>>, place: usize) -> Option<Named>
-    ensures { result ≡ slice_get (map names.image_named (unwrap_or candidates.now [])) place }
+fn candidate_at<A: Allocator>(candidates: Option<&List<Name, A>>, place: usize) -> Option<Named>
+    ensures { result ≡ slice_get (map names.image_named (unwrap_or (option_copied candidates.entry) [])) place }
 {
     match candidates {
         Some(list) => image_at(list.as_slice(), place),
@@ -51,11 +52,11 @@ fn candidate_at<A: Allocator>(candidates: &Option<List<Name, A>>, place: usize) 
 #[tactic(auto, using(crate::proofs::Rows::rows))]
 pub fn device_names<A: Allocator>(
     units: &[UnitNo],
-    candidates: &Option<List<Name, A>>,
+    candidates: Option<&List<Name, A>>,
     place: usize,
 ) -> Option<Named>
     ensures { result ≡ slice_get
-        (map names.unit_named units.now ++ map names.image_named (unwrap_or candidates.now [])) place }
+        (map names.unit_named units.now ++ map names.image_named (unwrap_or (option_copied candidates.entry) [])) place }
 {
     if place < units.len() {
         return unit_at(units, place);
@@ -78,8 +79,9 @@ pub fn unit_names_len(paths: &[CssPath]) -> usize
 }
 
 /// How many units and images a device names.
-pub fn device_names_len<A: Allocator>(units: &[UnitNo], candidates: &Option<List<Name, A>>) -> usize
-    ensures { result ≡ length (map names.unit_named units.now ++ map names.image_named (unwrap_or candidates.now [])) }
+pub fn device_names_len<A: Allocator>(units: &[UnitNo], candidates: Option<&List<Name, A>>) -> usize
+    ensures { result ≡ length
+        (map names.unit_named units.now ++ map names.image_named (unwrap_or (option_copied candidates.entry) [])) }
 {
     match candidates {
         Some(list) => units.len() + list.as_slice().len(),

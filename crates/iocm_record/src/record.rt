@@ -1,11 +1,11 @@
 ghost use Rattle.std.specs.Prelude.{◌≡◌, length, slice_get, IfOk};
 
-use crate::Carried;
 use crate::carried::copy_carried;
 use crate::copies::{copy_device, copy_path, copy_unit};
 use crate::names::{
     device_names, device_names_len, path_names, path_names_len, unit_names, unit_names_len,
 };
+use crate::{Carried, DeviceLists};
 use iocm_types::{
     Chpid, Css, CssLink, CssPath, DevNo, Key, List, Mif, Name, Named, PathKind, SetNo, UnitNo,
     UnitRange,
@@ -50,22 +50,18 @@ pub struct UnitFields<A: Allocator = Global> {
     pub carried: Vec<Carried<A>, A>,
 }
 
-/// A device: its control units in their order, its unit address, and the names of its candidates,
-/// ascending with each once, where it lists them (IOCP User's Guide, IODEVICE statement).
+/// A device: its number, its unit address, and its lists (IOCP User's Guide, IODEVICE statement).
 #[derive(Drop)]
 pub struct DeviceFields<A: Allocator = Global> {
     /// The subchannel set of its subchannels.
     pub set: SetNo,
     /// Its number in the set, 0000 to FFFF.
     pub number: DevNo,
-    /// The control units that reach it.
-    pub units: List<UnitNo, A>,
-    /// Its unit address on each of them, 00 to FF.
+    /// Its unit address on each control unit that reaches it, 00 to FF.
     pub unit_address: u8,
-    /// The images that may use it, by name: without a list all may, with an empty list none.
-    pub candidates: Option<List<Name, A>>,
-    /// What its statement carries along, in the order of the text.
-    pub carried: Vec<Carried<A>, A>,
+    /// The control units that reach it; the images that may use it, by name: without a list all may,
+    /// with an empty list none; and what its statement carries along, in the order of the text.
+    pub lists: DeviceLists<A>,
 }
 
 /// The eight kinds of records with their fields. A `Record` has one of these inside. The kinds are
@@ -81,9 +77,9 @@ pub enum RecordBody<A: Allocator = Global> {
     /// Below which number the subchannels of a set stay in a channel subsystem.
     Limit(Css, SetNo, u16),
     /// A channel path.
-    Path(PathFields<A>),
+    Path(Box<PathFields<A>, A>),
     /// A control unit.
-    Unit(UnitFields<A>),
+    Unit(Box<UnitFields<A>, A>),
     /// A device.
     Device(DeviceFields<A>),
     /// That a path of a channel subsystem is online to the image of this name.
@@ -115,15 +111,29 @@ impl<A: Allocator> Model for Record<A> {
 }
 
 impl<A: Allocator> Record<A> {
-    ghost use Rattle.iocm_model.specs.Machine.Record.{key_of};
+    ghost use Rattle.iocm_model.specs.Machine.Record.{key_of, path, unit};
     ghost use Rattle.iocm_model.specs.Machine.Naming.{named_by};
-    ghost use Rattle.iocm_record.specs.Meaning.{record_of};
+    ghost use Rattle.iocm_record.specs.Meaning.{path_of, record_of, unit_of};
 
     /// The record with these fields.
     pub fn new(body: RecordBody<A>) -> Self
         ensures { result ≡ record_of body }
     {
         Record { body }
+    }
+
+    /// The record of a channel path. Answers the want of memory alone.
+    pub fn of_path(alloc: A, fields: PathFields<A>) -> Result<Self, AllocError>
+        ensures { IfOk result (λ r. r ≡ path (path_of fields)) }
+    {
+        Ok(Record::new(RecordBody::Path(Box::new(alloc, fields)?)))
+    }
+
+    /// The record of a control unit. Answers the want of memory alone.
+    pub fn of_unit(alloc: A, fields: UnitFields<A>) -> Result<Self, AllocError>
+        ensures { IfOk result (λ r. r ≡ unit (unit_of fields)) }
+    {
+        Ok(Record::new(RecordBody::Unit(Box::new(alloc, fields)?)))
     }
 
     /// Its fields.
@@ -167,7 +177,7 @@ impl<A: Allocator> Record<A> {
             }
             RecordBody::Unit(unit) => unit_names_len(unit.paths.as_slice()),
             RecordBody::Device(device) => {
-                device_names_len(device.units.as_slice(), &device.candidates)
+                device_names_len(device.lists.units(), device.lists.candidates())
             }
             RecordBody::Online(_, _, _) => 2,
             _ => 0,
@@ -188,8 +198,8 @@ impl<A: Allocator> Record<A> {
             ),
             RecordBody::Unit(unit) => unit_names(unit.paths.as_slice(), place),
             RecordBody::Device(device) => device_names(
-                device.units.as_slice(),
-                &device.candidates,
+                device.lists.units(),
+                device.lists.candidates(),
                 place,
             ),
             RecordBody::Online(css, path, name) => match place {
@@ -210,8 +220,14 @@ impl<A: Allocator> Record<A> {
             RecordBody::Resource(carried) => RecordBody::Resource(copy_carried(carried, alloc)?),
             RecordBody::Image(css, mif, name) => RecordBody::Image(*css, *mif, *name),
             RecordBody::Limit(css, set, limit) => RecordBody::Limit(*css, *set, *limit),
-            RecordBody::Path(path) => RecordBody::Path(copy_path(path, alloc)?),
-            RecordBody::Unit(unit) => RecordBody::Unit(copy_unit(unit, alloc)?),
+            RecordBody::Path(path) => return Record::of_path(
+                alloc.clone()?,
+                copy_path(path, alloc)?,
+            ),
+            RecordBody::Unit(unit) => return Record::of_unit(
+                alloc.clone()?,
+                copy_unit(unit, alloc)?,
+            ),
             RecordBody::Device(device) => RecordBody::Device(copy_device(device, alloc)?),
             RecordBody::Online(css, path, name) => RecordBody::Online(*css, *path, *name),
         };

@@ -166,14 +166,15 @@ fn path_records(
     let Lists { access, candidates } = lists;
     let online = access.copy_in(alloc)?;
     let mut records = Vec::with_capacity(alloc, 1 + online.as_slice().len())?;
-    records.push(Record::new(RecordBody::Path(PathFields {
+    let fields = PathFields {
         css: path.css,
         number: path.path,
         kind,
         access,
         candidates,
         carried,
-    })))?;
+    };
+    records.push(Record::of_path(alloc, fields)?)?;
     add_online(&mut records, path.css, path.path, online.as_slice())?;
     Ok(records)
 }

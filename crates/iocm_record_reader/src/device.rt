@@ -5,7 +5,7 @@ ghost use Rattle.iocm_record.specs.Meaning.{device_of};
 
 use crate::operands::carried_by;
 use iocm_operands::{Devices, candidates_of, devices_of, first_address, set_of, units_of};
-use iocm_record::{DeviceFields, Record, RecordBody, copy_device};
+use iocm_record::{DeviceFields, DeviceLists, Record, RecordBody, copy_device};
 use iocm_statements::{Operands, Operation, or_malformed};
 use iocm_types::{DevNo, Fault, List, Name, SetNo, UnitNo};
 use iocm_values::Value;
@@ -161,13 +161,12 @@ pub fn iodevice_records(
     let address = device_address(operands, devices.count, malformed)?;
     let set = device_set(operands, malformed)?;
     let candidates = device_candidates(alloc, operands, malformed)?;
+    let carried = carried_by(alloc, Operation::Iodevice, operands)?;
     let first = DeviceFields {
         set,
         number: DevNo::new(devices.first as u16),
-        units: List::from_vec(units),
         unit_address: 0,
-        candidates,
-        carried: carried_by(alloc, Operation::Iodevice, operands)?,
+        lists: DeviceLists::new(alloc, units, candidates, carried)?,
     };
     if devices.count == 1 {
         return Ok(only_records(alloc, first, address)?);

@@ -90,6 +90,6 @@ pub fn cntlunit_records(
 {
     let unit = unit_fields(alloc, operands, malformed)?;
     let mut records = Vec::new(alloc);
-    records.push(Record::new(RecordBody::Unit(unit)))?;
+    records.push(Record::of_unit(alloc, unit)?)?;
     Ok(records)
 }

@@ -2,7 +2,7 @@ ghost use Rattle.std.specs.Prelude.{◌≡◌, None, IfOk};
 ghost use Rattle.std.specs.Result.{result_err};
 ghost use Rattle.iocm_model.specs.Machine.Configuration.{records_of};
 ghost use Rattle.iocm_model.specs.Machine.Numbering.{Numbering, opening};
-ghost use Rattle.iocm_model.specs.Rules.EachRule.{breaks_v10, breaks_v14};
+ghost use Rattle.iocm_model.specs.Rules.EachRule.{breaks_v8, breaks_v10, breaks_v11, breaks_v12, breaks_v14};
 ghost use Rattle.iocm_model.specs.Rules.FirstBreach.{first_breach, first_breach_of};
 ghost use Rattle.iocm_lookup.specs.First.{first_key};
 ghost use Rattle.iocm_lookup.specs.Indexed.{IsIndexOf};
@@ -15,8 +15,8 @@ use crate::names::{NameOfNoImage, TooManyNames};
 use crate::online::WrongOnline;
 use iocm_config::Config;
 use iocm_device_rules::{
-    AddressNotHeld, CandidateOfNoImage, WrongPathList, WrongUnits, first_address_twice,
-    first_address_twice_at_opening, first_past_limit, first_past_limit_at_opening,
+    AddressNotHeld, WrongDevices, first_address_twice, first_address_twice_at_opening,
+    first_past_limit, first_past_limit_at_opening, first_wrong_devices,
 };
 use iocm_index::Index;
 use iocm_lookup::{first_wanted, first_wanted_by_named};
@@ -38,7 +38,8 @@ pub fn check<A: Allocator, N: Allocator, I: Allocator>(
     requires { IsIndexOf config.now.records index.now }
     ensures { result_err result ≡ first_breach config.now.records numbers.now.numbers }
 {
-    if let Some(breach) = first_to_v8(config) {
+    let devices = first_wrong_devices(config);
+    if let Some(breach) = first_to_v8(config, &devices) {
         return Err(breach);
     }
     let searched = Searched {
@@ -46,7 +47,7 @@ pub fn check<A: Allocator, N: Allocator, I: Allocator>(
         past: first_past_limit(config, numbers),
         shared: first_shared_address(config, index),
     };
-    match first_from_v9(config, &searched) {
+    match first_from_v9(config, &devices, &searched) {
         Some(breach) => Err(breach),
         None => Ok(()),
     }
@@ -63,7 +64,8 @@ pub fn check_at_opening<A: Allocator, B: Allocator + Copy>(
 ) -> Result<Option<Breach>, AllocError>
     ensures { IfOk result (λ breach. breach ≡ first_breach config.now.records (opening config.now.records)) }
 {
-    if let Some(breach) = first_to_v8(config) {
+    let devices = first_wrong_devices(config);
+    if let Some(breach) = first_to_v8(config, &devices) {
         return Ok(Some(breach));
     }
     let searched = Searched {
@@ -71,11 +73,12 @@ pub fn check_at_opening<A: Allocator, B: Allocator + Copy>(
         past: first_past_limit_at_opening(alloc, config)?,
         shared: first_shared_address_at_opening(alloc, config)?,
     };
-    Ok(first_from_v9(config, &searched))
+    Ok(first_from_v9(config, &devices, &searched))
 }
 
 /// The first breach of V1 to V8: the table of these rules, in their order.
-fn first_to_v8<A: Allocator>(config: &Config<A>) -> Option<Breach>
+fn first_to_v8<A: Allocator>(config: &Config<A>, devices: &WrongDevices) -> Option<Breach>
+    requires { devices.now.units ≡ first_key (breaks_v8 config.now.records) config.now.records }
     ensures { result ≡ first_breach_of (to_v8 config.now.records) (records_of config.now.records) }
 {
     first_of(&[
@@ -86,7 +89,7 @@ fn first_to_v8<A: Allocator>(config: &Config<A>) -> Option<Breach>
         (Rule::V5, first_wanted(config, &WrongPaths)),
         (Rule::V6, first_wanted(config, &WrongLinks)),
         (Rule::V7, first_wanted(config, &WrongRanges)),
-        (Rule::V8, first_wanted(config, &WrongUnits)),
+        (Rule::V8, devices.units),
     ])
 }
 
@@ -102,7 +105,13 @@ struct Searched {
 }
 
 /// The first breach of V9 to V14: the table of these rules, in their order.
-fn first_from_v9<A: Allocator>(config: &Config<A>, searched: &Searched) -> Option<Breach>
+fn first_from_v9<A: Allocator>(
+    config: &Config<A>,
+    devices: &WrongDevices,
+    searched: &Searched,
+) -> Option<Breach>
+    requires path_list { devices.now.path_list ≡ first_key (breaks_v11 config.now.records) config.now.records }
+    requires candidates { devices.now.candidates ≡ first_key (breaks_v12 config.now.records) config.now.records }
     requires twice { searched.now.twice ≡ first_key (breaks_v10 config.now.records) config.now.records }
     requires shared { searched.now.shared ≡ first_key (breaks_v14 config.now.records) config.now.records }
     ensures { (n : Numbering) → IsFirstPast config.now.records n searched.now.past
@@ -111,8 +120,8 @@ fn first_from_v9<A: Allocator>(config: &Config<A>, searched: &Searched) -> Optio
     first_of(&[
         (Rule::V9, first_wanted_by_named(config, &AddressNotHeld)),
         (Rule::V10, searched.twice),
-        (Rule::V11, first_wanted(config, &WrongPathList)),
-        (Rule::V12, first_wanted(config, &CandidateOfNoImage)),
+        (Rule::V11, devices.path_list),
+        (Rule::V12, devices.candidates),
         (Rule::V13, searched.past),
         (Rule::V14, searched.shared),
     ])

@@ -4,8 +4,8 @@ ghost use Rattle.iocm_model.specs.Rules.EachRule as model;
 
 use iocm_config::Config;
 use iocm_lookup::{RecordKind, SubsystemImages, Wanted};
-use iocm_record::{Record, RecordBody};
-use iocm_types::{Css, Name, PathKind};
+use iocm_record::{PathFields, Record, RecordBody};
+use iocm_types::{Name, PathKind};
 use std::alloc::Allocator;
 
 /// V2: a name in the access or candidate list of a path is that of no image of the path's channel
@@ -33,29 +33,20 @@ impl<A: Allocator> Wanted<A> for NameOfNoImage {
 
     fn is_wanted(&self, config: &Config<A>, entry: &Record<A>) -> bool {
         match entry.body() {
-            RecordBody::Path(path) => lists_stranger(
-                config,
-                path.css,
-                path.access.as_slice(),
-                path.candidates.as_slice(),
-            ),
+            RecordBody::Path(path) => lists_stranger(config, path),
             _ => false,
         }
     }
 }
 
-/// Whether a name in one of two lists is that of no image of a channel subsystem.
-fn lists_stranger<A: Allocator>(
-    config: &Config<A>,
-    css: Css,
-    access: &[Name],
-    candidates: &[Name],
-) -> bool
-    ensures { result ≡ list_any (λ name. not (model.is_image_in config.now.records css name))
-        (access.now ++ candidates.now) }
+/// Whether a name in one of a path's lists is that of no image of its channel subsystem.
+fn lists_stranger<A: Allocator>(config: &Config<A>, path: &PathFields<A>) -> bool
+    ensures { result ≡ list_any (λ name. not (model.is_image_in config.now.records path.now.css name))
+        (path.now.access ++ path.now.candidates) }
 {
-    let images = SubsystemImages::new(config, css);
-    has_stranger(&images, access) || has_stranger(&images, candidates)
+    let images = SubsystemImages::new(config, path.css);
+    has_stranger(&images, path.access.as_slice())
+        || has_stranger(&images, path.candidates.as_slice())
 }
 
 /// Whether a name is that of no image of a channel subsystem.
@@ -97,24 +88,19 @@ impl<A: Allocator> Wanted<A> for TooManyNames {
 
     fn is_wanted(&self, _config: &Config<A>, entry: &Record<A>) -> bool {
         match entry.body() {
-            RecordBody::Path(path) => {
-                has_too_many_names(
-                    path.kind,
-                    path.access.as_slice(),
-                    path.candidates.as_slice(),
-                )
-            }
+            RecordBody::Path(path) => has_too_many_names(path),
             _ => false,
         }
     }
 }
 
-/// Whether a path of a kind has more names in its lists than it may.
-fn has_too_many_names(kind: PathKind, access: &[Name], candidates: &[Name]) -> bool
-    ensures { result ≡ model.breaks_v3_by_kind kind access.now candidates.now }
+/// Whether a path has more names in its lists than one of its kind may.
+fn has_too_many_names<A: Allocator>(path: &PathFields<A>) -> bool
+    ensures { result ≡ model.breaks_v3_by_kind path.now.kind path.now.access path.now.candidates }
 {
-    match kind {
-        PathKind::Dedicated => has_two_names(access, candidates),
+    let access = path.access.as_slice();
+    match path.kind {
+        PathKind::Dedicated => has_two_names(access, path.candidates.as_slice()),
         PathKind::Reconfigurable => has_two_names(access, &[]),
         PathKind::Shared => false,
     }

@@ -1,9 +1,12 @@
-ghost use Rattle.std.specs.Prelude.{◌≡◌, ◌||◌};
+ghost use Rattle.std.specs.Prelude.{◌≡◌, ◌||◌, Some};
 ghost use Rattle.std.specs.Option.{ForSome};
+ghost use Rattle.iocm_model.specs.Machine.Record as kinds;
 ghost use Rattle.iocm_model.specs.Machine.Record.{online};
 ghost use Rattle.iocm_model.specs.Machine.Sight as sight;
 ghost use Rattle.iocm_model.specs.Rules.EachRule as model;
+ghost use Rattle.iocm_record.specs.Meaning.{path_of};
 ghost use Rattle.iocm_lookup.specs.There.{IsThere};
+ghost use Rattle.iocm_rules.specs.Onlines as onlines;
 
 use iocm_config::Config;
 use iocm_lookup::{RecordKind, Wanted, WantedByNamed, get_after, is_online_before};
@@ -101,12 +104,24 @@ fn is_wrong<'a, A: Allocator>(
         return true;
     };
     match entry.body() {
-        RecordBody::Path(fields) => {
-            !lists_name(fields, name)
-                || (is_exclusive(fields.kind) && is_online_before(config, css, path, name))
-        }
+        RecordBody::Path(fields) => is_wrong_on(config, fields, css, path, name),
         _ => true,
     }
+}
+
+/// Whether an online record breaks V4, where its path has these fields.
+fn is_wrong_on<A: Allocator>(
+    config: &Config<A>,
+    fields: &PathFields<A>,
+    css: Css,
+    path: Chpid,
+    name: Name,
+) -> bool
+    ensures { result ≡ onlines.is_wrong_on config.now.records (record { css = css; path = path; name = name })
+        (Some (kinds.path (path_of fields.now))) }
+{
+    !lists_name(fields, name)
+        || (is_exclusive(fields.kind) && is_online_before(config, css, path, name))
 }
 
 /// Whether one image uses a path of this kind at a time.
@@ -131,5 +146,12 @@ fn lists_name<A: Allocator>(fields: &PathFields<A>, name: Name) -> bool
 fn has_name(names: &[Name], name: Name) -> bool
     ensures { result ≡ sight.has_name name names.now }
 {
-    names.iter().any(|other| name == *other)
+    names.iter().any(|other| is_same(name, other))
+}
+
+/// Whether two names are the same. They are compared as numbers.
+fn is_same(name: Name, other: &Name) -> bool
+    ensures { result ≡ model.same_name name other.now }
+{
+    name.cmp(other).is_eq()
 }

@@ -78,7 +78,7 @@ pub fn run_script<R: Read, C: Read + Drop, S: Read, W: Write + Drop, T: Threads 
     let trees = read_changes(alloc, heap, changes, limit);
     let script = read_script(alloc, script, limit, count);
     match cards {
-        Ok(cards) => run_on_deck(rt, alloc, &cards, trees, script, output),
+        Ok(cards) => run_on_deck(rt, alloc, cards, trees, script, output),
         Err(fault) => answer_unread(fault, output),
     }
 }
@@ -88,7 +88,7 @@ pub fn run_script<R: Read, C: Read + Drop, S: Read, W: Write + Drop, T: Threads 
 fn run_on_deck<W: Write + Drop, T: Threads + Wait + Sync>(
     rt: &T,
     alloc: Global,
-    deck: &[Card],
+    deck: Vec<Card>,
     trees: Result<Vec<Tree>, Fault>,
     script: Result<Script, Fault>,
     output: &mut Output<W>,
@@ -96,11 +96,11 @@ fn run_on_deck<W: Write + Drop, T: Threads + Wait + Sync>(
     requires fits { IfOk script (All FitsQueue) }
     ensures text { (ts : Result (List plain.CarriedTree) fault.Fault) (rounds : Result Rounds fault.Fault)
         → GivesIfReadable (λ v. map tree_of v.items) trees ts → GivesIfReadable (λ s. s) script rounds
-        → IfOk result (SaysOne W.contents output.old output.new (IsOfDeck (configuration_in deck.now) ts rounds)) }
+        → IfOk result (SaysOne W.contents output.old output.new (IsOfDeck (configuration_in deck.items) ts rounds)) }
     ensures works { OnOk result (has_failed output.new ≡ has_failed output.old) }
     ensures handed_on { OnOk result (IsHandedOn output.new) }
     ensures unreadable { result ≡ Err ConsoleError.Read → AreUnread trees script }
-    ensures first { IsRefused (configuration_in deck.now) → result ≡ Err ConsoleError.Read → ⊥ }
+    ensures first { IsRefused (configuration_in deck.items) → result ≡ Err ConsoleError.Read → ⊥ }
     ensures untouched { result ≡ Err ConsoleError.Read → output.new ≡ output.old }
     ensures unwritable { result ≡ Err ConsoleError.Write → has_failed output.new ≡ true }
 {

@@ -2,8 +2,8 @@ ghost use Rattle.std.specs.Prelude.{OnOk};
 ghost use Rattle.iocm_index.specs.Namings.{namings_of, HavePlaces};
 
 use iocm_index::{Index, list_namings};
-use iocm_record::{DeviceFields, Record, RecordBody};
-use iocm_types::{Chpid, Css, DevNo, Key, List, Name, Named, Naming, SetNo, UnitNo};
+use iocm_record::{DeviceFields, DeviceLists, Record, RecordBody};
+use iocm_types::{Chpid, Css, DevNo, Key, Name, Named, Naming, SetNo, UnitNo};
 use std::alloc::{AllocError, Global};
 use std::test::Fail;
 
@@ -19,12 +19,12 @@ fn device(number: u16) -> Key {
 }
 
 /// Control units of these numbers.
-fn units_of(alloc: Global, numbers: &[u16]) -> Result<List<UnitNo>, Fail> {
+fn units_of(alloc: Global, numbers: &[u16]) -> Result<Vec<UnitNo>, Fail> {
     let mut listed = Vec::new(alloc);
     for number in numbers {
         listed.push(UnitNo::new(*number).ok_or("a control unit")?)?;
     }
-    Ok(List::from_vec(listed))
+    Ok(listed)
 }
 
 /// The device of a number, with these control units. It is boxed, since whoever holds a record
@@ -34,10 +34,8 @@ fn device_of(alloc: Global, number: u16, units: &[u16]) -> Result<Box<Record>, F
     let fields = DeviceFields {
         set: SetNo::FIRST,
         number: DevNo::new(number),
-        units,
         unit_address: 0,
-        candidates: None,
-        carried: Vec::new(alloc),
+        lists: DeviceLists::new(alloc, units, None, Vec::new(alloc))?,
     };
     Ok(Box::new(alloc, Record::new(RecordBody::Device(fields)))?)
 }

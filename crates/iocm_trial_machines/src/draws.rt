@@ -1,7 +1,7 @@
 ghost use Rattle.std.specs.Prelude.{◌<◌};
 
 use iocm_plant::Plant;
-use iocm_record::{DeviceFields, PathFields, Record, RecordBody, UnitFields};
+use iocm_record::{DeviceFields, DeviceLists, PathFields, Record, RecordBody, UnitFields};
 use iocm_tree::Edit;
 use iocm_trial_decks::name;
 use iocm_types::{Chpid, Css, CssPath, DevNo, List, Mif, PathKind, SetNo, UnitNo, UnitRange};
@@ -76,10 +76,8 @@ fn draw_device_record(alloc: Global, dice: &mut Pcg32) -> Result<Record, Fail> {
     Ok(Record::new(RecordBody::Device(DeviceFields {
         set,
         number,
-        units: List::from_vec(units),
         unit_address: below(dice, 64) as u8,
-        candidates,
-        carried: Vec::new(alloc),
+        lists: DeviceLists::new(alloc, units, candidates, Vec::new(alloc))?,
     })))
 }
 
@@ -106,14 +104,15 @@ fn draw_unit_record(alloc: Global, dice: &mut Pcg32) -> Result<Record, Fail> {
         start: 0,
         count: 256,
     };
-    Ok(Record::new(RecordBody::Unit(UnitFields {
+    let fields = UnitFields {
         number,
         paths: List::from_vec(paths),
         ranges: List::from_vec(vec![in alloc; all]?),
         links: List::from_vec(Vec::new(alloc)),
         cuadd: Some((number.number() % 256) as u8),
         carried: Vec::new(alloc),
-    })))
+    };
+    Ok(Record::of_unit(alloc, fields)?)
 }
 
 /// A path of the second channel subsystem that one or two images list.
@@ -125,14 +124,15 @@ fn draw_path_record(alloc: Global, dice: &mut Pcg32) -> Result<Record, Fail> {
         candidates.push(name(b"LPD")?)?;
     }
     let access = vec![in alloc; name(b"LPC")?]?;
-    Ok(Record::new(RecordBody::Path(PathFields {
+    let fields = PathFields {
         css,
         number,
         kind: PathKind::Shared,
         access: List::from_vec(access),
         candidates: List::from_vec(candidates),
         carried: Vec::new(alloc),
-    })))
+    };
+    Ok(Record::of_path(alloc, fields)?)
 }
 
 /// That a path is online to an image.

@@ -1,6 +1,6 @@
 -- Units that share a link and a CUADD have a number in common. So where no number is there twice, no
 -- unit answers to an address of another.
-use Rattle.std.proofs.Common.{◌≡◌, ℕ, ◌+◌, ◌*◌, Bool, true, false, nat_eq, ◌&&◌, None, refl, ap, arith}
+use Rattle.std.proofs.Common.{◌≡◌, ℕ, ◌+◌, ◌*◌, Bool, true, false, nat_eq, ◌&&◌, None, refl, sym, ap, arith}
 use Rattle.std.proofs.lemmas.Bool.{false≢true}
 use Rattle.std.proofs.lemmas.Bool.Decides.{nat_tests}
 use Rattle.std.specs.List.{list_any, flat_map}
@@ -11,6 +11,7 @@ use Rattle.iocm_model.specs.Machine.Numbering.{subsystems}
 use Rattle.iocm_model.specs.Machine.Record.{Rec, UnitRecord, id, resource, image, limit, path, unit, device, online}
 use Rattle.iocm_model.specs.Rules.EachRule.{breaks_v14, answers_for, overlap, share_link, same_link, linked_paths, cuadd_or_zero, has_twice, some_before}
 use Rattle.iocm_lookup.specs.First.{first_key}
+use Rattle.iocm_lookup.proofs.KindWalks.{GivesOfKind}
 use Rattle.iocm_lookup.proofs.Apart.{Common, common_of_one, common_of_two, none_clashes}
 use Rattle.iocm_unit_rules.specs.LinkNumbers.{link_number, number_on, numbers_in, link_numbers}
 
@@ -21,6 +22,17 @@ first false b h = absurd (false≢true h)
 second : (a b : Bool) → (a && b) ≡ true → b ≡ true
 second true b h = h
 second false b h = absurd (false≢true h)
+
+-- records of other kinds have none
+pub only_units_give : GivesOfKind 5 link_numbers
+only_units_give (id x) is = refl
+only_units_give (resource x) is = refl
+only_units_give (image x) is = refl
+only_units_give (limit x) is = refl
+only_units_give (path x) is = refl
+only_units_give (unit x) is = absurd (false≢true (sym is))
+only_units_give (device x) is = refl
+only_units_give (online x) is = refl
 
 -- ---- one link has one number
 

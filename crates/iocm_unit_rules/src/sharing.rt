@@ -22,7 +22,7 @@ use crate::ranges::overlaps_any;
 use iocm_config::Config;
 use iocm_index::Index;
 use iocm_lookup::{Addressed, first_repeated, lesser};
-use iocm_record::{Record, RecordBody, UnitFields};
+use iocm_record::{PathFields, Record, RecordBody, UnitFields};
 use iocm_types::{CssPath, Key, Named, UnitRange};
 use std::alloc::Allocator;
 
@@ -67,15 +67,18 @@ fn shared_of<A: Allocator, I: Allocator>(
     ensures { result ≡ sharing.shared_of (lookup_of config.now.records) (rows naming_cmp index.now) entry.now }
 {
     match entry.body() {
-        RecordBody::Path(fields) => first_shared(
-            config,
-            index,
-            CssPath {
-                css: fields.css,
-                path: fields.number,
-            },
-        ),
+        RecordBody::Path(fields) => first_shared(config, index, own_path(fields)),
         _ => None,
+    }
+}
+
+/// A path with its channel subsystem.
+fn own_path<A: Allocator>(fields: &PathFields<A>) -> CssPath
+    ensures { result ≡ record { css = fields.now.css; path = fields.now.number } }
+{
+    CssPath {
+        css: fields.css,
+        path: fields.number,
     }
 }
 

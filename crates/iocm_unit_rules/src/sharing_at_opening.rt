@@ -11,7 +11,7 @@ ghost use Rattle.iocm_unit_rules.specs.LinkNumbers as numbers;
 use crate::links::{link_at, step};
 use crate::sharing::{cuadd_or_zero, first_shared_address};
 use iocm_config::Config;
-use iocm_lookup::{index_of, is_any_twice, subsystems};
+use iocm_lookup::{RecordKind, index_of, is_any_twice, records_of_kind, subsystems};
 use iocm_record::{Record, RecordBody, UnitFields};
 use iocm_types::{Chpid, Css, CssPath, Key, Link};
 use std::alloc::{AllocError, Allocator};
@@ -46,7 +46,7 @@ fn list_numbers<A: Allocator, B: Allocator>(
     ensures { IfOk result (λ listed. listed.items ≡ flat_map numbers.link_numbers (records_of config.now.records)) }
 {
     let mut listed = Vec::new(alloc);
-    for (_, entry) in config.walk() {
+    for entry in records_of_kind(config, RecordKind::Unit) {
         list_of_record(&mut listed, entry)?;
     }
     Ok(listed)

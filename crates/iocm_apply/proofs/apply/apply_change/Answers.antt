@@ -1,12 +1,13 @@
-use Rattle.std.proofs.Common.{◌≡◌, [], List, ℕ, IfOk}
+use Rattle.std.proofs.Common.{◌≡◌, [], List, ℕ, IfOk, refl}
 use Rattle.std.proofs.lemmas.Option.{IfSome_then}
 use Rattle.iocm_columns.specs.Cards.{cards_of}
 use Rattle.iocm_columns.specs.Device.{reader_of, unreadable}
 use Rattle.iocm_model.specs.Operation.State.{opening_state}
-use Rattle.iocm_console.specs.Opening.{SaysIfMemory}
+use Rattle.iocm_console.specs.Opening.{configuration_in, SaysIfMemory}
+use Rattle.iocm_console.proofs.Opened.{says_named}
 use Rattle.iocm_console.proofs.Showing.{refuses_lines, answers_whole}
-use Rattle.iocm_apply.specs.Apply.{applied, lines_tried}
-use Rattle.iocm_apply.proofs.Applying.{if_some_any, refused_lines}
+use Rattle.iocm_apply.specs.Apply.{applied, applied_to, lines_tried}
+use Rattle.iocm_apply.proofs.Applying.{applied_lines, if_some_any, refused_lines}
 use Rattle.iocm_apply.proofs.apply.apply_change.Goals as goal
 
 pub returns-in-Err-clause-known_bytes : goal.returns-in-Err-clause-known_bytes
@@ -28,6 +29,16 @@ pub returns-in-Err-clause-whole : goal.returns-in-Err-clause-whole
 returns-in-Err-clause-whole g c = answers_whole g.W.Write.contents c.args.output.now c.answer_unread.new.output c.read_cards.new.device
     c.answer_unread.result c.in-Err.fault c.answer_unread.ensures.readable c.in-Err.ensures.whole c.answer_unread.ensures.text
 
+pub returns-in-Ok-clause-some_bytes : goal.returns-in-Ok-clause-some_bytes
+returns-in-Ok-clause-some_bytes g c = let deck = c.in-Ok.ensures.some_bytes in let change = c.read_cards-lines.ensures.some_bytes in (
+  deck.0,
+  change.0,
+  says_named g.W.Write.contents c.args.output.now c.apply_to_deck.new.output c.apply_to_deck.result
+      (applied_to c.args.report (configuration_in c.in-Ok.cards.items) (cards_of change.0)) (applied c.args.report deck.0 change.0)
+      (applied_lines (λ v. v.items) c.in-Ok.cards deck.0 deck.1 c.args.report change.0)
+      (c.apply_to_deck.ensures.text (cards_of change.0) change.1),
+)
+
 -- a deck that can't be read is the one that L5 is about
 pub returns-in-Err-clause-first : goal.returns-in-Err-clause-first
 returns-in-Err-clause-first g c = IfSome_then (g.R.Read.remaining (reader_of c.args.deck.now)) c.in-Err.ensures.known_bytes
@@ -36,4 +47,4 @@ returns-in-Err-clause-first g c = IfSome_then (g.R.Read.remaining (reader_of c.a
 -- and one whose lines were read is refused by them
 pub returns-in-Ok-clause-first : goal.returns-in-Ok-clause-first
 returns-in-Ok-clause-first g c = IfSome_then (g.R.Read.remaining (reader_of c.args.deck.now)) c.in-Ok.ensures.known_bytes
-    (λ bytes read bad short. absurd (c.apply_to_deck.ensures.first (refused_lines (λ v. v.items) c.in-Ok.cards c.deref.result.now bytes c.deref.ensures.value read bad) short))
+    (λ bytes read bad short. absurd (c.apply_to_deck.ensures.first (refused_lines (λ v. v.items) c.in-Ok.cards c.in-Ok.cards.items bytes refl read bad) short))

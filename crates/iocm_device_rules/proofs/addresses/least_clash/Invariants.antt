@@ -3,7 +3,7 @@ use Rattle.std.proofs.Common.{◌≡◌, None}
 use Rattle.iocm_types.specs.Naming.{naming_cmp}
 use Rattle.iocm_table.specs.Slots.{rows}
 use Rattle.iocm_model.specs.Machine.Configuration.{lookup_of, records_of}
-use Rattle.iocm_lookup.proofs.Walks.{in_entries}
+use Rattle.iocm_lookup.specs.Entries.{in_entries}
 use Rattle.iocm_lookup.specs.Among.{least_of}
 use Rattle.iocm_device_rules.specs.Addresses.{clash_of}
 use Rattle.iocm_device_rules.proofs.addresses.least_clash.Given as goal

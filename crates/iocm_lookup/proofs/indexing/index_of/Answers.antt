@@ -10,7 +10,7 @@ use Rattle.iocm_types.specs.Naming.{naming_cmp}
 use Rattle.iocm_index.specs.Namings.{is_naming_of, namings_of}
 use Rattle.iocm_model.specs.Machine.Configuration.{records_of}
 use Rattle.iocm_lookup.proofs.Linking.{of_some_record, more_listed, none_listed}
-use Rattle.iocm_lookup.proofs.Walks.{in_entries}
+use Rattle.iocm_lookup.specs.Entries.{in_entries}
 use Rattle.iocm_lookup.proofs.indexing.index_of.Goals as goal
 
 pub loop-entry-init : goal.loop-entry-init

@@ -6,7 +6,7 @@ use Rattle.iocm_types.specs.declared.naming.Naming.{Naming}
 use Rattle.iocm_types.specs.Naming.{naming_cmp}
 use Rattle.iocm_index.specs.Namings.{is_naming_of}
 use Rattle.iocm_model.specs.Machine.Configuration.{records_of}
-use Rattle.iocm_lookup.proofs.Walks.{in_entries}
+use Rattle.iocm_lookup.specs.Entries.{in_entries}
 use Rattle.iocm_lookup.proofs.indexing.index_of.Given as goal
 
 abbrev pub invariant-loop-entry : goal.invariant-loop-entry

@@ -8,7 +8,7 @@ use Rattle.iocm_rules.proofs.first_breach.first_from_v9.Goals as goal
 
 pub returns : goal.returns
 returns g c n is = c.first_of.ensures ∙ found_is
-    ((V9, c.first_wanted_by_named.result) ∷ (V10, c.args.searched.now.twice) ∷ (V11, c.first_wanted.result) ∷ (V12, c.first_wanted-2.result)
+    ((V9, c.first_wanted_by_named.result) ∷ (V10, c.args.searched.now.twice) ∷ (V11, c.args.devices.now.path_list) ∷ (V12, c.args.devices.now.candidates)
     ∷ (V13, c.args.searched.now.past) ∷ (V14, c.args.searched.now.shared) ∷ [])
     (from_v9 c.args.config.now.records n) (records_of c.args.config.now.records) (
       refl,
@@ -21,8 +21,8 @@ returns g c n is = c.first_of.ensures ∙ found_is
             (
               refl,
               (
-                c.first_wanted.ensures,
-                (refl, (c.first_wanted-2.ensures, (refl, (is, (refl, (c.requires.shared, tt)))))),
+                c.requires.path_list,
+                (refl, (c.requires.candidates, (refl, (is, (refl, (c.requires.shared, tt)))))),
               ),
             ),
           ),

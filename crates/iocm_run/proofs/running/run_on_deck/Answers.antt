@@ -14,8 +14,8 @@ returns-in-Ok-clause-text g c ts rounds trees script =
 
 pub returns-in-Err-clause-text : goal.returns-in-Err-clause-text
 returns-in-Err-clause-text g c ts rounds trees script =
-    says_fails g.W.Write.contents c.args.output.now c.refuse.new.output (IsOfDeck (configuration_in c.args.deck.now) ts rounds) c.refuse.result
-    (configuration_in c.args.deck.now) c.in-Err.fault c.in-Err.ensures (λ e. subst (λ r. IsOfDeck r ts rounds (refused c.in-Err.fault)) (sym e) refl) c.refuse.ensures.text
+    says_fails g.W.Write.contents c.args.output.now c.refuse.new.output (IsOfDeck (configuration_in c.args.deck.items) ts rounds) c.refuse.result
+    (configuration_in c.args.deck.items) c.in-Err.fault c.in-Err.ensures (λ e. subst (λ r. IsOfDeck r ts rounds (refused c.in-Err.fault)) (sym e) refl) c.refuse.ensures.text
 
 pub returns-in-Ok-clause-first : goal.returns-in-Ok-clause-first
 returns-in-Ok-clause-first g c = λ bad short. c.run_on_config.ensures.first (subst IsRefused c.in-Ok.ensures bad) short

@@ -1,16 +1,13 @@
 -- The texts that were read, and what was said of them.
-use Rattle.std.proofs.Common.{◌≡◌, Ok, Err, refl, sym, subst, ◌∙◌}
+use Rattle.std.proofs.Common.{◌≡◌, Ok, Err, refl, sym, ◌∙◌}
 use Rattle.std.proofs.lemmas.Option.{IfSome_then}
 use Rattle.iocm_columns.specs.Cards.{cards_of}
 use Rattle.iocm_columns.specs.Device.{reader_of, unreadable, GivesIfReadable}
 use Rattle.iocm_script.specs.Scripts.{script_in}
-use Rattle.iocm_console.specs.Opening.{configuration_in}
 use Rattle.iocm_apply.proofs.Applying.{refused_lines}
-use Rattle.iocm_run.specs.Run.{IsOfDeck, SaysOne}
 use Rattle.iocm_run.specs.Texts.{trees_read}
 use Rattle.iocm_run.proofs.Reading.{picked, texts_are_as_many, which_unread}
 use Rattle.iocm_run.proofs.Saying.{says_no_lines, says_of_texts, there}
-use Rattle.std.specs.Prelude.{IfOk}
 use Rattle.iocm_run.proofs.running.run_script.Goals as goal
 
 pub returns-in-Ok-clause-text : goal.returns-in-Ok-clause-text
@@ -32,8 +29,7 @@ returns-in-Ok-clause-text g c =
       deck.1,
       decks.1,
       lines.1,
-      says_of_texts g.W.Write.contents c.args.output.now c.run_on_deck.new.output c.run_on_deck.result deck.0 decks.0 lines.0 cards.items c.len-count.result count deck.2
-          (subst (λ ls. IfOk c.run_on_deck.result (SaysOne g.W.Write.contents c.args.output.now c.run_on_deck.new.output (IsOfDeck (configuration_in ls) (trees_read decks.0) (script_in c.len-count.result lines.0)))) c.deref.ensures.value says),
+      says_of_texts g.W.Write.contents c.args.output.now c.run_on_deck.new.output c.run_on_deck.result deck.0 decks.0 lines.0 cards.items c.len-count.result count deck.2 says,
     )
 
 pub returns-in-Err-clause-text : goal.returns-in-Err-clause-text
@@ -62,7 +58,7 @@ returns-in-Err-clause-first g c =
 pub returns-in-Ok-clause-first : goal.returns-in-Ok-clause-first
 returns-in-Ok-clause-first g c =
     IfSome_then (g.R.Read.remaining (reader_of c.args.deck.now)) c.in-Ok.ensures.known_bytes (λ bytes read bad short.
-    let lines = refused_lines (λ v. v.items) c.in-Ok.cards c.deref.result.now bytes c.deref.ensures.value read bad in
+    let lines = refused_lines (λ v. v.items) c.in-Ok.cards c.in-Ok.cards.items bytes refl read bad in
     absurd (c.run_on_deck.ensures.first lines short))
 
 -- what can't be read is a change deck or the script

@@ -1,0 +1,82 @@
+-- Devices that break one of some rules: where none does, none breaks either of them.
+use Rattle.std.proofs.Common.{◌≡◌, ℕ, Bool, true, false, cond, not, is_none, unwrap_or, ◌&&◌, ◌||◌, Option, None, Some, List, [], ◌∷◌, refl, sym, ap, ◌∙◌}
+use Rattle.std.proofs.lemmas.Bool.{false≢true}
+use Rattle.std.specs.List.{list_any}
+use Rattle.std.specs.Option.{option_map}
+use Rattle.iocm_model.specs.Machine.Configuration.{Configuration, records_of}
+use Rattle.iocm_model.specs.Machine.Record.{Rec, id, resource, image, limit, path, unit, device, online, key_of}
+use Rattle.iocm_model.specs.Rules.EachRule.{breaks_v8, breaks_v11, breaks_v12, is_image}
+use Rattle.iocm_model.specs.Rules.FirstBreach.{first_record}
+use Rattle.iocm_lookup.specs.First.{first_key}
+use Rattle.iocm_device_rules.specs.SameUnits.{AreOnSameUnits}
+use Rattle.iocm_device_rules.specs.WrongDevices.{breaks_any, is_without_candidates}
+use Rattle.iocm_device_rules.proofs.LikeDevices.{alike}
+
+-- ---- devices that are like each other
+
+none_listed : (is_so : List ℕ → Bool) (candidates : Option (List (List ℕ))) → is_none candidates ≡ true → list_any is_so (unwrap_or candidates []) ≡ false
+none_listed is_so None is = refl
+none_listed is_so (Some names) is = absurd (false≢true is)
+
+keeps_v12 : (c : Configuration) (r : Rec) → is_without_candidates r ≡ true → breaks_v12 c r ≡ false
+keeps_v12 c (device d) is = none_listed (λ name. not (is_image c name)) d.candidates is
+keeps_v12 c (id x) is = absurd (false≢true is)
+keeps_v12 c (resource x) is = absurd (false≢true is)
+keeps_v12 c (image x) is = absurd (false≢true is)
+keeps_v12 c (limit x) is = absurd (false≢true is)
+keeps_v12 c (path x) is = absurd (false≢true is)
+keeps_v12 c (unit x) is = absurd (false≢true is)
+keeps_v12 c (online x) is = absurd (false≢true is)
+
+first_of_both : (a b : Bool) → (a && b) ≡ true → a ≡ true
+first_of_both true b is = refl
+first_of_both false b is = absurd (false≢true is)
+
+second_of_both : (a b : Bool) → (a && b) ≡ true → b ≡ true
+second_of_both true b is = is
+second_of_both false b is = absurd (false≢true is)
+
+-- devices on the same units that list no candidates break the rules alike
+pub break_alike : (c : Configuration) (a b : Rec) → AreOnSameUnits a b → (is_without_candidates a && is_without_candidates b) ≡ true
+    → breaks_any c a ≡ breaks_any c b
+break_alike c a b same without =
+    let v12 = keeps_v12 c a (first_of_both (is_without_candidates a) (is_without_candidates b) without)
+    ∙ sym (keeps_v12 c b (second_of_both (is_without_candidates a) (is_without_candidates b) without)) in
+    (λ i. alike (breaks_v8 c) (λ d. refl) a b same i || (alike (breaks_v11 c) (λ d. refl) a b same i || v12 i))
+
+-- ---- where none breaks any of the rules
+
+module _ (p q : Rec → Bool) (less : (r : Rec) → q r ≡ false → p r ≡ false) where
+  none_first : (rs : List Rec) → list_any q rs ≡ false → None ≡ option_map key_of (first_record p rs)
+  unfolding first_record
+  none_first [] none = refl
+  none_first (r ∷ rs) none = by (q r) refl none (none_first rs)
+    where
+      by : (b : Bool) → q r ≡ b → (b || list_any q rs) ≡ false → (list_any q rs ≡ false → None ≡ option_map key_of (first_record p rs))
+          → None ≡ option_map key_of (cond (p r) (Some r) (first_record p rs))
+      by true is h more = absurd (false≢true (sym h))
+      by false is h more = more h ∙ ap (λ b. option_map key_of (cond b (Some r) (first_record p rs))) (sym (less r is))
+
+first_of_three : (a b c : Bool) → (a || (b || c)) ≡ false → a ≡ false
+first_of_three true b c is = absurd (false≢true (sym is))
+first_of_three false b c is = refl
+
+second_of_three : (a b c : Bool) → (a || (b || c)) ≡ false → b ≡ false
+second_of_three true b c is = absurd (false≢true (sym is))
+second_of_three false true c is = absurd (false≢true (sym is))
+second_of_three false false c is = refl
+
+third_of_three : (a b c : Bool) → (a || (b || c)) ≡ false → c ≡ false
+third_of_three true b c is = absurd (false≢true (sym is))
+third_of_three false true c is = absurd (false≢true (sym is))
+third_of_three false false c is = is
+
+module _ (c : Configuration) (none : list_any (breaks_any c) (records_of c) ≡ false) where
+  pub v8_is_kept : None ≡ first_key (breaks_v8 c) c
+  v8_is_kept = none_first (breaks_v8 c) (breaks_any c) (λ r. first_of_three (breaks_v8 c r) (breaks_v11 c r) (breaks_v12 c r)) (records_of c) none
+
+  pub v11_is_kept : None ≡ first_key (breaks_v11 c) c
+  v11_is_kept = none_first (breaks_v11 c) (breaks_any c) (λ r. second_of_three (breaks_v8 c r) (breaks_v11 c r) (breaks_v12 c r)) (records_of c) none
+
+  pub v12_is_kept : None ≡ first_key (breaks_v12 c) c
+  v12_is_kept = none_first (breaks_v12 c) (breaks_any c) (λ r. third_of_three (breaks_v8 c r) (breaks_v11 c r) (breaks_v12 c r)) (records_of c) none
