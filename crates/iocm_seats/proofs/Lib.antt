@@ -1,3 +1,4 @@
+pub mod Added
 pub mod Busy
 pub mod Exchanged
 pub mod Lending

@@ -29,23 +29,13 @@ pub fn open_seats<A: Allocator, B: Allocator, C: Allocator + Clone>(
 {
     // For the proof alone: each record stands under its own key, so no subchannel is listed twice.
     config.has_own_keys();
-    let listed = list_seats(alloc.clone()?, config, numbers)?;
-    Seats::from_rows(alloc, listed)
-}
-
-/// The rows of the seats, in the order of subchannels.
-fn list_seats<A: Allocator, B: Allocator, C: Allocator>(
-    alloc: C,
-    config: &Config<A>,
-    numbers: &Numbers<B>,
-) -> Result<Vec<(SubId, Seat), C>, AllocError>
-    ensures { IfOk result (λ listed. listed.items ≡ map fresh_seat (views config.now.records numbers.now.numbers)) }
-{
-    let mut listed = Vec::new(alloc);
+    let mut seats = Seats::new(alloc.clone()?);
     for (_, entry) in config.walk() {
+        let mut listed = Vec::new(alloc.clone()?);
         list_record(&mut listed, config, numbers, entry)?;
+        seats.add_all(listed)?;
     }
-    Ok(listed)
+    Ok(seats)
 }
 
 /// Puts the seats of a record behind those that are listed, if it is that of an image.

@@ -1,26 +1,23 @@
-ghost use Rattle.std.specs.Prelude.{◌≡◌, [], IfOk, OnOk};
+ghost use Rattle.std.specs.Prelude.{◌≡◌, [], OnOk, fold};
 ghost use Rattle.std.specs.Borrow.{sem};
-ghost use Rattle.std.specs.List.{IsDistinct};
-ghost use Rattle.std.specs.Map.{keys_of};
 ghost use Rattle.std.specs.Option.{option_copied, option_copied_mut};
-ghost use Rattle.std.specs.Ordering.{eq_by_cmp};
 ghost use Rattle.std.specs.FinMap as map;
-ghost use Rattle.iocm_types.specs.SubId.{sub_id_cmp};
 ghost use Rattle.iocm_seats.specs.Lent.{lends_seat};
+ghost use Rattle.iocm_seats.specs.Listing.{with_seat};
 ghost use Rattle.iocm_seats.specs.Seated.{views_seated, lives_seated, HasPlace, KeepsPlaces, SeatsHavePlaces};
 
 use crate::Seat;
-use iocm_table::Table;
+use iocm_grid::Grid;
 use iocm_types::{Live, SubId, View};
 use std::alloc::{AllocError, Allocator, Global};
 use std::marker::Model;
 
-/// The seats of a machine, by subchannel. A subchannel whose seat is taken out keeps its place.
-/// Contracts see the finite map of the seats, and the subchannels that have a place, which can be
-/// given a seat without memory.
+/// The seats of a machine, by subchannel, each found by its place. A subchannel whose seat is taken
+/// out keeps its place. Contracts see the finite map of the seats, and the subchannels that have a
+/// place, which can be given a seat without memory.
 #[derive(Drop)]
 pub struct Seats<A: Allocator = Global> {
-    table: Table<SubId, Seat, A>,
+    grid: Grid<Seat, A>,
 }
 
 impl<A: Allocator> Model for Seats<A> {
@@ -28,8 +25,6 @@ impl<A: Allocator> Model for Seats<A> {
     ghost use Rattle.std.specs.FinMap as map;
     ghost use Rattle.std.specs.Coded.{code_by, coded×, coded_list, codes};
     ghost use Rattle.iocm_types.specs.declared.sub_id.SubId.{SubId};
-    ghost use Rattle.iocm_types.specs.SubId.{sub_id_cmp};
-    ghost use Rattle.iocm_table.specs.Slots.{rows};
     ghost use Rattle.iocm_seats.specs.Seated as seated;
 
     ghost Value = { seated.Seated };
@@ -38,7 +33,7 @@ impl<A: Allocator> Model for Seats<A> {
         (coded× (map.code (Prim.hlevel codes) (Prim.hlevel codes)) (coded_list (Prim.hlevel codes)))
         (λ s. (s.seats, s.places)) (λ p. record { seats = p.0; places = p.1 }) (λ _. refl) };
 
-    ghost view = { λ s. record { seats = rows sub_id_cmp s.table; places = s.table.places } };
+    ghost view = { λ s. record { seats = s.grid.rows; places = s.grid.places } };
 }
 
 impl<A: Allocator> Seats<A> {
@@ -48,39 +43,41 @@ impl<A: Allocator> Seats<A> {
         ensures places { result.places ≡ [] }
     {
         Seats {
-            table: Table::new(alloc),
+            grid: Grid::new(alloc),
         }
     }
 
-    /// The seats of these rows, no two of which are of one subchannel. The time is in proportion to
-    /// their number where they stand in the order of subchannels, and else to that of sorting them.
+    /// Gives each subchannel of these rows its seat, one after the other.
     ///
-    /// `AllocError` (M1): memory was wanted.
-    pub(crate) fn from_rows<B: Allocator>(
-        alloc: A,
+    /// `AllocError` (M1): memory was wanted. Then those that come first may have got theirs.
+    pub(crate) fn add_all<B: Allocator>(
+        &mut self,
         listed: Vec<(SubId, Seat), B>,
-    ) -> Result<Self, AllocError>
+    ) -> Result<(), AllocError>
     where
         A: Clone,
-        requires { IsDistinct (eq_by_cmp sub_id_cmp) (keys_of listed.items) }
-        ensures { IfOk result (λ s. s.seats ≡ map.from_entries listed.items) }
+        ensures { OnOk result (self.new.seats ≡ fold with_seat self.old.seats listed.items) }
     {
-        let table = Table::from_rows(alloc, listed)?;
-        Ok(Seats { table })
+        for row in listed {
+            let (subchannel, seat) = row;
+            self.room(subchannel)?;
+            let _ = self.put(&subchannel, seat);
+        }
+        Ok(())
     }
 
     /// How many seats there are.
     pub fn len(&self) -> usize
         ensures { result ≡ map.len self.now.seats }
     {
-        self.table.len()
+        self.grid.len()
     }
 
     /// The seat of a subchannel, if it has one.
     pub fn get(&self, subchannel: &SubId) -> Option<&Seat>
         ensures { option_copied result ≡ map.get self.now.seats subchannel.now }
     {
-        self.table.get(subchannel)
+        self.grid.get(subchannel)
     }
 
     /// The seat of a subchannel, to be changed in its place, by one search. Can't answer want of
@@ -89,7 +86,7 @@ impl<A: Allocator> Seats<A> {
         ensures* writes_back { sem 𝓛 (lends_seat A.row A.Allocator self.entry subchannel.now result) }
         ensures value { option_copied_mut result ≡ map.get self.old.seats subchannel.now }
     {
-        self.table.get_mut(subchannel)
+        self.grid.get_mut(subchannel)
     }
 
     /// What is seen at a subchannel, if it has a seat.
@@ -117,7 +114,7 @@ impl<A: Allocator> Seats<A> {
     pub fn has_places(&self)
         ensures { SeatsHavePlaces self.now }
     {
-        self.table.has_places();
+        self.grid.has_places();
     }
 
     /// Gives a subchannel a place, if it has none. No other loses its place, and no seat changes.
@@ -130,7 +127,7 @@ impl<A: Allocator> Seats<A> {
         ensures ok { OnOk result (HasPlace self.new subchannel) }
         ensures kept { KeepsPlaces self.old self.new }
     {
-        self.table.room(subchannel)
+        self.grid.room(&subchannel)
     }
 
     /// Gives a subchannel that has a place a seat, and gives back the one that it had. Can't answer
@@ -141,7 +138,7 @@ impl<A: Allocator> Seats<A> {
         ensures seats { self.new.seats ≡ map.insert self.old.seats subchannel.now seat }
         ensures places { self.new.places ≡ self.old.places }
     {
-        self.table.put(subchannel, seat)
+        self.grid.put(subchannel, seat)
     }
 
     /// Takes the seat of a subchannel out, if it has one. Its place stays. Can't answer want of
@@ -151,6 +148,6 @@ impl<A: Allocator> Seats<A> {
         ensures seats { self.new.seats ≡ map.remove self.old.seats subchannel.now }
         ensures places { self.new.places ≡ self.old.places }
     {
-        self.table.take(subchannel)
+        self.grid.take(subchannel)
     }
 }

@@ -1,0 +1,4 @@
+pub mod Gridded
+pub mod Lent
+pub mod Level
+pub mod Levels
