@@ -4,4 +4,5 @@ pub mod GroupWalks
 pub mod InRange
 pub mod Leading
 pub mod SameKeys
+pub mod SameNames
 pub mod Unaffected

@@ -1,5 +1,5 @@
 -- What a key doesn't lead to is unaffected by a change of its record.
-use Rattle.std.proofs.Common.{◌≡◌, ℕ, zero, suc, ◌<◌, Bool, true, false, cond, ◌&&◌, nat_eq, List, [], ◌∷◌, Option, Some, None, is_some, refl, sym, ap, subst, ◌∙◌, arith}
+use Rattle.std.proofs.Common.{◌≡◌, ℕ, zero, suc, ◌<◌, Bool, true, false, not, cond, ◌&&◌, nat_eq, List, [], ◌∷◌, Option, Some, None, is_some, refl, sym, ap, subst, ◌∙◌, arith}
 use Rattle.std.proofs.lemmas.Bool.{false≢true}
 use Rattle.std.proofs.lemmas.List.Folds.{list_any-append}
 use Rattle.std.specs.Cmp.Lexicographic.{nat_list_eq_equiv}
@@ -23,7 +23,8 @@ use Rattle.iocm_table.specs.Slots.{Stored}
 use Rattle.iocm_model.specs.Change.Maps.{with_value}
 use Rattle.iocm_model.specs.Machine.Record.{Rec, ImageRecord, DeviceRecord, key_of, id, resource, image, limit, path, unit, device, online}
 use Rattle.iocm_model.specs.Machine.Configuration.{Configuration, IsKeyed, lookup_of, records_of, as_image, as_device}
-use Rattle.iocm_model.specs.Machine.Numbering.{subsystems, is_record_reached, is_reached_at}
+use Rattle.iocm_model.specs.Machine.Numbering.{subsystems, is_empty, is_record_reached, is_reached_at}
+use Rattle.iocm_model.specs.Machine.PathList.{path_list}
 use Rattle.iocm_model.specs.Machine.View.{view_if_seen, device_record, image_view}
 use Rattle.iocm_model.specs.Rules.EachRule.{same_name}
 use Rattle.iocm_model.proofs.Machine.OwnKeys.{keyed_own, own_keyed}
@@ -35,7 +36,7 @@ use Rattle.iocm_affected.specs.declared.images.Group.{Group}
 use Rattle.iocm_affected.specs.declared.images.Group.TheVariants.{All, In, Named as NamedIn}
 use Rattle.iocm_affected.specs.Affected.{sight_at, image_at, AreAllAffected}
 use Rattle.iocm_affected.specs.Listing.{places_of_name, places_of_image, led_places, is_of, images_at, images_in, led_images}
-use Rattle.iocm_affected.proofs.Agreement.{or_first, or_second, IsIn, own_number, AgreeBut, IsApart, same_reach, same_view}
+use Rattle.iocm_affected.proofs.Agreement.{or_first, or_second, IsIn, own_number, AgreeBut, IsApart, same_if_seen, same_reach, same_view}
 use Rattle.iocm_affected.proofs.Chains.{any_of_parts}
 use Rattle.iocm_affected.proofs.InRange.{same_in_range}
 use Rattle.iocm_affected.proofs.Leading.{IsAmong, device_led, unit_led, path_led, not_seen}
@@ -257,6 +258,75 @@ module _ (c : Configuration) (changed : Key) (after : Option Rec) (keyed : IsKey
         let all : list_any (eq_by_cmp image_cmp (image_at mif p)) (images_in All c) ≡ true =
         in_group r (image_is (lookup_of c (key.Image p.css mif)) r is) All refl in
         same_in_range c then p (λ low few. same_place p low few (looks_not (key.Device p.set p.device) all) (λ d here u among. looks_not (key.Unit u) all)))
+
+  -- ---- a device that keeps its control units and candidates
+
+  module _ (old new : DeviceRecord) (was : lookup_of c changed ≡ Some (device old)) (is : after ≡ Some (device new))
+      (units : old.units ≡ new.units) (candidates : old.candidates ≡ new.candidates) where
+    its_key : changed ≡ key.Device old.set old.number
+    its_key = sym (keyed_own c keyed changed (device old) was)
+
+    same_number : old.number ≡ new.number
+    same_number = let same : key.Device new.set new.number ≡ key.Device old.set old.number = own (device new) is ∙ its_key in cc
+
+    no_unit : (u : ℕ) → key.Unit u ≡ changed → ⊥
+    no_unit u e = let bad : key.Unit u ≡ key.Device old.set old.number = e ∙ its_key in cc
+
+    no_part : (css : ℕ) (name : List ℕ) (r : DeviceRecord) → IsApart changed (lookup_of c) css name r
+    no_part css name r = record {
+      units = λ u among e. no_unit u e;
+      paths = λ n among e. let bad : key.Path css n ≡ key.Device old.set old.number = e ∙ its_key in cc;
+      online = λ n among e. let bad : key.Online css n name ≡ key.Device old.set old.number = e ∙ its_key in cc;
+    }
+
+    -- what is seen depends on the control units, the candidates and the number alone
+    seen_with : ℕ → List ℕ → List ℕ → Option (List (List ℕ)) → ℕ → Option View
+    seen_with css name us cs n = view_if_seen (lookup_of then) css name (record { set = old.set; number = n; units = us; unit_address = old.unit_address; candidates = cs; carried = old.carried })
+
+    seen_changed : (p : Place) → key.Device p.set p.device ≡ changed → (name : List ℕ) → seen c p name ≡ seen then p name
+    unfolding seen_with
+    seen_changed p e name =
+        ap (λ (o : Option Rec). option_and_then (view_if_seen (lookup_of c) p.css name) (option_and_then as_device o)) (ap (lookup_of c) e ∙ was)
+        ∙ same_if_seen changed (lookup_of c) (lookup_of then) agree p.css name old (no_part p.css name old)
+        ∙ (λ i. seen_with p.css name (units i) (candidates i) (same_number i))
+        ∙ sym (ap (λ (o : Option Rec). option_and_then (view_if_seen (lookup_of then) p.css name) (option_and_then as_device o)) (ap (lookup_of then) e ∙ now_there ∙ is))
+
+    seen_same : (p : Place) (name : List ℕ) → seen c p name ≡ seen then p name
+    seen_same p name = by (eq_by_cmp key_cmp (key.Device p.set p.device) changed) refl
+      where
+        by : (b : Bool) → eq_by_cmp key_cmp (key.Device p.set p.device) changed ≡ b → seen c p name ≡ seen then p name
+        by true e = seen_changed p (same_key key_cmp keys_exact (key.Device p.set p.device) changed e) name
+        by false e = same_seen p name
+            (λ q. false≢true (sym e ∙ ap (eq_by_cmp key_cmp (key.Device p.set p.device)) (sym q) ∙ ties_itself key_cmp keys_total (key.Device p.set p.device)))
+            (λ r there. no_part p.css name r)
+
+    sight_same : (p : Place) (mif : ℕ) → sight_at c mif p ≡ sight_at then mif p
+    sight_same p mif = same_sight p mif (λ e. let bad : key.Image p.css mif ≡ key.Device old.set old.number = e ∙ its_key in cc) (λ r there. seen_same p r.name)
+
+    reached_changed : (p : Place) → p.css < 6 → p.set < 4 → key.Device p.set p.device ≡ changed → is_reached_at c p ≡ is_reached_at then p
+    reached_changed p low few e = reached_places_are_of_devices c p keyed low few
+        ∙ ap (is_record_reached (lookup_of c) p.css) (ap (lookup_of c) e ∙ was)
+        ∙ same_reach changed (lookup_of c) (lookup_of then) agree p.css (Some (device old)) (λ r there u among q. no_unit u q)
+        ∙ ap (λ us. not (is_empty (path_list (lookup_of then) p.css us))) units
+        ∙ sym (ap (is_record_reached (lookup_of then) p.css) (ap (lookup_of then) e ∙ now_there ∙ is))
+        ∙ sym (reached_places_are_of_devices then p keyed_then low few)
+
+    reached_same : (p : Place) → is_reached_at c p ≡ is_reached_at then p
+    reached_same p = same_in_range c then p (λ low few. by low few (eq_by_cmp key_cmp (key.Device p.set p.device) changed) refl)
+      where
+        by : p.css < 6 → p.set < 4 → (b : Bool) → eq_by_cmp key_cmp (key.Device p.set p.device) changed ≡ b → is_reached_at c p ≡ is_reached_at then p
+        by low few true e = reached_changed p low few (same_key key_cmp keys_exact (key.Device p.set p.device) changed e)
+        by low few false e = same_place p low few
+            (λ q. false≢true (sym e ∙ ap (eq_by_cmp key_cmp (key.Device p.set p.device)) (sym q) ∙ ties_itself key_cmp keys_total (key.Device p.set p.device)))
+            (λ r there u among q. no_unit u q)
+
+    pub none_affected : AreAllAffected c then [] []
+    none_affected = record {
+      reached = λ p out. reached_same p;
+      off_places = λ p mif low out. sight_same p mif;
+      off_images = λ p mif out. sight_same p mif;
+      stays = λ p mif out found. reached_same p;
+    }
 
   -- all that may be affected is listed
   pub all_affected : (t : Stored Naming (Unit {0})) → IsIndexOf c t → (places : List Place) (seeing : List images.Image)

@@ -1,2 +1,3 @@
 pub mod Affected
+pub mod Alike
 pub mod Listing

@@ -8,6 +8,7 @@ ghost use Rattle.iocm_model.specs.Machine.Record.{key_of};
 ghost use Rattle.iocm_lookup.specs.Indexed.{IsIndexOf};
 ghost use Rattle.iocm_affected.specs.Affected.{AreAllAffected};
 
+use crate::alike::are_seen_alike;
 use crate::images::led_images;
 use crate::places::list_led;
 use iocm_config::Config;
@@ -29,7 +30,7 @@ pub struct Affected<A: Allocator = Global> {
 /// What may be affected where the record of a key becomes another, or none, or where it comes in.
 /// The index is that of the configuration before the change. The time is that of sorting the places
 /// that lead to the key, and of a walk over the images; a device of which several paths lead there
-/// counts as often.
+/// counts as often. A device that keeps its control units and its candidates affects nothing.
 ///
 /// `AllocError` (M1): memory was wanted.
 pub fn affected_by<A: Allocator, B: Allocator, C: Allocator + Clone>(
@@ -47,15 +48,15 @@ pub fn affected_by<A: Allocator, B: Allocator, C: Allocator + Clone>(
     ensures images_rise { IfOk result (λ a. IsStrictlySortedBy image_cmp a.images.items) }
 {
     config.has_own_keys();
+    let before = config.get(key);
+    if are_seen_alike(before, after) {
+        return Ok(Affected {
+            places: Vec::new(alloc.clone()?),
+            images: Vec::new(alloc),
+        });
+    }
     let mut listed = Vec::new(alloc.clone()?);
-    list_led(
-        alloc.clone()?,
-        &mut listed,
-        index,
-        key,
-        config.get(key),
-        after,
-    )?;
+    list_led(alloc.clone()?, &mut listed, index, key, before, after)?;
     let images = led_images(alloc, config, key)?;
     // A device may be met on two of its units.
     let places = sorted_once(listed)?;

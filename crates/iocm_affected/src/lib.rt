@@ -14,6 +14,7 @@
 //! Begin with `specs/Affected.antt`, then `changed.rt`. What names no source is our own.
 #![tactic(auto)]
 
+mod alike;
 mod changed;
 mod images;
 mod places;
