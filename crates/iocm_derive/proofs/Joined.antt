@@ -41,3 +41,6 @@ pub units_opened : (c : Lookup) (css : ℕ) (us : List ℕ) (i u : ℕ) (shown :
 units_opened c css us i u shown within item is =
     ap (path_list c css) (drop-item us i u within item)
     ∙ ap (λ ps. ps ++ path_list c css (drop (i + 1) us)) (of_unit css (c (key.Unit u)) ∙ ap (paths_in css) (sym is))
+
+pub units_past : (c : Lookup) (css : ℕ) (us : List ℕ) (i : ℕ) → length us ≤ i → path_list c css (drop i us) ≡ []
+units_past c css us i past = ap (path_list c css) (drop_of_length-le us past)

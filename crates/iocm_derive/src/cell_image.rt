@@ -8,7 +8,6 @@ ghost use Rattle.iocm_record.specs.Meaning.{device_of};
 use crate::cell_sight::CellSight;
 use crate::lookup::is_path_online;
 use crate::masks::installed_paths;
-use crate::paths::copy_paths;
 use crate::reach::Reach;
 use crate::reaching::is_reached;
 use crate::sight::is_candidate;
@@ -89,7 +88,7 @@ fn view_by_paths<A: Allocator>(
     }
     Some(View {
         device: device.number,
-        paths: copy_paths(paths),
+        paths: *paths,
         pim,
         pam: image.sight.pam(image.name),
     })

@@ -1,6 +1,7 @@
 ghost use Rattle.std.specs.Prelude.{◌≡◌};
 ghost use Rattle.iocm_model.specs.Machine.Configuration.{lookup_of};
 ghost use Rattle.iocm_model.specs.Machine.View as model;
+ghost use Rattle.iocm_record.specs.Meaning.{device_of};
 
 use crate::device_walk::DeviceWalk;
 use crate::path_tables::{PathTables, path_tables};
@@ -9,6 +10,7 @@ use crate::reach::{ImageRecords, Reach};
 use crate::record_walk::RecordWalk;
 use crate::units_view::{UnitsView, are_same, units_view, view_by};
 use iocm_config::Config;
+use iocm_record::DeviceFields;
 use iocm_types::{Chpid, Css, DevNo, Image, Mask, Name, Paths, SetNo, View};
 use std::alloc::Allocator;
 use std::marker::Model;
@@ -85,6 +87,16 @@ impl<'a, A: Allocator> ImageSight<'a, A> {
         ensures same { self.new ≡ self.old }
     {
         let fields = self.devices.find(set, device)?;
+        self.view_of(fields)
+    }
+
+    /// What the image sees of a device of the configuration, if it sees it. One on the same units
+    /// as the last one is quickly answered.
+    pub fn view_of(&mut self, fields: &'a DeviceFields<A>) -> Option<View>
+        ensures view { result ≡ model.view_if_seen (lookup_of self.old.records) self.old.image.css
+            self.old.image.name (device_of fields.now) }
+        ensures same { self.new ≡ self.old }
+    {
         let units = fields.lists.units();
         if !are_same(self.last.units, units) {
             let paths = next_paths_of_units(&mut self.units, self.image.css, units);

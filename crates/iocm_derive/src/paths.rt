@@ -87,14 +87,3 @@ fn add_path(paths: &mut Paths, css: Css, path: CssPath)
     }
     paths.push(path.path);
 }
-
-/// The same list once more.
-pub fn copy_paths(paths: &Paths) -> Paths
-    ensures { result ≡ paths.now }
-{
-    let mut copy = Paths::new();
-    for path in paths.as_slice() {
-        copy.push(*path);
-    }
-    copy
-}

@@ -6,7 +6,6 @@ ghost use Rattle.iocm_record.specs.Meaning.{device_of};
 ghost use Rattle.iocm_derive.specs.Sighted.{IsSeenBy};
 
 use crate::masks::{available_paths, installed_paths};
-use crate::paths::copy_paths;
 use crate::reach::Reach;
 use crate::reaching::is_reached;
 use crate::sight::is_candidate;
@@ -71,7 +70,7 @@ pub fn view_by<A: Allocator, R: Reach<A>>(
     }
     Some(View {
         device: device.number,
-        paths: copy_paths(&by.paths),
+        paths: by.paths,
         pim: by.pim,
         pam: by.pam,
     })

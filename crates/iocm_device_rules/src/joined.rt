@@ -68,14 +68,7 @@ fn is_list_wrong<A: Allocator>(config: &Config<A>, units: &[UnitNo]) -> bool
 fn no_paths() -> [Paths; 6]
     ensures { result ≡ replicate 6 [] }
 {
-    [
-        Paths::new(),
-        Paths::new(),
-        Paths::new(),
-        Paths::new(),
-        Paths::new(),
-        Paths::new(),
-    ]
+    [Paths::new(); 6]
 }
 
 /// The paths of a unit in all channel subsystems; a unit that isn't there has none.
@@ -131,20 +124,9 @@ fn with_path(list: &Paths, path: Chpid) -> Option<Paths>
     if list.is_full() || has_number(path, list.as_slice()) {
         return None;
     }
-    let mut longer = copy_list(list);
+    let mut longer = *list;
     longer.push(path);
     Some(longer)
-}
-
-/// The same list once more.
-fn copy_list(list: &Paths) -> Paths
-    ensures { result ≡ list.now }
-{
-    let mut copy = Paths::new();
-    for path in list.as_slice() {
-        copy.push(*path);
-    }
-    copy
 }
 
 /// Whether a path is among these.

@@ -28,7 +28,8 @@ abbrev pub each_from : {Y W : Type 0} → (ℕ → Y → List W) → ℕ → Lis
 each_from f n [] = []
 each_from f n (y ∷ ys) = f n y ++ each_from f (n + 1) ys
 
--- the subchannel of a channel subsystem and a set whose slot has this index: 15 images for each number
+-- the subchannel of a channel subsystem and a set whose slot has this index: 15 images for each
+-- number
 abbrev pub subchannel : ℕ → ℕ → ℕ → SubId
 subchannel css set i = record { image = record { css = css; mif = i % 15 + 1 }; set = set; number = i / 15 }
 

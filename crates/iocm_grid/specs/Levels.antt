@@ -1,5 +1,5 @@
--- The lists of a grid: by channel subsystem, by set, and by number and image. Each subchannel that has
--- a place has a slot there, with its row or empty.
+-- The lists of a grid: by channel subsystem, by set, and by number and image. Each subchannel that
+-- has a place has a slot there, with its row or empty.
 use Rattle.std.specs.Prelude.{◌≡◌, ℕ, zero, suc, ◌+◌, ◌-◌, ◌*◌, ◌⊎◌, Bool, ◌&&◌, nat_lt, if◌then◌else◌, List, [], ◌∷◌, Option, None, Some}
 use Rattle.std.specs.List.{slice_get}
 use Rattle.std.specs.Option.{option_and_then, OnSome}
@@ -58,7 +58,8 @@ module _ (V A : RattleType) (heap : alloc.Ghosts A.Denot) where
   abbrev pub levels_row : RattleType
   levels_row = level.the_row (level.the_row (level.the_row (option.the_row V) A heap) A heap) A heap
 
-  -- the slot of a subchannel is what was written last through r; at `None` the lists stay as they are
+  -- the slot of a subchannel is what was written last through r; at `None` the lists stay as they
+  -- are
   abbrev pub lends_slot : MutBor (Levels V.Denot) → SubId → Option (MutBor (Option V.Denot)) → Fml
   lends_slot l x r =
       LendsSo levels_row (option.the_row V) l r (λ n w. OnSome r (n ≡ written l.now x w)) (λ n. n ≡ l.now)

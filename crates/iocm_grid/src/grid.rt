@@ -1,4 +1,4 @@
-ghost use Rattle.std.specs.Prelude.{◌≡◌, [], OnOk, ◌≤◌, if◌then◌else◌};
+ghost use Rattle.std.specs.Prelude.{◌≡◌, [], IsOk, OnOk, ◌≤◌, if◌then◌else◌};
 ghost use Rattle.std.specs.Borrow.{sem};
 ghost use Rattle.std.specs.Option.{option_copied, option_copied_mut};
 ghost use Rattle.std.specs.FinMap as map;
@@ -86,7 +86,8 @@ impl<V, A: Allocator> Grid<V, A> {
     /// Gives a subchannel a place, if it has none. Each other one that has a place keeps it, and no
     /// row changes. Subchannels of lower numbers may get places, too.
     ///
-    /// `AllocError` (M1): memory was wanted.
+    /// `AllocError` (M1): memory was wanted, which can't be where the subchannel has a place
+    /// already.
     pub fn room(&mut self, key: &SubId) -> Result<(), AllocError>
     where
         V: Drop,
@@ -94,7 +95,11 @@ impl<V, A: Allocator> Grid<V, A> {
         ensures rows { self.new.rows ≡ self.old.rows }
         ensures ok { OnOk result (HasPlace self.new key.now) }
         ensures kept { (x : subchannels.SubId) → HasPlace self.old x → HasPlace self.new x }
+        ensures succeeds { HasPlace self.old key.now → IsOk result }
     {
+        if slot(&self.levels, key).is_some() {
+            return Ok(());
+        }
         make_place(&mut self.levels, key)
     }
 

@@ -25,6 +25,7 @@ fn index_of(key: &SubId) -> usize
     ensures index { result ≡ index_of key.now }
     ensures in_range { IsInRange key.now }
 {
+    // For the proof alone: they are in their ranges.
     let css = key.image.css.number();
     let set = key.set.number();
     let _ = (css, set);

@@ -20,7 +20,7 @@ impl Plant {
         let Some(seat) = self.seats.get_mut(&subchannel) else {
             return Io::Code(3);
         };
-        live::order(&mut seat.live, &seat.view.to_view(), order)
+        live::order(&mut seat.live, &seat.view, order)
     }
 
     /// The device of a subchannel begins what it was started for: a start that is pending becomes

@@ -11,8 +11,8 @@ use iocm_config::Config;
 use iocm_live::fresh;
 use iocm_numbers::{Numbers, opening};
 use iocm_seats::{
-    Altered, CompactView, Seat, Seats, Tried, ViewChange, exchange, first_not_quiet, list_changes,
-    list_left, make_places, open_seats, settle_all,
+    Altered, Seat, Seats, Tried, ViewChange, exchange, first_not_quiet, list_changes, list_left,
+    make_places, open_seats, settle_all,
 };
 use iocm_table::Table;
 use iocm_trial_decks::{name, subchannel};
@@ -59,7 +59,7 @@ fn seated(alloc: Global) -> Result<Seats, Fail> {
     let mut seats = Seats::new(alloc);
     seats.room(there)?;
     let seat = Seat {
-        view: CompactView::new(&view(0x80)),
+        view: view(0x80),
         live: live(5),
     };
     let _ = seats.put(&there, seat);
@@ -176,21 +176,26 @@ fn altered_at(alloc: Global, seats: &Seats) -> Result<Altered<Global>, Fail> {
     list_there(alloc, &tried, &there)
 }
 
-/// Whether a change is alone among those that are altered.
-fn is_alone_in(altered: &Altered<Global>, wanted: &ViewChange) -> bool {
-    match altered.changes.first() {
-        Some(change) => altered.changes.len() == 1 && is_same(change, wanted),
-        None => false,
+/// Whether both are lists of one change, and this is the same.
+fn are_one_change(changes: &[ViewChange], wanted: &[ViewChange]) -> bool {
+    match (changes.first(), wanted.first()) {
+        (Some(change), Some(other)) => {
+            changes.len() == 1 && wanted.len() == 1 && is_same(change, other)
+        }
+        _ => false,
     }
 }
 
 /// Whether it alters the seats that the device's path goes offline, and a live record is listed
 /// with it.
 fn goes_offline(alloc: Global, seats: &Seats, met: &Live) -> Result<bool, Fail> {
-    let change = gone_offline()?;
-    let met = [(change.subchannel, *met)];
+    let wanted = [gone_offline()?];
+    let listed = [(there()?, *met)];
     let altered = altered_at(alloc, seats)?;
-    Ok(is_alone_in(&altered, &change) && altered.met.as_slice() == met.as_slice())
+    Ok(
+        are_one_change(altered.changes.as_slice(), wanted.as_slice())
+            && altered.met.as_slice() == listed.as_slice(),
+    )
 }
 
 #[test]

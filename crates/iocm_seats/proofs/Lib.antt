@@ -9,4 +9,5 @@ pub mod Ordered
 pub mod Remembered
 pub mod Settled
 pub mod Sighted
+pub mod Taken
 pub mod Taking

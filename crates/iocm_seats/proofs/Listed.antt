@@ -1,11 +1,10 @@
 -- The seats at opening, image by image and cell by cell.
-use Rattle.std.proofs.Common.{◌≡◌, ℕ, ◌==◌, Bool, true, false, List, [], ◌∷◌, ◌++◌, map, filter, Some, None, arith, refl, sym, ap, ◌∙◌}
+use Rattle.std.proofs.Common.{◌≡◌, ℕ, ◌==◌, List, [], ◌∷◌, ◌++◌, map, filter, Some, None, refl, sym, ap, ◌∙◌}
 use Rattle.std.specs.List.{flat_map, filter_map}
 use Rattle.std.specs.Map.{keys_of}
 use Rattle.std.proofs.lemmas.List.{map-append, append-nil}
-use Rattle.std.proofs.lemmas.List.Elements.{filter-append, filter_map-append}
+use Rattle.std.proofs.lemmas.List.Elements.{filter_map-append}
 use Rattle.std.proofs.lemmas.Grind.{flat_map-append}
-use Rattle.std.proofs.lemmas.Bool.Decides.{nat_tests}
 use Rattle.std.specs.FinMap.{entries}
 use Rattle.iocm_types.specs.declared.place.NumberCell.{NumberCell}
 use Rattle.iocm_types.specs.declared.sub_id.SubId.{SubId}
@@ -18,46 +17,37 @@ use Rattle.iocm_model.specs.Machine.Configuration.{Configuration, Lookup, lookup
 use Rattle.iocm_model.specs.Machine.Numbering.{Numbering, cells_of}
 use Rattle.iocm_model.specs.Machine.View.{row_at, image_view, views}
 use Rattle.iocm_seats.specs.Seated.{fresh_seat}
-use Rattle.iocm_seats.specs.Listing.{image_seats, record_seats}
+use Rattle.iocm_seats.specs.Listing.{image_seats, record_seats, seats_at}
 
 abbrev Cells : Type 0
 Cells = List (NumberCell × ℕ)
 
-pub image_seats-append : (c : Lookup) (i : ImageRecord) (xs ys : Cells) → image_seats c i (xs ++ ys) ≡ image_seats c i xs ++ image_seats c i ys
-unfolding image_seats
-image_seats-append c i xs ys = simp (filter-append, filter_map-append, map-append)
+pub seats_at-append : (c : Lookup) (i : ImageRecord) (xs ys : Cells) → seats_at c i (xs ++ ys) ≡ seats_at c i xs ++ seats_at c i ys
+unfolding seats_at
+seats_at-append c i xs ys = simp (filter_map-append, map-append)
 
-pub image_seats-more : (c : Lookup) (i : ImageRecord) (e : NumberCell × ℕ) (es : Cells) → image_seats c i (e ∷ es) ≡ image_seats c i (e ∷ []) ++ image_seats c i es
-image_seats-more c i e es = image_seats-append c i (e ∷ []) es
+pub seats_at-more : (c : Lookup) (i : ImageRecord) (e : NumberCell × ℕ) (es : Cells) → seats_at c i (e ∷ es) ≡ seats_at c i (e ∷ []) ++ seats_at c i es
+seats_at-more c i e es = seats_at-append c i (e ∷ []) es
 
 pub record_seats-more : (c : Lookup) (cells : Cells) (r : Rec) (rs : List Rec) → record_seats c cells (r ∷ rs) ≡ record_seats c cells (r ∷ []) ++ record_seats c cells rs
 unfolding record_seats
 record_seats-more c cells r rs = ap (flat_map (λ i. image_seats c i cells)) (filter_map-append as_image (r ∷ []) rs)
     ∙ flat_map-append (λ i. image_seats c i cells) (filter_map as_image (r ∷ [])) (filter_map as_image rs)
 
--- a cell of another channel subsystem has no seat
-pub other_css : (c : Lookup) (i : ImageRecord) (e : NumberCell × ℕ) → (e.0.css == i.css) ≡ false → image_seats c i (e ∷ []) ≡ []
-unfolding image_seats
-other_css c i e h = rw h refl
-
--- nor has one at which the image sees no device
-pub no_view : (c : Lookup) (i : ImageRecord) (e : NumberCell × ℕ) → image_view c i e.0.set e.1 ≡ None → image_seats c i (e ∷ []) ≡ []
-unfolding image_seats
-no_view c i e h = go (e.0.css == i.css) refl
-  where
-    go : (t : Bool) → (e.0.css == i.css) ≡ t → image_seats c i (e ∷ []) ≡ []
-    go true t = rw (t, h) refl
-    go false t = rw t refl
+-- a cell at which the image sees no device has no seat
+pub no_view : (c : Lookup) (i : ImageRecord) (e : NumberCell × ℕ) → image_view c i e.0.set e.1 ≡ None → seats_at c i (e ∷ []) ≡ []
+unfolding seats_at
+no_view c i e h = rw h refl
 
 -- a view has its seat
-pub one_view : (c : Lookup) (i : ImageRecord) (e : NumberCell × ℕ) (v : View) → e.0.css ≡ i.css → image_view c i e.0.set e.1 ≡ Some v
-    → image_seats c i (e ∷ []) ≡ fresh_seat (record { image = record { css = i.css; mif = i.mif }; set = e.0.set; number = e.0.number }, v) ∷ []
-unfolding image_seats
-one_view c i e v same h = let t : (e.0.css == i.css) ≡ true = grind (arith, nat_tests) in rw (t, h) refl
+pub one_view : (c : Lookup) (i : ImageRecord) (e : NumberCell × ℕ) (v : View) → image_view c i e.0.set e.1 ≡ Some v
+    → seats_at c i (e ∷ []) ≡ fresh_seat (record { image = record { css = i.css; mif = i.mif }; set = e.0.set; number = e.0.number }, v) ∷ []
+unfolding seats_at
+one_view c i e v h = rw h refl
 
-pub image_seats-nil : (c : Lookup) (i : ImageRecord) → image_seats c i [] ≡ []
-unfolding image_seats
-image_seats-nil c i = refl
+pub seats_at-nil : (c : Lookup) (i : ImageRecord) → seats_at c i [] ≡ []
+unfolding seats_at
+seats_at-nil c i = refl
 
 pub record_seats-nil : (c : Lookup) (cells : Cells) → record_seats c cells [] ≡ []
 unfolding record_seats
@@ -90,7 +80,7 @@ seats-flat_map f (i ∷ is) = map-append fresh_seat (f i) (flat_map f is) ∙ ap
 
 -- the seats of all records are those of the views
 pub all_seats : (c : Configuration) (n : Numbering) → record_seats (lookup_of c) (entries (cells_of n)) (records_of c) ≡ map fresh_seat (views c n)
-unfolding record_seats image_seats
+unfolding record_seats seats_at
 all_seats c n = sym (seats-flat_map (λ (i : ImageRecord). filter_map (row_at (lookup_of c) i) (filter (λ (e : NumberCell × ℕ). e.0.css == i.css) (entries (cells_of n))))
     (filter_map as_image (records_of c)))
 

@@ -5,3 +5,5 @@ pub mod Listing
 pub mod Seated
 pub mod Settling
 pub mod Sights
+pub mod SubsystemCells
+pub mod Taken

@@ -1,5 +1,5 @@
 -- The seats at opening, image by image.
-use Rattle.std.specs.Prelude.{ℕ, ◌==◌, List, map, filter}
+use Rattle.std.specs.Prelude.{ℕ, List, map}
 use Rattle.std.specs.FinMap.{insert}
 use Rattle.std.specs.List.{flat_map, filter_map}
 use Rattle.iocm_types.specs.declared.place.NumberCell.{NumberCell}
@@ -9,11 +9,15 @@ use Rattle.iocm_model.specs.Machine.Configuration.{Lookup, as_image}
 use Rattle.iocm_model.specs.Machine.View.{row_at}
 use Rattle.iocm_seats.specs.declared.seat.Seat.{Seat}
 use Rattle.iocm_seats.specs.Seated.{Seats, fresh_seat}
+use Rattle.iocm_seats.specs.Taken.{cells_in}
 
--- the seats of an image at some number cells, of which those of its channel subsystem count
-unfoldable pub image_seats : Lookup → ImageRecord → List (NumberCell × ℕ) → List (SubId × Seat)
-image_seats c i cells =
-    map fresh_seat (filter_map (row_at c i) (filter (λ (e : NumberCell × ℕ). e.0.css == i.css) cells))
+-- the seats of an image at some number cells of its channel subsystem, with their devices
+unfoldable pub seats_at : Lookup → ImageRecord → List (NumberCell × ℕ) → List (SubId × Seat)
+seats_at c i cells = map fresh_seat (filter_map (row_at c i) cells)
+
+-- those at some number cells of all channel subsystems, of which those of its own count
+abbrev pub image_seats : Lookup → ImageRecord → List (NumberCell × ℕ) → List (SubId × Seat)
+image_seats c i cells = seats_at c i (cells_in i.css cells)
 
 -- the seats of the images among some records
 unfoldable pub record_seats : Lookup → List (NumberCell × ℕ) → List Rec → List (SubId × Seat)

@@ -227,7 +227,7 @@ fn list_seated<D: Allocator>(
     ensures met { OnOk result (altered.new.met.items ≡ altered.old.met.items
         ++ met_at seat.now.live (cons_option (change_from (Some seat.now.view) after subchannel.now) [])) }
 {
-    let before = Some(seat.view.to_view());
+    let before = Some(seat.view);
     if is_same(before.as_ref(), after.as_ref()) {
         return Ok(());
     }

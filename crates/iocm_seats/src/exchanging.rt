@@ -8,7 +8,7 @@ ghost use Rattle.iocm_model.specs.Operation.State.{views_of};
 ghost use Rattle.iocm_seats.specs.Seated.{lives_seated, HasPlace};
 ghost use Rattle.iocm_seats.specs.Exchange.{exchanged, given, met};
 
-use crate::{CompactView, Seat, Seats};
+use crate::{Seat, Seats};
 use iocm_config::Config;
 use iocm_derive::view_at;
 use iocm_numbers::Numbers;
@@ -95,9 +95,6 @@ fn give_one<A: Allocator, B: Allocator, C: Allocator>(
     let Some(view) = view_at(config, numbers, row.0) else {
         return;
     };
-    let seat = Seat {
-        view: CompactView::new(&view),
-        live: row.1,
-    };
+    let seat = Seat { view, live: row.1 };
     let _ = seats.put(&row.0, seat);
 }

@@ -14,7 +14,6 @@
 #![tactic(auto)]
 
 mod changes;
-mod compact_view;
 mod exchanging;
 mod laws;
 mod met;
@@ -22,10 +21,11 @@ mod opening;
 mod seat;
 mod seats;
 mod settling;
+mod subsystem_cells;
+mod taken_cell;
 mod view_change;
 
 pub use changes::{Altered, Tried, list_changes};
-pub use compact_view::CompactView;
 pub use exchanging::exchange;
 pub use laws::{exchanged_seats_show, settled_seats_show};
 pub use met::{first_not_quiet, list_left};

@@ -1,22 +1,26 @@
-ghost use Rattle.std.specs.Prelude.{◌≡◌, [], ◌∷◌, ◌++◌, map, IfOk, OnOk};
+ghost use Rattle.std.specs.Prelude.{◌≡◌, [], ◌∷◌, All, map, fold, IfOk, OnOk};
 ghost use Rattle.std.specs.FinMap.{entries, from_entries};
 ghost use Rattle.iocm_model.specs.Machine.Configuration.{lookup_of};
 ghost use Rattle.iocm_model.specs.Machine.Numbering.{cells_of};
 ghost use Rattle.iocm_model.specs.Machine.View.{views};
 ghost use Rattle.iocm_seats.specs.Seated.{fresh_seat};
-ghost use Rattle.iocm_seats.specs.Listing.{image_seats, record_seats};
+ghost use Rattle.iocm_seats.specs.Listing.{record_seats, seats_at, with_seat};
+ghost use Rattle.iocm_seats.specs.SubsystemCells.{AreCellsOf};
+ghost use Rattle.iocm_seats.specs.Taken.{taken, taken_of, IsTaken};
 
-use crate::{CompactView, Seat, Seats};
+use crate::subsystem_cells::{SubsystemCells, subsystem_cells};
+use crate::taken_cell::TakenCell;
+use crate::{Seat, Seats};
 use iocm_config::Config;
 use iocm_derive::ImageSight;
 use iocm_live::fresh;
 use iocm_numbers::Numbers;
 use iocm_record::{Record, RecordBody};
-use iocm_types::{DevNo, Image, NumberCell, SubId};
+use iocm_types::{Css, Image, SubId};
 use std::alloc::{AllocError, Allocator};
 
 /// A seat for each subchannel that has a view, with a fresh live record. The time is in proportion
-/// to the images, and for each to the number cells that are taken.
+/// to the images, and for each to the number cells of its channel subsystem that are taken.
 ///
 /// `AllocError` (M1): memory was wanted.
 pub fn open_seats<A: Allocator, B: Allocator, C: Allocator + Clone>(
@@ -27,100 +31,110 @@ pub fn open_seats<A: Allocator, B: Allocator, C: Allocator + Clone>(
     ensures { IfOk result (λ s. s.seats
         ≡ from_entries (map fresh_seat (views config.now.records numbers.now.numbers))) }
 {
-    // For the proof alone: each record stands under its own key, so no subchannel is listed twice.
+    // For the proof alone: each record stands under its own key, so no subchannel is given two
+    // seats.
     config.has_own_keys();
     let mut seats = Seats::new(alloc.clone()?);
+    let mut near = subsystem_cells(alloc, config, numbers, Css::FIRST)?;
     for (_, entry) in config.walk() {
-        let mut listed = Vec::new(alloc.clone()?);
-        list_record(&mut listed, config, numbers, entry)?;
-        seats.add_all(listed)?;
+        open_record(&mut seats, &mut near, config, numbers, entry)?;
     }
     Ok(seats)
 }
 
-/// Puts the seats of a record behind those that are listed, if it is that of an image.
-fn list_record<A: Allocator, B: Allocator, C: Allocator>(
-    listed: &mut Vec<(SubId, Seat), C>,
-    config: &Config<A>,
+/// Gives the subchannels of a record their seats, if it is that of an image.
+fn open_record<'a, A: Allocator, B: Allocator, C: Allocator + Clone>(
+    seats: &mut Seats<C>,
+    near: &mut SubsystemCells<'a, A, C>,
+    config: &'a Config<A>,
     numbers: &Numbers<B>,
     entry: &Record<A>,
 ) -> Result<(), AllocError>
-    ensures { OnOk result (listed.new.items ≡ listed.old.items
-        ++ record_seats (lookup_of config.now.records) (entries (cells_of numbers.now.numbers))
-        (entry.now ∷ [])) }
+    requires { AreCellsOf (lookup_of config.now.records) (entries (cells_of numbers.now.numbers)) near.old }
+    ensures seats { OnOk result (seats.new.seats ≡ fold with_seat seats.old.seats
+        (record_seats (lookup_of config.entry.now.records) (entries (cells_of numbers.now.numbers))
+        (entry.now ∷ []))) }
+    ensures near { OnOk result
+        (AreCellsOf (lookup_of config.entry.now.records) (entries (cells_of numbers.now.numbers)) near.new) }
 {
     match entry.body() {
         RecordBody::Image(css, mif, name) => {
+            turn_to(near, config, numbers, *css)?;
             let image = Image {
                 css: *css,
                 mif: *mif,
             };
             let mut sight = ImageSight::new(config, image, *name);
-            list_image(listed, &mut sight, numbers)?;
+            open_image(seats, &mut sight, near.cells.as_slice())?;
             Ok(())
         }
         _ => Ok(()),
     }
 }
 
-/// Puts the seats of an image behind those that are listed. The paths that it reaches are looked up
-/// once.
-fn list_image<A: Allocator, B: Allocator, C: Allocator>(
-    listed: &mut Vec<(SubId, Seat), C>,
-    sight: &mut ImageSight<'_, A>,
+/// Turns to the number cells of a channel subsystem.
+///
+/// `AllocError` (M1): memory was wanted.
+fn turn_to<'a, A: Allocator, B: Allocator, C: Allocator + Clone>(
+    near: &mut SubsystemCells<'a, A, C>,
+    config: &'a Config<A>,
     numbers: &Numbers<B>,
+    css: Css,
 ) -> Result<(), AllocError>
-    ensures { OnOk result (listed.new.items ≡ listed.old.items
-        ++ image_seats (lookup_of sight.old.records) sight.old.image (entries (cells_of numbers.now.numbers))) }
+    requires { AreCellsOf (lookup_of config.now.records) (entries (cells_of numbers.now.numbers)) near.old }
+    ensures css { OnOk result (near.new.css ≡ css) }
+    ensures cells { OnOk result
+        (AreCellsOf (lookup_of config.entry.now.records) (entries (cells_of numbers.now.numbers)) near.new) }
 {
-    for (cell, device) in numbers.cells() {
-        list_cell(listed, sight, *cell, *device)?;
+    if near.css == css {
+        return Ok(());
+    }
+    let alloc = near.cells.allocator().clone()?;
+    *near = subsystem_cells(alloc, config, numbers, css)?;
+    Ok(())
+}
+
+/// Gives the subchannels of an image at some number cells their seats. The paths that it reaches
+/// are looked up once.
+fn open_image<'a, A: Allocator, B: Allocator + Clone>(
+    seats: &mut Seats<B>,
+    sight: &mut ImageSight<'a, A>,
+    cells: &[TakenCell<'a, A>],
+) -> Result<(), AllocError>
+    requires { All (IsTaken (lookup_of sight.old.records)) cells.now }
+    ensures seats { OnOk result (seats.new.seats ≡ fold with_seat seats.old.seats
+        (seats_at (lookup_of sight.old.records) sight.old.image (taken_of cells.now))) }
+    ensures same { sight.new ≡ sight.old }
+{
+    for taken in cells {
+        open_cell(seats, sight, taken)?;
     }
     Ok(())
 }
 
-/// Puts the seat of an image at a number cell behind those that are listed, if the cell is of its
-/// channel subsystem and the image sees the device there.
-fn list_cell<A: Allocator, C: Allocator>(
-    listed: &mut Vec<(SubId, Seat), C>,
-    sight: &mut ImageSight<'_, A>,
-    cell: NumberCell,
-    device: DevNo,
+/// Gives the subchannel of an image at a number cell its seat, if the image sees the device there.
+fn open_cell<'a, A: Allocator, B: Allocator + Clone>(
+    seats: &mut Seats<B>,
+    sight: &mut ImageSight<'a, A>,
+    at: &TakenCell<'a, A>,
 ) -> Result<(), AllocError>
-    ensures rows { OnOk result (listed.new.items
-        ≡ listed.old.items ++ image_seats (lookup_of sight.old.records) sight.old.image ((cell, device) ∷ [])) }
+    requires { IsTaken (lookup_of sight.old.records) at.now }
+    ensures seats { OnOk result (seats.new.seats ≡ fold with_seat seats.old.seats
+        (seats_at (lookup_of sight.old.records) sight.old.image (taken at.now ∷ []))) }
     ensures same { sight.new ≡ sight.old }
 {
-    let image = sight.image();
-    if cell.css != image.css {
+    let Some(fields) = at.fields() else {
         return Ok(());
-    }
-    list_seen(listed, sight, cell, device)
-}
-
-/// Puts the seat of an image at a number cell of its channel subsystem behind those that are
-/// listed, if it sees the device there.
-fn list_seen<A: Allocator, C: Allocator>(
-    listed: &mut Vec<(SubId, Seat), C>,
-    sight: &mut ImageSight<'_, A>,
-    cell: NumberCell,
-    device: DevNo,
-) -> Result<(), AllocError>
-    requires { cell.css ≡ sight.old.image.css }
-    ensures rows { OnOk result (listed.new.items
-        ≡ listed.old.items ++ image_seats (lookup_of sight.old.records) sight.old.image ((cell, device) ∷ [])) }
-    ensures same { sight.new ≡ sight.old }
-{
+    };
+    let Some(view) = sight.view_of(fields) else {
+        return Ok(());
+    };
+    let cell = at.cell();
     let subchannel = SubId {
         image: sight.image(),
         set: cell.set,
         number: cell.number,
     };
-    let Some(view) = sight.view(cell.set, device) else {
-        return Ok(());
-    };
     let live = fresh(view.pim);
-    let view = CompactView::new(&view);
-    listed.push((subchannel, Seat { view, live }))?;
-    Ok(())
+    seats.add(subchannel, Seat { view, live })
 }

@@ -1,12 +1,11 @@
-use crate::CompactView;
-use iocm_types::Live;
+use iocm_types::{Live, View};
 
 /// What is kept at a subchannel that is there: what its image sees there, and its live record. The
 /// word is own.
-#[derive(Drop)]
+#[derive(Clone, Copy)]
 pub struct Seat {
     /// What the image sees.
-    pub view: CompactView,
+    pub view: View,
     /// What the subchannel remembers.
     pub live: Live,
 }

@@ -1,4 +1,4 @@
-ghost use Rattle.std.specs.Prelude.{◌≡◌, [], OnOk, fold};
+ghost use Rattle.std.specs.Prelude.{◌≡◌, [], OnOk};
 ghost use Rattle.std.specs.Borrow.{sem};
 ghost use Rattle.std.specs.Option.{option_copied, option_copied_mut};
 ghost use Rattle.std.specs.FinMap as map;
@@ -47,22 +47,16 @@ impl<A: Allocator> Seats<A> {
         }
     }
 
-    /// Gives each subchannel of these rows its seat, one after the other.
+    /// Gives a subchannel a place, if it has none, and this seat.
     ///
-    /// `AllocError` (M1): memory was wanted. Then those that come first may have got theirs.
-    pub(crate) fn add_all<B: Allocator>(
-        &mut self,
-        listed: Vec<(SubId, Seat), B>,
-    ) -> Result<(), AllocError>
+    /// `AllocError` (M1): memory was wanted. Then no seat has changed.
+    pub(crate) fn add(&mut self, subchannel: SubId, seat: Seat) -> Result<(), AllocError>
     where
         A: Clone,
-        ensures { OnOk result (self.new.seats ≡ fold with_seat self.old.seats listed.items) }
+        ensures { OnOk result (self.new.seats ≡ with_seat self.old.seats (subchannel, seat)) }
     {
-        for row in listed {
-            let (subchannel, seat) = row;
-            self.room(subchannel)?;
-            let _ = self.put(&subchannel, seat);
-        }
+        self.room(subchannel)?;
+        let _ = self.put(&subchannel, seat);
         Ok(())
     }
 
@@ -80,8 +74,7 @@ impl<A: Allocator> Seats<A> {
         self.grid.get(subchannel)
     }
 
-    /// The seat of a subchannel, to be changed in its place, by one search. Can't answer want of
-    /// memory.
+    /// The seat of a subchannel, to be changed in its place. Can't answer want of memory.
     pub fn get_mut(&mut self, subchannel: &SubId) -> Option<&mut Seat>
         ensures* writes_back { sem 𝓛 (lends_seat A.row A.Allocator self.entry subchannel.now result) }
         ensures value { option_copied_mut result ≡ map.get self.old.seats subchannel.now }
@@ -94,7 +87,7 @@ impl<A: Allocator> Seats<A> {
         ensures { result ≡ map.get (views_seated self.now.seats) subchannel }
     {
         match self.get(&subchannel) {
-            Some(seat) => Some(seat.view.to_view()),
+            Some(seat) => Some(seat.view),
             None => None,
         }
     }

@@ -8,7 +8,7 @@ ghost use Rattle.iocm_model.specs.Change.Maps.{with_value};
 ghost use Rattle.iocm_seats.specs.Seated.{views_seated, HasPlace, KeepsPlaces};
 ghost use Rattle.iocm_seats.specs.Settling.{seat_after, settled_all, AreSeen, HavePlaces};
 
-use crate::{CompactView, Seat, Seats, ViewChange};
+use crate::{Seat, Seats, ViewChange};
 use iocm_live::fresh;
 use iocm_table::Table;
 use iocm_types::{Live, SubId, View};
@@ -68,43 +68,31 @@ pub fn settle_all<A: Allocator, B: Allocator>(
     }
 }
 
-/// Gives the subchannel of a change the seat that it has afterwards. One that has no seat is
-/// searched once.
+/// Gives the subchannel of a change the seat that it has afterwards.
 fn settle<A: Allocator>(seats: &mut Seats<A>, change: &ViewChange, own: Option<Live>)
     requires { HasPlace seats.old change.now.subchannel }
     ensures seats { seats.new.seats ≡ with_value seats.old.seats change.now.subchannel
         (seat_after (get seats.old.seats change.now.subchannel) change.now.after own) }
     ensures places { seats.new.places ≡ seats.old.places }
 {
-    let Some(view) = &change.after else {
+    let Some(view) = change.after else {
         let _ = seats.take(&change.subchannel);
         return;
     };
-    let is_kept = own.is_some();
-    let first = Seat {
-        view: CompactView::new(view),
-        live: first_live(view, own),
-    };
-    let Some(old) = seats.put(&change.subchannel, first) else {
-        return;
-    };
-    if is_kept {
-        return;
-    }
-    let seat = Seat {
-        view: CompactView::new(view),
-        live: own_live(&old, view),
-    };
-    let _ = seats.put(&change.subchannel, seat);
+    let live = live_after(seats.get(&change.subchannel), &view, own);
+    let _ = seats.put(&change.subchannel, Seat { view, live });
 }
 
-/// The live record of a subchannel that had none: the one that comes along, or else a fresh one.
-fn first_live(new: &View, own: Option<Live>) -> Live
-    ensures { result ≡ live_of_altered None new.now own None }
+/// The live record of an altered subchannel: the one that comes along, or else a fresh one where
+/// it had none, or else its own, with LPM equal to PIM where its path list changed.
+fn live_after(old: Option<&Seat>, new: &View, own: Option<Live>) -> Live
+    ensures { result ≡ live_of_altered (option_map (λ s. s.view) (option_copied old.entry)) new.now own
+        (option_map (λ s. s.live) (option_copied old.entry)) }
 {
-    match own {
-        Some(live) => live,
-        None => fresh(new.pim),
+    match (own, old) {
+        (Some(live), _) => live,
+        (None, None) => fresh(new.pim),
+        (None, Some(seat)) => own_live(seat, new),
     }
 }
 
@@ -112,7 +100,7 @@ fn first_live(new: &View, own: Option<Live>) -> Live
 fn own_live(old: &Seat, new: &View) -> Live
     ensures { result ≡ live_of_altered (Some old.now.view) new.now None (Some old.now.live) }
 {
-    if old.view.to_view().paths == new.paths {
+    if old.view.paths == new.paths {
         return old.live;
     }
     Live {

@@ -1,6 +1,4 @@
 use Rattle.std.proofs.Common.{sym, ap, ◌∙◌}
-use Rattle.std.specs.FinMap.{insert}
-use Rattle.iocm_types.specs.declared.view.View.{View}
 use Rattle.iocm_seats.specs.Exchange.{seat_given}
 use Rattle.iocm_seats.proofs.Ordered.{seen_is}
 use Rattle.iocm_seats.proofs.exchanging.give_one.Goals as goal
@@ -11,6 +9,5 @@ returns-in_default-clause-seats g c = sym (ap (seat_given c.args.seats.now.seats
 
 pub returns-clause-seats : goal.returns-clause-seats
 returns-clause-seats g c = c.put.ensures.seats
-    ∙ ap (λ (v : View). insert c.args.seats.now.seats c.args.row.now.0 (record { view = v; live = c.args.row.now.1 })) c.new.ensures
     ∙ sym (ap (seat_given c.args.seats.now.seats c.args.row.now.0 c.args.row.now.1)
     (seen_is c.args.config.now.records c.args.numbers.now.numbers c.has_own_keys.ensures c.args.row.now.0 ∙ sym c.view_at.ensures ∙ c.in-Some.is))

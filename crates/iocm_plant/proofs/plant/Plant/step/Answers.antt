@@ -1,7 +1,5 @@
 use Rattle.std.proofs.Common.{sym, ap, ◌∙◌}
 use Rattle.std.specs.Option.{option_copied_mut}
-use Rattle.iocm_types.specs.declared.view.View.{View}
-use Rattle.iocm_model.specs.Operation.Orders.{answer_of, live_after}
 use Rattle.iocm_model.specs.Operation.Step as step
 use Rattle.iocm_model.specs.Operation.Step.{order_answer}
 use Rattle.iocm_seats.specs.declared.seat.Seat.{Seat}
@@ -51,12 +49,12 @@ pub invariant_of-self-2 : goal.invariant_of-self-2
 invariant_of-self-2 c = operating_after (seat (goal.at.invariant_of-self-2 c).After-order)
 
 pub returns-clause-answer : goal.returns-clause-answer
-returns-clause-answer c = c.order.ensures.answer ∙ ap (λ (v : View). answer_of c.args.order v c.in-Some.seat.now.live) c.to_view.ensures
+returns-clause-answer c = c.order.ensures.answer
     ∙ sym (ap (order_answer c.args.order) (one_there (seat (goal.at.returns-clause-answer c).After-order)))
 
 pub returns-clause-state : goal.returns-clause-state
 returns-clause-state c = state_after_step (seat (goal.at.returns-clause-state c).After-order) (step.order c.args.order)
-    (c.order.ensures.left ∙ ap (λ (v : View). live_after c.args.order v c.in-Some.seat.now.live) c.to_view.ensures)
+    c.order.ensures.left
 
 pub returns-clause-room : goal.returns-clause-room
 returns-clause-room c = room_as_before (seat (goal.at.returns-clause-room c).After-order)

@@ -1,6 +1,0 @@
--- The copy has the paths so far.
-use Rattle.std.proofs.Common.{◌≡◌, take}
-use Rattle.iocm_derive.proofs.paths.copy_paths.Given as goal
-
-abbrev pub invariant-loop-path : goal.invariant-loop-path
-invariant-loop-path l = l.copy ≡ take l.path-index l.path-items
