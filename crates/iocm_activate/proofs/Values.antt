@@ -1,6 +1,7 @@
 -- Cells that are put into a table one after the other, with what a map has at their keys.
-use Rattle.std.proofs.Common.{◌≡◌, Bool, true, false, cond, ◌||◌, List, [], ◌∷◌, ◌++◌, Option, Some, refl, sym, ap, ◌∙◌}
+use Rattle.std.proofs.Common.{◌≡◌, Bool, true, false, cond, ◌||◌, List, [], ◌∷◌, ◌++◌, map, Option, None, Some, refl, sym, ap, ◌∙◌}
 use Rattle.std.specs.List.{list_any}
+use Rattle.std.specs.Map.{keys_of}
 use Rattle.std.specs.Ordering.{eq_by_cmp}
 use Rattle.std.specs.declared.cmp.Ordering.{Ordering}
 use Rattle.std.specs.Cmp.{IsTotalOrder}
@@ -16,6 +17,11 @@ module _ {K X : Type 0} {R : K → K → Ordering} where
       → with_values m (ks ++ js) cells ≡ with_values m js (with_values m ks cells)
   with_both m [] js cells = refl
   with_both m (k ∷ ks) js cells = with_both m ks js (insert cells k (get m k))
+
+  -- what a map has at some keys stands under these keys
+  pub keys_with_values : (m : FinMap R X) (ks : List K) → keys_of (map (λ key. (key, get m key)) ks) ≡ ks
+  keys_with_values m [] = refl
+  keys_with_values m (k ∷ ks) = ap (λ xs. k ∷ xs) (keys_with_values m ks)
 
 module _ {K X : Type 0} {R : K → K → Ordering} (total : IsTotalOrder R) (exact : IsAntisymmetric R) where
   -- one key more: at it its value is found
@@ -38,3 +44,9 @@ module _ {K X : Type 0} {R : K → K → Ordering} (total : IsTotalOrder R) (exa
   pub all_values : (m : FinMap R X) (ks : List K) → with_values m ks empty ≡ cells_at m ks
   all_values m ks = same_map total exact (with_values m ks empty) (cells_at m ks) (λ q. get_with_values m ks empty q
       ∙ ap (cond (list_any (eq_by_cmp R q) ks) (Some (get m q))) (get-empty R q) ∙ sym (get_cells_at total exact m ks q))
+
+  -- the cells of a map at the same keys, in another order or more than once
+  pub same_cells : (m : FinMap R X) (ks js : List K) → ((q : K) → list_any (eq_by_cmp R q) ks ≡ list_any (eq_by_cmp R q) js)
+      → cells_at m ks ≡ cells_at m js
+  same_cells m ks js same = same_map total exact (cells_at m ks) (cells_at m js) (λ q. get_cells_at total exact m ks q
+      ∙ ap (λ b. cond b (Some (get m q)) None) (same q) ∙ sym (get_cells_at total exact m js q))

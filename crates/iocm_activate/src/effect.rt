@@ -1,4 +1,4 @@
-ghost use Rattle.std.specs.Prelude.{◌≡◌, IfOk, OnOk};
+ghost use Rattle.std.specs.Prelude.{◌≡◌, ◌++◌, IfOk, OnOk};
 ghost use Rattle.std.specs.FinMap as map;
 ghost use Rattle.iocm_types.specs.Key.{key_cmp};
 ghost use Rattle.iocm_types.specs.Place.{cell_cmp};
@@ -19,7 +19,7 @@ use iocm_plant::{Applied, Plant};
 use iocm_record::Record;
 use iocm_seats::ViewChange;
 use iocm_table::Table;
-use iocm_types::{DevNo, Key, Live, NumberCell, SubId, TableKey};
+use iocm_types::{DevNo, Key, Live, NumberCell, SubId, TableKey, sorted_once};
 use std::alloc::{AllocError, Global};
 
 /// The effect of a change: the cells that it wrote, each with its value after the change; none
@@ -115,26 +115,46 @@ fn live_cells(
     ensures { IfOk result (λ cells. rows sub_id_cmp cells
         ≡ cells_at plant.now.state.lives (subchannels_told (map_list told.told_in done.now))) }
 {
-    let mut cells = Table::new(alloc);
-    for applied in done {
-        add_lives(&mut cells, plant, applied.touched.subchannels.as_slice())?;
-    }
-    Ok(cells)
+    let altered = sorted_once(list_altered(alloc, done)?)?;
+    let listed = list_lives(alloc, plant, altered.as_slice())?;
+    Table::from_rows(alloc, listed)
 }
 
-/// Adds the subchannels that an edit altered.
-fn add_lives(
-    cells: &mut Table<SubId, Option<Live>>,
-    plant: &Plant,
-    changes: &[ViewChange],
-) -> Result<(), AllocError>
-    ensures { OnOk result (rows sub_id_cmp cells.new
-        ≡ with_values plant.now.state.lives (subchannels_changed changes.now) (rows sub_id_cmp cells.old)) }
+/// The subchannels that edits altered, edit by edit.
+fn list_altered(alloc: Global, done: &[Applied]) -> Result<Vec<SubId>, AllocError>
+    ensures { IfOk result (λ listed. listed.items ≡ subchannels_told (map_list told.told_in done.now)) }
+{
+    let mut listed = Vec::new(alloc);
+    for applied in done {
+        list_subchannels(&mut listed, applied.touched.subchannels.as_slice())?;
+    }
+    Ok(listed)
+}
+
+/// Puts the subchannels that an edit altered behind those that are listed.
+fn list_subchannels(listed: &mut Vec<SubId>, changes: &[ViewChange]) -> Result<(), AllocError>
+    ensures { OnOk result (listed.new.items ≡ listed.old.items ++ subchannels_changed changes.now) }
 {
     for change in changes {
-        add_cell(cells, change.subchannel, plant.live(change.subchannel))?;
+        listed.push(change.subchannel)?;
     }
     Ok(())
+}
+
+/// Subchannels with their live records now.
+fn list_lives(
+    alloc: Global,
+    plant: &Plant,
+    subchannels: &[SubId],
+) -> Result<Vec<(SubId, Option<Live>)>, AllocError>
+    ensures { IfOk result (λ listed. listed.items
+        ≡ map_list (λ x. (x, map.get plant.now.state.lives x)) subchannels.now) }
+{
+    let mut listed = Vec::with_capacity(alloc, subchannels.len())?;
+    for subchannel in subchannels {
+        listed.push((*subchannel, plant.live(*subchannel)))?;
+    }
+    Ok(listed)
 }
 
 /// Puts a cell into a table, over one with the same key.
