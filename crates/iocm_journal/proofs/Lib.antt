@@ -1,6 +1,7 @@
 mod Answers
 mod Taken
 mod Rows
+mod InCommon
 mod NeverUndone
 mod Counts
 mod Passing

@@ -1,5 +1,5 @@
 -- The last place that passes a test.
-use Rattle.std.proofs.Common.{◌≡◌, ◌⊎◌, inl, inr, ℕ, zero, suc, ◌+◌, ◌<◌, ◌≤◌, Bool, true, false, ◌&&◌, cond, eqb}
+use Rattle.std.proofs.Common.{◌≡◌, ◌⊎◌, inl, inr, ℕ, zero, suc, ◌+◌, ◌<◌, ◌≤◌, Bool, true, false, ◌&&◌, cond, eqb, nat_lt}
 use Rattle.std.proofs.Common.{List, Option, Some, None, length, refl, sym, ap, ◌∙◌, arith}
 use Rattle.std.proofs.lemmas.Bool.{eqb-true, eq-eqb, le-ltb}
 use Rattle.iocm_activate.specs.declared.effect.Effect.{Effect}
@@ -71,3 +71,28 @@ none_left ks fs place (suc n) true low =
 pub found_same : (fs : List Effect) (place : ℕ) (fits : Bool) {ks vs : List Kept} → ks ≡ vs
     → last_passing (is_on vs fs place fits) (length vs) ≡ last_passing (is_on ks fs place fits) (length ks)
 found_same fs place fits same = sym (ap (λ xs. last_passing (is_on xs fs place fits) (length xs)) same)
+
+-- ---- what stands on a change that fits would stand on it if it didn't
+
+on_either_by : (later stands shares undone : Bool) → (later && (stands && shares)) ≡ true → cond later stands undone ≡ true
+on_either_by true true shares undone on = refl
+on_either_by true false shares undone on = cc
+on_either_by false stands shares undone on = cc
+
+on_either : (ks : List Kept) (fs : List Effect) (place at : ℕ) → is_on ks fs place true at ≡ true → is_on ks fs place false at ≡ true
+on_either ks fs place at on = on_either_by (nat_lt place at) (stands_at ks at) (share_at fs place at) _ on
+
+none_passes : (p q : ℕ → Bool) → ((k : ℕ) → p k ≡ true → q k ≡ true) → (n : ℕ) → last_passing q n ≡ None → last_passing p n ≡ None
+none_passes p q more zero none = refl
+none_passes p q more (suc n) none = by (q n) (p n) refl refl none (none_passes p q more n)
+  where
+    by : (b d : Bool) → q n ≡ b → p n ≡ d → cond b (Some n) (last_passing q n) ≡ None → (last_passing q n ≡ None → last_passing p n ≡ None)
+        → cond d (Some n) (last_passing p n) ≡ None
+    by true d is are none rest = cc
+    by false true is are none rest = let bad : false ≡ true = sym is ∙ more n are in cc
+    by false false is are none rest = rest none
+
+pub none_on_either : (ks : List Kept) (fs : List Effect) (place n : ℕ) → last_passing (is_on ks fs place false) n ≡ None
+    → (fits : Bool) → last_passing (is_on ks fs place fits) n ≡ None
+none_on_either ks fs place n none true = none_passes (is_on ks fs place true) (is_on ks fs place false) (on_either ks fs place) n none
+none_on_either ks fs place n none false = none

@@ -17,6 +17,7 @@ use Rattle.iocm_model.specs.Change.Refusal.{refusal_at, first_not_quiet}
 use Rattle.iocm_model.specs.Laws.Trees.{KeepsTheRules}
 use Rattle.iocm_history.specs.Entry.{undo, History, plain_entry}
 use Rattle.iocm_history.specs.Account.{account, state_at}
+use Rattle.iocm_history.specs.Fits.{fits}
 use Rattle.iocm_history.specs.Journal.{is_in, journal_of}
 use Rattle.iocm_history.specs.Legal.{IsRight}
 use Rattle.iocm_history.specs.UndoLaws.{undo_entry}
@@ -33,12 +34,12 @@ use Rattle.iocm_journal.specs.Answering.{IsNext, undo_made}
 use Rattle.iocm_journal.specs.Deciding.{IsUndoDecided, not_quiet, unless_refused, greatest_now, not_quiet_now}
 use Rattle.iocm_journal.specs.Moving.{KeepsTheSame, WasUndone}
 use Rattle.iocm_journal.specs.Now.{IsJournalOf, IsNow, BelongTogether}
-use Rattle.iocm_journal.specs.Standing.{IsWhetherItFits, stands_at, inverse_at, is_on, last_passing}
+use Rattle.iocm_journal.specs.Standing.{IsGreatestOn, stands_at, inverse_at}
 use Rattle.iocm_journal.specs.declared.kept.Kept.{Kept}
 use Rattle.iocm_journal.specs.Journaled.{Journaled}
 use Rattle.iocm_journal.proofs.Answers.{unless_busy}
 use Rattle.iocm_journal.proofs.Deciding.{stands_is, effect_there}
-use Rattle.iocm_journal.proofs.Places.{stands_low, stands_item, inverse_item}
+use Rattle.iocm_journal.proofs.Places.{stands_low, inverse_item}
 use Rattle.iocm_journal.proofs.Refused.{right_undo, lacking_undo, undo_refused}
 use Rattle.iocm_journal.proofs.UndoDecided.{quiet_is, stands_on_is, undo_decided, not_standing}
 use Rattle.iocm_journal.proofs.Undoing.{undone_now}
@@ -85,48 +86,43 @@ undo_of_none {opening = opening} {h = h} {j = j} {p = p} now n why none is =
 
 -- ---- what decides an undo
 
--- a change at a place, as it is kept: it stands, and this is whether it fits a machine
-pub record IsTried (j : Journaled) (p : Operating) (place : ℕ) (k : Kept) (is_fit : Bool) : Type 0 where
-  pub there : slice_get j.changes place ≡ Some k
-  pub stands : k.stands ≡ true
-  pub fit : IsWhetherItFits k p.state is_fit
-
-pub tried : {j : Journaled} {p : Operating} {place : ℕ} {k : Kept} {is_fit : Bool} → slice_get j.changes place ≡ Some k
-    → stands_at j.changes place ≡ true → IsWhetherItFits k p.state is_fit → IsTried j p place k is_fit
-tried {j = j} {place = place} {k = k} there stands fit =
-    record { there = there; stands = sym (stands_item j.changes place k there) ∙ stands; fit = fit }
-
 module _ {opening : State} {h : History} {j : Journaled} {fs : List Effect} {p : Operating}
-    (now : IsNow opening h j fs p) (place : ℕ) (k : Kept) (is_fit : Bool)
-    (change : IsTried j p place k is_fit) where
-  abbrev found : Option ℕ
-  found = last_passing (is_on j.changes fs place is_fit) (length j.changes)
+    (now : IsNow opening h j fs p) (place : ℕ) (stands : stands_at j.changes place ≡ true)
+    (on : Option ℕ) (greatest : IsGreatestOn j.changes fs place p.state on) where
+  abbrev k : Kept
+  k = (stands_low j.changes place stands).0
+
+  there : slice_get j.changes place ≡ Some k
+  there = (stands_low j.changes place stands).1
+
+  it_stands : k.stands ≡ true
+  it_stands = (stands_low j.changes place stands).2
 
   on_is : (f : Effect) → slice_get fs place ≡ Some f
-      → greatest_now opening h (place + 1) ≡ option_map (λ at. at + 1) found
-  on_is f at_f = let it = now.journal.kept place k f change.there at_f in
-      stands_on_is now place k f change.there at_f change.stands is_fit
-      (change.fit it.change.edits it.change.from it.inverse it.performed)
+      → greatest_now opening h (place + 1) ≡ option_map (λ at. at + 1) on
+  on_is f at_f = let it = now.journal.kept place k f there at_f in
+      stands_on_is now place k f there at_f it_stands (fits it.change p.state) refl
+      ∙ ap (option_map (λ at. at + 1)) (sym (greatest k it.change.edits it.change.from there it.inverse it.performed))
 
   -- J2: a change stands on it
-  pub stood_on : (other : ℕ) (why : Refused) → found ≡ Some other → why ≡ refusal_at J2 (Change (other + 1))
+  pub stood_on : (other : ℕ) (why : Refused) → on ≡ Some other → why ≡ refusal_at J2 (Change (other + 1))
       → IsUndoDecided opening h (place + 1) (Some why)
   stood_on other why is named =
-      let f = effect_there now.journal place k change.there in
+      let f = effect_there now.journal place k there in
       ap answers.Refused named
-      ∙ undo_decided now place k f.0 change.there f.1 change.stands (Some (other + 1))
+      ∙ undo_decided now place k f.0 there f.1 it_stands (Some (other + 1))
       (not_quiet_now opening h (place + 1)) (on_is f.0 f.1 ∙ ap (option_map (λ at. at + 1)) is) refl
 
   -- B1, or nothing
-  pub waits_for : (f : Effect) (why : Option Refused) → f ≡ get_or fs place f → found ≡ None
+  pub waits_for : (f : Effect) (why : Option Refused) → f ≡ get_or fs place f → on ≡ None
       → why ≡ option_map not_quiet (first_not_quiet p.state.lives (keys (effect_in f).lives)) → IsUndoDecided opening h (place + 1) why
   waits_for f why read none is =
-      let within : place < length fs = let low = slice_get_within j.changes place k change.there in
+      let within : place < length fs = let low = slice_get_within j.changes place k there in
       let same = now.journal.effects in omega (arith, low, same) in
       let at_f = slice_get_read fs (length fs) place f refl within read in
       ap (unless_refused (answers.Undone (place + 1))) is ∙ unless_busy (answers.Undone (place + 1)) _
-      ∙ undo_decided now place k f change.there at_f change.stands None _ (on_is f at_f ∙ ap (option_map (λ at. at + 1)) none)
-      (quiet_is now (place + 1) k f (now.journal.kept place k f change.there at_f))
+      ∙ undo_decided now place k f there at_f it_stands None _ (on_is f at_f ∙ ap (option_map (λ at. at + 1)) none)
+      (quiet_is now (place + 1) k f (now.journal.kept place k f there at_f))
 
 -- ---- an undo that is performed
 

@@ -56,6 +56,13 @@ abbrev pub last_passing : (ℕ → Bool) → ℕ → Option ℕ
 last_passing passes zero = None
 last_passing passes (suc n) = if passes n then Some n else last_passing passes n
 
+-- the place of the greatest change that stands on the one at a place, if one does, as the machine's
+-- state is now: by whether that change, whatever it was, fits this state
+abbrev pub IsGreatestOn : List Kept → List Effect → ℕ → State → Option ℕ → Type 0
+IsGreatestOn ks fs place now on = (k : Kept) (es : List Edit) (s : State) → slice_get ks place ≡ Some k
+    → plain_tree (tree_of k.inverse) ≡ inverse_tree es s → AreToldBy k.performed.items (told_of_all es s)
+    → on ≡ last_passing (is_on ks fs place (fits (record { edits = es; from = s }) now)) (length ks)
+
 -- whether the change of a number is the last one undone
 abbrev pub is_last : List Undone → ℕ → Bool
 is_last us number = option_map_or (λ (u : Undone). u.number == number) (slice_get us (length us - 1)) false

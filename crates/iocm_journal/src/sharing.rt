@@ -13,9 +13,19 @@ use iocm_types::TableKey;
 pub fn share_a_cell(one: &Effect, other: &Effect) -> bool
     ensures { result ≡ share_a_cell (effect_in one.now) (effect_in other.now) }
 {
-    has_one_of(&other.records, &one.records)
-        || has_one_of(&other.numbers, &one.numbers)
-        || has_one_of(&other.lives, &one.lives)
+    have_common(&one.records, &other.records)
+        || have_common(&one.numbers, &other.numbers)
+        || have_common(&one.lives, &other.lives)
+}
+
+/// Whether two tables have rows under one key. The time is that of a walk over the smaller one.
+fn have_common<K: TableKey, V>(one: &Table<K, V>, other: &Table<K, V>) -> bool
+    ensures { result ≡ list_any (contains_key (rows K.order other.now)) (keys (rows K.order one.now)) }
+{
+    if one.len() <= other.len() {
+        return has_one_of(other, one);
+    }
+    has_one_of(one, other)
 }
 
 /// Whether a table has a row under the key of a row of another.

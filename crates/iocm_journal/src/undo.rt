@@ -1,5 +1,5 @@
 ghost use Rattle.std.specs.Prelude.{◌≡◌, ◌<◌, ◌+◌, ℕ, length, MatchOption};
-ghost use Rattle.std.specs.Prelude.{IfOk, IfErr, IsFalse, IsTrue, OnOk, OnErr};
+ghost use Rattle.std.specs.Prelude.{IfOk, IfErr, IfSome, IsFalse, IsTrue, OnOk, OnErr};
 ghost use Rattle.iocm_model.specs.Change.Meaning.{meaning};
 ghost use Rattle.iocm_model.specs.Laws.Trees.{KeepsTheRules};
 ghost use Rattle.iocm_model.specs.Operation.State.{State};
@@ -11,7 +11,7 @@ ghost use Rattle.iocm_journal.specs.Answering.{GoOnBy, undo_made};
 ghost use Rattle.iocm_journal.specs.Deciding.{IsUndoDecided};
 ghost use Rattle.iocm_journal.specs.Moving.{KeepsTheSame, WasUndone};
 ghost use Rattle.iocm_journal.specs.Now.{BelongTogether, IsNow};
-ghost use Rattle.iocm_journal.specs.Standing.{inverse_at, stands_at};
+ghost use Rattle.iocm_journal.specs.Standing.{inverse_at, stands_at, IsGreatestOn};
 
 use crate::Journal;
 use crate::kept::Undone;
@@ -83,11 +83,39 @@ impl Journal {
         ensures same { plant.new.state ≡ plant.old.state }
         ensures room { KeepsRoom plant.old.room plant.new.room }
     {
-        let is_fit = self.kept_at(place).fits(alloc, plant)?;
-        if let Some(other) = greatest_on(self.changes.as_slice(), changes, place, is_fit) {
+        let on = self.stood_on_by(alloc, plant, changes, place)?;
+        if let Some(other) = on {
             return Ok(Some(Refused::about(Rule::J2, At::Change(other as u64 + 1))));
         }
         Ok(refused_for_not_quiet(plant, &changes[place]))
+    }
+
+    /// The place of the greatest change that stands on the one at a place, if one does. Whether
+    /// that one fits is tried only where a change stood on it if it didn't: what stands on a change
+    /// that fits would stand on it then, too.
+    ///
+    /// `AllocError` (M1): memory was wanted.
+    fn stood_on_by(
+        &self,
+        alloc: Global,
+        plant: &mut Plant,
+        changes: &[Effect],
+        place: usize,
+    ) -> Result<Option<usize>, AllocError>
+        requires rules { KeepsTheRules plant.old.state }
+        requires place { place < length self.now.changes }
+        requires changes { length changes.now ≡ length self.now.changes }
+        ensures greatest { IfOk result (IsGreatestOn self.now.changes changes.now place plant.old.state) }
+        ensures within { IfOk result (λ on. IfSome on (λ at. at < length self.now.changes)) }
+        ensures same { plant.new.state ≡ plant.old.state }
+        ensures room { KeepsRoom plant.old.room plant.new.room }
+    {
+        let kept = self.changes.as_slice();
+        if greatest_on(kept, changes, place, false).is_none() {
+            return Ok(None);
+        }
+        let is_fit = self.kept_at(place).fits(alloc, plant)?;
+        Ok(greatest_on(kept, changes, place, is_fit))
     }
 
     /// Takes the standing change at a place back, by its inverse tree; it is the last one undone

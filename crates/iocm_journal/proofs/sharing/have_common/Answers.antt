@@ -1,0 +1,11 @@
+use Rattle.std.proofs.Common.{subst, ◌∙◌}
+use Rattle.std.specs.Cmp.{IsTotalOrder}
+use Rattle.std.specs.FinMap.{IsAntisymmetric}
+use Rattle.iocm_table.specs.Slots.{rows}
+use Rattle.iocm_journal.proofs.InCommon.{common_both}
+use Rattle.iocm_journal.proofs.sharing.have_common.Goals as goal
+
+pub returns : goal.returns
+returns g c = c.has_one_of-2.ensures
+    ∙ common_both (subst IsTotalOrder g.met.K.TableKey.is_cmp g.met.K.Ord.total) (subst IsAntisymmetric g.met.K.TableKey.is_cmp g.met.K.TableKey.exact)
+    (rows g.K.TableKey.order c.args.one.now) (rows g.K.TableKey.order c.args.other.now)
