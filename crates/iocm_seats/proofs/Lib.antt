@@ -1,10 +1,12 @@
-pub mod Added
 pub mod Busy
+pub mod Everywhere
 pub mod Exchanged
+pub mod Known
 pub mod Lending
 pub mod Listed
 pub mod Loops
 pub mod Maps
+pub mod Opened
 pub mod Ordered
 pub mod Remembered
 pub mod Settled

@@ -5,5 +5,4 @@ pub mod Listing
 pub mod Seated
 pub mod Settling
 pub mod Sights
-pub mod SubsystemCells
 pub mod Taken

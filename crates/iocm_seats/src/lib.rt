@@ -15,6 +15,7 @@
 
 mod changes;
 mod exchanging;
+mod image_subsystems;
 mod laws;
 mod met;
 mod opening;
@@ -22,6 +23,7 @@ mod seat;
 mod seats;
 mod settling;
 mod subsystem_cells;
+mod subsystem_sights;
 mod taken_cell;
 mod view_change;
 

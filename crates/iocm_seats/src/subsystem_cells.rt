@@ -1,9 +1,8 @@
-ghost use Rattle.std.specs.Prelude.{◌≡◌, [], ◌∷◌, IfOk, IfSome, MatchOption};
+ghost use Rattle.std.specs.Prelude.{◌≡◌, [], ◌∷◌, All, IfOk, IfSome, MatchOption};
 ghost use Rattle.std.specs.FinMap.{entries};
 ghost use Rattle.iocm_model.specs.Machine.Configuration.{lookup_of};
 ghost use Rattle.iocm_model.specs.Machine.Numbering.{cells_of};
-ghost use Rattle.iocm_seats.specs.SubsystemCells.{AreCellsOf};
-ghost use Rattle.iocm_seats.specs.Taken.{cells_in, taken, IsTaken};
+ghost use Rattle.iocm_seats.specs.Taken.{cells_in, taken, taken_of, IsTaken};
 
 use crate::taken_cell::TakenCell;
 use iocm_config::Config;
@@ -12,15 +11,8 @@ use iocm_numbers::Numbers;
 use iocm_types::{Css, DevNo, NumberCell};
 use std::alloc::{AllocError, Allocator};
 
-/// The number cells of a channel subsystem that are taken, with their devices.
-#[derive(Drop)]
-pub(crate) struct SubsystemCells<'a, A: Allocator, B: Allocator> {
-    pub css: Css,
-    pub cells: Vec<TakenCell<'a, A>, B>,
-}
-
-/// The cells of a channel subsystem. Each device is looked up once, for all images that go over
-/// them.
+/// The number cells of a channel subsystem that are taken, with their devices. Each device is
+/// looked up once, for all images.
 ///
 /// `AllocError` (M1): memory was wanted.
 pub(crate) fn subsystem_cells<'a, A: Allocator, B: Allocator, C: Allocator>(
@@ -28,10 +20,10 @@ pub(crate) fn subsystem_cells<'a, A: Allocator, B: Allocator, C: Allocator>(
     config: &'a Config<A>,
     numbers: &Numbers<B>,
     css: Css,
-) -> Result<SubsystemCells<'a, A, C>, AllocError>
-    ensures css { IfOk result (λ near. near.css ≡ css) }
-    ensures cells { IfOk result (AreCellsOf (lookup_of config.entry.now.records)
-        (entries (cells_of numbers.now.numbers))) }
+) -> Result<Vec<TakenCell<'a, A>, C>, AllocError>
+    ensures cells { IfOk result (λ cells. taken_of cells.items
+        ≡ cells_in css (entries (cells_of numbers.now.numbers))) }
+    ensures devices { IfOk result (λ cells. All (IsTaken (lookup_of config.entry.now.records)) cells.items) }
 {
     let mut devices = DeviceWalk::new(config);
     let mut cells = Vec::new(alloc);
@@ -40,7 +32,7 @@ pub(crate) fn subsystem_cells<'a, A: Allocator, B: Allocator, C: Allocator>(
             cells.push(taken)?;
         }
     }
-    Ok(SubsystemCells { css, cells })
+    Ok(cells)
 }
 
 /// A number cell that is taken, with its device, if it is of the channel subsystem.

@@ -38,8 +38,8 @@ loop-cell-preserved-in-Continue-1 g c =
       same = c.taken_in.ensures.same ∙ c.loop-cell.invariant.same;
     }
 
-pub returns-clause-cells : goal.returns-clause-cells
-returns-clause-cells g c = record {
+pub returns : goal.returns
+returns g c = record {
   cells = sym (append-nil (taken_of c.loop-cell.cells.items))
       ∙ ap (λ xs. taken_of c.loop-cell.cells.items ++ cells_in c.args.css xs) (sym c.in-None.ensures.steps.0)
       ∙ c.loop-cell.invariant.cells

@@ -1,0 +1,55 @@
+ghost use Rattle.std.specs.Prelude.{◌≡◌, [], ◌∷◌, nat_eq, IfOk, MatchOption};
+ghost use Rattle.std.specs.List.{list_any};
+ghost use Rattle.iocm_model.specs.Machine.Configuration.{records_of};
+ghost use Rattle.iocm_seats.specs.Listing.{AreSubsystemsOf};
+
+use iocm_config::Config;
+use iocm_record::{Record, RecordBody};
+use iocm_types::Css;
+use std::alloc::{AllocError, Allocator};
+
+/// The channel subsystems of the images of a configuration.
+///
+/// `AllocError` (M1): memory was wanted.
+pub(crate) fn image_subsystems<A: Allocator, B: Allocator>(
+    alloc: B,
+    config: &Config<A>,
+) -> Result<Vec<Css, B>, AllocError>
+    ensures { IfOk result (λ csss. AreSubsystemsOf (records_of config.now.records) csss.items) }
+{
+    let mut csss = Vec::new(alloc);
+    for (_, entry) in config.walk() {
+        if let Some(css) = new_subsystem(csss.as_slice(), entry) {
+            csss.push(css)?;
+        }
+    }
+    Ok(csss)
+}
+
+/// The channel subsystem of a record, if it is that of an image and the channel subsystem isn't
+/// among these.
+fn new_subsystem<A: Allocator>(csss: &[Css], entry: &Record<A>) -> Option<Css>
+    ensures { MatchOption result (AreSubsystemsOf (entry.now ∷ []) csss.now)
+        (λ css. AreSubsystemsOf (entry.now ∷ []) (css ∷ [])) }
+{
+    let RecordBody::Image(css, _, _) = entry.body() else {
+        return None;
+    };
+    if has_subsystem(csss, *css) {
+        return None;
+    }
+    Some(*css)
+}
+
+/// Whether a channel subsystem is among these.
+#[tactic(auto, using(iocm_types::proofs::Any::any_steps))]
+fn has_subsystem(csss: &[Css], css: Css) -> bool
+    ensures { result ≡ list_any (nat_eq css) csss.now }
+{
+    for other in csss {
+        if css == *other {
+            return true;
+        }
+    }
+    false
+}
