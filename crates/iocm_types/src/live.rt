@@ -27,12 +27,13 @@ pub enum Phase {
     Pending(Function),
 }
 
-/// What a subchannel remembers while it is there: whether it is enabled, its logical-path mask, its
-/// interruption parameter, and its phase (Principles of Operation, path-management-control word).
+/// What a subchannel remembers while it is there: its interruption parameter, whether it is enabled,
+/// its logical-path mask, and its phase (Principles of Operation, path-management-control word).
+/// The longest stands first, so that none has room before it that holds nothing.
 #[derive(Clone, Copy, Debug, PartialEq, Eq)]
 pub struct Live {
+    pub parm: u32,
     pub enabled: bool,
     pub lpm: Mask,
-    pub parm: u32,
     pub phase: Phase,
 }
