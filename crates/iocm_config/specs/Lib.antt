@@ -1,2 +1,3 @@
 pub mod OnlineLast
 pub mod Stored
+pub mod Walked

@@ -8,6 +8,7 @@ ghost use Rattle.iocm_model.specs.Machine.Record.{key_of};
 ghost use Rattle.iocm_model.specs.Machine.Configuration.{with_keys, configuration_of, HasNoKeyTwice, IsKeyed};
 ghost use Rattle.iocm_table.specs.Slots.{rows_from};
 ghost use Rattle.iocm_config.specs.Stored.{HasPlace, RecordsHavePlaces};
+ghost use Rattle.iocm_config.specs.Walked.{AreOf};
 
 use crate::listed::list_by_key;
 use iocm_record::Record;
@@ -115,6 +116,7 @@ impl<A: Allocator> Config<A> {
     /// search.
     pub fn walk_from(&self, from: &Key) -> Rows<'_, Key, Record<A>>
         ensures entries { result ≡ rows_from key_cmp from.now (map.entries self.now.records) }
+        ensures records { AreOf self.now.records result }
         ensures fits { length result < 2 ^ 63 }
     {
         self.table.walk_from(from)

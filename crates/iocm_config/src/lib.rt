@@ -5,10 +5,13 @@
 //! answer want of memory; `room`, which gives a key a place, and `from_records` can. What was taken
 //! out can always be put back. What the layers above rely on: `get` is the map's lookup, `walk` its
 //! entries in the order of keys, `put` its insert and `take` its remove. `from_records` builds a
-//! whole configuration at once, in any order. Begin with `config.rt`.
+//! whole configuration at once, in any order. A `RecordWalk` finds records one after the other.
+//! Begin with `config.rt`.
 #![tactic(auto)]
 
 mod config;
 mod listed;
+mod record_walk;
 
 pub use config::Config;
+pub use record_walk::RecordWalk;

@@ -5,4 +5,4 @@ pub mod OnlineMasks
 pub mod PathKeys
 pub mod Reached
 pub mod Tables
-pub mod Walks
+pub mod Viewed

@@ -4,3 +4,4 @@ pub mod OnlineMasks
 pub mod PathTables
 pub mod Sighted
 pub mod SightedCells
+pub mod Walked

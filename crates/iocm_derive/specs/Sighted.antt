@@ -1,13 +1,11 @@
 -- An image of a configuration, with tables of the paths that it reaches and of those that are
 -- online to it, rows of its records, and what it sees by some control units.
-use Rattle.std.specs.Prelude.{◌≡◌, ℕ, Some, List}
-use Rattle.std.specs.List.{list_any, AllByRecursion}
-use Rattle.std.specs.FinMap.{get}
-use Rattle.iocm_types.specs.declared.key.Key.{Key}
+use Rattle.std.specs.Prelude.{◌≡◌, ℕ, List}
+use Rattle.std.specs.List.{list_any}
 use Rattle.iocm_derive.specs.declared.path_tables.PathTables.{PathTables}
 use Rattle.iocm_derive.specs.PathTables.{IsTableOf}
 use Rattle.iocm_derive.specs.declared.units_view.UnitsView.{UnitsView}
-use Rattle.iocm_model.specs.Machine.Record.{Rec, ImageRecord}
+use Rattle.iocm_model.specs.Machine.Record.{ImageRecord}
 use Rattle.iocm_model.specs.Machine.Configuration.{Configuration, Lookup, lookup_of}
 use Rattle.iocm_model.specs.Machine.PathList.{path_list, view_paths}
 use Rattle.iocm_model.specs.Machine.Sight.{reaches}
@@ -24,10 +22,6 @@ pub record IsSeenBy (c : Lookup) (css : ℕ) (name : List ℕ) (v : UnitsView) :
   pub paths : v.paths ≡ view_paths c css v.units.now
   pub installed_mask : v.pim ≡ installed c css name v.paths
   pub available_mask : v.pam ≡ available c css name v.paths
-
--- each row is a key with its record
-abbrev pub AreOf : Configuration → List (Key × Rec) → Type 0
-AreOf m rows = AllByRecursion (λ e. get m e.0 ≡ Some e.1) rows
 
 -- the tables of the paths that the image of this name reaches, and of those that are online to it;
 -- the devices and the control units of the configuration; and what the image sees by some units

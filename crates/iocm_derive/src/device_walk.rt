@@ -5,8 +5,7 @@ ghost use Rattle.iocm_model.specs.Machine.View as model;
 ghost use Rattle.iocm_record.specs.Meaning.{device_of};
 
 use crate::lookup::device_fields;
-use crate::record_walk::RecordWalk;
-use iocm_config::Config;
+use iocm_config::{Config, RecordWalk};
 use iocm_record::DeviceFields;
 use iocm_types::{DevNo, Key, SetNo};
 use std::alloc::Allocator;

@@ -6,7 +6,8 @@
 //! one after the other. `ImageSight` gives the views of one image at many devices: it keeps such a
 //! walk, tables of the image's paths, and what it sees by the last device's control units. `CellSight`
 //! gives the views of many images at one number cell: what the images of its channel subsystem
-//! share there is looked up once. `ImageNames` gives the names of many images, one after the other.
+//! share there is looked up once. `ViewWalk` gives the views at many subchannels, one after the
+//! other. `ImageNames` gives the names of many images, one after the other.
 //! Begin with `view.rt`, then `reach.rt` for what both ways share.
 #![tactic(auto)]
 
@@ -24,10 +25,10 @@ mod path_tables;
 mod paths;
 mod reach;
 mod reaching;
-mod record_walk;
 mod sight;
 mod units_view;
 mod view;
+mod view_walk;
 
 pub use cell_sight::CellSight;
 pub use device_walk::DeviceWalk;
@@ -38,3 +39,4 @@ pub use masks::{pam, pim};
 pub use paths::path_list;
 pub use sight::sees;
 pub use view::{image_view, view_at};
+pub use view_walk::ViewWalk;

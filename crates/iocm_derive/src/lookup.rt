@@ -1,4 +1,4 @@
-ghost use Rattle.std.specs.Prelude.{◌≡◌, IfSome};
+ghost use Rattle.std.specs.Prelude.{◌≡◌};
 ghost use Rattle.std.specs.Option.{option_copied, option_map};
 ghost use Rattle.iocm_types.specs.declared.key.Key.TheVariants as key;
 ghost use Rattle.iocm_model.specs.Machine.Configuration.{lookup_of, as_device};
@@ -8,12 +8,10 @@ ghost use Rattle.iocm_model.specs.Machine.Sight.{reaches, record_lists};
 ghost use Rattle.iocm_model.specs.Machine.View.{device_record};
 ghost use Rattle.iocm_record.specs.Meaning as meaning;
 ghost use Rattle.iocm_derive.specs.Derived.{all_paths, image_name, name_at};
-ghost use Rattle.iocm_derive.specs.Sighted.{AreOf};
 
 use crate::sight::has_name;
 use iocm_config::Config;
 use iocm_record::{DeviceFields, PathFields, Record, RecordBody};
-use iocm_table::Rows;
 use iocm_types::{Chpid, Css, CssPath, DevNo, Image, Key, Name, SetNo, UnitNo};
 use std::alloc::Allocator;
 
@@ -37,22 +35,6 @@ pub fn device_fields<A: Allocator>(entry: &Record<A>) -> Option<&DeviceFields<A>
         RecordBody::Device(fields) => Some(fields),
         _ => None,
     }
-}
-
-/// The rows of all records from a key on.
-pub fn walk_from<'a, A: Allocator>(config: &'a Config<A>, from: &Key) -> Rows<'a, Key, Record<A>>
-    ensures { AreOf config.entry.now.records result }
-{
-    config.walk_from(from)
-}
-
-/// The rows of all records behind that of a key, if it is there.
-pub fn walk_behind<'a, A: Allocator>(config: &'a Config<A>, from: &Key) -> Rows<'a, Key, Record<A>>
-    ensures { AreOf config.entry.now.records result }
-{
-    let mut rows = walk_from(config, from);
-    let _ = rows.next();
-    rows
 }
 
 /// The channel subsystem and the name in an image's record, if there is one.

@@ -6,8 +6,7 @@ ghost use Rattle.iocm_record.specs.Meaning.{device_of};
 ghost use Rattle.iocm_derive.specs.Derived.{paths_at, paths_of};
 
 use crate::lookup::{find_device, find_paths, paths_in};
-use crate::record_walk::RecordWalk;
-use iocm_config::Config;
+use iocm_config::{Config, RecordWalk};
 use iocm_record::DeviceFields;
 use iocm_types::{Css, CssPath, DevNo, Key, Paths, SetNo, UnitNo};
 use std::alloc::Allocator;

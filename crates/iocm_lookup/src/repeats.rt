@@ -1,12 +1,12 @@
 ghost use Rattle.std.specs.Prelude.{◌≡◌, ℕ, ◌&&◌, Bool, Option, false, get_or};
+ghost use Rattle.std.specs.Option.{option_copied, option_map_or};
 ghost use Rattle.iocm_types.specs.Naming.{naming_cmp};
 ghost use Rattle.iocm_table.specs.Slots.{rows};
 ghost use Rattle.iocm_model.specs.Machine.Record.{Rec};
 ghost use Rattle.iocm_model.specs.Machine.Configuration.{Configuration, lookup_of};
-ghost use Rattle.iocm_lookup.specs.Among.{is_so_at};
 ghost use Rattle.iocm_lookup.specs.Repeats as repeats;
 
-use iocm_config::Config;
+use iocm_config::{Config, RecordWalk};
 use iocm_index::Index;
 use iocm_record::Record;
 use iocm_types::{Key, Named};
@@ -31,8 +31,8 @@ pub trait Addressed<A: Allocator> {
 }
 
 /// Of the users of a thing, in order, the first that is looked for and has the address of one
-/// before it. The time is that of one look at each user. Whether one is looked for is asked only
-/// where its address was met.
+/// before it. The time is that of one look at each user, without a search where their records stand
+/// side by side. Whether one is looked for is asked only where its address was met.
 pub fn first_repeated<A: Allocator, I: Allocator, D: Addressed<A>>(
     config: &Config<A>,
     index: &Index<I>,
@@ -43,30 +43,33 @@ pub fn first_repeated<A: Allocator, I: Allocator, D: Addressed<A>>(
         (D.wants addressed.now config.now.records)
         (lookup_of config.now.records) (rows naming_cmp index.now) thing }
 {
+    let mut records = RecordWalk::new(config);
     let mut met = [false; 256];
     for user in index.users_of(thing) {
-        if is_repeated(config, addressed, &mut met, &user) {
+        let found = records.find(&user);
+        if is_repeated(config, addressed, &mut met, found) {
             return Some(user);
         }
     }
     None
 }
 
-/// Whether a user is looked for and has an address that was met. Its address is met from now on.
+/// Whether a user, of which this is the record, is looked for and has an address that was met. Its
+/// address is met from now on.
 fn is_repeated<A: Allocator, D: Addressed<A>>(
     config: &Config<A>,
     addressed: &D,
     met: &mut [bool; 256],
-    user: &Key,
+    found: Option<&Record<A>>,
 ) -> bool
     ensures repeated { result ≡ (repeats.is_met (λ a. get_or met.old a false)
-        (repeats.address_in (D.address_of addressed.now) (lookup_of config.now.records user.now))
-        && is_so_at (D.wants addressed.now config.now.records) (lookup_of config.now.records) user.now) }
+        (repeats.address_in (D.address_of addressed.now) (option_copied found.entry))
+        && option_map_or (D.wants addressed.now config.now.records) (option_copied found.entry) false) }
     ensures noted { (b : ℕ) → get_or met.new b false ≡ repeats.met_with
-        (repeats.address_in (D.address_of addressed.now) (lookup_of config.now.records user.now))
+        (repeats.address_in (D.address_of addressed.now) (option_copied found.entry))
         (λ a. get_or met.old a false) b }
 {
-    match config.get(user) {
+    match found {
         Some(entry) => meets(met, addressed.address(entry)) && addressed.is_wanted(config, entry),
         None => false,
     }

@@ -1,4 +1,5 @@
--- What the users that are left give, with the addresses met, is the first of all.
+-- The walk is over the configuration. What the users that are left give, with the addresses met, is
+-- the first of all.
 use Rattle.std.proofs.Common.{◌≡◌, ℕ, Bool, false, Option, get_or}
 use Rattle.iocm_types.specs.declared.key.Key.{Key}
 use Rattle.iocm_types.specs.Naming.{naming_cmp}
@@ -13,5 +14,5 @@ abbrev pub invariant-loop-user : goal.invariant-loop-user
 invariant-loop-user g l = let c = lookup_of l.config.records in
     let address : Key → Option ℕ = λ k. address_in (g.D.Addressed.address_of l.addressed) (c k) in
     let wanted : Key → Bool = is_so_at (g.D.Addressed.wants l.addressed l.config.records) c in
-    first_repeated address wanted (λ a. get_or l.met a false) l.user-iterator
-    ≡ first_repeated address wanted (λ a. false) (users_in l.fn.thing (rows naming_cmp l.index))
+    (l.records ≡ l.config.records) × (first_repeated address wanted (λ a. get_or l.met a false) l.user-iterator
+    ≡ first_repeated address wanted (λ a. false) (users_in l.fn.thing (rows naming_cmp l.index)))

@@ -1,5 +1,5 @@
 -- The rows of a walk over a configuration are of the configuration.
-use Rattle.std.proofs.Common.{◌≡◌, Bool, true, false, cond, List, [], ◌∷◌, Option, None, Some, MatchOption, T, sym, subst, ◌∙◌}
+use Rattle.std.proofs.Common.{◌≡◌, Bool, true, false, cond, List, [], ◌∷◌, Some, T, ◌∙◌}
 use Rattle.std.specs.Ordering.{is_le}
 use Rattle.std.specs.FinMap.{find, get, entries, is_sorted, entries_sorted, get-entries}
 use Rattle.iocm_types.specs.declared.key.Key.{Key}
@@ -10,7 +10,7 @@ use Rattle.iocm_types.proofs.Tests.{first_holds, second_holds}
 use Rattle.iocm_table.specs.Slots.{rows_from}
 use Rattle.iocm_model.specs.Machine.Record.{Rec}
 use Rattle.iocm_model.specs.Machine.Configuration.{Configuration}
-use Rattle.iocm_derive.specs.Sighted.{AreOf}
+use Rattle.iocm_config.specs.Walked.{AreOf}
 
 -- entries in order that are found in a configuration are of it
 found_are_of : (m : Configuration) (es : List (Key × Rec)) → T (is_sorted key_cmp es)
@@ -33,9 +33,3 @@ from_key m k (e ∷ es) of = kept m e (rows_from key_cmp k es) (is_le (key_cmp k
 -- the rows of a configuration from a key on
 pub walked_are_of : (m : Configuration) (k : Key) → AreOf m (rows_from key_cmp k (entries m))
 walked_are_of m k = from_key m k (entries m) (found_are_of m (entries m) (entries_sorted m) (λ q r h. get-entries m q ∙ h))
-
--- and so are those behind the first
-pub behind_are_of : {A : Type 0} (m : Configuration) (rows rest : List (Key × Rec)) (row : A → Key × Rec) (found : Option A)
-    → MatchOption found ((rows ≡ []) × (rest ≡ [])) (λ x. rows ≡ row x ∷ rest) → AreOf m rows → AreOf m rest
-behind_are_of m rows rest row None steps of = subst (AreOf m) (sym steps.1) tt
-behind_are_of m rows rest row (Some x) steps of = (subst (AreOf m) steps of).1

@@ -2,8 +2,7 @@ ghost use Rattle.std.specs.Prelude.{◌≡◌, IfSome, Some};
 ghost use Rattle.std.specs.Option.{option_copied};
 ghost use Rattle.iocm_model.specs.Machine.Configuration.{lookup_of};
 
-use crate::lookup::walk_from;
-use iocm_config::Config;
+use crate::config::Config;
 use iocm_record::Record;
 use iocm_table::Rows;
 use iocm_types::Key;
@@ -23,7 +22,7 @@ impl<'a, A: Allocator> Model for RecordWalk<'a, A> {
     ghost use Rattle.std.specs.FinMap as map;
     ghost use Rattle.std.specs.Coded.{codes};
     ghost use Rattle.iocm_model.specs.Machine.Configuration.{Configuration};
-    ghost use Rattle.iocm_derive.specs.Sighted.{AreOf};
+    ghost use Rattle.iocm_config.specs.Walked.{AreOf};
 
     ghost Value = { Configuration };
 
@@ -41,7 +40,7 @@ impl<'a, A: Allocator> RecordWalk<'a, A> {
     {
         RecordWalk {
             config,
-            rows: walk_from(config, &Key::Id),
+            rows: config.walk_from(&Key::Id),
         }
     }
 
@@ -54,7 +53,7 @@ impl<'a, A: Allocator> RecordWalk<'a, A> {
         if let Some(entry) = self.next_under(key) {
             return Some(entry);
         }
-        self.rows = walk_from(self.config, key);
+        self.rows = self.config.walk_from(key);
         if let Some(entry) = self.next_under(key) {
             return Some(entry);
         }
