@@ -9,6 +9,9 @@ use iocm_record::{Record, RecordBody};
 use iocm_types::{Css, Image, Key, Name};
 use std::alloc::{AllocError, Allocator};
 
+/// The most images that a configuration has: 15 in each of six channel subsystems.
+const MOST_IMAGES: usize = 90;
+
 /// Some images of a configuration.
 #[derive(Clone, Copy)]
 enum Group {
@@ -69,7 +72,7 @@ fn images_in<A: Allocator, B: Allocator>(
     ensures rise { IfOk result (λ images. IsStrictlySortedBy image_cmp images.items) }
 {
     config.has_own_keys();
-    let mut images = Vec::new(alloc);
+    let mut images = Vec::with_capacity(alloc, MOST_IMAGES)?;
     for (key, entry) in config.walk_from(&Key::Resource) {
         if is_past_images(key) {
             return Ok(images);

@@ -1,4 +1,4 @@
-ghost use Rattle.std.specs.Prelude.{◌≡◌, [], IsOk, OnOk, ◌≤◌, if◌then◌else◌};
+ghost use Rattle.std.specs.Prelude.{◌≡◌, [], IfOk, IsOk, OnErr, OnOk, ◌≤◌, if◌then◌else◌};
 ghost use Rattle.std.specs.Borrow.{sem};
 ghost use Rattle.std.specs.Option.{option_copied, option_copied_mut};
 ghost use Rattle.std.specs.FinMap as map;
@@ -117,6 +117,31 @@ impl<V, A: Allocator> Grid<V, A> {
         let before = slot.replace(row);
         self.len += one_if(before.is_none());
         before
+    }
+
+    /// Gives a subchannel a row, and a place before that if it has none. Gives back the row that it
+    /// had. Each other one that has a place keeps it. One search is enough where it has a place.
+    ///
+    /// `AllocError` (M1): memory was wanted, which can't be where the subchannel has a place
+    /// already. Then no row has changed.
+    pub fn add(&mut self, key: &SubId, row: V) -> Result<Option<V>, AllocError>
+    where
+        V: Drop,
+        A: Clone,
+        ensures before { IfOk result (λ had. had ≡ map.get self.old.rows key.now) }
+        ensures rows { OnOk result (self.new.rows ≡ map.insert self.old.rows key.now row) }
+        ensures ok { OnOk result (HasPlace self.new key.now) }
+        ensures err { OnErr result (self.new.rows ≡ self.old.rows) }
+        ensures kept { (x : subchannels.SubId) → HasPlace self.old x → HasPlace self.new x }
+        ensures succeeds { HasPlace self.old key.now → IsOk result }
+    {
+        let Some(own) = slot_mut(&mut self.levels, key) else {
+            self.room(key)?;
+            return Ok(self.put(key, row));
+        };
+        let had = own.replace(row);
+        self.len += one_if(had.is_none());
+        Ok(had)
     }
 
     /// Takes the row of a subchannel out, if it has one. Its place stays. Can't answer want of

@@ -4,9 +4,9 @@
 //! The lowest free number is the one that is given, so the numbers of a set have few gaps, and a
 //! row is found by three indices however many rows there are. The rows of one number stand side by
 //! side: what an edit does to a device it does at all of them. Contracts see the finite map of the
-//! rows and the subchannels that have a place. `room` gives a subchannel a place, and is the only
-//! call that may want memory. `put` wants a place, and `take` leaves it, so what was taken out can
-//! always be put back.
+//! rows and the subchannels that have a place. `room` gives a subchannel a place, `add` a place and
+//! a row. No other call may ask for memory. `put` needs a place, and `take` leaves it, so what was
+//! taken out can always be put back.
 //!
 //! Begin with `grid.rt`, then `levels.rt` for the lists. What names no source is our own.
 #![tactic(auto)]

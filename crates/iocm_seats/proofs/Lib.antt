@@ -9,6 +9,7 @@ pub mod Maps
 pub mod Opened
 pub mod Ordered
 pub mod Remembered
+pub mod SetEnds
 pub mod Settled
 pub mod Sighted
 pub mod Taken

@@ -78,33 +78,33 @@ module _ (P : Row → Type 0) where
     own_cells : (i : ImageRecord) (css : ℕ) → (i.css == css) ≡ true → AllByRecursion (λ e. at i e) (cells_in i.css cells) → AllByRecursion (λ e. at i e) (cells_in css cells)
     own_cells i css is all = subst (λ k. AllByRecursion (λ e. at i e) (cells_in k cells)) (eqb-true i.css css is) all
 
-    there : of_images → (csss : List ℕ) → AllByRecursion P (flat_map (subsystem_seats c cells) csss)
-    there all csss = of_parts P (subsystem_seats c cells) csss (of_any (λ css. AllByRecursion P (subsystem_seats c cells css))
+    there : of_images → (subsystems : List ℕ) → AllByRecursion P (flat_map (subsystem_seats c cells) subsystems)
+    there all subsystems = of_parts P (subsystem_seats c cells) subsystems (of_any (λ css. AllByRecursion P (subsystem_seats c cells css))
         (λ css. to_subsystem css (of_passing (λ i. AllByRecursion (λ e. at i e) (cells_in css cells)) (λ (i : ImageRecord). i.css == css) (images_of c)
         (weaker (λ (i : ImageRecord). AllByRecursion (λ e. at i e) (cells_in i.css cells)) (λ i. (i.css == css) ≡ true → AllByRecursion (λ e. at i e) (cells_in css cells))
-        (λ i here is. own_cells i css is here) (images_of c) all))) csss)
+        (λ i here is. own_cells i css is here) (images_of c) all))) subsystems)
 
     -- of the channel subsystem of an image that is among these
-    picked : (i : ImageRecord) (csss : List ℕ) → T (list_any (nat_eq i.css) csss)
-        → AllByRecursion (λ css. (i.css == css) ≡ true → AllByRecursion (λ e. at i e) (cells_in css cells)) csss
+    picked : (i : ImageRecord) (subsystems : List ℕ) → T (list_any (nat_eq i.css) subsystems)
+        → AllByRecursion (λ css. (i.css == css) ≡ true → AllByRecursion (λ e. at i e) (cells_in css cells)) subsystems
         → AllByRecursion (λ e. at i e) (cells_in i.css cells)
     picked i [] among all = absurd among
-    picked i (css ∷ csss) among all = by (nat_eq i.css css) refl among (λ later. picked i csss later all.1)
+    picked i (css ∷ subsystems) among all = by (nat_eq i.css css) refl among (λ later. picked i subsystems later all.1)
       where
-        by : (b : Bool) → nat_eq i.css css ≡ b → T (b || list_any (nat_eq i.css) csss)
-            → (T (list_any (nat_eq i.css) csss) → AllByRecursion (λ e. at i e) (cells_in i.css cells)) → AllByRecursion (λ e. at i e) (cells_in i.css cells)
+        by : (b : Bool) → nat_eq i.css css ≡ b → T (b || list_any (nat_eq i.css) subsystems)
+            → (T (list_any (nat_eq i.css) subsystems) → AllByRecursion (λ e. at i e) (cells_in i.css cells)) → AllByRecursion (λ e. at i e) (cells_in i.css cells)
         by true is among more = subst (λ k. AllByRecursion (λ e. at i e) (cells_in k cells)) (sym (eqb-true i.css css is)) (all.0 is)
         by false is among more = more among
 
-    back : (csss : List ℕ) → AreSubsystemsOf (records_of c) csss → AllByRecursion P (flat_map (subsystem_seats c cells) csss) → of_images
-    back csss known all = by_both (λ (i : ImageRecord). T (list_any (nat_eq i.css) csss))
-        (λ i. AllByRecursion (λ css. (i.css == css) ≡ true → AllByRecursion (λ e. at i e) (cells_in css cells)) csss)
-        (λ i. AllByRecursion (λ e. at i e) (cells_in i.css cells)) (λ i among each. picked i csss among each) (images_of c) known
-        (turned (λ css (i : ImageRecord). (i.css == css) ≡ true → AllByRecursion (λ e. at i e) (cells_in css cells)) csss (images_of c)
+    back : (subsystems : List ℕ) → AreSubsystemsOf (records_of c) subsystems → AllByRecursion P (flat_map (subsystem_seats c cells) subsystems) → of_images
+    back subsystems known all = by_both (λ (i : ImageRecord). T (list_any (nat_eq i.css) subsystems))
+        (λ i. AllByRecursion (λ css. (i.css == css) ≡ true → AllByRecursion (λ e. at i e) (cells_in css cells)) subsystems)
+        (λ i. AllByRecursion (λ e. at i e) (cells_in i.css cells)) (λ i among each. picked i subsystems among each) (images_of c) known
+        (turned (λ css (i : ImageRecord). (i.css == css) ≡ true → AllByRecursion (λ e. at i e) (cells_in css cells)) subsystems (images_of c)
         (weaker (λ css. AllByRecursion P (subsystem_seats c cells css))
         (λ css. AllByRecursion (λ (i : ImageRecord). (i.css == css) ≡ true → AllByRecursion (λ e. at i e) (cells_in css cells)) (images_of c))
         (λ css here. in_passing (λ i. AllByRecursion (λ e. at i e) (cells_in css cells)) (λ (i : ImageRecord). i.css == css) (images_of c) (in_subsystem css here))
-        csss (in_parts P (subsystem_seats c cells) csss all)))
+        subsystems (in_parts P (subsystem_seats c cells) subsystems all)))
 
 -- ---- seats that are given, perhaps more than once, each time the same
 
@@ -182,7 +182,7 @@ or_none false o none = sym (none refl)
 
 -- ---- all of them
 
-module _ (c : Configuration) (n : Numbering) (keyed : IsKeyed c) (csss : List ℕ) (known : AreSubsystemsOf (records_of c) csss) where
+module _ (c : Configuration) (n : Numbering) (keyed : IsKeyed c) (subsystems : List ℕ) (known : AreSubsystemsOf (records_of c) subsystems) where
   abbrev cells : List Cell
   cells = entries (cells_of n)
 
@@ -190,7 +190,7 @@ module _ (c : Configuration) (n : Numbering) (keyed : IsKeyed c) (csss : List �
   rows = map fresh_seat (views c n)
 
   abbrev given : List Row
-  given = flat_map (subsystem_seats c cells) csss
+  given = flat_map (subsystem_seats c cells) subsystems
 
   abbrev all : Seats
   all = from_entries rows
@@ -202,13 +202,13 @@ module _ (c : Configuration) (n : Numbering) (keyed : IsKeyed c) (csss : List �
   rows_to_given : (P : Row → Type 0) → AllByRecursion P rows → AllByRecursion P given
   rows_to_given P holds = there P c cells (weaker (λ (i : ImageRecord). AllByRecursion P (seats_at (lookup_of c) i (cells_in i.css cells)))
       (λ (i : ImageRecord). AllByRecursion (λ e. at P c cells i e) (cells_in i.css cells)) (λ i here. by_cell P (lookup_of c) i (cells_in i.css cells) here) (images_of c)
-      (in_parts P (λ (i : ImageRecord). seats_at (lookup_of c) i (cells_in i.css cells)) (images_of c) (subst (AllByRecursion P) (sym (all_seats c n)) holds))) csss
+      (in_parts P (λ (i : ImageRecord). seats_at (lookup_of c) i (cells_in i.css cells)) (images_of c) (subst (AllByRecursion P) (sym (all_seats c n)) holds))) subsystems
 
   given_to_rows : (P : Row → Type 0) → AllByRecursion P given → AllByRecursion P rows
   given_to_rows P holds = subst (AllByRecursion P) (all_seats c n) (of_parts P (λ (i : ImageRecord). seats_at (lookup_of c) i (cells_in i.css cells)) (images_of c)
       (weaker (λ (i : ImageRecord). AllByRecursion (λ e. at P c cells i e) (cells_in i.css cells))
       (λ (i : ImageRecord). AllByRecursion P (seats_at (lookup_of c) i (cells_in i.css cells))) (λ i here. of_cells P (lookup_of c) i (cells_in i.css cells) here) (images_of c)
-      (back P c cells csss known holds)))
+      (back P c cells subsystems known holds)))
 
   same_keys : (q : SubId) → list_any (eq_by_cmp sub_id_cmp q) (keys_of given) ≡ list_any (eq_by_cmp sub_id_cmp q) (keys_of rows)
   same_keys q = both_false _ _

@@ -92,7 +92,7 @@ fn sight_cells<'a, A: Allocator, B: Allocator, C: Allocator, D: Allocator>(
     ensures { IfOk result (λ sights. sights.items
         ≡ map (sighted_cell tried.now.config.now.records tried.now.numbers.now.numbers) cells.now) }
 {
-    let mut sights = Vec::new(alloc);
+    let mut sights = Vec::with_capacity(alloc, cells.len())?;
     for cell in cells {
         sights.push(sight_cell(tried, images, cell))?;
     }
@@ -129,8 +129,8 @@ fn list_at_images<A: Allocator, B: Allocator, C: Allocator, D: Allocator + Clone
         ≡ lives_met (lives_seated tried.now.seats.now.seats) altered.changes.items) }
 {
     let mut altered = Altered {
-        changes: Vec::new(alloc.clone()?),
-        met: Vec::new(alloc),
+        changes: Vec::with_capacity(alloc.clone()?, images.len())?,
+        met: Vec::with_capacity(alloc, images.len())?,
     };
     let mut names = ImageNames::new(tried.config);
     for image in images {

@@ -4,13 +4,14 @@ ghost use Rattle.std.specs.Map.{keys_of};
 ghost use Rattle.std.specs.FinMap.{is_sorted, remove};
 ghost use Rattle.std.specs.Prelude.{fold};
 ghost use Rattle.iocm_types.specs.SubId.{sub_id_cmp};
+ghost use Rattle.iocm_model.specs.Machine.Configuration.{IsKeyed};
 ghost use Rattle.iocm_model.specs.Operation.State.{views_of};
 ghost use Rattle.iocm_seats.specs.Seated.{lives_seated, HasPlace};
 ghost use Rattle.iocm_seats.specs.Exchange.{exchanged, given, met};
 
 use crate::{Seat, Seats};
 use iocm_config::Config;
-use iocm_derive::view_at;
+use iocm_derive::ViewWalk;
 use iocm_numbers::Numbers;
 use iocm_types::{Live, SubId};
 use std::alloc::Allocator;
@@ -73,26 +74,26 @@ fn give_all<A: Allocator, B: Allocator, C: Allocator>(
 {
     // For the proof alone: each record stands under its own key.
     config.has_own_keys();
+    let mut views = ViewWalk::new(config, numbers);
     for row in back {
-        give_one(seats, config, numbers, row);
+        give_one(seats, &mut views, row);
     }
 }
 
 /// Gives a subchannel its seat, if anything is seen there.
 fn give_one<A: Allocator, B: Allocator, C: Allocator>(
     seats: &mut Seats<A>,
-    config: &Config<B>,
-    numbers: &Numbers<C>,
+    views: &mut ViewWalk<'_, B, C>,
     row: &(SubId, Live),
 )
-    requires { HasPlace seats.old row.now.0 }
+    requires place { HasPlace seats.old row.now.0 }
+    requires keyed { IsKeyed views.old.records }
     ensures seats { seats.new.seats
-        ≡ given (views_of config.now.records numbers.now.numbers) seats.old.seats row.now }
+        ≡ given (views_of views.old.records views.old.numbers) seats.old.seats row.now }
     ensures places { seats.new.places ≡ seats.old.places }
+    ensures same { views.new ≡ views.old }
 {
-    // For the proof alone: each record stands under its own key.
-    config.has_own_keys();
-    let Some(view) = view_at(config, numbers, row.0) else {
+    let Some(view) = views.view(row.0) else {
         return;
     };
     let seat = Seat { view, live: row.1 };

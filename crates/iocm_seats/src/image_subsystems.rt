@@ -15,41 +15,36 @@ pub(crate) fn image_subsystems<A: Allocator, B: Allocator>(
     alloc: B,
     config: &Config<A>,
 ) -> Result<Vec<Css, B>, AllocError>
-    ensures { IfOk result (λ csss. AreSubsystemsOf (records_of config.now.records) csss.items) }
+    ensures { IfOk result (λ subsystems.
+        AreSubsystemsOf (records_of config.now.records) subsystems.items) }
 {
-    let mut csss = Vec::new(alloc);
+    let mut subsystems = Vec::new(alloc);
     for (_, entry) in config.walk() {
-        if let Some(css) = new_subsystem(csss.as_slice(), entry) {
-            csss.push(css)?;
+        if let Some(css) = new_subsystem(subsystems.as_slice(), entry) {
+            subsystems.push(css)?;
         }
     }
-    Ok(csss)
+    Ok(subsystems)
 }
 
 /// The channel subsystem of a record, if it is that of an image and the channel subsystem isn't
 /// among these.
-fn new_subsystem<A: Allocator>(csss: &[Css], entry: &Record<A>) -> Option<Css>
-    ensures { MatchOption result (AreSubsystemsOf (entry.now ∷ []) csss.now)
+fn new_subsystem<A: Allocator>(subsystems: &[Css], entry: &Record<A>) -> Option<Css>
+    ensures { MatchOption result (AreSubsystemsOf (entry.now ∷ []) subsystems.now)
         (λ css. AreSubsystemsOf (entry.now ∷ []) (css ∷ [])) }
 {
     let RecordBody::Image(css, _, _) = entry.body() else {
         return None;
     };
-    if has_subsystem(csss, *css) {
+    if has_subsystem(subsystems, *css) {
         return None;
     }
     Some(*css)
 }
 
 /// Whether a channel subsystem is among these.
-#[tactic(auto, using(iocm_types::proofs::Any::any_steps))]
-fn has_subsystem(csss: &[Css], css: Css) -> bool
-    ensures { result ≡ list_any (nat_eq css) csss.now }
+fn has_subsystem(subsystems: &[Css], css: Css) -> bool
+    ensures { result ≡ list_any (nat_eq css) subsystems.now }
 {
-    for other in csss {
-        if css == *other {
-            return true;
-        }
-    }
-    false
+    subsystems.contains(&css)
 }

@@ -21,6 +21,7 @@ mod met;
 mod opening;
 mod seat;
 mod seats;
+mod set_places;
 mod settling;
 mod subsystem_cells;
 mod subsystem_sights;

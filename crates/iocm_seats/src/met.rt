@@ -48,7 +48,7 @@ pub fn list_left<B: Allocator>(
 ) -> Result<Vec<(SubId, Live), B>, AllocError>
     ensures { IfOk result (λ listed. keys_of listed.items ≡ subchannels_left changes.now) }
 {
-    let mut listed = Vec::new(alloc);
+    let mut listed = Vec::with_capacity(alloc, changes.len())?;
     for change in changes {
         if let Some(view) = &change.after {
             listed.push((change.subchannel, fresh(view.pim)))?;

@@ -9,6 +9,7 @@ ghost use Rattle.iocm_seats.specs.Listing.{cell_seats, cells_seats, seats_at, su
 ghost use Rattle.iocm_seats.specs.Taken.{taken, taken_of, IsTaken};
 
 use crate::image_subsystems::image_subsystems;
+use crate::set_places::make_set_places;
 use crate::subsystem_cells::subsystem_cells;
 use crate::subsystem_sights::subsystem_sights;
 use crate::taken_cell::TakenCell;
@@ -35,15 +36,16 @@ pub fn open_seats<A: Allocator, B: Allocator, C: Allocator + Clone>(
 {
     // For the proof alone: each record stands under its own key, so a subchannel has one view.
     config.has_own_keys();
-    let csss = image_subsystems(alloc.clone()?, config)?;
+    let subsystems = image_subsystems(alloc.clone()?, config)?;
     let mut seats = Seats::new(alloc.clone()?);
-    for css in csss.as_slice() {
+    for css in subsystems.as_slice() {
         open_subsystem(&mut seats, alloc.clone()?, config, numbers, *css)?;
     }
     Ok(seats)
 }
 
-/// Gives the subchannels of a channel subsystem their seats.
+/// Gives the subchannels of a channel subsystem their seats. The places of each set are made before
+/// that, so memory is asked for once.
 ///
 /// `AllocError` (M1): memory was wanted.
 fn open_subsystem<A: Allocator, B: Allocator, C: Allocator + Clone>(
@@ -57,6 +59,7 @@ fn open_subsystem<A: Allocator, B: Allocator, C: Allocator + Clone>(
         (subsystem_seats config.now.records (entries (cells_of numbers.now.numbers)) css)) }
 {
     let cells = subsystem_cells(alloc.clone()?, config, numbers, css)?;
+    make_set_places(seats, cells.as_slice())?;
     let mut sights = subsystem_sights(alloc, config, css)?;
     open_cells(seats, sights.as_mut_slice(), cells.as_slice())?;
     Ok(())
@@ -101,6 +104,8 @@ fn open_at<'a, A: Allocator, B: Allocator + Clone>(
 }
 
 /// Gives the subchannel of an image at a number cell its seat, if the image sees the device there.
+///
+/// `AllocError` (M1): memory was wanted.
 fn open_cell<'a, A: Allocator, B: Allocator + Clone>(
     seats: &mut Seats<B>,
     sight: &mut ImageSight<'a, A>,

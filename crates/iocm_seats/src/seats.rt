@@ -1,4 +1,4 @@
-ghost use Rattle.std.specs.Prelude.{◌≡◌, [], OnOk};
+ghost use Rattle.std.specs.Prelude.{◌≡◌, [], IsOk, OnErr, OnOk};
 ghost use Rattle.std.specs.Borrow.{sem};
 ghost use Rattle.std.specs.Option.{option_copied, option_copied_mut};
 ghost use Rattle.std.specs.FinMap as map;
@@ -53,10 +53,10 @@ impl<A: Allocator> Seats<A> {
     pub(crate) fn add(&mut self, subchannel: SubId, seat: Seat) -> Result<(), AllocError>
     where
         A: Clone,
-        ensures { OnOk result (self.new.seats ≡ with_seat self.old.seats (subchannel, seat)) }
+        ensures seats { OnOk result (self.new.seats ≡ with_seat self.old.seats (subchannel, seat)) }
+        ensures err { OnErr result (self.new.seats ≡ self.old.seats) }
     {
-        self.room(subchannel)?;
-        let _ = self.put(&subchannel, seat);
+        let _ = self.grid.add(&subchannel, seat)?;
         Ok(())
     }
 
@@ -112,13 +112,15 @@ impl<A: Allocator> Seats<A> {
 
     /// Gives a subchannel a place, if it has none. No other loses its place, and no seat changes.
     ///
-    /// `AllocError` (M1): memory was wanted.
+    /// `AllocError` (M1): memory was wanted, which can't be where the subchannel has a place
+    /// already.
     pub fn room(&mut self, subchannel: SubId) -> Result<(), AllocError>
     where
         A: Clone,
         ensures seats { self.new.seats ≡ self.old.seats }
         ensures ok { OnOk result (HasPlace self.new subchannel) }
         ensures kept { KeepsPlaces self.old self.new }
+        ensures succeeds { HasPlace self.old subchannel → IsOk result }
     {
         self.grid.room(&subchannel)
     }

@@ -11,7 +11,7 @@ use std::alloc::Allocator;
 use std::marker::Model;
 
 /// A number cell that is taken, with the device that has it. Contracts see the cell, the number of
-/// the device, and its record.
+/// the device, and its record. The word is own.
 #[derive(Drop)]
 pub(crate) struct TakenCell<'a, A: Allocator> {
     cell: NumberCell,
@@ -65,7 +65,7 @@ impl<'a, A: Allocator> TakenCell<'a, A> {
         self.cell
     }
 
-    /// The device, if it is there.
+    /// The fields of the device, if it is there. The word is own.
     pub(crate) fn fields(&self) -> Option<&'a DeviceFields<A>>
         ensures { option_map device_of (option_copied result) ≡ self.now.record_there }
     {

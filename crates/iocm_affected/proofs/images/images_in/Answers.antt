@@ -8,9 +8,9 @@ use Rattle.iocm_affected.proofs.GroupWalks.{IsLeft, left_at_first, listed_one, l
 use Rattle.iocm_affected.proofs.images.images_in.Goals as goal
 
 pub loop-key-init : goal.loop-key-init
-loop-key-init g c = subst (IsLeft c.args.group.now c.args.config.now.records c.new-images.result.items)
+loop-key-init g c = subst (IsLeft c.args.group.now c.args.config.now.records c.in_ok-images.images.items)
     (sym (c.into_iter-key-iterator.ensures.into_iter_gives ∙ c.walk_from-key-items.ensures.entries))
-    (left_at_first c.args.group.now c.args.config.now.records c.has_own_keys.ensures c.new-images.result.items c.new-images.ensures.items)
+    (left_at_first c.args.group.now c.args.config.now.records c.has_own_keys.ensures c.in_ok-images.images.items c.in_ok-images.ensures.items)
 
 pub returns-then-is_past_images-clause-images : goal.returns-then-is_past_images-clause-images
 returns-then-is_past_images-clause-images g c =

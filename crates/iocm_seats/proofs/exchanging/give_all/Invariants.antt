@@ -1,4 +1,5 @@
--- The rows that are left give what all give, and their subchannels have places.
+-- The rows that are left give what all give, and their subchannels have places; the views are those
+-- of the configuration and the numbers.
 use Rattle.std.proofs.Common.{◌≡◌, drop, fold}
 use Rattle.std.specs.List.{AllByRecursion}
 use Rattle.iocm_types.specs.declared.live.Live.{Live}
@@ -13,4 +14,5 @@ invariant-loop-row g l = let w = views_of l.config.records l.numbers.numbers in 
   left : fold (given w) l.seats.seats (drop l.row-index l.back) ≡ fold (given w) l.initial.seats.seats l.back;
   ready : AllByRecursion (λ (row : SubId × Live). HasPlace l.seats row.0) (drop l.row-index l.back);
   places : l.seats.places ≡ l.initial.seats.places;
+  views : l.views ≡ record { records = l.config.records; numbers = l.numbers.numbers };
 }

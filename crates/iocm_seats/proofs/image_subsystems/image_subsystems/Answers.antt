@@ -14,13 +14,13 @@ loop-entry-init g c more all = all
 
 pub loop-entry-preserved : goal.loop-entry-preserved
 loop-entry-preserved g c more rest = c.loop-entry.invariant more
-    (subst (λ (es : Rows). AreSubsystemsOf (map (λ (e : Key × Rec). e.1) es) (c.loop-entry.csss.items ++ more)) (sym c.in-Some.ensures.steps)
-    (noted c.in-Some.entry.now (map (λ (e : Key × Rec). e.1) c.next.new.self) c.loop-entry.csss.items more
+    (subst (λ (es : Rows). AreSubsystemsOf (map (λ (e : Key × Rec). e.1) es) (c.loop-entry.subsystems.items ++ more)) (sym c.in-Some.ensures.steps)
+    (noted c.in-Some.entry.now (map (λ (e : Key × Rec). e.1) c.next.new.self) c.loop-entry.subsystems.items more
     (subst (AreSubsystemsOf (c.in-Some.entry.now ∷ [])) c.as_slice.ensures.value c.in_default.ensures) rest))
 
 pub loop-entry-preserved-in-Continue-1 : goal.loop-entry-preserved-in-Continue-1
 loop-entry-preserved-in-Continue-1 g c more rest =
-    let old = c.loop-entry.csss.items in
+    let old = c.loop-entry.subsystems.items in
     let css = c.in-Some-new_subsystem.css in
     let longer = ap (λ xs. xs ++ more) c.in_ok-push.ensures.items ∙ append_assoc old (css ∷ []) more in
     subst (AreSubsystemsOf (map (λ (e : Key × Rec). e.1) c.into_iter-entry-iterator.result)) (sym longer) (c.loop-entry.invariant (css ∷ more)
@@ -29,7 +29,7 @@ loop-entry-preserved-in-Continue-1 g c more rest =
     (subst (AreSubsystemsOf (map (λ (e : Key × Rec). e.1) c.next.new.self)) longer rest))))
 
 pub returns : goal.returns
-returns g c = subst (λ (es : Rows). AreSubsystemsOf (map (λ (e : Key × Rec). e.1) es) c.loop-entry.csss.items)
+returns g c = subst (λ (es : Rows). AreSubsystemsOf (map (λ (e : Key × Rec). e.1) es) c.loop-entry.subsystems.items)
     (c.into_iter-entry-iterator.ensures.into_iter_gives ∙ c.walk-entry-items.ensures.entries)
-    (subst (AreSubsystemsOf (map (λ (e : Key × Rec). e.1) c.into_iter-entry-iterator.result)) (append-nil c.loop-entry.csss.items) (c.loop-entry.invariant []
-    (subst (λ (es : Rows). AreSubsystemsOf (map (λ (e : Key × Rec). e.1) es) (c.loop-entry.csss.items ++ [])) (sym c.in-None.ensures.steps.0) tt)))
+    (subst (AreSubsystemsOf (map (λ (e : Key × Rec). e.1) c.into_iter-entry-iterator.result)) (append-nil c.loop-entry.subsystems.items) (c.loop-entry.invariant []
+    (subst (λ (es : Rows). AreSubsystemsOf (map (λ (e : Key × Rec). e.1) es) (c.loop-entry.subsystems.items ++ [])) (sym c.in-None.ensures.steps.0) tt)))

@@ -7,5 +7,5 @@ use Rattle.iocm_seats.specs.Listing.{AreSubsystemsOf}
 use Rattle.iocm_seats.proofs.image_subsystems.image_subsystems.Given as goal
 
 abbrev pub invariant-loop-entry : goal.invariant-loop-entry
-invariant-loop-entry g l = (more : List ℕ) → AreSubsystemsOf (map (λ (e : Key × Rec). e.1) l.entry-iterator) (l.csss.items ++ more)
-    → AreSubsystemsOf (map (λ (e : Key × Rec). e.1) l.initial.entry-iterator) (l.csss.items ++ more)
+invariant-loop-entry g l = (more : List ℕ) → AreSubsystemsOf (map (λ (e : Key × Rec). e.1) l.entry-iterator) (l.subsystems.items ++ more)
+    → AreSubsystemsOf (map (λ (e : Key × Rec). e.1) l.initial.entry-iterator) (l.subsystems.items ++ more)

@@ -38,7 +38,7 @@ returns-clause-seats g c =
     let seen = ap (option_and_then (view_if_seen at i.css i.name)) (sym c.requires ∙ sym c.fields.ensures ∙ ap (λ o. option_map device_of (option_copied o)) c.in-Some.is)
     ∙ sym c.view_of.ensures.view ∙ c.in-Some-view_of.is in
     on_ok_weaker c.add.result (λ given. given ∙ ap (fold with_seat c.args.seats.now.seats)
-    ((λ z. row_of ((c.image.ensures ∙ ap image_in c.view_of.ensures.same) z) (c.cell-cell.ensures z) (c.fresh-live.ensures z) ∷ []) ∙ sym (one_view at i e c.in-Some-view_of.view seen))) c.add.ensures
+    ((λ z. row_of ((c.image.ensures ∙ ap image_in c.view_of.ensures.same) z) (c.cell-cell.ensures z) (c.fresh-live.ensures z) ∷ []) ∙ sym (one_view at i e c.in-Some-view_of.view seen))) c.add.ensures.seats
   where
     image_in : Sighted → Image
     image_in s = record { css = s.image.css; mif = s.image.mif }

@@ -21,7 +21,7 @@ loop-css-preserved g c =
     let rest = flat_map of (drop (c.loop-css.css-index + 1) items) in
     ap (λ (m : Seats). fold with_seat m rest) c.in_ok-open_subsystem.ensures
     ∙ sym (fold-append with_seat c.loop-css.seats.seats (of c.css-item.result) rest)
-    ∙ ap (λ csss. fold with_seat c.loop-css.seats.seats (flat_map of csss))
+    ∙ ap (λ subsystems. fold with_seat c.loop-css.seats.seats (flat_map of subsystems))
     (sym (drop-item items c.loop-css.css-index c.css-item.result c.loop-css-test.true c.css-item.is))
     ∙ c.loop-css.invariant
 
@@ -29,7 +29,7 @@ pub returns : goal.returns
 returns g c =
     let of = subsystem_seats c.args.config.now.records (entries (cells_of c.args.numbers.now.numbers)) in
     let items = c.as_slice-css-items.result.now in
-    sym (ap (λ csss. fold with_seat c.loop-css.seats.seats (flat_map of csss)) (drop_of_length-le items c.loop-css-test.false))
+    sym (ap (λ subsystems. fold with_seat c.loop-css.seats.seats (flat_map of subsystems)) (drop_of_length-le items c.loop-css-test.false))
     ∙ c.loop-css.invariant
     ∙ opened_all c.args.config.now.records c.args.numbers.now.numbers c.has_own_keys.ensures items
-    (subst (AreSubsystemsOf (records_of c.args.config.now.records)) (sym c.as_slice-css-items.ensures.value) c.in_ok-csss.ensures)
+    (subst (AreSubsystemsOf (records_of c.args.config.now.records)) (sym c.as_slice-css-items.ensures.value) c.in_ok-subsystems.ensures)
