@@ -6,6 +6,7 @@ mod Leaves
 mod Next
 mod Pairs
 mod Parts
+mod Rising
 mod Runs
 mod Taking
 mod Telling

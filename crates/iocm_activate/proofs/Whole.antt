@@ -8,7 +8,8 @@ use Rattle.iocm_types.specs.declared.refused.Refused.{Refused}
 use Rattle.iocm_model.specs.Operation.State.{State, IsSound}
 use Rattle.iocm_model.specs.Change.Effect.{Effect, values_in}
 use Rattle.iocm_model.specs.Change.InverseTree.{inverse_tree, TakesBack}
-use Rattle.iocm_model.specs.Change.Meaning.{if_rules_hold, node_meaning, meaning}
+use Rattle.iocm_model.specs.Change.Edit.{Edit}
+use Rattle.iocm_model.specs.Change.Meaning.{if_rules_hold, node_meaning, meaning, Outcome}
 use Rattle.iocm_model.specs.Change.Runs.{cells_written_by_all, effect_of}
 use Rattle.iocm_model.specs.Change.Tree.{ChangeTree, depth_of, leaves_of, nodes_of, most_depth, most_leaves}
 use Rattle.iocm_model.specs.Laws.Trees.{KeepsTheRules}
@@ -21,7 +22,7 @@ use Rattle.iocm_plant.specs.declared.touched.Touched.{Touched}
 use Rattle.iocm_activate.specs.Done.{edits_of, edits_meant, leaves_from, touched_in, AreToldBy}
 use Rattle.iocm_activate.specs.Effects.{cells_told}
 use Rattle.iocm_activate.specs.Told.{key_of_edit, told_in, told_of_all, way_back, LeadsTo, CanTakeBack}
-use Rattle.iocm_activate.specs.Walked.{Ran, Answers}
+use Rattle.iocm_activate.specs.Walked.{Ran, Answers, WasAccepted}
 use Rattle.iocm_activate.specs.declared.log.Log.{Log}
 use Rattle.iocm_activate.proofs.Activated.{inverse_is, cells_told_are, are_told}
 
@@ -30,13 +31,6 @@ pub record WasWalked (p q : Operating) (log : Log) : Type 0 where
   pub first : Log
   pub none : first.done.items ≡ []
   pub ran : Ran p first q log
-
--- a tree was walked whole, and accepted
-pub record WasAccepted (t : ChangeTree) (p q : Operating) (log : Log) : Type 0 where
-  pub first : Log
-  pub none : first.done.items ≡ []
-  pub no_keys : first.keys.items ≡ []
-  pub answers : Answers (meaning t p.state) p first q log None
 
 -- ---- what was done can be taken back
 
@@ -67,6 +61,13 @@ module _ {t : ChangeTree} {p q : Operating} {log : Log} (w : WasAccepted t p q l
   -- the edits that were performed are those that the tree means
   edits_are : w.answers.ran.edits ≡ edits_meant t p.state
   edits_are = sym (ap edits_of w.answers.means)
+
+  -- the tree means this state and these edits
+  abbrev meant_by : State → List Edit → Outcome
+  meant_by s es = Ok (record { state = s; edits = es })
+
+  pub means_now : (r : Operating) → r ≡ q → meaning t p.state ≡ meant_by r.state (edits_meant t p.state)
+  means_now r same = w.answers.means ∙ ap (meant_by q.state) edits_are ∙ ap (λ (o : Operating). meant_by o.state (edits_meant t p.state)) (sym same)
 
   -- the row of what takes each of them back is the inverse tree
   pub inverse_now : (r : CarriedTree) → r ≡ row (leaves_from (way_back log.done.items)) → plain_tree r ≡ inverse_tree (edits_meant t p.state) p.state
@@ -134,6 +135,11 @@ few_nodes t within =
 pub ok_then : {T E : Type 0} (r : Result T E) {P Q : T → Type 0} → IfOk r P → ((x : T) → P x → Q x) → IfOk r Q
 ok_then (Ok x) h f = f x h
 ok_then (Err e) h f = tt
+
+-- and so does what follows where all went well
+pub on_ok_then : {T E : Type 0} (r : Result T E) {P Q : Type 0} → OnOk r P → (P → Q) → OnOk r Q
+on_ok_then (Ok x) p f = f p
+on_ok_then (Err e) p f = tt
 
 -- what follows on both answers holds
 pub either_way : {T E : Type 0} (r : Result T E) {P Q A : Type 0} → OnOk r P → OnErr r Q → (P → A) → (Q → A) → A

@@ -1,10 +1,11 @@
 -- A walk through a part of a change tree: what it did to the machine, what it kept of that, and
 -- what it answered.
-use Rattle.std.specs.Prelude.{◌≡◌, ◌≤◌, List, ◌++◌, map, drop, length, Option, None, Some, Ok, Err}
+use Rattle.std.specs.Prelude.{◌≡◌, ◌≤◌, List, [], ◌++◌, map, drop, length, Option, None, Some, Ok, Err}
 use Rattle.iocm_types.specs.declared.refused.Refused.{Refused}
 use Rattle.iocm_model.specs.Operation.State.{State, IsSound}
 use Rattle.iocm_model.specs.Change.Edit.{Edit}
-use Rattle.iocm_model.specs.Change.Meaning.{Outcome}
+use Rattle.iocm_model.specs.Change.Meaning.{Outcome, meaning}
+use Rattle.iocm_model.specs.Change.Tree.{ChangeTree}
 use Rattle.iocm_model.specs.Change.Runs.{state_after_all, AreAccepted, CarryFreeNumbers}
 use Rattle.iocm_model.specs.Laws.Trees.{KeepsTheRules}
 use Rattle.iocm_plant.specs.Operating.{Operating, KeepsRoom}
@@ -48,3 +49,10 @@ pub record WereKept (log : Log) (s : State) : Type 0 where
   pub now : s ≡ state_after_all edits before
   pub keys : drop log.kept log.keys.items ≡ map key_of_edit edits
   pub within : log.kept ≤ length log.keys.items
+
+-- a tree was walked whole, and accepted; the log told of nothing before
+pub record WasAccepted (t : ChangeTree) (p q : Operating) (log : Log) : Type 0 where
+  pub first : Log
+  pub none : first.done.items ≡ []
+  pub no_keys : first.keys.items ≡ []
+  pub answers : Answers (meaning t p.state) p first q log None

@@ -14,8 +14,7 @@ ghost use Rattle.iocm_activate.specs.Told.{CanTakeBack, LeadsTo, told_of_all, wa
 
 use crate::done::{Done, prepare, tell};
 use crate::log::Log;
-use crate::taking_back::take_all_back;
-use crate::walk::walk_closed;
+use crate::whole_tree::{leave, walk_whole};
 use iocm_plant::Plant;
 use iocm_tree::Tree;
 use iocm_types::Refused;
@@ -52,14 +51,9 @@ pub fn activate<A: Allocator>(
 {
     // For the proof alone: the state is sound.
     plant.is_sound();
-    if let Some(why) = tree.refusal() {
-        return Err(why);
-    }
-    let mut log = Log::new(alloc);
-    match walk_closed(alloc, plant, &mut log, tree, 0) {
-        Ok(None) => finish(alloc, plant, log),
-        Ok(Some(why)) => Err(leave(plant, log, why)),
-        Err(_error) => Err(leave(plant, log, Refused::NO_MEMORY)),
+    match walk_whole(alloc, plant, tree) {
+        Ok(log) => finish(alloc, plant, log),
+        Err(why) => Err(why),
     }
 }
 
@@ -87,15 +81,4 @@ fn finish(alloc: Global, plant: &mut Plant, log: Log) -> Result<Done, Refused>
         }
         Err(_error) => Err(leave(plant, log, Refused::NO_MEMORY)),
     }
-}
-
-/// Takes back what was done, for this reason. Can't answer want of memory.
-fn leave(plant: &mut Plant, log: Log, why: Refused) -> Refused
-    requires back { CanTakeBack log.done.items plant.old }
-    ensures why { result ≡ why }
-    ensures undone { (s : State) → LeadsTo (way_back log.done.items) s plant.old → plant.new.state ≡ s }
-    ensures room { plant.new.room ≡ plant.old.room }
-{
-    take_all_back(plant, log);
-    why
 }

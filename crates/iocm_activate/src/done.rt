@@ -78,3 +78,22 @@ pub fn tell(prepared: Prepared, done: Vec<Applied>) -> Done
         performed,
     }
 }
+
+/// The tree that takes edits back: one Row of their inverses, that of the last one first. There is
+/// room for the parts. Can't answer want of memory.
+pub fn way_back_of(parts: Vec<Tree>, done: Vec<Applied>) -> Tree
+    requires parts { parts.items ≡ [] }
+    requires room { length done.items ≤ vec_capacity parts }
+    ensures { tree_of result ≡ row (leaves_from (way_back done.items)) }
+{
+    let mut leaves = parts;
+    let mut done = done;
+    while let Some(applied) = done.pop() {
+        let Applied {
+            inverse,
+            touched: _touched,
+        } = applied;
+        leaves.push_reserved(Tree::Leaf(inverse));
+    }
+    Tree::Row(leaves)
+}

@@ -12,6 +12,7 @@ ghost use Rattle.iocm_activate.specs.Told as told;
 ghost use Rattle.std.specs.Prelude.{map as map_list};
 ghost use Rattle.iocm_types.specs.SubId.{sub_id_cmp};
 
+use crate::in_order::each_once;
 use crate::log::Log;
 use iocm_config::Config;
 use iocm_numbers::{NumberChange, Numbers};
@@ -19,7 +20,7 @@ use iocm_plant::{Applied, Plant};
 use iocm_record::Record;
 use iocm_seats::ViewChange;
 use iocm_table::Table;
-use iocm_types::{DevNo, Key, Live, NumberCell, SubId, TableKey, sorted_once};
+use iocm_types::{DevNo, Key, Live, NumberCell, SubId, TableKey};
 use std::alloc::{AllocError, Global};
 
 /// The effect of a change: the cells that it wrote, each with its value after the change; none
@@ -115,7 +116,7 @@ fn live_cells(
     ensures { IfOk result (λ cells. rows sub_id_cmp cells
         ≡ cells_at plant.now.state.lives (subchannels_told (map_list told.told_in done.now))) }
 {
-    let altered = sorted_once(list_altered(alloc, done)?)?;
+    let altered = each_once(list_altered(alloc, done)?)?;
     let listed = list_lives(alloc, plant, altered.as_slice())?;
     Table::from_rows(alloc, listed)
 }

@@ -4,7 +4,8 @@
 //! means, or none. It walks through the tree and logs each edit that it performs, with the edit
 //! that takes it back; a part of a Choose that is refused, and the whole tree where it is refused
 //! or where memory is wanted, is taken back from the log without memory. `Done` has the inverse
-//! tree, the `Effect`, and what each edit did. `fits` tries whether the inverse tree of a change
+//! tree, the `Effect`, and what each edit did. `carry_out` activates for an undo or a redo, and
+//! gives the inverse tree alone. `fits` tries whether the inverse tree of a change
 //! would take back now just what the change did, and leaves the state as it was.
 //!
 //! What the layer above may rely on: the state afterwards and each refusal are those of the model's
@@ -15,17 +16,21 @@
 #![tactic(auto)]
 
 mod activation;
+mod carrying_out;
 mod done;
 mod effect;
 mod fitting;
+mod in_order;
 mod leaf;
 mod log;
 mod rules;
 mod taking_back;
 mod turned;
 mod walk;
+mod whole_tree;
 
 pub use activation::activate;
+pub use carrying_out::carry_out;
 pub use done::Done;
 pub use effect::Effect;
 pub use fitting::fits;

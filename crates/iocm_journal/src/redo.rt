@@ -19,7 +19,7 @@ ghost use Rattle.iocm_journal.specs.Standing.{is_last, redo_at_end, stands_at};
 use crate::Journal;
 use crate::kept::Undone;
 use crate::quiet::refused_for_not_quiet;
-use iocm_activate::{Effect, activate};
+use iocm_activate::{Effect, carry_out};
 use iocm_plant::Plant;
 use iocm_types::{Refused, Rule};
 use std::alloc::Global;
@@ -104,8 +104,8 @@ impl Journal {
         let Some(last) = self.undone.last() else {
             return Err(Refused::NO_MEMORY);
         };
-        match activate(alloc, plant, &last.redo) {
-            Ok(_done) => {
+        match carry_out(alloc, plant, &last.redo) {
+            Ok(_inverse) => {
                 let _last = self.note_redone(place);
                 Ok(())
             }

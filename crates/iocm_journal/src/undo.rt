@@ -17,7 +17,7 @@ use crate::Journal;
 use crate::kept::Undone;
 use crate::quiet::refused_for_not_quiet;
 use crate::standing_on::greatest_on;
-use iocm_activate::{Effect, activate};
+use iocm_activate::{Effect, carry_out};
 use iocm_plant::Plant;
 use iocm_types::{At, Refused, Rule};
 use std::alloc::{AllocError, Global};
@@ -136,8 +136,8 @@ impl Journal {
         if self.undone.reserve(1).is_err() {
             return Err(Refused::NO_MEMORY);
         }
-        match activate(alloc, plant, &self.changes[place].inverse) {
-            Ok(done) => {
+        match carry_out(alloc, plant, &self.changes[place].inverse) {
+            Ok(redo) => {
                 let count = self.changes.len() as u64;
                 let kept = &mut self.changes[place];
                 kept.stands = false;
@@ -145,7 +145,7 @@ impl Journal {
                 self.standing -= 1;
                 self.undone.push_reserved(Undone {
                     number: place as u64 + 1,
-                    redo: done.inverse,
+                    redo,
                 });
                 Ok(())
             }

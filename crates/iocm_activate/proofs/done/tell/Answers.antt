@@ -8,8 +8,8 @@ loop-applied-init c =
 
 pub push_reserved-requires : goal.push_reserved-requires
 push_reserved-requires c =
-    let room = has_room c.args.done.items c.loop-applied.parts c.loop-applied.performed c.loop-applied.done.items c.pop.new.self.items c.in-Some.applied
-    c.loop-applied.invariant c.in-Some.ensures.items in
+    let room = has_room c.args.done.items c.loop-applied.parts c.loop-applied.done.items c.pop.new.self.items c.in-Some.applied
+    c.loop-applied.invariant.turning c.in-Some.ensures.items in
     grind (arith, room, c.loop-applied.parts.ok.0)
 
 pub push_reserved-requires-in-Some : goal.push_reserved-requires-in-Some
@@ -27,7 +27,7 @@ loop-applied-preserved c = one_told c.args.done.items c.loop-applied.parts c.pus
 pub returns-clause-inverse : goal.returns-clause-inverse
 returns-clause-inverse c =
     let none : c.loop-applied.done.items ≡ [] = grind (c.in_default.ensures.variant, c.in_default.is, c.loop-applied.done.ok.0, arith) in
-    row_told c.args.done.items c.loop-applied.parts c.loop-applied.performed c.loop-applied.done.items c.loop-applied.invariant none
+    row_told c.args.done.items c.loop-applied.parts c.loop-applied.done.items c.loop-applied.invariant.turning none
 
 pub returns-clause-performed : goal.returns-clause-performed
 returns-clause-performed c =

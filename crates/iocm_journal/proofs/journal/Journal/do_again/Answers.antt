@@ -12,5 +12,5 @@ returns-in-Ok-clause-done c =
     let undone = c.deref.ensures.value ∙ ap (λ (v : Journaled). v.undone) c.self.view_is in
     let at_last = subst (λ us. slice_get us (length us - 1) ≡ Some last) undone (sym c.in-Some.ensures.value) in
     was_redone c.args.self.now c.note_redone-last.new.self c.args.place c.args.plant.now.state
-    c.activate.new.plant.state last c.note_redone-last.result _ c.requires.place c.requires.last at_last
+    c.carry_out.new.plant.state last c.note_redone-last.result _ c.requires.place c.requires.last at_last
     c.in-Ok.ensures.means noted.changes noted.standing noted.undone

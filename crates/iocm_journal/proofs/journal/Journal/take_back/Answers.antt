@@ -32,7 +32,7 @@ returns-in-Ok-clause-done c =
     let count = c.len-count.ensures ∙ c.self.inside.changes.ok.0 ∙ ap length same in
     let some = stands_one same c.self.inside.standing c.self.invariant place c.requires.stands in
     let standing : c.self.inside.standing - 1 + 1 ≡ c.self.inside.standing = omega (arith, some) in
-    let last : Undone = record { number = place + 1; redo = c.in-Ok.done.inverse } in
+    let last : Undone = record { number = place + 1; redo = c.in-Ok.redo } in
     record {
       kept = k;
       there = there;
