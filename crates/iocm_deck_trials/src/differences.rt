@@ -1,0 +1,56 @@
+use iocm_config::Config;
+use iocm_difference::difference;
+use iocm_tree::{Edit, Verb};
+use iocm_trial_decks::{BASE, configuration, device, name, unit};
+use iocm_types::{Chpid, Css, Key};
+use std::alloc::Global;
+use std::test::Fail;
+
+/// The deck of the machine some time later: a second control unit with two devices, LPB online on
+/// path 51, no device 1003, and device 1002 at another unit address.
+const GROWN: &[u8] = b"         RESOURCE PARTITION=((CSS(0),(LPA,1),(LPB,2)))
+         CHPID PATH=(CSS(0),50),SHARED,PARTITION=((LPA,LPB),(=))
+         CHPID PATH=(CSS(0),51),SHARED,PARTITION=((LPA,LPB),(=))
+         CNTLUNIT CUNUMBR=1000,PATH=((CSS(0),50,51)),UNITADD=((00,16))
+         CNTLUNIT CUNUMBR=2000,PATH=((CSS(0),51)),UNITADD=((10,8))
+         IODEVICE ADDRESS=(1000,2),CUNUMBR=(1000)
+         IODEVICE ADDRESS=1002,CUNUMBR=(1000),UNITADD=08
+         IODEVICE ADDRESS=(2000,2),CUNUMBR=(2000),UNITADD=10
+";
+
+/// The edits that lead from one deck to another.
+fn edits_between(alloc: Global, old: &[u8], new: &[u8]) -> Result<Vec<Edit>, Fail> {
+    let old: Config = configuration(alloc, old).ok_or("the old deck")?;
+    let new: Config = configuration(alloc, new).ok_or("the new deck")?;
+    match difference(alloc, &old, &new) {
+        Ok(edits) => Ok(edits),
+        Err(_wanted_once) => Ok(difference(alloc, &old, &new)?),
+    }
+}
+
+#[test]
+fn a_deck_that_grew_differs_pass_by_pass(rt: HostRuntime) -> Result<(), Fail> {
+    let edits = edits_between(rt.alloc(), BASE, GROWN)?;
+    let path = Chpid::new(0x51);
+    let wanted = [
+        (Verb::Delete, device(0x1003)),
+        (Verb::Modify, Key::Path(Css::FIRST, path)),
+        (Verb::Add, unit(0x2000)?),
+        (Verb::Modify, device(0x1002)),
+        (Verb::Add, device(0x2000)),
+        (Verb::Add, device(0x2001)),
+        (Verb::Add, Key::Online(Css::FIRST, path, name(b"LPB")?)),
+    ];
+    assert_eq!(rt; edits.len(), wanted.len());
+    for (edit, (verb, key)) in edits.iter().zip(wanted.iter()) {
+        assert!(rt; edit.verb() == *verb && edit.key() == *key);
+    }
+    Ok(())
+}
+
+#[test]
+fn a_deck_does_not_differ_from_itself(rt: HostRuntime) -> Result<(), Fail> {
+    let edits = edits_between(rt.alloc(), GROWN, GROWN)?;
+    assert!(rt; edits.is_empty());
+    Ok(())
+}

@@ -1,0 +1,12 @@
+pub mod Between
+pub mod Differences
+pub mod GoingBack
+pub mod InPasses
+pub mod Leading
+pub mod Paired
+pub mod Permuted
+pub mod Rising
+pub mod SameLists
+pub mod SameRecords
+pub mod Steps
+pub mod Worked

@@ -1,0 +1,8 @@
+pub mod Ahead
+pub mod Difference
+pub mod Examples
+pub mod Laws
+pub mod Met
+pub mod Passes
+pub mod Same
+pub mod Walks
