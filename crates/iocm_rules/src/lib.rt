@@ -28,5 +28,8 @@ mod online_among;
 
 pub use breach::Breach;
 pub use first_breach::{check, check_at_opening};
+pub use image_names::NameTwice;
 pub use laws::near_edits_keep_the_rest;
+pub use names::{NameOfNoImage, TooManyNames};
 pub use near::check_near;
+pub use online::WrongOnline;

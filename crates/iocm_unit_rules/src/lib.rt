@@ -22,6 +22,6 @@ mod sharing_at_opening;
 mod units;
 
 pub use ranges::{WrongRanges, is_address_held};
-pub use sharing::first_shared_address;
+pub use sharing::{first_shared_address, is_shared_on};
 pub use sharing_at_opening::first_shared_address_at_opening;
 pub use units::{WrongLinks, WrongPaths};

@@ -133,7 +133,7 @@ impl<'a, A: Allocator, I: Allocator> Addressed<A> for SharedCuadd<'a, I> {
 
 /// Whether on a path a unit with a smaller key answers to one of a unit's addresses, on the link that
 /// the path has there. The users come in order, so those behind the unit are not looked at.
-fn is_shared_on<A: Allocator, I: Allocator>(
+pub fn is_shared_on<A: Allocator, I: Allocator>(
     config: &Config<A>,
     index: &Index<I>,
     fields: &UnitFields<A>,

@@ -89,13 +89,13 @@ v14_by rs (unit u) = some_of rs (unit u) (answers_for u)
 v14_by rs _ = false
 
 -- the rules in their order, each with the records that break it
-abbrev rules_by : Lookup → List Rec → List ImageRecord → (Place → Option ℕ) → List (Rule × (Rec → Bool))
+abbrev pub rules_by : Lookup → List Rec → List ImageRecord → (Place → Option ℕ) → List (Rule × (Rec → Bool))
 rules_by at rs images number_at = (V1, v1_by rs) ∷ (V2, v2_by images) ∷ (V3, v3_by) ∷ (V4, v4_by at rs) ∷ (V5, v5_by at) ∷ (V6, v6_by)
     ∷ (V7, v7_by) ∷ (V8, v8_by at) ∷ (V9, v9_by at) ∷ (V10, v10_by rs) ∷ (V11, v11_by at) ∷ (V12, v12_by images)
     ∷ (V13, v13_by at number_at) ∷ (V14, v14_by rs) ∷ []
 
 -- the rules of a configuration and a numbering are these
-rules_seen : (c : Configuration) (n : Numbering) → rules_of c n ≡ rules_by (lookup_of c) (records_of c) (filter_map as_image (records_of c)) (get n)
+pub rules_seen : (c : Configuration) (n : Numbering) → rules_of c n ≡ rules_by (lookup_of c) (records_of c) (filter_map as_image (records_of c)) (get n)
 rules_seen c n = refl
 
 -- the first breach by the look-up, the numbers and the records

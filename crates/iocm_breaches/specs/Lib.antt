@@ -1,0 +1,4 @@
+pub mod Addresses
+pub mod Breaches
+pub mod Examples
+pub mod Laws
