@@ -126,9 +126,13 @@ fn images_or_none(alloc: Global, statement: &Statement) -> Result<Vec<ImageEntry
     }
 }
 
-// The images of the machine, which defaults look at wherever the RESOURCE statement stands.
+/// The images of the machine, which defaults look at wherever the RESOURCE statement stands. Answers
+/// the want of memory alone.
 #[tactic(auto, using(crate::proofs::Machine::machine_steps))]
-fn machine_images(alloc: Global, statements: &[Statement]) -> Result<Vec<ImageEntry>, AllocError>
+pub fn machine_images(
+    alloc: Global,
+    statements: &[Statement],
+) -> Result<Vec<ImageEntry>, AllocError>
     ensures { IfOk result (λ v. v.items ≡ deck.machine_images statements.now) }
 {
     for statement in statements {

@@ -18,7 +18,8 @@ mod statements;
 mod unit;
 
 pub use chpid::{add_online, chpid_path};
-pub use deck::{from_statements, read_statement};
+pub use deck::{from_statements, machine_images, read_statement};
 pub use device::{device_set, statement_devices};
 pub use progress::Progress;
+pub use statements::statement_records;
 pub use unit::unit_number;

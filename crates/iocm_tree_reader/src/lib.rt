@@ -25,6 +25,7 @@ mod stack;
 
 pub use examples::worked_decks_are_read;
 pub use kind::NodeKind;
+pub use leaves::edits_of;
 pub use node::Node;
 pub use nodes::Nodes;
 pub use read::read_tree;

@@ -1,0 +1,4 @@
+pub mod Brought
+pub mod Counted
+pub mod Given
+pub mod Worked
