@@ -1,5 +1,6 @@
 use iocm_config::Config;
 use iocm_difference::difference;
+use iocm_difference_writer::difference_text;
 use iocm_tree::{Edit, Verb};
 use iocm_trial_decks::{BASE, configuration, device, name, unit};
 use iocm_types::{Chpid, Css, Key};
@@ -26,6 +27,42 @@ fn edits_between(alloc: Global, old: &[u8], new: &[u8]) -> Result<Vec<Edit>, Fai
         Ok(edits) => Ok(edits),
         Err(_wanted_once) => Ok(difference(alloc, &old, &new)?),
     }
+}
+
+/// What is printed of the difference of two decks, with what was there.
+fn text_between(alloc: Global, old: &[u8], new: &[u8]) -> Result<Vec<u8>, Fail> {
+    let edits = edits_between(alloc, old, new)?;
+    let config: Config = configuration(alloc, old).ok_or("the old deck")?;
+    match difference_text(alloc, Some(&config), &edits) {
+        Ok(text) => Ok(text),
+        Err(_wanted_once) => Ok(difference_text(alloc, Some(&config), &edits)?),
+    }
+}
+
+/// The difference of the deck and the one that grew, with what was there.
+const GREW: &[u8] = b"*        IODEVICE ADDRESS=(1003,1),CUNUMBR=(1000),UNITADD=03
+DELETE   IODEVICE ADDRESS=(1003,1)
+*        CHPID PATH=(CSS(0),51),SHARED,PARTITION=((LPA),(LPA,LPB))
+MODIFY   CHPID PATH=(CSS(0),51),SHARED,PARTITION=((LPA,LPB),(LPA,LPB))
+ADD      CNTLUNIT CUNUMBR=2000,PATH=((CSS(0),51)),UNITADD=((10,8))
+*        IODEVICE ADDRESS=(1002,1),CUNUMBR=(1000),UNITADD=02
+MODIFY   IODEVICE ADDRESS=(1002,1),CUNUMBR=(1000),UNITADD=08
+ADD      IODEVICE ADDRESS=(2000,2),CUNUMBR=(2000),UNITADD=10
+ADD      ONLINE PATH=(CSS(0),51),PARTITION=(LPB)
+";
+
+#[test]
+fn what_a_deck_grew_by_is_printed_in_runs(rt: HostRuntime) -> Result<(), Fail> {
+    let text = text_between(rt.alloc(), BASE, GROWN)?;
+    assert!(rt; text.as_slice() == GREW);
+    Ok(())
+}
+
+#[test]
+fn equal_decks_have_no_text(rt: HostRuntime) -> Result<(), Fail> {
+    let text = text_between(rt.alloc(), GROWN, GROWN)?;
+    assert!(rt; text.is_empty());
+    Ok(())
 }
 
 #[test]

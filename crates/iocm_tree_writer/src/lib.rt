@@ -18,4 +18,6 @@ mod records;
 mod tree;
 
 pub use laws::{leaves_are_read_again, trees_are_read_again};
+pub use lines::{put_edit, verb_name};
+pub use operands::{path_operand, valued};
 pub use tree::write_tree;

@@ -11,8 +11,8 @@ use iocm_tree::{Edit, Verb};
 use iocm_types::Text;
 use std::alloc::{AllocError, Allocator, Global};
 
-// The word of a verb.
-fn verb_name(verb: Verb) -> &'static [u8]
+/// The word of a verb.
+pub fn verb_name(verb: Verb) -> &'static [u8]
     ensures { result.now ≡ leaves.verb_name verb }
 {
     match verb {

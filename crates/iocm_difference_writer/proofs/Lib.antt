@@ -1,0 +1,17 @@
+pub mod Chains
+pub mod CommentLines
+pub mod DevicesGone
+pub mod DevicesPut
+pub mod DifferenceAgain
+pub mod Groups
+pub mod LinesAgain
+pub mod Nodes
+pub mod OldCards
+pub mod PairsOnline
+pub mod Rising
+pub mod RunsAgain
+pub mod Splitting
+pub mod Steps
+pub mod Told
+pub mod TwoOperands
+pub mod Worked

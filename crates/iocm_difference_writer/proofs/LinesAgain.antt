@@ -1,0 +1,97 @@
+-- Lines that are told by a text are read of it, whatever comments stand between them.
+use Rattle.std.proofs.Common.{◌≡◌, ◌∙◌, ℕ, ◌+◌, Some, List, [], ◌∷◌, All, map, Ok, refl, ap}
+use Rattle.std.proofs.lemmas.List.Elements.{All-head, All-tail}
+use Rattle.iocm_types.specs.Each.{each}
+use Rattle.iocm_types.specs.Fault.{◌>>=◌}
+use Rattle.iocm_columns.specs.declared.joined.Joined.{Joined}
+use Rattle.iocm_columns.specs.Statements.{joined_of}
+use Rattle.iocm_columns.specs.Written.{IsWritable, without_line}
+use Rattle.iocm_statements.specs.declared.operation.Operation.{Operation}
+use Rattle.iocm_statements.specs.declared.operation.Operation.TheVariants.{Id, Resource, Chpid, Cntlunit, Iodevice, Online, Row, Group, Choose, End}
+use Rattle.iocm_statements.specs.declared.statement.Statement as read
+use Rattle.iocm_statements.specs.Operation.{operation_name, operation_named}
+use Rattle.iocm_statements.specs.Statement.{statement_of, parsed}
+use Rattle.iocm_deck_writer.proofs.Again.{operands_again}
+use Rattle.iocm_round_trip.proofs.Columns.{statement_is_writable}
+use Rattle.iocm_tree_writer.specs.Again.{as_read}
+use Rattle.iocm_tree_writer.specs.Written.{Line, line_to_write}
+use Rattle.iocm_tree_writer.proofs.Behind.{AreReadOf}
+use Rattle.iocm_tree_writer.proofs.Reread.{CanBeLine}
+use Rattle.iocm_difference_writer.proofs.Told.{IsTold, told_is_read}
+
+pub line_is_writable : (l : Line) → CanBeLine l → IsWritable (line_to_write l)
+line_is_writable l can =
+    let is = statement_is_writable l.statement can.statement in
+    record {
+      name = can.field.graphic;
+      short_name = can.field.short;
+      no_comment = can.field.no_comment;
+      operation = is.operation;
+      short_operation = is.short_operation;
+      has_operation = is.has_operation;
+      text = is.text;
+      blanks = is.blanks;
+      closed = is.closed;
+    }
+
+named : (operation : Operation) → operation_named (operation_name operation) ≡ Some operation
+named Id = refl
+named Resource = refl
+named Chpid = refl
+named Cntlunit = refl
+named Iodevice = refl
+named Online = refl
+named Row = refl
+named Group = refl
+named Choose = refl
+named End = refl
+
+line_again : (l : Line) → CanBeLine l → (joined : Joined) → without_line joined ≡ without_line (line_to_write l)
+    → statement_of joined ≡ Ok (as_read joined.line l)
+line_again l can joined same =
+    let is = named l.statement.operation in
+    let operands = operands_again joined.line l.statement.operands can.statement.operands in
+    ap (λ (j : Joined). statement_of (record { line = joined.line; name = j.name; operation = j.operation; text = j.text })) same
+    ∙ rw (is, operands) refl
+
+-- joined statements from this place of the deck on are read as lines
+record AreReadFrom (place : ℕ) (ls : List Line) (deck : List Joined) : Type 0 where
+  pub read : List read.Statement
+  pub is_read : each (λ _ joined. statement_of joined) place deck ≡ Ok read
+  pub same : AreReadOf ls read
+
+none_read : (place : ℕ) → AreReadFrom place [] []
+unfolding each
+none_read place = record { read = []; is_read = refl; same = tt }
+
+one_more_read : (place : ℕ) (l : Line) (ls : List Line) (joined : Joined) (deck : List Joined)
+    → statement_of joined ≡ Ok (as_read joined.line l) → AreReadFrom (place + 1) ls deck → AreReadFrom place (l ∷ ls) (joined ∷ deck)
+unfolding each
+one_more_read place l ls joined deck first rest = record {
+  read = as_read joined.line l ∷ rest.read;
+  is_read = rw (first, rest.is_read) refl;
+  same = (refl, rest.same);
+}
+
+lines_again : (place : ℕ) (ls : List Line) (deck : List Joined) → All CanBeLine ls
+    → map without_line deck ≡ map without_line (map line_to_write ls) → AreReadFrom place ls deck
+lines_again place [] [] can same = none_read place
+lines_again place [] (joined ∷ deck) can same = absurd (cc)
+lines_again place (l ∷ ls) [] can same = absurd (cc)
+lines_again place (l ∷ ls) (joined ∷ deck) can same =
+    let first : without_line joined ≡ without_line (line_to_write l) = cc in
+    let rest : map without_line deck ≡ map without_line (map line_to_write ls) = cc in
+    one_more_read place l ls joined deck (line_again l (All-head CanBeLine l ls can) joined first)
+    (lines_again (place + 1) ls deck (All-tail CanBeLine l ls can) rest)
+
+-- a text is read as these lines
+pub record IsReadAsLines (text : List ℕ) (ls : List Line) : Type 0 where
+  pub read : List read.Statement
+  pub is_read : (joined_of text >>= parsed) ≡ Ok read
+  pub same : AreReadOf ls read
+
+pub told_lines_are_read : (text : List ℕ) (ls : List Line) → All CanBeLine ls → IsTold text (map line_to_write ls) → IsReadAsLines text ls
+told_lines_are_read text ls can told =
+    let found = told_is_read text (map line_to_write ls) told in
+    let statements = lines_again 0 ls found.read can found.same in
+    record { read = statements.read; is_read = ap (λ f. f >>= parsed) found.is_read ∙ statements.is_read; same = statements.same }
