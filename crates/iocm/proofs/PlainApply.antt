@@ -1,5 +1,5 @@
 -- Command lines that name a deck, a change deck and options plainly.
-use Rattle.std.proofs.Common.{◌≡◌, ◌==◌, ◌∙◌, ℕ, Bool, List, [], ◌∷◌, ◌++◌, Some, None, ◌⊎◌, arith, codes, refl, sym, ap, ap₂, subst, inl, inr, true, false}
+use Rattle.std.proofs.Common.{◌≡◌, ◌==◌, ◌∙◌, ℕ, Bool, List, [], ◌∷◌, ◌++◌, Option, Some, None, ◌⊎◌, arith, codes, refl, sym, ap, ap₂, subst, inl, inr, true, false}
 use Rattle.std.proofs.lemmas.Bool.{eqb-true}
 use Rattle.std.specs.Str.Parse.{IsNumeral, without_leading_plus}
 use Rattle.clap.specs.Faults.{check_fault, defaults_fault, level_fault, settle_fault, walk_fault}
@@ -16,21 +16,28 @@ use Rattle.clap.proofs.OnLiterals.{clap_on_literals}
 use Rattle.clap.proofs.ValueTestLemmas.{accepts-Accepts, Accepts-accepts}
 use Rattle.iocm_apply.specs.declared.report.Report.{Report}
 use Rattle.iocm_apply.specs.declared.report.Report.TheVariants.{Table, WayBack}
-use Rattle.iocm.specs.CommandLine.{deck_app, decks_app, file_rule, heap_rule, iocm_app, mistakes, run_app, undo_rule, IsApplyOf, IsHeapOption, IsPlainName, IsSizeText, NamesApply, StatesApply}
+use Rattle.iocm_filter.specs.Wanted.{nothing}
+use Rattle.iocm.specs.CommandLine.{mistakes, values_under, AsksFor, IsApplyOf, IsHeapOption, IsPlainName, IsSizeText, NamesApply, StatesApply}
+use Rattle.iocm.specs.Program.{deck_app, decks_app, diff_app, explain_app, file_rule, heap_rule, iocm_app, run_app, with_filters, with_reports}
+use Rattle.iocm.proofs.Plain.{no_filters}
 
 abbrev pub size_parser : ValueParser
 size_parser = Unsigned 16 16777216
 
 -- ---- without a size
 
+-- no value is given to a filter
+abbrev HasNoFilters : Option (Text × List Row) → Type 0
+HasNoFilters named = (values_under (codes "image") named ≡ []) × (values_under (codes "device") named ≡ [])
+    × (values_under (codes "unit") named ≡ []) × (values_under (codes "path") named ≡ []) × (values_under (codes "paths-online") named ≡ [])
+
+-- what is named is `apply` with these arguments and no filter
+abbrev IsPlainApply : Text → Text → Text → Report → Option (Text × List Row) → Type 0
+IsPlainApply deck change size report named = IsApplyOf named deck change size report × HasNoFilters named
+
 -- the words have no mistake, and state `apply` with these arguments
 abbrev IsReadAs : List Text → Text → Text → Text → Report → Type 0
-IsReadAs words deck change size report = (mistakes words ≡ []) × IsApplyOf (subcommand_of iocm_app words) deck change size report
-
-apply_is_read : (program : Text) (d : ℕ) (ds : List ℕ) (c : ℕ) (cs : List ℕ) → (d == 45) ≡ false → (c == 45) ≡ false
-    → IsReadAs (program ∷ codes "apply" ∷ (d ∷ ds) ∷ (c ∷ cs) ∷ []) (d ∷ ds) (c ∷ cs) (codes "262144") Table
-unfolding clap_on_literals
-apply_is_read program d ds c cs dh ch = (simp (dh, ch), (simp (dh, ch), simp (dh, ch), simp (dh, ch), simp (dh, ch)))
+IsReadAs words deck change size report = (mistakes words ≡ []) × IsPlainApply deck change size report (subcommand_of iocm_app words)
 
 pub default_is_size : IsSizeText (codes "262144")
 default_is_size = accepts-Accepts false size_parser (codes "262144") refl
@@ -39,10 +46,10 @@ default_is_size = accepts-Accepts false size_parser (codes "262144") refl
 
 -- `apply` with any parser of the size, and the program with that
 abbrev apply_by : ValueParser → App
-apply_by p = with_rule (with_rule (with_rule (deck_app (codes "apply")) (file_rule (codes "CHANGE"))) (record heap_rule { parser = Some p })) undo_rule
+apply_by p = with_filters (with_reports (with_rule (with_rule (deck_app (codes "apply")) (file_rule (codes "CHANGE"))) (record heap_rule { parser = Some p })))
 
 abbrev iocm_by : ValueParser → App
-iocm_by p = with_subcommand (with_subcommand decks_app (apply_by p).top) run_app.top
+iocm_by p = with_subcommand (with_subcommand (with_subcommand (with_subcommand decks_app diff_app.top) (apply_by p).top) run_app.top) explain_app.top
 
 abbrev shape_by : ValueParser → Shape
 shape_by p = built_leaf (apply_by p).top
@@ -50,6 +57,10 @@ shape_by p = built_leaf (apply_by p).top
 -- the mistakes in words after `apply` are those that it finds in them
 abbrev FindsBelow : ValueParser → Text → List Text → Type 0
 FindsBelow p program words = fault_of (iocm_by p) (program ∷ codes "apply" ∷ words) ≡ or_else (level_fault (shape_by p) [] nothing_held words false []) []
+
+two_below : (p : ValueParser) (program a b : Text) → FindsBelow p program (a ∷ b ∷ [])
+unfolding clap_on_literals
+two_below p program a b = refl
 
 three_below : (p : ValueParser) (program a b c : Text) → FindsBelow p program (a ∷ b ∷ c ∷ [])
 unfolding clap_on_literals
@@ -67,6 +78,10 @@ five_below p program a b c d e = refl
 abbrev NamesBelow : ValueParser → Text → List Text → Type 0
 NamesBelow p program words = subcommand_of (iocm_by p) (program ∷ codes "apply" ∷ words)
     ≡ Some (codes "apply", finished (shape_by p).rules (walk (shape_by p).rules [] nothing_held words).held)
+
+two_named : (p : ValueParser) (program a b : Text) → NamesBelow p program (a ∷ b ∷ [])
+unfolding clap_on_literals
+two_named p program a b = refl
 
 three_named : (p : ValueParser) (program a b c : Text) → NamesBelow p program (a ∷ b ∷ c ∷ [])
 unfolding clap_on_literals
@@ -129,9 +144,22 @@ module _ (p : ValueParser) (d : ℕ) (ds : List ℕ) (c : ℕ) (cs : List ℕ) (
   unfolding clap_on_literals
   walk_passes_on = simp (dh, ch, sh)
 
-  end_passes : accepts false p (s ∷ ss) ≡ true → mistakes_by (shape_by p) [] (ended (d ∷ ds) (c ∷ cs) [] (s ∷ ss)) ≡ []
+  -- at the end the size is settled, and then nothing is missing
+  end_settles : accepts false p (s ∷ ss) ≡ true
+      → settle_fault (shape_by p).rules (shape_by p).args_override_self (ended (d ∷ ds) (c ∷ cs) [] (s ∷ ss)) ≡ []
   unfolding clap_on_literals
-  end_passes size = simp size
+  end_settles size = simp size
+
+  end_has_defaults : defaults_fault (settled (shape_by p).rules (ended (d ∷ ds) (c ∷ cs) [] (s ∷ ss))).rows (shape_by p).rules ≡ []
+  unfolding clap_on_literals
+  end_has_defaults = refl
+
+  end_has_all : check_fault (shape_by p) (finished (shape_by p).rules (ended (d ∷ ds) (c ∷ cs) [] (s ∷ ss))) false ≡ []
+  unfolding clap_on_literals
+  end_has_all = refl
+
+  end_passes : accepts false p (s ∷ ss) ≡ true → mistakes_by (shape_by p) [] (ended (d ∷ ds) (c ∷ cs) [] (s ∷ ss)) ≡ []
+  end_passes size = λ j. or_else (end_settles size j) (or_else (end_has_defaults j) (end_has_all j))
 
   before_ends : (walk (shape_by p).rules [] nothing_held flag_before).held ≡ ended (d ∷ ds) (c ∷ cs) (flag ∷ []) (s ∷ ss)
   unfolding clap_on_literals
@@ -141,9 +169,21 @@ module _ (p : ValueParser) (d : ℕ) (ds : List ℕ) (c : ℕ) (cs : List ℕ) (
   unfolding clap_on_literals
   before_passes_on = simp (dh, ch, sh)
 
-  before_passes : accepts false p (s ∷ ss) ≡ true → mistakes_by (shape_by p) [] (ended (d ∷ ds) (c ∷ cs) (flag ∷ []) (s ∷ ss)) ≡ []
+  before_settles : accepts false p (s ∷ ss) ≡ true
+      → settle_fault (shape_by p).rules (shape_by p).args_override_self (ended (d ∷ ds) (c ∷ cs) (flag ∷ []) (s ∷ ss)) ≡ []
   unfolding clap_on_literals
-  before_passes size = simp size
+  before_settles size = simp size
+
+  before_has_defaults : defaults_fault (settled (shape_by p).rules (ended (d ∷ ds) (c ∷ cs) (flag ∷ []) (s ∷ ss))).rows (shape_by p).rules ≡ []
+  unfolding clap_on_literals
+  before_has_defaults = refl
+
+  before_has_all : check_fault (shape_by p) (finished (shape_by p).rules (ended (d ∷ ds) (c ∷ cs) (flag ∷ []) (s ∷ ss))) false ≡ []
+  unfolding clap_on_literals
+  before_has_all = refl
+
+  before_passes : accepts false p (s ∷ ss) ≡ true → mistakes_by (shape_by p) [] (ended (d ∷ ds) (c ∷ cs) (flag ∷ []) (s ∷ ss)) ≡ []
+  before_passes size = λ j. or_else (before_settles size j) (or_else (before_has_defaults j) (before_has_all j))
 
   behind_ends : (walk (shape_by p).rules [] nothing_held flag_behind).held ≡ ended_by p (d ∷ ds) (c ∷ cs) (s ∷ ss)
   unfolding clap_on_literals
@@ -174,13 +214,17 @@ module _ (p : ValueParser) (d : ℕ) (ds : List ℕ) (c : ℕ) (cs : List ℕ) (
 abbrev flagged : Text → Text → Held
 flagged deck change = record { rows = row (codes "DECK") deck ∷ row (codes "CHANGE") change ∷ flag ∷ []; pending = None; skip = 0 }
 
+-- over two files alone it ends so
+abbrev filed : Text → Text → Held
+filed deck change = record { rows = row (codes "DECK") deck ∷ []; pending = Some (codes "CHANGE", change ∷ []); skip = 0 }
+
 module _ (program : Text) (d : ℕ) (ds : List ℕ) (c : ℕ) (cs : List ℕ) (dh : (d == 45) ≡ false) (ch : (c == 45) ≡ false) where
   abbrev rules : List Rule
   rules = (shape_by size_parser).rules
 
   -- the arguments that `apply` has where the walk over its words ends so
   abbrev HasArguments : Held → Text → Report → Type 0
-  HasArguments h size report = IsApplyOf (Some (codes "apply", finished rules h)) (d ∷ ds) (c ∷ cs) size report
+  HasArguments h size report = IsPlainApply (d ∷ ds) (c ∷ cs) size report (Some (codes "apply", finished rules h))
 
   abbrev flagged_words : List Text
   flagged_words = (d ∷ ds) ∷ (c ∷ cs) ∷ codes "--undo" ∷ []
@@ -199,14 +243,40 @@ module _ (program : Text) (d : ℕ) (ds : List ℕ) (c : ℕ) (cs : List ℕ) (d
 
   flagged_has : HasArguments (flagged (d ∷ ds) (c ∷ cs)) (codes "262144") WayBack
   unfolding clap_on_literals
-  flagged_has = (refl, refl, refl, refl)
+  flagged_has = ((refl, refl, refl, (refl, refl, refl, refl, refl)), (refl, refl, refl, refl, refl))
 
   -- words that name `apply`, of which the walk ends so
   named_by : (words : List Text) (h : Held) (size : Text) (report : Report) → NamesBelow size_parser program words
       → (walk rules [] nothing_held words).held ≡ h → HasArguments h size report
-      → IsApplyOf (subcommand_of iocm_app (program ∷ codes "apply" ∷ words)) (d ∷ ds) (c ∷ cs) size report
+      → IsPlainApply (d ∷ ds) (c ∷ cs) size report (subcommand_of iocm_app (program ∷ codes "apply" ∷ words))
   named_by words h size report named ends has =
-      subst (λ found. IsApplyOf found (d ∷ ds) (c ∷ cs) size report) (sym (named ∙ ap (λ end. Some (codes "apply", finished rules end)) ends)) has
+      subst (IsPlainApply (d ∷ ds) (c ∷ cs) size report) (sym (named ∙ ap (λ end. Some (codes "apply", finished rules end)) ends)) has
+
+  abbrev filed_words : List Text
+  filed_words = (d ∷ ds) ∷ (c ∷ cs) ∷ []
+
+  filed_ends : (walk rules [] nothing_held filed_words).held ≡ filed (d ∷ ds) (c ∷ cs)
+  unfolding clap_on_literals
+  filed_ends = simp (dh, ch)
+
+  filed_passes_on : walk_fault (shape_by size_parser) [] (walk_from nothing_held) filed_words ≡ []
+  unfolding clap_on_literals
+  filed_passes_on = simp (dh, ch)
+
+  filed_passes : mistakes_by (shape_by size_parser) [] (filed (d ∷ ds) (c ∷ cs)) ≡ []
+  unfolding clap_on_literals
+  filed_passes = refl
+
+  filed_has : HasArguments (filed (d ∷ ds) (c ∷ cs)) (codes "262144") Table
+  unfolding clap_on_literals
+  filed_has = ((refl, refl, refl, (refl, refl, refl, refl, refl)), (refl, refl, refl, refl, refl))
+
+  apply_is_read : IsReadAs (program ∷ codes "apply" ∷ filed_words) (d ∷ ds) (c ∷ cs) (codes "262144") Table
+  apply_is_read = (
+    two_below size_parser program (d ∷ ds) (c ∷ cs)
+        ∙ ap (λ kinds. or_else kinds []) (ap₂ (mistakes_by (shape_by size_parser)) filed_passes_on filed_ends ∙ filed_passes),
+    named_by filed_words (filed (d ∷ ds) (c ∷ cs)) (codes "262144") Table (two_named size_parser program (d ∷ ds) (c ∷ cs)) filed_ends filed_has,
+  )
 
   undo_is_read : IsReadAs (program ∷ codes "apply" ∷ flagged_words) (d ∷ ds) (c ∷ cs) (codes "262144") WayBack
   undo_is_read = (
@@ -221,15 +291,15 @@ module _ (program : Text) (d : ℕ) (ds : List ℕ) (c : ℕ) (cs : List ℕ) (d
 
     sized_has : HasArguments (ended (d ∷ ds) (c ∷ cs) [] (s ∷ ss)) (s ∷ ss) Table
     unfolding clap_on_literals
-    sized_has = (refl, refl, refl, refl)
+    sized_has = ((refl, refl, refl, (refl, refl, refl, refl, refl)), (refl, refl, refl, refl, refl))
 
     before_has : HasArguments (ended (d ∷ ds) (c ∷ cs) (flag ∷ []) (s ∷ ss)) (s ∷ ss) WayBack
     unfolding clap_on_literals
-    before_has = (refl, refl, refl, refl)
+    before_has = ((refl, refl, refl, (refl, refl, refl, refl, refl)), (refl, refl, refl, refl, refl))
 
     behind_has : HasArguments (ended_by size_parser (d ∷ ds) (c ∷ cs) (s ∷ ss)) (s ∷ ss) WayBack
     unfolding clap_on_literals
-    behind_has = (refl, refl, refl, refl)
+    behind_has = ((refl, refl, refl, (refl, refl, refl, refl, refl)), (refl, refl, refl, refl, refl))
 
     sized_is_read : IsReadAs (program ∷ codes "apply" ∷ sized_words size_parser d ds c cs s ss dh ch sh) (d ∷ ds) (c ∷ cs) (s ∷ ss) Table
     sized_is_read = (
@@ -270,7 +340,9 @@ size_is_plain (b ∷ bs) h = (b, bs, refl, go (b == 45) refl)
 read_states : (words same : List Text) (deck change size : Text) (report : Report) → words ≡ same → IsReadAs same deck change size report → IsSizeText size
     → StatesApply words
 read_states words same deck change size report is read sized =
-    subst StatesApply (sym is) (read.0, (deck, change, size, report, read.1, sized))
+    let named = subcommand_of iocm_app same in
+    let (is_, ds, us, ps, os) = read.1.1 in
+    subst StatesApply (sym is) (read.0, (deck, change, size, report, read.1.0, sized, nothing, no_filters named is_ ds us ps os))
 
 module _ (program : Text) (d : ℕ) (ds : List ℕ) (c : ℕ) (cs : List ℕ) (dh : (d == 45) ≡ false) (ch : (c == 45) ≡ false) where
   abbrev front : List Text → List Text

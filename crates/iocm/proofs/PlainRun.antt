@@ -15,10 +15,11 @@ use Rattle.clap.proofs.FaultLemmas.{stopped_fault}
 use Rattle.clap.proofs.OnLiterals.{clap_on_literals}
 use Rattle.clap.proofs.ValueTestLemmas.{Accepts-accepts}
 use Rattle.clap.proofs.WalkLemmas.{walk_stopped}
-use Rattle.iocm.specs.CommandLine.{apply_app, argument_of, arguments_of, changes_rule, deck_app, decks_app, file_rule, heap_rule, iocm_app, mistakes, stated, words_of}
-use Rattle.iocm.specs.CommandLine.{GivesHeap, GivesSize, IsAsNamed, IsHeapOption, IsPlainName, IsRunLine, IsRunOf, IsRunWith, IsSizeText, NamesRun, StatesArguments, StatesRun}
+use Rattle.iocm.specs.CommandLine.{argument_of, arguments_of, mistakes, stated}
+use Rattle.iocm.specs.Program.{apply_app, changes_rule, deck_app, decks_app, diff_app, explain_app, file_rule, heap_rule, iocm_app}
+use Rattle.iocm.specs.CommandLine.{GivesHeap, GivesSize, IsAsNamed, IsHeapOption, IsPlainName, IsRunLine, IsRunOf, IsRunWith, IsSizeText, NamesRun, StatesArguments, StatesCommand, StatesRun}
 use Rattle.iocm.specs.declared.command.Command.{Command}
-use Rattle.iocm.specs.declared.command.Command.TheVariants.{Answer, Run}
+use Rattle.iocm.specs.declared.command.Command.TheVariants.{Answer, Diff, Explain, Run}
 use Rattle.iocm.specs.declared.command.Request.TheVariants.{Check, Show, Write, Apply}
 use Rattle.std.specs.Option.{option_map, option_map_or}
 use Rattle.std.specs.Prelude.{Option, option_and_then, unwrap_or, ◌⊎◌}
@@ -26,6 +27,7 @@ use Rattle.std.specs.Str.{bytes_eq}
 use Rattle.std.specs.Str.Parse.{digits_value, without_leading_plus}
 use Rattle.clap.specs.Walk.{texts}
 use Rattle.iocm.proofs.PlainApply.{default_is_size, size_is_plain, size_parser}
+use Rattle.iocm.proofs.Reading.{name_is}
 
 -- ---- the program's own words
 
@@ -34,7 +36,7 @@ abbrev run_by : ValueParser → App
 run_by p = with_rule (with_rule (with_rule (deck_app (codes "run")) (file_rule (codes "SCRIPT"))) (changes_rule (codes "CHANGE"))) (record heap_rule { parser = Some p })
 
 abbrev program_by : ValueParser → App
-program_by p = with_subcommand (with_subcommand decks_app apply_app.top) (run_by p).top
+program_by p = with_subcommand (with_subcommand (with_subcommand (with_subcommand decks_app diff_app.top) apply_app.top) (run_by p).top) explain_app.top
 
 abbrev shape_by : ValueParser → Shape
 shape_by p = built_leaf (run_by p).top
@@ -384,22 +386,30 @@ other_name : (name : Text) (value other : Option Text) (found : Option (Text × 
 other_name name value other found differs is too =
     true≢false (sym (ap (λ (o : Option (Text × Option Text)). option_map_or (λ (p : Text × Option Text). bytes_eq p.0 (codes "run")) o false) (sym is ∙ too)) ∙ differs)
 
+other_command : (name : Text) (named : Option (Text × List Row)) (other : Option Text) → bytes_eq name (codes "run") ≡ false
+    → option_map (λ (p : Text × List Row). p.0) named ≡ Some name → argument_of (codes "DECK") named ≡ Some (codes "run", other) → ⊥
+other_command name named other differs is too =
+    true≢false (sym (ap (λ (o : Option Text). option_map_or (λ (n : Text). bytes_eq n (codes "run")) o false)
+    (sym is ∙ name_is named (codes "DECK") (codes "run") other too)) ∙ differs)
+
 heap_given : (options : List Text) (size : Text) (heap : ℕ) → HasSize options size → GivesSize size heap → GivesHeap options heap
 heap_given options size heap (inl (none, default)) gives = inl (none, gives.1 ∙ ap (λ (t : Text). digits_value 10 (without_leading_plus t)) default)
 heap_given options size heap (inr are) gives = inr (size, are, gives)
 
 -- a command that the words state is the one that they name
-pub as_named : (words : List Text) (c : Command) → stated words ≡ Some (words_of c) → StatesArguments words c → IsAsNamed words c
+pub as_named : (words : List Text) (c : Command) → StatesCommand words c → StatesArguments words c → IsAsNamed words c
 as_named words c is has deck script changes options line = go c is has
   where
     read : IsLineRead changes options words deck script
     read = line_is_read words deck script changes options line
 
-    go : (c : Command) → stated words ≡ Some (words_of c) → StatesArguments words c → IsRunWith c deck script changes options
-    go (Answer (Check d)) is has = other_name (codes "check") (Some d.now) (Some deck) (stated words) refl is read.1.1.0
-    go (Answer (Show d)) is has = other_name (codes "show") (Some d.now) (Some deck) (stated words) refl is read.1.1.0
+    go : (c : Command) → StatesCommand words c → StatesArguments words c → IsRunWith c deck script changes options
+    go (Answer (Check d all)) is has = other_name (codes "check") (Some d.now) (Some deck) (stated words) refl is read.1.1.0
+    go (Answer (Show d filters)) is has = other_name (codes "show") (Some d.now) (Some deck) (stated words) refl is read.1.1.0
     go (Answer (Write d)) is has = other_name (codes "write") (Some d.now) (Some deck) (stated words) refl is read.1.1.0
-    go (Answer (Apply d change heap report)) is has = other_name (codes "apply") (Some d.now) (Some deck) (stated words) refl is read.1.1.0
+    go (Answer (Apply d change heap report filters)) is has = other_name (codes "apply") (Some d.now) (Some deck) (stated words) refl is read.1.1.0
+    go (Diff old new with_old) is has = other_command (codes "diff") (subcommand_of iocm_app words) (Some deck) refl is read.1.1.0
+    go (Explain rule) is has = other_command (codes "explain") (subcommand_of iocm_app words) (Some deck) refl is read.1.1.0
     go (Run d s cs heap) is (size, (d_is, s_is, cs_are, size_is), gives) =
         let named = subcommand_of iocm_app words in
         let same_size : size ≡ read.0 = same_value (codes "run") (argument_of (codes "heap") named) size read.0 size_is read.1.1.3 in (

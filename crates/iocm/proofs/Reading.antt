@@ -1,5 +1,5 @@
 -- What clap's clauses say of the command line.
-use Rattle.std.proofs.Common.{Result, Ok, Err, IfErr, IsErr, IfSome, IsSome, subst, ◌≡◌, List, [], ◌∷◌, Option, None, Some, is_some, option_map, option_and_then, unwrap_or, map, codes, refl, inl, inr, sym, ap, ◌∙◌, true, false}
+use Rattle.std.proofs.Common.{Result, Ok, Err, IfOk, IfErr, IsErr, IfSome, IsSome, subst, ◌≡◌, List, [], ◌∷◌, Option, None, Some, is_some, option_map, option_and_then, unwrap_or, map, codes, refl, inl, inr, sym, ap, ◌∙◌, true, false}
 use Rattle.std.specs.Prelude.{Box}
 use Rattle.std.specs.Result.{IsErrAnd}
 use Rattle.std.specs.Borrow.{Bor}
@@ -12,9 +12,10 @@ use Rattle.clap.specs.declared.parser.matches.Found.{Found}
 use Rattle.clap.proofs.WalkLemmas.{first_value-rows, raw_values-rows}
 use Rattle.clap.specs.Kinds.{or_else}
 use Rattle.clap.specs.declared.error.Error.{Error}
-use Rattle.clap.specs.declared.error.kind.ErrorKind.TheVariants.{MissingRequiredArgument}
+use Rattle.clap.specs.declared.error.kind.ErrorKind.TheVariants.{ArgumentConflict, ValueValidation}
 use Rattle.clap.proofs.OnLiterals.{clap_on_literals}
-use Rattle.iocm.specs.CommandLine.{argument_of, arguments_of, iocm_app, mistakes, mistakes_or_missing, stated, words_of, HasArguments, StatesArguments}
+use Rattle.iocm.specs.CommandLine.{argument_of, arguments_of, mistakes, mistakes_or_others, HasArguments, HasCommand, StatesArguments, StatesCommand}
+use Rattle.iocm.specs.Program.{iocm_app}
 use Rattle.iocm.specs.declared.command.Command.{Command}
 
 -- one of these kinds is one of these or, where there is none, of others
@@ -94,6 +95,11 @@ pub passed_on : {X : Type 0} (result : Result X Error) (given : Error) (P : Erro
 passed_on (Ok x) given P has is = tt
 passed_on (Err e) given P has is = subst P (sym is.1) has
 
+-- what holds of anything holds of what there is
+pub if_ok_any : {X E : Type 0} (r : Result X E) (P : X → Type 0) → ((x : X) → P x) → IfOk r P
+if_ok_any (Ok x) P any = any x
+if_ok_any (Err e) P any = tt
+
 -- what is not some is not
 pub not_some : {X : Type 0} (o : Option X) → ((x : X) → o ≡ Some x → ⊥) → IsSome o → ⊥
 not_some None never some = let bad : false ≡ true = some in cc
@@ -103,15 +109,26 @@ not_some (Some x) never some = never x refl
 pub some_is : {X : Type 0} (o : Option X) (x : X) (P : X → Type 0) → o ≡ Some x → IfSome o P → P x
 some_is o x P is has = subst (λ o. IfSome o P) is has
 
--- where there is no mistake, a missing argument is of a kind that is stated
-pub is_missing : (words : List Text) (e : Error) → mistakes words ≡ [] → kind_of e ≡ MissingRequiredArgument → HasKind (mistakes_or_missing words) e
-is_missing words e none kind = subst (λ (kinds : Kinds). HasKind (or_else kinds (MissingRequiredArgument ∷ [])) e) (sym none) (inr (inl kind))
+-- where there is no mistake, two reports and a filter of another form are of kinds that are stated
+pub is_conflict : (words : List Text) (e : Error) → mistakes words ≡ [] → kind_of e ≡ ArgumentConflict → HasKind (mistakes_or_others words) e
+is_conflict words e none kind =
+    subst (λ (kinds : Kinds). HasKind (or_else kinds (ArgumentConflict ∷ ValueValidation ∷ [])) e) (sym none) (inr (inl kind))
+
+pub is_of_other_form : (words : List Text) (e : Error) → mistakes words ≡ [] → kind_of e ≡ ValueValidation → HasKind (mistakes_or_others words) e
+is_of_other_form words e none kind =
+    subst (λ (kinds : Kinds). HasKind (or_else kinds (ArgumentConflict ∷ ValueValidation ∷ [])) e) (sym none) (inr (inr (inl kind)))
 
 -- the command that was found is the one that the words state
 pub is_stated_as : (words : List Text) (m : ArgMatches) (found : Option Command) (c : Command) → subcommand_rows_of m ≡ subcommand_of iocm_app words
-    → found ≡ Some c → IfSome found (λ c. argument_of (codes "DECK") (subcommand_rows_of m) ≡ Some (words_of c)) → stated words ≡ Some (words_of c)
-is_stated_as words m found c entered is has = ap (argument_of (codes "DECK")) (sym entered)
-    ∙ some_is found c (λ c. argument_of (codes "DECK") (subcommand_rows_of m) ≡ Some (words_of c)) is has
+    → found ≡ Some c → IfSome found (HasCommand (subcommand_rows_of m)) → StatesCommand words c
+is_stated_as words m found c entered is has =
+    subst (λ (named : Option (Text × List Row)). HasCommand named c) entered (some_is found c (HasCommand (subcommand_rows_of m)) is has)
+
+-- the command of an argument is the one that the words name
+pub name_is : (named : Option (Text × List Row)) (id name : Text) (value : Option Text) → argument_of id named ≡ Some (name, value)
+    → option_map (λ (p : Text × List Row). p.0) named ≡ Some name
+name_is None id name value is = cc
+name_is (Some p) id name value is = ap (option_map (λ (q : Text × Option Text). q.0)) is
 
 -- with what it has
 pub has_stated : (words : List Text) (m : ArgMatches) (found : Option Command) (c : Command) → subcommand_rows_of m ≡ subcommand_of iocm_app words

@@ -1,15 +1,22 @@
 -- What is printed of a deck, and of a change deck if there is one.
-use Rattle.std.specs.Prelude.{ℕ, List}
+use Rattle.std.specs.Prelude.{ℕ, Bool, true, false, List}
 use Rattle.iocm_apply.specs.Apply.{applied}
-use Rattle.iocm_console.specs.Command.{answered}
+use Rattle.iocm_console.specs.Command.{answered, showed}
+use Rattle.iocm_console.specs.declared.command.DeckCommand.{DeckCommand}
 use Rattle.iocm_console.specs.Opening.{Shown}
 use Rattle.iocm_console.specs.declared.command.DeckCommand.TheVariants as deck_command
 use Rattle.iocm.specs.declared.command.Request.{Request}
 use Rattle.iocm.specs.declared.command.Request.TheVariants.{Check, Show, Write, Apply}
 
+-- which breaches of the rules are printed: the first one, or all
+abbrev pub checked_by : Bool → DeckCommand
+checked_by false = deck_command.Check
+checked_by true = deck_command.CheckAll
+
 -- what a request prints of the bytes of its deck and of its change deck, and how it ends
 abbrev pub printed : Request → List ℕ → List ℕ → Shown
-printed (Check deck) bytes lines = answered deck_command.Check bytes
-printed (Show deck) bytes lines = answered deck_command.Show bytes
+printed (Check deck all) bytes lines = answered (checked_by all) bytes
+printed (Show deck filters) bytes lines = showed filters bytes
 printed (Write deck) bytes lines = answered deck_command.Write bytes
-printed (Apply deck change heap report) bytes lines = applied report bytes lines
+printed (Apply deck change heap report filters) bytes lines =
+    applied (record { report = report; wanted = filters }) bytes lines

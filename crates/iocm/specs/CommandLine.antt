@@ -2,82 +2,22 @@
 use Rattle.std.specs.Prelude.{◌≡◌, ◌==◌, ◌⊎◌, ℕ, Bool, true, false, List, [], ◌∷◌, ◌++◌, Option, Some, None, codes}
 use Rattle.std.specs.Prelude.{option_map, unwrap_or, ⊤}
 use Rattle.std.specs.List.{All}
+use Rattle.std.specs.Option.{option_map_or}
 use Rattle.std.specs.Str.Parse.{digits_value, without_leading_plus}
 use Rattle.clap.specs.Walk.{texts}
-use Rattle.clap.specs.Words.{App, Row, Rule, Text, Kinds, IsUnsignedIn, new_app, new_rule, with_rule, with_subcommand}
+use Rattle.clap.specs.Words.{Row, Text, Kinds, IsUnsignedIn}
 use Rattle.clap.specs.Words.{subcommand_of, all_of, first_of, fault_of}
 use Rattle.clap.specs.Kinds.{or_else}
-use Rattle.clap.specs.declared.builder.action.ArgAction.TheVariants.{Append, SetTrue}
-use Rattle.clap.specs.declared.builder.command.Command as clap
-use Rattle.clap.specs.declared.builder.command.Command.TheViews.{out-Command}
-use Rattle.clap.specs.declared.builder.value_parser.ValueParser.TheVariants.{Unsigned}
-use Rattle.clap.specs.declared.error.kind.ErrorKind.TheVariants.{MissingRequiredArgument}
+use Rattle.clap.specs.declared.error.kind.ErrorKind.TheVariants.{ArgumentConflict, ValueValidation}
+use Rattle.iocm_filter.specs.Wanted.{Wanted}
+use Rattle.iocm_filter.specs.Words.{filters_of}
 use Rattle.iocm_apply.specs.declared.report.Report.{Report}
-use Rattle.iocm_apply.specs.declared.report.Report.TheVariants.{Table, WayBack}
+use Rattle.iocm_apply.specs.declared.report.Report.TheVariants as report
+use Rattle.iocm.specs.Program.{iocm_app}
 use Rattle.iocm.specs.declared.command.Command.{Command}
-use Rattle.iocm.specs.declared.command.Command.TheVariants.{Answer, Run}
+use Rattle.iocm.specs.declared.command.Command.TheVariants.{Answer, Diff, Explain, Run}
 use Rattle.iocm.specs.declared.command.Request.{Request}
 use Rattle.iocm.specs.declared.command.Request.TheVariants.{Check, Show, Write, Apply}
-
--- a file, which is required: the deck, the script, or the change deck
-abbrev pub file_rule : Text → Rule
-file_rule name = record (new_rule name) { required = true }
-
--- files, of which each word names one, and which aren't required: the change decks of a script
-abbrev pub changes_rule : Text → Rule
-changes_rule name = record (new_rule name) { action = Some Append }
-
--- the size of a heap in bytes, by an option: 16 to 16777216, where it is not given 262144
-abbrev pub heap_rule : Rule
-heap_rule = record (new_rule (codes "heap")) {
-  long = Some (codes "heap");
-  value_names = 1;
-  defaults = codes "262144" ∷ [];
-  parser = Some (Unsigned 16 16777216);
-}
-
--- a command of this name, with its deck
-abbrev pub deck_app : Text → App
-deck_app name = with_rule (new_app name) (file_rule (codes "DECK"))
-
--- that the change deck that takes the change back is asked for, by a flag
-abbrev pub undo_rule : Rule
-undo_rule = record (new_rule (codes "undo")) { long = Some (codes "undo"); action = Some SetTrue }
-
--- `apply`, with its deck, its change deck, the size of its heap and its flag
-abbrev pub apply_app : App
-apply_app =
-    with_rule (with_rule (with_rule (deck_app (codes "apply")) (file_rule (codes "CHANGE"))) heap_rule)
-    undo_rule
-
--- `run`, with its deck, its script, its change decks and the size of their heaps
-abbrev pub run_app : App
-run_app =
-    let files = with_rule (deck_app (codes "run")) (file_rule (codes "SCRIPT")) in
-    with_rule (with_rule files (changes_rule (codes "CHANGE"))) heap_rule
-
--- whether an argument of the command is one of all commands below it too
-abbrev pub has_globals : clap.Command → Bool
-has_globals c = (out-Command c).has_globals
-
--- the program without its commands: it tells its version, and one of the commands is required
-abbrev pub bare_app : App
-bare_app = record (new_app (codes "iocm")) {
-  top = record (new_app (codes "iocm")).top { subcommand_required = true; has_version = true };
-}
-
--- an application with one more command that reads a deck
-abbrev pub with_deck_command : App → Text → App
-with_deck_command app name = with_subcommand app (deck_app name).top
-
--- the program with the commands that read a deck and nothing else
-abbrev pub decks_app : App
-decks_app =
-    with_deck_command (with_deck_command (with_deck_command bare_app (codes "check")) (codes "show")) (codes "write")
-
--- the program, with its commands
-abbrev pub iocm_app : App
-iocm_app = with_subcommand (with_subcommand decks_app apply_app.top) run_app.top
 
 -- a command's name, and the value of one of its arguments
 abbrev pub argument_of : Text → Option (Text × List Row) → Option (Text × Option Text)
@@ -94,26 +34,33 @@ stated words = argument_of (codes "DECK") (subcommand_of iocm_app words)
 
 -- a request by its command's name and its deck
 abbrev pub request_words : Request → Text × Option Text
-request_words (Check deck) = (codes "check", Some deck.now)
-request_words (Show deck) = (codes "show", Some deck.now)
+request_words (Check deck all) = (codes "check", Some deck.now)
+request_words (Show deck filters) = (codes "show", Some deck.now)
 request_words (Write deck) = (codes "write", Some deck.now)
-request_words (Apply deck change heap report) = (codes "apply", Some deck.now)
+request_words (Apply deck change heap report filters) = (codes "apply", Some deck.now)
 
--- a command by its name and its deck
-abbrev pub words_of : Command → Text × Option Text
-words_of (Answer request) = request_words request
-words_of (Run deck script changes heap) = (codes "run", Some deck.now)
-
--- the words name the request, or the command, and its deck
+-- the words name the request and its deck
 abbrev pub HasRequest : Option (Text × List Row) → Request → Type 0
 HasRequest named request = argument_of (codes "DECK") named ≡ Some (request_words request)
 
+-- the name of the command that the words name
+abbrev pub name_of : Option (Text × List Row) → Option Text
+name_of named = option_map (λ p. p.0) named
+
+-- the words name the command, with its deck where it has one of this name
 abbrev pub HasCommand : Option (Text × List Row) → Command → Type 0
-HasCommand named command = argument_of (codes "DECK") named ≡ Some (words_of command)
+HasCommand named (Answer request) = HasRequest named request
+HasCommand named (Diff old new with_old) = name_of named ≡ Some (codes "diff")
+HasCommand named (Explain rule) = name_of named ≡ Some (codes "explain")
+HasCommand named (Run deck script changes heap) = argument_of (codes "DECK") named ≡ Some (codes "run", Some deck.now)
+
+-- the words state this command
+abbrev pub StatesCommand : List Text → Command → Type 0
+StatesCommand words c = HasCommand (subcommand_of iocm_app words) c
 
 -- the change deck of a request, if it has one
 abbrev pub change_deck_of : Request → Option Text
-change_deck_of (Apply deck change heap report) = Some change.now
+change_deck_of (Apply deck change heap report filters) = Some change.now
 change_deck_of _ = None
 
 -- a text that gives the size of a heap: a decimal number of 16 to 16777216
@@ -124,24 +71,79 @@ IsSizeText text = IsUnsignedIn 16 16777216 text
 abbrev pub GivesSize : Text → ℕ → Type 0
 GivesSize text size = IsSizeText text × (size ≡ digits_value 10 (without_leading_plus text))
 
--- what clap makes of the flag: "true" where it is given
-abbrev pub flag_text : Report → Text
-flag_text Table = codes "false"
-flag_text WayBack = codes "true"
+-- what clap makes of a flag: "true" where it is given
+abbrev pub flag_text : Bool → Text
+flag_text false = codes "false"
+flag_text true = codes "true"
+
+-- a flag of a command is given or not
+abbrev pub HasFlag : Option (Text × List Row) → Text → Text → Bool → Type 0
+HasFlag named name id given = argument_of id named ≡ Some (name, Some (flag_text given))
+
+-- which flag asks for a report: for the table none does
+abbrev pub asks_back : Report → Bool
+asks_back report.WayBack = true
+asks_back _ = false
+
+abbrev pub asks_altered : Report → Bool
+asks_altered report.Altered = true
+asks_altered _ = false
+
+abbrev pub asks_count : Report → Bool
+asks_count report.Count = true
+asks_count _ = false
+
+abbrev pub asks_deck : Report → Bool
+asks_deck report.Deck = true
+asks_deck _ = false
+
+abbrev pub asks_test : Report → Bool
+asks_test report.Test = true
+asks_test _ = false
+
+-- of the flags of `apply` just the one that asks for this report is given
+abbrev pub AsksReport : Option (Text × List Row) → Report → Type 0
+AsksReport named r = HasFlag named (codes "apply") (codes "undo") (asks_back r)
+    × HasFlag named (codes "apply") (codes "altered") (asks_altered r)
+    × HasFlag named (codes "apply") (codes "count") (asks_count r)
+    × HasFlag named (codes "apply") (codes "deck") (asks_deck r)
+    × HasFlag named (codes "apply") (codes "test") (asks_test r)
+
+-- all values of an option, none where it isn't given
+abbrev pub values_under : Text → Option (Text × List Row) → List Text
+values_under id named = option_map_or (λ (p : Text × List Text). p.1) (arguments_of id named) []
+
+-- the values of the filters have their forms, and ask for these subchannels
+abbrev pub AsksFor : Option (Text × List Row) → Wanted → Type 0
+AsksFor named w = filters_of
+    (values_under (codes "image") named) (values_under (codes "device") named) (values_under (codes "unit") named)
+    (values_under (codes "path") named) (values_under (codes "paths-online") named) ≡ Some w
 
 -- the command and its matches are those of `apply` with this deck, this change deck, this text of a
 -- heap's size and this report
 abbrev pub IsApplyOf : Option (Text × List Row) → Text → Text → Text → Report → Type 0
-IsApplyOf named deck change size report = (argument_of (codes "DECK") named ≡ Some (codes "apply", Some deck))
+IsApplyOf named deck change size r = (argument_of (codes "DECK") named ≡ Some (codes "apply", Some deck))
     × (argument_of (codes "CHANGE") named ≡ Some (codes "apply", Some change))
     × (argument_of (codes "heap") named ≡ Some (codes "apply", Some size))
-    × (argument_of (codes "undo") named ≡ Some (codes "apply", Some (flag_text report)))
+    × AsksReport named r
 
--- they are so with those of `apply`; any other request has none
+-- they are so with what a request has beside its deck
 abbrev pub HasChange : Option (Text × List Row) → Request → Type 0
-HasChange named (Apply deck change heap report) = (size : Text)
-    × IsApplyOf named deck.now change.now size report × GivesSize size heap
-HasChange named _ = ⊤
+HasChange named (Check deck all) = HasFlag named (codes "check") (codes "all") all
+HasChange named (Show deck filters) = AsksFor named filters
+HasChange named (Write deck) = ⊤
+HasChange named (Apply deck change heap r filters) = (size : Text)
+    × IsApplyOf named deck.now change.now size r × GivesSize size heap × AsksFor named filters
+
+-- the command and its matches are those of `diff` with these decks
+abbrev pub IsDiffOf : Option (Text × List Row) → Text → Text → Bool → Type 0
+IsDiffOf named old new with_old = (argument_of (codes "OLD") named ≡ Some (codes "diff", Some old))
+    × (argument_of (codes "NEW") named ≡ Some (codes "diff", Some new))
+    × HasFlag named (codes "diff") (codes "old") with_old
+
+-- they are those of `explain` with this word, or without one
+abbrev pub IsExplainOf : Option (Text × List Row) → Option Text → Type 0
+IsExplainOf named word = argument_of (codes "RULE") named ≡ Some (codes "explain", word)
 
 -- the command and its matches are those of `run` with this deck, this script, these change decks
 -- and this text of a heap's size
@@ -154,15 +156,17 @@ IsRunOf named deck script changes size = (argument_of (codes "DECK") named ≡ S
 -- they are so with what the command has
 abbrev pub HasArguments : Option (Text × List Row) → Command → Type 0
 HasArguments named (Answer request) = HasChange named request
+HasArguments named (Diff old new with_old) = IsDiffOf named old.now new.now with_old
+HasArguments named (Explain rule) = IsExplainOf named (option_map (λ word. word.now) rule)
 HasArguments named (Run deck script changes heap) =
     (size : Text) × IsRunOf named deck.now script.now (texts changes.items) size × GivesSize size heap
 
--- the words state what the command has: a change deck and a report, or a script and all its change
--- decks, and the size of a heap
+-- the words state what the command has: a flag or filters, a change deck and a report, two decks, or
+-- a script and all its change decks, and the size of a heap
 abbrev pub StatesArguments : List Text → Command → Type 0
 StatesArguments words c = HasArguments (subcommand_of iocm_app words) c
 
--- the commands whose one argument is a deck
+-- the commands on a deck alone
 abbrev pub IsDeckCommand : Text → Type 0
 IsDeckCommand name = (name ≡ codes "check") ⊎ ((name ≡ codes "show") ⊎ (name ≡ codes "write"))
 
@@ -170,19 +174,47 @@ IsDeckCommand name = (name ≡ codes "check") ⊎ ((name ≡ codes "show") ⊎ (
 abbrev pub mistakes : List Text → Kinds
 mistakes words = fault_of iocm_app words
 
--- the kinds of mistakes; where there is none, that the argument is missing
-abbrev pub mistakes_or_missing : List Text → Kinds
-mistakes_or_missing words = or_else (mistakes words) (MissingRequiredArgument ∷ [])
+-- the kinds of mistakes; where there is none, that two reports are asked for, or that a filter has
+-- another form
+abbrev pub mistakes_or_others : List Text → Kinds
+mistakes_or_others words = or_else (mistakes words) (ArgumentConflict ∷ ValueValidation ∷ [])
 
--- the words have no mistake, and state a command and its deck
+-- they are those of `check`, `show` or `write` with this deck; with a flag that is given or not, or
+-- filters of their forms
+abbrev pub IsCheckOf : Option (Text × List Row) → Text → Bool → Type 0
+IsCheckOf named deck all = (argument_of (codes "DECK") named ≡ Some (codes "check", Some deck))
+    × HasFlag named (codes "check") (codes "all") all
+
+abbrev pub IsShowOf : Option (Text × List Row) → Text → Wanted → Type 0
+IsShowOf named deck w = (argument_of (codes "DECK") named ≡ Some (codes "show", Some deck)) × AsksFor named w
+
+abbrev pub IsWriteOf : Option (Text × List Row) → Text → Type 0
+IsWriteOf named deck = argument_of (codes "DECK") named ≡ Some (codes "write", Some deck)
+
+-- they are those of a command on a deck alone
+abbrev pub IsOnDeck : Option (Text × List Row) → Type 0
+IsOnDeck named = (deck : Text) × (((all : Bool) × IsCheckOf named deck all)
+    ⊎ (((w : Wanted) × IsShowOf named deck w) ⊎ IsWriteOf named deck))
+
+-- the words have no mistake, and state such a command
 abbrev pub StatesDeck : List Text → Type 0
-StatesDeck words = (name deck : Text) × IsDeckCommand name × (mistakes words ≡ [])
-    × (stated words ≡ Some (name, Some deck))
+StatesDeck words = (mistakes words ≡ []) × IsOnDeck (subcommand_of iocm_app words)
 
--- they are those of `apply` with a deck, a change deck, a size and a report
+-- they are those of `diff` with two decks, and of `explain`
+abbrev pub IsDiff : Option (Text × List Row) → Type 0
+IsDiff named = (old new : Text) × (with_old : Bool) × IsDiffOf named old new with_old
+
+abbrev pub IsExplain : Option (Text × List Row) → Type 0
+IsExplain named = (word : Option Text) × IsExplainOf named word
+
+-- the words have no mistake, and state one of these
+abbrev pub StatesOther : List Text → Type 0
+StatesOther words = (mistakes words ≡ []) × (IsDiff (subcommand_of iocm_app words) ⊎ IsExplain (subcommand_of iocm_app words))
+
+-- they are those of `apply` with a deck, a change deck, a size, a report and filters of their forms
 abbrev pub IsApply : Option (Text × List Row) → Type 0
-IsApply named = (deck change size : Text) × (report : Report) × IsApplyOf named deck change size report
-    × IsSizeText size
+IsApply named = (deck change size : Text) × (r : Report) × IsApplyOf named deck change size r
+    × IsSizeText size × (w : Wanted) × AsksFor named w
 
 -- the words have no mistake, and state `apply` with these
 abbrev pub StatesApply : List Text → Type 0
@@ -243,6 +275,8 @@ GivesHeap options heap = ((options ≡ []) × (heap ≡ 262144))
 -- options give
 abbrev pub IsRunWith : Command → Text → Text → List Text → List Text → Type 0
 IsRunWith (Answer request) deck script changes options = ⊥
+IsRunWith (Diff old new with_old) deck script changes options = ⊥
+IsRunWith (Explain rule) deck script changes options = ⊥
 IsRunWith (Run d s cs heap) deck script changes options = (d.now ≡ deck) × (s.now ≡ script) × (texts cs.items ≡ changes)
     × GivesHeap options heap
 

@@ -10,7 +10,7 @@ ghost use Rattle.iocm.specs.Answer.{printed};
 ghost use Rattle.iocm.specs.CommandLine.{change_deck_of};
 
 use crate::command::Request;
-use iocm_apply::apply_change;
+use iocm_apply::{Asked, apply_change};
 use iocm_columns::Device;
 use iocm_console::{ConsoleError, DeckCommand, Output, Status, answer_deck};
 use std::alloc::Global;
@@ -24,7 +24,7 @@ use std::io::{Read, Write};
 /// write failed. All other faults are refusals, which are printed.
 pub fn print_answer<R: Read, S: Read, W: Write + Drop>(
     alloc: Global,
-    request: Request<'_>,
+    request: &Request<'_>,
     deck: &mut Device<R>,
     change: &mut Device<S>,
     limit: u64,
@@ -38,30 +38,48 @@ pub fn print_answer<R: Read, S: Read, W: Write + Drop>(
     ensures reads { reads_of deck.new ≤ reads_of deck.old + limit }
     ensures reads_change { reads_of change.new ≤ reads_of change.old + limit }
     ensures known_bytes { IfSome (R.remaining (reader_of deck.old)) (λ bytes. (lines : List ℕ)
-        → (IsSome (change_deck_of request.entry) → S.remaining (reader_of change.old) ≡ Some lines)
-        → IfOk result (SaysIfMemory W.contents output.old output.new (printed request.entry bytes lines))) }
+        → (IsSome (change_deck_of request.now) → S.remaining (reader_of change.old) ≡ Some lines)
+        → IfOk result (SaysIfMemory W.contents output.old output.new (printed request.now bytes lines))) }
     ensures some_bytes { (bytes : List ℕ) × (lines : List ℕ)
-        × IfOk result (SaysIfMemory W.contents output.old output.new (printed request.entry bytes lines)) }
+        × IfOk result (SaysIfMemory W.contents output.old output.new (printed request.now bytes lines)) }
     ensures whole { IfOk result (λ status. IsWhole deck.new
         ⊎ Says W.contents output.old output.new (refused memory) status) }
     ensures whole_change { IfOk result (λ status. status ≡ Done
-        → IsSome (change_deck_of request.entry) → IsWhole change.new) }
+        → IsSome (change_deck_of request.now) → IsWhole change.new) }
     ensures written { OnOk result (has_failed output.new ≡ false) }
     ensures handed_on { OnOk result (IsHandedOn output.new) }
-    ensures untouched { change_deck_of request.entry ≡ None → change.new ≡ change.old }
+    ensures untouched { change_deck_of request.now ≡ None → change.new ≡ change.old }
     ensures unreadable { result ≡ Err ConsoleError.Read → StopsShort deck.new (reads_of deck.old + limit)
-        ⊎ (IsSome (change_deck_of request.entry) × StopsShort change.new (reads_of change.old + limit)) }
+        ⊎ (IsSome (change_deck_of request.now) × StopsShort change.new (reads_of change.old + limit)) }
     ensures first { IfSome (R.remaining (reader_of deck.old)) (λ bytes. IsRefusedDeck bytes
         → result ≡ Err ConsoleError.Read → StopsShort deck.new (reads_of deck.old + limit)) }
     ensures unwritten { result ≡ Err ConsoleError.Read → output.new ≡ output.old }
     ensures unwritable { result ≡ Err ConsoleError.Write → has_failed output.new ≡ true }
 {
     match request {
-        Request::Check { .. } => answer_deck(alloc, DeckCommand::Check, deck, limit, output),
-        Request::Show { .. } => answer_deck(alloc, DeckCommand::Show, deck, limit, output),
+        Request::Check { all, .. } => {
+            let command = if *all {
+                DeckCommand::CheckAll
+            } else {
+                DeckCommand::Check
+            };
+            answer_deck(alloc, command, deck, limit, output)
+        }
+        Request::Show { filters, .. } => {
+            answer_deck(alloc, DeckCommand::Show(filters), deck, limit, output)
+        }
         Request::Write { .. } => answer_deck(alloc, DeckCommand::Write, deck, limit, output),
-        Request::Apply { heap, report, .. } => {
-            apply_change(alloc, heap as usize, report, deck, change, limit, output)
+        Request::Apply {
+            heap,
+            report,
+            filters,
+            ..
+        } => {
+            let asked = Asked {
+                report: *report,
+                filters,
+            };
+            apply_change(alloc, *heap as usize, &asked, deck, change, limit, output)
         }
     }
 }

@@ -1,11 +1,12 @@
 //! `iocm`, a dynamic I/O reconfiguration manager for a channel subsystem.
 //!
-//! `iocm check DECK` reads a configuration deck, checks its rules and says how many records it has;
-//! `iocm show DECK` prints the table of its subchannels, `iocm write DECK` the deck in its
-//! canonical order and forms. `iocm apply DECK CHANGE` activates a change deck on the machine of a
-//! configuration deck, and prints how many subchannels it altered and the table afterwards, with
-//! `--undo` the change deck that takes the change back; it reads the change tree in a heap of as
-//! many bytes as `--heap` gives. `iocm run DECK SCRIPT CHANGE..` lets images and operators work on
+//! `iocm check DECK` reads a configuration deck, checks its rules and says how many records it has,
+//! or which rules it breaks; `iocm show DECK` prints the table of its subchannels, `iocm write DECK`
+//! the deck in its canonical order and forms. `iocm diff OLD NEW` prints the change deck that leads
+//! from one deck to another. `iocm apply DECK CHANGE` activates a change deck on the machine of a
+//! configuration deck, and prints how many subchannels it altered and the table afterwards, or
+//! another report; it reads the change tree in a heap of as many bytes as `--heap` gives. One file
+//! may be `-`, standard input. `iocm run DECK SCRIPT CHANGE..` lets images and operators work on
 //! the machine of a configuration deck as a script says, and prints every answer and the table at
 //! the end.
 //!
@@ -24,12 +25,16 @@ ghost use Rattle.iocm_columns.specs.declared.device.Device as its_device;
 
 mod answer;
 mod command;
+mod matches;
+mod program;
 
 use answer::print_answer;
 use clap::error::ErrorKind;
 use command::{Command, Request, command_of};
 use iocm_columns::Device;
 use iocm_console::{ConsoleError, Output, refuse};
+use iocm_diff::diff_decks;
+use iocm_explain::explain;
 use iocm_run::run_script;
 use iocm_types::Fault;
 use std::alloc::AllocError;
@@ -47,6 +52,12 @@ const MOST_READS: u64 = 1_048_576;
 /// The exit status where the command line is not understood.
 const USAGE: u8 = 2;
 
+/// What is said where two files are to be read from standard input.
+const ONE_INPUT: &str = "only one file can be read from standard input";
+
+/// What is said of a word that is no refusal's number.
+const NO_REFUSAL: &str = "no refusal has this number; 'iocm explain' lists all";
+
 /// The exit status after a fault of a device.
 const FAULT: u8 = 3;
 
@@ -61,7 +72,7 @@ fn main(rt: HostRuntime) -> ExitCode {
 }
 
 /// Does what the command line says.
-fn run<R: Env + Files + Print + Eprint + AllocGlobal + Threads + Wait + Sync>(
+fn run<R: Env + Files + Input + Print + Eprint + AllocGlobal + Threads + Wait + Sync>(
     rt: &R,
 ) -> Result<ExitCode, ConsoleError> {
     let words: Vec<String> = match words(rt) {
@@ -71,7 +82,7 @@ fn run<R: Env + Files + Print + Eprint + AllocGlobal + Threads + Wait + Sync>(
     };
     match command_of(rt.alloc(), words.as_slice()) {
         Ok(command) => perform(rt, command),
-        Err(error) => explain(rt, &error),
+        Err(error) => explain_line(rt, &error),
     }
 }
 
@@ -82,12 +93,14 @@ fn words<R: Env + AllocGlobal>(rt: &R) -> io::Result<Vec<String>> {
 
 /// Does a command on its files: they are opened, in the order of the words, before one of them is
 /// read.
-fn perform<R: Files + Print + AllocGlobal + Threads + Wait + Sync>(
+fn perform<R: Files + Input + Print + Eprint + AllocGlobal + Threads + Wait + Sync>(
     rt: &R,
     command: Command<'_>,
 ) -> Result<ExitCode, ConsoleError> {
     match command {
-        Command::Answer(request) => answer_files(rt, request),
+        Command::Answer(request) => answer_files(rt, &request),
+        Command::Diff { old, new, with_old } => diff_files(rt, old, new, with_old),
+        Command::Explain { rule } => explain_rule(rt, rule),
         Command::Run {
             deck,
             script,
@@ -97,27 +110,51 @@ fn perform<R: Files + Print + AllocGlobal + Threads + Wait + Sync>(
     }
 }
 
-/// Does what is asked of the deck in a file.
-fn answer_files<R: Files + Print + AllocGlobal>(
+/// Whether a file's name stands for standard input.
+fn is_stdin(name: &str) -> bool {
+    name == "-"
+}
+
+/// Does what is asked of the deck in a file, or on standard input.
+fn answer_files<R: Files + Input + Print + Eprint + AllocGlobal>(
     rt: &R,
-    request: Request<'_>,
+    request: &Request<'_>,
 ) -> Result<ExitCode, ConsoleError> {
-    let Ok(deck) = fs::open(rt, request.deck()) else {
-        return Err(ConsoleError::Read);
-    };
+    if is_stdin(request.deck()) {
+        return match request.change() {
+            Some(name) if is_stdin(name) => explain_usage(rt, ONE_INPUT),
+            _ => answer_from(rt, request, rt.reader()),
+        };
+    }
+    match fs::open(rt, request.deck()) {
+        Ok(deck) => answer_from(rt, request, deck),
+        Err(_) => Err(ConsoleError::Read),
+    }
+}
+
+/// Does what is asked of a deck, and of the change deck in a file or on standard input, if there is
+/// one.
+fn answer_from<R: Files + Input + Print + AllocGlobal, D: Read + Drop>(
+    rt: &R,
+    request: &Request<'_>,
+    deck: D,
+) -> Result<ExitCode, ConsoleError> {
     let Some(name) = request.change() else {
         return answer_on(rt, request, deck, b"".as_slice());
     };
-    let Ok(change) = fs::open(rt, name) else {
-        return Err(ConsoleError::Read);
-    };
-    answer_on(rt, request, deck, change)
+    if is_stdin(name) {
+        return answer_on(rt, request, deck, rt.reader());
+    }
+    match fs::open(rt, name) {
+        Ok(change) => answer_on(rt, request, deck, change),
+        Err(_) => Err(ConsoleError::Read),
+    }
 }
 
 /// Does what is asked of a deck, and of a change deck if there is one.
 fn answer_on<R: Print + AllocGlobal, D: Read + Drop, C: Read + Drop>(
     rt: &R,
-    request: Request<'_>,
+    request: &Request<'_>,
     deck: D,
     change: C,
 ) -> Result<ExitCode, ConsoleError> {
@@ -132,6 +169,66 @@ fn answer_on<R: Print + AllocGlobal, D: Read + Drop, C: Read + Drop>(
         request,
         &mut deck,
         &mut change,
+        MOST_READS,
+        &mut output,
+    )?;
+    Ok(ExitCode::from(status.code()))
+}
+
+/// Prints what leads from the deck in a file to the deck in another one, of which one may be on
+/// standard input.
+fn diff_files<R: Files + Input + Print + Eprint + AllocGlobal>(
+    rt: &R,
+    old: &str,
+    new: &str,
+    with_old: bool,
+) -> Result<ExitCode, ConsoleError> {
+    if is_stdin(old) {
+        if is_stdin(new) {
+            return explain_usage(rt, ONE_INPUT);
+        }
+        return diff_from(rt, rt.reader(), new, with_old);
+    }
+    match fs::open(rt, old) {
+        Ok(old) => diff_from(rt, old, new, with_old),
+        Err(_) => Err(ConsoleError::Read),
+    }
+}
+
+/// Prints what leads from a deck to the deck in a file, or on standard input.
+fn diff_from<R: Files + Input + Print + AllocGlobal, D: Read + Drop>(
+    rt: &R,
+    old: D,
+    new: &str,
+    with_old: bool,
+) -> Result<ExitCode, ConsoleError> {
+    if is_stdin(new) {
+        return diff_on(rt, old, rt.reader(), with_old);
+    }
+    match fs::open(rt, new) {
+        Ok(new) => diff_on(rt, old, new, with_old),
+        Err(_) => Err(ConsoleError::Read),
+    }
+}
+
+/// Prints what leads from a deck to another one.
+fn diff_on<R: Print + AllocGlobal, D: Read + Drop, C: Read + Drop>(
+    rt: &R,
+    old: D,
+    new: C,
+    with_old: bool,
+) -> Result<ExitCode, ConsoleError> {
+    let Ok(writer) = BufWriter::new(rt.alloc(), io::writer(rt)) else {
+        return refuse_memory(rt);
+    };
+    let mut old = Device::new(old);
+    let mut new = Device::new(new);
+    let mut output = Output::new(writer);
+    let status = diff_decks(
+        rt.alloc(),
+        with_old,
+        &mut old,
+        &mut new,
         MOST_READS,
         &mut output,
     )?;
@@ -228,7 +325,7 @@ fn refuse_memory<R: Print + AllocGlobal>(rt: &R) -> Result<ExitCode, ConsoleErro
 
 /// Prints what `clap` says of the command line: help on standard output, a mistake on standard
 /// error.
-fn explain<R: Print + Eprint + AllocGlobal>(
+fn explain_line<R: Print + Eprint + AllocGlobal>(
     rt: &R,
     error: &clap::Error,
 ) -> Result<ExitCode, ConsoleError> {
@@ -243,6 +340,21 @@ fn explain<R: Print + Eprint + AllocGlobal>(
     } else {
         ExitCode::SUCCESS
     })
+}
+
+/// Prints what a refusal means, or a list of all.
+fn explain_rule<R: Print + Eprint + AllocGlobal>(
+    rt: &R,
+    rule: Option<&str>,
+) -> Result<ExitCode, ConsoleError> {
+    let Ok(writer) = BufWriter::new(rt.alloc(), io::writer(rt)) else {
+        return refuse_memory(rt);
+    };
+    let mut output = Output::new(writer);
+    match explain(rule, &mut output)? {
+        Some(status) => Ok(ExitCode::from(status.code())),
+        None => explain_usage(rt, NO_REFUSAL),
+    }
 }
 
 /// Prints why the command line is not understood.

@@ -1,6 +1,5 @@
 -- What `apply` said, from what its steps said.
 use Rattle.std.proofs.Common.{◌≡◌, ◌≢◌, ℕ, List, ◌++◌, Option, None, Some, Result, Ok, Err, OnOk, IfOk, IfErr, IfSome, inl, inr, refl, sym, ap, subst, ◌∙◌}
-use Rattle.std.specs.FinMap.{len}
 use Rattle.iocm_types.specs.declared.fault.Fault.{Fault}
 use Rattle.iocm_types.specs.declared.refused.Refused.{Refused}
 use Rattle.iocm_types.specs.Fault.{◌>>=◌, Fails}
@@ -10,10 +9,7 @@ use Rattle.iocm_columns.specs.Device.{unreadable, GivesIfReadable}
 use Rattle.iocm_model.specs.Operation.State.{State}
 use Rattle.iocm_model.specs.Rules.FirstBreach.{Breach}
 use Rattle.iocm_model.specs.Change.Edit.{Edit}
-use Rattle.iocm_model.specs.Change.InverseTree.{inverse_tree}
 use Rattle.iocm_model.specs.Change.Meaning.{Outcome}
-use Rattle.iocm_model.specs.Change.Runs.{effect_of}
-use Rattle.iocm_model.specs.Change.Tree.{ChangeTree}
 use Rattle.iocm_tree.specs.Trees.{CarriedTree}
 use Rattle.iocm_plant.specs.Refusing.{IsDue, refusal_by_breach}
 use Rattle.iocm_activate.specs.Done.{refusal_in}
@@ -24,13 +20,13 @@ use Rattle.iocm_console.specs.declared.error.ConsoleError.TheVariants.{Read, Wri
 use Rattle.iocm_console.specs.Opening.{Shown, configuration_in, declined, refused, unless_breached, Says, SaysIfMemory}
 use Rattle.iocm_console.specs.Output.{FailedToWrite, Prints}
 use Rattle.iocm_console.proofs.Printing.{appends_then}
-use Rattle.iocm_apply.specs.declared.report.Report.{Report}
+use Rattle.iocm_apply.specs.Asked.{Question}
 use Rattle.iocm_apply.specs.Apply.{applied, applied_to, lines_tried, made, reported, tried, IsRefused, IsRefusedDeck}
 
 -- the report of a change that was made
-pub made_is : (report : Report) (s t : State) (o : Outcome) (es : List Edit) (altered : ℕ) (back : ChangeTree) → o ≡ Ok (record { state = t; edits = es })
-    → altered ≡ len (effect_of es s).lives → back ≡ inverse_tree es s → made report s o ≡ reported report altered back t
-made_is report s t o es altered back is count same = ap (made report s) is ∙ (λ i. reported report (sym count i) (sym same i) t)
+pub made_is : (asked : Question) (s t : State) (o : Outcome) (es : List Edit) → o ≡ Ok (record { state = t; edits = es })
+    → made asked s o ≡ reported asked.report asked.wanted es s t
+made_is asked s t o es is = ap (made asked s) is
 
 -- what holds of anything holds of what is there
 pub if_some_any : {X : Type 0} (P : X → Type 0) (o : Option X) → ((x : X) → P x) → IfSome o P
@@ -48,9 +44,9 @@ lines_are view change x read is gives = go (subst (λ (c : Result _ Fault). Give
 
 -- what is printed of the bytes of a deck whose lines were read
 pub applied_lines : {X : Type 0} (view : X → List Card) (x : X) (bytes : List ℕ) → GivesIfReadable view (Ok x) (cards_of bytes)
-    → (report : Report) (lines : List ℕ) → applied report bytes lines ≡ applied_to report (configuration_in (view x)) (cards_of lines)
-applied_lines view x bytes gives report lines =
-    ap (λ (r : Result (List Card) Fault). applied_to report (r >>= configuration_in) (cards_of lines)) (lines_are view (Ok x) x (cards_of bytes) refl gives)
+    → (asked : Question) (lines : List ℕ) → applied asked bytes lines ≡ applied_to asked (configuration_in (view x)) (cards_of lines)
+applied_lines view x bytes gives asked lines =
+    ap (λ (r : Result (List Card) Fault). applied_to asked (r >>= configuration_in) (cards_of lines)) (lines_are view (Ok x) x (cards_of bytes) refl gives)
 
 -- a deck whose lines were read is refused by them
 pub refused_lines : {X : Type 0} (view : X → List Card) (x : X) (cards : List Card) (bytes : List ℕ) → cards ≡ view x → GivesIfReadable view (Ok x) (cards_of bytes)
@@ -79,12 +75,12 @@ module _ {W : Type 0} (contents : W → Option (List ℕ)) (old new : Output W) 
   says_then mid (Err e) text what first says = tt
 
   -- the refusal that is due, or want of memory
-  pub says_due : (report : Report) (result : Result Status ConsoleError) (s : State) (o : Outcome) (why : Refused) → IsDue (refusal_in o) why
-      → IfOk result (Says contents old new (declined why)) → IfOk result (SaysIfMemory contents old new (made report s o))
-  says_due report (Err e) s o why due says = tt
-  says_due report (Ok status) s o why (inr none) says = inr (subst (λ w. Says contents old new (declined w) status) none says)
-  says_due report (Ok status) s (Ok r) why (inl due) says = cc
-  says_due report (Ok status) s (Err e) why (inl due) says =
+  pub says_due : (asked : Question) (result : Result Status ConsoleError) (s : State) (o : Outcome) (why : Refused) → IsDue (refusal_in o) why
+      → IfOk result (Says contents old new (declined why)) → IfOk result (SaysIfMemory contents old new (made asked s o))
+  says_due asked (Err e) s o why due says = tt
+  says_due asked (Ok status) s o why (inr none) says = inr (subst (λ w. Says contents old new (declined w) status) none says)
+  says_due asked (Ok status) s (Ok r) why (inl due) says = cc
+  says_due asked (Ok status) s (Err e) why (inl due) says =
       let same : e ≡ why = cc in inl (subst (λ w. Says contents old new (declined w) status) (sym same) says)
 
   -- the same of a configuration that isn't opened
@@ -100,18 +96,18 @@ module _ {W : Type 0} (contents : W → Option (List ℕ)) (old new : Output W) 
       refusal_of b = record { rule = b.rule; node = None; at = Rattle.iocm_types.specs.declared.refused.At.TheVariants.Key b.key }
 
   -- the first fault of a change deck, or want of memory
-  pub says_fault : (report : Report) (result : Result Status ConsoleError) (s : State) (read : Result CarriedTree Fault) (fault : Fault) → Fails fault read
-      → IfOk result (Says contents old new (refused fault)) → IfOk result (SaysIfMemory contents old new (tried report s read))
-  says_fault report (Err e) s read fault fails says = tt
-  says_fault report (Ok status) s read fault (inl e) says = inr (subst (λ f. Says contents old new (refused f) status) e says)
-  says_fault report (Ok status) s read fault (inr e) says = inl (subst (λ r. Says contents old new (tried report s r) status) (sym e) says)
+  pub says_fault : (asked : Question) (result : Result Status ConsoleError) (s : State) (read : Result CarriedTree Fault) (fault : Fault) → Fails fault read
+      → IfOk result (Says contents old new (refused fault)) → IfOk result (SaysIfMemory contents old new (tried asked s read))
+  says_fault asked (Err e) s read fault fails says = tt
+  says_fault asked (Ok status) s read fault (inl e) says = inr (subst (λ f. Says contents old new (refused f) status) e says)
+  says_fault asked (Ok status) s read fault (inr e) says = inl (subst (λ r. Says contents old new (tried asked s r) status) (sym e) says)
 
   -- the same of its lines, unless they cannot be read
-  pub says_lines : {X : Type 0} (view : X → List Card) (report : Report) (result : Result Status ConsoleError) (s : State) (read : Result (List Card) Fault) (fault : Fault)
+  pub says_lines : {X : Type 0} (view : X → List Card) (asked : Question) (result : Result Status ConsoleError) (s : State) (read : Result (List Card) Fault) (fault : Fault)
       → OnOk result (fault ≢ unreadable) → GivesIfReadable view (Err fault) read
-      → IfOk result (Says contents old new (refused fault)) → IfOk result (SaysIfMemory contents old new (lines_tried report s read))
-  says_lines view report (Err e) s read fault readable gives says = tt
-  says_lines view report (Ok status) s read fault readable (inl e) says = let same : fault ≡ unreadable = cc in absurd (readable same)
-  says_lines view report (Ok status) s read fault readable (inr (inl e)) says = inr (subst (λ f. Says contents old new (refused f) status) e says)
-  says_lines view report (Ok status) s read fault readable (inr (inr e)) says =
-      inl (subst (λ (r : Result (List Card) Fault). Says contents old new (lines_tried report s r) status) (sym e) says)
+      → IfOk result (Says contents old new (refused fault)) → IfOk result (SaysIfMemory contents old new (lines_tried asked s read))
+  says_lines view asked (Err e) s read fault readable gives says = tt
+  says_lines view asked (Ok status) s read fault readable (inl e) says = let same : fault ≡ unreadable = cc in absurd (readable same)
+  says_lines view asked (Ok status) s read fault readable (inr (inl e)) says = inr (subst (λ f. Says contents old new (refused f) status) e says)
+  says_lines view asked (Ok status) s read fault readable (inr (inr e)) says =
+      inl (subst (λ (r : Result (List Card) Fault). Says contents old new (lines_tried asked s r) status) (sym e) says)

@@ -11,28 +11,29 @@ ghost use Rattle.iocm_tree.specs.Trees.{plain_tree, tree_of};
 ghost use Rattle.iocm_console.specs.declared.status.Status.TheVariants.{Done};
 ghost use Rattle.iocm_console.specs.Opening.{configuration_in, refused, Says, SaysIfMemory};
 ghost use Rattle.iocm_console.specs.Output.{has_failed, IsHandedOn, FailedToWrite};
+ghost use Rattle.iocm_filter.specs.Sieves.{IsSieveFor};
 ghost use Rattle.iocm_apply.specs.Apply.{applied, applied_to, change_in, lines_tried, made, tried};
 ghost use Rattle.iocm_apply.specs.Apply.{IsRefused, IsRefusedDeck};
 
 use crate::change::read_change;
 use crate::printing::print_report;
-use crate::report::Report;
+use crate::report::Asked;
 use iocm_activate::activate;
 use iocm_columns::{Card, Device, read_cards};
 use iocm_config::Config;
 use iocm_console::{
     ConsoleError, Output, Status, answer_unread, read_config, refuse, refuse_change,
 };
+use iocm_filter::Sieve;
 use iocm_plant::Plant;
 use iocm_tree::Tree;
 use iocm_types::Fault;
 use std::alloc::Global;
 use std::io::{Read, Write};
 
-/// Prints what a change deck does to the machine of a deck, by `report` how many subchannels it
-/// alters and the table afterwards, or the change deck that takes it back; or the refusal of the
-/// deck's first fault or of the first rule that it breaks, of the change deck's first fault, or of
-/// the change. Each deck is read to its end by at most `limit` reads, the change tree in a heap of
+/// Prints what a change deck does to the machine of a deck, by the report that is asked for and of
+/// the subchannels that are; or the refusal of the deck's first fault or of the first rule that it
+/// breaks, of the change deck's first fault, or of the change. Each deck is read to its end by at most `limit` reads, the change tree in a heap of
 /// `heap` bytes, and all memory is taken before the first byte is written.
 ///
 /// L5 (`ConsoleError::Read`): a read failed, or none of `limit` reads gave the end; nothing is
@@ -42,7 +43,7 @@ use std::io::{Read, Write};
 pub fn apply_change<R: Read, S: Read, W: Write + Drop>(
     alloc: Global,
     heap: usize,
-    report: Report,
+    asked: &Asked<'_>,
     deck: &mut Device<R>,
     change: &mut Device<S>,
     limit: u64,
@@ -57,9 +58,9 @@ pub fn apply_change<R: Read, S: Read, W: Write + Drop>(
     ensures reads_change { reads_of change.new ≤ reads_of change.old + limit }
     ensures known_bytes { IfSome (R.remaining (reader_of deck.old)) (λ bytes.
         IfSome (S.remaining (reader_of change.old)) (λ lines.
-        IfOk result (SaysIfMemory W.contents output.old output.new (applied report bytes lines)))) }
+        IfOk result (SaysIfMemory W.contents output.old output.new (applied asked.now bytes lines)))) }
     ensures some_bytes { (bytes : List ℕ) × (lines : List ℕ)
-        × IfOk result (SaysIfMemory W.contents output.old output.new (applied report bytes lines)) }
+        × IfOk result (SaysIfMemory W.contents output.old output.new (applied asked.now bytes lines)) }
     ensures whole { IfOk result
         (λ status. IsWhole deck.new ⊎ Says W.contents output.old output.new (refused memory) status) }
     ensures whole_change { IfOk result (λ status. status ≡ Done → IsWhole change.new) }
@@ -76,7 +77,7 @@ pub fn apply_change<R: Read, S: Read, W: Write + Drop>(
     match read_cards(alloc, deck, limit) {
         Ok(cards) => {
             let lines = read_cards(alloc, change, limit);
-            apply_to_deck(alloc, heap, report, cards, lines, output)
+            apply_to_deck(alloc, heap, asked, cards, lines, output)
         }
         Err(fault) => answer_unread(fault, output),
     }
@@ -87,14 +88,14 @@ pub fn apply_change<R: Read, S: Read, W: Write + Drop>(
 fn apply_to_deck<W: Write + Drop>(
     alloc: Global,
     heap: usize,
-    report: Report,
+    asked: &Asked<'_>,
     deck: Vec<Card>,
     change: Result<Vec<Card>, Fault>,
     output: &mut Output<W>,
 ) -> Result<Status, ConsoleError>
     ensures text { (read : Result (List card.Card) fault.Fault) → GivesIfReadable (λ v. v.items) change read
         → IfOk result (SaysIfMemory W.contents output.old output.new
-        (applied_to report (configuration_in deck.items) read)) }
+        (applied_to asked.now (configuration_in deck.items) read)) }
     ensures done { IfOk result (λ status. status ≡ Done → IsOk change) }
     ensures works { OnOk result (has_failed output.new ≡ has_failed output.old) }
     ensures handed_on { OnOk result (IsHandedOn output.new) }
@@ -104,7 +105,7 @@ fn apply_to_deck<W: Write + Drop>(
     ensures unwritable { result ≡ Err ConsoleError.Write → has_failed output.new ≡ true }
 {
     match read_config(alloc, deck) {
-        Ok(config) => apply_to_config(alloc, heap, report, config, change, output),
+        Ok(config) => apply_to_config(alloc, heap, asked, config, change, output),
         Err(fault) => refuse(fault, output),
     }
 }
@@ -114,13 +115,13 @@ fn apply_to_deck<W: Write + Drop>(
 fn apply_to_config<W: Write + Drop>(
     alloc: Global,
     heap: usize,
-    report: Report,
+    asked: &Asked<'_>,
     config: Config,
     change: Result<Vec<Card>, Fault>,
     output: &mut Output<W>,
 ) -> Result<Status, ConsoleError>
     ensures text { (read : Result (List card.Card) fault.Fault) → GivesIfReadable (λ v. v.items) change read
-        → IfOk result (SaysIfMemory W.contents output.old output.new (applied_to report (Ok config.records) read)) }
+        → IfOk result (SaysIfMemory W.contents output.old output.new (applied_to asked.now (Ok config.records) read)) }
     ensures done { IfOk result (λ status. status ≡ Done → IsOk change) }
     ensures works { OnOk result (has_failed output.new ≡ has_failed output.old) }
     ensures handed_on { OnOk result (IsHandedOn output.new) }
@@ -130,7 +131,7 @@ fn apply_to_config<W: Write + Drop>(
     ensures unwritable { result ≡ Err ConsoleError.Write → has_failed output.new ≡ true }
 {
     match Plant::open(alloc, config) {
-        Ok(plant) => apply_to_machine(alloc, heap, report, plant, change, output),
+        Ok(plant) => apply_to_machine(alloc, heap, asked, plant, change, output),
         Err(unopened) => refuse_change(unopened.why, output),
     }
 }
@@ -139,14 +140,14 @@ fn apply_to_config<W: Write + Drop>(
 fn apply_to_machine<W: Write + Drop>(
     alloc: Global,
     heap: usize,
-    report: Report,
+    asked: &Asked<'_>,
     plant: Plant,
     change: Result<Vec<Card>, Fault>,
     output: &mut Output<W>,
 ) -> Result<Status, ConsoleError>
     requires kept { KeepsTheRules plant.state }
     ensures text { (read : Result (List card.Card) fault.Fault) → GivesIfReadable (λ v. v.items) change read
-        → IfOk result (SaysIfMemory W.contents output.old output.new (lines_tried report plant.state read)) }
+        → IfOk result (SaysIfMemory W.contents output.old output.new (lines_tried asked.now plant.state read)) }
     ensures done { IfOk result (λ status. status ≡ Done → IsOk change) }
     ensures works { OnOk result (has_failed output.new ≡ has_failed output.old) }
     ensures handed_on { OnOk result (IsHandedOn output.new) }
@@ -155,7 +156,7 @@ fn apply_to_machine<W: Write + Drop>(
     ensures unwritable { result ≡ Err ConsoleError.Write → has_failed output.new ≡ true }
 {
     match change {
-        Ok(cards) => apply_lines(alloc, heap, report, plant, &cards, output),
+        Ok(cards) => apply_lines(alloc, heap, asked, plant, &cards, output),
         Err(fault) => answer_unread(fault, output),
     }
 }
@@ -164,20 +165,20 @@ fn apply_to_machine<W: Write + Drop>(
 fn apply_lines<W: Write + Drop>(
     alloc: Global,
     heap: usize,
-    report: Report,
+    asked: &Asked<'_>,
     plant: Plant,
     cards: &[Card],
     output: &mut Output<W>,
 ) -> Result<Status, ConsoleError>
     requires kept { KeepsTheRules plant.state }
     ensures text { IfOk result
-        (SaysIfMemory W.contents output.old output.new (tried report plant.state (change_in cards.now))) }
+        (SaysIfMemory W.contents output.old output.new (tried asked.now plant.state (change_in cards.now))) }
     ensures works { OnOk result (has_failed output.new ≡ has_failed output.old) }
     ensures handed_on { OnOk result (IsHandedOn output.new) }
     ensures fault { IfErr result (FailedToWrite output.new) }
 {
     match read_change(alloc, heap, cards) {
-        Ok(tree) => apply_tree(alloc, report, plant, &tree, output),
+        Ok(tree) => apply_tree(alloc, asked, plant, &tree, output),
         Err(fault) => refuse(fault, output),
     }
 }
@@ -185,21 +186,44 @@ fn apply_lines<W: Write + Drop>(
 /// Prints what a change tree does to a machine.
 fn apply_tree<W: Write + Drop>(
     alloc: Global,
-    report: Report,
+    asked: &Asked<'_>,
     plant: Plant,
     tree: &Tree,
     output: &mut Output<W>,
 ) -> Result<Status, ConsoleError>
     requires kept { KeepsTheRules plant.state }
     ensures text { IfOk result (SaysIfMemory W.contents output.old output.new
-        (made report plant.state (meaning (plain_tree (tree_of tree.now)) plant.state))) }
+        (made asked.now plant.state (meaning (plain_tree (tree_of tree.now)) plant.state))) }
+    ensures works { OnOk result (has_failed output.new ≡ has_failed output.old) }
+    ensures handed_on { OnOk result (IsHandedOn output.new) }
+    ensures fault { IfErr result (FailedToWrite output.new) }
+{
+    match Sieve::new(alloc, asked.filters, plant.config()) {
+        Ok(before) => apply_sifted(alloc, asked, &before, plant, tree, output),
+        Err(error) => refuse(Fault::from(error), output),
+    }
+}
+
+/// Prints what a change tree does to a machine, of which this is the sieve before the change.
+fn apply_sifted<W: Write + Drop>(
+    alloc: Global,
+    asked: &Asked<'_>,
+    before: &Sieve<'_>,
+    plant: Plant,
+    tree: &Tree,
+    output: &mut Output<W>,
+) -> Result<Status, ConsoleError>
+    requires kept { KeepsTheRules plant.state }
+    requires sieve { IsSieveFor asked.now.wanted plant.state.config before.now }
+    ensures text { IfOk result (SaysIfMemory W.contents output.old output.new
+        (made asked.now plant.state (meaning (plain_tree (tree_of tree.now)) plant.state))) }
     ensures works { OnOk result (has_failed output.new ≡ has_failed output.old) }
     ensures handed_on { OnOk result (IsHandedOn output.new) }
     ensures fault { IfErr result (FailedToWrite output.new) }
 {
     let mut plant = plant;
     match activate(alloc, &mut plant, tree) {
-        Ok(done) => print_report(alloc, report, &done, &plant, output),
+        Ok(done) => print_report(alloc, asked.report, before, &done, &plant, output),
         Err(why) => refuse_change(why, output),
     }
 }

@@ -2,9 +2,8 @@
 //!
 //! `apply_change` reads a deck and a change deck from a `Device` each, opens the machine of the
 //! deck, reads the change tree in a heap of a fixed size, copies it out, lets that heap go,
-//! activates the copy and prints to an `Output` what a `Report` names: how many subchannels the
-//! change altered and the table afterwards, or the change deck that takes the change back; or the
-//! one line of its refusal. What is printed and the status are exactly what `applied` says of the
+//! activates the copy and prints to an `Output` what is `Asked`: a `Report`, of all subchannels or of
+//! some; or the one line of its refusal. What is printed and the status are exactly what `applied` says of the
 //! bytes of both decks; only want of memory (`refused M1`) may come instead. The deck's refusals
 //! come before those of the change deck.
 //!
@@ -19,9 +18,11 @@ mod laws;
 mod printing;
 mod remarks;
 mod report;
+mod rows;
+mod sifting;
 
 pub use apply::apply_change;
 pub use back::way_back;
 pub use change::read_change;
 pub use laws::remark_of_a_subchannel_is_as_worked;
-pub use report::Report;
+pub use report::{Asked, Report};

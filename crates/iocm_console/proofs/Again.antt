@@ -16,8 +16,8 @@ use Rattle.iocm_round_trip.proofs.Same.{configuration_is_read_again}
 use Rattle.iocm_console.specs.declared.command.DeckCommand.TheVariants.{Write}
 use Rattle.iocm_console.specs.declared.status.Status.TheVariants.{Done}
 use Rattle.iocm_console.specs.Again.{PrintsTheSame}
-use Rattle.iocm_console.specs.Command.{shown_by}
-use Rattle.iocm_console.specs.Opening.{configuration_in, opened_or_refused, unless_breached}
+use Rattle.iocm_console.specs.Command.{opened_by}
+use Rattle.iocm_console.specs.Opening.{configuration_in, read_or_refused, unless_breached}
 use Rattle.iocm_console.specs.Write.{canonical_done}
 
 -- the configuration of a deck: from its lines, as the commands take it, or from its records, as the
@@ -38,11 +38,11 @@ prints_the_same bytes done command = by (read_of bytes) refl done
   where
     accepted : (c : Configuration) (breach : Option Breach) → read_of bytes ≡ Ok c → first_breach c (opening c) ≡ breach
         → (unless_breached breach (canonical_done c)).status ≡ Done
-        → opened_or_refused (shown_by command) (read_of (unless_breached breach (canonical_done c)).text) ≡ opened_or_refused (shown_by command) (read_of bytes)
+        → read_or_refused (opened_by command) (read_of (unless_breached breach (canonical_done c)).text) ≡ read_or_refused (opened_by command) (read_of bytes)
     accepted c (Some b) is breached done = cc
-    accepted c None is kept done = ap (opened_or_refused (shown_by command)) (read_again bytes c is ∙ sym is)
+    accepted c None is kept done = ap (read_or_refused (opened_by command)) (read_again bytes c is ∙ sym is)
 
-    by : (read : Result Configuration Fault) → read_of bytes ≡ read → (opened_or_refused (shown_by Write) read).status ≡ Done
-        → opened_or_refused (shown_by command) (read_of (opened_or_refused (shown_by Write) read).text) ≡ opened_or_refused (shown_by command) (read_of bytes)
+    by : (read : Result Configuration Fault) → read_of bytes ≡ read → (read_or_refused (opened_by Write) read).status ≡ Done
+        → read_or_refused (opened_by command) (read_of (read_or_refused (opened_by Write) read).text) ≡ read_or_refused (opened_by command) (read_of bytes)
     by (Err fault) is done = cc
     by (Ok c) is done = accepted c (first_breach c (opening c)) is refl done

@@ -1,4 +1,5 @@
 pub mod Again
+mod BeginsAs
 pub mod Alike
 pub mod Hexadecimal
 pub mod Line
@@ -8,3 +9,4 @@ mod Pairs
 pub mod Printing
 pub mod Rows
 pub mod Showing
+pub mod SiftedRows

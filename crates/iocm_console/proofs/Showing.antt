@@ -11,8 +11,7 @@ use Rattle.iocm_model.specs.Machine.Configuration.{Configuration}
 use Rattle.iocm_console.specs.declared.output.Output.{Output}
 use Rattle.iocm_console.specs.declared.status.Status.{Status}
 use Rattle.iocm_console.specs.declared.error.ConsoleError.{ConsoleError}
-use Rattle.iocm_model.specs.Machine.Numbering.{Numbering}
-use Rattle.iocm_console.specs.Opening.{Shown, configuration_in, opened_or_refused, refused, Says, SaysIfMemory}
+use Rattle.iocm_console.specs.Opening.{Shown, configuration_in, read_or_refused, refused, Says, SaysIfMemory}
 
 -- a text that was written stays written
 pub appends_kept : (old mid new : Option (List ℕ)) (a : List ℕ) → Appends old mid a → Keeps mid new → Appends old new a
@@ -23,14 +22,14 @@ appends_kept (Some xs) (Some ys) (Some zs) a h k = k ∙ h
 
 module _ {W : Type 0} (contents : W → Option (List ℕ)) (old new : Output W) where
   -- the refusal of a fault, where it is the first one or memory is wanted
-  says_fault : (show : Configuration → Numbering → Shown) (read : Result Configuration Fault) (fault : Fault) (status : Status) → Fails fault read
-      → Says contents old new (refused fault) status → SaysIfMemory contents old new (opened_or_refused show read) status
+  says_fault : (show : Configuration → Shown) (read : Result Configuration Fault) (fault : Fault) (status : Status) → Fails fault read
+      → Says contents old new (refused fault) status → SaysIfMemory contents old new (read_or_refused show read) status
   says_fault show read fault status (inl e) says = inr (subst (λ f. Says contents old new (refused f) status) e says)
-  says_fault show read fault status (inr e) says = inl (subst (λ r. Says contents old new (opened_or_refused show r) status) (sym e) says)
+  says_fault show read fault status (inr e) says = inl (subst (λ r. Says contents old new (read_or_refused show r) status) (sym e) says)
 
   -- the same of a result
-  pub refuses : (show : Configuration → Numbering → Shown) (result : Result Status ConsoleError) (read : Result Configuration Fault) (fault : Fault) → Fails fault read
-      → IfOk result (Says contents old new (refused fault)) → IfOk result (SaysIfMemory contents old new (opened_or_refused show read))
+  pub refuses : (show : Configuration → Shown) (result : Result Status ConsoleError) (read : Result Configuration Fault) (fault : Fault) → Fails fault read
+      → IfOk result (Says contents old new (refused fault)) → IfOk result (SaysIfMemory contents old new (read_or_refused show read))
   refuses show (Ok status) read fault fails says = says_fault show read fault status fails says
   refuses show (Err e) read fault fails says = tt
 
@@ -52,9 +51,9 @@ module _ {W : Type 0} (contents : W → Option (List ℕ)) (old new : Output W) 
   fails_later bytes fault (inr e) = inr (ap (λ r. r >>= configuration_in) e)
 
   -- the refusal of the lines, unless the deck cannot be read
-  pub refuses_lines : {X : Type 0} (show : Configuration → Numbering → Shown) (view : X → List Card) (result : Result Status ConsoleError) (bytes : List ℕ) (fault : Fault)
+  pub refuses_lines : {X : Type 0} (show : Configuration → Shown) (view : X → List Card) (result : Result Status ConsoleError) (bytes : List ℕ) (fault : Fault)
       → OnOk result (fault ≢ unreadable) → GivesIfReadable view (Err fault) (cards_of bytes)
-      → IfOk result (Says contents old new (refused fault)) → IfOk result (SaysIfMemory contents old new (opened_or_refused show (cards_of bytes >>= configuration_in)))
+      → IfOk result (Says contents old new (refused fault)) → IfOk result (SaysIfMemory contents old new (read_or_refused show (cards_of bytes >>= configuration_in)))
   refuses_lines show view (Err e) bytes fault readable read says = tt
   refuses_lines show view (Ok status) bytes fault readable (inl e) says = let same : fault ≡ unreadable = cc in absurd (readable same)
   refuses_lines show view (Ok status) bytes fault readable (inr fails) says =

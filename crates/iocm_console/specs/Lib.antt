@@ -2,6 +2,7 @@ pub mod Again
 pub mod Alike
 pub mod Changed
 pub mod Check
+pub mod CheckAll
 pub mod Command
 pub mod Digits
 pub mod Examples
@@ -12,5 +13,6 @@ pub mod Opening
 pub mod Output
 pub mod Refusal
 pub mod Show
+pub mod Sifted
 pub mod Status
 pub mod Write

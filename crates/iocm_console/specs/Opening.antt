@@ -56,9 +56,12 @@ abbrev pub opened : (Configuration → Numbering → Shown) → Configuration �
 opened show c = unless_breached (first_breach c (opening c)) (show c (opening c))
 
 -- what is shown of a configuration that is read, or the refusal
+abbrev pub read_or_refused : (Configuration → Shown) → Result Configuration Fault → Shown
+read_or_refused show (Ok c) = show c
+read_or_refused show (Err fault) = refused fault
+
 abbrev pub opened_or_refused : (Configuration → Numbering → Shown) → Result Configuration Fault → Shown
-opened_or_refused show (Ok c) = opened show c
-opened_or_refused show (Err fault) = refused fault
+opened_or_refused show read = read_or_refused (opened show) read
 
 -- a command printed this, and ended so
 abbrev pub Says : {W : Type 0} → (W → Option (List ℕ)) → Output W → Output W → Shown → Status → Type 0

@@ -4,27 +4,31 @@ ghost use Rattle.iocm_types.specs.Fault.{memory};
 ghost use Rattle.iocm_model.specs.Machine.Numbering as model;
 ghost use Rattle.iocm_columns.specs.Device.{reader_of, reads_of, IsOpen, IsWhole, StopsShort};
 ghost use Rattle.iocm_console.specs.Output.{has_failed, IsHandedOn, FailedToWrite};
-ghost use Rattle.iocm_console.specs.Opening.{configuration_in, opened, opened_or_refused, refused, Says, SaysIfMemory};
-ghost use Rattle.iocm_console.specs.Command.{answered, shown_by};
+ghost use Rattle.iocm_console.specs.Opening.{configuration_in, opened, read_or_refused, refused, Says, SaysIfMemory};
+ghost use Rattle.iocm_console.specs.Command.{answered, opened_by, shown_by};
 
 use crate::accepted::accept;
+use crate::asked::write_wanted;
 use crate::canonical::write_canonical;
+use crate::check_all::accept_or_list;
 use crate::opening::{answer_unread, breach_of, read_config, refuse, refuse_breach};
-use crate::table::write_table;
 use crate::{ConsoleError, Output, Status};
 use iocm_columns::{Card, Device, read_cards};
 use iocm_config::Config;
+use iocm_filter::Filters;
 use iocm_types::Fault;
 use std::alloc::Global;
 use std::io::{Read, Write};
 
-/// A command whose one argument is a configuration deck.
-#[derive(Clone, Copy, Debug, PartialEq, Eq)]
-pub enum DeckCommand {
-    /// Print how many records its configuration has.
+/// A command on a configuration deck alone.
+#[derive(Clone, Copy)]
+pub enum DeckCommand<'f> {
+    /// Print how many records its configuration has, or the first breach of the rules.
     Check,
-    /// Print the table of its subchannels.
-    Show,
+    /// Print how many records its configuration has, or all breaches of the rules.
+    CheckAll,
+    /// Print the table of its subchannels, of those that are asked for.
+    Show(&'f Filters),
     /// Print its canonical deck.
     Write,
 }
@@ -38,7 +42,7 @@ pub enum DeckCommand {
 /// said. All other faults, want of memory (M1) too, are refusals, which are printed.
 pub fn answer_deck<R: Read, W: Write + Drop>(
     alloc: Global,
-    command: DeckCommand,
+    command: DeckCommand<'_>,
     device: &mut Device<R>,
     limit: u64,
     output: &mut Output<W>,
@@ -48,9 +52,9 @@ pub fn answer_deck<R: Read, W: Write + Drop>(
     requires works { has_failed output.old ≡ false }
     ensures reads { reads_of device.new ≤ reads_of device.old + limit }
     ensures known_bytes { IfSome (R.remaining (reader_of device.old))
-        (λ bytes. IfOk result (SaysIfMemory W.contents output.old output.new (answered command bytes))) }
+        (λ bytes. IfOk result (SaysIfMemory W.contents output.old output.new (answered command.entry bytes))) }
     ensures some_bytes { (bytes : List ℕ)
-        × IfOk result (SaysIfMemory W.contents output.old output.new (answered command bytes)) }
+        × IfOk result (SaysIfMemory W.contents output.old output.new (answered command.entry bytes)) }
     ensures whole { IfOk result
         (λ status. IsWhole device.new ⊎ Says W.contents output.old output.new (refused memory) status) }
     ensures written { OnOk result (has_failed output.new ≡ false) }
@@ -68,12 +72,12 @@ pub fn answer_deck<R: Read, W: Write + Drop>(
 /// Prints what a command prints of the lines of a deck, or their refusal.
 fn answer_cards<W: Write + Drop>(
     alloc: Global,
-    command: DeckCommand,
+    command: DeckCommand<'_>,
     cards: Vec<Card>,
     output: &mut Output<W>,
 ) -> Result<Status, ConsoleError>
     ensures text { IfOk result (SaysIfMemory W.contents output.old output.new
-        (opened_or_refused (shown_by command) (configuration_in cards.items))) }
+        (read_or_refused (opened_by command.entry) (configuration_in cards.items))) }
     ensures works { OnOk result (has_failed output.new ≡ has_failed output.old) }
     ensures handed_on { OnOk result (IsHandedOn output.new) }
     ensures fault { IfErr result (FailedToWrite output.new) }
@@ -84,16 +88,40 @@ fn answer_cards<W: Write + Drop>(
     }
 }
 
-/// Prints what a command prints of a configuration as it is opened, or which rule it breaks, or
+/// Prints what a command prints of a configuration as it is opened, or which rules it breaks, or
 /// that memory is wanted.
 fn answer_opened<W: Write + Drop>(
     alloc: Global,
-    command: DeckCommand,
+    command: DeckCommand<'_>,
     config: &Config,
     output: &mut Output<W>,
 ) -> Result<Status, ConsoleError>
     ensures text { IfOk result
-        (SaysIfMemory W.contents output.old output.new (opened (shown_by command) config.now.records)) }
+        (SaysIfMemory W.contents output.old output.new (opened_by command.entry config.now.records)) }
+    ensures works { OnOk result (has_failed output.new ≡ has_failed output.old) }
+    ensures handed_on { OnOk result (IsHandedOn output.new) }
+    ensures fault { IfErr result (FailedToWrite output.new) }
+{
+    match command {
+        DeckCommand::Check => answer_unless_breached(alloc, DeckCommand::Check, config, output),
+        DeckCommand::CheckAll => accept_or_list(alloc, config, output),
+        DeckCommand::Show(filters) => {
+            answer_unless_breached(alloc, DeckCommand::Show(filters), config, output)
+        }
+        DeckCommand::Write => answer_unless_breached(alloc, DeckCommand::Write, config, output),
+    }
+}
+
+/// Prints what a command prints of a configuration as it is opened, or which rule it breaks first,
+/// or that memory is wanted.
+fn answer_unless_breached<W: Write + Drop>(
+    alloc: Global,
+    command: DeckCommand<'_>,
+    config: &Config,
+    output: &mut Output<W>,
+) -> Result<Status, ConsoleError>
+    ensures text { IfOk result
+        (SaysIfMemory W.contents output.old output.new (opened (shown_by command.entry) config.now.records)) }
     ensures works { OnOk result (has_failed output.new ≡ has_failed output.old) }
     ensures handed_on { OnOk result (IsHandedOn output.new) }
     ensures fault { IfErr result (FailedToWrite output.new) }
@@ -109,19 +137,19 @@ fn answer_opened<W: Write + Drop>(
 /// memory is wanted.
 fn answer_kept<W: Write + Drop>(
     alloc: Global,
-    command: DeckCommand,
+    command: DeckCommand<'_>,
     config: &Config,
     output: &mut Output<W>,
 ) -> Result<Status, ConsoleError>
     ensures text { IfOk result (SaysIfMemory W.contents output.old output.new
-        (shown_by command config.now.records (model.opening config.now.records))) }
+        (shown_by command.entry config.now.records (model.opening config.now.records))) }
     ensures works { OnOk result (has_failed output.new ≡ has_failed output.old) }
     ensures handed_on { OnOk result (IsHandedOn output.new) }
     ensures fault { IfErr result (FailedToWrite output.new) }
 {
     match command {
-        DeckCommand::Check => accept(config, output),
-        DeckCommand::Show => write_table(alloc, output, config),
+        DeckCommand::Check | DeckCommand::CheckAll => accept(config, output),
+        DeckCommand::Show(filters) => write_wanted(alloc, filters, output, config),
         DeckCommand::Write => write_canonical(alloc, output, config),
     }
 }

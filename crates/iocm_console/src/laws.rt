@@ -1,6 +1,7 @@
 //! What holds of the definitions themselves. Each law is the contract of a function that does
 //! nothing.
 ghost use Rattle.iocm_console.specs.Again.{PrintsTheSame};
+ghost use Rattle.iocm_console.specs.CheckAll.{BeginsAsCheck};
 ghost use Rattle.iocm_console.specs.Examples.{RefusalsOfChanges};
 
 /// What `write` writes of a deck that it doesn't refuse is read again: `check`, `show` and `write`
@@ -8,6 +9,12 @@ ghost use Rattle.iocm_console.specs.Examples.{RefusalsOfChanges};
 /// and subchannels, and is its own canonical deck.
 pub fn what_is_written_is_read_again()
     ensures { PrintsTheSame }
+{}
+
+/// What `check --all` prints of a configuration begins with what `check` prints of it, and ends with
+/// the same status.
+pub fn all_breaches_begin_with_the_first()
+    ensures { BeginsAsCheck }
 {}
 
 /// Refusals of changes are printed as they are stated by hand: about a subchannel, and about a

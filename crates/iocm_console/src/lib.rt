@@ -17,9 +17,11 @@
 #![tactic(auto)]
 
 mod accepted;
+mod asked;
 mod canonical;
 mod cells;
 mod change_refusal;
+mod check_all;
 mod command;
 mod digits;
 mod error;
@@ -30,19 +32,27 @@ mod opening;
 mod output;
 mod refusal;
 mod row;
+mod sifted;
 mod status;
 mod subsystem_cells;
 mod table;
 
+pub use asked::write_wanted;
 pub use canonical::write_text;
 pub use cells::{TableCells, gather_cells, opened_cells};
 pub use change_refusal::{ChangeRefusal, SubchannelName};
 pub use command::{DeckCommand, answer_deck};
 pub use error::ConsoleError;
-pub use laws::{refusals_of_changes_are_as_worked, what_is_written_is_read_again};
-pub use opening::{answer_unread, read_config, read_statements, refuse, refuse_change};
+pub use laws::{
+    all_breaches_begin_with_the_first, refusals_of_changes_are_as_worked,
+    what_is_written_is_read_again,
+};
+pub use opening::{
+    answer_unread, breach_of, read_config, read_statements, refuse, refuse_breach, refuse_change,
+};
 pub use output::Output;
 pub use refusal::{BreachRefusal, Refusal};
-pub use row::write_heading;
+pub use row::{Line, put_line, write_heading};
+pub use sifted::write_sifted;
 pub use status::Status;
 pub use table::{write_lines, write_table};

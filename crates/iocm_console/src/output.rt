@@ -58,7 +58,7 @@ impl<W: Write + Drop> Output<W> {
     }
 
     /// Writes the heading of the table. Can't answer want of memory.
-    pub(crate) fn heading(&mut self) -> Result<(), ConsoleError>
+    pub fn heading(&mut self) -> Result<(), ConsoleError>
         ensures text { OnOk result (Prints W.contents self.old self.new (heading ++ 10 ∷ [])) }
         ensures works { OnOk result (has_failed self.new ≡ has_failed self.old) }
         ensures fault { IfErr result (FailedToWrite self.new) }
@@ -132,7 +132,7 @@ impl<W: Write + Drop> Output<W> {
     }
 
     /// Writes these bytes. Can't answer want of memory.
-    pub(crate) fn bytes(&mut self, bytes: &[u8]) -> Result<(), ConsoleError>
+    pub fn bytes(&mut self, bytes: &[u8]) -> Result<(), ConsoleError>
         ensures text { OnOk result (Prints W.contents self.old self.new bytes.now) }
         ensures works { OnOk result (has_failed self.new ≡ has_failed self.old) }
         ensures fault { IfErr result (FailedToWrite self.new) }
@@ -142,7 +142,7 @@ impl<W: Write + Drop> Output<W> {
     }
 
     /// Hands on what the program's own buffer still keeps back.
-    pub(crate) fn flush(&mut self) -> Result<(), ConsoleError>
+    pub fn flush(&mut self) -> Result<(), ConsoleError>
         ensures text { Keeps (writer_contents W.contents (writer_of self.old))
             (writer_contents W.contents (writer_of self.new)) }
         ensures handed_on { OnOk result (IsHandedOn self.new) }

@@ -18,7 +18,7 @@ use std::io::Write;
 const LONGEST: usize = 53;
 
 /// A line of the table with its end, or no bytes.
-pub(crate) type Line = ArrayVec<u8, LONGEST>;
+pub type Line = ArrayVec<u8, LONGEST>;
 
 /// Writes the heading of the table, with its end. Can't answer want of memory.
 pub fn write_heading<W: Write>(writer: &mut W) -> io::Result<()>
@@ -29,7 +29,7 @@ pub fn write_heading<W: Write>(writer: &mut W) -> io::Result<()>
 
 /// Puts the line of a subchannel, with its end, where no byte is.
 #[inline]
-pub(crate) fn put_line(line: &mut Line, id: SubId, view: &View)
+pub fn put_line(line: &mut Line, id: SubId, view: &View)
     requires { line.old.items ≡ [] }
     ensures { line.new.items ≡ line_of (id, view.now) ++ 10 ∷ [] }
 {

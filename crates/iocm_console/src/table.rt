@@ -22,9 +22,9 @@ use std::io::Write;
 
 /// An image and its name.
 #[derive(Clone, Copy)]
-struct PrintedImage {
-    image: Image,
-    name: Name,
+pub(crate) struct PrintedImage {
+    pub image: Image,
+    pub name: Name,
 }
 
 /// Prints the table of subchannels of a configuration as it is opened. All memory is taken before

@@ -1,9 +1,10 @@
 ghost use Rattle.std.specs.Prelude.{◌≡◌, false};
 ghost use Rattle.iocm_console.specs.Output.{has_failed};
 
-use iocm_apply::{Report, apply_change};
+use iocm_apply::{Asked, Report, apply_change};
 use iocm_columns::Device;
 use iocm_console::{ConsoleError, Output, Status};
+use iocm_filter::Filters;
 use std::alloc::{AllocError, Global};
 use std::io;
 use std::io::{BufWriter, Read, Write};
@@ -40,6 +41,25 @@ ADD      IODEVICE ADDRESS=(1001,1),CUNUMBR=(1000),UNITADD=01
 * css 0 device 0.1001 had number 0001
 * subchannel 0.1.0.0001 had lpm C0 ena 0 parm 00000000 scsw 0
 * subchannel 0.2.0.0001 had lpm C0 ena 0 parm 00000000 scsw 0
+";
+
+const DELETION_ALTERED: &[u8] = b"change 1 altered 2
+  CSS IM SET SUBC DEVN PIM PAM CHPIDS
+- 0   1  0   0001 1001 C0  C0  50 51
+- 0   2  0   0001 1001 C0  80  50 51
+";
+
+const DELETION_COUNTED: &[u8] = b"change 1 altered 2
+image 0.1 gone 1 came 0 changed 0 same 0
+image 0.2 gone 1 came 0 changed 0 same 0
+";
+
+const DELETION_FILED: &[u8] = b"         RESOURCE PARTITION=((CSS(0),(LPA,1),(LPB,2)))
+         CHPID PATH=(CSS(0),50),SHARED,PARTITION=((LPA,LPB),(LPA,LPB))
+         CHPID PATH=(CSS(0),51),SHARED,PARTITION=((LPA),(LPA,LPB))
+         CNTLUNIT CUNUMBR=1000,PATH=((CSS(0),50,51)),UNITADD=((00,16))
+         IODEVICE ADDRESS=(1000,1),CUNUMBR=(1000),UNITADD=00
+         IODEVICE ADDRESS=(1002,2),CUNUMBR=(1000),UNITADD=02
 ";
 
 const FOUR_MORE: &[u8] = b"ADD      IODEVICE ADDRESS=(1004,4),CUNUMBR=1000\n";
@@ -111,10 +131,15 @@ fn applied(
     bytes: &mut Vec<u8>,
 ) -> Result<Status, ConsoleError> {
     let mut output = unbuffered(alloc, Sheet { bytes, room: 1024 });
+    let filters = Filters::none(alloc);
+    let asked = Asked {
+        report,
+        filters: &filters,
+    };
     apply_change(
         alloc,
         heap,
-        report,
+        &asked,
         &mut Device::new(BASE),
         &mut Device::new(change),
         10,
@@ -153,10 +178,15 @@ fn is_fault_of_reading(alloc: Global, deck: u64, change: u64) -> Result<bool, Al
         room: 1024,
     };
     let mut output = unbuffered(alloc, sheet);
+    let filters = Filters::none(alloc);
+    let asked = Asked {
+        report: Report::Table,
+        filters: &filters,
+    };
     let ended = apply_change(
         alloc,
         AMPLE,
-        Report::Table,
+        &asked,
         &mut Device::new(Halting {
             bytes: BASE,
             good: deck,
@@ -193,10 +223,15 @@ fn is_fault_of_writing(alloc: Global, room: usize) -> Result<bool, AllocError> {
         room,
     };
     let mut output = unbuffered(alloc, sheet);
+    let filters = Filters::none(alloc);
+    let asked = Asked {
+        report: Report::Table,
+        filters: &filters,
+    };
     let ended = apply_change(
         alloc,
         AMPLE,
-        Report::Table,
+        &asked,
         &mut Device::new(BASE),
         &mut Device::new(ADD_OF_0FFF),
         10,
@@ -230,5 +265,8 @@ fn is_whole_or_refused(alloc: Global, report: Report, change: &[u8], wanted: &[u
 fn a_change_without_memory_is_refused_alone(rt: HostRuntime) -> Result<(), Fail> {
     assert!(rt; is_whole_or_refused(rt.alloc(), Report::Table, ADD_OF_0FFF, ADDED));
     assert!(rt; is_whole_or_refused(rt.alloc(), Report::WayBack, DELETION, DELETION_TAKEN_BACK));
+    assert!(rt; is_whole_or_refused(rt.alloc(), Report::Altered, DELETION, DELETION_ALTERED));
+    assert!(rt; is_whole_or_refused(rt.alloc(), Report::Count, DELETION, DELETION_COUNTED));
+    assert!(rt; is_whole_or_refused(rt.alloc(), Report::Deck, DELETION, DELETION_FILED));
     Ok(())
 }

@@ -1,8 +1,12 @@
-ghost use Rattle.std.specs.Prelude.{◌≡◌, false};
+ghost use Rattle.std.specs.Prelude.{◌≡◌, ◌+◌, ◌^◌, ◌<◌, false};
+ghost use Rattle.iocm_columns.specs.Device.{reads_of, IsOpen};
 ghost use Rattle.iocm_console.specs.Output.{has_failed};
 
 use iocm_columns::Device;
-use iocm_console::{ConsoleError, DeckCommand, Output, Status, answer_deck};
+use iocm_console::{ConsoleError, DeckCommand, Output, Status, answer_deck, refuse};
+use iocm_filter::Filters;
+use iocm_statements::Unread;
+use iocm_types::Fault;
 use std::alloc::{AllocError, Global};
 use std::io::{BufWriter, Read, Write};
 use std::test::Fail;
@@ -24,6 +28,11 @@ const BASE_TABLE: &[u8] = b"CSS IM SET SUBC DEVN PIM PAM CHPIDS
 0   2  0   0001 1001 C0  80  50 51
 0   2  0   0002 1002 C0  80  50 51
 0   2  0   0003 1003 C0  80  50 51
+";
+
+const BASE_DEVICE: &[u8] = b"CSS IM SET SUBC DEVN PIM PAM CHPIDS
+0   1  0   0002 1002 C0  C0  50 51
+0   2  0   0002 1002 C0  80  50 51
 ";
 
 const BASE_WRITTEN: &[u8] = b"         RESOURCE PARTITION=((CSS(0),(LPA,1),(LPB,2)))
@@ -106,12 +115,61 @@ impl Read for Endless {
     }
 }
 
+/// A command that is tried.
+#[derive(Clone, Copy, Debug, PartialEq, Eq)]
+enum Tried {
+    Check,
+    CheckAll,
+    Show,
+    ShowDevice,
+    Write,
+}
+
 /// Each command, with what it prints of the base deck.
-const COMMANDS: &[(DeckCommand, &[u8])] = &[
-    (DeckCommand::Check, b"accepted 12\n"),
-    (DeckCommand::Show, BASE_TABLE),
-    (DeckCommand::Write, BASE_WRITTEN),
+const COMMANDS: &[(Tried, &[u8])] = &[
+    (Tried::Check, b"accepted 12\n"),
+    (Tried::CheckAll, b"accepted 12\n"),
+    (Tried::Show, BASE_TABLE),
+    (Tried::ShowDevice, BASE_DEVICE),
+    (Tried::Write, BASE_WRITTEN),
 ];
+
+/// The one device that is asked for, and none.
+const DEVICE: &[&str] = &["1002"];
+
+const ANY: &[&str] = &[];
+
+/// Of the subchannels those of device 1002 alone, or all.
+fn filters_of(alloc: Global, command: Tried) -> Result<Filters, Unread> {
+    if command == Tried::ShowDevice {
+        return Filters::of_words(alloc, ANY, DEVICE, ANY, ANY, ANY);
+    }
+    Filters::of_words(alloc, ANY, ANY, ANY, ANY, ANY)
+}
+
+/// How a command ends on a deck. Where memory is wanted for its filters, it is refused.
+fn answered<R: Read, W: Write + Drop>(
+    alloc: Global,
+    command: Tried,
+    device: &mut Device<R>,
+    limit: u64,
+    output: &mut Output<W>,
+) -> Result<Status, ConsoleError>
+    requires open { IsOpen device.old }
+    requires room { reads_of device.old + limit < 2 ^ 64 }
+    requires works { has_failed output.old ≡ false }
+{
+    let Ok(filters) = filters_of(alloc, command) else {
+        return refuse(Fault::from(AllocError), output);
+    };
+    let command = match command {
+        Tried::Check => DeckCommand::Check,
+        Tried::CheckAll => DeckCommand::CheckAll,
+        Tried::Show | Tried::ShowDevice => DeckCommand::Show(&filters),
+        Tried::Write => DeckCommand::Write,
+    };
+    answer_deck(alloc, command, device, limit, output)
+}
 
 /// How a command is tried: how many bytes a read gives at most, after how many good reads one
 /// fails, the limit of reads, the room on the sheet, and whether that can be flushed; then how it
@@ -154,7 +212,7 @@ fn end(ended: &Result<Status, ConsoleError>, printed: &[u8], written: &[u8]) -> 
 /// How a command ends on the base deck, of which it is to print this.
 fn ended(
     alloc: Global,
-    command: DeckCommand,
+    command: Tried,
     printed: &[u8],
     row: &Row,
 ) -> Result<&'static str, AllocError> {
@@ -171,17 +229,13 @@ fn ended(
         is_flushed,
     };
     let mut output = unbuffered(alloc, sheet);
-    let ended = answer_deck(alloc, command, &mut device, limit, &mut output);
+    let ended = answered(alloc, command, &mut device, limit, &mut output);
     drop(output);
     Ok(end(&ended, printed, bytes.as_slice()))
 }
 
 /// The place of the first row after which a command doesn't end as it must, if there is one.
-fn first_wrong(
-    alloc: Global,
-    command: DeckCommand,
-    printed: &[u8],
-) -> Result<Option<usize>, AllocError> {
+fn first_wrong(alloc: Global, command: Tried, printed: &[u8]) -> Result<Option<usize>, AllocError> {
     for (place, row) in ROWS.iter().enumerate() {
         if ended(alloc, command, printed, row)? != row.5 {
             return Ok(Some(place));
@@ -206,7 +260,7 @@ fn reads_and_writes_that_fail_are_faults(rt: HostRuntime) -> Result<(), Fail> {
 /// with a fault of writing, if there is one.
 fn first_enough(
     alloc: Global,
-    command: DeckCommand,
+    command: Tried,
     printed: &[u8],
 ) -> Result<Option<usize>, AllocError> {
     for room in 0..printed.len() {
@@ -231,10 +285,7 @@ fn each_write_that_fails_is_a_fault(rt: HostRuntime) -> Result<(), Fail> {
 }
 
 /// How a command ends that finds no end within eight reads, and how many reads it made.
-fn ended_without_end(
-    alloc: Global,
-    command: DeckCommand,
-) -> Result<(&'static str, u64), AllocError> {
+fn ended_without_end(alloc: Global, command: Tried) -> Result<(&'static str, u64), AllocError> {
     let mut bytes = Vec::with_capacity(alloc, 1024)?;
     let mut device = Device::new(Endless);
     let sheet = Sheet {
@@ -243,7 +294,7 @@ fn ended_without_end(
         is_flushed: true,
     };
     let mut output = unbuffered(alloc, sheet);
-    let ended = answer_deck(alloc, command, &mut device, 8, &mut output);
+    let ended = answered(alloc, command, &mut device, 8, &mut output);
     drop(output);
     Ok((end(&ended, b"", bytes.as_slice()), device.reads()))
 }
@@ -270,7 +321,7 @@ fn is_fault_of_flushing(alloc: Global, room: usize, is_flushed: bool) -> io::Res
     };
     let mut device = Device::new(BASE);
     let mut output = Output::new(BufWriter::new(alloc, sheet)?);
-    let ended = answer_deck(alloc, DeckCommand::Show, &mut device, 10, &mut output);
+    let ended = answered(alloc, Tried::Show, &mut device, 10, &mut output);
     Ok(matches!(ended, Err(ConsoleError::Write)) && output.has_failed())
 }
 
@@ -284,7 +335,7 @@ fn a_flush_that_fails_is_a_fault(rt: HostRuntime) -> Result<(), Fail> {
 
 /// How a command ends whose output has a large buffer. The output is never let go, so that this
 /// can't hand on what the command kept back.
-fn ended_for_ever(alloc: Global, command: DeckCommand, printed: &[u8]) -> io::Result<&'static str> {
+fn ended_for_ever(alloc: Global, command: Tried, printed: &[u8]) -> io::Result<&'static str> {
     let mut bytes = Vec::with_capacity(alloc, 1024)?;
     let sheet = Sheet {
         bytes: &mut bytes,
@@ -293,7 +344,7 @@ fn ended_for_ever(alloc: Global, command: DeckCommand, printed: &[u8]) -> io::Re
     };
     let mut device = Device::new(BASE);
     let mut output = Output::new(BufWriter::new(alloc, sheet)?);
-    let ended = answer_deck(alloc, command, &mut device, 10, &mut output);
+    let ended = answered(alloc, command, &mut device, 10, &mut output);
     mem::forget(output);
     Ok(end(&ended, printed, bytes.as_slice()))
 }
@@ -311,7 +362,7 @@ fn nothing_is_kept_back_in_a_large_buffer(rt: HostRuntime) -> Result<(), Fail> {
 }
 
 /// Whether a command prints this of the base deck, or only that memory is wanted.
-fn is_whole_or_refused(alloc: Global, command: DeckCommand, wanted: &[u8]) -> bool {
+fn is_whole_or_refused(alloc: Global, command: Tried, wanted: &[u8]) -> bool {
     let Ok(mut bytes) = Vec::with_capacity(alloc, 1024) else {
         return true;
     };
@@ -322,7 +373,7 @@ fn is_whole_or_refused(alloc: Global, command: DeckCommand, wanted: &[u8]) -> bo
         is_flushed: true,
     };
     let mut output = unbuffered(alloc, sheet);
-    let ended = answer_deck(alloc, command, &mut device, 100, &mut output);
+    let ended = answered(alloc, command, &mut device, 100, &mut output);
     drop(output);
     let is_whole = matches!(ended, Ok(Status::Done)) && bytes.as_slice() == wanted;
     let is_refused = matches!(ended, Ok(Status::Refused)) && bytes.as_slice() == WANT_OF_MEMORY;

@@ -3,7 +3,7 @@ use Rattle.std.proofs.lemmas.Option.{IfSome_then}
 use Rattle.iocm_columns.specs.Cards.{cards_of}
 use Rattle.iocm_columns.specs.Device.{reader_of, unreadable}
 use Rattle.iocm_model.specs.Operation.State.{opening_state}
-use Rattle.iocm_console.specs.Opening.{configuration_in, SaysIfMemory}
+use Rattle.iocm_console.specs.Opening.{configuration_in, opened, SaysIfMemory}
 use Rattle.iocm_console.proofs.Opened.{says_named}
 use Rattle.iocm_console.proofs.Showing.{refuses_lines, answers_whole}
 use Rattle.iocm_apply.specs.Apply.{applied, applied_to, lines_tried}
@@ -12,16 +12,16 @@ use Rattle.iocm_apply.proofs.apply.apply_change.Goals as goal
 
 pub returns-in-Err-clause-known_bytes : goal.returns-in-Err-clause-known_bytes
 returns-in-Err-clause-known_bytes g c = IfSome_then (g.R.Read.remaining (reader_of c.args.deck.now)) c.in-Err.ensures.known_bytes
-    (λ bytes read. if_some_any (λ lines. IfOk c.answer_unread.result (SaysIfMemory g.W.Write.contents c.args.output.now c.answer_unread.new.output (applied c.args.report bytes lines)))
+    (λ bytes read. if_some_any (λ lines. IfOk c.answer_unread.result (SaysIfMemory g.W.Write.contents c.args.output.now c.answer_unread.new.output (applied c.args.asked.now bytes lines)))
     (g.S.Read.remaining (reader_of c.args.change.now))
-    (λ lines. refuses_lines g.W.Write.contents c.args.output.now c.answer_unread.new.output (λ config numbers. lines_tried c.args.report (opening_state config) (cards_of lines)) (λ v. v.items)
+    (λ lines. refuses_lines g.W.Write.contents c.args.output.now c.answer_unread.new.output (opened (λ config numbers. lines_tried c.args.asked.now (opening_state config) (cards_of lines))) (λ v. v.items)
     c.answer_unread.result bytes c.in-Err.fault c.answer_unread.ensures.readable read c.answer_unread.ensures.text))
 
 pub returns-in-Err-clause-some_bytes : goal.returns-in-Err-clause-some_bytes
 returns-in-Err-clause-some_bytes g c = let read = c.in-Err.ensures.some_bytes in let no_bytes : List ℕ = [] in (
   read.0,
   no_bytes,
-  refuses_lines g.W.Write.contents c.args.output.now c.answer_unread.new.output (λ config numbers. lines_tried c.args.report (opening_state config) (cards_of no_bytes)) (λ v. v.items)
+  refuses_lines g.W.Write.contents c.args.output.now c.answer_unread.new.output (opened (λ config numbers. lines_tried c.args.asked.now (opening_state config) (cards_of no_bytes))) (λ v. v.items)
       c.answer_unread.result read.0 c.in-Err.fault c.answer_unread.ensures.readable read.1 c.answer_unread.ensures.text,
 )
 
@@ -34,8 +34,8 @@ returns-in-Ok-clause-some_bytes g c = let deck = c.in-Ok.ensures.some_bytes in l
   deck.0,
   change.0,
   says_named g.W.Write.contents c.args.output.now c.apply_to_deck.new.output c.apply_to_deck.result
-      (applied_to c.args.report (configuration_in c.in-Ok.cards.items) (cards_of change.0)) (applied c.args.report deck.0 change.0)
-      (applied_lines (λ v. v.items) c.in-Ok.cards deck.0 deck.1 c.args.report change.0)
+      (applied_to c.args.asked.now (configuration_in c.in-Ok.cards.items) (cards_of change.0)) (applied c.args.asked.now deck.0 change.0)
+      (applied_lines (λ v. v.items) c.in-Ok.cards deck.0 deck.1 c.args.asked.now change.0)
       (c.apply_to_deck.ensures.text (cards_of change.0) change.1),
 )
 

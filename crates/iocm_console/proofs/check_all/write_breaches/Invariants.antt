@@ -1,0 +1,12 @@
+-- The lines of the breaches so far are written.
+use Rattle.std.proofs.Common.{take, ◌≡◌}
+use Rattle.std.specs.List.{flat_map}
+use Rattle.iocm_console.specs.Output.{has_failed, Prints}
+use Rattle.iocm_console.specs.Refusal.{breach_line}
+use Rattle.iocm_console.proofs.check_all.write_breaches.Given as goal
+
+abbrev pub invariant-loop-breach : goal.invariant-loop-breach
+invariant-loop-breach g l = record {
+  text : Prints g.W.Write.contents l.initial.output l.output (flat_map breach_line (take l.breach-index l.breaches));
+  works : has_failed l.output ≡ has_failed l.initial.output;
+}

@@ -1,0 +1,184 @@
+ghost use Rattle.std.specs.Prelude.{◌≡◌, [], ◌∷◌, ◌++◌, filter, OnOk, IfOk, IfErr};
+ghost use Rattle.iocm_model.specs.Machine.Configuration.{lookup_of, records_of};
+ghost use Rattle.iocm_model.specs.Machine.Table.{line_of};
+ghost use Rattle.iocm_filter.specs.Sieves.{passes};
+ghost use Rattle.iocm_console.specs.Lines.{celled, image_record, lines_of};
+ghost use Rattle.iocm_console.specs.Opening.{Says};
+ghost use Rattle.iocm_console.specs.Output.{has_failed, IsHandedOn, Prints, FailedToWrite};
+ghost use Rattle.iocm_console.specs.Sifted.{sifted_at, sifted_lines, sifted_record_lines};
+
+use crate::cells::{CellDevice, TableCells};
+use crate::row::{Line, put_line};
+use crate::table::PrintedImage;
+use crate::{ConsoleError, Output, Status};
+use iocm_config::Config;
+use iocm_derive::ImageSight;
+use iocm_filter::Sieve;
+use iocm_record::{Record, RecordBody};
+use iocm_types::{Image, SubId, View};
+use std::alloc::Allocator;
+use std::io::Write;
+
+/// Prints the heading and the lines of all images at some number cells, of the subchannels that
+/// pass a sieve. An image that doesn't is not looked at. Can't answer want of memory.
+pub fn write_sifted<A: Allocator, B: Allocator, W: Write + Drop>(
+    output: &mut Output<W>,
+    sieve: &Sieve<'_>,
+    cells: &TableCells<'_, A, B>,
+) -> Result<Status, ConsoleError>
+    ensures text { IfOk result
+        (Says W.contents output.old output.new (sifted_at sieve.now cells.now.records cells.now.cells)) }
+    ensures works { OnOk result (has_failed output.new ≡ has_failed output.old) }
+    ensures handed_on { OnOk result (IsHandedOn output.new) }
+    ensures fault { IfErr result (FailedToWrite output.new) }
+{
+    output.heading()?;
+    write_sifted_rows(output, sieve, cells.config(), cells.as_slice())?;
+    output.flush()?;
+    Ok(Status::Done)
+}
+
+/// Writes the lines of all images at some number cells.
+fn write_sifted_rows<A: Allocator, W: Write + Drop>(
+    output: &mut Output<W>,
+    sieve: &Sieve<'_>,
+    config: &Config<A>,
+    cells: &[CellDevice],
+) -> Result<(), ConsoleError>
+    ensures text { OnOk result (Prints W.contents output.old output.new
+        (sifted_record_lines sieve.now (lookup_of config.now.records) (celled cells.now) (records_of config.now.records))) }
+    ensures works { OnOk result (has_failed output.new ≡ has_failed output.old) }
+    ensures fault { IfErr result (FailedToWrite output.new) }
+{
+    for (_, entry) in config.walk() {
+        write_sifted_record(output, sieve, config, entry, cells)?;
+    }
+    Ok(())
+}
+
+/// Writes the lines of a record, if it is that of an image that passes.
+fn write_sifted_record<A: Allocator, W: Write + Drop>(
+    output: &mut Output<W>,
+    sieve: &Sieve<'_>,
+    config: &Config<A>,
+    entry: &Record<A>,
+    cells: &[CellDevice],
+) -> Result<(), ConsoleError>
+    ensures text { OnOk result (Prints W.contents output.old output.new
+        (sifted_record_lines sieve.now (lookup_of config.now.records) (celled cells.now) (entry.now ∷ []))) }
+    ensures works { OnOk result (has_failed output.new ≡ has_failed output.old) }
+    ensures fault { IfErr result (FailedToWrite output.new) }
+{
+    match entry.body() {
+        RecordBody::Image(css, mif, name) => {
+            let image = Image {
+                css: *css,
+                mif: *mif,
+            };
+            let named = PrintedImage { image, name: *name };
+            write_sifted_image(output, sieve, config, &named, cells)
+        }
+        _ => Ok(()),
+    }
+}
+
+/// Writes the lines of an image at some number cells, if it passes.
+fn write_sifted_image<A: Allocator, W: Write + Drop>(
+    output: &mut Output<W>,
+    sieve: &Sieve<'_>,
+    config: &Config<A>,
+    image: &PrintedImage,
+    cells: &[CellDevice],
+) -> Result<(), ConsoleError>
+    ensures text { OnOk result (Prints W.contents output.old output.new
+        (sifted_lines sieve.now (lookup_of config.now.records) (image_record image.now) (celled cells.now))) }
+    ensures works { OnOk result (has_failed output.new ≡ has_failed output.old) }
+    ensures fault { IfErr result (FailedToWrite output.new) }
+{
+    if !sieve.passes_image(image.image) {
+        return Ok(());
+    }
+    let mut sight = ImageSight::new(config, image.image, image.name);
+    write_sifted_cells(output, sieve, &mut sight, cells)
+}
+
+/// Writes the lines of an image at some number cells.
+fn write_sifted_cells<A: Allocator, W: Write + Drop>(
+    output: &mut Output<W>,
+    sieve: &Sieve<'_>,
+    sight: &mut ImageSight<'_, A>,
+    cells: &[CellDevice],
+) -> Result<(), ConsoleError>
+    ensures text { OnOk result (Prints W.contents output.old output.new
+        (sifted_lines sieve.now (lookup_of sight.old.records) sight.old.image (celled cells.now))) }
+    ensures same { sight.new ≡ sight.old }
+    ensures works { OnOk result (has_failed output.new ≡ has_failed output.old) }
+    ensures fault { IfErr result (FailedToWrite output.new) }
+{
+    for place in cells {
+        write_sifted_cell(output, sieve, sight, place)?;
+    }
+    Ok(())
+}
+
+/// Writes the line of an image at a number cell, if it sees a device there and the subchannel
+/// passes.
+fn write_sifted_cell<A: Allocator, W: Write + Drop>(
+    output: &mut Output<W>,
+    sieve: &Sieve<'_>,
+    sight: &mut ImageSight<'_, A>,
+    place: &CellDevice,
+) -> Result<(), ConsoleError>
+    ensures text { OnOk result (Prints W.contents output.old output.new
+        (sifted_lines sieve.now (lookup_of sight.old.records) sight.old.image (celled (place.now ∷ [])))) }
+    ensures same { sight.new ≡ sight.old }
+    ensures works { OnOk result (has_failed output.new ≡ has_failed output.old) }
+    ensures fault { IfErr result (FailedToWrite output.new) }
+{
+    let image = sight.image();
+    if place.cell.css != image.css {
+        return Ok(());
+    }
+    let Some(view) = sight.view(place.cell.set, place.device) else {
+        return Ok(());
+    };
+    let id = SubId {
+        image,
+        set: place.cell.set,
+        number: place.cell.number,
+    };
+    write_if_passing(output, sieve, id, &view)
+}
+
+/// Writes the line of a subchannel, if it passes.
+fn write_if_passing<W: Write + Drop>(
+    output: &mut Output<W>,
+    sieve: &Sieve<'_>,
+    id: SubId,
+    view: &View,
+) -> Result<(), ConsoleError>
+    ensures text { OnOk result (Prints W.contents output.old output.new
+        (lines_of (filter (passes sieve.now) ((id, view.now) ∷ [])))) }
+    ensures works { OnOk result (has_failed output.new ≡ has_failed output.old) }
+    ensures fault { IfErr result (FailedToWrite output.new) }
+{
+    if !sieve.passes(&id, view) {
+        return Ok(());
+    }
+    write_row(output, id, view)
+}
+
+/// Writes the line of a subchannel.
+fn write_row<W: Write + Drop>(
+    output: &mut Output<W>,
+    id: SubId,
+    view: &View,
+) -> Result<(), ConsoleError>
+    ensures text { OnOk result (Prints W.contents output.old output.new (line_of (id, view.now) ++ 10 ∷ [])) }
+    ensures works { OnOk result (has_failed output.new ≡ has_failed output.old) }
+    ensures fault { IfErr result (FailedToWrite output.new) }
+{
+    let mut line = Line::new();
+    put_line(&mut line, id, view);
+    output.bytes(line.as_slice())
+}

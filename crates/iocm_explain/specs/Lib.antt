@@ -1,0 +1,4 @@
+pub mod Entry
+pub mod Examples
+pub mod Explain
+pub mod Named

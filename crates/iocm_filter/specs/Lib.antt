@@ -1,0 +1,4 @@
+pub mod Examples
+pub mod Sieves
+pub mod Wanted
+pub mod Words

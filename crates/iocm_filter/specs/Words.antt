@@ -1,0 +1,102 @@
+-- The words in which subchannels are asked for, in the forms in which keys are printed.
+use Rattle.std.specs.Prelude.{ℕ, ◌==◌, nat_le, if◌then◌else◌, Option, None, Some, List, [], ◌∷◌}
+use Rattle.std.specs.Option.{option_map, option_or}
+use Rattle.iocm_types.specs.Name.{name_of}
+use Rattle.iocm_types.specs.declared.css_path.CssPath.{CssPath}
+use Rattle.iocm_types.specs.declared.image.Image.{Image}
+use Rattle.iocm_values.specs.Digits.{decimal_of, hex_of}
+use Rattle.iocm_values.specs.Numbers as numbers
+use Rattle.iocm_values.specs.Reading.{◌>>=◌, every}
+use Rattle.iocm_filter.specs.Wanted.{Wanted}
+use Rattle.iocm_filter.specs.declared.meant.ImageWord.{ImageWord}
+use Rattle.iocm_filter.specs.declared.meant.ImageWord.TheVariants.{Place, Named}
+use Rattle.iocm_filter.specs.declared.device_range.DeviceRange.{DeviceRange}
+
+-- the byte that a point follows, and what follows the point
+abbrev pub before_point : List ℕ → Option (ℕ × List ℕ)
+before_point (byte ∷ point ∷ rest) = if point == 46 then Some (byte, rest) else None
+before_point _ = None
+
+-- a channel subsystem, 0 to 5; a MIF image ID, 1 to F; a subchannel set, 0 to 3: one digit each
+abbrev pub css_digit : ℕ → Option ℕ
+css_digit digit = decimal_of 5 (digit ∷ [])
+
+abbrev pub mif_digit : ℕ → Option ℕ
+mif_digit digit = hex_of 15 1 (digit ∷ []) >>= λ n. if n == 0 then None else Some n
+
+abbrev pub set_digit : ℕ → Option ℕ
+set_digit digit = decimal_of 3 (digit ∷ [])
+
+-- an image by its place: 0.2
+abbrev pub image_place : List ℕ → Option Image
+image_place (c ∷ point ∷ m ∷ []) =
+    css_digit c >>= λ css. mif_digit m >>= λ mif.
+    if point == 46 then Some (record { css = css; mif = mif }) else None
+image_place _ = None
+
+-- an image by its name, or by its place
+abbrev pub image_word : List ℕ → Option ImageWord
+image_word text =
+    option_or (option_map Named (name_of text)) (option_map Place (image_place text))
+
+-- a device number: one to four hexadecimal digits
+abbrev pub device_number : List ℕ → Option ℕ
+device_number text = hex_of 65535 4 text
+
+-- what stands before the first hyphen of a text, and what stands behind it, if it has one
+abbrev pub before_hyphen : List ℕ → List ℕ
+before_hyphen [] = []
+before_hyphen (x ∷ xs) = if x == 45 then [] else x ∷ before_hyphen xs
+
+abbrev pub behind_hyphen : List ℕ → Option (List ℕ)
+behind_hyphen [] = None
+behind_hyphen (x ∷ xs) = if x == 45 then Some xs else behind_hyphen xs
+
+-- the last device number of a range: the first, or what is behind the hyphen, which isn't less
+abbrev pub last_of_range : ℕ → Option (List ℕ) → Option ℕ
+last_of_range first None = Some first
+last_of_range first (Some text) =
+    device_number text >>= λ last. if nat_le first last then Some last else None
+
+-- device numbers of a subchannel set: 1003, or from the first to the last: 1000-100F
+abbrev pub device_numbers : ℕ → List ℕ → Option DeviceRange
+device_numbers set text =
+    device_number (before_hyphen text) >>= λ first.
+    last_of_range first (behind_hyphen text) >>= λ last.
+    Some (record { set = set; first = first; last = last })
+
+-- with the subchannel set and a point before them, 1.1000-10FF, or of set 0
+abbrev pub device_numbers_in : Option (ℕ × List ℕ) → List ℕ → Option DeviceRange
+device_numbers_in None text = device_numbers 0 text
+device_numbers_in (Some p) text = set_digit p.0 >>= λ set. device_numbers set p.1
+
+abbrev pub device_word : List ℕ → Option DeviceRange
+device_word text = device_numbers_in (before_point text) text
+
+-- a control unit: one to four hexadecimal digits, up to FFFE
+abbrev pub unit_word : List ℕ → Option ℕ
+unit_word text = numbers.unit_number text
+
+-- a path of a channel subsystem: 0.50
+abbrev pub path_in : Option (ℕ × List ℕ) → Option CssPath
+path_in None = None
+path_in (Some p) =
+    css_digit p.0 >>= λ css. numbers.path_number p.1 >>= λ path. Some (record { css = css; path = path })
+
+abbrev pub path_word : List ℕ → Option CssPath
+path_word text = path_in (before_point text)
+
+-- how many paths, of eight, are online at most
+abbrev pub online_word : List ℕ → Option ℕ
+online_word text = decimal_of 8 text
+
+-- what words of each kind ask for, if all have their form: images, devices, control units, paths, and
+-- how many paths are online at most
+abbrev pub filters_of : List (List ℕ) → List (List ℕ) → List (List ℕ) → List (List ℕ) → List (List ℕ) → Option Wanted
+filters_of image_words device_words unit_words path_words online_words =
+    every image_word image_words >>= λ images.
+    every device_word device_words >>= λ devices.
+    every unit_word unit_words >>= λ units.
+    every path_word path_words >>= λ paths.
+    every online_word online_words >>= λ online.
+    Some (record { images = images; devices = devices; units = units; paths = paths; online = online })

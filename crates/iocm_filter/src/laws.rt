@@ -1,0 +1,22 @@
+//! What holds of the definitions themselves. Each law is the contract of a function that does
+//! nothing.
+ghost use Rattle.iocm_filter.specs.Examples.{FiltersAsWorked, WordsAreRead};
+ghost use Rattle.iocm_filter.specs.Sieves.{PassesWanted};
+ghost use Rattle.iocm_filter.specs.Wanted.{NothingIsAll};
+
+/// Words of each form are read as they are stated by hand, and others aren't.
+pub fn words_are_read()
+    ensures { WordsAreRead }
+{}
+
+/// What is asked for of views and of device numbers is as it is worked by hand.
+pub fn filters_are_as_worked()
+    ensures { FiltersAsWorked }
+{}
+
+/// Where nothing is asked for, each subchannel is wanted; and just those that are wanted pass the
+/// sieve of a configuration.
+pub fn nothing_asked_for_is_all()
+    ensures all { NothingIsAll }
+    ensures wanted { PassesWanted }
+{}

@@ -1,0 +1,31 @@
+//! Filters: which subchannels of a table are asked for.
+//!
+//! `Filters` has what is asked for, of five kinds: images, devices, control units, paths, and how
+//! many paths are online at most. A subchannel with its view is wanted where of each kind nothing
+//! is asked for, or it is one of what is. `image_word` and its neighbours read the words in which
+//! it is asked for, in the forms in which keys are printed.
+//!
+//! `Sieve` is what of this depends on a configuration, looked up once: the images that have the
+//! names, and the devices on the control units. So a row is tried without the configuration, which
+//! may be another one by then. What can't be wanted needn't be looked at: an image, a device and a
+//! view are tried by themselves.
+//!
+//! Begin with `specs/Wanted.antt` and `specs/Words.antt`, then `filters.rt` and `sieve.rt`. What
+//! names no source is our own.
+#![tactic(auto)]
+
+mod device_range;
+mod filters;
+mod gathering;
+mod laws;
+mod meant;
+mod reading;
+mod sieve;
+mod words;
+
+pub use device_range::DeviceRange;
+pub use filters::Filters;
+pub use laws::{filters_are_as_worked, nothing_asked_for_is_all, words_are_read};
+pub use meant::ImageWord;
+pub use sieve::Sieve;
+pub use words::{device_word, image_word, online_word, path_word, unit_word};

@@ -1,0 +1,78 @@
+-- The rows of a change: how many, in which order, and what they lead to.
+use Rattle.std.proofs.Common.{◌≡◌, false, List, [], ◌∷◌, map, Option, refl, sym, ap, subst, ◌∙◌}
+use Rattle.std.specs.List.Sorted.{IsStrictlySortedBy}
+use Rattle.std.specs.Map.{keys_of}
+use Rattle.std.specs.FinMap.{get, entries, entries_sorted, keys, len-entries}
+use Rattle.std.proofs.lemmas.Bool.{not-false}
+use Rattle.std.proofs.lemmas.List.{length-map}
+use Rattle.iocm_types.specs.declared.sub_id.SubId.{SubId}
+use Rattle.iocm_types.specs.declared.view.View.{View}
+use Rattle.iocm_types.specs.SubId.{sub_id_cmp}
+use Rattle.iocm_types.specs.KeyOrder.{sub_ids_total, sub_ids_exact}
+use Rattle.iocm_model.specs.Change.Edit.{Edit, same_view, state_after, altered_between}
+use Rattle.iocm_model.specs.Change.Maps.{with_cells}
+use Rattle.iocm_model.specs.Change.Runs.{cells_written_by_all, effect_of, state_after_all}
+use Rattle.iocm_model.specs.Operation.State.{State, views_in, seen_in, is_among}
+use Rattle.iocm_model.proofs.Change.SameViews.{sight_is}
+use Rattle.iocm_model.proofs.Maps.Cells.{in_differing}
+use Rattle.iocm_model.proofs.Maps.Overwriting.{not_in_first, not_in_second, with_cells_is}
+use Rattle.iocm_seats.specs.declared.view_change.ViewChange.{ViewChange}
+use Rattle.iocm_seats.specs.Changes.{view_change}
+use Rattle.iocm_seats.proofs.Ordered.{keys_rise}
+use Rattle.iocm_reports.specs.Altered.{subchannels_altered, AreInOrder}
+use Rattle.iocm_reports.specs.First.{Seen, row_of}
+use Rattle.iocm_reports.specs.Laws.{RowsAreCounted, RowsStandInOrder, RowsLeadToTheTable}
+use Rattle.iocm_reports.proofs.AlteredRows.{cells_rows, same_keys}
+
+-- ---- how many, and in which order
+
+subchannels_are : (v w : SubId → Option View) (xs : List SubId) → map (λ (r : ViewChange). r.subchannel) (map (view_change v w) xs) ≡ xs
+subchannels_are v w [] = refl
+subchannels_are v w (x ∷ xs) = ap (λ ys. x ∷ ys) (subchannels_are v w xs)
+
+pub rows_are_counted : RowsAreCounted
+rows_are_counted es s t =
+    let lives = (effect_of es s).lives in
+    length-map (subchannels_altered es s) (view_change (get (views_in s)) (get (views_in t)))
+    ∙ length-map (entries lives) (λ e. e.0) ∙ sym (len-entries lives)
+
+pub rows_stand_in_order : RowsStandInOrder
+rows_stand_in_order es s t =
+    let lives = (effect_of es s).lives in
+    subst (IsStrictlySortedBy sub_id_cmp) (sym (subchannels_are (get (views_in s)) (get (views_in t)) (keys lives)))
+    (keys_rise sub_id_cmp (entries lives) (entries_sorted lives))
+
+row_subchannels : (t : State) (es : List (SubId × Option View)) → map (λ (r : ViewChange). r.subchannel) (map (row_of t) es) ≡ keys_of es
+row_subchannels t [] = refl
+row_subchannels t (e ∷ es) = ap (λ xs. e.0 ∷ xs) (row_subchannels t es)
+
+-- rows that are made of what was seen first stand in order
+pub made_in_order : (first : Seen) (t : State) → AreInOrder (map (row_of t) (entries first))
+made_in_order first t = subst (IsStrictlySortedBy sub_id_cmp) (sym (row_subchannels t (entries first)))
+    (keys_rise sub_id_cmp (entries first) (entries_sorted first))
+
+-- ---- what they lead to
+
+-- at a subchannel that no edit altered, the same is seen afterwards
+unaltered : (es : List Edit) (s : State) (x : SubId) → is_among x (cells_written_by_all es s).subchannels ≡ false
+    → seen_in s x ≡ seen_in (state_after_all es s) x
+unaltered [] s x none = refl
+unaltered (e ∷ es) s x none =
+    let t = state_after e s in
+    let here = not_in_first sub_id_cmp x (altered_between s t) (cells_written_by_all es t).subchannels none in
+    sight_is (seen_in s x) (seen_in t x) (not-false _ (sym (in_differing sub_ids_total sub_ids_exact same_view (views_in s) (views_in t) x) ∙ here))
+    ∙ unaltered es t x (not_in_second sub_id_cmp x (altered_between s t) (cells_written_by_all es t).subchannels none)
+
+written : (v w : SubId → Option View) (xs : List SubId) → map {B = SubId × Option View} (λ (r : ViewChange). (r.subchannel, r.after)) (map (view_change v w) xs) ≡ map (λ x. (x, w x)) xs
+written v w [] = refl
+written v w (x ∷ xs) = ap (λ (ys : List (SubId × Option View)). (x, w x) ∷ ys) (written v w xs)
+
+pub rows_lead_to_the_table : RowsLeadToTheTable
+rows_lead_to_the_table es s =
+    let t = state_after_all es s in
+    let xs = (cells_written_by_all es s).subchannels in
+    ap (λ cells. with_cells cells (views_in s))
+    (written (get (views_in s)) (get (views_in t)) (subchannels_altered es s)
+    ∙ ap (map (λ x. (x, get (views_in t) x))) (sym (same_keys sub_ids_total sub_ids_exact (views_in t) t.lives xs))
+    ∙ sym (cells_rows sub_ids_total sub_ids_exact (views_in t) xs))
+    ∙ with_cells_is sub_ids_total sub_ids_exact (views_in s) (views_in t) xs (unaltered es s)

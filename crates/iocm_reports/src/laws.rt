@@ -1,0 +1,39 @@
+//! What holds of the definitions themselves. Each law is the contract of a function that does
+//! nothing.
+ghost use Rattle.iocm_reports.specs.Laws.{
+  CountsSumUp,
+  DeckSaysAll,
+  OnlyADeckSaysAll,
+  RowsAreCounted,
+  RowsAreOfOneKind,
+  RowsLeadToTheTable,
+  RowsStandInOrder,
+};
+ghost use Rattle.iocm_reports.specs.Examples.{CountsOfTwoImages, LinesOfRows, RemarksOnPairs};
+
+/// A row stands for each subchannel of the effect, in order. The table before, without the rows
+/// behind `-` and with those behind `+`, is the table after.
+pub fn rows_lead_to_the_table()
+    ensures counted { RowsAreCounted }
+    ensures order { RowsStandInOrder }
+    ensures table { RowsLeadToTheTable }
+{}
+
+/// A row is of one kind alone, so the counts of all images together are the number of rows.
+pub fn counts_sum_up()
+    ensures kinds { RowsAreOfOneKind }
+    ensures all { CountsSumUp }
+{}
+
+/// There is no comment exactly where the pairs of the access lists are those that are online.
+pub fn only_a_deck_says_all()
+    ensures all { DeckSaysAll }
+    ensures only { OnlyADeckSaysAll }
+{}
+
+/// Each form of a line is as it is stated by hand.
+pub fn lines_are_as_worked()
+    ensures rows { LinesOfRows }
+    ensures counts { CountsOfTwoImages }
+    ensures remarks { RemarksOnPairs }
+{}
