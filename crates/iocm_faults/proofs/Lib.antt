@@ -1,0 +1,3 @@
+pub mod FirstOfAll
+pub mod Gathering
+mod Worked
