@@ -1,5 +1,5 @@
--- Each key of a deck that is read comes from a line.
-use Rattle.std.proofs.Common.{◌≡◌, ◌⊎◌, inl, inr, ℕ, Bool, true, false, cond, ◌||◌, List, [], ◌∷◌, ◌++◌, map, append_assoc, Option, None, Some, IsSome, Result, Ok, Err, refl, sym, ap, subst, ◌∙◌}
+-- A statement brings the keys of its records; and each key of a deck that is read was brought.
+use Rattle.std.proofs.Common.{◌≡◌, ◌⊎◌, inl, inr, ℕ, Bool, true, false, cond, ◌||◌, List, [], ◌∷◌, ◌++◌, map, append_assoc, Option, None, Some, Result, Ok, Err, refl, sym, ap, subst, ◌∙◌}
 use Rattle.std.proofs.lemmas.Bool.{false≢true}
 use Rattle.std.proofs.lemmas.List.{append-nil, map-append}
 use Rattle.std.proofs.lemmas.List.Folds.{list_any-append}
@@ -26,25 +26,24 @@ use Rattle.iocm_statements.specs.Operands.{Operand}
 use Rattle.iocm_operands.specs.Resource.{names_in}
 use Rattle.iocm_record_reader.specs.declared.chpid.Lists.{Lists}
 use Rattle.iocm_record_reader.specs.ChpidRecords.{chpid_path, chpid_partition, kind_of, lists_of, path_records, online_to}
-use Rattle.iocm_record_reader.specs.Deck.{id_records, statement_records, machine_images, is_id, is_resource, first_fault, records_unless, with_records, with_statement, progress_after, read_from, nothing_read}
+use Rattle.iocm_record_reader.specs.Deck.{id_records, statement_records, is_id, is_resource, first_fault, records_unless, with_records, with_statement, progress_after, read_from}
 use Rattle.iocm_record_reader.specs.DeviceRecords.{first_device, device_record, device_records, statement_devices, device_units, device_address, device_set, device_candidates}
 use Rattle.iocm_record_reader.specs.Progress.{Progress, has_key}
 use Rattle.iocm_record_reader.specs.ResourceRecords.{resource_images, resource_limits, carried_records}
 use Rattle.iocm_record_reader.specs.UnitRecords.{unit_fields}
 use Rattle.iocm_record_reader.specs.Values.{carried_by}
-use Rattle.iocm_where.specs.Lines.{keys_if_given, comes_with, brings, line_among}
-use Rattle.iocm_where.specs.Laws.{KeysHaveLines}
+use Rattle.iocm_where.specs.Lines.{keys_if_given, comes_with, brings}
 
-or_later : (a b : Bool) → b ≡ true → (a || b) ≡ true
+pub or_later : (a b : Bool) → b ≡ true → (a || b) ≡ true
 or_later true b h = refl
 or_later false b h = h
 
-either : (a b : Bool) → (a || b) ≡ true → (a ≡ true) ⊎ (b ≡ true)
+pub either : (a b : Bool) → (a || b) ≡ true → (a ≡ true) ⊎ (b ≡ true)
 either true b h = inl refl
 either false b h = inr h
 
 -- a key is among some keys
-abbrev among : Key → List Key → Bool
+abbrev pub among : Key → List Key → Bool
 among k ks = list_any (eq_by_cmp key_cmp k) ks
 
 -- ---- where a path is online, the path comes with it
@@ -158,10 +157,11 @@ behind fault (r ∷ rs) old all is = by (has_key old (key_of r)) is (behind faul
     by false is more = more is ∙ append_assoc old (r ∷ []) rs
 
 -- the records that a statement put behind those before it
-record HasPut (images : List ImageRecord) (p : Progress) (s : Statement) (q : Progress) : Type 0 where
-  new : List Rec
-  given : statement_records (at S4 s.line) images s.operation s.operands ≡ Ok new
-  records : q.records ≡ p.records ++ new
+pub record HasPut (images : List ImageRecord) (p : Progress) (s : Statement) (q : Progress) : Type 0 where
+  pub new : List Rec
+  pub given : statement_records (at S4 s.line) images s.operation s.operands ≡ Ok new
+  pub put : with_records (at S8 s.line) p.records new ≡ Ok q.records
+  pub records : q.records ≡ p.records ++ new
 
 -- what was read, with these records
 abbrev read_with : Progress → Operation → List Rec → Progress
@@ -173,7 +173,12 @@ module _ (images : List ImageRecord) (p q : Progress) (s : Statement) where
       → (put >>= λ records. Ok (read_with p s.operation records)) ≡ Ok q → HasPut images p s q
   put_by_records new given (Ok all) put is =
       let same : read_with p s.operation all ≡ q = cc in
-      record { new = new; given = given; records = ap (λ (t : Progress). t.records) (sym same) ∙ behind (at S8 s.line) new p.records all put }
+      record {
+        new = new;
+        given = given;
+        put = subst (λ (t : Progress). with_records (at S8 s.line) p.records new ≡ Ok t.records) same put;
+        records = ap (λ (t : Progress). t.records) (sym same) ∙ behind (at S8 s.line) new p.records all put;
+      }
   put_by_records new given (Err e) put is = cc
 
   put_by_read : (read : Result (List Rec) Fault) → statement_records (at S4 s.line) images s.operation s.operands ≡ read
@@ -181,12 +186,12 @@ module _ (images : List ImageRecord) (p q : Progress) (s : Statement) where
   put_by_read (Ok new) given is = put_by_records new given (with_records (at S8 s.line) p.records new) refl is
   put_by_read (Err e) given is = cc
 
-  put_unless : (rule : Option Rule) → (records_unless rule images s >>= with_statement (at S8 s.line) p s.operation) ≡ Ok q → HasPut images p s q
+  pub put_unless : (rule : Option Rule) → (records_unless rule images s >>= with_statement (at S8 s.line) p s.operation) ≡ Ok q → HasPut images p s q
   put_unless (Some rule) is = cc
   put_unless None is = put_by_read (statement_records (at S4 s.line) images s.operation s.operands) refl is
 
 -- each key that was read was there before, or a statement brings it
-key_from : (images : List ImageRecord) (k : Key) (ss : List Statement) (p : Progress) (all : List Rec) → read_from images p ss ≡ Ok all
+pub key_from : (images : List ImageRecord) (k : Key) (ss : List Statement) (p : Progress) (all : List Rec) → read_from images p ss ≡ Ok all
     → among k (map key_of all) ≡ true → (among k (map key_of p.records) ≡ true) ⊎ (list_any (brings images k) ss ≡ true)
 unfolding read_from
 key_from images k [] p all is there = let same : p.records ≡ all = cc in inl (ap (λ rs. among k (map key_of rs)) same ∙ there)
@@ -212,20 +217,3 @@ key_from images k (s ∷ ss) p all is there = by (progress_after images p s) ref
         → (among k (map key_of p.records) ≡ true) ⊎ (list_any (brings images k) (s ∷ ss) ≡ true)
     by (Ok q) was rest more = further q (put_unless images p q s (first_fault p s) was) (more q rest)
     by (Err e) was rest more = cc
-
--- a statement that brings it has a line
-has_line : (images : List ImageRecord) (k : Key) (ss : List Statement) → list_any (brings images k) ss ≡ true → IsSome (line_among images k ss)
-has_line images k [] any = cc
-has_line images k (s ∷ ss) any = by (brings images k s) any (has_line images k ss)
-  where
-    by : (b : Bool) → (b || list_any (brings images k) ss) ≡ true → (list_any (brings images k) ss ≡ true → IsSome (line_among images k ss))
-        → IsSome (cond b (Some s.line) (line_among images k ss))
-    by true any more = refl
-    by false any more = more any
-
-pub keys_have_lines : KeysHaveLines
-keys_have_lines ss all k is there = by (key_from (machine_images ss) k ss nothing_read all is there)
-  where
-    by : (among k [] ≡ true) ⊎ (list_any (brings (machine_images ss) k) ss ≡ true) → IsSome (line_among (machine_images ss) k ss)
-    by (inl none) = cc
-    by (inr any) = has_line (machine_images ss) k ss any

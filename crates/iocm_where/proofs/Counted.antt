@@ -9,8 +9,9 @@ use Rattle.iocm_statements.specs.declared.statement.Statement.{Statement}
 use Rattle.iocm_tree.specs.Carried.{Carried}
 use Rattle.iocm_tree.specs.Trees.{CarriedTree, CarriedParts, leaf, row, group, choose, none, part, parts_from, plain_tree, plain_parts}
 use Rattle.iocm_tree_reader.specs.Leaves.{edits_of, whole, with_edit, in_key_order, comes_before}
-use Rattle.iocm_where.specs.Nodes.{nodes_of_edits, nodes_if_given, nodes_by}
-use Rattle.iocm_where.specs.Laws.{heads_of, heads_in, heads_if_given, heads_by, GivenAreCounted, NodesAreNumbered}
+use Rattle.iocm_where.specs.Counts.{nodes_of_edits, nodes_if_given, nodes_by}
+use Rattle.iocm_where.specs.Heads.{heads_of, heads_in, heads_if_given, heads_by}
+use Rattle.iocm_where.specs.NodeLaws.{GivenAreCounted, NodesAreNumbered}
 
 -- ---- of a tree
 

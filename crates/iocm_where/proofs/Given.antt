@@ -15,8 +15,9 @@ use Rattle.iocm_tree_reader.specs.declared.kind.NodeKind.{NodeKind}
 use Rattle.iocm_tree_reader.specs.declared.kind.NodeKind.TheVariants.{Row, Group, Choose}
 use Rattle.iocm_tree_reader.specs.Leaves.{edits_of, node_of_edits, whole}
 use Rattle.iocm_tree_reader.specs.Reading.{OpenNode, Reading, node_of_kind, with_node, opened, ended, done_by, limited, unless_over, over_limit, tree_so_far, read_next, read_from, finished, nothing_read}
-use Rattle.iocm_where.specs.Nodes.{open_after, put_at_top, top_among}
-use Rattle.iocm_where.specs.Laws.{Head, a_row, a_group, a_choose, heads_of, heads_in, heads_by, heads_given, heads_if_given, NodesAreGiven}
+use Rattle.iocm_where.specs.AtTop.{open_after, put_at_top, top_among}
+use Rattle.iocm_where.specs.Heads.{Head, a_row, a_group, a_choose, heads_of, heads_in, heads_by, heads_given, heads_if_given}
+use Rattle.iocm_where.specs.NodeLaws.{NodesAreGiven}
 
 -- that something was read
 abbrev Reads : Result Reading Fault → Reading → Type 0

@@ -1,4 +1,8 @@
+pub mod AtTop
+pub mod Counts
 pub mod Examples
-pub mod Laws
+pub mod Heads
+pub mod KeyLaws
 pub mod Lines
+pub mod NodeLaws
 pub mod Nodes

@@ -4,11 +4,12 @@
 //! the statement of a configuration deck that brings the key, `line_of_node` the line of the
 //! statement of a change deck that the node comes from. Both read the statements once more.
 //!
-//! What the layer above may rely on: of a deck that is read each key has a line, and the nodes of a
-//! tree in the order of the text are those that the statements give, one after the other
-//! (`laws.rt`). So a line is that of the statement that gives the key or the node.
+//! What the layer above may rely on (`laws.rt`): the line of a key is that of the first statement
+//! that brings it, and of a deck that is read it is the only one. Each node of a tree comes from the
+//! statement at its line, which gives it; only the Row round all comes from none.
 //!
-//! Begin with `specs/Lines.antt` and `specs/Nodes.antt`, then `keys.rt` and `nodes.rt`. What names
+//! Begin with `specs/Lines.antt` and `specs/Nodes.antt`, and with `specs/KeyLaws.antt` and
+//! `specs/NodeLaws.antt` for what the lines promise. Then read `keys.rt` and `nodes.rt`. What names
 //! no source is our own.
 #![tactic(auto)]
 
@@ -19,5 +20,7 @@ mod nodes;
 
 pub use examples::{lines_of_keys_are_as_worked, lines_of_nodes_are_as_worked};
 pub use keys::line_of_key;
-pub use laws::{keys_of_a_deck_have_lines, nodes_are_those_of_statements};
+pub use laws::{
+    keys_of_a_deck_have_lines, nodes_are_those_of_statements, nodes_come_from_their_lines,
+};
 pub use nodes::line_of_node;

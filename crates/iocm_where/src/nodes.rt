@@ -1,5 +1,7 @@
 ghost use Rattle.std.specs.Prelude.{◌≡◌, ◌==◌, ◌≤◌, ◌<◌, ◌+◌, ◌^◌, IfOk};
 ghost use Rattle.iocm_tree_reader.specs.Leaves.{edits_of};
+ghost use Rattle.iocm_where.specs.AtTop as top;
+ghost use Rattle.iocm_where.specs.Counts as counts;
 ghost use Rattle.iocm_where.specs.Nodes as nodes;
 
 use iocm_statements::{Operation, Statement};
@@ -30,14 +32,14 @@ pub fn line_of_node(
 
 /// Whether the statements put exactly one node at the top.
 fn is_one_at_top(statements: &[Statement]) -> bool
-    ensures { result ≡ (nodes.top_among 0 statements.now == 1) }
+    ensures { result ≡ (top.top_among 0 statements.now == 1) }
 {
     count_at_top(statements) == 1
 }
 
 /// How many nodes the statements put at the top.
 fn count_at_top(statements: &[Statement]) -> usize
-    ensures { result ≡ nodes.top_among 0 statements.now }
+    ensures { result ≡ top.top_among 0 statements.now }
 {
     let mut open_nodes = 0;
     let mut count = 0;
@@ -50,7 +52,7 @@ fn count_at_top(statements: &[Statement]) -> usize
 
 /// How many nodes a statement of this operation puts at the top, where so many are open.
 fn put_at_top(operation: Operation, open_nodes: usize) -> usize
-    ensures value { result ≡ nodes.put_at_top operation open_nodes }
+    ensures value { result ≡ top.put_at_top operation open_nodes }
     ensures small { result ≤ 1 }
 {
     match operation {
@@ -62,7 +64,7 @@ fn put_at_top(operation: Operation, open_nodes: usize) -> usize
 /// How many nodes are open after a statement of this operation, where so many were.
 fn open_after(operation: Operation, open_nodes: usize) -> usize
     requires { open_nodes + 1 < 2 ^ 64 }
-    ensures value { result ≡ nodes.open_after operation open_nodes }
+    ensures value { result ≡ top.open_after operation open_nodes }
     ensures small { result ≤ open_nodes + 1 }
 {
     match operation {
@@ -95,7 +97,7 @@ fn line_among(
 
 /// How many nodes a statement gives.
 fn nodes_given(alloc: Global, statement: &Statement) -> Result<u64, AllocError>
-    ensures { IfOk result (λ count. count ≡ nodes.nodes_given statement.now) }
+    ensures { IfOk result (λ count. count ≡ counts.nodes_given statement.now) }
 {
     match statement.operation {
         Operation::Row => Ok(1),
@@ -113,7 +115,7 @@ fn nodes_given(alloc: Global, statement: &Statement) -> Result<u64, AllocError>
 
 /// How many nodes the edits of a statement give; with a fault there are none.
 fn nodes_if_given(alloc: Global, statement: &Statement) -> Result<u64, AllocError>
-    ensures { IfOk result (λ count. count ≡ nodes.nodes_if_given (edits_of statement.now)) }
+    ensures { IfOk result (λ count. count ≡ counts.nodes_if_given (edits_of statement.now)) }
 {
     match edits_of(alloc, alloc, statement) {
         Ok(edits) => Ok(nodes_of_edits(edits.len())),
@@ -125,7 +127,7 @@ fn nodes_if_given(alloc: Global, statement: &Statement) -> Result<u64, AllocErro
 /// How many nodes so many edits give: one is a node by itself, none or several stand in a Row.
 fn nodes_of_edits(count: usize) -> u64
     requires { count < 2 ^ 63 }
-    ensures { result ≡ nodes.nodes_of_edits count }
+    ensures { result ≡ counts.nodes_of_edits count }
 {
     match count {
         1 => 1,

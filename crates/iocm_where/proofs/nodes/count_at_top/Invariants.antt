@@ -1,7 +1,7 @@
 -- The nodes at the top so far, with those of the statements that are left, are all; and neither
 -- these nor what is open are more than the statements so far.
 use Rattle.std.proofs.Common.{◌≡◌, ◌+◌, ◌≤◌, drop}
-use Rattle.iocm_where.specs.Nodes.{top_among}
+use Rattle.iocm_where.specs.AtTop.{top_among}
 use Rattle.iocm_where.proofs.nodes.count_at_top.Given as goal
 
 abbrev pub invariant-loop-statement : goal.invariant-loop-statement
