@@ -1,2 +1,3 @@
 pub mod Sifting
 pub mod WantedLaws
+pub mod WorkedRows

@@ -1,4 +1,5 @@
 pub mod Examples
+pub mod RowExamples
 pub mod Sieves
 pub mod Wanted
 pub mod Words

@@ -1,6 +1,7 @@
 //! What holds of the definitions themselves. Each law is the contract of a function that does
 //! nothing.
 ghost use Rattle.iocm_filter.specs.Examples.{FiltersAsWorked, WordsAreRead};
+ghost use Rattle.iocm_filter.specs.RowExamples.{DevicesAsWorked, ImagesAsWorked, RowsAsWorked, ViewsAsWorked};
 ghost use Rattle.iocm_filter.specs.Sieves.{PassesWanted};
 ghost use Rattle.iocm_filter.specs.Wanted.{NothingIsAll};
 
@@ -12,6 +13,15 @@ pub fn words_are_read()
 /// What is asked for of views and of device numbers is as it is worked by hand.
 pub fn filters_are_as_worked()
     ensures { FiltersAsWorked }
+{}
+
+/// In a small configuration the images, the devices, the views and the rows that are wanted are as
+/// it is worked by hand.
+pub fn rows_are_wanted_as_worked()
+    ensures images { ImagesAsWorked }
+    ensures devices { DevicesAsWorked }
+    ensures views { ViewsAsWorked }
+    ensures rows { RowsAsWorked }
 {}
 
 /// Where nothing is asked for, each subchannel is wanted; and just those that are wanted pass the

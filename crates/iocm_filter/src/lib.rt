@@ -10,8 +10,9 @@
 //! may be another one by then. What can't be wanted needn't be looked at: an image, a device and a
 //! view are tried by themselves.
 //!
-//! Begin with `specs/Wanted.antt` and `specs/Words.antt`, then `filters.rt` and `sieve.rt`. What
-//! names no source is our own.
+//! Begin with `specs/Wanted.antt` and `specs/Words.antt`, and with `specs/RowExamples.antt` for what
+//! is wanted of a small configuration. Then read `filters.rt` and `sieve.rt`. What names no source is
+//! our own.
 #![tactic(auto)]
 
 mod device_range;
@@ -25,7 +26,9 @@ mod words;
 
 pub use device_range::DeviceRange;
 pub use filters::Filters;
-pub use laws::{filters_are_as_worked, nothing_asked_for_is_all, words_are_read};
+pub use laws::{
+    filters_are_as_worked, nothing_asked_for_is_all, rows_are_wanted_as_worked, words_are_read,
+};
 pub use meant::ImageWord;
 pub use sieve::Sieve;
 pub use words::{device_word, image_word, online_word, path_word, unit_word};
