@@ -1,0 +1,14 @@
+pub mod Accepted
+pub mod Again
+pub mod AtRest
+pub mod Devices
+pub mod Given
+pub mod Least
+pub mod Limits
+pub mod LowNumbers
+pub mod Meaning
+pub mod Room
+pub mod Rows
+pub mod TwoParts
+pub mod WayBack
+pub mod Worked
