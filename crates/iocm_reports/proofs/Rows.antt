@@ -21,7 +21,7 @@ use Rattle.iocm_seats.specs.Changes.{view_change}
 use Rattle.iocm_seats.proofs.Ordered.{keys_rise}
 use Rattle.iocm_reports.specs.Altered.{subchannels_altered, AreInOrder}
 use Rattle.iocm_reports.specs.First.{Seen, row_of}
-use Rattle.iocm_reports.specs.Laws.{RowsAreCounted, RowsStandInOrder, RowsLeadToTheTable}
+use Rattle.iocm_reports.specs.Laws.{RowsAreCounted, RowsLeadBack, RowsLeadToTheTable, RowsStandInOrder}
 use Rattle.iocm_reports.proofs.AlteredRows.{cells_rows, same_keys}
 
 -- ---- how many, and in which order
@@ -76,3 +76,17 @@ rows_lead_to_the_table es s =
     ∙ ap (map (λ x. (x, get (views_in t) x))) (sym (same_keys sub_ids_total sub_ids_exact (views_in t) t.lives xs))
     ∙ sym (cells_rows sub_ids_total sub_ids_exact (views_in t) xs))
     ∙ with_cells_is sub_ids_total sub_ids_exact (views_in s) (views_in t) xs (unaltered es s)
+
+were : (v w : SubId → Option View) (xs : List SubId) → map {B = SubId × Option View} (λ (r : ViewChange). (r.subchannel, r.before)) (map (view_change v w) xs) ≡ map (λ x. (x, v x)) xs
+were v w [] = refl
+were v w (x ∷ xs) = ap (λ (ys : List (SubId × Option View)). (x, v x) ∷ ys) (were v w xs)
+
+pub rows_lead_back : RowsLeadBack
+rows_lead_back es s =
+    let t = state_after_all es s in
+    let xs = (cells_written_by_all es s).subchannels in
+    ap (λ cells. with_cells cells (views_in t))
+    (were (get (views_in s)) (get (views_in t)) (subchannels_altered es s)
+    ∙ ap (map (λ x. (x, get (views_in s) x))) (sym (same_keys sub_ids_total sub_ids_exact (views_in s) t.lives xs))
+    ∙ sym (cells_rows sub_ids_total sub_ids_exact (views_in s) xs))
+    ∙ with_cells_is sub_ids_total sub_ids_exact (views_in t) (views_in s) xs (λ x none. sym (unaltered es s x none))

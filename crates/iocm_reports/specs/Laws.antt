@@ -31,6 +31,16 @@ abbrev pub RowsLeadToTheTable : Type 0
 RowsLeadToTheTable = (es : List Edit) (s : State)
     → with_rows (altered_rows es s (state_after_all es s)) (views_in s) ≡ views_in (state_after_all es s)
 
+-- what is seen, but at the subchannels of some rows what the rows say that was seen before
+abbrev pub without_rows : List ViewChange → Views → Views
+without_rows rows v = with_cells (map (λ (r : ViewChange). (r.subchannel, r.before)) rows) v
+
+-- what is seen after the edits, without what the rows say that is seen and with what they say that
+-- was seen, is what was seen
+abbrev pub RowsLeadBack : Type 0
+RowsLeadBack = (es : List Edit) (s : State)
+    → without_rows (altered_rows es s (state_after_all es s)) (views_in (state_after_all es s)) ≡ views_in s
+
 -- all of these counts
 abbrev pub all_of : Counts → ℕ
 all_of n = n.gone + n.came + n.changed + n.same

@@ -6,17 +6,20 @@ ghost use Rattle.iocm_reports.specs.Laws.{
   OnlyADeckSaysAll,
   RowsAreCounted,
   RowsAreOfOneKind,
+  RowsLeadBack,
   RowsLeadToTheTable,
   RowsStandInOrder,
 };
 ghost use Rattle.iocm_reports.specs.Examples.{CountsOfTwoImages, LinesOfRows, RemarksOnPairs};
 
-/// A row stands for each subchannel of the effect, in order. The table before, without the rows
-/// behind `-` and with those behind `+`, is the table after.
+/// There is a row for each subchannel of the effect, in order. The table before, without the rows
+/// behind `-` and with those behind `+`, is the table after. The other way round it is the one
+/// before.
 pub fn rows_lead_to_the_table()
     ensures counted { RowsAreCounted }
     ensures order { RowsStandInOrder }
     ensures table { RowsLeadToTheTable }
+    ensures back { RowsLeadBack }
 {}
 
 /// A row is of one kind alone, so the counts of all images together are the number of rows.

@@ -6,4 +6,5 @@ returns c = record {
   counted = rows.rows_are_counted;
   order = rows.rows_stand_in_order;
   table = rows.rows_lead_to_the_table;
+  back = rows.rows_lead_back;
 }
