@@ -35,9 +35,13 @@ flag_rule name = record (new_rule name) { long = Some name; action = Some SetTru
 abbrev pub filter_rule : Text → Rule
 filter_rule name = record (new_rule name) { long = Some name; value_names = 1; action = Some Append }
 
--- a command of this name, with its deck
+-- a command of this name, with the flag that keeps standard error from saying from where a refusal
+-- comes; with its deck, too
+abbrev pub quiet_app : Text → App
+quiet_app name = with_rule (new_app name) (flag_rule (codes "quiet"))
+
 abbrev pub deck_app : Text → App
-deck_app name = with_rule (new_app name) (file_rule (codes "DECK"))
+deck_app name = with_rule (quiet_app name) (file_rule (codes "DECK"))
 
 -- a command with one more option that says which subchannels are asked for; with those of their images and
 -- devices, with those of their units and paths, and with all
@@ -72,7 +76,7 @@ show_app = with_filters (deck_app (codes "show"))
 -- `diff`, with its two decks and its flag
 abbrev pub diff_app : App
 diff_app =
-    let decks = with_rule (with_rule (new_app (codes "diff")) (file_rule (codes "OLD"))) (file_rule (codes "NEW")) in
+    let decks = with_rule (with_rule (quiet_app (codes "diff")) (file_rule (codes "OLD"))) (file_rule (codes "NEW")) in
     with_rule decks (flag_rule (codes "old"))
 
 -- `apply`, with its deck, its change deck, the size of its heap, its flags and its filters

@@ -4,7 +4,7 @@ ghost use Rattle.iocm.specs.CommandLine.{change_deck_of, request_words, mistakes
 ghost use Rattle.iocm.specs.CommandLine.{IsAsNamed, NamesApply, NamesDeck, NamesRun};
 ghost use Rattle.iocm.specs.CommandLine.{StatesApply, StatesArguments, StatesCommand, StatesDeck, StatesOther, StatesRun};
 
-use crate::matches::{command_in, has_one_report};
+use crate::matches::{command_in, has_one_report, is_quiet};
 use crate::program::iocm;
 use clap::Error;
 use clap::error::ErrorKind;
@@ -12,6 +12,15 @@ use iocm_apply::Report;
 use iocm_filter::Filters;
 use std::alloc::Global;
 use std::convert::AsStr;
+
+/// A command line that is understood.
+#[derive(Drop)]
+pub struct Understood<'a> {
+    /// What it asks for.
+    pub command: Command<'a>,
+    /// Whether standard error isn't to say from where a refusal comes.
+    pub quiet: bool,
+}
 
 /// What a command line asks for.
 #[derive(Drop)]
@@ -92,6 +101,14 @@ impl<'a> Request<'a> {
             Request::Apply { change, .. } => Some(change),
         }
     }
+
+    /// The name of the deck's file, where all that is wrong with the deck is asked for.
+    pub fn asks_all(&self) -> Option<&'a str> {
+        match self {
+            Request::Check { deck, all } => { if *all { Some(deck) } else { None } }
+            Request::Show { .. } | Request::Write { .. } | Request::Apply { .. } => None,
+        }
+    }
 }
 
 /// What is said where several reports of a change are asked for.
@@ -114,10 +131,10 @@ const OTHER_FORM: &str =
 /// `explain`; and with `run`, a deck, a script, change decks, as many as there are and in their
 /// order, and the size of a heap. Where the words name `run` and such files plainly, the command is
 /// `Run` with just these.
-pub fn command_of<'a, S: AsStr>(alloc: Global, words: &'a [S]) -> Result<Command<'a>, Error>
-    ensures command { IfOk result (StatesCommand (map S.text words.entry.now)) }
-    ensures arguments { IfOk result (StatesArguments (map S.text words.entry.now)) }
-    ensures as_named { IfOk result (IsAsNamed (map S.text words.entry.now)) }
+pub fn command_of<'a, S: AsStr>(alloc: Global, words: &'a [S]) -> Result<Understood<'a>, Error>
+    ensures command { IfOk result (λ u. StatesCommand (map S.text words.entry.now) u.command) }
+    ensures arguments { IfOk result (λ u. StatesArguments (map S.text words.entry.now) u.command) }
+    ensures as_named { IfOk result (λ u. IsAsNamed (map S.text words.entry.now) u.command) }
     ensures accepted { IfOk result (λ _. mistakes (map S.text words.entry.now) ≡ []) }
     ensures understood { IfErr result
         (λ e. StatesDeck (map S.text words.entry.now) → kind_of e ≡ ErrorKind.OutOfMemory) }
@@ -136,7 +153,8 @@ pub fn command_of<'a, S: AsStr>(alloc: Global, words: &'a [S]) -> Result<Command
     let mut iocm = iocm(alloc)?;
     let matches = iocm.try_get_matches_from_mut(words)?;
     if let Some(command) = command_in(alloc, &matches)? {
-        return Ok(command);
+        let quiet = is_quiet(&matches);
+        return Ok(Understood { command, quiet });
     }
     if !has_one_report(&matches) {
         return Err(iocm.error(ErrorKind::ArgumentConflict, TWO_REPORTS)?);

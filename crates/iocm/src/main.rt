@@ -5,46 +5,49 @@
 //! the deck in its canonical order and forms. `iocm diff OLD NEW` prints the change deck that leads
 //! from one deck to another. `iocm apply DECK CHANGE` activates a change deck on the machine of a
 //! configuration deck, and prints how many subchannels it altered and the table afterwards, or
-//! another report; it reads the change tree in a heap of as many bytes as `--heap` gives. One file
-//! may be `-`, standard input. `iocm run DECK SCRIPT CHANGE..` lets images and operators work on
-//! the machine of a configuration deck as a script says, and prints every answer and the table at
-//! the end.
+//! another report; it reads the change tree in a heap of as many bytes as `--heap` gives. `iocm run
+//! DECK SCRIPT CHANGE..` lets images and operators work on the machine of a configuration deck as a
+//! script says, and prints every answer and the table at the end. One file of a command may be `-`,
+//! standard input.
 //!
 //! The exit status is 0 where a command did what it was asked to do, 1 where a text was refused
 //! (one line on standard output says why), 2 where the command line is not understood, and 3 where
 //! a file cannot be read or the output cannot be written (`fault L5` or `fault L6` on standard
-//! error).
+//! error). Beside a refusal, standard error says from which file and line it comes; with `--quiet`
+//! it doesn't.
 //!
 //! Begin with `command.rt`, the command line, and `answer.rt`, which call is whose; all else is in
-//! `iocm_console`, `iocm_apply` and `iocm_run`.
+//! `iocm_console`, `iocm_apply` and `iocm_run`. `files.rt` opens texts, `remarks.rt` says where a
+//! refusal comes from.
 #![tactic(auto)]
-
-ghost use Rattle.std.specs.Prelude.{◌+◌, ◌^◌, ◌<◌, All, IfOk, IfSome};
-ghost use Rattle.iocm_columns.specs.Device.{reads_of, IsOpen};
-ghost use Rattle.iocm_columns.specs.declared.device.Device as its_device;
 
 mod answer;
 mod command;
+mod files;
 mod matches;
 mod program;
+mod remarks;
+mod source;
 
 use answer::print_answer;
 use clap::error::ErrorKind;
-use command::{Command, Request, command_of};
+use command::{Command, Request, Understood, command_of};
+use files::{count_inputs, open, open_all, read_input};
 use iocm_columns::Device;
-use iocm_console::{ConsoleError, Output, refuse};
+use iocm_console::{ConsoleError, Output, Status, Told, refuse};
 use iocm_diff::diff_decks;
 use iocm_explain::explain;
 use iocm_run::run_script;
 use iocm_types::Fault;
+use remarks::{remark_on, remark_on_edits, remark_on_others, remark_on_unread};
+use source::Source;
 use std::alloc::AllocError;
-use std::collections::VecDeque;
-use std::io::{BufWriter, Read};
+use std::io::{BufWriter, Write};
 use std::process::ExitCode;
 use std::rt::{Env, Files};
 use std::sync::Wait;
 use std::thread::Threads;
-use std::{env, fs, io};
+use std::{env, io};
 
 /// How often each deck is read at most.
 const MOST_READS: u64 = 1_048_576;
@@ -81,7 +84,7 @@ fn run<R: Env + Files + Input + Print + Eprint + AllocGlobal + Threads + Wait + 
         Err(_) => return explain_usage(rt, "a word of the command line is not UTF-8"),
     };
     match command_of(rt.alloc(), words.as_slice()) {
-        Ok(command) => perform(rt, command),
+        Ok(understood) => perform(rt, &understood),
         Err(error) => explain_line(rt, &error),
     }
 }
@@ -91,226 +94,192 @@ fn words<R: Env + AllocGlobal>(rt: &R) -> io::Result<Vec<String>> {
     Ok(env::args(rt)?.collect(rt.alloc())?)
 }
 
-/// Does a command on its files: they are opened, in the order of the words, before one of them is
-/// read.
+/// Does a command, and says on standard error where a refusal comes from.
 fn perform<R: Files + Input + Print + Eprint + AllocGlobal + Threads + Wait + Sync>(
     rt: &R,
-    command: Command<'_>,
+    understood: &Understood<'_>,
 ) -> Result<ExitCode, ConsoleError> {
+    let command = &understood.command;
+    let input = match count_inputs(command) {
+        0 => Vec::new(rt.alloc()),
+        1 => match read_input(rt) {
+            Ok(Some(bytes)) => bytes,
+            Ok(None) => return refuse_memory(rt),
+            Err(fault) => return Err(fault),
+        },
+        _ => return explain_usage(rt, ONE_INPUT),
+    };
+    match carry_out(rt, command, &input) {
+        Ok(outcome) => {
+            if !understood.quiet {
+                remark(rt, command, &input, &outcome);
+            }
+            Ok(outcome.code)
+        }
+        Err(ConsoleError::Read) => {
+            let _ = eprintln!(rt; "{}", ConsoleError::Read);
+            if !understood.quiet {
+                remark_on_unread(rt, command, &input);
+            }
+            Ok(ExitCode::from(FAULT))
+        }
+        Err(fault) => Err(fault),
+    }
+}
+
+/// Says on standard error what there is to say beside what a command printed.
+fn remark<R: Files + Eprint + AllocGlobal>(
+    rt: &R,
+    command: &Command<'_>,
+    input: &[u8],
+    outcome: &Outcome,
+) {
+    if let Some(told) = &outcome.told {
+        remark_on(rt, command, input, told);
+        remark_on_others(rt, command, input, told);
+    }
+    if let Some(count) = outcome.edits {
+        remark_on_edits(rt, count);
+    }
+}
+
+/// How a command ended: its exit status, the first refusal that was printed, and how many edits, if
+/// a difference was.
+#[derive(Drop)]
+struct Outcome {
+    code: ExitCode,
+    told: Option<Told>,
+    edits: Option<usize>,
+}
+
+/// The outcome where no refusal is printed.
+fn without_refusal(code: ExitCode) -> Outcome {
+    Outcome {
+        code,
+        told: None,
+        edits: None,
+    }
+}
+
+/// The outcome of a command that ended so, of what it printed to this output.
+fn outcome_of<W: Write + Drop>(status: Status, output: &Output<W>) -> Outcome {
+    Outcome {
+        code: ExitCode::from(status.code()),
+        told: output.told(),
+        edits: None,
+    }
+}
+
+/// Does a command on its files: they are opened, in the order of the words, before one of them is
+/// read; standard input was read before.
+fn carry_out<R: Files + Print + Eprint + AllocGlobal + Threads + Wait + Sync>(
+    rt: &R,
+    command: &Command<'_>,
+    input: &[u8],
+) -> Result<Outcome, ConsoleError> {
     match command {
-        Command::Answer(request) => answer_files(rt, &request),
-        Command::Diff { old, new, with_old } => diff_files(rt, old, new, with_old),
-        Command::Explain { rule } => explain_rule(rt, rule),
+        Command::Answer(request) => answer_files(rt, request, input),
+        Command::Diff { old, new, with_old } => diff_files(rt, *old, *new, *with_old, input),
+        Command::Explain { rule } => Ok(without_refusal(explain_rule(rt, *rule)?)),
         Command::Run {
             deck,
             script,
             changes,
             heap,
-        } => run_files(rt, deck, script, changes.as_slice(), heap),
+        } => run_files(rt, *deck, *script, changes.as_slice(), *heap, input),
     }
 }
 
-/// Whether a file's name stands for standard input.
-fn is_stdin(name: &str) -> bool {
-    name == "-"
-}
-
-/// Does what is asked of the deck in a file, or on standard input.
-fn answer_files<R: Files + Input + Print + Eprint + AllocGlobal>(
+/// Does what is asked of the deck in a file, and of the change deck in another one, if there is one.
+fn answer_files<R: Files + Print + AllocGlobal>(
     rt: &R,
     request: &Request<'_>,
-) -> Result<ExitCode, ConsoleError> {
-    if is_stdin(request.deck()) {
-        return match request.change() {
-            Some(name) if is_stdin(name) => explain_usage(rt, ONE_INPUT),
-            _ => answer_from(rt, request, rt.reader()),
-        };
-    }
-    match fs::open(rt, request.deck()) {
-        Ok(deck) => answer_from(rt, request, deck),
-        Err(_) => Err(ConsoleError::Read),
-    }
-}
-
-/// Does what is asked of a deck, and of the change deck in a file or on standard input, if there is
-/// one.
-fn answer_from<R: Files + Input + Print + AllocGlobal, D: Read + Drop>(
-    rt: &R,
-    request: &Request<'_>,
-    deck: D,
-) -> Result<ExitCode, ConsoleError> {
-    let Some(name) = request.change() else {
-        return answer_on(rt, request, deck, b"".as_slice());
+    input: &[u8],
+) -> Result<Outcome, ConsoleError> {
+    let deck = open(rt, request.deck(), input)?;
+    let change = match request.change() {
+        Some(name) => open(rt, name, input)?,
+        None => Source::Input(b"".as_slice()),
     };
-    if is_stdin(name) {
-        return answer_on(rt, request, deck, rt.reader());
-    }
-    match fs::open(rt, name) {
-        Ok(change) => answer_on(rt, request, deck, change),
-        Err(_) => Err(ConsoleError::Read),
-    }
-}
-
-/// Does what is asked of a deck, and of a change deck if there is one.
-fn answer_on<R: Print + AllocGlobal, D: Read + Drop, C: Read + Drop>(
-    rt: &R,
-    request: &Request<'_>,
-    deck: D,
-    change: C,
-) -> Result<ExitCode, ConsoleError> {
     let Ok(writer) = BufWriter::new(rt.alloc(), io::writer(rt)) else {
-        return refuse_memory(rt);
+        return Ok(without_refusal(refuse_memory(rt)?));
     };
-    let mut deck = Device::new(deck);
-    let mut change = Device::new(change);
     let mut output = Output::new(writer);
     let status = print_answer(
         rt.alloc(),
         request,
-        &mut deck,
-        &mut change,
+        &mut Device::new(deck),
+        &mut Device::new(change),
         MOST_READS,
         &mut output,
     )?;
-    Ok(ExitCode::from(status.code()))
+    Ok(outcome_of(status, &output))
 }
 
-/// Prints what leads from the deck in a file to the deck in another one, of which one may be on
-/// standard input.
-fn diff_files<R: Files + Input + Print + Eprint + AllocGlobal>(
+/// Prints what leads from the deck in a file to the deck in another one.
+fn diff_files<R: Files + Print + AllocGlobal>(
     rt: &R,
     old: &str,
     new: &str,
     with_old: bool,
-) -> Result<ExitCode, ConsoleError> {
-    if is_stdin(old) {
-        if is_stdin(new) {
-            return explain_usage(rt, ONE_INPUT);
-        }
-        return diff_from(rt, rt.reader(), new, with_old);
-    }
-    match fs::open(rt, old) {
-        Ok(old) => diff_from(rt, old, new, with_old),
-        Err(_) => Err(ConsoleError::Read),
-    }
-}
-
-/// Prints what leads from a deck to the deck in a file, or on standard input.
-fn diff_from<R: Files + Input + Print + AllocGlobal, D: Read + Drop>(
-    rt: &R,
-    old: D,
-    new: &str,
-    with_old: bool,
-) -> Result<ExitCode, ConsoleError> {
-    if is_stdin(new) {
-        return diff_on(rt, old, rt.reader(), with_old);
-    }
-    match fs::open(rt, new) {
-        Ok(new) => diff_on(rt, old, new, with_old),
-        Err(_) => Err(ConsoleError::Read),
-    }
-}
-
-/// Prints what leads from a deck to another one.
-fn diff_on<R: Print + AllocGlobal, D: Read + Drop, C: Read + Drop>(
-    rt: &R,
-    old: D,
-    new: C,
-    with_old: bool,
-) -> Result<ExitCode, ConsoleError> {
+    input: &[u8],
+) -> Result<Outcome, ConsoleError> {
+    let old = open(rt, old, input)?;
+    let new = open(rt, new, input)?;
     let Ok(writer) = BufWriter::new(rt.alloc(), io::writer(rt)) else {
-        return refuse_memory(rt);
+        return Ok(without_refusal(refuse_memory(rt)?));
     };
-    let mut old = Device::new(old);
-    let mut new = Device::new(new);
     let mut output = Output::new(writer);
+    let mut count = 0;
     let status = diff_decks(
         rt.alloc(),
         with_old,
-        &mut old,
-        &mut new,
+        &mut Device::new(old),
+        &mut Device::new(new),
         MOST_READS,
+        &mut count,
         &mut output,
     )?;
-    Ok(ExitCode::from(status.code()))
+    let edits = match status {
+        Status::Done => Some(count),
+        Status::Refused => None,
+    };
+    Ok(Outcome {
+        edits,
+        ..outcome_of(status, &output)
+    })
 }
 
 /// Runs the script in a file on the machine of the deck in another one, with the change decks in
-/// the others.
+/// the others, each change tree in a heap of so many bytes.
 fn run_files<R: Files + Print + AllocGlobal + Threads + Wait + Sync>(
     rt: &R,
     deck: &str,
     script: &str,
     changes: &[&str],
     heap: u32,
-) -> Result<ExitCode, ConsoleError> {
-    let Ok(deck) = fs::open(rt, deck) else {
-        return Err(ConsoleError::Read);
-    };
-    let Ok(script) = fs::open(rt, script) else {
-        return Err(ConsoleError::Read);
-    };
+    input: &[u8],
+) -> Result<Outcome, ConsoleError> {
+    let deck = open(rt, deck, input)?;
+    let script = open(rt, script, input)?;
     let Some(changes) = open_all(rt, changes)? else {
-        return refuse_memory(rt);
+        return Ok(without_refusal(refuse_memory(rt)?));
     };
-    run_on(rt, deck, script, changes, heap)
-}
-
-/// The files of these names, opened in their order; `None` where memory is missing for them.
-fn open_all<R: Files + AllocGlobal>(
-    rt: &R,
-    names: &[&str],
-) -> Result<Option<VecDeque<Device<R::File>>>, ConsoleError>
-    ensures open { IfOk result (λ found. IfSome found (λ devices. All (λ d. IsOpen d) devices.items)) }
-    ensures room { IfOk result (λ found. IfSome found (λ devices.
-        All (λ d. reads_of d + 1048576 < 2 ^ 64) devices.items)) }
-{
-    let mut devices = VecDeque::new(rt.alloc());
-    for name in names {
-        let Ok(file) = fs::open(rt, *name) else {
-            return Err(ConsoleError::Read);
-        };
-        if devices.push_back(Device::new(file)).is_err() {
-            return Ok(None);
-        }
-    }
-    Ok(Some(devices))
-}
-
-/// Runs a script on the machine of a deck, with these change decks, each change tree in a heap of
-/// so many bytes.
-fn run_on<
-    R: Print + AllocGlobal + Threads + Wait + Sync,
-    D: Read + Drop,
-    S: Read + Drop,
-    C: Read + Drop,
->(
-    rt: &R,
-    deck: D,
-    script: S,
-    changes: VecDeque<Device<C>>,
-    heap: u32,
-) -> Result<ExitCode, ConsoleError>
-    requires open { All (λ (d : its_device.Device C). IsOpen d) changes.items }
-    requires room { All (λ (d : its_device.Device C). reads_of d + 1048576 < 2 ^ 64) changes.items }
-{
     let Ok(writer) = BufWriter::new(rt.alloc(), io::writer(rt)) else {
-        return refuse_memory(rt);
+        return Ok(without_refusal(refuse_memory(rt)?));
     };
-    let mut deck = Device::new(deck);
-    let mut script = Device::new(script);
     let mut output = Output::new(writer);
     let status = run_script(
         rt,
         rt.alloc(),
         heap as usize,
-        &mut deck,
+        &mut Device::new(deck),
         changes,
-        &mut script,
+        &mut Device::new(script),
         MOST_READS,
         &mut output,
     )?;
-    Ok(ExitCode::from(status.code()))
+    Ok(outcome_of(status, &output))
 }
 
 /// Prints that memory is missing. Its buffer has no room, so that it needs no memory itself.

@@ -83,6 +83,17 @@ fn flag_in(matches: &ArgMatches<'_>, name: &str, argument: &str) -> Option<bool>
     }
 }
 
+/// Whether `--quiet` is given to the command that the words name.
+pub fn is_quiet(matches: &ArgMatches<'_>) -> bool {
+    let Some((_, found)) = matches.subcommand() else {
+        return false;
+    };
+    match found.get_str("quiet") {
+        Some("true") => true,
+        _ => false,
+    }
+}
+
 /// The report that flags ask for, of which one is given at the most.
 fn report_of(back: bool, altered: bool, count: bool, deck: bool, test: bool) -> Option<Report>
     ensures some { IfSome result (λ r. (back ≡ asks_back r) × (altered ≡ asks_altered r)

@@ -77,6 +77,21 @@ fn filter<'a>(alloc: Global, name: &'a str, value: &'a str, help: &'a str) -> Ar
         .help(help)
 }
 
+/// A command that can be told to keep standard error from saying from where a refusal comes.
+fn quiet_command<'a>(
+    alloc: Global,
+    name: &'a str,
+    about: &'a str,
+) -> Result<clap::Command<'a>, AllocError>
+    ensures app { IfOk result (λ c. app_of c ≡ meaning.quiet_app name.now) }
+    ensures local { IfOk result (λ c. has_globals c ≡ false) }
+{
+    let help = "Prints nothing on standard error beside a refusal";
+    clap::Command::new(alloc, name)
+        .about(about)
+        .arg(flag(alloc, "quiet", help))
+}
+
 /// A command that reads a deck, which is its first argument.
 fn deck_command<'a>(
     alloc: Global,
@@ -87,8 +102,7 @@ fn deck_command<'a>(
     ensures local { IfOk result (λ c. has_globals c ≡ false) }
 {
     let help = "A configuration deck: the file of its input statements, or - for standard input";
-    let deck = file(alloc, "DECK", help);
-    clap::Command::new(alloc, name).about(about).arg(deck)
+    quiet_command(alloc, name, about)?.arg(file(alloc, "DECK", help))
 }
 
 /// A command with one more option that says which subchannels are asked for.
@@ -210,11 +224,12 @@ fn diff_command<'a>(alloc: Global) -> Result<clap::Command<'a>, AllocError>
 {
     let about =
         "Reads two configuration decks and prints the change deck that leads from one to the other";
-    let old = file(alloc, "OLD", "The configuration deck before");
-    let new = file(alloc, "NEW", "The configuration deck afterwards");
+    let old_help = "The configuration deck before: its file, or - for standard input";
+    let new_help = "The configuration deck afterwards: its file, or - for standard input";
+    let old = file(alloc, "OLD", old_help);
+    let new = file(alloc, "NEW", new_help);
     let before = "Prints what was there before each change, as comments";
-    clap::Command::new(alloc, "diff")
-        .about(about)
+    quiet_command(alloc, "diff", about)?
         .arg(old)?
         .arg(new)?
         .arg(flag(alloc, "old", before))
@@ -245,7 +260,8 @@ fn run_command<'a>(alloc: Global) -> Result<clap::Command<'a>, AllocError>
     let about =
         "Runs a script of images and operators on the machine of a configuration deck, and prints the answers \
          and the table afterwards";
-    let script = file(alloc, "SCRIPT", "A script: the file of its lines");
+    let script_help = "A script: the file of its lines, or - for standard input";
+    let script = file(alloc, "SCRIPT", script_help);
     let help = "A change deck, which the script names by its place: the first is 1";
     let changes = changes(alloc, "CHANGE", help);
     let heap_help = "The heap that each change tree is read in: 16 to 16777216 bytes";

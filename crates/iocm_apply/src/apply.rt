@@ -33,8 +33,9 @@ use std::io::{Read, Write};
 
 /// Prints what a change deck does to the machine of a deck, by the report that is asked for and of
 /// the subchannels that are; or the refusal of the deck's first fault or of the first rule that it
-/// breaks, of the change deck's first fault, or of the change. Each deck is read to its end by at most `limit` reads, the change tree in a heap of
-/// `heap` bytes, and all memory is taken before the first byte is written.
+/// breaks, of the change deck's first fault, or of the change. Each deck is read to its end by at
+/// most `limit` reads, the change tree in a heap of `heap` bytes, and all memory is taken before the
+/// first byte is written.
 ///
 /// L5 (`ConsoleError::Read`): a read failed, or none of `limit` reads gave the end; nothing is
 /// written then, and a deck that is refused is refused before the change deck counts. L6

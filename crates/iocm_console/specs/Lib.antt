@@ -15,4 +15,5 @@ pub mod Refusal
 pub mod Show
 pub mod Sifted
 pub mod Status
+pub mod Told
 pub mod Write

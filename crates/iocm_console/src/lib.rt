@@ -36,6 +36,7 @@ mod sifted;
 mod status;
 mod subsystem_cells;
 mod table;
+mod told;
 
 pub use asked::write_wanted;
 pub use canonical::write_text;
@@ -56,3 +57,4 @@ pub use row::{Line, put_line, write_heading};
 pub use sifted::write_sifted;
 pub use status::Status;
 pub use table::{write_lines, write_table};
+pub use told::Told;

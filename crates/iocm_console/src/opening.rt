@@ -9,8 +9,9 @@ ghost use Rattle.iocm_statements.specs.Statement.{parsed};
 ghost use Rattle.iocm_console.specs.Output.{has_failed, IsHandedOn, FailedToWrite};
 ghost use Rattle.iocm_console.specs.Opening.{configuration_in, records_in, statements_in};
 ghost use Rattle.iocm_console.specs.Opening.{refused, breached, declined, Says};
+ghost use Rattle.iocm_console.specs.Told.{first_told, told_after};
 
-use crate::{ConsoleError, Output, Status};
+use crate::{ConsoleError, Output, Status, Told};
 use iocm_columns::{Card, Joined, join};
 use iocm_config::Config;
 use iocm_record::Record;
@@ -102,6 +103,7 @@ pub fn refuse<W: Write + Drop>(fault: Fault, output: &mut Output<W>) -> Result<S
     ensures text { IfOk result (Says W.contents output.old output.new (refused fault)) }
     ensures works { OnOk result (has_failed output.new ≡ has_failed output.old) }
     ensures handed_on { OnOk result (IsHandedOn output.new) }
+    ensures told { first_told output.new ≡ told_after output.old (Told.Fault fault) }
     ensures fault { IfErr result (FailedToWrite output.new) }
 {
     output.refusal(fault)?;
@@ -117,6 +119,7 @@ pub fn refuse_breach<W: Write + Drop>(
     ensures text { IfOk result (Says W.contents output.old output.new (breached breach)) }
     ensures works { OnOk result (has_failed output.new ≡ has_failed output.old) }
     ensures handed_on { OnOk result (IsHandedOn output.new) }
+    ensures told { first_told output.new ≡ told_after output.old (Told.Breach breach) }
     ensures fault { IfErr result (FailedToWrite output.new) }
 {
     output.breach(breach)?;
@@ -132,6 +135,7 @@ pub fn refuse_change<W: Write + Drop>(
     ensures text { IfOk result (Says W.contents output.old output.new (declined why)) }
     ensures works { OnOk result (has_failed output.new ≡ has_failed output.old) }
     ensures handed_on { OnOk result (IsHandedOn output.new) }
+    ensures told { first_told output.new ≡ told_after output.old (Told.Change why) }
     ensures fault { IfErr result (FailedToWrite output.new) }
 {
     output.change_refusal(why)?;

@@ -1,4 +1,4 @@
-ghost use Rattle.std.specs.Prelude.{◌≡◌, false, ◌++◌, ◌∷◌, [], IsOk, IsErr, OnOk, OnErr, IfErr};
+ghost use Rattle.std.specs.Prelude.{◌≡◌, None, false, ◌++◌, ◌∷◌, [], IsOk, IsErr, OnOk, OnErr, IfErr};
 ghost use Rattle.std.specs.Io.Buffered.{writer_contents};
 ghost use Rattle.std.specs.Io.KnownBytes.{Keeps};
 ghost use Rattle.iocm_model.specs.Machine.Table.{heading};
@@ -6,19 +6,22 @@ ghost use Rattle.iocm_console.specs.Output.{writer_of, has_failed, IsHandedOn, P
 ghost use Rattle.iocm_console.specs.Check.{accepted_text};
 ghost use Rattle.iocm_console.specs.Refusal.{refusal_line, breach_line, change_refusal_line};
 ghost use Rattle.iocm_console.specs.Changed.{changed_text};
+ghost use Rattle.iocm_console.specs.Told.{first_told, told_after};
 
 use crate::row::write_heading;
-use crate::{BreachRefusal, ChangeRefusal, ConsoleError, Refusal};
+use crate::{BreachRefusal, ChangeRefusal, ConsoleError, Refusal, Told};
 use iocm_rules::Breach;
 use iocm_types::{Fault, Refused};
 use std::io::{BufWriter, Write};
 use std::{fmt, io};
 
-/// A writer with the program's own buffer in front of it, and a note of whether a write failed.
+/// A writer with the program's own buffer in front of it, and notes of whether a write failed and
+/// of the first refusal that was printed.
 #[derive(Drop)]
 pub struct Output<W: Write + Drop> {
     writer: BufWriter<W>,
     failed: bool,
+    told: Option<Told>,
 }
 
 impl<W: Write + Drop> Output<W> {
@@ -26,10 +29,12 @@ impl<W: Write + Drop> Output<W> {
     pub fn new(writer: BufWriter<W>) -> Self
         ensures writer { writer_of result ≡ writer }
         ensures works { has_failed result ≡ false }
+        ensures untold { first_told result ≡ None }
     {
         Output {
             writer,
             failed: false,
+            told: None,
         }
     }
 
@@ -40,12 +45,31 @@ impl<W: Write + Drop> Output<W> {
         self.failed
     }
 
+    /// The first refusal that was printed, if there was one.
+    pub fn told(&self) -> Option<Told>
+        ensures { result ≡ first_told self.now }
+    {
+        self.told
+    }
+
+    /// Notes that this refusal is printed, where it is the first.
+    fn tell(&mut self, told: Told)
+        ensures writer { writer_of self.new ≡ writer_of self.old }
+        ensures works { has_failed self.new ≡ has_failed self.old }
+        ensures told { first_told self.new ≡ told_after self.old told }
+    {
+        if self.told.is_none() {
+            self.told = Some(told);
+        }
+    }
+
     /// Notes whether a write failed.
     fn note(&mut self, written: io::Result<()>) -> Result<(), ConsoleError>
         ensures writer { writer_of self.new ≡ writer_of self.old }
         ensures ok { OnOk result (IsOk written) }
         ensures err { OnErr result (IsErr written) }
         ensures works { OnOk result (has_failed self.new ≡ has_failed self.old) }
+        ensures told { first_told self.new ≡ first_told self.old }
         ensures fault { IfErr result (FailedToWrite self.new) }
     {
         match written {
@@ -71,10 +95,12 @@ impl<W: Write + Drop> Output<W> {
     pub(crate) fn refusal(&mut self, fault: Fault) -> Result<(), ConsoleError>
         ensures text { OnOk result (Prints W.contents self.old self.new (refusal_line fault)) }
         ensures works { OnOk result (has_failed self.new ≡ has_failed self.old) }
+        ensures told { first_told self.new ≡ told_after self.old (Told.Fault fault) }
         ensures fault { IfErr result (FailedToWrite self.new) }
     {
         let refusal = Refusal(fault);
         let written = writeln!(self.writer, "{refusal}");
+        self.tell(Told::Fault(refusal.0));
         self.note(written)
     }
 
@@ -82,10 +108,12 @@ impl<W: Write + Drop> Output<W> {
     pub(crate) fn breach(&mut self, breach: Breach) -> Result<(), ConsoleError>
         ensures text { OnOk result (Prints W.contents self.old self.new (breach_line breach)) }
         ensures works { OnOk result (has_failed self.new ≡ has_failed self.old) }
+        ensures told { first_told self.new ≡ told_after self.old (Told.Breach breach) }
         ensures fault { IfErr result (FailedToWrite self.new) }
     {
         let refusal = BreachRefusal(breach);
         let written = writeln!(self.writer, "{refusal}");
+        self.tell(Told::Breach(refusal.0));
         self.note(written)
     }
 
@@ -114,10 +142,12 @@ impl<W: Write + Drop> Output<W> {
     pub(crate) fn change_refusal(&mut self, why: Refused) -> Result<(), ConsoleError>
         ensures text { OnOk result (Prints W.contents self.old self.new (change_refusal_line why)) }
         ensures works { OnOk result (has_failed self.new ≡ has_failed self.old) }
+        ensures told { first_told self.new ≡ told_after self.old (Told.Change why) }
         ensures fault { IfErr result (FailedToWrite self.new) }
     {
         let refusal = ChangeRefusal(why);
         let written = writeln!(self.writer, "{refusal}");
+        self.tell(Told::Change(refusal.0));
         self.note(written)
     }
 
@@ -146,6 +176,7 @@ impl<W: Write + Drop> Output<W> {
         ensures text { Keeps (writer_contents W.contents (writer_of self.old))
             (writer_contents W.contents (writer_of self.new)) }
         ensures handed_on { OnOk result (IsHandedOn self.new) }
+        ensures told { first_told self.new ≡ first_told self.old }
         ensures works { OnOk result (has_failed self.new ≡ has_failed self.old) }
         ensures fault { IfErr result (FailedToWrite self.new) }
     {

@@ -23,20 +23,14 @@ const GROWN: &[u8] = b"         RESOURCE PARTITION=((CSS(0),(LPA,1),(LPB,2)))
 fn edits_between(alloc: Global, old: &[u8], new: &[u8]) -> Result<Vec<Edit>, Fail> {
     let old: Config = configuration(alloc, old).ok_or("the old deck")?;
     let new: Config = configuration(alloc, new).ok_or("the new deck")?;
-    match difference(alloc, &old, &new) {
-        Ok(edits) => Ok(edits),
-        Err(_wanted_once) => Ok(difference(alloc, &old, &new)?),
-    }
+    Ok(difference(alloc, &old, &new)?)
 }
 
 /// What is printed of the difference of two decks, with what was there.
 fn text_between(alloc: Global, old: &[u8], new: &[u8]) -> Result<Vec<u8>, Fail> {
     let edits = edits_between(alloc, old, new)?;
     let config: Config = configuration(alloc, old).ok_or("the old deck")?;
-    match difference_text(alloc, Some(&config), &edits) {
-        Ok(text) => Ok(text),
-        Err(_wanted_once) => Ok(difference_text(alloc, Some(&config), &edits)?),
-    }
+    Ok(difference_text(alloc, Some(&config), &edits)?)
 }
 
 /// The difference of the deck and the one that grew, with what was there.

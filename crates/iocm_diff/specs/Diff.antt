@@ -1,5 +1,5 @@
 -- What `diff` prints of two decks, and how it ends.
-use Rattle.std.specs.Prelude.{◌≡◌, ℕ, Bool, None, Some, List, Result, Ok, Err, if◌then◌else◌}
+use Rattle.std.specs.Prelude.{◌≡◌, ℕ, ⊤, Bool, None, Some, List, length, Result, Ok, Err, if◌then◌else◌}
 use Rattle.iocm_types.specs.declared.fault.Fault.{Fault}
 use Rattle.iocm_types.specs.Fault.{◌>>=◌}
 use Rattle.iocm_columns.specs.Cards.{cards_of}
@@ -15,6 +15,19 @@ use Rattle.iocm_console.specs.Opening.{Shown, configuration_in, opened_or_refuse
 -- the text of the difference of two configurations, with what was there if that is asked for
 abbrev pub text_between : Bool → Configuration → Configuration → List ℕ
 text_between with_old c d = difference_text (if with_old then Some c else None) (difference c d)
+
+-- how many edits it has
+abbrev pub count_between : Configuration → Configuration → ℕ
+count_between c d = length (difference c d)
+
+-- it is the number of edits between two configurations, where both are read
+abbrev pub IsCount : Result Configuration Fault → Result Configuration Fault → ℕ → Type 0
+IsCount (Ok c) (Ok d) count = count ≡ count_between c d
+IsCount _ _ count = ⊤
+
+-- the same of the lines of the new deck
+abbrev pub IsCountToLines : Result Configuration Fault → Result (List Card) Fault → ℕ → Type 0
+IsCountToLines old new count = IsCount old (new >>= configuration_in) count
 
 -- which is printed
 abbrev pub told : Bool → Configuration → Configuration → Shown
@@ -33,6 +46,10 @@ told_or_refused with_old old new = opened_or_refused (λ c n. told_of_lines with
 -- what is printed of the bytes of an old deck and of a new one
 abbrev pub differed : Bool → List ℕ → List ℕ → Shown
 differed with_old old new = told_or_refused with_old (cards_of old >>= configuration_in) (cards_of new)
+
+-- it is the number of edits between the decks of these bytes
+abbrev pub IsCountOfDecks : List ℕ → List ℕ → ℕ → Type 0
+IsCountOfDecks old new count = IsCountToLines (cards_of old >>= configuration_in) (cards_of new) count
 
 -- a deck that is refused: it has a fault, or its configuration breaks a rule
 abbrev pub IsRefused : Result Configuration Fault → Type 0

@@ -8,7 +8,7 @@ ghost use Rattle.iocm_columns.specs.Device.{IsOpen, IsWhole, StopsShort};
 ghost use Rattle.iocm_console.specs.declared.status.Status.TheVariants.{Done};
 ghost use Rattle.iocm_console.specs.Opening.{configuration_in, opened, opened_or_refused, refused, Says, SaysIfMemory};
 ghost use Rattle.iocm_console.specs.Output.{has_failed, IsHandedOn, FailedToWrite};
-ghost use Rattle.iocm_diff.specs.Diff.{differed, told, told_of_lines, told_or_refused, IsRefused, IsRefusedDeck};
+ghost use Rattle.iocm_diff.specs.Diff.{differed, told, told_of_lines, told_or_refused, IsCount, IsCountOfDecks, IsCountToLines, IsRefused, IsRefusedDeck};
 
 use crate::printing::print_opened;
 use iocm_columns::{Card, Device, read_cards};
@@ -22,9 +22,9 @@ use std::io::{Read, Write};
 
 /// Prints the change deck that leads from an old deck to a new one, `with_old` with what was there
 /// before each run as comments; or the refusal of the first fault of a deck, or of the first rule
-/// that it breaks as it is opened. Equal decks have no difference: nothing is printed. Each deck is
-/// read to its end by at most `limit` reads, and all memory is taken before the first byte is
-/// written.
+/// that it breaks as it is opened. Equal configurations have no difference: nothing is printed. Where
+/// it is printed, `count` is how many edits it has. Each deck is read to its end by at most `limit`
+/// reads, and all memory is taken before the first byte is written.
 ///
 /// L5 (`ConsoleError::Read`): a read failed, or none of `limit` reads gave the end; nothing is
 /// written then, and an old deck that is refused is refused before the new one counts. L6
@@ -36,6 +36,7 @@ pub fn diff_decks<R: Read, S: Read, W: Write + Drop>(
     old: &mut Device<R>,
     new: &mut Device<S>,
     limit: u64,
+    count: &mut usize,
     output: &mut Output<W>,
 ) -> Result<Status, ConsoleError>
     requires open { IsOpen old.old }
@@ -48,6 +49,9 @@ pub fn diff_decks<R: Read, S: Read, W: Write + Drop>(
     ensures known_bytes { IfSome (R.remaining (reader_of old.old)) (λ bytes.
         IfSome (S.remaining (reader_of new.old)) (λ others.
         IfOk result (SaysIfMemory W.contents output.old output.new (differed with_old bytes others)))) }
+    ensures count { IfSome (R.remaining (reader_of old.old)) (λ bytes.
+        IfSome (S.remaining (reader_of new.old)) (λ others.
+        IfOk result (λ status. status ≡ Done → IsCountOfDecks bytes others count.new))) }
     ensures some_bytes { (bytes : List ℕ) × (others : List ℕ)
         × IfOk result (SaysIfMemory W.contents output.old output.new (differed with_old bytes others)) }
     ensures whole { IfOk result
@@ -66,7 +70,7 @@ pub fn diff_decks<R: Read, S: Read, W: Write + Drop>(
     match read_cards(alloc, old, limit) {
         Ok(cards) => {
             let others = read_cards(alloc, new, limit);
-            diff_cards(alloc, with_old, cards, others, output)
+            diff_cards(alloc, with_old, cards, others, count, output)
         }
         Err(fault) => answer_unread(fault, output),
     }
@@ -79,11 +83,15 @@ fn diff_cards<W: Write + Drop>(
     with_old: bool,
     cards: Vec<Card>,
     others: Result<Vec<Card>, Fault>,
+    count: &mut usize,
     output: &mut Output<W>,
 ) -> Result<Status, ConsoleError>
     ensures text { (read : Result (List card.Card) fault.Fault) → GivesIfReadable (λ v. v.items) others read
         → IfOk result (SaysIfMemory W.contents output.old output.new
         (told_or_refused with_old (configuration_in cards.items) read)) }
+    ensures count { (read : Result (List card.Card) fault.Fault) → GivesIfReadable (λ v. v.items) others read
+        → IfOk result (λ status. status ≡ Done
+        → IsCountToLines (configuration_in cards.items) read count.new) }
     ensures done { IfOk result (λ status. status ≡ Done → IsOk others) }
     ensures works { OnOk result (has_failed output.new ≡ has_failed output.old) }
     ensures handed_on { OnOk result (IsHandedOn output.new) }
@@ -93,7 +101,7 @@ fn diff_cards<W: Write + Drop>(
     ensures unwritable { result ≡ Err ConsoleError.Write → has_failed output.new ≡ true }
 {
     match read_config(alloc, cards) {
-        Ok(config) => diff_config(alloc, with_old, &config, others, output),
+        Ok(config) => diff_config(alloc, with_old, &config, others, count, output),
         Err(fault) => refuse(fault, output),
     }
 }
@@ -105,11 +113,15 @@ fn diff_config<W: Write + Drop>(
     with_old: bool,
     config: &Config,
     others: Result<Vec<Card>, Fault>,
+    count: &mut usize,
     output: &mut Output<W>,
 ) -> Result<Status, ConsoleError>
     ensures text { (read : Result (List card.Card) fault.Fault) → GivesIfReadable (λ v. v.items) others read
         → IfOk result (SaysIfMemory W.contents output.old output.new
         (told_or_refused with_old (Ok config.now.records) read)) }
+    ensures count { (read : Result (List card.Card) fault.Fault) → GivesIfReadable (λ v. v.items) others read
+        → IfOk result (λ status. status ≡ Done
+        → IsCountToLines (Ok config.now.records) read count.new) }
     ensures done { IfOk result (λ status. status ≡ Done → IsOk others) }
     ensures works { OnOk result (has_failed output.new ≡ has_failed output.old) }
     ensures handed_on { OnOk result (IsHandedOn output.new) }
@@ -119,7 +131,7 @@ fn diff_config<W: Write + Drop>(
     ensures unwritable { result ≡ Err ConsoleError.Write → has_failed output.new ≡ true }
 {
     match breach_of(alloc, config) {
-        Ok(None) => diff_from(alloc, with_old, config, others, output),
+        Ok(None) => diff_from(alloc, with_old, config, others, count, output),
         Ok(Some(breach)) => refuse_breach(breach, output),
         Err(error) => refuse(Fault::from(error), output),
     }
@@ -132,11 +144,15 @@ fn diff_from<W: Write + Drop>(
     with_old: bool,
     config: &Config,
     others: Result<Vec<Card>, Fault>,
+    count: &mut usize,
     output: &mut Output<W>,
 ) -> Result<Status, ConsoleError>
     ensures text { (read : Result (List card.Card) fault.Fault) → GivesIfReadable (λ v. v.items) others read
         → IfOk result (SaysIfMemory W.contents output.old output.new
         (told_of_lines with_old config.now.records read)) }
+    ensures count { (read : Result (List card.Card) fault.Fault) → GivesIfReadable (λ v. v.items) others read
+        → IfOk result (λ status. status ≡ Done
+        → IsCountToLines (Ok config.now.records) read count.new) }
     ensures done { IfOk result (λ status. status ≡ Done → IsOk others) }
     ensures works { OnOk result (has_failed output.new ≡ has_failed output.old) }
     ensures handed_on { OnOk result (IsHandedOn output.new) }
@@ -145,7 +161,7 @@ fn diff_from<W: Write + Drop>(
     ensures unwritable { result ≡ Err ConsoleError.Write → has_failed output.new ≡ true }
 {
     match others {
-        Ok(cards) => diff_to(alloc, with_old, config, cards, output),
+        Ok(cards) => diff_to(alloc, with_old, config, cards, count, output),
         Err(fault) => answer_unread(fault, output),
     }
 }
@@ -156,16 +172,19 @@ fn diff_to<W: Write + Drop>(
     with_old: bool,
     config: &Config,
     cards: Vec<Card>,
+    count: &mut usize,
     output: &mut Output<W>,
 ) -> Result<Status, ConsoleError>
     ensures text { IfOk result (SaysIfMemory W.contents output.old output.new
         (opened_or_refused (λ d n. told with_old config.now.records d) (configuration_in cards.items))) }
+    ensures count { IfOk result (λ status. status ≡ Done
+        → IsCount (Ok config.now.records) (configuration_in cards.items) count.new) }
     ensures works { OnOk result (has_failed output.new ≡ has_failed output.old) }
     ensures handed_on { OnOk result (IsHandedOn output.new) }
     ensures fault { IfErr result (FailedToWrite output.new) }
 {
     match read_config(alloc, cards) {
-        Ok(other) => print_opened(alloc, with_old, config, &other, output),
+        Ok(other) => print_opened(alloc, with_old, config, &other, count, output),
         Err(fault) => refuse(fault, output),
     }
 }

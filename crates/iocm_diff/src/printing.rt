@@ -2,7 +2,8 @@ ghost use Rattle.std.specs.Prelude.{◌≡◌, IfOk, IfErr, OnOk, None, Some, if
 ghost use Rattle.std.specs.Option.{option_map};
 ghost use Rattle.iocm_console.specs.Opening.{opened, SaysIfMemory};
 ghost use Rattle.iocm_console.specs.Output.{has_failed, IsHandedOn, FailedToWrite};
-ghost use Rattle.iocm_diff.specs.Diff.{text_between, told};
+ghost use Rattle.iocm_console.specs.declared.status.Status.TheVariants.{Done};
+ghost use Rattle.iocm_diff.specs.Diff.{count_between, text_between, told};
 
 use iocm_config::Config;
 use iocm_console::{ConsoleError, Output, Status, breach_of, refuse, refuse_breach, write_text};
@@ -19,18 +20,21 @@ fn old_if(with_old: bool, old: &Config) -> Option<&Config>
     if with_old { Some(old) } else { None }
 }
 
-/// The text of the difference of two configurations, with what was there if that is asked for.
-/// Answers the want of memory alone.
+/// The text of the difference of two configurations, with what was there if that is asked for, and
+/// how many edits it has. Answers the want of memory alone.
 fn text_between(
     alloc: Global,
     with_old: bool,
     old: &Config,
     new: &Config,
+    count: &mut usize,
 ) -> Result<Vec<u8>, AllocError>
-    ensures { IfOk result (λ text. text.items ≡ text_between with_old old.now.records new.now.records) }
+    ensures text { IfOk result (λ text. text.items ≡ text_between with_old old.now.records new.now.records) }
+    ensures count { OnOk result (count.new ≡ count_between old.now.records new.now.records) }
 {
     let edits = difference(alloc, old, new)?;
     let text = difference_text(alloc, old_if(with_old, old), &edits)?;
+    *count = edits.as_slice().len();
     Ok(text)
 }
 
@@ -43,15 +47,18 @@ fn print_difference<W: Write + Drop>(
     with_old: bool,
     old: &Config,
     new: &Config,
+    count: &mut usize,
     output: &mut Output<W>,
 ) -> Result<Status, ConsoleError>
     ensures text { IfOk result
         (SaysIfMemory W.contents output.old output.new (told with_old old.now.records new.now.records)) }
+    ensures count { IfOk result
+        (λ status. status ≡ Done → count.new ≡ count_between old.now.records new.now.records) }
     ensures works { OnOk result (has_failed output.new ≡ has_failed output.old) }
     ensures handed_on { OnOk result (IsHandedOn output.new) }
     ensures fault { IfErr result (FailedToWrite output.new) }
 {
-    match text_between(alloc, with_old, old, new) {
+    match text_between(alloc, with_old, old, new, count) {
         Ok(bytes) => write_text(output, &bytes),
         Err(error) => refuse(Fault::from(error), output),
     }
@@ -64,16 +71,19 @@ pub(crate) fn print_opened<W: Write + Drop>(
     with_old: bool,
     old: &Config,
     new: &Config,
+    count: &mut usize,
     output: &mut Output<W>,
 ) -> Result<Status, ConsoleError>
     ensures text { IfOk result (SaysIfMemory W.contents output.old output.new
         (opened (λ d n. told with_old old.now.records d) new.now.records)) }
+    ensures count { IfOk result
+        (λ status. status ≡ Done → count.new ≡ count_between old.now.records new.now.records) }
     ensures works { OnOk result (has_failed output.new ≡ has_failed output.old) }
     ensures handed_on { OnOk result (IsHandedOn output.new) }
     ensures fault { IfErr result (FailedToWrite output.new) }
 {
     match breach_of(alloc, new) {
-        Ok(None) => print_difference(alloc, with_old, old, new, output),
+        Ok(None) => print_difference(alloc, with_old, old, new, count, output),
         Ok(Some(breach)) => refuse_breach(breach, output),
         Err(error) => refuse(Fault::from(error), output),
     }

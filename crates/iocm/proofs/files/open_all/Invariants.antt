@@ -2,7 +2,7 @@
 use Rattle.std.proofs.Common.{◌+◌, ◌^◌, ◌<◌}
 use Rattle.std.specs.List.{All}
 use Rattle.iocm_columns.specs.Device.{reads_of, IsOpen}
-use Rattle.iocm.proofs.open_all.Given as goal
+use Rattle.iocm.proofs.files.open_all.Given as goal
 
 abbrev pub invariant-loop-name : goal.invariant-loop-name
 invariant-loop-name g l = record {

@@ -1,0 +1,82 @@
+//! The files of a command, and standard input among them.
+ghost use Rattle.std.specs.Prelude.{◌+◌, ◌^◌, ◌<◌, All, IfOk, IfSome};
+ghost use Rattle.iocm_columns.specs.Device.{reads_of, IsOpen};
+
+use crate::command::{Command, Request};
+use crate::source::Source;
+use iocm_columns::Device;
+use iocm_console::ConsoleError;
+use std::collections::VecDeque;
+use std::io::{ErrorKind, Read};
+use std::rt::Files;
+use std::{fs, io};
+
+/// Whether a file's name is the word for standard input.
+pub fn is_input(name: &str) -> bool {
+    name == "-"
+}
+
+/// How many files of a command are standard input. The change decks of `run` are files.
+pub fn count_inputs(command: &Command<'_>) -> usize {
+    match command {
+        Command::Answer(request) => {
+            let change = request.change().is_some_and(is_input);
+            usize::from(is_input(request.deck())) + usize::from(change)
+        }
+        Command::Diff { old, new, .. } => usize::from(is_input(*old)) + usize::from(is_input(*new)),
+        Command::Explain { .. } => 0,
+        Command::Run { deck, script, .. } => {
+            usize::from(is_input(*deck)) + usize::from(is_input(*script))
+        }
+    }
+}
+
+/// All bytes of standard input.
+///
+/// L5 (`ConsoleError::Read`): a read failed. `None`: memory is missing for them.
+pub fn read_input<R: Input + AllocGlobal>(rt: &R) -> Result<Option<Vec<u8>>, ConsoleError> {
+    let mut bytes = Vec::new(rt.alloc());
+    match rt.reader().read_to_end(&mut bytes) {
+        Ok(_) => Ok(Some(bytes)),
+        Err(error) if error.kind() == ErrorKind::OutOfMemory => Ok(None),
+        Err(_) => Err(ConsoleError::Read),
+    }
+}
+
+/// The text in the file of this name, or from standard input.
+///
+/// L5 (`ConsoleError::Read`): the file can't be opened.
+pub fn open<'a, R: Files>(
+    rt: &R,
+    name: &str,
+    input: &'a [u8],
+) -> Result<Source<'a, R::File>, ConsoleError> {
+    if is_input(name) {
+        return Ok(Source::Input(input));
+    }
+    match fs::open(rt, name) {
+        Ok(file) => Ok(Source::File(file)),
+        Err(_) => Err(ConsoleError::Read),
+    }
+}
+
+/// The files of these names, opened in their order; `None` where memory is missing for them.
+pub fn open_all<R: Files + AllocGlobal>(
+    rt: &R,
+    names: &[&str],
+) -> Result<Option<VecDeque<Device<R::File>>>, ConsoleError>
+    ensures open { IfOk result (λ found. IfSome found (λ devices. All (λ d. IsOpen d) devices.items)) }
+    ensures room { IfOk result (λ found. IfSome found (λ devices.
+        All (λ d. reads_of d + 1048576 < 2 ^ 64) devices.items)) }
+{
+    let mut devices = VecDeque::new(rt.alloc());
+    for name in names {
+        let Ok(file) = fs::open(rt, *name) else {
+            return Err(ConsoleError::Read);
+        };
+        if devices.push_back(Device::new(file)).is_err() {
+            return Ok(None);
+        }
+    }
+    Ok(Some(devices))
+}
