@@ -1,0 +1,5 @@
+pub mod Accepted
+pub mod Loop
+pub mod Online
+pub mod Printed
+pub mod Room

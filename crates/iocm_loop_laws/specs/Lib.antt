@@ -1,0 +1,4 @@
+pub mod Accepted
+pub mod Loop
+pub mod Online
+pub mod Room
