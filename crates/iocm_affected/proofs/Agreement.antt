@@ -60,11 +60,11 @@ mask_on bit f g (x ∷ xs) same = λ i. cond (same x (in_front x xs) i) bit 0 + 
 abbrev pub AgreeBut : Key → Lookup → Lookup → Type 0
 AgreeBut key c d = (q : Key) → (q ≡ key → ⊥) → c q ≡ d q
 
--- a key is none of those on which it depends what the image of a name in a channel subsystem sees
--- of a device
-pub record IsApart (key : Key) (c : Lookup) (css : ℕ) (name : List ℕ) (r : DeviceRecord) : Type 0 where
+-- a key is that of no unit and of no online record on which it depends what the image of a name in
+-- a channel subsystem sees of a device; and which paths of the device list the name stays
+pub record IsApart (key : Key) (c d : Lookup) (css : ℕ) (name : List ℕ) (r : DeviceRecord) : Type 0 where
   pub units : (u : ℕ) → IsIn u r.units → Unit u ≡ key → ⊥
-  pub paths : (n : ℕ) → IsIn n (path_list c css r.units) → Path css n ≡ key → ⊥
+  pub paths : (n : ℕ) → IsIn n (path_list c css r.units) → record_lists name (c (Path css n)) ≡ record_lists name (d (Path css n))
   pub online : (n : ℕ) → IsIn n (path_list c css r.units) → Online css n name ≡ key → ⊥
 
 module _ (key : Key) (c d : Lookup) (agree : AgreeBut key c d) (css : ℕ) where
@@ -87,14 +87,14 @@ module _ (key : Key) (c d : Lookup) (agree : AgreeBut key c d) (css : ℕ) where
 
   module _ (name : List ℕ) where
     -- what is seen of a device stays
-    pub same_if_seen : (r : DeviceRecord) → IsApart key c css name r → view_if_seen c css name r ≡ view_if_seen d css name r
+    pub same_if_seen : (r : DeviceRecord) → IsApart key c d css name r → view_if_seen c css name r ≡ view_if_seen d css name r
     same_if_seen r apart =
         let paths : path_list c css r.units ≡ path_list d css r.units = same_paths r.units apart.units in
         let first : List ℕ = take 8 (path_list c css r.units) in
         let any : list_any (reaches c css name) (path_list c css r.units) ≡ list_any (reaches d css name) (path_list c css r.units) =
-        any_on (reaches c css name) (reaches d css name) (path_list c css r.units) (λ n h. ap (record_lists name) (agree (Path css n) (apart.paths n h))) in
+        any_on (reaches c css name) (reaches d css name) (path_list c css r.units) (λ n h. apart.paths n h) in
         let pim : installed c css name first ≡ installed d css name first =
-        mask_on 128 (reaches c css name) (reaches d css name) first (λ n h. ap (record_lists name) (agree (Path css n) (apart.paths n (in_all 8 n (path_list c css r.units) h)))) in
+        mask_on 128 (reaches c css name) (reaches d css name) first (λ n h. apart.paths n (in_all 8 n (path_list c css r.units) h)) in
         let pam : available c css name first ≡ available d css name first =
         mask_on 128 (is_online c css name) (is_online d css name) first
         (λ n h. ap (λ (o : Option Rec). is_there o) (agree (Online css n name) (apart.online n (in_all 8 n (path_list c css r.units) h)))) in
@@ -108,7 +108,7 @@ module _ (key : Key) (c d : Lookup) (agree : AgreeBut key c d) (css : ℕ) where
         shown s any paths pim pam = cond (is_candidate name s.candidates && any) (Some (record { device = s.number; paths = paths; pim = pim; pam = pam })) None
 
     -- so does what is seen of a device of a number
-    same_of_record : (o : Option Rec) → ((r : DeviceRecord) → o ≡ Some (device r) → IsApart key c css name r)
+    same_of_record : (o : Option Rec) → ((r : DeviceRecord) → o ≡ Some (device r) → IsApart key c d css name r)
         → option_and_then (view_if_seen c css name) (option_and_then as_device o) ≡ option_and_then (view_if_seen d css name) (option_and_then as_device o)
     same_of_record None apart = refl
     same_of_record (Some (device r)) apart = same_if_seen r (apart r refl)
@@ -120,7 +120,7 @@ module _ (key : Key) (c d : Lookup) (agree : AgreeBut key c d) (css : ℕ) where
     same_of_record (Some (unit r)) apart = refl
     same_of_record (Some (online r)) apart = refl
 
-    pub same_view : (set number : ℕ) → (Device set number ≡ key → ⊥) → ((r : DeviceRecord) → c (Device set number) ≡ Some (device r) → IsApart key c css name r)
+    pub same_view : (set number : ℕ) → (Device set number ≡ key → ⊥) → ((r : DeviceRecord) → c (Device set number) ≡ Some (device r) → IsApart key c d css name r)
         → option_and_then (view_if_seen c css name) (device_record c set number) ≡ option_and_then (view_if_seen d css name) (device_record d set number)
     same_view set number other apart = same_of_record (c (Device set number)) apart
         ∙ ap (λ (o : Option Rec). option_and_then (view_if_seen d css name) (option_and_then as_device o)) (agree (Device set number) other)

@@ -1,6 +1,6 @@
 pub mod Agreement
 pub mod Chains
-pub mod GroupWalks
+pub mod ChoiceWalks
 pub mod InRange
 pub mod Leading
 pub mod SameKeys

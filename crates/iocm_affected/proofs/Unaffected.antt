@@ -25,6 +25,7 @@ use Rattle.iocm_model.specs.Machine.Record.{Rec, ImageRecord, DeviceRecord, key_
 use Rattle.iocm_model.specs.Machine.Configuration.{Configuration, IsKeyed, lookup_of, records_of, as_image, as_device}
 use Rattle.iocm_model.specs.Machine.Numbering.{subsystems, is_empty, is_record_reached, is_reached_at}
 use Rattle.iocm_model.specs.Machine.PathList.{path_list}
+use Rattle.iocm_model.specs.Machine.Sight.{record_lists}
 use Rattle.iocm_model.specs.Machine.View.{view_if_seen, device_record, image_view}
 use Rattle.iocm_model.specs.Rules.EachRule.{same_name}
 use Rattle.iocm_model.proofs.Machine.OwnKeys.{keyed_own, own_keyed}
@@ -32,10 +33,8 @@ use Rattle.iocm_model.proofs.Maps.Cells.{get_with_value}
 use Rattle.iocm_model.proofs.Numbers.Opening.{reached_places_are_of_devices}
 use Rattle.iocm_lookup.specs.Indexed.{IsIndexOf}
 use Rattle.iocm_lookup.proofs.Members.{record_there}
-use Rattle.iocm_affected.specs.declared.images.Group.{Group}
-use Rattle.iocm_affected.specs.declared.images.Group.TheVariants.{All, In, Named as NamedIn}
 use Rattle.iocm_affected.specs.Affected.{sight_at, image_at, AreAllAffected}
-use Rattle.iocm_affected.specs.Listing.{places_of_name, places_of_image, led_places, is_of, images_at, images_in, led_images}
+use Rattle.iocm_affected.specs.Listing.{Choice, all_images, image_named, is_one_alone, listed_otherwise, places_of_name, places_of_image, led_places, images_at, images_in, led_images}
 use Rattle.iocm_affected.proofs.Agreement.{or_first, or_second, IsIn, own_number, AgreeBut, IsApart, same_if_seen, same_reach, same_view}
 use Rattle.iocm_affected.proofs.Chains.{any_of_parts}
 use Rattle.iocm_affected.proofs.InRange.{same_in_range}
@@ -90,13 +89,13 @@ there_is : {A P : Type 0} (o : Option A) → is_some o ≡ true → ((x : A) →
 there_is None is follows = cc
 there_is (Some x) is follows = follows x refl
 
--- an image of a configuration is among those of each group that it is of
-image_there : (c : Configuration) (group : Group) (k : Key) (r : ImageRecord) → lookup_of c k ≡ Some (image r) → is_of group r.css r.name ≡ true
-    → list_any (eq_by_cmp image_cmp (record { css = r.css; mif = r.mif })) (images_in group c) ≡ true
-image_there c group k r there is =
+-- an image of a configuration is among those of each choice that it is of
+image_there : (c : Configuration) (choice : Choice) (k : Key) (r : ImageRecord) → lookup_of c k ≡ Some (image r) → choice r.css r.name ≡ true
+    → list_any (eq_by_cmp image_cmp (record { css = r.css; mif = r.mif })) (images_in choice c) ≡ true
+image_there c choice k r there is =
     let m : images.Image = record { css = r.css; mif = r.mif } in
-    any_of_parts (eq_by_cmp image_cmp m) (images_at group) (records_of c)
-    ∙ record_there c (λ x. list_any (eq_by_cmp image_cmp m) (images_at group x)) k (image r) there
+    any_of_parts (eq_by_cmp image_cmp m) (images_at choice) (records_of c)
+    ∙ record_there c (λ x. list_any (eq_by_cmp image_cmp m) (images_at choice x)) k (image r) there
     (ap (λ b. list_any (eq_by_cmp image_cmp m) (cond b (m ∷ []) [])) is ∙ or_first (eq_by_cmp image_cmp m m) false (ties_itself image_cmp images_total m))
 
 module _ (c : Configuration) (changed : Key) (after : Option Rec) (keyed : IsKeyed c) (own : (r : Rec) → after ≡ Some r → key_of r ≡ changed) where
@@ -151,7 +150,7 @@ module _ (c : Configuration) (changed : Key) (after : Option Rec) (keyed : IsKey
 
   -- what the image of a name sees stays where the key is none of what it depends on
   same_seen : (p : Place) (name : List ℕ) → (key.Device p.set p.device ≡ changed → ⊥)
-      → ((r : DeviceRecord) → lookup_of c (key.Device p.set p.device) ≡ Some (device r) → IsApart changed (lookup_of c) p.css name r) → seen c p name ≡ seen then p name
+      → ((r : DeviceRecord) → lookup_of c (key.Device p.set p.device) ≡ Some (device r) → IsApart changed (lookup_of c) (lookup_of then) p.css name r) → seen c p name ≡ seen then p name
   same_seen p name other apart = same_view changed (lookup_of c) (lookup_of then) agree p.css name p.set p.device other apart
 
   -- whether a place is reached stays where the key is neither that of its device nor that of a unit
@@ -178,10 +177,10 @@ module _ (c : Configuration) (changed : Key) (after : Option Rec) (keyed : IsKey
     other_device : key.Device p.set p.device ≡ changed → ⊥
     other_device = not_changed (key.Device p.set p.device) (device_led p subsystems inside)
 
-    apart : (r : DeviceRecord) → lookup_of c (key.Device p.set p.device) ≡ Some (device r) → (name : List ℕ) → IsApart changed (lookup_of c) p.css name r
+    apart : (r : DeviceRecord) → lookup_of c (key.Device p.set p.device) ≡ Some (device r) → (name : List ℕ) → IsApart changed (lookup_of c) (lookup_of then) p.css name r
     apart r there name = record {
       units = λ u among. not_changed (key.Unit u) (unit_led c t of p r there subsystems inside u among);
-      paths = λ n among. not_changed (key.Path p.css n) (path_led c t of p r there n among);
+      paths = λ n among. ap (record_lists name) (agree (key.Path p.css n) (not_changed (key.Path p.css n) (path_led c t of p r there n among)));
       online = λ n among. not_changed (key.Online p.css n name) (path_led c t of p r there n among);
     }
 
@@ -223,17 +222,17 @@ module _ (c : Configuration) (changed : Key) (after : Option Rec) (keyed : IsKey
 
   -- ---- images that don't look at the record of the key
 
-  module _ (p : Place) (mif : ℕ) (out : list_any (eq_by_cmp image_cmp (image_at mif p)) (led_images c changed) ≡ true → ⊥) where
+  module _ (p : Place) (mif : ℕ) (out : list_any (eq_by_cmp image_cmp (image_at mif p)) (led_images c changed (lookup_of c changed) after) ≡ true → ⊥) where
     -- a key whose record the image looks at is not the changed one
-    looks_not : (k : Key) → list_any (eq_by_cmp image_cmp (image_at mif p)) (led_images c k) ≡ true → k ≡ changed → ⊥
-    looks_not k among is = out (subst (λ (q : Key). list_any (eq_by_cmp image_cmp (image_at mif p)) (led_images c q) ≡ true) is among)
+    looks_not : (k : Key) → list_any (eq_by_cmp image_cmp (image_at mif p)) (led_images c k (lookup_of c changed) after) ≡ true → k ≡ changed → ⊥
+    looks_not k among is = out (subst (λ (q : Key). list_any (eq_by_cmp image_cmp (image_at mif p)) (led_images c q (lookup_of c changed) after) ≡ true) is among)
 
     module _ (r : ImageRecord) (there : lookup_of c (key.Image p.css mif) ≡ Some (image r)) where
-      in_group : (group : Group) → is_of group r.css r.name ≡ true → list_any (eq_by_cmp image_cmp (image_at mif p)) (images_in group c) ≡ true
-      in_group group is =
+      in_choice : (choice : Choice) → choice r.css r.name ≡ true → list_any (eq_by_cmp image_cmp (image_at mif p)) (images_in choice c) ≡ true
+      in_choice choice is =
           let css : r.css ≡ p.css = image_css c keyed p mif r there in
           let number : r.mif ≡ mif = image_mif p mif r there in
-          sym (λ i. list_any (eq_by_cmp image_cmp (record { css = css i; mif = number i })) (images_in group c)) ∙ image_there c group (key.Image p.css mif) r there is
+          sym (λ i. list_any (eq_by_cmp image_cmp (record { css = css i; mif = number i })) (images_in choice c)) ∙ image_there c choice (key.Image p.css mif) r there is
 
       own_css : nat_eq r.css p.css ≡ true
       own_css = ap (λ css. nat_eq css p.css) (image_css c keyed p mif r there) ∙ own_number p.css
@@ -241,11 +240,32 @@ module _ (c : Configuration) (changed : Key) (after : Option Rec) (keyed : IsKey
       own_name : same_name r.name r.name ≡ true
       own_name = nat_list_eq_equiv.refl r.name
 
+      -- a path lists the name of the image as before
+      listed_as_before : (n : ℕ) → record_lists r.name (lookup_of c (key.Path p.css n)) ≡ record_lists r.name (lookup_of then (key.Path p.css n))
+      listed_as_before n = by (eq_by_cmp key_cmp (key.Path p.css n) changed) refl
+        where
+          alike : (a b : Bool) → (is_one_alone a b ≡ true → ⊥) → a ≡ b
+          alike true true not_alone = refl
+          alike true false not_alone = absurd (not_alone refl)
+          alike false true not_alone = absurd (not_alone refl)
+          alike false false not_alone = refl
+
+          by : (b : Bool) → eq_by_cmp key_cmp (key.Path p.css n) changed ≡ b
+              → record_lists r.name (lookup_of c (key.Path p.css n)) ≡ record_lists r.name (lookup_of then (key.Path p.css n))
+          by true is =
+              let it : key.Path p.css n ≡ changed = same_key key_cmp keys_exact (key.Path p.css n) changed is in
+              ap (λ k. record_lists r.name (lookup_of c k)) it
+              ∙ alike (record_lists r.name (lookup_of c changed)) (record_lists r.name after)
+              (λ alone. looks_not (key.Path p.css n) (in_choice (listed_otherwise p.css (lookup_of c changed) after) (λ i. own_css i && alone i)) it)
+              ∙ ap (record_lists r.name) (sym now_there) ∙ ap (λ k. record_lists r.name (lookup_of then k)) (sym it)
+          by false is = ap (record_lists r.name) (agree (key.Path p.css n)
+              (λ e. false≢true (sym is ∙ ap (eq_by_cmp key_cmp (key.Path p.css n)) (sym e) ∙ ties_itself key_cmp keys_total (key.Path p.css n))))
+
       seen_elsewhere : seen c p r.name ≡ seen then p r.name
-      seen_elsewhere = same_seen p r.name (looks_not (key.Device p.set p.device) (in_group All refl)) (λ d here. record {
-        units = λ u among. looks_not (key.Unit u) (in_group All refl);
-        paths = λ n among. looks_not (key.Path p.css n) (in_group (In p.css) own_css);
-        online = λ n among. looks_not (key.Online p.css n r.name) (in_group (NamedIn p.css r.name) ((λ i. own_css i && own_name i)));
+      seen_elsewhere = same_seen p r.name (looks_not (key.Device p.set p.device) (in_choice all_images refl)) (λ d here. record {
+        units = λ u among. looks_not (key.Unit u) (in_choice all_images refl);
+        paths = λ n among. listed_as_before n;
+        online = λ n among. looks_not (key.Online p.css n r.name) (in_choice (image_named p.css r.name) ((λ i. own_css i && own_name i)));
       })
 
     pub sight_elsewhere : sight_at c mif p ≡ sight_at then mif p
@@ -255,8 +275,8 @@ module _ (c : Configuration) (changed : Key) (after : Option Rec) (keyed : IsKey
     -- where the image is there, whether the place is reached stays
     pub reached_elsewhere : is_some (option_and_then as_image (lookup_of c (key.Image p.css mif))) ≡ true → is_reached_at c p ≡ is_reached_at then p
     reached_elsewhere found = there_is (option_and_then as_image (lookup_of c (key.Image p.css mif))) found (λ r is.
-        let all : list_any (eq_by_cmp image_cmp (image_at mif p)) (images_in All c) ≡ true =
-        in_group r (image_is (lookup_of c (key.Image p.css mif)) r is) All refl in
+        let all : list_any (eq_by_cmp image_cmp (image_at mif p)) (images_in all_images c) ≡ true =
+        in_choice r (image_is (lookup_of c (key.Image p.css mif)) r is) all_images refl in
         same_in_range c then p (λ low few. same_place p low few (looks_not (key.Device p.set p.device) all) (λ d here u among. looks_not (key.Unit u) all)))
 
   -- ---- a device that keeps its control units and candidates
@@ -272,10 +292,10 @@ module _ (c : Configuration) (changed : Key) (after : Option Rec) (keyed : IsKey
     no_unit : (u : ℕ) → key.Unit u ≡ changed → ⊥
     no_unit u e = let bad : key.Unit u ≡ key.Device old.set old.number = e ∙ its_key in cc
 
-    no_part : (css : ℕ) (name : List ℕ) (r : DeviceRecord) → IsApart changed (lookup_of c) css name r
+    no_part : (css : ℕ) (name : List ℕ) (r : DeviceRecord) → IsApart changed (lookup_of c) (lookup_of then) css name r
     no_part css name r = record {
       units = λ u among e. no_unit u e;
-      paths = λ n among e. let bad : key.Path css n ≡ key.Device old.set old.number = e ∙ its_key in cc;
+      paths = λ n among. ap (record_lists name) (agree (key.Path css n) (λ e. let bad : key.Path css n ≡ key.Device old.set old.number = e ∙ its_key in cc));
       online = λ n among e. let bad : key.Online css n name ≡ key.Device old.set old.number = e ∙ its_key in cc;
     }
 
@@ -331,7 +351,7 @@ module _ (c : Configuration) (changed : Key) (after : Option Rec) (keyed : IsKey
   -- all that may be affected is listed
   pub all_affected : (t : Stored Naming (Unit {0})) → IsIndexOf c t → (places : List Place) (seeing : List images.Image)
       → ((p : Place) → list_any (eq_by_cmp place_cmp p) places ≡ list_any (eq_by_cmp place_cmp p) (led_places t changed (lookup_of c changed) after))
-      → seeing ≡ led_images c changed → AreAllAffected c then places seeing
+      → seeing ≡ led_images c changed (lookup_of c changed) after → AreAllAffected c then places seeing
   all_affected t of places seeing same looking = record {
     reached = λ p out. same_in_range c then p (λ low few. reached_off t of p low (λ among. false≢true (sym out ∙ same p ∙ among)) few);
     off_places = λ p mif low out. sight_off t of p low (λ among. false≢true (sym out ∙ same p ∙ among)) mif;

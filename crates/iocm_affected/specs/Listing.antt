@@ -1,5 +1,5 @@
 -- The places that a key leads to by who names whom, and the images that look at its record.
-use Rattle.std.specs.Prelude.{◌≡◌, ℕ, ◌==◌, ◌&&◌, Bool, true, List, [], ◌∷◌, ◌++◌, map, Option, Some, if◌then◌else◌}
+use Rattle.std.specs.Prelude.{◌≡◌, ℕ, ◌==◌, ◌&&◌, Bool, true, false, not, List, [], ◌∷◌, ◌++◌, map, Option, Some, if◌then◌else◌}
 use Rattle.std.specs.List.{flat_map, list_any}
 use Rattle.std.specs.Ordering.{eq_by_cmp}
 use Rattle.iocm_types.specs.declared.image.Image as images
@@ -16,10 +16,9 @@ use Rattle.iocm_table.specs.Slots.{Stored, rows}
 use Rattle.iocm_model.specs.Machine.Record.{Rec, image}
 use Rattle.iocm_model.specs.Machine.Configuration.{Configuration, records_of}
 use Rattle.iocm_model.specs.Machine.Numbering.{subsystems}
+use Rattle.iocm_model.specs.Machine.Sight.{record_lists}
 use Rattle.iocm_model.specs.Rules.EachRule.{same_name}
 use Rattle.iocm_index.specs.Namings.{users_in}
-use Rattle.iocm_affected.specs.declared.images.Group.{Group}
-use Rattle.iocm_affected.specs.declared.images.Group.TheVariants.{All, In, Named as NamedIn}
 
 -- the keys of the records that name a thing
 abbrev pub users_of : Stored Naming (Unit {0}) → Named → List Key
@@ -81,27 +80,41 @@ AreSamePlaces xs ys = (p : Place) → list_any (eq_by_cmp place_cmp p) xs ≡ li
 abbrev pub AreSameKeys : List Key → List Key → Type 0
 AreSameKeys xs ys = (k : Key) → list_any (eq_by_cmp key_cmp k) xs ≡ list_any (eq_by_cmp key_cmp k) ys
 
--- an image of this channel subsystem and name is of a group: of all, of those of a channel
--- subsystem, or of those of a name there
-abbrev pub is_of : Group → ℕ → List ℕ → Bool
-is_of All css name = true
-is_of (In within) css name = css == within
-is_of (NamedIn within of) css name = css == within && same_name of name
+-- a choice of images, by their channel subsystems and their names
+abbrev pub Choice : Type 0
+Choice = ℕ → List ℕ → Bool
 
--- the image of a record, if it is that of one of a group
-abbrev pub images_at : Group → Rec → List images.Image
-images_at group (image r) = if is_of group r.css r.name then record { css = r.css; mif = r.mif } ∷ [] else []
-images_at group _ = []
+-- all images
+abbrev pub all_images : Choice
+all_images css name = true
 
--- the images of a group
-abbrev pub images_in : Group → Configuration → List images.Image
-images_in group c = flat_map (images_at group) (records_of c)
+-- the image of a name in a channel subsystem
+abbrev pub image_named : ℕ → List ℕ → Choice
+image_named within of css name = css == within && same_name of name
 
--- the images that look at the record of a key
-abbrev pub led_images : Configuration → Key → List images.Image
-led_images c (key.Image css mif) = record { css = css; mif = mif } ∷ []
-led_images c (key.Path css number) = images_in (In css) c
-led_images c (key.Online css number name) = images_in (NamedIn css name) c
-led_images c (key.Unit number) = images_in All c
-led_images c (key.Device set number) = images_in All c
-led_images c _ = []
+-- one of two things is so, and the other isn't
+abbrev pub is_one_alone : Bool → Bool → Bool
+is_one_alone true other = not other
+is_one_alone false other = other
+
+-- those in a channel subsystem that one of two records of a path lists, and the other doesn't
+abbrev pub listed_otherwise : ℕ → Option Rec → Option Rec → Choice
+listed_otherwise within before after css name = css == within && is_one_alone (record_lists name before) (record_lists name after)
+
+-- the image of a record, if it is that of one of a choice
+abbrev pub images_at : Choice → Rec → List images.Image
+images_at choice (image r) = if choice r.css r.name then record { css = r.css; mif = r.mif } ∷ [] else []
+images_at choice _ = []
+
+-- the images of a choice
+abbrev pub images_in : Choice → Configuration → List images.Image
+images_in choice c = flat_map (images_at choice) (records_of c)
+
+-- the images that look at the record of a key, which was one and is another
+abbrev pub led_images : Configuration → Key → Option Rec → Option Rec → List images.Image
+led_images c (key.Image css mif) before after = record { css = css; mif = mif } ∷ []
+led_images c (key.Path css number) before after = images_in (listed_otherwise css before after) c
+led_images c (key.Online css number name) before after = images_in (image_named css name) c
+led_images c (key.Unit number) before after = images_in all_images c
+led_images c (key.Device set number) before after = images_in all_images c
+led_images c _ before after = []

@@ -57,7 +57,7 @@ pub fn affected_by<A: Allocator, B: Allocator, C: Allocator + Clone>(
     }
     let mut listed = Vec::new(alloc.clone()?);
     list_led(alloc.clone()?, &mut listed, index, key, before, after)?;
-    let images = led_images(alloc, config, key)?;
+    let images = led_images(alloc, config, key, before, after)?;
     // A device may be met on two of its units.
     let places = sorted_once(listed)?;
     Ok(Affected { places, images })

@@ -1,39 +1,34 @@
 ghost use Rattle.std.specs.Prelude.{◌≡◌, ◌++◌, ◌∷◌, [], nat_lt, IfOk, OnOk};
 ghost use Rattle.std.specs.List.Sorted.{IsStrictlySortedBy};
+ghost use Rattle.std.specs.Option.{option_copied};
 ghost use Rattle.iocm_types.specs.SubId.{image_cmp};
 ghost use Rattle.iocm_lookup.specs.Kinds.{kind_of};
 ghost use Rattle.iocm_affected.specs.Listing as listing;
 
+use crate::choice::{AllImages, Choice, ImageNamed, ListedOtherwise};
 use iocm_config::Config;
 use iocm_record::{Record, RecordBody};
-use iocm_types::{Css, Image, Key, Name};
+use iocm_types::{Image, Key};
 use std::alloc::{AllocError, Allocator};
 
 /// The most images that a configuration has: 15 in each of six channel subsystems.
 const MOST_IMAGES: usize = 90;
 
-/// Some images of a configuration.
-#[derive(Clone, Copy)]
-enum Group {
-    /// All of them.
-    All,
-    /// Those of a channel subsystem.
-    In(Css),
-    /// Those of a name in a channel subsystem.
-    Named(Css, Name),
-}
-
-/// The images that look at the record of a key, in order. An image looks at its own record; at the
-/// paths of its channel subsystem; at what is said to be online to its name there; and at all units
-/// and devices. The time is that of one search, and of a walk over the images, 90 at the most.
+/// The images that look at the record of a key, which was one and becomes another, in order. An
+/// image looks at its own record; at a path of its channel subsystem, where that lists its name
+/// before or afterwards, but not both; at what is said to be online to its name there; and at all
+/// units and devices. The time is that of one search, and of a walk over the images, 90 at the most.
 ///
 /// `AllocError` (M1): memory was wanted.
 pub(crate) fn led_images<A: Allocator, B: Allocator>(
     alloc: B,
     config: &Config<A>,
     key: &Key,
+    before: Option<&Record<A>>,
+    after: Option<&Record<A>>,
 ) -> Result<Vec<Image, B>, AllocError>
-    ensures images { IfOk result (λ images. images.items ≡ listing.led_images config.now.records key.now) }
+    ensures images { IfOk result (λ images. images.items
+        ≡ listing.led_images config.now.records key.now (option_copied before.entry) (option_copied after.entry)) }
     ensures rise { IfOk result (λ images. IsStrictlySortedBy image_cmp images.items) }
 {
     config.has_own_keys();
@@ -45,9 +40,22 @@ pub(crate) fn led_images<A: Allocator, B: Allocator>(
                 mif: *mif,
             },
         ),
-        Key::Path(css, _) => images_in(alloc, config, &Group::In(*css)),
-        Key::Online(css, _, name) => images_in(alloc, config, &Group::Named(*css, *name)),
-        Key::Unit(_) | Key::Device(_, _) => images_in(alloc, config, &Group::All),
+        Key::Path(css, _) => {
+            let listed = ListedOtherwise {
+                css: *css,
+                before,
+                after,
+            };
+            images_in(alloc, config, &listed)
+        }
+        Key::Online(css, _, name) => {
+            let named = ImageNamed {
+                css: *css,
+                name: *name,
+            };
+            images_in(alloc, config, &named)
+        }
+        Key::Unit(_) | Key::Device(_, _) => images_in(alloc, config, &AllImages),
         Key::Id | Key::Resource | Key::Limit(_, _) => Ok(Vec::new(alloc)),
     }
 }
@@ -62,13 +70,14 @@ fn one_image<B: Allocator>(alloc: B, image: Image) -> Result<Vec<Image, B>, Allo
     Ok(images)
 }
 
-/// The images of a group, in order. The walk ends where the images do.
-fn images_in<A: Allocator, B: Allocator>(
+/// The images of a choice, in order. The walk ends where the images do.
+fn images_in<A: Allocator, B: Allocator, C: Choice>(
     alloc: B,
     config: &Config<A>,
-    group: &Group,
+    choice: &C,
 ) -> Result<Vec<Image, B>, AllocError>
-    ensures images { IfOk result (λ images. images.items ≡ listing.images_in group.now config.now.records) }
+    ensures images { IfOk result (λ images. images.items
+        ≡ listing.images_in (C.chosen choice.now) config.now.records) }
     ensures rise { IfOk result (λ images. IsStrictlySortedBy image_cmp images.items) }
 {
     config.has_own_keys();
@@ -77,7 +86,7 @@ fn images_in<A: Allocator, B: Allocator>(
         if is_past_images(key) {
             return Ok(images);
         }
-        list_if_in(&mut images, group, entry)?;
+        list_if_chosen(&mut images, choice, entry)?;
     }
     Ok(images)
 }
@@ -89,18 +98,19 @@ fn is_past_images(key: &Key) -> bool
     !matches!(key, Key::Id | Key::Resource | Key::Image(_, _))
 }
 
-/// Puts the image of a record behind those that are listed, if it is that of one of a group.
-fn list_if_in<A: Allocator, B: Allocator>(
+/// Puts the image of a record behind those that are listed, if it is that of one of a choice.
+fn list_if_chosen<A: Allocator, B: Allocator, C: Choice>(
     images: &mut Vec<Image, B>,
-    group: &Group,
+    choice: &C,
     entry: &Record<A>,
 ) -> Result<(), AllocError>
-    ensures { OnOk result (images.new.items ≡ images.old.items ++ listing.images_at group.now entry.now) }
+    ensures { OnOk result
+        (images.new.items ≡ images.old.items ++ listing.images_at (C.chosen choice.now) entry.now) }
 {
     let RecordBody::Image(css, mif, name) = entry.body() else {
         return Ok(());
     };
-    if !is_of(group, *css, *name) {
+    if !choice.has(*css, *name) {
         return Ok(());
     }
     images.push(Image {
@@ -108,15 +118,4 @@ fn list_if_in<A: Allocator, B: Allocator>(
         mif: *mif,
     })?;
     Ok(())
-}
-
-/// Whether an image of a channel subsystem and a name is of a group.
-fn is_of(group: &Group, css: Css, name: Name) -> bool
-    ensures { result ≡ listing.is_of group.now css name }
-{
-    match group {
-        Group::All => true,
-        Group::In(within) => css == *within,
-        Group::Named(within, of) => css == *within && *of == name,
-    }
 }

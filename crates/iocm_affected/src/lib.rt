@@ -16,6 +16,7 @@
 
 mod alike;
 mod changed;
+mod choice;
 mod images;
 mod places;
 mod users;

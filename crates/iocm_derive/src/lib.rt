@@ -34,7 +34,7 @@ pub use cell_sight::CellSight;
 pub use device_walk::DeviceWalk;
 pub use image_names::ImageNames;
 pub use image_sight::ImageSight;
-pub use lookup::name_of_image;
+pub use lookup::{lists_image, name_of_image};
 pub use masks::{pam, pim};
 pub use paths::path_list;
 pub use sight::sees;

@@ -2,7 +2,7 @@ use iocm_affected::{Affected, affected_by};
 use iocm_config::Config;
 use iocm_lookup::index_of;
 use iocm_record::{Record, RecordBody};
-use iocm_trial_decks::{configuration, name};
+use iocm_trial_decks::{configuration, entry, name};
 use iocm_types::{Chpid, Css, DevNo, Image, Key, Mif, Place, SetNo, UnitNo};
 use std::alloc::Global;
 use std::test::Fail;
@@ -49,6 +49,17 @@ const THREE_PATHS: &[u8] = b"         RESOURCE PARTITION=((CSS(0),(LPA,1),(LPB,2
          IODEVICE ADDRESS=4001,CUNUMBR=(1000,2000)
          IODEVICE ADDRESS=4002,CUNUMBR=2000
 ";
+
+/// Path 51 lists both images of channel subsystem 0.
+const PATH_OF_BOTH: &[u8] = b"         RESOURCE PARTITION=((CSS(0),(LPA,1),(LPB,2)))
+         CHPID PATH=(CSS(0),51),SHARED,PARTITION=((LPB),(LPA,LPB))
+";
+
+/// The record of path 51 where it lists both images of channel subsystem 0.
+fn path_of_both(alloc: Global) -> Result<Record, Fail> {
+    let key = Key::Path(css(0)?, Chpid::new(0x51));
+    Ok(entry(alloc, PATH_OF_BOTH, &key).ok_or("the path is there")?)
+}
 
 fn base(alloc: Global) -> Result<Config, Fail> {
     Ok(configuration(alloc, THREE_PATHS).ok_or("the deck is not read")?)
@@ -113,13 +124,24 @@ fn a_unit_leads_to_its_devices_everywhere(rt: HostRuntime) -> Result<(), Fail> {
 }
 
 #[test]
-fn a_path_leads_to_the_devices_on_its_units_in_its_channel_subsystem(
+fn a_path_leads_to_the_devices_on_its_units_and_the_images_that_it_lists(
     rt: HostRuntime,
 ) -> Result<(), Fail> {
     let key = Key::Path(css(0)?, Chpid::new(0x51));
     let places = [place(0, 0x4001)?, place(0, 0x4002)?];
-    let images = [image(0, 1)?, image(0, 2)?];
+    let images = [image(0, 2)?];
     let affected = without(rt.alloc(), key)?;
+    assert!(rt; are(&affected, places.as_slice(), images.as_slice()));
+    Ok(())
+}
+
+#[test]
+fn a_path_that_lists_an_image_too_is_looked_at_by_that_one_alone(
+    rt: HostRuntime,
+) -> Result<(), Fail> {
+    let places = [place(0, 0x4001)?, place(0, 0x4002)?];
+    let images = [image(0, 1)?];
+    let affected = with(rt.alloc(), &path_of_both(rt.alloc())?)?;
     assert!(rt; are(&affected, places.as_slice(), images.as_slice()));
     Ok(())
 }

@@ -11,7 +11,7 @@ use Rattle.iocm_types.specs.SubId.{image_cmp}
 use Rattle.iocm_model.specs.Change.Maps.{with_value}
 use Rattle.iocm_model.specs.Machine.Record.{Rec, key_of}
 use Rattle.iocm_affected.specs.Affected.{AreAllAffected}
-use Rattle.iocm_affected.specs.Listing.{led_places}
+use Rattle.iocm_affected.specs.Listing.{led_images, led_places}
 use Rattle.iocm_affected.proofs.Unaffected.{all_affected, none_affected}
 use Rattle.iocm_affected.proofs.changed.affected_by.Goals as goal
 
@@ -32,7 +32,7 @@ returns-clause-all g c =
     (λ p. c.in_ok-places.ensures.same p ∙ c.in_ok-list_led.ensures p ∙ ap (list_any (eq_by_cmp place_cmp p))
     (ap (λ ps. ps ++ led_places c.args.index.now c.args.key.now (option_copied c.get-before.result) (option_copied c.args.after)) c.new-listed.ensures.items
     ∙ ap (λ o. led_places c.args.index.now c.args.key.now o (option_copied c.args.after)) c.get-before.ensures))
-    c.in_ok-images.ensures.images
+    (c.in_ok-images.ensures.images ∙ ap (λ o. led_images c.args.config.now.records c.args.key.now o (option_copied c.args.after)) c.get-before.ensures)
 
 -- a device that keeps its control units and candidates affects nothing
 pub returns-then-are_seen_alike-clause-all : goal.returns-then-are_seen_alike-clause-all

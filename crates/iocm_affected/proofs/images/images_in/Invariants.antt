@@ -1,6 +1,6 @@
--- What is listed, with the images among the entries that are left, are the images of the group.
-use Rattle.iocm_affected.proofs.GroupWalks.{IsLeft}
+-- What is listed, with the images among the entries that are left, are the images of the choice.
+use Rattle.iocm_affected.proofs.ChoiceWalks.{IsLeft}
 use Rattle.iocm_affected.proofs.images.images_in.Given as goal
 
 abbrev pub invariant-loop-key : goal.invariant-loop-key
-invariant-loop-key g l = IsLeft l.group l.config.records l.images.items l.key-iterator
+invariant-loop-key g l = IsLeft (g.C.Choice.chosen l.choice) l.config.records l.images.items l.key-iterator

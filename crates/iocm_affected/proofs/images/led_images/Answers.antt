@@ -1,4 +1,4 @@
-use Rattle.iocm_affected.proofs.GroupWalks.{none_rise}
+use Rattle.iocm_affected.proofs.ChoiceWalks.{none_rise}
 use Rattle.iocm_affected.proofs.images.led_images.Goals as goal
 
 pub returns-in-Id-clause-rise : goal.returns-in-Id-clause-rise

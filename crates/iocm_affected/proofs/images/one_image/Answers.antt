@@ -1,5 +1,5 @@
 use Rattle.std.proofs.Common.{◌++◌, [], ◌∷◌, ap, ◌∙◌}
-use Rattle.iocm_affected.proofs.GroupWalks.{one_rises}
+use Rattle.iocm_affected.proofs.ChoiceWalks.{one_rises}
 use Rattle.iocm_affected.proofs.images.one_image.Goals as goal
 
 pub returns-clause-rise : goal.returns-clause-rise
