@@ -20,14 +20,11 @@ use Rattle.iocm_round_trip.specs.Again.{deck_of}
 use Rattle.iocm_round_trip.proofs.Keys.{is_of_its_deck}
 use Rattle.iocm_seats.proofs.Ordered.{keys_rise, same_members}
 use Rattle.iocm_reports.specs.Deck.{online_by, online_by_lists, online_in, pairs_untold, remark_line}
+use Rattle.iocm_reports.proofs.ListedPairs.{keys_of_records}
+use Rattle.iocm_reports.proofs.Told.{empty_is, in_both}
 use Rattle.iocm_loop_laws.specs.Accepted.{IsAcceptedDeck}
 use Rattle.iocm_loop_laws.specs.Online.{AreOnlineByTheirLists, DeckOfADeckSaysAll}
 use Rattle.iocm_loop_laws.proofs.Accepted.{read_of}
-
--- the keys of records with their keys
-keys_of_records : (records : List Rec) → map (λ (e : Key × Rec). e.0) (with_keys records) ≡ map key_of records
-keys_of_records [] = refl
-keys_of_records (r ∷ records) = ap (λ keys. key_of r ∷ keys) (keys_of_records records)
 
 -- ---- a pair is in the deck of records exactly where their access lists have it
 
@@ -91,21 +88,6 @@ module _ (k : Key) where
   there_of : (records : List Rec) → is_some (get (configuration_of records) k) ≡ is_among records
   there_of records = ap is_some (get-from_entries keys_total (with_keys records) k) ∙ is_some-find key_cmp k (with_keys records)
       ∙ ap (list_any (eq_by_cmp key_cmp k)) (keys_of_records records)
-
--- ---- keys of which nothing differs
-
-in_both : (a b : Option Rec) → is_some a ≡ is_some b → not (option_eq (λ (x y : Rec). true) a b) ≡ false
-in_both None None same = refl
-in_both None (Some y) same = cc
-in_both (Some x) None same = cc
-in_both (Some x) (Some y) same = refl
-
--- a list in which no key is found is empty
-empty_is : (ks : List Key) → ((k : Key) → list_any (eq_by_cmp key_cmp k) ks ≡ false) → ks ≡ []
-empty_is [] none = refl
-empty_is (k ∷ ks) none =
-    let found : list_any (eq_by_cmp key_cmp k) (k ∷ ks) ≡ true = ap (λ b. b || list_any (eq_by_cmp key_cmp k) ks) (ties_itself key_cmp keys_total k) in
-    let off : true ≡ false = sym found ∙ none k in cc
 
 -- ---- in a configuration that is that of its deck
 

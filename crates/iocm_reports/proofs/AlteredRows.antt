@@ -1,20 +1,19 @@
 -- What is seen first where edits altered something is what was seen before all of them.
-use Rattle.std.proofs.Common.{◌≡◌, ℕ, ◌+◌, ◌<◌, Bool, true, false, cond, ◌||◌, List, [], ◌∷◌, ◌++◌, length, get_or, drop, map, Option, Some, None, is_some, T, refl, sym, ap, ◌∙◌}
+use Rattle.std.proofs.Common.{◌≡◌, Bool, true, false, cond, ◌||◌, List, [], ◌∷◌, ◌++◌, map, Option, Some, None, is_some, T, refl, sym, ap, ◌∙◌}
 use Rattle.std.specs.List.{flat_map, list_any}
 use Rattle.std.specs.Map.{keys_of}
 use Rattle.std.specs.Option.{option_or}
 use Rattle.std.specs.Ordering.{eq_by_cmp}
 use Rattle.std.specs.declared.cmp.Ordering.{Ordering}
 use Rattle.std.specs.Cmp.{IsTotalOrder}
-use Rattle.std.specs.FinMap.{FinMap, IsAntisymmetric, find, is_sorted, get, insert, entries, entries_sorted, keys, same_map, get-insert, get-entries, get-from_entries, contains_key-keys}
+use Rattle.std.specs.FinMap.{FinMap, IsAntisymmetric, find, is_sorted, get, entries, entries_sorted, keys, same_map, get-entries, get-from_entries, contains_key-keys}
 use Rattle.std.proofs.lemmas.Bool.{not-false}
 use Rattle.std.proofs.lemmas.List.Folds.{list_any-append}
 use Rattle.iocm_types.specs.declared.sub_id.SubId.{SubId}
 use Rattle.iocm_types.specs.declared.view.View.{View}
 use Rattle.iocm_types.specs.SubId.{sub_id_cmp}
 use Rattle.iocm_types.specs.KeyOrder.{sub_ids_total, sub_ids_exact}
-use Rattle.iocm_types.proofs.Found.{found_first, found_later, same_key}
-use Rattle.iocm_types.proofs.Lists.{drop-item}
+use Rattle.iocm_types.proofs.Found.{found_first, found_later}
 use Rattle.iocm_types.proofs.Parts.{find_append}
 use Rattle.iocm_types.proofs.Tests.{first_holds, second_holds}
 use Rattle.iocm_model.specs.Change.Edit.{Edit, same_view, state_after, altered_between}
@@ -23,14 +22,13 @@ use Rattle.iocm_model.specs.Change.Runs.{cells_written_by_all, state_after_all}
 use Rattle.iocm_model.specs.Operation.State.{State, Views, views_in, seen_in, is_among}
 use Rattle.iocm_model.proofs.Change.SameViews.{sight_is}
 use Rattle.iocm_model.proofs.Maps.Cells.{get_cells_at, in_differing}
-use Rattle.iocm_seats.specs.declared.view_change.ViewChange.{ViewChange}
 use Rattle.iocm_seats.specs.Changes.{view_change, changes_between}
 use Rattle.iocm_seats.proofs.Ordered.{keys_rise, same_members}
 use Rattle.iocm_plant.specs.declared.touched.Touched.{Touched}
 use Rattle.iocm_activate.specs.Done.{AreToldBy}
 use Rattle.iocm_activate.specs.Told.{Told, told_of_all}
 use Rattle.iocm_reports.specs.Altered.{altered_rows}
-use Rattle.iocm_reports.specs.First.{Seen, kept_first, seen_before, seen_first, row_of}
+use Rattle.iocm_reports.specs.First.{Seen, seen_before, seen_first, row_of}
 
 from_cond : {A : Type 0} (b : Bool) (x v : A) → cond b (Some x) None ≡ Some v → v ≡ x
 from_cond true x v h = cc
@@ -125,51 +123,3 @@ rows_are performed first is es s t told =
     ∙ ap (map (row_of t)) (cells_rows sub_ids_total sub_ids_exact (views_in s) xs)
     ∙ rows_made s t (keys (cells_at (views_in s) xs))
     ∙ ap (map (view_change (get (views_in s)) (get (views_in t)))) (same_keys sub_ids_total sub_ids_exact (views_in s) (state_after_all es s).lives xs)
-
--- ---- in the middle of gathering
-
--- one more is kept where nothing stands yet
-kept_by : (m : Seen) (k x : SubId) (v : Option View) (a : Bool) (o : Option (Option View)) → eq_by_cmp sub_id_cmp x k ≡ a → get m k ≡ o
-    → get (cond (is_some o) m (insert m k v)) x ≡ option_or (get m x) (cond a (Some v) None)
-kept_by m k x v true (Some w) tied there = let is : get m x ≡ Some w = ap (get m) (same_key sub_id_cmp sub_ids_exact x k tied) ∙ there in rw is refl
-kept_by m k x v true None tied none = get-insert sub_ids_total m k v x ∙ ap (λ b. cond b (Some v) (get m x)) tied
-    ∙ ap (λ o. option_or o (Some v)) (sym (ap (get m) (same_key sub_id_cmp sub_ids_exact x k tied) ∙ none))
-kept_by m k x v false (Some w) other there = nothing_more (get m x)
-  where
-    nothing_more : (o : Option (Option View)) → o ≡ option_or o None
-    nothing_more None = refl
-    nothing_more (Some y) = refl
-kept_by m k x v false None other none = get-insert sub_ids_total m k v x ∙ ap (λ b. cond b (Some v) (get m x)) other ∙ nothing_more (get m x)
-  where
-    nothing_more : (o : Option (Option View)) → o ≡ option_or o None
-    nothing_more None = refl
-    nothing_more (Some y) = refl
-
-pub first_kept : (m : Seen) (k x : SubId) (v : Option View) → get (kept_first m k v) x ≡ option_or (get m x) (find sub_id_cmp x ((k, v) ∷ []))
-first_kept m k x v = kept_by m k x v (eq_by_cmp sub_id_cmp x k) (get m k) refl refl
-
-or_then : {A : Type 0} (a b c : Option A) → option_or (option_or a b) c ≡ option_or a (option_or b c)
-or_then None b c = refl
-or_then (Some x) b c = refl
-
--- one change more, and those that are left
-pub one_more_seen : (m n : Seen) (changes : List ViewChange) (i : ℕ) (c : ViewChange) → i < length changes → c ≡ get_or changes i c
-    → n ≡ kept_first m c.subchannel c.before → (x : SubId)
-    → option_or (get n x) (find sub_id_cmp x (seen_before (drop (i + 1) changes))) ≡ option_or (get m x) (find sub_id_cmp x (seen_before (drop i changes)))
-one_more_seen m n changes i c within is kept x =
-    let rest = seen_before (drop (i + 1) changes) in
-    ap (λ o. option_or o (find sub_id_cmp x rest)) (ap (λ (z : Seen). get z x) kept ∙ first_kept m c.subchannel x c.before)
-    ∙ or_then (get m x) (find sub_id_cmp x ((c.subchannel, c.before) ∷ [])) (find sub_id_cmp x rest)
-    ∙ ap (option_or (get m x)) (sym (find_append sub_id_cmp x ((c.subchannel, c.before) ∷ []) rest)
-    ∙ ap (λ cs. find sub_id_cmp x (seen_before cs)) (sym (drop-item changes i c within is)))
-
--- one edit more, and those that are left
-pub edit_more_seen : (m n : Seen) (performed : List Touched) (i : ℕ) (t : Touched) → i < length performed → t ≡ get_or performed i t → (x : SubId)
-    → get n x ≡ option_or (get m x) (find sub_id_cmp x (seen_before t.subchannels.items))
-    → option_or (get n x) (find sub_id_cmp x (seen_first (drop (i + 1) performed))) ≡ option_or (get m x) (find sub_id_cmp x (seen_first (drop i performed)))
-edit_more_seen m n performed i t within is x kept =
-    let rest = seen_first (drop (i + 1) performed) in
-    ap (λ o. option_or o (find sub_id_cmp x rest)) kept
-    ∙ or_then (get m x) (find sub_id_cmp x (seen_before t.subchannels.items)) (find sub_id_cmp x rest)
-    ∙ ap (option_or (get m x)) (sym (find_append sub_id_cmp x (seen_before t.subchannels.items) rest)
-    ∙ ap (λ ts. find sub_id_cmp x (seen_first ts)) (sym (drop-item performed i t within is)))

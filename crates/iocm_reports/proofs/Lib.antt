@@ -1,8 +1,9 @@
 mod AlteredRows
 mod ByImage
-mod ListedPairs
+mod FirstRows
+pub mod ListedPairs
 mod Printed
 mod Rows
 mod Summed
-mod Told
+pub mod Told
 mod Worked

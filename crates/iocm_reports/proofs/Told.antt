@@ -18,7 +18,7 @@ use Rattle.iocm_reports.specs.Deck.{online_by_lists, online_in, pairs_untold, re
 use Rattle.iocm_reports.specs.Laws.{DeckSaysAll, OnlyADeckSaysAll}
 
 -- a key is in both of two maps or in none, exactly where the test fails
-in_both : (a b : Option Rec) → is_some a ≡ is_some b → not (option_eq (λ (x y : Rec). true) a b) ≡ false
+pub in_both : (a b : Option Rec) → is_some a ≡ is_some b → not (option_eq (λ (x y : Rec). true) a b) ≡ false
 in_both None None same = refl
 in_both None (Some y) same = cc
 in_both (Some x) None same = cc
@@ -31,7 +31,7 @@ in_both_too (Some x) None same = cc
 in_both_too (Some x) (Some y) same = refl
 
 -- a list in which no key is found is empty
-empty_is : (ks : List Key) → ((k : Key) → list_any (eq_by_cmp key_cmp k) ks ≡ false) → ks ≡ []
+pub empty_is : (ks : List Key) → ((k : Key) → list_any (eq_by_cmp key_cmp k) ks ≡ false) → ks ≡ []
 empty_is [] none = refl
 empty_is (k ∷ ks) none =
     let found : list_any (eq_by_cmp key_cmp k) (k ∷ ks) ≡ true = ap (λ b. b || list_any (eq_by_cmp key_cmp k) ks) (ties_itself key_cmp keys_total k) in

@@ -1,7 +1,7 @@
 -- What is seen first of some changes at each subchannel, as it is gathered in memory.
-use Rattle.std.specs.Prelude.{List, map, Option, if◌then◌else◌}
+use Rattle.std.specs.Prelude.{List, map, Option}
 use Rattle.std.specs.List.{flat_map}
-use Rattle.std.specs.FinMap.{FinMap, contains_key, insert}
+use Rattle.std.specs.FinMap.{FinMap}
 use Rattle.iocm_types.specs.declared.sub_id.SubId.{SubId}
 use Rattle.iocm_types.specs.declared.view.View.{View}
 use Rattle.iocm_types.specs.SubId.{sub_id_cmp}
@@ -12,10 +12,6 @@ use Rattle.iocm_plant.specs.declared.touched.Touched.{Touched}
 -- what was seen before an edit, by subchannel
 abbrev pub Seen : Type 0
 Seen = FinMap sub_id_cmp (Option View)
-
--- this at a subchannel, unless something stands there
-abbrev pub kept_first : Seen → SubId → Option View → Seen
-kept_first m x v = if contains_key m x then m else insert m x v
 
 -- the subchannels of changes, each with what was seen there before
 abbrev pub seen_before : List ViewChange → List (SubId × Option View)

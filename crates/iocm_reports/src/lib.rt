@@ -15,6 +15,7 @@
 mod altered;
 mod counts;
 mod deck;
+mod first;
 mod laws;
 mod lines;
 
