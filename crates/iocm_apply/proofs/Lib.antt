@@ -1,3 +1,4 @@
 pub mod Applying
 pub mod RemarksPut
 pub mod SiftedRows
+pub mod WorkedRows

@@ -24,5 +24,5 @@ mod sifting;
 pub use apply::apply_change;
 pub use back::way_back;
 pub use change::read_change;
-pub use laws::remark_of_a_subchannel_is_as_worked;
+pub use laws::{altered_rows_are_wanted_as_worked, remark_of_a_subchannel_is_as_worked};
 pub use report::{Asked, Report};

@@ -47,7 +47,7 @@ image_at css mif = record { css = css; mif = mif }
 abbrev pub by_images : List ImageWord → Wanted
 by_images words = record nothing { images = words }
 
--- LPB is asked for; what a name is that no image has; image 0.2; two images
+-- LPB is asked for; a name that no image has; image 0.2; two images
 abbrev pub by_lpb : Wanted
 by_lpb = by_images (Named (codes "LPB") ∷ [])
 
