@@ -1,10 +1,11 @@
 -- What clap's clauses say of the command line.
-use Rattle.std.proofs.Common.{Result, Ok, Err, IfOk, IfErr, IsErr, IfSome, IsSome, subst, ◌≡◌, List, [], ◌∷◌, Option, None, Some, is_some, option_map, option_and_then, unwrap_or, map, codes, refl, inl, inr, sym, ap, ◌∙◌, true, false}
+use Rattle.std.specs.Cmp.Lexicographic.{pointwise, same_text}
+use Rattle.std.proofs.Common.{Bool, nat_eq, Result, Ok, Err, IfOk, IfErr, IsErr, IfSome, IsSome, subst, ◌≡◌, List, [], ◌∷◌, Option, None, Some, is_some, option_map, option_and_then, unwrap_or, map, codes, refl, inl, inr, sym, ap, ◌∙◌, true, false}
 use Rattle.std.specs.Prelude.{Box}
 use Rattle.std.specs.Result.{IsErrAnd}
 use Rattle.std.specs.Borrow.{Bor}
 use Rattle.std.specs.Box.{box_value}
-use Rattle.clap.specs.Words.{App, HasKind, HasMatchesOf, Kinds, Row, Text, fault_of, kind_of, first_value, matched_of, raw_values, rows_of, subcommand_of, subcommand_rows, subcommand_rows_of, subcommand_name_of, is_simple, is_simple_and_free}
+use Rattle.clap.specs.Words.{App, HasKind, HasMatchesOf, Kinds, Row, Text, fault_of, first_of, kind_of, first_value, matched_of, raw_values, rows_of, subcommand_of, subcommand_rows, subcommand_rows_of, subcommand_name_of, is_simple, is_simple_and_free}
 use Rattle.clap.specs.declared.parser.matches.ArgMatches.{ArgMatches}
 use Rattle.clap.specs.declared.parser.matches.ArgMatches.TheViews.{out-ArgMatches, out-SubCommand}
 use Rattle.clap.specs.declared.parser.matches.SubCommand.{SubCommand}
@@ -14,7 +15,7 @@ use Rattle.clap.specs.Kinds.{or_else}
 use Rattle.clap.specs.declared.error.Error.{Error}
 use Rattle.clap.specs.declared.error.kind.ErrorKind.TheVariants.{ArgumentConflict, ValueValidation}
 use Rattle.clap.proofs.OnLiterals.{clap_on_literals}
-use Rattle.iocm.specs.CommandLine.{argument_of, arguments_of, mistakes, mistakes_or_others, HasArguments, HasCommand, StatesArguments, StatesCommand}
+use Rattle.iocm.specs.CommandLine.{argument_of, arguments_of, quiet_of, mistakes, mistakes_or_others, HasQuiet, HasArguments, HasCommand, StatesArguments, StatesCommand}
 use Rattle.iocm.specs.Program.{iocm_app}
 use Rattle.iocm.specs.declared.command.Command.{Command}
 
@@ -70,6 +71,20 @@ pub arguments_are : (m : ArgMatches) (f : Found) (name id : Text) (values : Opti
     → arguments_of id (subcommand_rows_of m) ≡ Some (name, unwrap_or values [])
 arguments_are m f name id values named rows found = ap (arguments_of id) (used (out-ArgMatches m).subcommand name (rows_of f) named rows)
     ∙ ap (λ (o : Option (List Text)). Some (name, unwrap_or o [])) (sym (found ∙ raw_values-rows f id))
+
+-- what was found under the flag that keeps standard error still is what clap makes of it
+pub quiet_found : (o : Option (Text × List Row)) (f : Found) → Some (rows_of f) ≡ option_map (λ (p : Text × List Row). p.1) o
+    → quiet_of o ≡ first_value f (codes "quiet")
+quiet_found None f rows = cc
+quiet_found (Some p) f rows = let same : rows_of f ≡ p.1 = cc in ap (first_of (codes "quiet")) (sym same) ∙ sym (first_value-rows f (codes "quiet"))
+
+-- a value that is compared with that of a flag that is given tells whether it is given
+pub quiet_by : (o : Option (Text × List Row)) (value : Text) (b : Bool) → quiet_of o ≡ Some value → b ≡ pointwise nat_eq value (codes "true") → HasQuiet o b
+quiet_by o value true is same = is ∙ ap Some (same_text value (codes "true") same)
+quiet_by o value false is same = λ given.
+    let found : Some value ≡ Some (codes "true") = sym is ∙ given in
+    let it : value ≡ codes "true" = cc in
+    let wrong : false ≡ true = same ∙ ap (λ v. pointwise nat_eq v (codes "true")) it in cc
 
 -- the texts of a list that was read, or none, are its texts, or none
 pub texts_or_none : (read : Option (Bor (List (Bor Text)))) (none : Bor (List (Bor Text))) → none.now ≡ []

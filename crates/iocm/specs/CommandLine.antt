@@ -1,6 +1,6 @@
 -- What a command line means, as `clap` reads it.
 use Rattle.std.specs.Prelude.{◌≡◌, ◌==◌, ◌⊎◌, ℕ, Bool, true, false, List, [], ◌∷◌, ◌++◌, Option, Some, None, codes}
-use Rattle.std.specs.Prelude.{option_map, unwrap_or, ⊤}
+use Rattle.std.specs.Prelude.{option_map, option_and_then, unwrap_or, if◌then◌else◌, ⊤}
 use Rattle.std.specs.List.{All}
 use Rattle.std.specs.Option.{option_map_or}
 use Rattle.std.specs.Str.Parse.{digits_value, without_leading_plus}
@@ -63,6 +63,11 @@ abbrev pub change_deck_of : Request → Option Text
 change_deck_of (Apply deck change heap report filters) = Some change.now
 change_deck_of _ = None
 
+-- the deck of a request that asks for all that is wrong with it
+abbrev pub all_asked_of : Request → Option Text
+all_asked_of (Check deck all) = if all then Some deck.now else None
+all_asked_of _ = None
+
 -- a text that gives the size of a heap: a decimal number of 16 to 16777216
 abbrev pub IsSizeText : Text → Type 0
 IsSizeText text = IsUnsignedIn 16 16777216 text
@@ -79,6 +84,19 @@ flag_text true = codes "true"
 -- a flag of a command is given or not
 abbrev pub HasFlag : Option (Text × List Row) → Text → Text → Bool → Type 0
 HasFlag named name id given = argument_of id named ≡ Some (name, Some (flag_text given))
+
+-- what clap makes of the flag that keeps standard error still, of the command that is named
+abbrev pub quiet_of : Option (Text × List Row) → Option Text
+quiet_of named = option_and_then (λ p. first_of (codes "quiet") p.1) named
+
+-- it is given or not
+abbrev pub HasQuiet : Option (Text × List Row) → Bool → Type 0
+HasQuiet named true = quiet_of named ≡ Some (codes "true")
+HasQuiet named false = quiet_of named ≡ Some (codes "true") → ⊥
+
+-- the words ask for it or not
+abbrev pub AsksQuiet : List Text → Bool → Type 0
+AsksQuiet words quiet = HasQuiet (subcommand_of iocm_app words) quiet
 
 -- which flag asks for a report: for the table none does
 abbrev pub asks_back : Report → Bool

@@ -1,6 +1,7 @@
 ghost use Rattle.std.specs.Prelude.{◌≡◌, [], List, Some, IfOk, IfErr, map, option_map};
 ghost use Rattle.clap.specs.Words.{HasKind, kind_of};
-ghost use Rattle.iocm.specs.CommandLine.{change_deck_of, request_words, mistakes, mistakes_or_others};
+ghost use Rattle.iocm.specs.CommandLine.{all_asked_of, change_deck_of, request_words, AsksQuiet};
+ghost use Rattle.iocm.specs.CommandLine.{mistakes, mistakes_or_others};
 ghost use Rattle.iocm.specs.CommandLine.{IsAsNamed, NamesApply, NamesDeck, NamesRun};
 ghost use Rattle.iocm.specs.CommandLine.{StatesApply, StatesArguments, StatesCommand, StatesDeck, StatesOther, StatesRun};
 
@@ -103,7 +104,9 @@ impl<'a> Request<'a> {
     }
 
     /// The name of the deck's file, where all that is wrong with the deck is asked for.
-    pub fn asks_all(&self) -> Option<&'a str> {
+    pub fn asks_all(&self) -> Option<&'a str>
+        ensures { option_map (λ deck. deck.now) result ≡ all_asked_of self.now }
+    {
         match self {
             Request::Check { deck, all } => { if *all { Some(deck) } else { None } }
             Request::Show { .. } | Request::Write { .. } | Request::Apply { .. } => None,
@@ -135,6 +138,7 @@ pub fn command_of<'a, S: AsStr>(alloc: Global, words: &'a [S]) -> Result<Underst
     ensures command { IfOk result (λ u. StatesCommand (map S.text words.entry.now) u.command) }
     ensures arguments { IfOk result (λ u. StatesArguments (map S.text words.entry.now) u.command) }
     ensures as_named { IfOk result (λ u. IsAsNamed (map S.text words.entry.now) u.command) }
+    ensures quiet { IfOk result (λ u. AsksQuiet (map S.text words.entry.now) u.quiet) }
     ensures accepted { IfOk result (λ _. mistakes (map S.text words.entry.now) ≡ []) }
     ensures understood { IfErr result
         (λ e. StatesDeck (map S.text words.entry.now) → kind_of e ≡ ErrorKind.OutOfMemory) }

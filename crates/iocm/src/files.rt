@@ -16,7 +16,7 @@ pub fn is_input(name: &str) -> bool {
     name == "-"
 }
 
-/// How many files of a command are standard input. The change decks of `run` are files.
+/// How many files of a command are standard input.
 pub fn count_inputs(command: &Command<'_>) -> usize {
     match command {
         Command::Answer(request) => {
@@ -25,8 +25,14 @@ pub fn count_inputs(command: &Command<'_>) -> usize {
         }
         Command::Diff { old, new, .. } => usize::from(is_input(*old)) + usize::from(is_input(*new)),
         Command::Explain { .. } => 0,
-        Command::Run { deck, script, .. } => {
-            usize::from(is_input(*deck)) + usize::from(is_input(*script))
+        Command::Run {
+            deck,
+            script,
+            changes,
+            ..
+        } => {
+            let changes = changes.iter().filter(|name| is_input(*name)).count();
+            usize::from(is_input(*deck)) + usize::from(is_input(*script)) + changes
         }
     }
 }
@@ -60,21 +66,22 @@ pub fn open<'a, R: Files>(
     }
 }
 
-/// The files of these names, opened in their order; `None` where memory is missing for them.
-pub fn open_all<R: Files + AllocGlobal>(
+/// The texts of these names, opened in their order; `None` where memory is missing for them.
+///
+/// L5 (`ConsoleError::Read`): a file can't be opened.
+pub fn open_all<'a, R: Files + AllocGlobal>(
     rt: &R,
     names: &[&str],
-) -> Result<Option<VecDeque<Device<R::File>>>, ConsoleError>
+    input: &'a [u8],
+) -> Result<Option<VecDeque<Device<Source<'a, R::File>>>>, ConsoleError>
     ensures open { IfOk result (λ found. IfSome found (λ devices. All (λ d. IsOpen d) devices.items)) }
     ensures room { IfOk result (λ found. IfSome found (λ devices.
         All (λ d. reads_of d + 1048576 < 2 ^ 64) devices.items)) }
 {
     let mut devices = VecDeque::new(rt.alloc());
     for name in names {
-        let Ok(file) = fs::open(rt, *name) else {
-            return Err(ConsoleError::Read);
-        };
-        if devices.push_back(Device::new(file)).is_err() {
+        let source = open(rt, *name, input)?;
+        if devices.push_back(Device::new(source)).is_err() {
             return Ok(None);
         }
     }

@@ -39,7 +39,7 @@ use iocm_diff::diff_decks;
 use iocm_explain::explain;
 use iocm_run::run_script;
 use iocm_types::Fault;
-use remarks::{remark_on, remark_on_edits, remark_on_others, remark_on_unread};
+use remarks::{remark_on, remark_on_edits, remark_on_input, remark_on_others, remark_on_unread};
 use source::Source;
 use std::alloc::AllocError;
 use std::io::{BufWriter, Write};
@@ -105,7 +105,7 @@ fn perform<R: Files + Input + Print + Eprint + AllocGlobal + Threads + Wait + Sy
         1 => match read_input(rt) {
             Ok(Some(bytes)) => bytes,
             Ok(None) => return refuse_memory(rt),
-            Err(fault) => return Err(fault),
+            Err(_) => return Ok(say_input_unread(rt, understood.quiet)),
         },
         _ => return explain_usage(rt, ONE_INPUT),
     };
@@ -125,6 +125,15 @@ fn perform<R: Files + Input + Print + Eprint + AllocGlobal + Threads + Wait + Sy
         }
         Err(fault) => Err(fault),
     }
+}
+
+/// Says that standard input can't be read.
+fn say_input_unread<R: Eprint>(rt: &R, quiet: bool) -> ExitCode {
+    let _ = eprintln!(rt; "{}", ConsoleError::Read);
+    if !quiet {
+        remark_on_input(rt);
+    }
+    ExitCode::from(FAULT)
 }
 
 /// Says on standard error what there is to say beside what a command printed.
@@ -262,7 +271,7 @@ fn run_files<R: Files + Print + AllocGlobal + Threads + Wait + Sync>(
 ) -> Result<Outcome, ConsoleError> {
     let deck = open(rt, deck, input)?;
     let script = open(rt, script, input)?;
-    let Some(changes) = open_all(rt, changes)? else {
+    let Some(changes) = open_all(rt, changes, input)? else {
         return Ok(without_refusal(refuse_memory(rt)?));
     };
     let Ok(writer) = BufWriter::new(rt.alloc(), io::writer(rt)) else {

@@ -1,4 +1,5 @@
-ghost use Rattle.std.specs.Prelude.{◌≡◌, Bool, List, Option, Some, IsSome, IfOk, IfSome, codes};
+ghost use Rattle.std.specs.Prelude.{◌≡◌, Bool, List, Option, Some, IsSome, IfOk, IfSome, codes, nat_eq};
+ghost use Rattle.std.specs.Cmp.Lexicographic.{pointwise};
 ghost use Rattle.clap.specs.Walk.{texts};
 ghost use Rattle.clap.specs.Words.{Text, subcommand_rows_of};
 ghost use Rattle.iocm_apply.specs.declared.report.Report as report;
@@ -6,8 +7,8 @@ ghost use Rattle.iocm_filter.specs.Wanted.{Wanted};
 ghost use Rattle.iocm_statements.specs.Unread.{Reads};
 ghost use Rattle.iocm.specs.CommandLine.{argument_of, arguments_of, name_of};
 ghost use Rattle.iocm.specs.CommandLine.{asks_altered, asks_back, asks_count, asks_deck, asks_test};
-ghost use Rattle.iocm.specs.CommandLine.{AsksFor, AsksReport, GivesSize, HasArguments, HasChange, HasCommand, HasFlag};
-ghost use Rattle.iocm.specs.CommandLine.{HasRequest, IsApply, IsApplyOf, IsDiff, IsExplain, IsOnDeck, IsRun, IsSizeText};
+ghost use Rattle.iocm.specs.CommandLine.{AsksFor, AsksReport, GivesSize, HasArguments, HasChange};
+ghost use Rattle.iocm.specs.CommandLine.{HasCommand, HasFlag, HasQuiet, HasRequest, IsApply, IsApplyOf, IsDiff, IsExplain, IsOnDeck, IsRun, IsSizeText};
 
 use crate::command::{Command, Request};
 use crate::program::{LARGEST_HEAP, LEAST_HEAP};
@@ -84,14 +85,23 @@ fn flag_in(matches: &ArgMatches<'_>, name: &str, argument: &str) -> Option<bool>
 }
 
 /// Whether `--quiet` is given to the command that the words name.
-pub fn is_quiet(matches: &ArgMatches<'_>) -> bool {
+pub fn is_quiet(matches: &ArgMatches<'_>) -> bool
+    ensures { HasQuiet (subcommand_rows_of matches.now) result }
+{
     let Some((_, found)) = matches.subcommand() else {
         return false;
     };
     match found.get_str("quiet") {
-        Some("true") => true,
-        _ => false,
+        Some(value) => is_true(value),
+        None => false,
     }
+}
+
+/// Whether a value is that of a flag that is given.
+fn is_true(value: &str) -> bool
+    ensures { result ≡ pointwise nat_eq value.now (codes "true") }
+{
+    value == "true"
 }
 
 /// The report that flags ask for, of which one is given at the most.

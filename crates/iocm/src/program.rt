@@ -262,7 +262,8 @@ fn run_command<'a>(alloc: Global) -> Result<clap::Command<'a>, AllocError>
          and the table afterwards";
     let script_help = "A script: the file of its lines, or - for standard input";
     let script = file(alloc, "SCRIPT", script_help);
-    let help = "A change deck, which the script names by its place: the first is 1";
+    let help = "A change deck, which the script names by its place, from 1: its file, or - for \
+                standard input";
     let changes = changes(alloc, "CHANGE", help);
     let heap_help = "The heap that each change tree is read in: 16 to 16777216 bytes";
     deck_command(alloc, "run", about)?

@@ -109,7 +109,7 @@ pub fn remark_on_others<R: Files + Eprint + AllocGlobal>(
     input: &[u8],
     told: &Told,
 ) {
-    let Some(name) = all_asked_of(command) else {
+    let Some(name) = deck_asked_of(command) else {
         return;
     };
     if let Told::Fault(first) = told {
@@ -120,7 +120,7 @@ pub fn remark_on_others<R: Files + Eprint + AllocGlobal>(
 }
 
 /// The deck of which all faults and breaches are asked for.
-fn all_asked_of<'a>(command: &Command<'a>) -> Option<&'a str> {
+fn deck_asked_of<'a>(command: &Command<'a>) -> Option<&'a str> {
     match command {
         Command::Answer(request) => request.asks_all(),
         Command::Diff { .. } | Command::Explain { .. } | Command::Run { .. } => None,
@@ -262,6 +262,11 @@ pub fn remark_on_unread<R: Files + Eprint + AllocGlobal>(
     if let Some(name) = unread {
         say(rt, Some(name), Origin::Whole, &UNREAD, None);
     }
+}
+
+/// Says that it is standard input that can't be read to its end.
+pub fn remark_on_input<R: Eprint>(rt: &R) {
+    say(rt, Some(INPUT), Origin::Whole, &UNREAD, None);
 }
 
 /// The first of these files that can't be read to its end.

@@ -82,12 +82,13 @@ pub const L5_TITLE: &str = "a file can't be read";
 pub const L5_TEXT: &str =
     "Explanation. The program printed fault L5 on standard error. A file of the command line
 couldn't be opened: it isn't there, or may not be read. Or a read failed, as it does of a folder. Or
-the file didn't end within 1,048,576 reads. The next line on standard error names the file.
+the file didn't end within 1,048,576 reads. Without --quiet the next line on standard error names
+the file, or standard input.
 
 System action. Nothing was printed on standard output, and the exit status is 3.
 
 Response. Look at the file's name: its spelling, its permissions, and whether it is a folder.
-ls -l with the same name shows all three.";
+ls -l with the same name shows all three. For standard input, look at what is redirected into it.";
 
 pub const L6_TITLE: &str = "the output can't be written";
 

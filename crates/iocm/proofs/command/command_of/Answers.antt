@@ -1,7 +1,7 @@
 use Rattle.std.proofs.Common.{◌≡◌, ◌∷◌, [], List, inl, inr, map, subst, sym}
 use Rattle.clap.specs.Words.{Text, HasKind, app_of, kind_of}
 use Rattle.clap.specs.declared.error.kind.ErrorKind.TheVariants.{ArgumentConflict, OutOfMemory, ValueValidation}
-use Rattle.iocm.specs.CommandLine.{mistakes, mistakes_or_others, IsApply, IsDiff, IsExplain, IsOnDeck, IsRun, NamesApply, NamesDeck, NamesRun, StatesApply, StatesDeck, StatesOther, StatesRun}
+use Rattle.iocm.specs.CommandLine.{mistakes, mistakes_or_others, HasQuiet, IsApply, IsDiff, IsExplain, IsOnDeck, IsRun, NamesApply, NamesDeck, NamesRun, StatesApply, StatesDeck, StatesOther, StatesRun}
 use Rattle.iocm.proofs.Plain.{only_memory, states_deck}
 use Rattle.iocm.proofs.PlainApply.{states_apply}
 use Rattle.iocm.proofs.PlainRun.{as_named, states_run}
@@ -79,6 +79,12 @@ returns-in-Some-clause-arguments g c =
     let words : List Text = map g.S.AsStr.text c.args.words.now in
     let entered = is_entered (app_of c.in_ok-iocm.iocm) words c.in_ok-matches.matches c.in_ok-iocm.ensures c.in_ok-matches.ensures.ok.2 in
     has_stated words c.in_ok-matches.matches c.in_ok-command.field-0 c.in-Some.command entered c.in-Some.is c.in_ok-command.ensures.arguments
+
+pub returns-in-Some-clause-quiet : goal.returns-in-Some-clause-quiet
+returns-in-Some-clause-quiet g c =
+    let words : List Text = map g.S.AsStr.text c.args.words.now in
+    let entered = is_entered (app_of c.in_ok-iocm.iocm) words c.in_ok-matches.matches c.in_ok-iocm.ensures c.in_ok-matches.ensures.ok.2 in
+    subst (λ named. HasQuiet named c.is_quiet-quiet.result) entered c.is_quiet-quiet.ensures
 
 pub returns-in-Some-clause-as_named : goal.returns-in-Some-clause-as_named
 returns-in-Some-clause-as_named g c =
