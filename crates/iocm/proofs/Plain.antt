@@ -79,7 +79,7 @@ each_states program name b bs h (inr (inr write)) = subst (λ (n : Text). States
 pub states_deck : (words : List Text) → NamesDeck words → StatesDeck words
 states_deck words s = subst StatesDeck (sym s.5) (each_states s.0 s.1 s.2 s.3 s.6 s.4)
 
--- an error where there is no mistake is want of memory
+-- an error where there is no mistake is lack of memory
 pub only_memory : (words : List Text) (e : Error) → mistakes words ≡ [] → HasKind (mistakes words) e → kind_of e ≡ OutOfMemory
 only_memory words e none h = go (subst (λ kinds. HasKind kinds e) none h)
   where

@@ -59,7 +59,7 @@ pub fn activate<A: Allocator>(
 
 /// Tells of a change that was performed.
 ///
-/// M1: memory was wanted; the change is taken back.
+/// M1: memory ran out; the change is taken back.
 fn finish(alloc: Global, plant: &mut Plant, log: Log) -> Result<Done, Refused>
     requires back { CanTakeBack log.done.items plant.old }
     ensures inverse { IfOk result (λ d. tree_of d.inverse ≡ row (leaves_from (way_back log.done.items))) }

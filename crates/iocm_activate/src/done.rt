@@ -50,7 +50,7 @@ pub fn prepare(alloc: Global, plant: &Plant, log: &Log) -> Result<Prepared, Allo
     })
 }
 
-/// What is told of a change. Can't answer want of memory.
+/// What is told of a change. Can't run out of memory.
 pub fn tell(prepared: Prepared, done: Vec<Applied>) -> Done
     requires parts { prepared.parts.items ≡ [] }
     requires performed { prepared.performed.items ≡ [] }
@@ -80,7 +80,7 @@ pub fn tell(prepared: Prepared, done: Vec<Applied>) -> Done
 }
 
 /// The tree that takes edits back: one Row of their inverses, that of the last one first. There is
-/// room for the parts. Can't answer want of memory.
+/// room for the parts. Can't run out of memory.
 pub fn way_back_of(parts: Vec<Tree>, done: Vec<Applied>) -> Tree
     requires parts { parts.items ≡ [] }
     requires room { length done.items ≤ vec_capacity parts }

@@ -25,7 +25,7 @@ use std::alloc::{AllocError, Allocator, Global};
 /// each number cell and each view from what it was after the edit to what it was before; and
 /// whether the rules are kept at the end. The state stays as it is.
 ///
-/// `AllocError` (M1): memory was wanted.
+/// `AllocError` (M1): memory ran out.
 pub fn fits<A: Allocator>(
     alloc: Global,
     plant: &mut Plant,
@@ -55,7 +55,7 @@ pub fn fits<A: Allocator>(
 /// Whether these parts take back what was performed, and the rules are kept at the end. What was
 /// done until then is still done.
 ///
-/// `AllocError` (M1): memory was wanted.
+/// `AllocError` (M1): memory ran out.
 fn try_back<A: Allocator>(
     alloc: Global,
     plant: &mut Plant,
@@ -80,7 +80,7 @@ fn try_back<A: Allocator>(
 /// answer is whether they do; it stops at the first that doesn't. What was done until then is still
 /// done.
 ///
-/// `AllocError` (M1): memory was wanted.
+/// `AllocError` (M1): memory ran out.
 fn all_go_back<A: Allocator>(
     alloc: Global,
     plant: &mut Plant,
@@ -117,7 +117,7 @@ fn all_go_back<A: Allocator>(
 /// Performs an edit that is to take back what another one did. The answer is whether it does; where
 /// it is refused, it doesn't.
 ///
-/// `AllocError` (M1): memory was wanted.
+/// `AllocError` (M1): memory ran out.
 fn goes_back<A: Allocator>(
     alloc: Global,
     plant: &mut Plant,

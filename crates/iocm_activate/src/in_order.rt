@@ -11,7 +11,7 @@ use std::alloc::{AllocError, Global};
 /// Subchannels in order, each once. Where they are so already, as those of one edit are, nothing is
 /// sorted.
 ///
-/// `AllocError` (M1): memory was wanted.
+/// `AllocError` (M1): memory ran out.
 pub fn each_once(listed: Vec<SubId>) -> Result<Vec<SubId>, AllocError>
     ensures order { IfOk result (λ once. IsStrictlySortedBy sub_id_cmp once.items) }
     ensures same { IfOk result (λ once. (x : subchannels.SubId)

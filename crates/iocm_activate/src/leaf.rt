@@ -13,7 +13,7 @@ use std::alloc::{AllocError, Allocator, Global};
 
 /// Performs the edit of a leaf. The answer is why it is refused, if it is.
 ///
-/// `AllocError` (M1): memory was wanted.
+/// `AllocError` (M1): memory ran out.
 pub fn perform<A: Allocator>(
     alloc: Global,
     plant: &mut Plant,
@@ -44,7 +44,7 @@ pub fn perform<A: Allocator>(
 
 /// The refusal of an edit, with its node.
 ///
-/// `AllocError` (M1): it was refused because memory was wanted.
+/// `AllocError` (M1): it was refused because memory ran out.
 fn unless_no_memory(why: Refused, node: u64) -> Result<Refused, AllocError>
     ensures { IfOk result (λ named. (due : Option refused.Refused) → IsDue due why → (due ≡ Some why)
         × (named ≡ at_node node why)) }
@@ -53,9 +53,9 @@ fn unless_no_memory(why: Refused, node: u64) -> Result<Refused, AllocError>
     Ok(why.at_node(node))
 }
 
-/// That an edit is refused for another reason than want of memory.
+/// That an edit is refused for another reason than lack of memory.
 ///
-/// `AllocError` (M1): memory was wanted.
+/// `AllocError` (M1): memory ran out.
 pub fn unless_memory_wanted(why: &Refused) -> Result<(), AllocError>
     ensures { OnOk result ((due : Option refused.Refused) → IsDue due why.now → due ≡ Some why.now) }
 {

@@ -25,7 +25,7 @@ pub struct Mark {
 }
 
 impl Log {
-    /// A log that tells of no edit. Can't answer want of memory.
+    /// A log that tells of no edit. Can't run out of memory.
     pub fn new(alloc: Global) -> Log
         ensures done { result.done.items ≡ [] }
         ensures keys { result.keys.items ≡ [] }
@@ -63,7 +63,7 @@ impl Log {
         self.keys.reserve(1)
     }
 
-    /// Tells of one more edit, for which there is room. Can't answer want of memory.
+    /// Tells of one more edit, for which there is room. Can't run out of memory.
     pub fn note(&mut self, key: Key, applied: Applied)
         requires room { vec_len self.old.done < vec_capacity self.old.done }
         requires key_room { vec_len self.old.keys < vec_capacity self.old.keys }

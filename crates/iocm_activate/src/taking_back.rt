@@ -5,8 +5,8 @@ ghost use Rattle.iocm_activate.specs.Told.{CanTakeBack, LeadsTo, way_back};
 use crate::log::{Log, Mark};
 use iocm_plant::{Applied, Plant};
 
-/// Takes the edits back that were performed since a mark was made, the last one first. Can't answer
-/// want of memory.
+/// Takes the edits back that were performed since a mark was made, the last one first. Can't run
+/// out of memory.
 pub fn take_back(plant: &mut Plant, log: &mut Log, mark: Mark)
     requires { CanTakeBack (drop mark.done log.old.done.items) plant.old }
     ensures state { (s : State) → LeadsTo (way_back (drop mark.done log.old.done.items)) s plant.old
@@ -27,7 +27,7 @@ pub fn take_back(plant: &mut Plant, log: &mut Log, mark: Mark)
     log.kept = mark.kept;
 }
 
-/// Takes all edits back that a log tells of. Can't answer want of memory.
+/// Takes all edits back that a log tells of. Can't run out of memory.
 pub fn take_all_back(plant: &mut Plant, log: Log)
     requires back { CanTakeBack log.done.items plant.old }
     ensures undone { (s : State) → LeadsTo (way_back log.done.items) s plant.old → plant.new.state ≡ s }

@@ -17,7 +17,7 @@ use std::alloc::{AllocError, Allocator, Global};
 /// Performs a tree whose first node has this number. The answer is why it is refused, if it is;
 /// what was done until then is still done.
 ///
-/// `AllocError` (M1): memory was wanted; what was done until then is still done.
+/// `AllocError` (M1): memory ran out; what was done until then is still done.
 #[cycle(walk)]
 pub fn walk<A: Allocator>(
     alloc: Global,
@@ -43,7 +43,7 @@ pub fn walk<A: Allocator>(
 
 /// Performs a tree, after which the rules are to be kept.
 ///
-/// `AllocError` (M1): memory was wanted; what was done until then is still done.
+/// `AllocError` (M1): memory ran out; what was done until then is still done.
 #[cycle(walk)]
 pub fn walk_closed<A: Allocator>(
     alloc: Global,
@@ -69,7 +69,7 @@ pub fn walk_closed<A: Allocator>(
 
 /// Performs the parts of a Group in order, after which the rules are to be kept.
 ///
-/// `AllocError` (M1): memory was wanted; what was done until then is still done.
+/// `AllocError` (M1): memory ran out; what was done until then is still done.
 #[cycle(walk)]
 fn walk_group<A: Allocator>(
     alloc: Global,
@@ -96,7 +96,7 @@ fn walk_group<A: Allocator>(
 
 /// Performs parts in order, the first of which has this number; the first refusal is the answer.
 ///
-/// `AllocError` (M1): memory was wanted; what was done until then is still done.
+/// `AllocError` (M1): memory ran out; what was done until then is still done.
 #[cycle(walk)]
 fn walk_all<A: Allocator>(
     alloc: Global,
@@ -130,7 +130,7 @@ fn walk_all<A: Allocator>(
 /// one that is refused is taken back. The answer is the last refusal, where all are refused; E3,
 /// where there are none.
 ///
-/// `AllocError` (M1): memory was wanted; what was done until then is still done.
+/// `AllocError` (M1): memory ran out; what was done until then is still done.
 #[cycle(walk)]
 fn walk_first<A: Allocator>(
     alloc: Global,

@@ -21,7 +21,7 @@ use std::alloc::{Allocator, Global};
 /// none. The answer is the log of what was done.
 ///
 /// Refused by C1 or C2, if the tree is over a limit; else by the first refusal that the tree means.
-/// M1, which may stand in place of any other: memory was wanted. A refused tree leaves the state as
+/// M1, which may stand in place of any other: memory ran out. A refused tree leaves the state as
 /// it was.
 pub fn walk_whole<A: Allocator>(
     alloc: Global,
@@ -47,7 +47,7 @@ pub fn walk_whole<A: Allocator>(
     }
 }
 
-/// Takes back what was done, for this reason. Can't answer want of memory.
+/// Takes back what was done, for this reason. Can't run out of memory.
 pub fn leave(plant: &mut Plant, log: Log, why: Refused) -> Refused
     requires back { CanTakeBack log.done.items plant.old }
     ensures why { result ≡ why }

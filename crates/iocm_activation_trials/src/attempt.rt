@@ -101,7 +101,7 @@ pub fn back_and_there(
     Ok(())
 }
 
-/// Whether a change fits a machine, where memory was wanted before.
+/// Whether a change fits a machine, where memory ran out before.
 fn fits_anew(
     alloc: Global,
     plant: &mut Plant,

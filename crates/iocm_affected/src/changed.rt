@@ -32,7 +32,7 @@ pub struct Affected<A: Allocator = Global> {
 /// that lead to the key, and of a walk over the images; a device of which several paths lead there
 /// counts as often. A device that keeps its control units and its candidates affects nothing.
 ///
-/// `AllocError` (M1): memory was wanted.
+/// `AllocError` (M1): memory ran out.
 pub fn affected_by<A: Allocator, B: Allocator, C: Allocator + Clone>(
     alloc: C,
     config: &Config<A>,

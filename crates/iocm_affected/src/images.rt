@@ -19,7 +19,7 @@ const MOST_IMAGES: usize = 90;
 /// before or afterwards, but not both; at what is said to be online to its name there; and at all
 /// units and devices. The time is that of one search, and of a walk over the images, 90 at the most.
 ///
-/// `AllocError` (M1): memory was wanted.
+/// `AllocError` (M1): memory ran out.
 pub(crate) fn led_images<A: Allocator, B: Allocator>(
     alloc: B,
     config: &Config<A>,

@@ -13,7 +13,7 @@ use std::alloc::{AllocError, Allocator};
 /// that are listed. The time is in proportion to the number of places that are found, a device once
 /// for each unit of it that leads there.
 ///
-/// `AllocError` (M1): memory was wanted.
+/// `AllocError` (M1): memory ran out.
 pub(crate) fn list_led<A: Allocator, B: Allocator, C: Allocator + Clone>(
     alloc: C,
     listed: &mut Vec<Place, C>,

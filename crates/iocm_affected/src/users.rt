@@ -9,7 +9,7 @@ use std::alloc::{AllocError, Allocator};
 /// The users of the paths of a channel subsystem that name an image, each once. Units are among
 /// them. The time is that of sorting them, a unit once for each path of it that names the image.
 ///
-/// `AllocError` (M1): memory was wanted.
+/// `AllocError` (M1): memory ran out.
 pub(crate) fn users_of_name<B: Allocator, C: Allocator>(
     alloc: C,
     index: &Index<B>,

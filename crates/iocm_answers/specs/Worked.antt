@@ -110,7 +110,7 @@ refused_in node rule at = Refused (record { rule = rule; node = Some node; at = 
 abbrev pub refused : Rule → At → Answer
 refused rule at = Refused (record { rule = rule; node = None; at = at })
 
--- refusals about a record, a subchannel, a change or nothing; and want of memory
+-- refusals about a record, a subchannel, a change or nothing; and lack of memory
 pub record Refusals : Type 0 where
   pub busy : IsPrinted 4 (refused_in 0 B1 (Subchannel near_one)) (codes "4 refused B1 node 0 subchannel 0.1.0.0003")
   pub not_there : IsPrinted 2 (refused_in 2 E2 (Key (Device 0 0x2000))) (codes "2 refused E2 node 2 device 0.2000")

@@ -31,7 +31,7 @@ impl fmt::Display for AnswerLine {
 }
 
 /// Prints the answer to a line of a script, on a line of its own: that line's number comes first,
-/// in decimal. Can't answer want of memory.
+/// in decimal. Can't run out of memory.
 pub fn write_answer<W: Write + Drop>(
     line: usize,
     answer: &Answer,

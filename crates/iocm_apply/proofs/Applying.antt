@@ -74,7 +74,7 @@ module _ {W : Type 0} (contents : W → Option (List ℕ)) (old new : Output W) 
   says_then mid (Ok status) text what first says = (appends_then _ _ _ text what.text first says.0, says.1)
   says_then mid (Err e) text what first says = tt
 
-  -- the refusal that is due, or want of memory
+  -- the refusal that is due, or lack of memory
   pub says_due : (asked : Question) (result : Result Status ConsoleError) (s : State) (o : Outcome) (why : Refused) → IsDue (refusal_in o) why
       → IfOk result (Says contents old new (declined why)) → IfOk result (SaysIfMemory contents old new (made asked s o))
   says_due asked (Err e) s o why due says = tt
@@ -95,7 +95,7 @@ module _ {W : Type 0} (contents : W → Option (List ℕ)) (old new : Output W) 
       refusal_of : Breach → Refused
       refusal_of b = record { rule = b.rule; node = None; at = Rattle.iocm_types.specs.declared.refused.At.TheVariants.Key b.key }
 
-  -- the first fault of a change deck, or want of memory
+  -- the first fault of a change deck, or lack of memory
   pub says_fault : (asked : Question) (result : Result Status ConsoleError) (s : State) (read : Result CarriedTree Fault) (fault : Fault) → Fails fault read
       → IfOk result (Says contents old new (refused fault)) → IfOk result (SaysIfMemory contents old new (tried asked s read))
   says_fault asked (Err e) s read fault fails says = tt

@@ -40,7 +40,7 @@ use std::io::{Read, Write};
 /// L5 (`ConsoleError::Read`): a read failed, or none of `limit` reads gave the end; nothing is
 /// written then, and a deck that is refused is refused before the change deck counts. L6
 /// (`ConsoleError::Write`): a write failed; what is written up to there is not said. All other
-/// faults, want of memory (M1) too, are refusals, which are printed.
+/// faults, lack of memory (M1) too, are refusals, which are printed.
 pub fn apply_change<R: Read, S: Read, W: Write + Drop>(
     alloc: Global,
     heap: usize,

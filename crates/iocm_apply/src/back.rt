@@ -45,7 +45,7 @@ fn put_parts<A: Allocator>(
 /// what comes along with its edits and no statement says: the subchannel numbers that devices had,
 /// and what subchannels remembered. It calls itself as deep as the tree is.
 ///
-/// `AllocError` (M1): memory was wanted.
+/// `AllocError` (M1): memory ran out.
 pub fn way_back<A: Allocator>(alloc: Global, tree: &Tree<A>) -> Result<Vec<u8>, AllocError>
     ensures { IfOk result (λ bytes. bytes.items ≡ meaning.way_back_text (plain_tree (tree_of tree.now))) }
 {

@@ -15,7 +15,7 @@ use std::alloc::Global;
 /// The change tree of the lines of a change deck, or its first fault. It is read in a heap of
 /// `heap` bytes that is let go again, and the answer is a copy.
 ///
-/// M1: memory was wanted, in that heap or beside it.
+/// M1: memory ran out, in that heap or beside it.
 pub fn read_change(alloc: Global, heap: usize, cards: &[Card]) -> Result<Tree, Fault>
     ensures { Gives tree_of result (change_in cards.now) }
 {

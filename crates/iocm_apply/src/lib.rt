@@ -4,7 +4,7 @@
 //! deck, reads the change tree in a heap of a fixed size, copies it out, lets that heap go,
 //! activates the copy and prints to an `Output` what is `Asked`: a `Report`, of all subchannels or of
 //! some; or the one line of its refusal. What is printed and the status are exactly what `applied`
-//! says of the bytes of both decks; only want of memory (`refused M1`) may come instead. The deck's
+//! says of the bytes of both decks; only lack of memory (`refused M1`) may come instead. The deck's
 //! refusals come before those of the change deck.
 //!
 //! Begin with `specs/Apply.antt`, then `apply.rt`, `change.rt` and `printing.rt`; of the way back

@@ -38,7 +38,7 @@ use std::io::Write;
 /// configuration before it, or that of the one afterwards. All memory is taken before the first byte
 /// is written.
 ///
-/// M1, a refusal, which is printed: memory was wanted.
+/// M1, a refusal, which is printed: memory ran out.
 pub fn print_report<W: Write + Drop>(
     alloc: Global,
     report: Report,
@@ -113,8 +113,8 @@ fn print_wanted<W: Write + Drop>(
     }
 }
 
-/// Prints how many subchannels a change altered, and the table at some number cells. Can't answer
-/// want of memory.
+/// Prints how many subchannels a change altered, and the table at some number cells. Can't run
+/// out of memory.
 fn print_lines<W: Write + Drop>(
     altered: usize,
     cells: &TableCells<'_, Global, Global>,
@@ -130,7 +130,7 @@ fn print_lines<W: Write + Drop>(
     write_lines(output, cells)
 }
 
-/// Prints the same of the subchannels that pass a sieve. Can't answer want of memory.
+/// Prints the same of the subchannels that pass a sieve. Can't run out of memory.
 fn print_sifted<W: Write + Drop>(
     altered: usize,
     sieve: &Sieve<'_>,
@@ -150,7 +150,7 @@ fn print_sifted<W: Write + Drop>(
 /// Prints the change deck of a tree that takes a change back. All memory is taken before the first
 /// byte is written.
 ///
-/// M1, a refusal, which is printed: memory was wanted.
+/// M1, a refusal, which is printed: memory ran out.
 fn print_way_back<A: Allocator, W: Write + Drop>(
     alloc: Global,
     tree: &Tree<A>,
@@ -186,7 +186,7 @@ fn print_deck<W: Write + Drop>(
     }
 }
 
-/// Prints how many subchannels a change altered. Can't answer want of memory.
+/// Prints how many subchannels a change altered. Can't run out of memory.
 fn print_test<W: Write + Drop>(
     altered: usize,
     output: &mut Output<W>,

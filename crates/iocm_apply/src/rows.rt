@@ -24,7 +24,7 @@ use std::io::Write;
 /// Prints how many subchannels a change altered, and those that are asked for: each before and
 /// afterwards, or how many of each image. All memory is taken before the first byte is written.
 ///
-/// M1, a refusal, which is printed: memory was wanted.
+/// M1, a refusal, which is printed: memory ran out.
 pub fn print_rows<W: Write + Drop>(
     alloc: Global,
     counted: bool,
@@ -64,7 +64,7 @@ fn rows_asked_for(
     wanted_rows(alloc, rows, before, &after)
 }
 
-/// Prints how many subchannels a change altered, and these. Can't answer want of memory.
+/// Prints how many subchannels a change altered, and these. Can't run out of memory.
 fn print_these<W: Write + Drop>(
     counted: bool,
     altered: usize,

@@ -13,7 +13,7 @@ use std::alloc::{AllocError, Global};
 
 /// Of rows those that are wanted, by the sieves of the configurations before and afterwards.
 ///
-/// `AllocError` (M1): memory was wanted.
+/// `AllocError` (M1): memory ran out.
 pub fn wanted_rows(
     alloc: Global,
     rows: Vec<ViewChange>,

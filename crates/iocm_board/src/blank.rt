@@ -25,7 +25,7 @@ impl Blank {
     /// A board for a core, whose word says how many calls its trace has; and the keeper's seat,
     /// which knows them, and bears the first name.
     ///
-    /// M1: memory was wanted.
+    /// M1: memory ran out.
     pub fn new(alloc: Global, core: &Core) -> Result<Blank, AllocError>
         ensures { IfOk result (λ blank. blank.keeper.me.0 ≡ first_view core.now) }
     {

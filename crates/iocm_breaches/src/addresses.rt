@@ -19,7 +19,7 @@ use std::collections::BTreeSet;
 /// same unit address and a common unit. So the addresses of the devices so far, each on its units,
 /// tell of the next one, and each device is looked at once for each of its units.
 ///
-/// `AllocError` (M1): memory was wanted.
+/// `AllocError` (M1): memory ran out.
 pub fn list_taken<A: Allocator, B: Allocator, C: Allocator + Clone>(
     breaches: &mut Vec<Breach, B>,
     alloc: C,

@@ -19,7 +19,7 @@ use std::alloc::{AllocError, Allocator};
 /// records and to what they name; only where V14 may be broken, each unit is compared with those
 /// before it on its paths.
 ///
-/// `AllocError` (M1): memory was wanted.
+/// `AllocError` (M1): memory ran out.
 pub fn all_breaches<A: Allocator, B: Allocator + Copy>(
     alloc: B,
     config: &Config<A>,

@@ -13,7 +13,7 @@ use std::alloc::{AllocError, Allocator};
 /// for as one that breaks it. The time is that of one look at each record of its kind, and of
 /// another one where one breaks the rule.
 ///
-/// `AllocError` (M1): memory was wanted.
+/// `AllocError` (M1): memory ran out.
 pub fn list_breaches<A: Allocator, B: Allocator, W: Wanted<A>>(
     breaches: &mut Vec<Breach, B>,
     rule: Rule,

@@ -20,7 +20,7 @@ use std::alloc::{AllocError, Allocator};
 /// Puts the breaches of V13 behind those that are listed, by the numbers at opening. These are made
 /// only where the rule is broken.
 ///
-/// `AllocError` (M1): memory was wanted.
+/// `AllocError` (M1): memory ran out.
 pub fn list_past_limit<A: Allocator, B: Allocator, C: Allocator + Copy>(
     breaches: &mut Vec<Breach, B>,
     alloc: C,
@@ -41,7 +41,7 @@ pub fn list_past_limit<A: Allocator, B: Allocator, C: Allocator + Copy>(
 /// Puts the breaches of V14 behind those that are listed. An index is made only where the rule may be
 /// broken; then each unit is compared with those before it on its paths.
 ///
-/// `AllocError` (M1): memory was wanted.
+/// `AllocError` (M1): memory ran out.
 pub fn list_shared<A: Allocator, B: Allocator, C: Allocator + Copy>(
     breaches: &mut Vec<Breach, B>,
     alloc: C,

@@ -86,7 +86,7 @@ fn put_statement(alloc: Global, text: &mut Vec<u8>, joined: &Joined) -> Result<(
 /// The bytes of a deck of these statements: the name from column 1, the operation from column 10,
 /// one blank, the operand part; what passes column 71 goes on in column 16 of the next line, behind
 /// `X` in column 72. Lines end with LF. (IOCP User's Guide, on coding the statements.) Answers the
-/// want of memory alone.
+/// lack of memory alone.
 pub fn deck_bytes(alloc: Global, deck: &[Joined]) -> Result<Vec<u8>, AllocError>
     ensures { IfOk result (λ bytes. bytes.items ≡ meaning.deck_bytes deck.now) }
 {

@@ -46,7 +46,7 @@ impl<A: Allocator> Model for Config<A> {
 }
 
 impl<A: Allocator> Config<A> {
-    /// The configuration with no records and no places. Can't answer want of memory.
+    /// The configuration with no records and no places. Can't run out of memory.
     pub fn new(alloc: A) -> Self
         ensures records { result.records ≡ map.empty }
         ensures places { result.places ≡ [] }
@@ -60,7 +60,7 @@ impl<A: Allocator> Config<A> {
     /// proportion to their number where they stand in the order of keys, and else to that of
     /// sorting them.
     ///
-    /// `AllocError` (M1): memory was wanted.
+    /// `AllocError` (M1): memory ran out.
     pub fn from_records<B: Allocator>(
         alloc: A,
         records: Vec<Record<A>, B>,
@@ -125,7 +125,7 @@ impl<A: Allocator> Config<A> {
     /// Gives a key a place, if it has none. Each other key that has a place keeps it, no other key
     /// gets one, and no record changes.
     ///
-    /// `AllocError` (M1): memory was wanted, which can't be where the key has a place already.
+    /// `AllocError` (M1): memory ran out, which can't be where the key has a place already.
     pub fn room(&mut self, key: Key) -> Result<(), AllocError>
     where
         A: Clone,
@@ -139,7 +139,7 @@ impl<A: Allocator> Config<A> {
     }
 
     /// Puts a record in under its key, which has a place, and gives back the record that was there.
-    /// Can't answer want of memory.
+    /// Can't run out of memory.
     pub fn put(&mut self, entry: Record<A>) -> Option<Record<A>>
         requires { HasPlace self.old (key_of entry) }
         ensures before { result ≡ map.get self.old.records (key_of entry) }
@@ -150,7 +150,7 @@ impl<A: Allocator> Config<A> {
         self.table.put(&key, entry)
     }
 
-    /// Takes the record of a key out, if there is one. The key's place stays. Can't answer want of
+    /// Takes the record of a key out, if there is one. The key's place stays. Can't run out of
     /// memory.
     pub fn take(&mut self, key: &Key) -> Option<Record<A>>
         ensures before { result ≡ map.get self.old.records key.now }

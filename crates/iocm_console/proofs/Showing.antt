@@ -39,7 +39,7 @@ module _ {W : Type 0} (contents : W → Option (List ℕ)) (old new : Output W) 
   says_as (Ok status) said named same says = inl (subst (λ what. Says contents old new what status) same says)
   says_as (Err e) said named same says = tt
 
-  -- the refusal for want of memory, in place of anything
+  -- the refusal for lack of memory, in place of anything
   pub says_memory : (result : Result Status ConsoleError) (fault : Fault) (what : Shown) → fault ≡ memory → IfOk result (Says contents old new (refused fault))
       → IfOk result (SaysIfMemory contents old new what)
   says_memory (Ok status) fault what same says = inr (subst (λ f. Says contents old new (refused f) status) same says)

@@ -13,12 +13,12 @@ use Rattle.iocm_types.specs.Print.{hex1, hex4}
 use Rattle.iocm_types.specs.Rule.{rule_text}
 use Rattle.iocm_model.specs.Rules.FirstBreach.{Breach}
 
--- want of memory, which stands at no line
+-- lack of memory, which stands at no line
 abbrev pub is_memory : Rule → Bool
 is_memory M1 = true
 is_memory _ = false
 
--- where a refusal stands, in decimal; want of memory stands at no line
+-- where a refusal stands, in decimal; lack of memory stands at no line
 abbrev pub place_text : Fault → List ℕ
 place_text fault = if is_memory fault.rule then [] else codes " line " ++ digits 10 false fault.line
 

@@ -7,7 +7,7 @@ use crate::{ConsoleError, Output, Status};
 use iocm_config::Config;
 use std::io::Write;
 
-/// Prints that a configuration is accepted. Can't answer want of memory.
+/// Prints that a configuration is accepted. Can't run out of memory.
 pub fn accept<W: Write + Drop>(
     config: &Config,
     output: &mut Output<W>,

@@ -20,7 +20,7 @@ use std::io::Write;
 /// Prints the table of the subchannels that are asked for, of a configuration as it is opened. All
 /// memory is taken before the first byte is written.
 ///
-/// M1, a refusal, which is printed: memory was wanted.
+/// M1, a refusal, which is printed: memory ran out.
 pub fn write_wanted<A: Allocator, W: Write + Drop>(
     alloc: Global,
     filters: &Filters,

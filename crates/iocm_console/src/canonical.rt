@@ -15,7 +15,7 @@ use std::io::Write;
 /// Prints the canonical deck of a configuration. All memory is taken before the first byte is
 /// written.
 ///
-/// M1, a refusal, which is printed: memory was wanted.
+/// M1, a refusal, which is printed: memory ran out.
 pub fn write_canonical<W: Write + Drop>(
     alloc: Global,
     output: &mut Output<W>,
@@ -32,7 +32,7 @@ pub fn write_canonical<W: Write + Drop>(
     }
 }
 
-/// Prints these bytes, and is done. Can't answer want of memory.
+/// Prints these bytes, and is done. Can't run out of memory.
 pub fn write_text<W: Write + Drop>(
     output: &mut Output<W>,
     bytes: &[u8],

@@ -75,7 +75,7 @@ impl<'a, A: Allocator, B: Allocator> TableCells<'a, A, B> {
 /// The number cells of a walk over a configuration's numbers with their devices, in its order: each
 /// image goes over all of them. Each device is looked up once.
 ///
-/// `AllocError` (M1): memory was wanted.
+/// `AllocError` (M1): memory ran out.
 pub fn gather_cells<'a, A: Allocator, B: Allocator>(
     alloc: B,
     config: &'a Config<A>,
@@ -95,7 +95,7 @@ pub fn gather_cells<'a, A: Allocator, B: Allocator>(
 /// The number cells that are taken in a configuration as it is opened, with their devices. No table
 /// of the numbers is made.
 ///
-/// `AllocError` (M1): memory was wanted.
+/// `AllocError` (M1): memory ran out.
 pub fn opened_cells<'a, A: Allocator, B: Allocator + Copy>(
     alloc: B,
     config: &'a Config<A>,

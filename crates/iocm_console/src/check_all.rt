@@ -19,7 +19,7 @@ use std::io::Write;
 /// Prints a line for each breach of the rules by a configuration as it is opened, by rule and then
 /// by key, or that it is accepted. All memory is taken before the first byte is written.
 ///
-/// M1, a refusal, which is printed: memory was wanted.
+/// M1, a refusal, which is printed: memory ran out.
 pub fn accept_or_list<W: Write + Drop>(
     alloc: Global,
     config: &Config,
@@ -37,7 +37,7 @@ pub fn accept_or_list<W: Write + Drop>(
     }
 }
 
-/// Prints a line for each of these breaches. Can't answer want of memory.
+/// Prints a line for each of these breaches. Can't run out of memory.
 fn refuse_all<W: Write + Drop>(
     breaches: &[Breach],
     output: &mut Output<W>,

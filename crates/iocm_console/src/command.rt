@@ -39,7 +39,7 @@ pub enum DeckCommand<'f> {
 ///
 /// L5 (`ConsoleError::Read`): a read failed, or none of `limit` reads gave the end; nothing is
 /// written then. L6 (`ConsoleError::Write`): a write failed; what is written up to there is not
-/// said. All other faults, want of memory (M1) too, are refusals, which are printed.
+/// said. All other faults, lack of memory (M1) too, are refusals, which are printed.
 pub fn answer_deck<R: Read, W: Write + Drop>(
     alloc: Global,
     command: DeckCommand<'_>,

@@ -72,7 +72,7 @@ pub fn read_statements(alloc: Global, cards: &[Card]) -> Result<Vec<Statement>, 
 }
 
 /// The first breach of the rules by a configuration as it is opened, if there is one. Answers the
-/// want of memory alone.
+/// lack of memory alone.
 pub fn breach_of(alloc: Global, config: &Config) -> Result<Option<Breach>, AllocError>
     ensures { IfOk result (λ breach. breach ≡ first_breach config.now.records (model.opening config.now.records)) }
 {
@@ -98,7 +98,7 @@ pub fn answer_unread<W: Write + Drop>(
     refuse(fault, output)
 }
 
-/// Prints a refusal. Can't answer want of memory.
+/// Prints a refusal. Can't run out of memory.
 pub fn refuse<W: Write + Drop>(fault: Fault, output: &mut Output<W>) -> Result<Status, ConsoleError>
     ensures text { IfOk result (Says W.contents output.old output.new (refused fault)) }
     ensures works { OnOk result (has_failed output.new ≡ has_failed output.old) }
@@ -111,7 +111,7 @@ pub fn refuse<W: Write + Drop>(fault: Fault, output: &mut Output<W>) -> Result<S
     Ok(Status::Refused)
 }
 
-/// Prints that a configuration breaks a rule. Can't answer want of memory.
+/// Prints that a configuration breaks a rule. Can't run out of memory.
 pub fn refuse_breach<W: Write + Drop>(
     breach: Breach,
     output: &mut Output<W>,
@@ -127,7 +127,7 @@ pub fn refuse_breach<W: Write + Drop>(
     Ok(Status::Refused)
 }
 
-/// Prints why a change was refused. Can't answer want of memory.
+/// Prints why a change was refused. Can't run out of memory.
 pub fn refuse_change<W: Write + Drop>(
     why: Refused,
     output: &mut Output<W>,

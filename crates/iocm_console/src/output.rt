@@ -81,7 +81,7 @@ impl<W: Write + Drop> Output<W> {
         }
     }
 
-    /// Writes the heading of the table. Can't answer want of memory.
+    /// Writes the heading of the table. Can't run out of memory.
     pub fn heading(&mut self) -> Result<(), ConsoleError>
         ensures text { OnOk result (Prints W.contents self.old self.new (heading ++ 10 ∷ [])) }
         ensures works { OnOk result (has_failed self.new ≡ has_failed self.old) }
@@ -91,7 +91,7 @@ impl<W: Write + Drop> Output<W> {
         self.note(written)
     }
 
-    /// Writes a refusal. Can't answer want of memory.
+    /// Writes a refusal. Can't run out of memory.
     pub(crate) fn refusal(&mut self, fault: Fault) -> Result<(), ConsoleError>
         ensures text { OnOk result (Prints W.contents self.old self.new (refusal_line fault)) }
         ensures works { OnOk result (has_failed self.new ≡ has_failed self.old) }
@@ -104,7 +104,7 @@ impl<W: Write + Drop> Output<W> {
         self.note(written)
     }
 
-    /// Writes that a configuration breaks a rule. Can't answer want of memory.
+    /// Writes that a configuration breaks a rule. Can't run out of memory.
     pub(crate) fn breach(&mut self, breach: Breach) -> Result<(), ConsoleError>
         ensures text { OnOk result (Prints W.contents self.old self.new (breach_line breach)) }
         ensures works { OnOk result (has_failed self.new ≡ has_failed self.old) }
@@ -117,7 +117,7 @@ impl<W: Write + Drop> Output<W> {
         self.note(written)
     }
 
-    /// Writes that a configuration of so many records is accepted. Can't answer want of memory.
+    /// Writes that a configuration of so many records is accepted. Can't run out of memory.
     pub(crate) fn accepted(&mut self, count: usize) -> Result<(), ConsoleError>
         ensures text { OnOk result (Prints W.contents self.old self.new (accepted_text count ++ 10 ∷ [])) }
         ensures works { OnOk result (has_failed self.new ≡ has_failed self.old) }
@@ -127,8 +127,8 @@ impl<W: Write + Drop> Output<W> {
         self.note(written)
     }
 
-    /// Writes that the first change was made, and how many subchannels it altered. Can't answer
-    /// want of memory.
+    /// Writes that the first change was made, and how many subchannels it altered. Can't run
+    /// out of memory.
     pub fn changed(&mut self, altered: usize) -> Result<(), ConsoleError>
         ensures text { OnOk result (Prints W.contents self.old self.new (changed_text altered ++ 10 ∷ [])) }
         ensures works { OnOk result (has_failed self.new ≡ has_failed self.old) }
@@ -138,7 +138,7 @@ impl<W: Write + Drop> Output<W> {
         self.note(written)
     }
 
-    /// Writes why a change was refused. Can't answer want of memory.
+    /// Writes why a change was refused. Can't run out of memory.
     pub(crate) fn change_refusal(&mut self, why: Refused) -> Result<(), ConsoleError>
         ensures text { OnOk result (Prints W.contents self.old self.new (change_refusal_line why)) }
         ensures works { OnOk result (has_failed self.new ≡ has_failed self.old) }
@@ -151,7 +151,7 @@ impl<W: Write + Drop> Output<W> {
         self.note(written)
     }
 
-    /// Writes a text as it is displayed, and the end of its line. Can't answer want of memory.
+    /// Writes a text as it is displayed, and the end of its line. Can't run out of memory.
     pub fn line<D: fmt::Display + Drop>(&mut self, text: D) -> Result<(), ConsoleError>
         ensures text { OnOk result (PrintsLine W.contents self.old self.new (D.output text)) }
         ensures works { OnOk result (has_failed self.new ≡ has_failed self.old) }
@@ -161,7 +161,7 @@ impl<W: Write + Drop> Output<W> {
         self.note(written)
     }
 
-    /// Writes these bytes. Can't answer want of memory.
+    /// Writes these bytes. Can't run out of memory.
     pub fn bytes(&mut self, bytes: &[u8]) -> Result<(), ConsoleError>
         ensures text { OnOk result (Prints W.contents self.old self.new bytes.now) }
         ensures works { OnOk result (has_failed self.new ≡ has_failed self.old) }

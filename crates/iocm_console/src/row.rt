@@ -20,7 +20,7 @@ const LONGEST: usize = 53;
 /// A line of the table with its end, or no bytes.
 pub type Line = ArrayVec<u8, LONGEST>;
 
-/// Writes the heading of the table, with its end. Can't answer want of memory.
+/// Writes the heading of the table, with its end. Can't run out of memory.
 pub fn write_heading<W: Write>(writer: &mut W) -> io::Result<()>
     ensures { OnOk result (Appends (W.contents writer.old) (W.contents writer.new) (heading ++ 10 ∷ [])) }
 {

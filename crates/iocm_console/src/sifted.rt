@@ -20,7 +20,7 @@ use std::alloc::Allocator;
 use std::io::Write;
 
 /// Prints the heading and the lines of all images at some number cells, of the subchannels that
-/// pass a sieve. An image that doesn't is not looked at. Can't answer want of memory.
+/// pass a sieve. An image that doesn't is not looked at. Can't run out of memory.
 pub fn write_sifted<A: Allocator, B: Allocator, W: Write + Drop>(
     output: &mut Output<W>,
     sieve: &Sieve<'_>,

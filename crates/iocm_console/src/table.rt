@@ -30,7 +30,7 @@ pub(crate) struct PrintedImage {
 /// Prints the table of subchannels of a configuration as it is opened. All memory is taken before
 /// the first byte is written.
 ///
-/// M1, a refusal, which is printed: memory was wanted.
+/// M1, a refusal, which is printed: memory ran out.
 pub fn write_table<A: Allocator, B: Allocator + Copy + Drop, W: Write + Drop>(
     alloc: B,
     output: &mut Output<W>,
@@ -48,7 +48,7 @@ pub fn write_table<A: Allocator, B: Allocator + Copy + Drop, W: Write + Drop>(
     }
 }
 
-/// Prints the heading and the lines of all images at some number cells. Can't answer want of
+/// Prints the heading and the lines of all images at some number cells. Can't run out of
 /// memory.
 pub fn write_lines<A: Allocator, B: Allocator, W: Write + Drop>(
     output: &mut Output<W>,

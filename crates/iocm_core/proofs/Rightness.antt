@@ -91,7 +91,7 @@ pub begun_right : (opening : State) (h : History) (p : ChangeTree) (e : Entry) �
 begun_right opening h p e idle is call = inl (is
     ∙ sym (ap (λ g. unless_staged g (begin p) (begun p (meaning p (state_at opening h)))) idle) ∙ sym (ap (entry_of opening h) call))
 
--- want of memory, of a tree that no limit refuses
+-- lack of memory, of a tree that no limit refuses
 within_limits : (t : ChangeTree) → limit_refusal t ≡ None → is_within_limits t ≡ true
 within_limits t none = by (nat_lt most_depth (depth_of t)) (nat_lt most_leaves (leaves_of t)) none
   where

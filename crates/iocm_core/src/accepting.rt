@@ -18,7 +18,7 @@ impl Installation {
     }
 
     /// Accepts a change that was done, for which there is memory. It gives the change's number.
-    /// Can't answer want of memory.
+    /// Can't run out of memory.
     pub fn accept(&mut self, done: Done) -> u64
         requires { HasRoomForAChange self.old }
         ensures number { result ≡ length self.old.journal.changes + 1 }

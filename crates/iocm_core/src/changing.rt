@@ -62,7 +62,7 @@ impl Installation {
     }
 
     /// Does the next edit of the change in stages: Left, with the number of those that are left
-    /// then; O2 where nothing is staged. Can't answer want of memory.
+    /// then; O2 where nothing is staged. Can't run out of memory.
     pub fn advance(&mut self) -> Answer
         requires { IsRunning self.old }
         ensures answers { Answers history.advance result self.old self.new }
@@ -77,7 +77,7 @@ impl Installation {
     }
 
     /// Does the edits that are left of the change in stages, which is accepted: Changed, with its
-    /// number; O2 where nothing is staged. Can't answer want of memory.
+    /// number; O2 where nothing is staged. Can't run out of memory.
     pub fn commit(&mut self) -> Answer
         requires { IsRunning self.old }
         ensures answers { Answers history.commit result self.old self.new }
@@ -95,7 +95,7 @@ impl Installation {
     }
 
     /// Gives the change in stages up, and takes back what was done of it: Aborted; O2 where nothing
-    /// is staged. Can't answer want of memory.
+    /// is staged. Can't run out of memory.
     pub fn abort(&mut self) -> Answer
         requires { IsRunning self.old }
         ensures answers { Answers history.abort result self.old self.new }

@@ -25,7 +25,7 @@ pub struct Closed {
 
 impl Core {
     /// Closes the machine, and gives it with its trace. What was advanced of a change in stages is
-    /// taken back. Can't answer want of memory.
+    /// taken back. Can't run out of memory.
     pub fn close(self) -> Closed
         ensures state { result.plant.state ≡ state_at self.opening self.history }
         ensures opening { opening_state result.trace.opening.records ≡ self.opening }

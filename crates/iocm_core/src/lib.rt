@@ -8,7 +8,7 @@
 //! `live`, `changes` and `advanced` tell what the machine shows between calls.
 //!
 //! What the layer above may rely on: the history is legal, so each answer is the one that the
-//! definition of histories gives, or, of an activation, a Begin, an undo or a redo, want of memory;
+//! definition of histories gives, or, of an activation, a Begin, an undo or a redo, lack of memory;
 //! and the machine is in the state to which its history leads, once a change that is staged is
 //! given up. Begin with `specs/Running.antt` and `specs/Seen.antt`, then `calling.rt` and
 //! `installation.rt`. What names no source is our own.

@@ -21,7 +21,7 @@ impl Core {
     /// memory for them is made now, so that no call wants memory for its entry.
     ///
     /// The first breach of V1 to V14, by rule, then by key; M1, which may stand in its place:
-    /// memory was wanted. The configuration is handed back.
+    /// memory ran out. The configuration is handed back.
     pub fn open(alloc: Global, config: Config, room: usize) -> Result<Core, Unopened>
         ensures opened { IfOk result (λ core. core
             ≡ record { opening = opening_state config.records; history = []; entries = []; room = room }) }

@@ -14,7 +14,7 @@ use iocm_types::{Answer, Order, SubId};
 
 impl Installation {
     /// An order of an image on its subchannel; Held where the change in stages alters the
-    /// subchannel. Can't answer want of memory.
+    /// subchannel. Can't run out of memory.
     pub fn io(&mut self, subchannel: &SubId, order: Order) -> Answer
         requires { IsRunning self.old }
         ensures answers { Answers (history.at subchannel.now (step.order order)) result self.old self.new }
@@ -31,7 +31,7 @@ impl Installation {
     }
 
     /// The device of a subchannel begins what it was started for; Held where the change in stages
-    /// alters the subchannel. Can't answer want of memory.
+    /// alters the subchannel. Can't run out of memory.
     pub fn device_begin(&mut self, subchannel: &SubId) -> Answer
         requires { IsRunning self.old }
         ensures answers { Answers (history.at subchannel.now step.device_begin) result self.old self.new }
@@ -48,7 +48,7 @@ impl Installation {
     }
 
     /// The device of a subchannel ends a function; Held where the change in stages alters the
-    /// subchannel. Can't answer want of memory.
+    /// subchannel. Can't run out of memory.
     pub fn device_end(&mut self, subchannel: &SubId) -> Answer
         requires { IsRunning self.old }
         ensures answers { Answers (history.at subchannel.now step.device_end) result self.old self.new }

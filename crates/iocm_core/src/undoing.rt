@@ -51,7 +51,7 @@ impl Installation {
         }
     }
 
-    /// What the machine counts; O1 where a change is staged. Can't answer want of memory.
+    /// What the machine counts; O1 where a change is staged. Can't run out of memory.
     pub fn show(&mut self) -> Answer
         requires { IsRunning self.old }
         ensures answers { Answers history.show result self.old self.new }

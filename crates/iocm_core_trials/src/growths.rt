@@ -139,7 +139,7 @@ fn an_abort_asks_for_no_growth(rt: HostRuntime) -> Result<(), Fail> {
 /// A change in stages is begun.
 const BEGUN: &Ask = &Begin(EXCHANGE);
 
-/// That a change in stages was begun, or that memory was wanted.
+/// That a change in stages was begun, or that memory ran out.
 fn is_begun_or_without_memory(answer: &Answer) -> bool {
     match answer {
         Answer::Staged(_) => true,

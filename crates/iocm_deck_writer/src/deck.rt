@@ -34,7 +34,7 @@ fn all_to_write(alloc: Global, statements: &[CanonicalStatement]) -> Result<Vec<
     Ok(deck)
 }
 
-/// The bytes of the canonical deck of a configuration. Answers the want of memory alone.
+/// The bytes of the canonical deck of a configuration. Answers the lack of memory alone.
 pub fn canonical_deck<A: Allocator>(
     alloc: Global,
     config: &Config<A>,

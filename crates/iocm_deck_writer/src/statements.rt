@@ -97,7 +97,7 @@ fn put_parts<A: Allocator>(
 }
 
 /// The canonical statements of records in the order of keys. Online records aren't written: they
-/// are those of the access lists. Answers the want of memory alone.
+/// are those of the access lists. Answers the lack of memory alone.
 pub fn to_statements<A: Allocator>(
     alloc: Global,
     records: &[&Record<A>],

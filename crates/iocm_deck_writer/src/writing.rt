@@ -34,7 +34,7 @@ fn part_text(alloc: Global, operands: &[Carried]) -> Result<Text, AllocError>
 }
 
 /// A statement that is to be written: its operation, and its operands with commas between them. It
-/// has no name, and stands at no line yet. Answers the want of memory alone.
+/// has no name, and stands at no line yet. Answers the lack of memory alone.
 pub fn to_write(alloc: Global, statement: &CanonicalStatement) -> Result<Joined, AllocError>
     ensures { IfOk result (λ joined. joined ≡ meaning.to_write statement.now) }
 {

@@ -1,7 +1,7 @@
 //! What follows from a configuration and its numbers: path lists, sight, masks and views.
 //!
 //! Each function reads a `Config`, and `view_at` its `Numbers` too, and answers exactly what its
-//! definition says. None can answer want of memory. `view_at` is what an image sees at one
+//! definition says. None can run out of memory. `view_at` is what an image sees at one
 //! subchannel; `path_list`, `sees`, `pim` and `pam` are its parts. `DeviceWalk` finds many devices,
 //! one after the other. `ImageSight` gives the views of one image at many devices: it keeps such a
 //! walk, tables of the image's paths, and what it sees by the last device's control units. `CellSight`

@@ -17,7 +17,7 @@ use std::alloc::{AllocError, Allocator};
 /// kept. The addresses of all devices on their units are listed, and where none is there twice, no
 /// device breaks the rule. Else `first_address_twice` answers by an index that is made for it.
 ///
-/// `AllocError` (M1): memory was wanted.
+/// `AllocError` (M1): memory ran out.
 pub fn first_address_twice_at_opening<A: Allocator, B: Allocator + Copy>(
     alloc: B,
     config: &Config<A>,

@@ -19,7 +19,7 @@ use std::alloc::{AllocError, Allocator};
 /// Where a set has, the numbers are listed; only where one of these is at or above its limit is a
 /// table made of them.
 ///
-/// `AllocError` (M1): memory was wanted.
+/// `AllocError` (M1): memory ran out.
 pub fn first_past_limit_at_opening<A: Allocator, B: Allocator + Copy>(
     alloc: B,
     config: &Config<A>,

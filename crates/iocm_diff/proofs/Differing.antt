@@ -49,7 +49,7 @@ never_read output (Err e) failed short =
     let write : e ≡ Write = failed.0 in cc
 
 module _ {W : Type 0} (contents : W → Option (List ℕ)) (old new : Output W) where
-  -- the first fault of the new deck's lines, or want of memory, unless they cannot be read
+  -- the first fault of the new deck's lines, or lack of memory, unless they cannot be read
   pub says_lines : {X : Type 0} (view : X → List Card) (with_old : Bool) (result : Result Status ConsoleError) (c : Configuration) (read : Result (List Card) Fault)
       (fault : Fault) → OnOk result (fault ≢ unreadable) → GivesIfReadable view (Err fault) read
       → IfOk result (Says contents old new (refused fault)) → IfOk result (SaysIfMemory contents old new (told_of_lines with_old c read))

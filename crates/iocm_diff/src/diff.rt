@@ -29,7 +29,7 @@ use std::io::{Read, Write};
 /// L5 (`ConsoleError::Read`): a read failed, or none of `limit` reads gave the end; nothing is
 /// written then, and an old deck that is refused is refused before the new one counts. L6
 /// (`ConsoleError::Write`): a write failed; what is written up to there is not said. All other
-/// faults, want of memory (M1) too, are refusals, which are printed.
+/// faults, lack of memory (M1) too, are refusals, which are printed.
 pub fn diff_decks<R: Read, S: Read, W: Write + Drop>(
     alloc: Global,
     with_old: bool,

@@ -21,7 +21,7 @@ fn old_if(with_old: bool, old: &Config) -> Option<&Config>
 }
 
 /// The text of the difference of two configurations, with what was there if that is asked for, and
-/// how many edits it has. Answers the want of memory alone.
+/// how many edits it has. Answers the lack of memory alone.
 fn text_between(
     alloc: Global,
     with_old: bool,
@@ -41,7 +41,7 @@ fn text_between(
 /// Prints the text of the difference of two configurations. All memory is taken before the first
 /// byte is written.
 ///
-/// M1, a refusal, which is printed: memory was wanted.
+/// M1, a refusal, which is printed: memory ran out.
 fn print_difference<W: Write + Drop>(
     alloc: Global,
     with_old: bool,

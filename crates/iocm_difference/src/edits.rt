@@ -17,7 +17,7 @@ use std::alloc::{AllocError, Allocator};
 /// pass by pass. Nothing comes along with them. The time is that of one walk over both, and memory
 /// is wanted only for what differs.
 ///
-/// `AllocError` (M1): memory was wanted.
+/// `AllocError` (M1): memory ran out.
 pub fn difference<A: Allocator, B: Allocator, C: Allocator + Copy>(
     alloc: C,
     old: &Config<A>,

@@ -36,7 +36,7 @@ fn put_run<A: Allocator, B: Allocator>(
 /// Where `old` is given, what it has of what a run deletes or modifies stands before the run: the
 /// cards of the canonical deck, with `*` in column 1. Of pairs a deck has no cards.
 ///
-/// `AllocError` (M1): memory was wanted.
+/// `AllocError` (M1): memory ran out.
 pub fn difference_text<A: Allocator, B: Allocator>(
     alloc: Global,
     old: Option<&Config<B>>,

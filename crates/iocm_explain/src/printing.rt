@@ -14,7 +14,7 @@ use std::io::Write;
 
 /// Prints the entry of the refusal whose number the word is, or without a word a line for each
 /// refusal: its number and its title. A word that is no refusal's number is answered `None`, and
-/// nothing is printed. Can't answer want of memory.
+/// nothing is printed. Can't run out of memory.
 ///
 /// L6 (`ConsoleError::Write`): a write failed; what is written up to there is not said.
 pub fn explain<W: Write + Drop>(

@@ -14,7 +14,7 @@ use std::alloc::{AllocError, Global};
 /// is the first fault of its statement, and they come in the order of the text. S7 and S8 are told
 /// only where they are the first fault. The time is that of reading the deck twice.
 ///
-/// `AllocError` (M1): memory was wanted.
+/// `AllocError` (M1): memory ran out.
 pub fn all_faults(alloc: Global, joined: &[Joined]) -> Result<Vec<Fault>, AllocError>
     ensures { IfOk result (λ faults. faults.items ≡ model.all_faults joined.now) }
 {
@@ -27,7 +27,7 @@ pub fn all_faults(alloc: Global, joined: &[Joined]) -> Result<Vec<Fault>, AllocE
     }
 }
 
-/// A fault that a reader answered, where it is one of the text. That memory was wanted is none, and
+/// A fault that a reader answered, where it is one of the text. That memory ran out is none, and
 /// is answered as it is.
 pub fn of_the_text(fault: Fault) -> Result<Fault, AllocError>
     ensures same { IfOk result (λ told. told ≡ fault) }

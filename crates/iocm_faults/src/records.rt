@@ -12,7 +12,7 @@ use std::alloc::{AllocError, Global};
 /// The first fault of the records of statements, and then that of every other statement that has
 /// one by itself, in order.
 ///
-/// `AllocError` (M1): memory was wanted.
+/// `AllocError` (M1): memory ran out.
 pub fn record_faults(alloc: Global, statements: &[Statement]) -> Result<Vec<Fault>, AllocError>
     ensures { IfOk result (λ faults. faults.items ≡ model.record_faults statements.now) }
 {

@@ -11,7 +11,7 @@ use std::slice::from_ref;
 
 /// The fault of each statement whose text can't be read, in order.
 ///
-/// `AllocError` (M1): memory was wanted.
+/// `AllocError` (M1): memory ran out.
 #[tactic(auto, using(crate::proofs::Gathering::gathering_steps))]
 pub fn text_faults(alloc: Global, joined: &[Joined]) -> Result<Vec<Fault>, AllocError>
     ensures { IfOk result (λ faults. faults.items ≡ model.text_faults joined.now) }

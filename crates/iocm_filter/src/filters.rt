@@ -63,7 +63,7 @@ impl Filters {
         }
     }
 
-    /// Nothing is asked for. Can't answer want of memory.
+    /// Nothing is asked for. Can't run out of memory.
     pub fn none(alloc: Global) -> Self
         ensures { result ≡ meaning.nothing }
     {

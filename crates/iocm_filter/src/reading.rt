@@ -86,7 +86,7 @@ impl Filters {
     /// What words of each kind ask for: images, devices, control units, paths, and how many paths
     /// are online at most.
     ///
-    /// `Malformed`: a word of another form; `Memory` (M1): memory was wanted.
+    /// `Malformed`: a word of another form; `Memory` (M1): memory ran out.
     pub fn of_words(
         alloc: Global,
         images: &[&str],

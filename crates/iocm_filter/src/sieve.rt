@@ -42,7 +42,7 @@ impl<'f> Model for Sieve<'f> {
 impl<'f> Sieve<'f> {
     /// That of a configuration.
     ///
-    /// `AllocError` (M1): memory was wanted.
+    /// `AllocError` (M1): memory ran out.
     pub fn new<A: Allocator>(
         alloc: Global,
         filters: &'f Filters,

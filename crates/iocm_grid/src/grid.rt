@@ -39,7 +39,7 @@ impl<V, A: Allocator> Model for Grid<V, A> {
 }
 
 impl<V, A: Allocator> Grid<V, A> {
-    /// A grid without rows and places. Can't answer want of memory.
+    /// A grid without rows and places. Can't run out of memory.
     pub fn new(alloc: A) -> Self
         ensures rows { result.rows ≡ map.empty }
         ensures places { result.places ≡ [] }
@@ -64,7 +64,7 @@ impl<V, A: Allocator> Grid<V, A> {
         slot(&self.levels, key)?.as_ref()
     }
 
-    /// The row of a subchannel, to be changed in its place. Can't answer want of memory.
+    /// The row of a subchannel, to be changed in its place. Can't run out of memory.
     pub fn get_mut(&mut self, key: &SubId) -> Option<&mut V>
         ensures* writes_back { sem 𝓛 (lends_row V.row A.row A.Allocator self.entry key.now result) }
         ensures value { option_copied_mut result ≡ map.get self.old.rows key.now }
@@ -86,7 +86,7 @@ impl<V, A: Allocator> Grid<V, A> {
     /// Gives a subchannel a place, if it has none. Each other one that has a place keeps it, and no
     /// row changes. Subchannels of lower numbers may get places, too.
     ///
-    /// `AllocError` (M1): memory was wanted, which can't be where the subchannel has a place
+    /// `AllocError` (M1): memory ran out, which can't be where the subchannel has a place
     /// already.
     pub fn room(&mut self, key: &SubId) -> Result<(), AllocError>
     where
@@ -103,8 +103,8 @@ impl<V, A: Allocator> Grid<V, A> {
         make_place(&mut self.levels, key)
     }
 
-    /// Gives a subchannel that has a place a row, and gives back the one that it had. Can't answer
-    /// want of memory.
+    /// Gives a subchannel that has a place a row, and gives back the one that it had. Can't run
+    /// out of memory.
     pub fn put(&mut self, key: &SubId, row: V) -> Option<V>
         requires { HasPlace self.old key.now }
         ensures before { result ≡ map.get self.old.rows key.now }
@@ -122,7 +122,7 @@ impl<V, A: Allocator> Grid<V, A> {
     /// Gives a subchannel a row, and a place before that if it has none. Gives back the row that it
     /// had. Each other one that has a place keeps it. One search is enough where it has a place.
     ///
-    /// `AllocError` (M1): memory was wanted, which can't be where the subchannel has a place
+    /// `AllocError` (M1): memory ran out, which can't be where the subchannel has a place
     /// already. Then no row has changed.
     pub fn add(&mut self, key: &SubId, row: V) -> Result<Option<V>, AllocError>
     where
@@ -144,7 +144,7 @@ impl<V, A: Allocator> Grid<V, A> {
         Ok(had)
     }
 
-    /// Takes the row of a subchannel out, if it has one. Its place stays. Can't answer want of
+    /// Takes the row of a subchannel out, if it has one. Its place stays. Can't run out of
     /// memory.
     pub fn take(&mut self, key: &SubId) -> Option<V>
         ensures before { result ≡ map.get self.old.rows key.now }

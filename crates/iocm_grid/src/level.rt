@@ -50,7 +50,7 @@ impl<T, A: Allocator> Level<T, A> {
 impl<T: Drop, A: Allocator + Clone> Level<Level<T, A>, A> {
     /// Makes the list reach an index, by lists without items.
     ///
-    /// `AllocError`: memory was wanted. Then the list may have become longer.
+    /// `AllocError`: memory ran out. Then the list may have become longer.
     pub fn reach(&mut self, index: usize) -> Result<(), AllocError>
         ensures longer { IsLonger is_bare self.old self.new }
         ensures reaches { OnOk result (index < length self.new) }
@@ -67,7 +67,7 @@ impl<V: Drop, A: Allocator> Level<Option<V>, A> {
     /// Makes the list reach an index, by slots without rows. One that comes to twice its length at
     /// least gets its memory at once, with an eighth to spare for numbers that come later.
     ///
-    /// `AllocError`: memory was wanted. Then the list may have become longer.
+    /// `AllocError`: memory ran out. Then the list may have become longer.
     pub fn reach_slot(&mut self, index: usize) -> Result<(), AllocError>
         ensures longer { IsLonger is_empty self.old self.new }
         ensures reaches { OnOk result (index < length self.new) }

@@ -61,7 +61,7 @@ pub fn slot_mut<'a, V, A: Allocator>(
 /// Gives a subchannel an empty slot, if it has none. Each slot stays as it is, and those that come
 /// are empty.
 ///
-/// `AllocError`: memory was wanted.
+/// `AllocError`: memory ran out.
 pub fn make_place<V: Drop, A: Allocator + Clone>(
     levels: &mut Levels<V, A>,
     key: &SubId,

@@ -1,4 +1,4 @@
--- A change tree over a limit is refused for that, and not for want of memory.
+-- A change tree over a limit is refused for that, and not for lack of memory.
 use Rattle.std.proofs.Common.{◌≡◌, ◌⊎◌, inl, inr, ℕ, ◌+◌, nat_lt, Bool, true, false, cond, not, ◌&&◌, is_none, Option, Some, None, Err, refl, sym, ap, ◌∙◌}
 use Rattle.std.proofs.lemmas.Bool.{and_parts}
 use Rattle.iocm_types.specs.declared.answer.Answer.TheVariants as answers

@@ -42,7 +42,7 @@ ActivationsDoWhatTheyMean = (opening : State) (h : History) (p : ChangeTree) (n 
     → IsInUse opening → IsLegal opening h → meaning p (state_at opening h) ≡ Ok done
     → state_at opening (activation_of p n done (state_at opening h) ∷ h) ≡ done.state
 
--- a change tree over a limit is never refused for want of memory
+-- a change tree over a limit is never refused for lack of memory
 abbrev pub TreesOverALimitWantNoMemory : Type 0
 TreesOverALimitWantNoMemory = (opening : State) (h : History) (p : ChangeTree) (e : Entry) → IsLegal opening (e ∷ h)
     → (e.call ≡ activate p) ⊎ (e.call ≡ begin p) → is_within_limits p ≡ false

@@ -146,7 +146,7 @@ abbrev pub may_lack_memory_after : State → History → Call → Bool
 may_lack_memory_after opening h call =
     let a = account opening h in may_lack_memory (state_in opening a) (journal_of h) a call
 
--- an entry is right after a history: it is the one that its call makes, or want of memory (M1)
+-- an entry is right after a history: it is the one that its call makes, or lack of memory (M1)
 abbrev pub IsRight : State → History → Entry → Type 0
 IsRight opening h e = (e ≡ entry_of opening h e.call)
     ⊎ ((may_lack_memory_after opening h e.call ≡ true) × (e ≡ plain_entry e.call (Refused (refusal_at M1 Nothing))))

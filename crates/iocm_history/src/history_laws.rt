@@ -29,7 +29,7 @@ pub fn activations_do_what_they_mean()
 {}
 
 /// A change tree that is too deep or has too many leaves is refused for that, or since a change is
-/// staged, and never for want of memory.
+/// staged, and never for lack of memory.
 pub fn trees_over_a_limit_want_no_memory()
     ensures { TreesOverALimitWantNoMemory }
 {}

@@ -45,7 +45,7 @@ pub fn standing_changes_fit()
 
 /// An undo is refused only while a change is staged, where no such change stands, where a change
 /// stands on it, which the refusal names, where a subchannel that it altered is not quiet, or for
-/// want of memory.
+/// lack of memory.
 pub fn undo_is_refused_only_for()
     ensures { UndoIsRefusedOnlyFor }
 {}

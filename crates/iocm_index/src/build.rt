@@ -20,7 +20,7 @@ impl<A: Allocator + Clone> Index<A> {
     /// no others. The time is in proportion to their number where they stand in order, and else to
     /// that of sorting them.
     ///
-    /// `AllocError` (M1): memory was wanted.
+    /// `AllocError` (M1): memory ran out.
     pub fn from_namings<B: Allocator>(alloc: A, namings: Vec<Naming, B>) -> Result<Self, AllocError>
         ensures linked { IfOk result (λ index. (n : naming.Naming)
             → is_linked index n ≡ list_any (eq_by_cmp naming_cmp n) namings.items) }
@@ -36,7 +36,7 @@ impl<A: Allocator + Clone> Index<A> {
 
 /// Puts the namings of a record behind those that are listed.
 ///
-/// `AllocError` (M1): memory was wanted.
+/// `AllocError` (M1): memory ran out.
 pub fn list_namings<B: Allocator, C: Allocator>(
     listed: &mut Vec<Naming, C>,
     entry: &Record<B>,

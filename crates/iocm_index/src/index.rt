@@ -28,7 +28,7 @@ impl<A: Allocator> Model for Index<A> {
 }
 
 impl<A: Allocator> Index<A> {
-    /// An index in which nobody names anything. Can't answer want of memory.
+    /// An index in which nobody names anything. Can't run out of memory.
     pub fn new(alloc: A) -> Self
         ensures namings { rows naming_cmp result ≡ empty }
         ensures places { result.places ≡ [] }
@@ -49,7 +49,7 @@ impl<A: Allocator> Index<A> {
     /// Gives each naming of a record a place, if it has none. Each other naming that has a place
     /// keeps it, no other naming gets one, and the set stays.
     ///
-    /// `AllocError` (M1): memory was wanted, which can't be where all have places already.
+    /// `AllocError` (M1): memory ran out, which can't be where all have places already.
     pub fn room<B: Allocator>(&mut self, entry: &Record<B>) -> Result<(), AllocError>
     where
         A: Clone,
@@ -79,7 +79,7 @@ impl<A: Allocator> Index<A> {
         }
     }
 
-    /// Takes the namings of a record out, and no others. Their places stay. Can't answer want of
+    /// Takes the namings of a record out, and no others. Their places stay. Can't run out of
     /// memory.
     pub fn unlink<B: Allocator>(&mut self, entry: &Record<B>)
         ensures linked { (n : naming.Naming)

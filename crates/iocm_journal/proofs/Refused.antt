@@ -36,7 +36,7 @@ pub right_redo : (opening : State) (h : History) (n : ℕ) (answer : Answer) →
 right_redo opening h n answer idle is = inl (ap (plain_entry (redo n)) is
     ∙ sym (ap (λ g. unless_staged g (redo n) (plain_entry (redo n) (redo_now opening h n))) idle))
 
--- for want of memory too, where the change stands, or would be redone
+-- for lack of memory too, where the change stands, or would be redone
 pub lacking_undo : (opening : State) (h : History) (n : ℕ) → stage_of opening h ≡ None
     → is_in n (journal_of h).standing ≡ true
     → IsRight opening h (plain_entry (undo n) (answers.Refused (refusal_at M1 Nothing)))

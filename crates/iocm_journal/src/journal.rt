@@ -55,7 +55,7 @@ impl Model for Journal {
 }
 
 impl Journal {
-    /// The journal of a machine that was opened just now. Can't answer want of memory.
+    /// The journal of a machine that was opened just now. Can't run out of memory.
     pub fn new(alloc: Global) -> Journal
         ensures { (opening : State) → IsInUse opening → IsJournalOf opening [] result [] }
     {
@@ -100,7 +100,7 @@ impl Journal {
     /// Keeps one more change, which stands, and for which there is room; those that are undone
     /// become past. It gives the change's number. The tree and what was performed are to be those
     /// of a change that was just made on the journal's machine: then the journal is one of the
-    /// history with the entry that accepts it. Can't answer want of memory.
+    /// history with the entry that accepts it. Can't run out of memory.
     pub fn accept(&mut self, inverse: Tree, performed: Vec<Touched>) -> u64
         requires { IsTrue self.old.has_room }
         ensures number { result ≡ length self.old.changes + 1 }

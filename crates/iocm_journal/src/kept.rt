@@ -34,7 +34,7 @@ pub struct Undone {
 impl Kept {
     /// Whether the change fits a machine that keeps the rules. The state stays as it is.
     ///
-    /// `AllocError` (M1): memory was wanted.
+    /// `AllocError` (M1): memory ran out.
     pub fn fits(&self, alloc: Global, plant: &mut Plant) -> Result<bool, AllocError>
         requires { KeepsTheRules plant.old.state }
         ensures fits { IfOk result (λ is. IsWhetherItFits self.now plant.old.state is) }

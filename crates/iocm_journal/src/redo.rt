@@ -88,7 +88,7 @@ impl Journal {
     /// Does the last change undone again, by the tree that is kept for that; it stands then. It is
     /// at this place among the changes.
     ///
-    /// The refusal that the tree means, or M1: memory was wanted.
+    /// The refusal that the tree means, or M1: memory ran out.
     fn do_again(&mut self, alloc: Global, plant: &mut Plant, place: usize) -> Result<(), Refused>
         requires rules { KeepsTheRules plant.old.state }
         requires place { place < length self.old.changes }
@@ -114,7 +114,7 @@ impl Journal {
     }
 
     /// Notes that the last change undone, at this place, stands again. It gives what was kept of it
-    /// while it was undone. Can't answer want of memory.
+    /// while it was undone. Can't run out of memory.
     fn note_redone(&mut self, place: usize) -> Option<Undone>
         requires place { place < length self.old.changes }
         requires undone { IsFalse (stands_at self.old.changes place) }

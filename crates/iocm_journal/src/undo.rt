@@ -67,7 +67,7 @@ impl Journal {
 
     /// J2 or B1, if it is in the way of the undo of the standing change at a place.
     ///
-    /// `AllocError` (M1): memory was wanted.
+    /// `AllocError` (M1): memory ran out.
     fn undo_obstacle(
         &self,
         alloc: Global,
@@ -94,7 +94,7 @@ impl Journal {
     /// that one fits is tried only where a change stood on it if it didn't: what stands on a change
     /// that fits would stand on it then, too.
     ///
-    /// `AllocError` (M1): memory was wanted.
+    /// `AllocError` (M1): memory ran out.
     fn stood_on_by(
         &self,
         alloc: Global,
@@ -121,7 +121,7 @@ impl Journal {
     /// Takes the standing change at a place back, by its inverse tree; it is the last one undone
     /// then.
     ///
-    /// The refusal that the inverse tree means, or M1: memory was wanted.
+    /// The refusal that the inverse tree means, or M1: memory ran out.
     fn take_back(&mut self, alloc: Global, plant: &mut Plant, place: usize) -> Result<(), Refused>
         requires rules { KeepsTheRules plant.old.state }
         requires place { place < length self.old.changes }

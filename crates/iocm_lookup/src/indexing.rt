@@ -9,7 +9,7 @@ use std::alloc::{AllocError, Allocator};
 /// is built of them at once, in the time of sorting them, or in proportion to their number where
 /// they stand in order already.
 ///
-/// `AllocError` (M1): memory was wanted.
+/// `AllocError` (M1): memory ran out.
 pub fn index_of<A: Allocator, B: Allocator + Clone>(
     alloc: B,
     config: &Config<A>,

@@ -7,7 +7,7 @@ use std::alloc::{AllocError, Allocator};
 /// Whether a number is in a list twice. Where each is greater than the one before, as is the rule,
 /// one walk over them tells. Else they are sorted first.
 ///
-/// `AllocError` (M1): memory was wanted.
+/// `AllocError` (M1): memory ran out.
 pub fn is_any_twice<A: Allocator>(mut numbers: Vec<u64, A>) -> Result<bool, AllocError>
     ensures { IfOk result (λ twice. twice ≡ has_twice numbers.items) }
 {

@@ -19,7 +19,7 @@ impl<A: Allocator + Copy> Numbers<A> {
     /// in a channel subsystem and set. The time is in proportion to the number of rows where they
     /// stand in the order of places and of number cells, and else to that of sorting them.
     ///
-    /// `AllocError` (M1): memory was wanted.
+    /// `AllocError` (M1): memory ran out.
     pub fn from_rows<B: Allocator>(alloc: A, rows: Vec<(Place, u16), B>) -> Result<Self, AllocError>
         requires places { IsDistinct (eq_by_cmp place_cmp) (keys_of rows.items) }
         requires apart { HasNoNumberTwice (from_entries rows.items) }

@@ -17,7 +17,7 @@ impl<A: Allocator> Numbers<A> {
     /// after the change; the rows are those that it freed and gave. A number that was freed and
     /// given to another device is one change. The time is that of some look-ups for each row.
     ///
-    /// `AllocError` (M1): memory was wanted.
+    /// `AllocError` (M1): memory ran out.
     pub fn list_changes<B: Allocator + Copy>(
         &self,
         alloc: B,

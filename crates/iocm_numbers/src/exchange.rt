@@ -9,7 +9,7 @@ use std::alloc::Allocator;
 
 impl<A: Allocator> Numbers<A> {
     /// Takes the numbers at the places of some rows back, and then gives the numbers of others to
-    /// their places. Can't answer want of memory: there is room for each that is given. Those that
+    /// their places. Can't run out of memory: there is room for each that is given. Those that
     /// are given fit in once the others are taken back. With what a change of the configuration
     /// freed and gave it is taken back, or done again.
     pub fn exchange(&mut self, out: &[(Place, u16)], back: &[(Place, u16)])

@@ -11,7 +11,7 @@ use std::alloc::{AllocError, Allocator};
 /// The number cells that are taken at opening with their devices, in the order of cells. No table of
 /// the numbers is made.
 ///
-/// `AllocError` (M1): memory was wanted.
+/// `AllocError` (M1): memory ran out.
 pub fn opening_cells<A: Allocator, B: Allocator + Copy>(
     alloc: B,
     config: &Config<A>,

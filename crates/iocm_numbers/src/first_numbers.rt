@@ -13,7 +13,7 @@ use std::alloc::{AllocError, Allocator};
 /// The numbers at opening: in each channel subsystem and subchannel set 0, 1, 2, .. for the devices
 /// that are reached there, in the order of device numbers.
 ///
-/// `AllocError` (M1): memory was wanted.
+/// `AllocError` (M1): memory ran out.
 pub fn opening<A: Allocator, B: Allocator + Copy>(
     alloc: B,
     config: &Config<A>,
@@ -29,7 +29,7 @@ pub fn opening<A: Allocator, B: Allocator + Copy>(
 /// The numbers at opening as a list: each place with its number, by channel subsystem, set and
 /// device number.
 ///
-/// `AllocError` (M1): memory was wanted.
+/// `AllocError` (M1): memory ran out.
 pub fn opening_rows<A: Allocator, B: Allocator + Copy>(
     alloc: B,
     config: &Config<A>,

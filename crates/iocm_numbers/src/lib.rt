@@ -4,7 +4,7 @@
 //! `Numbers<A>` keeps three things that one invariant ties: the places of devices with their
 //! numbers, the number cells with their devices, and a bit for each number that is given away.
 //! Contracts see the finite map from places to numbers and what has room: `room` makes room for a
-//! number at a place, `place` and `free` can't answer want of memory and leave the room as it is.
+//! number at a place, `place` and `free` can't run out of memory and leave the room as it is.
 //! What the layers above rely on: `number_of` and `device_at` are the look-ups of the two
 //! directions, `cells` walks over all number cells by channel subsystem, set and number, and
 //! `lowest_free` is the least number that no device has.

@@ -16,7 +16,7 @@ impl<A: Allocator> Numbers<A> {
     /// order of the places. A place whose device has no number has none. So the cells are listed at
     /// which subchannels may change, before and after a change.
     ///
-    /// `AllocError` (M1): memory was wanted.
+    /// `AllocError` (M1): memory ran out.
     pub fn list_cells<B: Allocator>(
         &self,
         cells: &mut Vec<NumberCell, B>,
@@ -35,7 +35,7 @@ impl<A: Allocator> Numbers<A> {
 
 /// The same number cells in order, each once.
 ///
-/// `AllocError` (M1): memory was wanted.
+/// `AllocError` (M1): memory ran out.
 pub fn sort_apart<B: Allocator>(cells: Vec<NumberCell, B>) -> Result<Vec<NumberCell, B>, AllocError>
     ensures order { IfOk result (λ sorted. IsStrictlySortedBy cell_cmp sorted.items) }
     ensures same { IfOk result (λ sorted. (c : number_cell.NumberCell)

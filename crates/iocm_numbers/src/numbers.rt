@@ -61,7 +61,7 @@ impl<A: Allocator> Model for Numbers<A> {
 impl<A: Allocator + Copy> Numbers<A> {
     /// No numbers, and no room.
     ///
-    /// `AllocError` (M1): memory was wanted for the notes of which numbers are given away, 192 KB.
+    /// `AllocError` (M1): memory ran out for the notes of which numbers are given away, 192 KB.
     pub fn new(alloc: A) -> Result<Self, AllocError>
         ensures numbers { IfOk result (λ n. n.numbers ≡ map.empty) }
         ensures place_room { IfOk result (λ n. n.place_room ≡ []) }
@@ -130,7 +130,7 @@ impl<A: Allocator> Numbers<A> {
     /// Makes room for a number at a place. What had room has it still, nothing else gets room, and
     /// no number changes.
     ///
-    /// `AllocError` (M1): memory was wanted, which can't be where there is room already.
+    /// `AllocError` (M1): memory ran out, which can't be where there is room already.
     pub fn room(&mut self, place: Place, number: u16) -> Result<(), AllocError>
     where
         A: Clone,
@@ -148,7 +148,7 @@ impl<A: Allocator> Numbers<A> {
         self.cells.room(cell)
     }
 
-    /// Gives a device at a place a number. Can't answer want of memory: there is room for it. The
+    /// Gives a device at a place a number. Can't run out of memory: there is room for it. The
     /// place has no number, and no device has the number in its channel subsystem and set.
     pub fn place(&mut self, place: Place, number: u16)
         requires room { HasRoom self.old place number }
@@ -165,7 +165,7 @@ impl<A: Allocator> Numbers<A> {
         set_bit(&mut self.words, bit_of(cell));
     }
 
-    /// Takes the number of a device at a place back, if it has one. Can't answer want of memory,
+    /// Takes the number of a device at a place back, if it has one. Can't run out of memory,
     /// and the room for it stays.
     pub fn free(&mut self, place: Place) -> Option<u16>
         ensures before { result ≡ map.get self.old.numbers place }

@@ -43,7 +43,7 @@ impl<A: Allocator> Numbers<A> {
         Ok(left)
     }
 
-    /// Of these rows those whose places have no number. Can't answer want of memory.
+    /// Of these rows those whose places have no number. Can't run out of memory.
     pub(crate) fn unnumbered_of<B: Allocator>(
         &self,
         mut rows: Vec<(Place, u16), B>,
@@ -64,7 +64,7 @@ impl<A: Allocator> Numbers<A> {
         }
     }
 
-    /// Gives these numbers to their places, which have none. Can't answer want of memory: there is
+    /// Gives these numbers to their places, which have none. Can't run out of memory: there is
     /// room for each.
     pub(crate) fn place_all(&mut self, rows: &[(Place, u16)])
         requires room { HaveRoom self.old rows.now }

@@ -22,7 +22,7 @@ impl<A: Allocator> Numbers<A> {
     /// device that stays, or carried twice. Gives the numbers that were freed, and those that were
     /// given.
     ///
-    /// `AllocError` (M1): memory was wanted. The numbers are as before then; room that was made
+    /// `AllocError` (M1): memory ran out. The numbers are as before then; room that was made
     /// stays.
     pub fn renumber<B: Allocator, C: Allocator + Copy>(
         &mut self,

@@ -22,7 +22,7 @@ impl<A: Allocator> Numbers<A> {
     /// carried for a device that doesn't come in, or that a device holds that leaves, is not taken.
     /// The time is that of some look-ups for each carried number.
     ///
-    /// `AllocError` (M1): memory was wanted, which can't be where no number is carried.
+    /// `AllocError` (M1): memory ran out, which can't be where no number is carried.
     pub fn is_taken<B: Allocator, C: Allocator + Clone>(
         &self,
         alloc: C,

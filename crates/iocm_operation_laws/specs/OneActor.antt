@@ -37,7 +37,7 @@ abbrev pub StandAsInTheScript : seen.Core → List ChangeTree → List (List Lin
 StandAsInTheScript core ts rounds o =
     calls_of_entries o.closed.trace.entries.items ≡ calls_of_entries core.entries ++ flat_map (calls_of_lines ts) rounds
 
--- no entry is want of memory
+-- no entry is lack of memory
 abbrev pub HadMemory : History → Type 0
 HadMemory h = AllByRecursion (λ (e : history.Entry). e.answer ≢ Refused (refusal_at M1 Nothing)) h
 

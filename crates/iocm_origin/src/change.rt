@@ -16,7 +16,7 @@ use std::alloc::{AllocError, Global};
 
 /// Where in a change deck of these lines a refusal comes from, and none where it is another text's.
 ///
-/// `AllocError` (M1): memory was wanted.
+/// `AllocError` (M1): memory ran out.
 pub fn origin_in_change(
     alloc: Global,
     cards: &[Card],
@@ -84,7 +84,7 @@ fn origin_of_node(
 
 /// The end, where the lines have no statements.
 ///
-/// `AllocError` (M1): memory was wanted.
+/// `AllocError` (M1): memory ran out.
 fn nowhere(fault: Fault) -> Result<Option<Origin>, AllocError>
     ensures end { IfOk result (λ found. found ≡ Some Origin.End) }
     ensures memory { IfOk result (λ found. fault.rule ≡ Rule.M1 → ⊥) }

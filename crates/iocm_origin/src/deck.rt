@@ -20,7 +20,7 @@ use std::alloc::{AllocError, Global};
 /// Where in a configuration deck of these lines a refusal comes from, and none where the deck isn't
 /// refused so.
 ///
-/// `AllocError` (M1): memory was wanted.
+/// `AllocError` (M1): memory ran out.
 pub fn origin_in_deck(
     alloc: Global,
     cards: &[Card],

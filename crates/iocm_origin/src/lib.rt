@@ -9,7 +9,7 @@
 //!
 //! What the program may rely on: a text has an origin exactly where it is refused so. The line is
 //! that of the fault, or that of the statement from which the key or the node comes
-//! (`iocm_where`). Only want of memory may come instead.
+//! (`iocm_where`). Only lack of memory may come instead.
 //!
 //! Begin with `specs/Origin.antt` and `specs/Remark.antt`. What names no source is our own.
 #![tactic(auto)]

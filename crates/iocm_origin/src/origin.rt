@@ -47,7 +47,7 @@ pub fn as_breach(told: Told) -> Told
 
 /// The line of a text's first fault, where it is the refusal.
 ///
-/// `AllocError` (M1): the text has no fault of its own, memory was wanted.
+/// `AllocError` (M1): the text has no fault of its own, memory ran out.
 pub fn origin_of_fault(fault: Fault, told: Told) -> Result<Option<Origin>, AllocError>
     ensures some { IfOk result (λ found. IfSome found
         (λ origin. (told ≡ said.Fault fault) × (origin ≡ Origin.Line fault.line))) }

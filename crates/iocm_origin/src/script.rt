@@ -11,7 +11,7 @@ use std::alloc::{AllocError, Global};
 /// Where in a script of these lines a refusal comes from, for a command line with so many change
 /// decks, and none where the script isn't refused so.
 ///
-/// `AllocError` (M1): memory was wanted.
+/// `AllocError` (M1): memory ran out.
 pub fn origin_in_script(
     alloc: Global,
     cards: &[Card],

@@ -1,4 +1,4 @@
--- Why a call on a machine is refused: by its definition, or for want of memory.
+-- Why a call on a machine is refused: by its definition, or for lack of memory.
 use Rattle.std.specs.Prelude.{◌≡◌, Bool, if◌then◌else◌, Option, None, Some, ◌⊎◌}
 use Rattle.std.specs.Option.{option_map, option_or}
 use Rattle.std.specs.FinMap.{contains_key}
@@ -19,15 +19,15 @@ use Rattle.iocm_plant.specs.declared.quiet.Quiet.TheVariants.{Wanted, Whatever}
 use Rattle.iocm_plant.specs.declared.obstacle.Obstacle.{Obstacle}
 use Rattle.iocm_plant.specs.declared.obstacle.Obstacle.TheVariants as obstacle
 
--- want of memory
+-- lack of memory
 abbrev pub no_memory : Refused
 no_memory = refusal_at M1 Nothing
 
--- a refusal is the one that is due, or want of memory
+-- a refusal is the one that is due, or lack of memory
 abbrev pub IsDue : Option Refused → Refused → Type 0
 IsDue due why = (due ≡ Some why) ⊎ (why ≡ no_memory)
 
--- what stands in the way is the refusal that is due, or want of memory
+-- what stands in the way is the refusal that is due, or lack of memory
 abbrev pub Hinders : Option Refused → Obstacle → Type 0
 Hinders due (obstacle.Refused why) = due ≡ Some why
 Hinders due obstacle.NoMemory = Unit {0}

@@ -63,7 +63,7 @@ pub struct Followed {
 /// Lets the numbers and the seats follow a change of the configuration, with what comes along.
 ///
 /// E4: a number that comes along is taken. B1, where altered subchannels are wanted quiet: the
-/// first that isn't. M1: memory was wanted. Then numbers and seats are as before, but some may have
+/// first that isn't. M1: memory ran out. Then numbers and seats are as before, but some may have
 /// got places.
 pub fn follow(
     alloc: Global,

@@ -5,7 +5,7 @@ ghost use Rattle.iocm_plant.specs.Refusing.{Hinders, IsDue, no_memory};
 use iocm_types::{At, Refused, Rule};
 use std::alloc::AllocError;
 
-/// What stands in the way of a call: a refusal, or want of memory. The word is own.
+/// What stands in the way of a call: a refusal, or lack of memory. The word is own.
 #[derive(Clone, Copy)]
 pub enum Obstacle {
     Refused(Refused),
@@ -24,7 +24,7 @@ impl From<AllocError> for Obstacle {
 }
 
 impl Obstacle {
-    /// The refusal that it is; want of memory is M1, about nothing that could be named.
+    /// The refusal that it is; lack of memory is M1, about nothing that could be named.
     pub fn refusal(self) -> Refused
         ensures { (due : Option refused.Refused) → Hinders due self → IsDue due result }
     {

@@ -39,7 +39,7 @@ impl Plant {
     /// a fresh live record for each subchannel that is seen.
     ///
     /// The first breach of V1 to V14, by rule, then by key; M1, which may stand in its place:
-    /// memory was wanted.
+    /// memory ran out.
     pub fn open(alloc: Global, config: Config) -> Result<Plant, Unopened>
         ensures opened { IfOk result (λ plant. plant.state ≡ opening_state config.records) }
         ensures kept { OnOk result (opening_refusal config.records ≡ None) }

@@ -37,7 +37,7 @@ impl Plant {
     ///
     /// Refused by the first that applies: E1 (add, the key is there), E2 (delete or modify, it
     /// isn't), E4 (a number that comes along is taken), B1 (an altered subchannel isn't quiet; the
-    /// least is named). M1, which may stand in place of any other: memory was wanted. A refused
+    /// least is named). M1, which may stand in place of any other: memory ran out. A refused
     /// edit leaves the state as it was.
     pub fn apply(&mut self, alloc: Global, edit: Edit) -> Result<Applied, Refused>
         ensures accepted { OnOk result (refusal_of edit.edit self.old.state ≡ None) }

@@ -15,7 +15,7 @@ use iocm_tree::Action;
 use iocm_types::Key;
 
 /// Performs an action on the configuration and on the index of who names whom, and gives the action
-/// that takes it back, with the record that was there. Can't answer want of memory: there are
+/// that takes it back, with the record that was there. Can't run out of memory: there are
 /// places for the key and for what the record names.
 pub fn exchange_record(config: &mut Config, index: &mut Index, action: Action) -> Action
     requires index { IsIndexOf config.old.records index.old }
@@ -85,7 +85,7 @@ fn unlink_record(config: &Config, index: &mut Index, key: &Key)
     }
 }
 
-/// Changes the record of a key back, by the action that changing it gave. Can't answer want of
+/// Changes the record of a key back, by the action that changing it gave. Can't run out of
 /// memory.
 pub fn change_back(config: &mut Config, index: &mut Index, back: Action)
     requires index { IsIndexOf config.old.records index.old }

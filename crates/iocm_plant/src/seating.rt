@@ -31,7 +31,7 @@ pub struct Settled {
 /// records that come along. The changes are of what is seen at these seats, and come with the live
 /// records that they meet.
 ///
-/// B1, where altered subchannels are wanted quiet: the first that isn't. M1: memory was wanted.
+/// B1, where altered subchannels are wanted quiet: the first that isn't. M1: memory ran out.
 /// Then no seat has changed, but some subchannels may have got places.
 pub fn seat(
     alloc: Global,

@@ -10,7 +10,7 @@ use iocm_types::{Io, Order, SubId};
 
 impl Plant {
     /// An order of an image on its subchannel: condition code 3 where the subchannel isn't there,
-    /// else as its view and its live record answer. Can't answer want of memory.
+    /// else as its view and its live record answer. Can't run out of memory.
     pub fn step(&mut self, subchannel: SubId, order: Order) -> Io
         ensures answer { result ≡ order_answer order (subchannel_in self.old.state subchannel) }
         ensures state { self.new.state ≡ after_step subchannel (step.order order) self.old.state }
@@ -25,7 +25,7 @@ impl Plant {
 
     /// The device of a subchannel begins what it was started for: a start that is pending becomes
     /// active. Else nothing changes, as where the subchannel isn't there. The answer is whether it
-    /// did. Can't answer want of memory.
+    /// did. Can't run out of memory.
     pub fn device_begin(&mut self, subchannel: SubId) -> bool
         ensures answer { result ≡ begins_function (subchannel_in self.old.state subchannel) }
         ensures state { self.new.state ≡ after_step subchannel step.device_begin self.old.state }
@@ -40,7 +40,7 @@ impl Plant {
 
     /// The device of a subchannel ends a function that is in progress: its status is pending then.
     /// Else nothing changes, as where the subchannel isn't there. The answer is whether it did.
-    /// Can't answer want of memory.
+    /// Can't run out of memory.
     pub fn device_end(&mut self, subchannel: SubId) -> bool
         ensures answer { result ≡ ends_function (subchannel_in self.old.state subchannel) }
         ensures state { self.new.state ≡ after_step subchannel step.device_end self.old.state }

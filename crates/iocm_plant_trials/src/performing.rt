@@ -47,7 +47,7 @@ fn apply_or_leave(
     }
 }
 
-/// Whether an edit is refused for want of memory.
+/// Whether an edit is refused for lack of memory.
 fn wants_memory(performed: &Result<Edit, Refused>) -> bool {
     match performed {
         Ok(_) => false,
@@ -91,7 +91,7 @@ fn force(alloc: Global, plant: &mut Plant, edit: Edit) -> Result<Edit, Refused>
     Ok(inverse)
 }
 
-/// Performs an edit that was refused for want of memory.
+/// Performs an edit that was refused for lack of memory.
 fn force_anew(alloc: Global, plant: &mut Plant, edit: Edit, before: &Sight) -> Result<Edit, Fail>
     ensures back { IfOk result (λ i. CanUnapply i plant.new) }
     ensures leads { IfOk result (λ i. LeadsBack i plant.old plant.new) }

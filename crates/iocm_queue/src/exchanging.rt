@@ -15,7 +15,7 @@ use std::thread::{Threads, join};
 
 /// Two operators send their lines from threads of their own, and the worker takes them in a third.
 /// It gives the items in the order in which they were taken: among them are the lines of each
-/// operator, in order, each once. M1, the caller's word for `AllocError`: memory was wanted.
+/// operator, in order, each once. M1, the caller's word for `AllocError`: memory ran out.
 ///
 /// Where no thread can be made, the operators send before the worker takes; with more than 14 lines
 /// they then wait for ever.

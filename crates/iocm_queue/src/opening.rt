@@ -11,7 +11,7 @@ use std::alloc::{AllocError, Global};
 const PLACES: usize = 16;
 
 /// A queue: operators 0 and 1, which have sent nothing, and the worker, which has taken nothing.
-/// M1, the caller's word for `AllocError`: memory was wanted.
+/// M1, the caller's word for `AllocError`: memory ran out.
 pub fn queue<T: Drop>(alloc: Global) -> Result<(Operator<T>, Operator<T>, Worker<T>), AllocError>
     ensures first { IfOk result (λ q. q.0 ≡ record { channel = q.2.channel; number = 0; sent = [] }) }
     ensures second { IfOk result (λ q. q.1 ≡ record { channel = q.2.channel; number = 1; sent = [] }) }

@@ -46,7 +46,7 @@ impl<A: Allocator> Carried<A> {
 }
 
 impl<A: Allocator> Carried<A> {
-    /// The same operand under another allocator. Answers the want of memory alone.
+    /// The same operand under another allocator. Answers the lack of memory alone.
     pub fn copy_in<B: Allocator + Clone>(&self, alloc: B) -> Result<Carried<B>, AllocError>
         ensures { IfOk result (λ carried. carried ≡ self.now) }
     {
@@ -61,7 +61,7 @@ impl<A: Allocator> Carried<A> {
     }
 }
 
-/// The same operands in their order under another allocator. Answers the want of memory alone.
+/// The same operands in their order under another allocator. Answers the lack of memory alone.
 pub fn copy_carried<A: Allocator, B: Allocator + Clone>(
     carried: &[Carried<A>],
     alloc: B,

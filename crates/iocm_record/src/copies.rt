@@ -5,7 +5,7 @@ use crate::carried::copy_carried;
 use crate::{DeviceFields, PathFields, UnitFields};
 use std::alloc::{AllocError, Allocator};
 
-/// The same path under another allocator. Answers the want of memory alone.
+/// The same path under another allocator. Answers the lack of memory alone.
 pub fn copy_path<A: Allocator, B: Allocator + Clone>(
     path: &PathFields<A>,
     alloc: B,
@@ -22,7 +22,7 @@ pub fn copy_path<A: Allocator, B: Allocator + Clone>(
     })
 }
 
-/// The same control unit under another allocator. Answers the want of memory alone.
+/// The same control unit under another allocator. Answers the lack of memory alone.
 pub fn copy_unit<A: Allocator, B: Allocator + Clone>(
     unit: &UnitFields<A>,
     alloc: B,
@@ -39,7 +39,7 @@ pub fn copy_unit<A: Allocator, B: Allocator + Clone>(
     })
 }
 
-/// The same device under another allocator. Answers the want of memory alone.
+/// The same device under another allocator. Answers the lack of memory alone.
 pub fn copy_device<A: Allocator, B: Allocator + Clone>(
     device: &DeviceFields<A>,
     alloc: B,

@@ -44,7 +44,7 @@ impl<A: Allocator> Model for DeviceLists<A> {
 impl<A: Allocator> DeviceLists<A> {
     ghost use Rattle.iocm_record.specs.Lists.{Lists};
 
-    /// These lists. Answers the want of memory alone, and not for one control unit and nothing else.
+    /// These lists. Answers the lack of memory alone, and not for one control unit and nothing else.
     pub fn new(
         alloc: A,
         units: Vec<UnitNo, A>,
@@ -108,7 +108,7 @@ impl<A: Allocator> DeviceLists<A> {
         }
     }
 
-    /// The same lists under another allocator. Answers the want of memory alone, and not for one
+    /// The same lists under another allocator. Answers the lack of memory alone, and not for one
     /// control unit and nothing else.
     pub fn copy_in<B: Allocator + Clone>(&self, alloc: B) -> Result<DeviceLists<B>, AllocError>
         ensures { IfOk result (λ copy. copy ≡ self.now) }

@@ -122,14 +122,14 @@ impl<A: Allocator> Record<A> {
         Record { body }
     }
 
-    /// The record of a channel path. Answers the want of memory alone.
+    /// The record of a channel path. Answers the lack of memory alone.
     pub fn of_path(alloc: A, fields: PathFields<A>) -> Result<Self, AllocError>
         ensures { IfOk result (λ r. r ≡ path (path_of fields)) }
     {
         Ok(Record::new(RecordBody::Path(Box::new(alloc, fields)?)))
     }
 
-    /// The record of a control unit. Answers the want of memory alone.
+    /// The record of a control unit. Answers the lack of memory alone.
     pub fn of_unit(alloc: A, fields: UnitFields<A>) -> Result<Self, AllocError>
         ensures { IfOk result (λ r. r ≡ unit (unit_of fields)) }
     {
@@ -211,7 +211,7 @@ impl<A: Allocator> Record<A> {
         }
     }
 
-    /// An equal record under another allocator. Answers the want of memory alone.
+    /// An equal record under another allocator. Answers the lack of memory alone.
     pub fn copy_in<B: Allocator + Clone>(&self, alloc: B) -> Result<Record<B>, AllocError>
         ensures { IfOk result (λ copy. copy ≡ self.now) }
     {

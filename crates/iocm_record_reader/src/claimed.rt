@@ -25,7 +25,7 @@ pub struct Claimed {
 }
 
 impl Claimed {
-    /// The keys of no records. Can't answer want of memory.
+    /// The keys of no records. Can't run out of memory.
     pub fn new(alloc: Global) -> Self
         ensures { IsKept result [] }
     {

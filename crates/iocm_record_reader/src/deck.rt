@@ -127,7 +127,7 @@ fn images_or_none(alloc: Global, statement: &Statement) -> Result<Vec<ImageEntry
 }
 
 /// The images of the machine, which defaults look at wherever the RESOURCE statement stands. Answers
-/// the want of memory alone.
+/// the lack of memory alone.
 #[tactic(auto, using(crate::proofs::Machine::machine_steps))]
 pub fn machine_images(
     alloc: Global,

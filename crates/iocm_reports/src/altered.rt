@@ -19,7 +19,7 @@ use std::collections::BTreeMap;
 /// subchannel is among them that one edit altered and a later one put back. The time is that
 /// of sorting them.
 ///
-/// `AllocError` (M1): memory was wanted.
+/// `AllocError` (M1): memory ran out.
 pub fn altered_rows(
     alloc: Global,
     done: &Done,

@@ -127,7 +127,7 @@ impl fmt::Display for CountsLine {
 
 /// Prints that a change was made and how many subchannels it altered, and a line for each image
 /// that has rows, in order: how many of its subchannels are gone, came, changed, and are the same.
-/// Can't answer want of memory.
+/// Can't run out of memory.
 pub fn print_counts<W: Write + Drop>(
     altered: usize,
     rows: &[ViewChange],

@@ -24,7 +24,7 @@ use std::fmt;
 /// doesn't say of online paths: that one isn't online to an image of its access list, or is online
 /// to another image.
 ///
-/// `AllocError` (M1): memory was wanted.
+/// `AllocError` (M1): memory ran out.
 pub fn deck_text(alloc: Global, config: &Config) -> Result<Vec<u8>, AllocError>
     ensures { IfOk result (λ bytes. bytes.items ≡ meaning.deck_text config.now.records) }
 {

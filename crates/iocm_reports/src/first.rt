@@ -11,7 +11,7 @@ use std::collections::BTreeMap;
 /// What is listed by subchannel, in order: of what is listed of one subchannel the first. The time
 /// is that of sorting.
 ///
-/// `AllocError` (M1): memory was wanted.
+/// `AllocError` (M1): memory ran out.
 pub(crate) fn first_of_each(
     alloc: Global,
     listed: Vec<(SubId, Option<View>)>,

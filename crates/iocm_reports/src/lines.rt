@@ -15,7 +15,7 @@ const HEADING: &[u8] = b"  CSS IM SET SUBC DEVN PIM PAM CHPIDS\n";
 
 /// Prints that a change was made and how many subchannels it altered, and under the heading the
 /// lines of rows: behind `-` what was seen, behind `+` what is seen now, behind `=` what is the
-/// same. Can't answer want of memory.
+/// same. Can't run out of memory.
 pub fn print_altered<W: Write + Drop>(
     altered: usize,
     rows: &[ViewChange],

@@ -67,7 +67,7 @@ pub fn drive<B: Identity + Send + Sync, R: Threads + Wait + Sync, G: Gates + Syn
     }
 }
 
-/// A round of which nothing is made, for want of memory.
+/// A round of which nothing is made, for lack of memory.
 fn not_driven<B: Identity>(alloc: Global, seats: Seats<B>) -> Driven<B>
     ensures a { (calls : List its_call.Call) → ImageDid calls seats.a result.a }
     ensures b { (calls : List its_call.Call) → ImageDid calls seats.b result.b }

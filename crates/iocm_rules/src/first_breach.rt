@@ -57,7 +57,7 @@ pub fn check<A: Allocator, N: Allocator, I: Allocator>(
 /// then by key. Neither a table of the numbers nor an index is made, but where one of V10, V13 and
 /// V14 may be broken.
 ///
-/// `AllocError` (M1): memory was wanted.
+/// `AllocError` (M1): memory ran out.
 pub fn check_at_opening<A: Allocator, B: Allocator + Copy>(
     alloc: B,
     config: &Config<A>,

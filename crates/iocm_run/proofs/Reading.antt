@@ -17,7 +17,7 @@ pub picked : (P : List ℕ → Type 0) (known : Option (List ℕ)) → IfSome kn
 picked P None all some = (some.0, tt, some.1)
 picked P (Some k) all some = (k, refl, all)
 
--- want of memory is told from what can't be read
+-- lack of memory is told from what can't be read
 memory_is_another : memory ≡ unreadable → ⊥
 memory_is_another e = let rules : M1 ≡ L5 = ap (λ f. f.rule) e in cc
 

@@ -56,7 +56,7 @@ module _ {W : Type 0} (contents : W → Option (List ℕ)) (old new : Output W) 
       (appends_then _ _ _ one (two ++ what.text) first (appends_then _ _ _ two what.text second says.0), says.1)
   says_behind mid late (Err e) one two what first second says = tt
 
-  -- a fault that is due, or want of memory
+  -- a fault that is due, or lack of memory
   pub says_fails : {Y : Type 0} (Is : Shown → Type 0) (result : Result Status ConsoleError) (read : Result Y Fault) (fault : Fault) → Fails fault read
       → (read ≡ Err fault → Is (refused fault)) → IfOk result (Says contents old new (refused fault)) → IfOk result (SaysOne contents old new Is)
   says_fails Is (Err e) read fault fails is says = tt

@@ -6,7 +6,7 @@
 //!
 //! The program above may rely on this: what is printed is the one line of the first refusal, or it
 //! is of an operation in the sense of `IsOperation`, whose answers stand in one legal history of
-//! the script's calls, with the table of the state to which that leads. Only want of memory
+//! the script's calls, with the table of the state to which that leads. Only lack of memory
 //! (`refused M1`) may come instead, or the rule by which a round was stopped.
 //!
 //! Begin with `specs/Run.antt`, then `running.rt`. What names no source is our own.

@@ -49,8 +49,8 @@ impl fmt::Display for TraceLine {
     }
 }
 
-/// Prints the answers, how many calls were made, and the table at some number cells. Can't answer
-/// want of memory.
+/// Prints the answers, how many calls were made, and the table at some number cells. Can't run
+/// out of memory.
 fn print_lines<W: Write + Drop>(
     operated: &Operated,
     cells: &TableCells<'_, Global, Global>,
@@ -66,7 +66,7 @@ fn print_lines<W: Write + Drop>(
     write_lines(output, cells)
 }
 
-/// Prints answers, each behind the number of its line. Can't answer want of memory.
+/// Prints answers, each behind the number of its line. Can't run out of memory.
 fn print_answers<W: Write + Drop>(
     answers: &[Answered],
     output: &mut Output<W>,

@@ -8,7 +8,7 @@
 //! The layer above may rely on this: the answer is exactly the script that the definition
 //! `script_of` finds in the lines, or their first fault. No round has more lines of operators than
 //! their queue has room for. An image never says what an operator does, nor the other way round.
-//! Only want of memory, and L5 of a device that can't be read to its end, may come instead.
+//! Only lack of memory, and L5 of a device that can't be read to its end, may come instead.
 //!
 //! Begin with `specs/Verbs.antt`, the table of commands, and `specs/Commands.antt`; then
 //! `specs/Lines.antt` and `specs/Scripts.antt`. What names no source is our own.

@@ -57,7 +57,7 @@ struct NamedImage {
 /// is that of one view for each of these subchannels, by its seat and by the paths that are online.
 /// The live records are those of the same seats.
 ///
-/// `AllocError` (M1): memory was wanted.
+/// `AllocError` (M1): memory ran out.
 pub fn list_changes<A: Allocator, B: Allocator, C: Allocator, D: Allocator + Clone>(
     alloc: D,
     tried: &Tried<'_, A, B, C>,

@@ -18,7 +18,7 @@ use std::alloc::Allocator;
 
 /// Takes the seats of some subchannels out, noting the live record of each, and gives those of
 /// others their seats: what is seen there by the configuration and the numbers, with the live
-/// record that is given. Can't answer want of memory: there are places for these.
+/// record that is given. Can't run out of memory: there are places for these.
 pub fn exchange<A: Allocator, B: Allocator, C: Allocator>(
     seats: &mut Seats<A>,
     config: &Config<B>,

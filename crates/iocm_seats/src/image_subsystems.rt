@@ -10,7 +10,7 @@ use std::alloc::{AllocError, Allocator};
 
 /// The channel subsystems of the images of a configuration.
 ///
-/// `AllocError` (M1): memory was wanted.
+/// `AllocError` (M1): memory ran out.
 pub(crate) fn image_subsystems<A: Allocator, B: Allocator>(
     alloc: B,
     config: &Config<A>,

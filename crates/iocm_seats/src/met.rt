@@ -41,7 +41,7 @@ fn is_busy(live: &Live) -> bool
 /// A row for each subchannel of these changes at which something is seen afterwards, with any live
 /// record.
 ///
-/// `AllocError` (M1): memory was wanted.
+/// `AllocError` (M1): memory ran out.
 pub fn list_left<B: Allocator>(
     alloc: B,
     changes: &[ViewChange],

@@ -25,7 +25,7 @@ use std::alloc::{AllocError, Allocator};
 /// to the number cells that are taken, and for each to the images of its channel subsystem. Each
 /// cell is gone over for all of these before the next one, since their seats stand side by side.
 ///
-/// `AllocError` (M1): memory was wanted.
+/// `AllocError` (M1): memory ran out.
 pub fn open_seats<A: Allocator, B: Allocator, C: Allocator + Clone>(
     alloc: C,
     config: &Config<A>,
@@ -47,7 +47,7 @@ pub fn open_seats<A: Allocator, B: Allocator, C: Allocator + Clone>(
 /// Gives the subchannels of a channel subsystem their seats. The places of each set are made before
 /// that, so memory is asked for once.
 ///
-/// `AllocError` (M1): memory was wanted.
+/// `AllocError` (M1): memory ran out.
 fn open_subsystem<A: Allocator, B: Allocator, C: Allocator + Clone>(
     seats: &mut Seats<C>,
     alloc: C,
@@ -67,7 +67,7 @@ fn open_subsystem<A: Allocator, B: Allocator, C: Allocator + Clone>(
 
 /// Gives the subchannels of some images at some number cells their seats.
 ///
-/// `AllocError` (M1): memory was wanted.
+/// `AllocError` (M1): memory ran out.
 fn open_cells<'a, A: Allocator, B: Allocator + Clone>(
     seats: &mut Seats<B>,
     sights: &mut [ImageSight<'a, A>],
@@ -86,7 +86,7 @@ fn open_cells<'a, A: Allocator, B: Allocator + Clone>(
 
 /// Gives the subchannels of some images at a number cell their seats.
 ///
-/// `AllocError` (M1): memory was wanted.
+/// `AllocError` (M1): memory ran out.
 fn open_at<'a, A: Allocator, B: Allocator + Clone>(
     seats: &mut Seats<B>,
     sights: &mut [ImageSight<'a, A>],
@@ -105,7 +105,7 @@ fn open_at<'a, A: Allocator, B: Allocator + Clone>(
 
 /// Gives the subchannel of an image at a number cell its seat, if the image sees the device there.
 ///
-/// `AllocError` (M1): memory was wanted.
+/// `AllocError` (M1): memory ran out.
 fn open_cell<'a, A: Allocator, B: Allocator + Clone>(
     seats: &mut Seats<B>,
     sight: &mut ImageSight<'a, A>,

@@ -37,7 +37,7 @@ impl<A: Allocator> Model for Seats<A> {
 }
 
 impl<A: Allocator> Seats<A> {
-    /// No seats and no places. Can't answer want of memory.
+    /// No seats and no places. Can't run out of memory.
     pub fn new(alloc: A) -> Self
         ensures seats { result.seats ≡ map.empty }
         ensures places { result.places ≡ [] }
@@ -49,7 +49,7 @@ impl<A: Allocator> Seats<A> {
 
     /// Gives a subchannel a place, if it has none, and this seat.
     ///
-    /// `AllocError` (M1): memory was wanted. Then no seat has changed.
+    /// `AllocError` (M1): memory ran out. Then no seat has changed.
     pub(crate) fn add(&mut self, subchannel: SubId, seat: Seat) -> Result<(), AllocError>
     where
         A: Clone,
@@ -74,7 +74,7 @@ impl<A: Allocator> Seats<A> {
         self.grid.get(subchannel)
     }
 
-    /// The seat of a subchannel, to be changed in its place. Can't answer want of memory.
+    /// The seat of a subchannel, to be changed in its place. Can't run out of memory.
     pub fn get_mut(&mut self, subchannel: &SubId) -> Option<&mut Seat>
         ensures* writes_back { sem 𝓛 (lends_seat A.row A.Allocator self.entry subchannel.now result) }
         ensures value { option_copied_mut result ≡ map.get self.old.seats subchannel.now }
@@ -112,7 +112,7 @@ impl<A: Allocator> Seats<A> {
 
     /// Gives a subchannel a place, if it has none. No other loses its place, and no seat changes.
     ///
-    /// `AllocError` (M1): memory was wanted, which can't be where the subchannel has a place
+    /// `AllocError` (M1): memory ran out, which can't be where the subchannel has a place
     /// already.
     pub fn room(&mut self, subchannel: SubId) -> Result<(), AllocError>
     where
@@ -125,8 +125,8 @@ impl<A: Allocator> Seats<A> {
         self.grid.room(&subchannel)
     }
 
-    /// Gives a subchannel that has a place a seat, and gives back the one that it had. Can't answer
-    /// want of memory.
+    /// Gives a subchannel that has a place a seat, and gives back the one that it had. Can't run
+    /// out of memory.
     pub fn put(&mut self, subchannel: &SubId, seat: Seat) -> Option<Seat>
         requires { HasPlace self.old subchannel.now }
         ensures before { result ≡ map.get self.old.seats subchannel.now }
@@ -136,7 +136,7 @@ impl<A: Allocator> Seats<A> {
         self.grid.put(subchannel, seat)
     }
 
-    /// Takes the seat of a subchannel out, if it has one. Its place stays. Can't answer want of
+    /// Takes the seat of a subchannel out, if it has one. Its place stays. Can't run out of
     /// memory.
     pub fn take(&mut self, subchannel: &SubId) -> Option<Seat>
         ensures before { result ≡ map.get self.old.seats subchannel.now }

@@ -12,7 +12,7 @@ use std::alloc::{AllocError, Allocator};
 /// subsystem that are taken, in order. So the memory for the places of a set is asked for once. No
 /// seat changes, and no place is lost.
 ///
-/// `AllocError` (M1): memory was wanted.
+/// `AllocError` (M1): memory ran out.
 pub(crate) fn make_set_places<'a, A: Allocator, B: Allocator + Clone>(
     seats: &mut Seats<B>,
     cells: &[TakenCell<'a, A>],

@@ -17,7 +17,7 @@ use std::alloc::{AllocError, Allocator};
 /// Gives each subchannel of these changes a place, if it has none. One at which something is seen
 /// has a seat, so it isn't searched. No seat changes, and no place is lost.
 ///
-/// `AllocError` (M1): memory was wanted.
+/// `AllocError` (M1): memory ran out.
 pub fn make_places<A: Allocator + Clone>(
     seats: &mut Seats<A>,
     changes: &[ViewChange],
@@ -53,7 +53,7 @@ fn make_place<A: Allocator + Clone>(
 
 /// Gives each subchannel of these changes the seat that it has afterwards: none where nothing is
 /// seen any more, else the view with the live record that comes along for it, or with a fresh one
-/// where it is new, or with its own. Can't answer want of memory.
+/// where it is new, or with its own. Can't run out of memory.
 pub fn settle_all<A: Allocator, B: Allocator>(
     seats: &mut Seats<A>,
     changes: &[ViewChange],

@@ -14,7 +14,7 @@ use std::alloc::{AllocError, Allocator};
 /// The number cells of a channel subsystem that are taken, with their devices. Each device is
 /// looked up once, for all images.
 ///
-/// `AllocError` (M1): memory was wanted.
+/// `AllocError` (M1): memory ran out.
 pub(crate) fn subsystem_cells<'a, A: Allocator, B: Allocator, C: Allocator>(
     alloc: C,
     config: &'a Config<A>,

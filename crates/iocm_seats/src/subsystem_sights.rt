@@ -10,7 +10,7 @@ use std::alloc::{AllocError, Allocator};
 
 /// The images of a channel subsystem, in order. The paths that each reaches are looked up once.
 ///
-/// `AllocError` (M1): memory was wanted.
+/// `AllocError` (M1): memory ran out.
 pub(crate) fn subsystem_sights<'a, A: Allocator, B: Allocator>(
     alloc: B,
     config: &'a Config<A>,

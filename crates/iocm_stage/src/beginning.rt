@@ -24,7 +24,7 @@ use std::alloc::{AllocError, Allocator, Global};
 /// can be advanced, committed and aborted without memory. The state stays as it is.
 ///
 /// Refused as the activation of the tree is: by the first refusal that it means, or M1, where
-/// memory was wanted.
+/// memory ran out.
 pub fn begin<A: Allocator>(
     alloc: Global,
     plant: &mut Plant,

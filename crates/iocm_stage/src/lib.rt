@@ -3,7 +3,7 @@
 //! `begin` tries a change tree whole on a `Plant`, takes it back, and keeps in a `Staged` the edits
 //! that do it again and all memory that these will need. `Staged::advance` performs the next edit,
 //! `Staged::commit` all that are left, and `Staged::abort` takes back those that were performed:
-//! none of these can be refused, or answer want of memory. Meanwhile the subchannels that it alters
+//! none of these can be refused, or run out of memory. Meanwhile the subchannels that it alters
 //! are held: `Staged::holds` names them, and the layer above does no step on them.
 //!
 //! What the layer above may rely on: wherever steps come between, and no other change, so long as

@@ -8,7 +8,7 @@ ghost use Rattle.iocm_stage.specs.Performing.{LeadsOn, GoesBack};
 use iocm_plant::Plant;
 use iocm_tree::{Edit, Tree};
 
-/// Performs edits one after the other, the last of them first. Can't answer want of memory.
+/// Performs edits one after the other, the last of them first. Can't run out of memory.
 pub fn perform_all(plant: &mut Plant, edits: Vec<Edit>)
     requires { LeadsOn (reverse edits.items) plant.old }
     ensures state { (s : State) → LeadsTo (reverse edits.items) s plant.old → plant.new.state ≡ s }
@@ -20,7 +20,7 @@ pub fn perform_all(plant: &mut Plant, edits: Vec<Edit>)
     }
 }
 
-/// Takes a change back by its inverse tree, edit by edit. Can't answer want of memory.
+/// Takes a change back by its inverse tree, edit by edit. Can't run out of memory.
 pub fn take_back(plant: &mut Plant, inverse: Tree)
     requires { GoesBack (tree_of inverse) plant.old }
     ensures state { (s : State) → IsWayBack (tree_of inverse) s plant.old → plant.new.state ≡ s }

@@ -50,7 +50,7 @@ impl Staged {
     }
 
     /// Performs the next edit. The answer is how many are left then; where none was left, nothing
-    /// happens, and it is 0. Can't answer want of memory.
+    /// happens, and it is 0. Can't run out of memory.
     pub fn advance(&mut self, plant: &mut Plant) -> u64
         requires { IsStaged self.old plant.old }
         ensures stage { (t : Stage) (s : State) → IsStageOf self.old t s plant.old
@@ -66,7 +66,7 @@ impl Staged {
         self.left()
     }
 
-    /// Performs all edits that are left. It tells of the whole change. Can't answer want of memory.
+    /// Performs all edits that are left. It tells of the whole change. Can't run out of memory.
     pub fn commit(self, plant: &mut Plant) -> Done
         requires { IsStaged self plant.old }
         ensures state { (t : Stage) (s : State) → IsStageOf self t s plant.old
@@ -84,7 +84,7 @@ impl Staged {
         done
     }
 
-    /// Takes back the edits that were advanced. Can't answer want of memory.
+    /// Takes back the edits that were advanced. Can't run out of memory.
     pub fn abort(self, plant: &mut Plant)
         requires { IsStaged self plant.old }
         ensures state { (t : Stage) (s : State) → IsStageOf self t s plant.old → plant.new.state ≡ s }
@@ -99,7 +99,7 @@ impl Staged {
         perform_all(plant, back);
     }
 
-    /// Takes back the edits that were advanced, and keeps the change staged. Can't answer want of
+    /// Takes back the edits that were advanced, and keeps the change staged. Can't run out of
     /// memory.
     pub(crate) fn go_back(&mut self, plant: &mut Plant)
         requires { IsStaged self.old plant.old }

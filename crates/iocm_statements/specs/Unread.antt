@@ -6,14 +6,14 @@ use Rattle.iocm_types.specs.Fault.{memory}
 use Rattle.iocm_statements.specs.declared.unread.Unread.{Unread}
 use Rattle.iocm_statements.specs.declared.unread.Unread.TheVariants.{Memory, Malformed}
 
--- what a refusal says of what was to be read: there is nothing, or, where memory was wanted,
+-- what a refusal says of what was to be read: there is nothing, or, where memory ran out,
 -- nothing is said
 abbrev pub Refuses : {Y : Type 0} → Unread → Option Y → Type 0
 Refuses Memory read = Unit {0}
 Refuses Malformed read = read ≡ None
 
 -- what a reader promises: what it gives shows what was to be read, and where it is malformed there
--- was nothing to be read; only want of memory may come instead
+-- was nothing to be read; only lack of memory may come instead
 abbrev pub Reads : {X Y : Type 0} → (X → Y) → Result X Unread → Option Y → Type 0
 Reads view (Ok x) read = read ≡ Some (view x)
 Reads view (Err e) read = Refuses e read

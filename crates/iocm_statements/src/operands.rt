@@ -51,7 +51,7 @@ impl Operands {
     }
 
     /// The operands of a map, in its order. A map has room for nine at the least, and a deck has a
-    /// statement for each device, so the map is let go. Answers the want of memory alone.
+    /// statement for each device, so the map is let go. Answers the lack of memory alone.
     pub(crate) fn from_map(
         alloc: Global,
         map: IndexMap<OperandKey, ShortText>,

@@ -21,7 +21,7 @@ impl Model for ShortText {
 }
 
 impl ShortText {
-    /// A copy of these bytes. Answers the want of memory alone.
+    /// A copy of these bytes. Answers the lack of memory alone.
     pub(crate) fn from_slice(alloc: Global, bytes: &[u8]) -> Result<Self, AllocError>
         ensures { IfOk result (λ text. text ≡ bytes.now) }
     {

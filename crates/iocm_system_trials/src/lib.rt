@@ -11,7 +11,7 @@
 //! The trials: two threads of the system's own function (`pairs.rt`), eight threads (`crowd.rt`,
 //! `crowds.rt`), also where the trace becomes full, the count that is read beside calls
 //! (`watching.rt`), two systems in one function (`two_systems.rt`), what callers see in one thread
-//! (`counts.rt`), want of memory (`memory.rt`), and rounds of two images and two operators, in
+//! (`counts.rt`), lack of memory (`memory.rt`), and rounds of two images and two operators, in
 //! which all are seen to be at work at once (`rounds.rt`, `meeting.rt`, `round_trials.rt`). What
 //! names no source is our own.
 #![tactic(auto)]

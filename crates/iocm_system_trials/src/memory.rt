@@ -158,7 +158,7 @@ fn ask<B: Identity, R: Wait>(
     }
 }
 
-/// Whether an act is answered as it should be; where it was refused for want of memory, it is once
+/// Whether an act is answered as it should be; where it was refused for lack of memory, it is once
 /// that it is made anew.
 fn is_answered<B: Identity, R: Wait>(
     rt: &R,

@@ -17,7 +17,7 @@ impl<K: TableKey + Drop, V: Drop, A: Allocator + Clone> Table<K, V, A> {
     /// The time is in proportion to the number of rows where they stand in the order of keys, and
     /// else to that of sorting them.
     ///
-    /// `AllocError` (M1): memory was wanted.
+    /// `AllocError` (M1): memory ran out.
     pub fn from_rows<B: Allocator>(alloc: A, listed: Vec<(K, V), B>) -> Result<Self, AllocError>
         requires { IsDistinct (eq_by_cmp K.order) (keys_of (vec_items listed)) }
         ensures rows { IfOk result (λ t. rows K.order t ≡ map.from_entries (vec_items listed)) }

@@ -3,7 +3,7 @@
 //!
 //! A `Table` has rows under keys, in the order of keys. Contracts see the finite map of its rows
 //! and the keys that have a place. `room` gives a key a place; besides building it is the only call
-//! that may want memory. `put` wants a place and can't answer want of memory, and `take` leaves the
+//! that may want memory. `put` wants a place and can't run out of memory, and `take` leaves the
 //! place, so what was taken out can always be put back. A place is lost by `sweep` alone. The cost
 //! of a call grows with the logarithm of the table's size.
 //!

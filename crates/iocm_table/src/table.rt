@@ -36,7 +36,7 @@ impl<K: TableKey, V, A: Allocator> Model for Table<K, V, A> {
 }
 
 impl<K: TableKey, V, A: Allocator> Table<K, V, A> {
-    /// A table without rows and places. Can't answer want of memory.
+    /// A table without rows and places. Can't run out of memory.
     pub fn new(alloc: A) -> Self
         ensures rows { rows K.order result ≡ map.empty }
         ensures places { result.places ≡ [] }
@@ -62,7 +62,7 @@ impl<K: TableKey, V, A: Allocator> Table<K, V, A> {
         slot.as_ref()
     }
 
-    /// The row under a key, to be changed in its place, by one search. Can't answer want of memory.
+    /// The row under a key, to be changed in its place, by one search. Can't run out of memory.
     pub fn get_mut(&mut self, key: &K) -> Option<&mut V>
         ensures* writes_back { sem 𝓛 (lends_row K.row V.row A.row K.TableKey A.Allocator self.entry key.now result) }
         ensures value { option_copied_mut result ≡ map.get (rows K.order self.old) key.now }
@@ -84,7 +84,7 @@ impl<K: TableKey, V, A: Allocator> Table<K, V, A> {
     /// Gives a key a place, if it has none. Each other key that has a place keeps it, no other key
     /// gets one, and no row changes.
     ///
-    /// `AllocError` (M1): memory was wanted, which can't be where the key has a place already.
+    /// `AllocError` (M1): memory ran out, which can't be where the key has a place already.
     pub fn room(&mut self, key: K) -> Result<(), AllocError>
     where
         K: Drop,
@@ -102,8 +102,8 @@ impl<K: TableKey, V, A: Allocator> Table<K, V, A> {
         add_place(&mut self.slots, key)
     }
 
-    /// Puts a row under a key that has a place, and gives back the row that was there. Can't answer
-    /// want of memory.
+    /// Puts a row under a key that has a place, and gives back the row that was there. Can't run
+    /// out of memory.
     pub fn put(&mut self, key: &K, row: V) -> Option<V>
         requires { HasPlace K.order self.old key.now }
         ensures before { result ≡ map.get (rows K.order self.old) key.now }
@@ -120,7 +120,7 @@ impl<K: TableKey, V, A: Allocator> Table<K, V, A> {
         before
     }
 
-    /// Takes the row of a key out, if it has one. Its place stays. Can't answer want of memory.
+    /// Takes the row of a key out, if it has one. Its place stays. Can't run out of memory.
     pub fn take(&mut self, key: &K) -> Option<V>
         ensures before { result ≡ map.get (rows K.order self.old) key.now }
         ensures rows { rows K.order self.new ≡ map.remove (rows K.order self.old) key.now }

@@ -53,7 +53,7 @@ impl<A: Allocator> Action<A> {
 
     /// The same action under another allocator.
     ///
-    /// `AllocError` (M1): memory was wanted.
+    /// `AllocError` (M1): memory ran out.
     pub fn copy_in<B: Allocator + Clone>(&self, alloc: B) -> Result<Action<B>, AllocError>
         ensures { IfOk result (λ copy. action_of copy ≡ action_of self.now) }
     {

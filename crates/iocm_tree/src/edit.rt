@@ -77,7 +77,7 @@ impl<A: Allocator> Model for Edit<A> {
 
 impl<A: Allocator + Copy> Edit<A> {
     /// The edit that adds a record. Nothing comes along, and it has no room for its way back. Can't
-    /// answer want of memory.
+    /// run out of memory.
     pub fn add(alloc: A, entry: Record<A>) -> Self
         ensures { result ≡ bare (edits.add entry) }
     {
@@ -87,7 +87,7 @@ impl<A: Allocator + Copy> Edit<A> {
     }
 
     /// The edit that deletes the record of a key. Nothing comes along, and it has no room for its
-    /// way back. Can't answer want of memory.
+    /// way back. Can't run out of memory.
     pub fn delete(alloc: A, key: Key) -> Self
         ensures { result ≡ bare (edits.delete key) }
     {
@@ -97,7 +97,7 @@ impl<A: Allocator + Copy> Edit<A> {
     }
 
     /// The edit that replaces the record of a key. Nothing comes along, and it has no room for its
-    /// way back. Can't answer want of memory.
+    /// way back. Can't run out of memory.
     pub fn modify(alloc: A, entry: Record<A>) -> Self
         ensures { result ≡ bare (edits.modify entry) }
     {
@@ -178,8 +178,8 @@ impl<A: Allocator> Edit<A> {
         self.parts.meets.as_slice()
     }
 
-    /// Overwrites the live records that come along by others of the same subchannels. Can't answer
-    /// want of memory.
+    /// Overwrites the live records that come along by others of the same subchannels. Can't run
+    /// out of memory.
     pub fn set_kept(&mut self, rows: &[(SubId, Live)])
         requires { keys_of rows.now ≡ map.keys self.old.edit.lives }
         ensures lives { map.entries self.new.edit.lives ≡ rows.now }
@@ -193,7 +193,7 @@ impl<A: Allocator> Edit<A> {
 
     /// An equal edit under another allocator, with the same room for its way back.
     ///
-    /// `AllocError` (M1): memory was wanted.
+    /// `AllocError` (M1): memory ran out.
     pub fn copy_in<B: Allocator + Clone>(&self, alloc: B) -> Result<Edit<B>, AllocError>
         ensures { IfOk result (λ copy. copy ≡ self.now) }
     {
@@ -204,7 +204,7 @@ impl<A: Allocator> Edit<A> {
 }
 
 impl<A: Allocator> Parts<A> {
-    /// The same parts under another allocator. Answers the want of memory alone.
+    /// The same parts under another allocator. Answers the lack of memory alone.
     fn copy_in<B: Allocator + Clone>(&self, alloc: B) -> Result<Parts<B>, AllocError>
         requires { HasOrder self.now }
         ensures value { IfOk result (λ copy. carried_of copy ≡ carried_of self.now) }
@@ -225,7 +225,7 @@ impl<A: Allocator> Parts<A> {
     }
 }
 
-/// The same rows under another allocator. Answers the want of memory alone.
+/// The same rows under another allocator. Answers the lack of memory alone.
 fn copy_rows<T: Copy, B: Allocator + Clone>(rows: &[T], alloc: &B) -> Result<Vec<T, B>, AllocError>
     ensures { IfOk result (λ copies. copies.items ≡ rows.now) }
 {

@@ -80,7 +80,7 @@ impl<A: Allocator> Tree<A> {
     /// An equal tree under another allocator, each edit with the same room for its way back. It
     /// calls itself as deep as the tree is.
     ///
-    /// `AllocError` (M1): memory was wanted.
+    /// `AllocError` (M1): memory ran out.
     pub fn copy_in<B: Allocator + Copy>(&self, alloc: B) -> Result<Tree<B>, AllocError>
         ensures { IfOk result (λ copy. tree_of copy ≡ tree_of self.now) }
     {
@@ -88,7 +88,7 @@ impl<A: Allocator> Tree<A> {
     }
 
     /// The tree in reverse order: Rows and Groups all the way down; the parts of a Choose stay in
-    /// their order, and are reversed inside. It is done in place, so it can't answer want of
+    /// their order, and are reversed inside. It is done in place, so it can't run out of
     /// memory, and calls itself as deep as the tree is.
     pub fn reverse(self) -> Self
         ensures { tree_of result ≡ reversed (tree_of self) }
@@ -142,7 +142,7 @@ impl<A: Allocator> Tree<A> {
 }
 
 /// What is still to be let go of these parts and one more tree: the parts of that tree, the first
-/// of which is a Row of what else there is. Can't answer want of memory.
+/// of which is a Row of what else there is. Can't run out of memory.
 fn opened<A: Allocator>(rest: Vec<Tree<A>, A>, tree: Tree<A>) -> Vec<Tree<A>, A>
     requires { vec_len rest < vec_capacity rest }
     ensures { work_in (parts_of result.items) < work_in (parts_of (rest.items ++ tree ∷ [])) }

@@ -9,7 +9,7 @@ use crate::{Node, NodeKind, Nodes};
 use iocm_tree::{Edit, Tree};
 use std::alloc::{AllocError, Allocator};
 
-/// No nodes. Can't answer want of memory.
+/// No nodes. Can't run out of memory.
 pub fn no_nodes<A: Allocator>(alloc: A) -> Nodes<A>
     ensures { nodes_seen result ≡ [] }
 {
@@ -19,7 +19,7 @@ pub fn no_nodes<A: Allocator>(alloc: A) -> Nodes<A>
     }
 }
 
-/// The nodes with one more behind them. Answers the want of memory alone.
+/// The nodes with one more behind them. Answers the lack of memory alone.
 #[tactic(auto, using(crate::proofs::Counting::counting_steps))]
 pub fn with_node<A: Allocator>(nodes: Nodes<A>, node: Node<A>) -> Result<Nodes<A>, AllocError>
     ensures { IfOk result (λ after. nodes_seen after ≡ nodes_seen nodes ++ node_seen node ∷ []) }
@@ -44,7 +44,7 @@ fn tree_of_kind<A: Allocator>(kind: NodeKind, trees: Vec<Tree<A>, A>) -> Tree<A>
     }
 }
 
-/// A node of these parts. Can't answer want of memory.
+/// A node of these parts. Can't run out of memory.
 #[tactic(auto, using(crate::proofs::Counting::counting_steps))]
 pub fn node_of_kind<A: Allocator>(kind: NodeKind, parts: Nodes<A>) -> Node<A>
     ensures { node_seen result ≡ meaning.node_of_kind kind (nodes_seen parts) }
@@ -56,7 +56,7 @@ pub fn node_of_kind<A: Allocator>(kind: NodeKind, parts: Nodes<A>) -> Node<A>
     }
 }
 
-/// One node alone is the tree; none or several are the parts of a Row. Can't answer want of memory.
+/// One node alone is the tree; none or several are the parts of a Row. Can't run out of memory.
 #[tactic(auto, using(crate::proofs::Counting::counting_steps))]
 pub fn whole<A: Allocator>(nodes: Nodes<A>) -> Node<A>
     ensures { node_seen result ≡ leaves.whole (nodes_seen nodes) }
@@ -84,7 +84,7 @@ fn leaf_node<A: Allocator>(edit: Edit<A>) -> Node<A>
     }
 }
 
-/// A leaf for each edit. Answers the want of memory alone.
+/// A leaf for each edit. Answers the lack of memory alone.
 pub fn leaves_of<A: Allocator + Copy>(
     alloc: A,
     edits: Vec<Edit<A>, A>,

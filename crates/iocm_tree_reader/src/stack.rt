@@ -12,7 +12,7 @@ use iocm_tree::Edit;
 use iocm_types::Rule;
 use std::alloc::{AllocError, Allocator};
 
-/// Before the first statement. Can't answer want of memory.
+/// Before the first statement. Can't run out of memory.
 pub fn nothing_read<A: Allocator + Copy>(alloc: A) -> Reading<A>
     ensures { seen result ≡ meaning.nothing_read }
 {
@@ -95,7 +95,7 @@ pub fn over_giving<A: Allocator>(reading: &Reading<A>, edits: &[Edit<A>]) -> Opt
 }
 
 /// Puts a node behind the parts of the innermost open node, or to the top where none is open.
-/// Answers the want of memory alone.
+/// Answers the lack of memory alone.
 #[tactic(auto, using(crate::proofs::Stacks::stack_steps))]
 pub fn put_node<A: Allocator>(reading: Reading<A>, node: Node<A>) -> Result<Reading<A>, AllocError>
     ensures { IfOk result (λ after. seen after
@@ -116,7 +116,7 @@ pub fn put_node<A: Allocator>(reading: Reading<A>, node: Node<A>) -> Result<Read
     }
 }
 
-/// Opens a node. Answers the want of memory alone.
+/// Opens a node. Answers the lack of memory alone.
 #[tactic(auto, using(crate::proofs::Stacks::stack_steps))]
 pub fn open_node<A: Allocator + Copy>(
     alloc: A,

@@ -95,7 +95,7 @@ fn device_statement(
     Ok(CanonicalStatement::new(Operation::Iodevice, operands))
 }
 
-/// The statement of a key alone. Answers the want of memory alone.
+/// The statement of a key alone. Answers the lack of memory alone.
 pub fn key_statement(alloc: Global, key: Key) -> Result<CanonicalStatement, AllocError>
     ensures { IfOk result (λ s. s ≡ meaning.key_statement key) }
 {

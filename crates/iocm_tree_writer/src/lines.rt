@@ -53,7 +53,7 @@ fn edit_to_write<A: Allocator>(alloc: Global, edit: &Edit<A>) -> Result<Joined, 
     })
 }
 
-/// Puts the line of an edit behind a deck. Answers the want of memory alone.
+/// Puts the line of an edit behind a deck. Answers the lack of memory alone.
 pub fn put_edit<A: Allocator>(
     alloc: Global,
     edit: &Edit<A>,
@@ -66,7 +66,7 @@ pub fn put_edit<A: Allocator>(
     Ok(())
 }
 
-/// Puts the line of an operation alone behind a deck. Answers the want of memory alone.
+/// Puts the line of an operation alone behind a deck. Answers the lack of memory alone.
 pub fn put_word(
     alloc: Global,
     operation: Operation,

@@ -11,14 +11,14 @@ use iocm_types::{Chpid, Css, Name, Text};
 use iocm_values::{css_text, list_text, names_text, printed};
 use std::alloc::{AllocError, Global};
 
-/// An operand with its keyword. Answers the want of memory alone.
+/// An operand with its keyword. Answers the lack of memory alone.
 pub fn valued(alloc: Global, keyword: &[u8], text: Text) -> Result<Carried, AllocError>
     ensures { IfOk result (λ operand. operand ≡ statements.keyed keyword.now text) }
 {
     Ok(Carried::new(Some(Text::from_slice(alloc, keyword)?), text))
 }
 
-/// PATH of a channel path. Answers the want of memory alone.
+/// PATH of a channel path. Answers the lack of memory alone.
 pub fn path_operand(alloc: Global, css: Css, number: Chpid) -> Result<Carried, AllocError>
     ensures { IfOk result (λ operand. operand
         ≡ statements.keyed (codes "PATH") (path_text (record { css = css; path = number }))) }

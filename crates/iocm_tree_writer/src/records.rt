@@ -23,7 +23,7 @@ fn deck_statement<A: Allocator>(
     }
 }
 
-/// The statement of a record in the canonical form. Answers the want of memory alone.
+/// The statement of a record in the canonical form. Answers the lack of memory alone.
 pub fn record_statement<A: Allocator>(
     alloc: Global,
     entry: &Record<A>,

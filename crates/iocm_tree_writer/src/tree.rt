@@ -63,7 +63,7 @@ fn put_parts<A: Allocator>(
 /// `(*,digit)`, a deleted limit `0`, a deleted device `(number,1)`. What comes along with an edit
 /// isn't written. It calls itself as deep as the tree is.
 ///
-/// `AllocError` (M1): memory was wanted.
+/// `AllocError` (M1): memory ran out.
 pub fn write_tree<A: Allocator>(alloc: Global, tree: &Tree<A>) -> Result<Vec<Joined>, AllocError>
     ensures { IfOk result (λ deck. deck.items ≡ meaning.written (plain_tree (tree_of tree.now))) }
 {

@@ -4,7 +4,7 @@ use Rattle.iocm_types.specs.declared.fault.Fault.{Fault}
 use Rattle.iocm_types.specs.declared.rule.Rule.{Rule}
 use Rattle.iocm_types.specs.declared.rule.Rule.TheVariants.{M1}
 
--- want of memory, which stands at no line
+-- lack of memory, which stands at no line
 abbrev pub memory : Fault
 memory = record { rule = M1; line = 0 }
 
@@ -23,12 +23,12 @@ abbrev pub or_fault : {A : Type 0} → Fault → Option A → Result A Fault
 or_fault fault None = Err fault
 or_fault fault (Some x) = Ok x
 
--- the refusal is want of memory, or the one that was to be given
+-- the refusal is lack of memory, or the one that was to be given
 abbrev pub Fails : {Y : Type 0} → Fault → Result Y Fault → Type 0
 Fails e read = (e ≡ memory) ⊎ (read ≡ Err e)
 
 -- what a reader promises: what it gives shows what was to be read, and it refuses what was to be
--- refused, with that fault; only want of memory may come instead
+-- refused, with that fault; only lack of memory may come instead
 abbrev pub Gives : {X Y : Type 0} → (X → Y) → Result X Fault → Result Y Fault → Type 0
 Gives view (Ok x) read = read ≡ Ok (view x)
 Gives view (Err e) read = Fails e read

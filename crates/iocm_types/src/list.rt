@@ -41,7 +41,7 @@ impl<T, A: Allocator> List<T, A> {
 }
 
 impl<T: Copy, A: Allocator> List<T, A> {
-    /// The same list under another allocator. Answers the want of memory alone.
+    /// The same list under another allocator. Answers the lack of memory alone.
     pub fn copy_in<B: Allocator>(&self, alloc: B) -> Result<List<T, B>, AllocError>
         ensures { IfOk result (λ list. list ≡ self.now) }
     {

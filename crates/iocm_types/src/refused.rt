@@ -25,7 +25,7 @@ pub struct Refused {
 }
 
 impl Refused {
-    /// M1: memory was wanted, for the whole of a change.
+    /// M1: memory ran out, for the whole of a change.
     pub const NO_MEMORY: Refused = Refused {
         rule: Rule::M1,
         node: None,

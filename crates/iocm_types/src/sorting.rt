@@ -8,7 +8,7 @@ use std::alloc::{AllocError, Allocator};
 
 /// The same keys in order, each once. The time is that of sorting them.
 ///
-/// `AllocError` (M1): memory was wanted.
+/// `AllocError` (M1): memory ran out.
 pub fn sorted_once<K: TableKey + Drop, A: Allocator>(
     mut keys: Vec<K, A>,
 ) -> Result<Vec<K, A>, AllocError>

@@ -35,7 +35,7 @@ impl<A: Allocator> Text<A> {
         Text { bytes }
     }
 
-    /// A copy of these bytes. Answers the want of memory alone.
+    /// A copy of these bytes. Answers the lack of memory alone.
     pub fn from_slice(alloc: A, bytes: &[u8]) -> Result<Self, AllocError>
         ensures { IfOk result (λ text. text ≡ bytes.now) }
     {
@@ -65,7 +65,7 @@ impl<A: Allocator> Text<A> {
         self.bytes.len()
     }
 
-    /// Puts a byte at the end. Answers the want of memory alone, and then the text is as it was.
+    /// Puts a byte at the end. Answers the lack of memory alone, and then the text is as it was.
     pub fn push(&mut self, byte: u8) -> Result<(), AllocError>
         ensures ok { OnOk result (self.new ≡ self.old ++ byte ∷ []) }
         ensures err { OnErr result (self.new ≡ self.old) }
@@ -74,7 +74,7 @@ impl<A: Allocator> Text<A> {
         Ok(())
     }
 
-    /// The same bytes under another allocator. Answers the want of memory alone.
+    /// The same bytes under another allocator. Answers the lack of memory alone.
     pub fn copy_in<B: Allocator>(&self, alloc: B) -> Result<Text<B>, AllocError>
         ensures { IfOk result (λ text. text ≡ self.now) }
     {

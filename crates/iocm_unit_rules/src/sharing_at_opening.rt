@@ -21,7 +21,7 @@ use std::alloc::{AllocError, Allocator};
 /// unit breaks the rule. Else two units share a link and a CUADD, which is no breach where their
 /// ranges are apart, and `first_shared_address` answers by an index that is made for it.
 ///
-/// `AllocError` (M1): memory was wanted.
+/// `AllocError` (M1): memory ran out.
 pub fn first_shared_address_at_opening<A: Allocator, B: Allocator + Copy>(
     alloc: B,
     config: &Config<A>,

@@ -15,7 +15,7 @@ pub struct CssText {
     pub text: Text,
 }
 
-/// What a value prints. Answers the want of memory alone.
+/// What a value prints. Answers the lack of memory alone.
 pub fn printed<T: Display>(alloc: Global, value: &T) -> Result<Text, AllocError>
     ensures { IfOk result (λ text. IfSome (T.output value.now) (λ bytes. text ≡ bytes)) }
 {
@@ -23,7 +23,7 @@ pub fn printed<T: Display>(alloc: Global, value: &T) -> Result<Text, AllocError>
     Ok(Text::from_vec(text.into_bytes()))
 }
 
-/// Puts bytes behind a text. Answers the want of memory alone.
+/// Puts bytes behind a text. Answers the lack of memory alone.
 fn put(text: &mut Vec<u8>, bytes: &[u8]) -> Result<(), AllocError>
     ensures { OnOk result (text.new.items ≡ text.old.items ++ bytes.now) }
 {
@@ -67,7 +67,7 @@ pub fn list_text(alloc: Global, items: &[Text]) -> Result<Text, AllocError>
     Ok(Text::from_vec(text))
 }
 
-/// Items with commas between them. Answers the want of memory alone.
+/// Items with commas between them. Answers the lack of memory alone.
 pub fn comma_text(alloc: Global, items: &[Text]) -> Result<Text, AllocError>
     ensures { IfOk result (λ text. text ≡ join_with_byte 44 items.now) }
 {
@@ -76,7 +76,7 @@ pub fn comma_text(alloc: Global, items: &[Text]) -> Result<Text, AllocError>
     Ok(Text::from_vec(text))
 }
 
-/// The word `CSS(n)`. Answers the want of memory alone.
+/// The word `CSS(n)`. Answers the lack of memory alone.
 pub fn css_text(alloc: Global, css: Css) -> Result<Text, AllocError>
     ensures { IfOk result (λ text. text ≡ meaning.css_text css) }
 {
@@ -132,7 +132,7 @@ pub fn subsystem(number: u8) -> Css
 }
 
 /// A list by channel subsystem as it is written: in groups, with channel subsystems ascending, and
-/// each one's items in their order. Answers the want of memory alone.
+/// each one's items in their order. Answers the lack of memory alone.
 pub fn by_css_text(alloc: Global, items: &[CssText]) -> Result<Text, AllocError>
     ensures { IfOk result (λ text. text ≡ meaning.by_css_text items.now) }
 {

@@ -16,7 +16,7 @@ use std::alloc::{AllocError, Global};
 /// it, and none where no statement does. That a path is online to an image comes with the path. A
 /// statement with a fault brings no key.
 ///
-/// `AllocError` (M1): memory was wanted.
+/// `AllocError` (M1): memory ran out.
 pub fn line_of_key(
     alloc: Global,
     statements: &[Statement],

@@ -13,7 +13,7 @@ use std::alloc::{AllocError, Global};
 /// text, from 0. The Row round several statements comes from none, and a number past the last node
 /// names none.
 ///
-/// `AllocError` (M1): memory was wanted.
+/// `AllocError` (M1): memory ran out.
 pub fn line_of_node(
     alloc: Global,
     statements: &[Statement],

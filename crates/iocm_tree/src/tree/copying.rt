@@ -4,7 +4,7 @@ ghost use Rattle.iocm_tree.specs.Trees.{tree_of, parts_of};
 use crate::Tree;
 use std::alloc::{AllocError, Allocator};
 
-/// The same tree under another allocator. Answers the want of memory alone.
+/// The same tree under another allocator. Answers the lack of memory alone.
 #[cycle(copying)]
 pub fn copy_tree<A: Allocator, B: Allocator + Copy>(
     tree: &Tree<A>,
@@ -20,7 +20,7 @@ pub fn copy_tree<A: Allocator, B: Allocator + Copy>(
     }
 }
 
-/// The same parts under another allocator. Answers the want of memory alone.
+/// The same parts under another allocator. Answers the lack of memory alone.
 #[cycle(copying)]
 fn copy_parts<A: Allocator, B: Allocator + Copy>(
     parts: &Vec<Tree<A>, A>,

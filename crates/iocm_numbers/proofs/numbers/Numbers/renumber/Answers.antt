@@ -1,4 +1,4 @@
--- The steps together are the numbers after the change; where memory was wanted, what was there at
+-- The steps together are the numbers after the change; where memory ran out, what was there at
 -- the touched places is put back.
 use Rattle.std.proofs.Common.{◌≡◌, ℕ, not, sym, ap, subst, ◌∙◌}
 use Rattle.std.specs.List.{fold, filter}
