@@ -4,7 +4,6 @@ ghost use Rattle.std.specs.Option.{option_copied};
 ghost use Rattle.iocm_model.specs.Machine.Configuration.{lookup_of};
 ghost use Rattle.iocm_model.specs.Machine.PathList.{path_list, unit_paths, paths_in};
 ghost use Rattle.iocm_model.specs.Machine.Sight as model;
-ghost use Rattle.iocm_model.specs.Rules.EachRule.{same_name};
 ghost use Rattle.iocm_record.specs.Meaning.{device_of};
 ghost use Rattle.iocm_derive.specs.Derived.{sees};
 
@@ -52,14 +51,7 @@ pub fn is_candidate<A: Allocator>(candidates: Option<&List<Name, A>>, name: Name
 pub fn has_name(names: &[Name], name: Name) -> bool
     ensures { result ≡ model.has_name name names.now }
 {
-    names.iter().any(|other| is_same(name, other))
-}
-
-/// Whether two names are the same. They are compared as numbers.
-fn is_same(name: Name, other: &Name) -> bool
-    ensures { result ≡ same_name name other.now }
-{
-    name.cmp(other).is_eq()
+    names.iter().any(|other| name == *other)
 }
 
 /// Whether an image reaches one of the paths of these units.

@@ -146,12 +146,5 @@ fn lists_name<A: Allocator>(fields: &PathFields<A>, name: Name) -> bool
 fn has_name(names: &[Name], name: Name) -> bool
     ensures { result ≡ sight.has_name name names.now }
 {
-    names.iter().any(|other| is_same(name, other))
-}
-
-/// Whether two names are the same. They are compared as numbers.
-fn is_same(name: Name, other: &Name) -> bool
-    ensures { result ≡ model.same_name name other.now }
-{
-    name.cmp(other).is_eq()
+    names.iter().any(|other| name == *other)
 }

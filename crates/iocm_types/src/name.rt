@@ -104,6 +104,7 @@ fn is_image_name(bytes: &[u8]) -> bool
         && bytes != b"REC".as_slice()
 }
 
+/// By their numbers, as `Ord` compares them.
 impl PartialEq for Name {
     ghost use Rattle.std.specs.Prelude.{nat_eq};
     ghost use Rattle.std.specs.Cmp.{partial_equiv_from_equiv};
@@ -114,7 +115,7 @@ impl PartialEq for Name {
     ghost laws = { partial_equiv_from_equiv nat_list_eq_equiv };
 
     fn eq(&self, other: &Self) -> bool {
-        self.as_bytes() == other.as_bytes()
+        self.number() == other.number()
     }
 }
 
