@@ -77,7 +77,7 @@ impl fmt::Display for LiveRemark {
         let name = SubchannelName(subchannel);
         let lpm = live.lpm.bits();
         let ena = u8::from(live.enabled);
-        let parm = live.parm;
+        let parm = live.parm.number();
         let bits = bits(&live).bits();
         write!(
             f,

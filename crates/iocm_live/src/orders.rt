@@ -3,7 +3,7 @@ ghost use Rattle.iocm_model.specs.Operation.Orders as meaning;
 
 use crate::code::code_of;
 use crate::status::bits;
-use iocm_types::{Io, Live, Mask, Order, Phase, Stored, View};
+use iocm_types::{Io, Live, Mask, Order, Parm, Phase, Stored, View};
 
 /// A live record that nobody has touched: not enabled, all installed paths in the logical-path
 /// mask, parameter 0, idle.
@@ -13,7 +13,7 @@ pub fn fresh(pim: Mask) -> Live
     Live {
         enabled: false,
         lpm: pim,
-        parm: 0,
+        parm: Parm::new(0),
         phase: Phase::Idle,
     }
 }
@@ -30,7 +30,7 @@ fn answer_if_accepted(order: &Order, view: &View, live: &Live) -> Io
             pam: view.pam,
             lpm: live.lpm,
             enabled: live.enabled,
-            parm: live.parm,
+            parm: live.parm.number(),
             bits: bits(live),
         }),
         Order::Start | Order::Halt | Order::Clear | Order::Cancel | Order::Modify(_) => Io::Code(0),
@@ -49,7 +49,7 @@ fn perform(order: &Order, live: &mut Live)
         Order::Modify(setting) => {
             live.enabled = setting.enabled;
             live.lpm = setting.lpm;
-            live.parm = setting.parm;
+            live.parm = Parm::new(setting.parm);
         }
         Order::Store => {}
     }

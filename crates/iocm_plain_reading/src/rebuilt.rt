@@ -178,7 +178,7 @@ fn bring(plant: &mut Plant, there: &SubId, live: &Live) {
     let setting = Setting {
         enabled: live.enabled,
         lpm: live.lpm,
-        parm: live.parm,
+        parm: live.parm.number(),
     };
     let _ = plant.step(*there, Modify(setting));
     bring_phase(plant, there, live.phase);

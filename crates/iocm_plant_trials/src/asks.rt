@@ -1,6 +1,6 @@
 use iocm_tree::Edit;
 use iocm_trial_machines::{Deck, device, entry, image, name, subchannel, unit};
-use iocm_types::{Chpid, Css, Key, Live, Mask, Phase, Setting, SubId};
+use iocm_types::{Chpid, Css, Key, Live, Mask, Parm, Phase, Setting, SubId};
 use std::alloc::Global;
 use std::test::Fail;
 
@@ -106,7 +106,7 @@ impl Memory {
         Live {
             enabled: self.enabled,
             lpm: Mask::from_bits(self.lpm),
-            parm: self.parm,
+            parm: Parm::new(self.parm),
             phase: self.phase,
         }
     }

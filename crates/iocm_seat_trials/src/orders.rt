@@ -1,7 +1,7 @@
 use iocm_live::{
     Function, Io, Live, Order, Phase, Setting, bits, device_begin, device_end, fresh, order,
 };
-use iocm_types::{DevNo, Mask, Paths, View};
+use iocm_types::{DevNo, Mask, Parm, Paths, View};
 use std::test::Fail;
 
 // All phases: idle, the four that are busy, and status pending of each function.
@@ -48,7 +48,7 @@ fn enabled(phase: Phase) -> Live {
     Live {
         enabled: true,
         lpm: Mask::from_bits(0xC0),
-        parm: 7,
+        parm: Parm::new(7),
         phase,
     }
 }
@@ -99,7 +99,7 @@ fn modify_sets_three_things(rt: HostRuntime) -> Result<(), Fail> {
         order(&mut live, &seen(), Order::Modify(SETTING)),
         Io::Code(0)
     );
-    assert!(rt; live.enabled && live.lpm == Mask::NONE && live.parm == 9);
+    assert!(rt; live.enabled && live.lpm == Mask::NONE && live.parm.number() == 9);
     assert_eq!(rt; live.phase, Phase::Idle);
     Ok(())
 }

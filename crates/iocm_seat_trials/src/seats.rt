@@ -16,7 +16,7 @@ use iocm_seats::{
 };
 use iocm_table::Table;
 use iocm_trial_decks::{name, subchannel};
-use iocm_types::{Chpid, Css, DevNo, Key, Live, Mask, NumberCell, Paths, Phase, SubId, View};
+use iocm_types::{Chpid, Css, DevNo, Key, Live, Mask, NumberCell, Parm, Paths, Phase, SubId, View};
 use std::alloc::{AllocError, Global};
 use std::test::Fail;
 
@@ -47,7 +47,7 @@ fn live(parm: u32) -> Live {
     Live {
         enabled: true,
         lpm: Mask::from_bits(0x80),
-        parm,
+        parm: Parm::new(parm),
         phase: Phase::StartPending,
     }
 }

@@ -3,7 +3,7 @@ ghost use Rattle.iocm_tree.specs.Carried.{HasOrder};
 
 use iocm_record::{Record, RecordBody};
 use iocm_tree::{Action, Edit, Parts, Verb};
-use iocm_types::{Css, DevNo, Image, Key, Live, Mask, Mif, Phase, Place, SetNo, SubId};
+use iocm_types::{Css, DevNo, Image, Key, Live, Mask, Mif, Parm, Phase, Place, SetNo, SubId};
 use std::alloc::{AllocError, Global};
 use std::test::Fail;
 
@@ -50,7 +50,7 @@ fn live(image: &Image, number: u16, parm: u32) -> (SubId, Live) {
     let live = Live {
         enabled: true,
         lpm: Mask::from_bits(0x80),
-        parm,
+        parm: Parm::new(parm),
         phase: Phase::Idle,
     };
     (subchannel, live)
@@ -118,7 +118,13 @@ fn is_made_of_them(edit: Edit, image: &Image, parm: u32) -> bool {
 fn overwritten(edit: Edit, parm: u32) -> Edit {
     let mut edit = edit;
     if let [kept] = edit.kept() {
-        let row = (kept.0, Live { parm, ..kept.1 });
+        let row = (
+            kept.0,
+            Live {
+                parm: Parm::new(parm),
+                ..kept.1
+            },
+        );
         edit.set_kept([row].as_slice());
     }
     edit

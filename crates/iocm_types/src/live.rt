@@ -1,4 +1,4 @@
-use crate::Mask;
+use crate::{Mask, Parm};
 
 /// A function that a subchannel performs (Principles of Operation, basic I/O functions).
 #[derive(Clone, Copy, Debug, PartialEq, Eq)]
@@ -29,10 +29,10 @@ pub enum Phase {
 
 /// What a subchannel remembers while it is there: its interruption parameter, whether it is enabled,
 /// its logical-path mask, and its phase (Principles of Operation, path-management-control word).
-/// The longest stands first, so that none has room before it that holds nothing.
+/// None of them has room before it that holds nothing.
 #[derive(Clone, Copy, Debug, PartialEq, Eq)]
 pub struct Live {
-    pub parm: u32,
+    pub parm: Parm,
     pub enabled: bool,
     pub lpm: Mask,
     pub phase: Phase,
