@@ -10,7 +10,7 @@ use Rattle.iocm_types.specs.declared.key.Key.TheVariants as key
 use Rattle.iocm_types.specs.declared.named.Named.TheVariants as thing
 use Rattle.iocm_types.specs.Naming.{named_cmp}
 use Rattle.iocm_types.proofs.Found.{ties_itself}
-use Rattle.iocm_model.specs.Machine.Naming.{image_named, path_named, unit_named}
+use Rattle.iocm_model.specs.Machine.Naming.{address_named, image_named, path_named, unit_named}
 use Rattle.iocm_model.specs.Machine.PathList.{paths_in, unit_record_paths}
 use Rattle.iocm_model.specs.Machine.Record.{Rec, DeviceRecord, id, resource, image, limit, path, unit, device, online}
 use Rattle.iocm_model.specs.Machine.Sight.{has_name, record_lists}
@@ -44,9 +44,9 @@ any_number {P} test (x ∷ xs) any follows = by (test x) refl any (λ h. any_num
 pub device_names : (r : DeviceRecord) (u : ℕ) → IsIn u r.units → names (thing.Record (key.Unit u)) (Some (device r)) ≡ true
 device_names r u h =
     let test = eq_by_cmp named_cmp (thing.Record (key.Unit u)) in
-    list_any-append test (map unit_named r.units) (map image_named (unwrap_or r.candidates []))
-    ∙ or_first _ _ (any_map test unit_named r.units
-    ∙ any_weaker (nat_eq u) (λ x. test (unit_named x)) (λ x e. ap (λ y. test (unit_named y)) (sym (eqb-true u x e)) ∙ ties_itself named_cmp named_total (unit_named u)) r.units h)
+    list_any-append test (map unit_named r.units ++ map (address_named r.unit_address) r.units) (map image_named (unwrap_or r.candidates []))
+    ∙ or_first _ _ (list_any-append test (map unit_named r.units) (map (address_named r.unit_address) r.units) ∙ or_first _ _ (any_map test unit_named r.units
+    ∙ any_weaker (nat_eq u) (λ x. test (unit_named x)) (λ x e. ap (λ y. test (unit_named y)) (sym (eqb-true u x e)) ∙ ties_itself named_cmp named_total (unit_named u)) r.units h))
 
 module _ (css n : ℕ) where
   abbrev is_it : CssPath → Bool

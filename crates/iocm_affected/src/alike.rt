@@ -21,7 +21,7 @@ pub(crate) fn are_seen_alike<A: Allocator>(
 }
 
 /// Whether two records are devices of the same control units and candidates.
-fn is_seen_alike<A: Allocator>(old: &Record<A>, new: &Record<A>) -> bool
+pub fn is_seen_alike<A: Allocator>(old: &Record<A>, new: &Record<A>) -> bool
     ensures { result ≡ true → IsSeenAlike old.now new.now }
 {
     match (old.body(), new.body()) {

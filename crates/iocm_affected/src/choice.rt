@@ -1,4 +1,4 @@
-ghost use Rattle.std.specs.Prelude.{◌≡◌, ℕ};
+ghost use Rattle.std.specs.Prelude.{◌≡◌};
 ghost use Rattle.std.specs.Option.{option_copied};
 ghost use Rattle.iocm_model.specs.Machine.Sight.{record_lists};
 ghost use Rattle.iocm_affected.specs.Listing as listing;

@@ -70,7 +70,8 @@ fn one_image<B: Allocator>(alloc: B, image: Image) -> Result<Vec<Image, B>, Allo
     Ok(images)
 }
 
-/// The images of a choice, in order. The walk ends where the images do.
+/// The images of a choice, in order. Each image of the configuration is asked whether it is chosen,
+/// and the walk ends where the images do.
 fn images_in<A: Allocator, B: Allocator, C: Choice>(
     alloc: B,
     config: &Config<A>,

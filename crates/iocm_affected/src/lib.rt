@@ -4,7 +4,7 @@
 //! When a record is added, deleted or replaced, only some devices can come in, leave or be seen
 //! differently: those that lead to the record. A device names its units, a unit its paths, a path
 //! its images by name; an index says who names whom, so `affected_by` goes these ways back and
-//! lists the places that it comes to, and the images that look at the record.
+//! lists the places that it comes to, and the images whose views the change may alter.
 //!
 //! What the layer above may rely on: `AreAllAffected`, at every other place a device is reached as
 //! before and each image sees what it saw, and every other image sees everywhere what it saw; where
@@ -21,4 +21,5 @@ mod images;
 mod places;
 mod users;
 
+pub use alike::is_seen_alike;
 pub use changed::{Affected, affected_by};

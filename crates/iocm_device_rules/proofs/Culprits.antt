@@ -1,6 +1,6 @@
 -- The least device that has the address of another before it on one of its units is the first that
 -- breaks the rule.
-use Rattle.std.proofs.Common.{◌≡◌, ◌⊎◌, inl, inr, ℕ, Bool, true, false, ◌&&◌, ◌||◌, ◌==◌, nat_eq, nat_lt, length, is_none, unwrap_or, Option, None, Some, List, [], ◌∷◌, map, refl, sym, ap, subst, ◌∙◌, arith}
+use Rattle.std.proofs.Common.{◌≡◌, ◌⊎◌, inl, inr, ℕ, Bool, true, false, ◌&&◌, ◌||◌, ◌==◌, nat_eq, nat_lt, length, is_none, unwrap_or, Option, None, Some, List, [], ◌∷◌, ◌++◌, map, refl, sym, ap, subst, ◌∙◌, arith}
 use Rattle.std.proofs.lemmas.Bool.{false≢true}
 use Rattle.std.proofs.lemmas.Bool.Decides.{nat_tests}
 use Rattle.std.proofs.lemmas.List.Folds.{list_any-append}
@@ -23,7 +23,7 @@ use Rattle.iocm_index.proofs.Front.{named_total}
 use Rattle.iocm_index.proofs.Members.{users_name_it, users_in_order}
 use Rattle.iocm_model.specs.Machine.Record.{Rec, DeviceRecord, id, resource, image, limit, path, unit, device, online, key_of}
 use Rattle.iocm_model.specs.Machine.Configuration.{Configuration, IsKeyed, lookup_of, records_of}
-use Rattle.iocm_model.specs.Machine.Naming.{unit_named, image_named}
+use Rattle.iocm_model.specs.Machine.Naming.{unit_named, address_named, image_named}
 use Rattle.iocm_model.specs.Rules.EachRule.{has_twice, breaks_v8, breaks_v10, answers_on, stands_before}
 use Rattle.iocm_model.specs.Rules.FirstBreach.{first_record}
 use Rattle.iocm_model.proofs.Machine.OwnKeys.{keyed_own}
@@ -33,7 +33,7 @@ use Rattle.iocm_lookup.proofs.Members.{record_found, record_there}
 use Rattle.iocm_lookup.specs.Among.{least_of, is_so_at}
 use Rattle.iocm_lookup.proofs.AtMost.{IsAtMost, least_at_most, least_is_given, IsGiver}
 use Rattle.iocm_lookup.proofs.Firsts.{IsSoAt, least_so_is_first, records_are_there, none_is_so}
-use Rattle.iocm_lookup.specs.Repeats.{address_in}
+use Rattle.iocm_lookup.specs.Repeats.{address_in, repeated_on}
 use Rattle.iocm_lookup.proofs.RepeatedUsers.{IsRepeated, IsBefore, less_key, first_is_repeated, repeated_has_first}
 use Rattle.iocm_device_rules.specs.Addresses.{unit_address, any_record, clash_on, clash_of}
 
@@ -112,6 +112,10 @@ units_named : (n : ℕ) (us : List ℕ) → list_any (eq_by_cmp named_cmp (thing
 units_named n [] = refl
 units_named n (u ∷ us) = λ i. same_unit n u i || units_named n us i
 
+no_address_named : (n a : ℕ) (us : List ℕ) → list_any (eq_by_cmp named_cmp (thing.Record (key.Unit n))) (map (address_named a) us) ≡ false
+no_address_named n a [] = refl
+no_address_named n a (u ∷ us) = no_address_named n a us
+
 or_false : (a b : Bool) → b ≡ false → (a || b) ≡ a
 or_false true b h = refl
 or_false false b h = h
@@ -119,8 +123,69 @@ or_false false b h = h
 -- a device names the units of its list
 device_names : (n : ℕ) (d : DeviceRecord) → names (thing.Record (key.Unit n)) (Some (device d)) ≡ list_any (nat_eq n) d.units
 device_names n d =
-    list_any-append (eq_by_cmp named_cmp (thing.Record (key.Unit n))) (map unit_named d.units) (map image_named (unwrap_or d.candidates []))
-    ∙ or_false _ _ (no_image n (unwrap_or d.candidates [])) ∙ units_named n d.units
+    let test = eq_by_cmp named_cmp (thing.Record (key.Unit n)) in
+    let images = map image_named (unwrap_or d.candidates []) in
+    let addresses = map (address_named d.unit_address) d.units in
+    list_any-append test (map unit_named d.units ++ addresses) images ∙ or_false _ _ (no_image n (unwrap_or d.candidates []))
+    ∙ list_any-append test (map unit_named d.units) addresses ∙ or_false _ _ (no_address_named n d.unit_address d.units) ∙ units_named n d.units
+
+-- ---- devices and the unit addresses that they name
+
+unit_in : Named → ℕ
+unit_in (thing.Address n a) = n
+unit_in _ = 0
+
+no_unit_named : (n a : ℕ) (us : List ℕ) → list_any (eq_by_cmp named_cmp (thing.Address n a)) (map unit_named us) ≡ false
+no_unit_named n a [] = refl
+no_unit_named n a (u ∷ us) = no_unit_named n a us
+
+no_image_there : (n a : ℕ) (ns : List (List ℕ)) → list_any (eq_by_cmp named_cmp (thing.Address n a)) (map image_named ns) ≡ false
+no_image_there n a [] = refl
+no_image_there n a (x ∷ xs) = no_image_there n a xs
+
+addresses_named : (n a b : ℕ) (us : List ℕ) → list_any (eq_by_cmp named_cmp (thing.Address n a)) (map (address_named b) us) ≡ true
+    → list_any (nat_eq n) us ≡ true
+unfolding unit_in
+addresses_named n a b [] h = absurd (false≢true h)
+addresses_named n a b (u ∷ us) h = by (eq_by_cmp named_cmp (thing.Address n a) (thing.Address u b)) refl h (addresses_named n a b us)
+  where
+    by : (t : Bool) → eq_by_cmp named_cmp (thing.Address n a) (thing.Address u b) ≡ t
+        → (t || list_any (eq_by_cmp named_cmp (thing.Address n a)) (map (address_named b) us)) ≡ true
+        → (list_any (eq_by_cmp named_cmp (thing.Address n a)) (map (address_named b) us) ≡ true → list_any (nat_eq n) us ≡ true)
+        → (nat_eq n u || list_any (nat_eq n) us) ≡ true
+    by true is h more = ap (λ t. t || list_any (nat_eq n) us)
+        (equal_numbers n u (ap unit_in (same_key named_cmp named_exact (thing.Address n a) (thing.Address u b) is)))
+    by false is h more = or_later (nat_eq n u) _ (more h)
+
+unit_is_named : (n b : ℕ) (us : List ℕ) → list_any (nat_eq n) us ≡ true
+    → list_any (eq_by_cmp named_cmp (thing.Address n b)) (map (address_named b) us) ≡ true
+unit_is_named n b [] h = absurd (false≢true h)
+unit_is_named n b (u ∷ us) h = by (nat_eq n u) refl h (unit_is_named n b us)
+  where
+    by : (t : Bool) → nat_eq n u ≡ t → (t || list_any (nat_eq n) us) ≡ true
+        → (list_any (nat_eq n) us ≡ true → list_any (eq_by_cmp named_cmp (thing.Address n b)) (map (address_named b) us) ≡ true)
+        → (eq_by_cmp named_cmp (thing.Address n b) (thing.Address u b) || list_any (eq_by_cmp named_cmp (thing.Address n b)) (map (address_named b) us)) ≡ true
+    by true is h more = ap (λ t. t || list_any (eq_by_cmp named_cmp (thing.Address n b)) (map (address_named b) us))
+        (ap (λ m. eq_by_cmp named_cmp (thing.Address n b) (thing.Address m b)) (sym (same_number n u is)) ∙ ties_itself named_cmp named_total (thing.Address n b))
+    by false is h more = or_later (eq_by_cmp named_cmp (thing.Address n b) (thing.Address u b)) _ (more h)
+
+device_names_address : (n a : ℕ) (d : DeviceRecord) → names (thing.Address n a) (Some (device d))
+    ≡ list_any (eq_by_cmp named_cmp (thing.Address n a)) (map (address_named d.unit_address) d.units)
+device_names_address n a d =
+    let test = eq_by_cmp named_cmp (thing.Address n a) in
+    let images = map image_named (unwrap_or d.candidates []) in
+    let addresses = map (address_named d.unit_address) d.units in
+    list_any-append test (map unit_named d.units ++ addresses) images ∙ or_false _ _ (no_image_there n a (unwrap_or d.candidates []))
+    ∙ list_any-append test (map unit_named d.units) addresses ∙ ap (λ b. b || list_any test addresses) (no_unit_named n a d.units)
+
+-- a device names an address at its units alone
+pub is_on_unit : (n a : ℕ) (d : DeviceRecord) → names (thing.Address n a) (Some (device d)) ≡ true → list_any (nat_eq n) d.units ≡ true
+is_on_unit n a d h = addresses_named n a d.unit_address d.units (sym (device_names_address n a d) ∙ h)
+
+-- and its own at each of these
+pub names_own : (n a : ℕ) (d : DeviceRecord) → d.unit_address ≡ a → list_any (nat_eq n) d.units ≡ true → names (thing.Address n a) (Some (device d)) ≡ true
+names_own n a d own h = subst (λ (b : ℕ). names (thing.Address n b) (Some (device d)) ≡ true) own
+    (device_names_address n d.unit_address d ∙ unit_is_named n d.unit_address d.units h)
 
 -- a device at an address
 record IsDeviceAt (o : Option Rec) (at : ℕ) : Type 0 where
@@ -192,6 +257,11 @@ other_of c d (path x) there so = absurd (false≢true (second_of (stands_before 
 other_of c d (unit x) there so = absurd (false≢true (second_of (stands_before (unit x) (device d)) false so))
 other_of c d (online x) there so = absurd (false≢true (second_of (stands_before (online x) (device d)) false so))
 
+-- the other has the same address
+pub same_address : (c : Configuration) (d : DeviceRecord) (o : IsOther c d) → o.other.unit_address ≡ d.unit_address
+same_address c d o = same_number o.other.unit_address d.unit_address
+    (first_of (nat_eq o.other.unit_address d.unit_address) _ (second_of (stands_before (device o.other) (device d)) _ o.so))
+
 -- a record that breaks the rule: a device, and another before it
 pub record IsCulprit (c : Configuration) (k : Key) : Type 0 where
   pub one : DeviceRecord
@@ -205,9 +275,12 @@ culprit_found c keyed k r here so =
     record { one = d.one; here = here ∙ ap Some d.is; before = other_of c d.one m.member m.there m.passes }
 
 module _ (c : Configuration) (t : Stored Naming (Unit {0})) (keyed : IsKeyed c) (of : IsIndexOf c t) where
-  -- the users of a unit, and their addresses
-  abbrev users : ℕ → List Key
-  users n = users_in (thing.Record (key.Unit n)) (rows naming_cmp t)
+  -- the users of a thing, and their addresses
+  abbrev users : Named → List Key
+  users it = users_in it (rows naming_cmp t)
+
+  abbrev on_unit : ℕ → Named
+  on_unit n = thing.Record (key.Unit n)
 
   abbrev address : Key → Option ℕ
   address k = address_in unit_address (lookup_of c k)
@@ -219,33 +292,33 @@ module _ (c : Configuration) (t : Stored Naming (Unit {0})) (keyed : IsKeyed c) 
   abbrev no_address : ℕ → Bool
   no_address a = false
 
-  is_user : (n : ℕ) (k : Key) (d : DeviceRecord) → get c k ≡ Some (device d) → list_any (eq_by_cmp key_cmp k) (users n) ≡ list_any (nat_eq n) d.units
-  is_user n k d here = users_name_it (thing.Record (key.Unit n)) (rows naming_cmp t) k ∙ of (naming k (thing.Record (key.Unit n)))
-      ∙ ap (names (thing.Record (key.Unit n))) here ∙ device_names n d
+  is_user : (it : Named) (k : Key) (d : DeviceRecord) → get c k ≡ Some (device d) → list_any (eq_by_cmp key_cmp k) (users it) ≡ names it (Some (device d))
+  is_user it k d here = users_name_it it (rows naming_cmp t) k ∙ of (naming k it) ∙ ap (names it) here
 
-  -- ---- a clash is a device that breaks the rule
+  -- ---- a clash is a device that breaks the rule, where each device that names the thing is on a unit
 
-  pub clash_breaks : (n : ℕ) (k : Key) → IsRepeated address wanted no_address (users n) k → IsSoAt (breaks_v10 c) (get c) k
-  clash_breaks n k clash = by clash.before
+  pub clash_breaks : (it : Named) (n : ℕ) → ((d : DeviceRecord) → names it (Some (device d)) ≡ true → list_any (nat_eq n) d.units ≡ true)
+      → (k : Key) → IsRepeated address wanted no_address (users it) k → IsSoAt (breaks_v10 c) (get c) k
+  clash_breaks it n on k clash = by clash.before
     where
-      with_both : (b : IsBefore address wanted (users n) k clash.at) → IsDeviceAt (get c k) clash.at → IsDeviceAt (get c b.other) clash.at → IsSoAt (breaks_v10 c) (get c) k
+      with_both : (b : IsBefore address wanted (users it) k clash.at) → IsDeviceAt (get c k) clash.at → IsDeviceAt (get c b.other) clash.at → IsSoAt (breaks_v10 c) (get c) k
       with_both b d e = record {
         one = device d.one;
         there = d.is;
         so = record_there c (λ r. stands_before r (device d.one) && answers_on d.one.unit_address d.one.units r) b.other (device e.one) e.is
             (both_of _ _ (ap is_lt ((λ i. key_cmp (keyed_own c keyed b.other (device e.one) e.is i) (keyed_own c keyed k (device d.one) d.is i)) ∙ b.less))
             (both_of _ _ (equal_numbers e.one.unit_address d.one.unit_address (e.has ∙ sym d.has))
-            (number_there (λ number. list_any (nat_eq number) d.one.units) e.one.units n (sym (is_user n b.other e.one e.is) ∙ b.there)
-            (sym (is_user n k d.one d.is) ∙ clash.there))));
+            (number_there (λ number. list_any (nat_eq number) d.one.units) e.one.units n (on e.one (sym (is_user it b.other e.one e.is) ∙ b.there))
+            (on d.one (sym (is_user it k d.one d.is) ∙ clash.there)))));
       }
 
-      by : (no_address clash.at ≡ true) ⊎ IsBefore address wanted (users n) k clash.at → IsSoAt (breaks_v10 c) (get c) k
+      by : (no_address clash.at ≡ true) ⊎ IsBefore address wanted (users it) k clash.at → IsSoAt (breaks_v10 c) (get c) k
       by (inl m) = absurd (false≢true m)
       by (inr b) = with_both b (device_at (get c k) clash.at clash.has) (device_at (get c b.other) clash.at b.has)
 
   giver_breaks : (r : Rec) (k : Key) → clash_of (lookup_of c) (rows naming_cmp t) r ≡ Some k → IsSoAt (breaks_v10 c) (get c) k
-  giver_breaks (unit u) k is = clash_breaks u.number k
-      (first_is_repeated address wanted no_address (users u.number) (users_in_order (thing.Record (key.Unit u.number)) (rows naming_cmp t)) k is)
+  giver_breaks (unit u) k is = clash_breaks (on_unit u.number) u.number (λ d h. sym (device_names u.number d) ∙ h) k
+      (first_is_repeated address wanted no_address (users (on_unit u.number)) (users_in_order (on_unit u.number) (rows naming_cmp t)) k is)
   giver_breaks (id x) k is = cc
   giver_breaks (resource x) k is = cc
   giver_breaks (image x) k is = cc
@@ -263,33 +336,39 @@ module _ (c : Configuration) (t : Stored Naming (Unit {0})) (keyed : IsKeyed c) 
 
   -- ---- a device that breaks the rule is a clash on a unit
 
-  -- a device that breaks the rule is a clash on a common unit
-  pub clash_of_culprit : (k : Key) (culprit : IsCulprit c k) → IsRepeated address wanted no_address (users culprit.before.unit) k
-  clash_of_culprit k culprit =
+  -- a device that breaks the rule is a clash on what both of the devices name
+  pub clash_of_culprit : (it : Named) (k : Key) (culprit : IsCulprit c k) → names it (Some (device culprit.one)) ≡ true
+      → names it (Some (device culprit.before.other)) ≡ true → IsRepeated address wanted no_address (users it) k
+  clash_of_culprit it k culprit own others =
       let d = culprit.one in
       let o = culprit.before in
       let e = o.other in
       record {
-        there = is_user o.unit k d culprit.here ∙ o.in_own;
+        there = is_user it k d culprit.here ∙ own;
         so = ap (λ r. option_map_or any_record r false) culprit.here;
         at = d.unit_address;
         has = ap (address_in unit_address) culprit.here;
         before = inr (record {
           other = key_of (device e);
-          there = is_user o.unit (key_of (device e)) e o.there ∙ o.in_other;
+          there = is_user it (key_of (device e)) e o.there ∙ others;
           has = ap (address_in unit_address) o.there
-              ∙ ap Some (same_number e.unit_address d.unit_address (first_of (nat_eq e.unit_address d.unit_address) _ (second_of (stands_before (device e) (device d)) _ o.so)));
+              ∙ ap Some (same_address c d o);
           less = less_key (key_cmp (key_of (device e)) k) (ap (λ (q : Key). is_lt (key_cmp (key_of (device e)) q)) (sym (keyed_own c keyed k (device d) culprit.here))
               ∙ first_of (stands_before (device e) (device d)) _ o.so);
         });
       }
 
-  -- so the first clash on that unit is not behind it
-  pub clash_not_behind : (k : Key) (culprit : IsCulprit c k) → IsAtMost (clash_on (lookup_of c) (rows naming_cmp t) culprit.before.unit) k
-  clash_not_behind k culprit =
-      let n = culprit.before.unit in
-      let f = repeated_has_first address wanted no_address (users n) (users_in_order (thing.Record (key.Unit n)) (rows naming_cmp t)) k (clash_of_culprit k culprit) in
+  -- so the first clash there is not behind it
+  pub repeated_not_behind : (it : Named) (k : Key) (culprit : IsCulprit c k) → names it (Some (device culprit.one)) ≡ true
+      → names it (Some (device culprit.before.other)) ≡ true
+      → IsAtMost (repeated_on unit_address any_record (lookup_of c) (rows naming_cmp t) it) k
+  repeated_not_behind it k culprit own others =
+      let f = repeated_has_first address wanted no_address (users it) (users_in_order it (rows naming_cmp t)) k (clash_of_culprit it k culprit own others) in
       record { found = f.found; is = f.is; not_behind = f.not_behind }
+
+  clash_not_behind : (k : Key) (culprit : IsCulprit c k) → IsAtMost (clash_on (lookup_of c) (rows naming_cmp t) culprit.before.unit) k
+  clash_not_behind k culprit = let o = culprit.before in
+      repeated_not_behind (on_unit o.unit) k culprit (device_names o.unit culprit.one ∙ o.in_own) (device_names o.unit o.other ∙ o.in_other)
 
   module _ (kept : first_record (breaks_v8 c) (records_of c) ≡ None) where
     -- the unit that is there gives a key that is not behind it

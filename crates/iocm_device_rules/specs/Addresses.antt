@@ -1,5 +1,5 @@
 -- Devices with one unit address on a unit, and the least that has that of another before it.
-use Rattle.std.specs.Prelude.{ℕ, Bool, true, Option, None, Some, List, []}
+use Rattle.std.specs.Prelude.{ℕ, Bool, true, Option, None, Some}
 use Rattle.iocm_types.specs.declared.key.Key.{Key}
 use Rattle.iocm_types.specs.declared.key.Key.TheVariants as key
 use Rattle.iocm_types.specs.declared.named.Named.TheVariants as thing
@@ -27,11 +27,15 @@ abbrev pub clash_of : Lookup → Namings → Rec → Option Key
 clash_of c index (unit u) = clash_on c index u.number
 clash_of c index _ = None
 
--- the units of a device that is there
-abbrev pub units_in : Option Rec → List ℕ
-units_in (Some (device d)) = d.units
-units_in _ = []
+-- of the devices at one unit address of a unit the first that stands behind another
+abbrev pub clash_beside : Lookup → Namings → ℕ → ℕ → Option Key
+clash_beside c index address number = repeated_on unit_address any_record c index (thing.Address number address)
 
--- the least of these on the units of the device at a key
+-- the least of these at the unit address of a device, on its units
+abbrev pub clash_with : Lookup → Namings → Option Rec → Option Key
+clash_with c index (Some (device d)) = least_of (clash_beside c index d.unit_address) None d.units
+clash_with c index _ = None
+
+-- that of the device at a key
 abbrev pub clash_at : Lookup → Namings → Key → Option Key
-clash_at c index k = least_of (clash_on c index) None (units_in (c k))
+clash_at c index k = clash_with c index (c k)

@@ -62,7 +62,7 @@ fn clash_of<A: Allocator, I: Allocator>(
 }
 
 /// Of the devices on a unit, in order, the first with the address of one before it.
-pub(crate) fn first_clash<A: Allocator, I: Allocator>(
+fn first_clash<A: Allocator, I: Allocator>(
     config: &Config<A>,
     index: &Index<I>,
     unit: UnitNo,
@@ -70,6 +70,18 @@ pub(crate) fn first_clash<A: Allocator, I: Allocator>(
     ensures { result ≡ addresses.clash_on (lookup_of config.now.records) (rows naming_cmp index.now) unit }
 {
     first_repeated(config, index, Named::Record(Key::Unit(unit)), &UnitAddress)
+}
+
+/// Of the devices at an address of a unit, in order, the first that stands behind another.
+pub(crate) fn first_clash_beside<A: Allocator, I: Allocator>(
+    config: &Config<A>,
+    index: &Index<I>,
+    address: u8,
+    unit: UnitNo,
+) -> Option<Key>
+    ensures { result ≡ addresses.clash_beside (lookup_of config.now.records) (rows naming_cmp index.now) address unit }
+{
+    first_repeated(config, index, Named::Address(unit, address), &UnitAddress)
 }
 
 /// The unit address of a device, which no other device on one of its units has.

@@ -12,7 +12,7 @@ use crate::Index;
 use crate::index::naming_at;
 use iocm_record::Record;
 use iocm_table::Table;
-use iocm_types::{Naming, sorted_once};
+use iocm_types::{Key, Named, Naming, sorted_once};
 use std::alloc::{AllocError, Allocator};
 
 impl<A: Allocator + Clone> Index<A> {
@@ -49,16 +49,28 @@ pub fn list_namings<B: Allocator, C: Allocator>(
     Ok(())
 }
 
-/// The same namings in order, each once. Records are mostly listed in the order of keys, and then
-/// the first sort, which looks at what is named alone and keeps equals in their order, leaves
-/// nothing to the second; it compares far less where a thing has many users.
+/// The same namings in order, each once. Records are mostly listed in the order of keys. So the
+/// first sort, by groups, leaves long runs that rise to the second. That looks at what is named
+/// alone, keeps equals in their order, and leaves nothing to the third. It compares far less where
+/// a thing has many users.
 fn sort_apart<B: Allocator>(mut namings: Vec<Naming, B>) -> Result<Vec<Naming, B>, AllocError>
     ensures order { IfOk result (λ distinct. IsStrictlySortedBy naming_cmp distinct.items) }
     ensures same { IfOk result (λ distinct. (n : naming.Naming)
         → list_any (eq_by_cmp naming_cmp n) distinct.items ≡ list_any (eq_by_cmp naming_cmp n) namings.items) }
 {
+    namings.sort_by_key(|naming| group_of(naming))?;
     namings.sort_by(|naming, other| naming.named.order(other.named))?;
     sorted_once(namings)
+}
+
+/// The group of a naming by the kind of what is named. The groups stand in the order of namings.
+fn group_of(naming: &Naming) -> u8 {
+    match naming.named {
+        Named::Record(Key::Path(_, _)) => 0,
+        Named::Record(_) => 1,
+        Named::Image(_) => 2,
+        Named::Address(_, _) => 3,
+    }
 }
 
 /// A row for each naming.

@@ -66,7 +66,7 @@ impl<A: Allocator> Index<A> {
         Ok(())
     }
 
-    /// Puts the namings of a record in, each of which has a place, and no others. Can't answer want
+    /// Puts the namings of a record in, each of which has a place, and no others. Can't run out
     /// of memory.
     pub fn link<B: Allocator>(&mut self, entry: &Record<B>)
         requires { HavePlaces self.old (namings_of entry.now) }

@@ -18,22 +18,3 @@ module _ {A : Type 0} (gives : A → Option Key) (xs : List A) (i : ℕ) (least 
   least_done past = ap (least_of gives least) (drop_of_length-le xs past)
 
 pub ruleset least_steps = (least_goes_on, least_done)
-
--- to take a key again changes nothing
-pub lesser_again : (o p : Option Key) → lesser (lesser o p) p ≡ lesser o p
-lesser_again None None = refl
-lesser_again None (Some b) = by (is_lt (key_cmp b b))
-  where
-    by : (t : Bool) → cond t (Some b) (Some b) ≡ Some b
-    by true = refl
-    by false = refl
-lesser_again (Some a) None = refl
-lesser_again (Some a) (Some b) = by (is_lt (key_cmp b a)) refl (is_lt (key_cmp b b))
-  where
-    itself : (t : Bool) → cond t (Some b) (Some b) ≡ Some b
-    itself true = refl
-    itself false = refl
-
-    by : (t : Bool) → is_lt (key_cmp b a) ≡ t → (u : Bool) → lesser (cond t (Some b) (Some a)) (Some b) ≡ cond t (Some b) (Some a)
-    by true is u = itself (is_lt (key_cmp b b))
-    by false is u = ap (λ t. cond t (Some b) (Some a)) is

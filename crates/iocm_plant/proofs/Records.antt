@@ -1,5 +1,5 @@
 -- A record is put in or taken out: the index stays that of the configuration.
-use Rattle.std.proofs.Common.{◌≡◌, Bool, true, false, cond, not, ◌&&◌, ◌||◌, List, [], ◌∷◌, map, Some, None, refl, sym, ap, ◌∙◌}
+use Rattle.std.proofs.Common.{◌≡◌, ℕ, Bool, true, false, cond, not, ◌&&◌, ◌||◌, List, [], ◌∷◌, ◌++◌, map, unwrap_or, Option, Some, None, refl, sym, ap, ◌∙◌}
 use Rattle.std.specs.List.{list_any}
 use Rattle.std.specs.Ordering.{eq_by_cmp, is_eq, ordering_then}
 use Rattle.std.specs.declared.cmp.Ordering.{Ordering}
@@ -14,11 +14,13 @@ use Rattle.iocm_types.specs.KeyOrder.{keys_total, keys_exact}
 use Rattle.iocm_types.proofs.Found.{same_key}
 use Rattle.iocm_table.specs.Slots.{Stored}
 use Rattle.iocm_model.specs.Machine.Record.{Rec, key_of}
-use Rattle.iocm_model.specs.Machine.Naming.{named_by}
+use Rattle.iocm_model.specs.Machine.Naming.{named_by, unit_named, address_named, image_named}
 use Rattle.iocm_model.specs.Machine.Configuration.{Configuration, IsKeyed}
 use Rattle.iocm_model.proofs.Machine.OwnKeys.{keyed_own}
 use Rattle.iocm_index.specs.Namings.{naming, is_naming_of, is_linked}
 use Rattle.iocm_lookup.specs.Indexed.{names, IsIndexOf}
+use Rattle.iocm_affected.specs.Alike.{IsSeenAlike}
+use Rattle.iocm_plant.specs.Alike.{address_of}
 
 -- ---- the namings of a record
 
@@ -86,6 +88,30 @@ in_by c t n r true true is linked = sym is
 in_by c t n r true false is linked = linked ∙ sym is
 in_by c t n r false true is linked = linked
 in_by c t n r false false is linked = linked
+
+-- a record that names the same things as the one that was there
+pub alike_linked : (c : Configuration) (t : Stored Naming (Unit {0})) (old r : Rec) → get c (key_of r) ≡ Some old → named_by old ≡ named_by r
+    → IsIndexOf c t → IsIndexOf (insert c (key_of r) r) t
+alike_linked c t old r here same index n =
+    index n ∙ by (eq_by_cmp key_cmp n.user (key_of r)) refl ∙ ap (names n.named) (sym (get-insert keys_total c (key_of r) r n.user))
+  where
+    by : (b : Bool) → eq_by_cmp key_cmp n.user (key_of r) ≡ b → names n.named (get c n.user) ≡ names n.named (cond b (Some r) (get c n.user))
+    by true tied = ap (names n.named) (ap (get c) (same_key key_cmp keys_exact n.user (key_of r) tied) ∙ here)
+        ∙ ap (list_any (eq_by_cmp named_cmp n.named)) same
+    by false tied = refl
+
+same_number : (a b : ℕ) → ◌≡◌ {A = Option ℕ} (Some a) (Some b) → a ≡ b
+same_number a b e = cc
+
+-- devices of the same control units, unit address and candidates name the same things
+pub named_alike : (old new : Rec) → IsSeenAlike old new → address_of old ≡ address_of new → named_by old ≡ named_by new
+named_alike old new alike same =
+    ap named_by alike.old_is
+    ∙ (λ i. map unit_named (alike.units i) ++ map (address_named (address i)) (alike.units i) ++ map image_named (unwrap_or (alike.candidates i) []))
+    ∙ sym (ap named_by alike.new_is)
+  where
+    address : alike.before.unit_address ≡ alike.after.unit_address
+    address = same_number _ _ (sym (ap address_of alike.old_is) ∙ same ∙ ap address_of alike.new_is)
 
 -- what a record names is put in with it
 pub linked : (c : Configuration) (t u : Stored Naming (Unit {0})) (r : Rec) → IsIndexOf (remove c (key_of r)) t

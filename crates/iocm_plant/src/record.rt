@@ -1,16 +1,19 @@
-ghost use Rattle.std.specs.Prelude.{◌≡◌, Some, None};
+ghost use Rattle.std.specs.Prelude.{◌≡◌, true, Some, None};
 ghost use Rattle.std.specs.FinMap.{get, insert, remove};
 ghost use Rattle.iocm_types.specs.Key.{key_cmp};
+ghost use Rattle.iocm_model.specs.Machine.Naming.{named_by};
 ghost use Rattle.iocm_model.specs.Machine.Record.{key_of};
 ghost use Rattle.iocm_model.specs.Change.Edit.{action_key, config_after, record_after};
 ghost use Rattle.iocm_model.specs.Change.Inverse.{action_back};
 ghost use Rattle.iocm_lookup.specs.Indexed.{IsIndexOf};
 ghost use Rattle.iocm_tree.specs.Carried.{action_of};
+ghost use Rattle.iocm_plant.specs.Alike.{address_of};
 ghost use Rattle.iocm_plant.specs.Operating.{HasPlaceIn, HasNamingRoom};
 
+use iocm_affected::is_seen_alike;
 use iocm_config::Config;
 use iocm_index::Index;
-use iocm_record::Record;
+use iocm_record::{Record, RecordBody};
 use iocm_tree::Action;
 use iocm_types::Key;
 
@@ -48,11 +51,45 @@ fn put_record(config: &mut Config, index: &mut Index, entry: Record) -> Action
     ensures namings { index.new.places ≡ index.old.places }
 {
     let key = entry.key();
-    unlink_record(config, index, &key);
-    index.link(&entry);
+    relink_record(config, index, &entry);
     match config.put(entry) {
         Some(old) => Action::Modify(old),
         None => Action::Delete(key),
+    }
+}
+
+/// Takes what the record of a key names out of the index, if there is one, and puts in what its new
+/// record names. Where this is the same nothing is to be done.
+fn relink_record(config: &Config, index: &mut Index, entry: &Record)
+    requires index { IsIndexOf config.now.records index.old }
+    requires namings { HasNamingRoom index.old.places (Some entry.now) }
+    ensures index { IsIndexOf (insert config.now.records (key_of entry.now) entry.now) index.new }
+    ensures namings { index.new.places ≡ index.old.places }
+{
+    let key = entry.key();
+    if let Some(old) = config.get(&key) {
+        if names_alike(old, entry) {
+            return;
+        }
+    }
+    unlink_record(config, index, &key);
+    index.link(entry);
+}
+
+/// Whether two records are devices that name the same things. Of other records it isn't asked.
+fn names_alike(old: &Record, new: &Record) -> bool
+    ensures { result ≡ true → named_by old.now ≡ named_by new.now }
+{
+    is_seen_alike(old, new) && unit_address(old) == unit_address(new)
+}
+
+/// The unit address of a device.
+fn unit_address(entry: &Record) -> Option<u8>
+    ensures { result ≡ address_of entry.now }
+{
+    match entry.body() {
+        RecordBody::Device(fields) => Some(fields.unit_address),
+        _ => None,
     }
 }
 

@@ -1,4 +1,4 @@
-ghost use Rattle.std.specs.Prelude.{◌≡◌, [], ◌++◌, length, map, slice_get, unwrap_or};
+ghost use Rattle.std.specs.Prelude.{◌≡◌, ℕ, [], ◌++◌, length, map, slice_get, unwrap_or};
 ghost use Rattle.std.specs.Option.{option_copied};
 ghost use Rattle.iocm_model.specs.Machine.Naming as names;
 
@@ -48,18 +48,45 @@ fn candidate_at<A: Allocator>(candidates: Option<&List<Name, A>>, place: usize) 
     }
 }
 
-/// What a device names: its units, then the images of its candidates.
+fn address_at(address: u8, units: &[UnitNo], place: usize) -> Option<Named>
+    ensures { result ≡ slice_get (map (names.address_named address) units.now) place }
+{
+    let unit = units.get(place)?;
+    Some(Named::Address(*unit, address))
+}
+
+/// What a device of this unit address names: its units, then the address at each of these, then the
+/// images of its candidates.
 #[tactic(auto, using(crate::proofs::Rows::rows))]
 pub fn device_names<A: Allocator>(
     units: &[UnitNo],
+    address: u8,
     candidates: Option<&List<Name, A>>,
     place: usize,
 ) -> Option<Named>
-    ensures { result ≡ slice_get
-        (map names.unit_named units.now ++ map names.image_named (unwrap_or (option_copied candidates.entry) [])) place }
+    ensures { result ≡ slice_get (map names.unit_named units.now ++ map (names.address_named address) units.now
+        ++ map names.image_named (unwrap_or (option_copied candidates.entry) [])) place }
 {
     if place < units.len() {
         return unit_at(units, place);
+    }
+    behind_units(units, address, candidates, place - units.len())
+}
+
+// What a device names behind its units: its unit address at each of these, then the images of its
+// candidates.
+#[tactic(auto, using(crate::proofs::Rows::rows))]
+fn behind_units<A: Allocator>(
+    units: &[UnitNo],
+    address: u8,
+    candidates: Option<&List<Name, A>>,
+    place: usize,
+) -> Option<Named>
+    ensures { result ≡ slice_get (map (names.address_named address) units.now
+        ++ map names.image_named (unwrap_or (option_copied candidates.entry) [])) place }
+{
+    if place < units.len() {
+        return address_at(address, units, place);
     }
     candidate_at(candidates, place - units.len())
 }
@@ -78,13 +105,13 @@ pub fn unit_names_len(paths: &[CssPath]) -> usize
     paths.len()
 }
 
-/// How many units and images a device names.
+/// How many units, unit addresses and images a device names.
 pub fn device_names_len<A: Allocator>(units: &[UnitNo], candidates: Option<&List<Name, A>>) -> usize
-    ensures { result ≡ length
-        (map names.unit_named units.now ++ map names.image_named (unwrap_or (option_copied candidates.entry) [])) }
+    ensures { (address : ℕ) → result ≡ length (map names.unit_named units.now ++ map (names.address_named address) units.now
+        ++ map names.image_named (unwrap_or (option_copied candidates.entry) [])) }
 {
     match candidates {
-        Some(list) => units.len() + list.as_slice().len(),
-        None => units.len(),
+        Some(list) => units.len() + units.len() + list.as_slice().len(),
+        None => units.len() + units.len(),
     }
 }

@@ -172,17 +172,24 @@ derived_named_at (named.Record a) (named.Record b) = derived_at a b
 derived_named_at (named.Image a) (named.Image b) = refl
 derived_named_at (named.Record a) (named.Image b) = refl
 derived_named_at (named.Image a) (named.Record b) = refl
+derived_named_at (named.Address a b) (named.Address c d) = ap (ordering_then (nat_cmp a c)) (then_equal (nat_cmp b d))
+derived_named_at (named.Record a) (named.Address c d) = refl
+derived_named_at (named.Image a) (named.Address c d) = refl
+derived_named_at (named.Address a b) (named.Record c) = refl
+derived_named_at (named.Address a b) (named.Image c) = refl
 
 pub derived_naming_cmp : ◌≡◌ {A = Naming → Naming → Ordering} of_namings.ghosts.cmp naming_cmp
 derived_naming_cmp = λ i a b. ordering_then (derived_named_at a.named b.named i) (derived_at a.user b.user i)
 
 abbrev named_by_numbers : List ℕ → Named
 named_by_numbers xs =
-    cond (nat_eq (get_or xs 0 0) 0) (named.Record (key_by (from_second xs))) (named.Image (from_second xs))
+    cond (nat_eq (get_or xs 0 0) 0) (named.Record (key_by (from_second xs)))
+    (cond (nat_eq (get_or xs 0 0) 1) (named.Image (from_second xs)) (named.Address (get_or xs 1 0) (get_or xs 2 0)))
 
 named_back : (n : Named) → named_by_numbers (numbers_of_named n) ≡ n
 named_back (named.Record key) = ap named.Record (key_back key)
 named_back (named.Image name) = refl
+named_back (named.Address unit address) = refl
 
 pub named_exact : IsAntisymmetric named_cmp
 named_exact x y e =
