@@ -4,6 +4,7 @@ pub mod ClashesAmong
 pub mod Culprits
 pub mod JoinedPaths
 pub mod LikeDevices
+pub mod NoneAmong
 pub mod PastLimits
 pub mod SetCounts
 pub mod UnitNumbers

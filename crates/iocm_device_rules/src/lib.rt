@@ -15,8 +15,8 @@
 //! broken is an index made, or the numbers.
 //!
 //! Where only records at some keys can break a rule, since only these were changed,
-//! `first_wanted_among` of `iocm_lookup` and `first_address_twice_among` answer the same, and look
-//! at these keys alone.
+//! `first_wrong_among` and `first_address_twice_among` answer the same, and look at these keys
+//! alone.
 //!
 //! Begin with `devices.rt`, then `addresses.rt`, then `among.rt`. What names no source is our own.
 #![tactic(auto)]
@@ -31,6 +31,7 @@ mod joined;
 mod limits;
 mod limits_at_opening;
 mod set_counts;
+mod wrong_among;
 mod wrong_devices;
 
 pub use addresses::first_address_twice;
@@ -41,4 +42,5 @@ pub use held::AddressNotHeld;
 pub use joined::WrongPathList;
 pub use limits::{NumberPastLimit, first_past_limit};
 pub use limits_at_opening::first_past_limit_at_opening;
+pub use wrong_among::{WrongAmong, first_wrong_among};
 pub use wrong_devices::{WrongDevices, first_wrong_devices};

@@ -8,12 +8,8 @@ use crate::Breach;
 use crate::found::first_of;
 use crate::online_among::first_wrong_online_among;
 use iocm_config::Config;
-use iocm_device_rules::{
-    AddressNotHeld, CandidateOfNoImage, NumberPastLimit, WrongPathList, WrongUnits,
-    first_address_twice_among,
-};
+use iocm_device_rules::{first_address_twice_among, first_wrong_among};
 use iocm_index::Index;
-use iocm_lookup::first_wanted_among;
 use iocm_numbers::Numbers;
 use iocm_types::{Key, Rule};
 use std::alloc::Allocator;
@@ -34,20 +30,15 @@ pub fn check_near<A: Allocator, N: Allocator, I: Allocator>(
     ensures { result_err result ≡ first_breach config.now.records numbers.now.numbers }
 {
     config.has_own_keys();
+    let wrong = first_wrong_among(config, numbers, keys);
     let first = first_of(&[
         (Rule::V4, first_wrong_online_among(config, index, keys)),
-        (Rule::V8, first_wanted_among(config, &WrongUnits, keys)),
-        (Rule::V9, first_wanted_among(config, &AddressNotHeld, keys)),
+        (Rule::V8, wrong.units),
+        (Rule::V9, wrong.address),
         (Rule::V10, first_address_twice_among(config, index, keys)),
-        (Rule::V11, first_wanted_among(config, &WrongPathList, keys)),
-        (
-            Rule::V12,
-            first_wanted_among(config, &CandidateOfNoImage, keys),
-        ),
-        (
-            Rule::V13,
-            first_wanted_among(config, &NumberPastLimit { numbers }, keys),
-        ),
+        (Rule::V11, wrong.path_list),
+        (Rule::V12, wrong.candidates),
+        (Rule::V13, wrong.number),
     ]);
     match first {
         Some(breach) => Err(breach),
