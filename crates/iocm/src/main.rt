@@ -105,7 +105,7 @@ fn perform<R: Files + Input + Print + Eprint + AllocGlobal + Threads + Wait + Sy
         1 => match read_input(rt) {
             Ok(Some(bytes)) => bytes,
             Ok(None) => return refuse_memory(rt),
-            Err(_) => return Ok(say_input_unread(rt, understood.quiet)),
+            Err(_) => return Ok(say_input_unread(rt, understood)),
         },
         _ => return explain_usage(rt, ONE_INPUT),
     };
@@ -128,9 +128,9 @@ fn perform<R: Files + Input + Print + Eprint + AllocGlobal + Threads + Wait + Sy
 }
 
 /// Says that standard input can't be read.
-fn say_input_unread<R: Eprint>(rt: &R, quiet: bool) -> ExitCode {
+fn say_input_unread<R: Eprint>(rt: &R, understood: &Understood<'_>) -> ExitCode {
     let _ = eprintln!(rt; "{}", ConsoleError::Read);
-    if !quiet {
+    if !understood.quiet {
         remark_on_input(rt);
     }
     ExitCode::from(FAULT)

@@ -50,6 +50,7 @@ two_online = Some (with_online 0xA0)
 abbrev pub none_online : Option View
 none_online = Some (with_online 0)
 
+-- which altered subchannels are wanted, worked by hand
 pub record AlteredAsWorked : Type 0 where
   -- nothing is asked for: each, also one that is seen neither before nor afterwards
   pub all : is_row_wanted nothing named_before named_afterwards (seen_then None None) ≡ true

@@ -28,7 +28,7 @@ use Rattle.iocm_plant.specs.declared.touched.Touched.{Touched}
 use Rattle.iocm_activate.specs.Done.{AreToldBy}
 use Rattle.iocm_activate.specs.Told.{Told, told_of_all}
 use Rattle.iocm_reports.specs.Altered.{altered_rows}
-use Rattle.iocm_reports.specs.First.{Seen, seen_before, seen_first, row_of}
+use Rattle.iocm_reports.specs.First.{Seen, seen_before, seen_before_edits, row_of}
 
 from_cond : {A : Type 0} (b : Bool) (x v : A) → cond b (Some x) None ≡ Some v → v ≡ x
 from_cond true x v h = cc
@@ -69,7 +69,7 @@ module _ {K X Y : Type 0} {R : K → K → Ordering} (total : IsTotalOrder R) (e
 abbrev told_first : List Told → List (SubId × Option View)
 told_first told = flat_map (λ (t : Told). seen_before t.subchannels) told
 
-told_is : (performed : List Touched) (told : List Told) → AreToldBy performed told → seen_first performed ≡ told_first told
+told_is : (performed : List Touched) (told : List Told) → AreToldBy performed told → seen_before_edits performed ≡ told_first told
 told_is [] [] h = refl
 told_is (d ∷ ds) (t ∷ ts) h = (λ i. seen_before (h.0.1 i) ++ told_is ds ts h.1 i)
 told_is [] (t ∷ ts) h = absurd h
@@ -113,7 +113,7 @@ rows_made s t [] = refl
 rows_made s t (x ∷ xs) = ap (λ rs. view_change (get (views_in s)) (get (views_in t)) x ∷ rs) (rows_made s t xs)
 
 -- the rows of what was seen first are those of the subchannels that were altered
-pub rows_are : (performed : List Touched) (first : Seen) → ((x : SubId) → get first x ≡ find sub_id_cmp x (seen_first performed))
+pub rows_are : (performed : List Touched) (first : Seen) → ((x : SubId) → get first x ≡ find sub_id_cmp x (seen_before_edits performed))
     → (es : List Edit) (s t : State) → AreToldBy performed (told_of_all es s) → map (row_of t) (entries first) ≡ altered_rows es s t
 rows_are performed first is es s t told =
     let xs = (cells_written_by_all es s).subchannels in

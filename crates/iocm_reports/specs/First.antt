@@ -1,4 +1,4 @@
--- What is seen first of some changes at each subchannel, as it is gathered in memory.
+-- What was seen at subchannels before edits altered them, as it is gathered in memory.
 use Rattle.std.specs.Prelude.{List, map, Option}
 use Rattle.std.specs.List.{flat_map}
 use Rattle.std.specs.FinMap.{FinMap}
@@ -18,8 +18,8 @@ abbrev pub seen_before : List ViewChange → List (SubId × Option View)
 seen_before changes = map (λ (c : ViewChange). (c.subchannel, c.before)) changes
 
 -- the same of edits, edit by edit
-abbrev pub seen_first : List Touched → List (SubId × Option View)
-seen_first performed = flat_map (λ (t : Touched). seen_before t.subchannels.items) performed
+abbrev pub seen_before_edits : List Touched → List (SubId × Option View)
+seen_before_edits performed = flat_map (λ (t : Touched). seen_before t.subchannels.items) performed
 
 -- the row of a subchannel in the state that a change left
 abbrev pub row_of : State → SubId × Option View → ViewChange

@@ -4,7 +4,7 @@ ghost use Rattle.iocm_model.specs.Operation.State.{State};
 ghost use Rattle.iocm_activate.specs.Done.{AreToldBy};
 ghost use Rattle.iocm_activate.specs.Told.{told_of_all};
 ghost use Rattle.iocm_reports.specs.Altered as meaning;
-ghost use Rattle.iocm_reports.specs.First.{row_of, seen_before, seen_first};
+ghost use Rattle.iocm_reports.specs.First.{row_of, seen_before, seen_before_edits};
 
 use crate::first::first_of_each;
 use iocm_activate::Done;
@@ -17,7 +17,7 @@ use std::collections::BTreeMap;
 /// What a change altered, of which this was told, on the machine that it left: each subchannel in
 /// order, with what was seen there before the change and what is seen there after it. Also a
 /// subchannel is among them that one edit altered and a later one put back. The time is that
-/// of sorting them.
+/// of sorting them, each as often as an edit altered it.
 ///
 /// `AllocError` (M1): memory ran out.
 pub fn altered_rows(
@@ -36,7 +36,7 @@ pub fn altered_rows(
 
 /// What was seen at each subchannel that an edit altered, before it, edit by edit.
 fn list_seen(alloc: Global, performed: &[Touched]) -> Result<Vec<(SubId, Option<View>)>, AllocError>
-    ensures { IfOk result (λ listed. listed.items ≡ seen_first performed.now) }
+    ensures { IfOk result (λ listed. listed.items ≡ seen_before_edits performed.now) }
 {
     let mut listed = Vec::new(alloc);
     for touched in performed {
