@@ -20,6 +20,8 @@ use std::alloc::Allocator;
 #[derive(Drop)]
 struct CellImage<'b, 'a, A: Allocator> {
     sight: &'b CellSight<'a, A>,
+    /// Where its name mostly stands in access lists.
+    near: usize,
     name: Name,
 }
 
@@ -43,7 +45,7 @@ impl<'b, 'a, A: Allocator> Reach<A> for CellImage<'b, 'a, A> {
     }
 
     fn reaches(&self, path: Chpid) -> bool {
-        self.sight.reaches(path, self.name)
+        self.sight.reaches(path, self.near, self.name)
     }
 
     fn is_online(&self, path: Chpid) -> bool {
@@ -52,9 +54,10 @@ impl<'b, 'a, A: Allocator> Reach<A> for CellImage<'b, 'a, A> {
 }
 
 /// What the image of a name sees of the device of a number cell with these first eight paths in its
-/// channel subsystem.
+/// channel subsystem. The name mostly stands at the place `near` of access lists.
 pub fn view_in_cell<A: Allocator>(
     sight: &CellSight<'_, A>,
+    near: usize,
     name: Name,
     device: &DeviceFields<A>,
     paths: &Paths,
@@ -66,7 +69,7 @@ pub fn view_in_cell<A: Allocator>(
     if !is_candidate(device.lists.candidates(), name) {
         return None;
     }
-    view_by_paths(&CellImage { sight, name }, device, paths)
+    view_by_paths(&CellImage { sight, near, name }, device, paths)
 }
 
 /// What an image that is a candidate of the device sees of it by its first eight paths.

@@ -9,7 +9,7 @@ ghost use Rattle.iocm_derive.specs.OnlineMasks.{AreOnlineMasks};
 ghost use Rattle.iocm_derive.specs.SightedCells.{sighted_cell, cell_device, seen_there};
 
 use crate::cell_image::view_in_cell;
-use crate::lookup::{find_device, lists_image, reaches_path};
+use crate::lookup::{find_device, lists_image_near, reaches_path};
 use crate::masks::pam;
 use crate::named_masks::{NamedMask, mask_of};
 use crate::online_masks::online_masks;
@@ -18,7 +18,7 @@ use crate::paths::paths_of_device;
 use iocm_config::Config;
 use iocm_numbers::Numbers;
 use iocm_record::DeviceFields;
-use iocm_types::{Chpid, Css, Mask, Name, NumberCell, Paths, View};
+use iocm_types::{Chpid, Css, Mask, Mif, Name, NumberCell, Paths, View};
 use std::alloc::Allocator;
 use std::marker::Model;
 
@@ -135,11 +135,14 @@ impl<'a, A: Allocator> CellSight<'a, A> {
     }
 
     /// What the image of a name in the cell's channel subsystem sees there, if there is a device
-    /// and the image sees it.
-    pub fn view(&self, name: Name) -> Option<View>
+    /// and the image sees it. The access list of a path mostly has the names of all images of a
+    /// channel subsystem in their order. So the name is first looked for at the place that its
+    /// image's MIF image ID gives it.
+    pub fn view(&self, mif: Mif, name: Name) -> Option<View>
         ensures { result ≡ seen_there self.now name }
     {
-        view_in_cell(self, name, self.device?, &self.paths)
+        let near = usize::from(mif.number()) - 1;
+        view_in_cell(self, near, name, self.device?, &self.paths)
     }
 
     /// The configuration.
@@ -162,14 +165,15 @@ impl<'a, A: Allocator> CellSight<'a, A> {
         }
     }
 
-    /// Whether the image of a name reaches a path of the cell's channel subsystem.
-    pub fn reaches(&self, path: Chpid, name: Name) -> bool
+    /// Whether the image of a name reaches a path of the cell's channel subsystem. The name is first
+    /// looked for at this place of the path's access list.
+    pub fn reaches(&self, path: Chpid, near: usize, name: Name) -> bool
         ensures { result ≡ sight.reaches (lookup_of self.now.records) self.now.cell.css name path }
     {
         for row in &self.records {
             if let Some(found) = row {
                 if found.number == path.number() {
-                    return lists_image(found.entry, name);
+                    return lists_image_near(found.entry, name, near);
                 }
             }
         }

@@ -1,10 +1,10 @@
-ghost use Rattle.std.specs.Prelude.{◌≡◌};
+ghost use Rattle.std.specs.Prelude.{◌≡◌, true};
 ghost use Rattle.std.specs.Option.{option_copied, option_map};
 ghost use Rattle.iocm_types.specs.declared.key.Key.TheVariants as key;
 ghost use Rattle.iocm_model.specs.Machine.Configuration.{lookup_of, as_device};
 ghost use Rattle.iocm_model.specs.Machine.Mask.{is_online};
 ghost use Rattle.iocm_model.specs.Machine.Record.{path};
-ghost use Rattle.iocm_model.specs.Machine.Sight.{reaches, record_lists};
+ghost use Rattle.iocm_model.specs.Machine.Sight.{has_name, reaches, record_lists};
 ghost use Rattle.iocm_model.specs.Machine.View.{device_record};
 ghost use Rattle.iocm_record.specs.Meaning as meaning;
 ghost use Rattle.iocm_derive.specs.Derived.{all_paths, image_name, name_at};
@@ -94,6 +94,28 @@ pub fn lists_image<A: Allocator>(entry: &Record<A>, name: Name) -> bool
     match entry.body() {
         RecordBody::Path(fields) => lists_name(fields, name),
         _ => false,
+    }
+}
+
+/// The same, where the name mostly stands at this place of the access list.
+pub fn lists_image_near<A: Allocator>(entry: &Record<A>, name: Name, near: usize) -> bool
+    ensures { result ≡ record_lists name (Some entry.now) }
+{
+    match entry.body() {
+        RecordBody::Path(fields) => {
+            is_at(fields.access.as_slice(), name, near) || lists_name(fields, name)
+        }
+        _ => false,
+    }
+}
+
+/// Whether a name stands at a place of a list.
+fn is_at(names: &[Name], name: Name, place: usize) -> bool
+    ensures { result ≡ true → has_name name names.now ≡ true }
+{
+    match names.get(place) {
+        Some(other) => name == *other,
+        None => false,
     }
 }
 

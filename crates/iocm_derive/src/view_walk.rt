@@ -113,7 +113,7 @@ impl<'a, A: Allocator, B: Allocator> ViewWalk<'a, A, B> {
         let cell = cell_of(subchannel);
         if let Some(sight) = &self.cell {
             if sight.cell() == cell {
-                return sight.view(name);
+                return sight.view(subchannel.image.mif, name);
             }
         }
         if !self.is_last(cell) {
@@ -121,7 +121,7 @@ impl<'a, A: Allocator, B: Allocator> ViewWalk<'a, A, B> {
             return view_alone(self.config, self.numbers, name, subchannel);
         }
         let sight = CellSight::gathered(self.config, self.numbers, &cell);
-        let view = sight.view(name);
+        let view = sight.view(subchannel.image.mif, name);
         self.cell = Some(sight);
         view
     }

@@ -77,6 +77,7 @@ fn a_subchannel_has_the_view_of_its_device(rt: HostRuntime) -> Result<(), Fail> 
 fn a_number_cell_shows_its_device(rt: HostRuntime) -> Result<(), Fail> {
     let config = small(rt.alloc())?;
     let numbers = opening(rt.alloc(), &config)?;
+    let first = image(1)?.mif;
     let name = name_of_image(&config, image(1)?).ok_or("LPA")?;
     let views = [0, 1].map(|number| {
         let cell = NumberCell {
@@ -84,7 +85,7 @@ fn a_number_cell_shows_its_device(rt: HostRuntime) -> Result<(), Fail> {
             set: SetNo::FIRST,
             number,
         };
-        CellSight::new(&config, &numbers, &cell).view(name)
+        CellSight::new(&config, &numbers, &cell).view(first, name)
     });
     assert!(rt; views == [Some(one_view()), None]);
     Ok(())
@@ -92,7 +93,9 @@ fn a_number_cell_shows_its_device(rt: HostRuntime) -> Result<(), Fail> {
 
 #[test]
 fn a_number_cell_shows_its_device_to_many(rt: HostRuntime) -> Result<(), Fail> {
+    // Wherever the name is looked for first, it is found.
     let names = [name(b"LPA")?, name(b"LPB")?];
+    let [first, last] = [image(1)?.mif, image(15)?.mif];
     let config = small(rt.alloc())?;
     let numbers = opening(rt.alloc(), &config)?;
     let cell = NumberCell {
@@ -101,8 +104,8 @@ fn a_number_cell_shows_its_device_to_many(rt: HostRuntime) -> Result<(), Fail> {
         number: 0,
     };
     let sight = CellSight::gathered(&config, &numbers, &cell);
-    let views = names.map(|name| sight.view(name));
-    assert!(rt; views == [Some(one_view()), None]);
+    let views = names.map(|name| [sight.view(first, name), sight.view(last, name)]);
+    assert!(rt; views == [[Some(one_view()), Some(one_view())], [None, None]]);
     Ok(())
 }
 

@@ -209,7 +209,7 @@ fn view_there<B: Allocator>(named: &NamedImage, sight: &CellSight<'_, B>) -> Opt
     ensures { result ≡ option_and_then (seen_there sight.now) named.now.name }
 {
     match &named.name {
-        Some(name) => sight.view(*name),
+        Some(name) => sight.view(named.image.mif, *name),
         None => None,
     }
 }
