@@ -12,8 +12,10 @@ ghost use Rattle.iocm_activate.specs.Done.{AreToldBy, IsWayBack, leaves_from, re
 ghost use Rattle.iocm_activate.specs.Effects.{cells_told, effect_in};
 ghost use Rattle.iocm_activate.specs.Told.{CanTakeBack, LeadsTo, told_of_all, way_back};
 
-use crate::done::{Done, prepare, tell};
+use crate::done::{Done, Made};
+use crate::effect::{Effect, effect_of};
 use crate::log::Log;
+use crate::making::finish_made;
 use crate::whole_tree::{leave, walk_whole};
 use iocm_plant::Plant;
 use iocm_tree::Tree;
@@ -25,8 +27,8 @@ use std::alloc::{Allocator, Global};
 ///
 /// Refused by C1 or C2, if the tree is over a limit; else by the first refusal that the tree means,
 /// at its node: E1, E2, E4 or B1 of an edit, E3 of a Choose without parts, V1 to V14 where the
-/// rules are broken at the end of a node. M1, which may stand in place of any other: memory was
-/// wanted. A refused change leaves the state as it was.
+/// rules are broken at the end of a node. M1, which may stand in place of any other: memory ran
+/// out. A refused change leaves the state as it was.
 pub fn activate<A: Allocator>(
     alloc: Global,
     plant: &mut Plant,
@@ -70,15 +72,32 @@ fn finish(alloc: Global, plant: &mut Plant, log: Log) -> Result<Done, Refused>
     ensures undone { OnErr result ((s : State) → LeadsTo (way_back log.done.items) s plant.old → plant.new.state ≡ s) }
     ensures room { OnErr result (plant.new.room ≡ plant.old.room) }
 {
-    match prepare(alloc, plant, &log) {
-        Ok(prepared) => {
-            let Log {
-                done,
-                keys: _keys,
-                kept: _kept,
-            } = log;
-            Ok(tell(prepared, done))
-        }
+    match effect_of(alloc, plant, &log) {
+        Ok(effect) => finish_with(alloc, plant, log, effect),
         Err(_error) => Err(leave(plant, log, Refused::NO_MEMORY)),
+    }
+}
+
+/// The same, where it is known what the change wrote.
+fn finish_with(alloc: Global, plant: &mut Plant, log: Log, effect: Effect) -> Result<Done, Refused>
+    requires back { CanTakeBack log.done.items plant.old }
+    ensures inverse { IfOk result (λ d. tree_of d.inverse ≡ row (leaves_from (way_back log.done.items))) }
+    ensures effect { IfOk result (λ d. d.effect ≡ effect) }
+    ensures performed { IfOk result (λ d. d.performed.items ≡ touched_in log.done.items) }
+    ensures done { OnOk result (plant.new ≡ plant.old) }
+    ensures refused { IfErr result (λ why. why ≡ no_memory) }
+    ensures undone { OnErr result ((s : State) → LeadsTo (way_back log.done.items) s plant.old → plant.new.state ≡ s) }
+    ensures room { OnErr result (plant.new.room ≡ plant.old.room) }
+{
+    match finish_made(alloc, plant, log) {
+        Ok(made) => {
+            let Made { inverse, performed } = made;
+            Ok(Done {
+                inverse,
+                effect,
+                performed,
+            })
+        }
+        Err(why) => Err(why),
     }
 }

@@ -1,14 +1,12 @@
 ghost use Rattle.std.specs.Prelude.{◌≡◌, ◌≤◌, [], length, IfOk};
 ghost use Rattle.std.specs.Vec.{vec_capacity};
-ghost use Rattle.iocm_model.specs.Change.Effect.{values_in};
 ghost use Rattle.iocm_tree.specs.Trees.{row, tree_of};
 ghost use Rattle.iocm_activate.specs.Done.{leaves_from, touched_in};
-ghost use Rattle.iocm_activate.specs.Effects.{cells_told, effect_in};
 ghost use Rattle.iocm_activate.specs.Told.{way_back};
 
-use crate::effect::{Effect, effect_of};
+use crate::effect::Effect;
 use crate::log::Log;
-use iocm_plant::{Applied, Plant, Touched};
+use iocm_plant::{Applied, Touched};
 use iocm_tree::Tree;
 use std::alloc::{AllocError, Global};
 
@@ -24,44 +22,44 @@ pub struct Done {
     pub performed: Vec<Touched>,
 }
 
-/// What is told of a change, with memory for what stands in its log.
+/// The same without what it wrote. The word is own.
+#[derive(Drop)]
+pub struct Made {
+    /// The tree that takes it back, as that of `Done`.
+    pub inverse: Tree,
+    /// What each edit did, in their order.
+    pub performed: Vec<Touched>,
+}
+
+/// Memory for what is told of a change.
 #[derive(Drop)]
 pub struct Prepared {
-    effect: Effect,
     parts: Vec<Tree>,
     performed: Vec<Touched>,
 }
 
 /// Makes the memory for what is told of a change.
-pub fn prepare(alloc: Global, plant: &Plant, log: &Log) -> Result<Prepared, AllocError>
-    ensures effect { IfOk result (λ p. effect_in p.effect ≡ values_in plant.now.state (cells_told log.now)) }
+pub fn prepare(alloc: Global, log: &Log) -> Result<Prepared, AllocError>
     ensures parts { IfOk result (λ p. p.parts.items ≡ []) }
     ensures performed { IfOk result (λ p. p.performed.items ≡ []) }
     ensures room { IfOk result (λ p. length log.now.done.items ≤ vec_capacity p.parts) }
     ensures more_room { IfOk result (λ p. length log.now.done.items ≤ vec_capacity p.performed) }
 {
-    let effect = effect_of(alloc, plant, log)?;
     let parts = Vec::with_capacity(alloc, log.done.len())?;
     let performed = Vec::with_capacity(alloc, log.done.len())?;
-    Ok(Prepared {
-        effect,
-        parts,
-        performed,
-    })
+    Ok(Prepared { parts, performed })
 }
 
 /// What is told of a change. Can't run out of memory.
-pub fn tell(prepared: Prepared, done: Vec<Applied>) -> Done
+pub fn tell(prepared: Prepared, done: Vec<Applied>) -> Made
     requires parts { prepared.parts.items ≡ [] }
     requires performed { prepared.performed.items ≡ [] }
     requires room { length done.items ≤ vec_capacity prepared.parts }
     requires more_room { length done.items ≤ vec_capacity prepared.performed }
     ensures inverse { tree_of result.inverse ≡ row (leaves_from (way_back done.items)) }
-    ensures effect { result.effect ≡ prepared.effect }
     ensures performed { result.performed.items ≡ touched_in done.items }
 {
     let Prepared {
-        effect,
         mut parts,
         mut performed,
     } = prepared;
@@ -72,9 +70,8 @@ pub fn tell(prepared: Prepared, done: Vec<Applied>) -> Done
         performed.push_reserved(touched);
     }
     performed.reverse();
-    Done {
+    Made {
         inverse: Tree::Row(parts),
-        effect,
         performed,
     }
 }

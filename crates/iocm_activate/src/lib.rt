@@ -3,10 +3,11 @@
 //! `activate` performs a `Tree` on a `Plant` that keeps the rules: all the edits that the tree
 //! means, or none. It walks through the tree and logs each edit that it performs, with the edit
 //! that takes it back; a part of a Choose that is refused, and the whole tree where it is refused
-//! or where memory is wanted, is taken back from the log without memory. `Done` has the inverse
-//! tree, the `Effect`, and what each edit did. `carry_out` activates for an undo or a redo, and
-//! gives the inverse tree alone. `fits` tries whether the inverse tree of a change
-//! would take back now just what the change did, and leaves the state as it was.
+//! or where memory runs out, is taken back from the log without memory. `Done` has the inverse
+//! tree, the `Effect`, and what each edit did. `make` activates for a report, without the effect;
+//! `carry_out` for an undo or a redo, and gives the inverse tree alone. `fits` tries whether the
+//! inverse tree of a change would take back now just what the change did, and leaves the state as
+//! it was.
 //!
 //! What the layer above may rely on: the state afterwards and each refusal are those of the model's
 //! `meaning`, a refused tree leaves the state as it was, and the inverse tree takes the change
@@ -23,6 +24,7 @@ mod fitting;
 mod in_order;
 mod leaf;
 mod log;
+mod making;
 mod rules;
 mod taking_back;
 mod turned;
@@ -31,6 +33,7 @@ mod whole_tree;
 
 pub use activation::activate;
 pub use carrying_out::carry_out;
-pub use done::Done;
+pub use done::{Done, Made};
 pub use effect::Effect;
 pub use fitting::fits;
+pub use making::make;

@@ -1,7 +1,7 @@
 pub mod Apply
 pub mod Asked
-pub mod Doing
 pub mod Examples
+pub mod Making
 pub mod Remarks
 pub mod Sides
 pub mod WayBack

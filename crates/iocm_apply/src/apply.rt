@@ -18,7 +18,7 @@ ghost use Rattle.iocm_apply.specs.Apply.{IsRefused, IsRefusedDeck};
 use crate::change::read_change;
 use crate::printing::print_report;
 use crate::report::Asked;
-use iocm_activate::activate;
+use iocm_activate::make;
 use iocm_columns::{Card, Device, read_cards};
 use iocm_config::Config;
 use iocm_console::{
@@ -223,8 +223,8 @@ fn apply_sifted<W: Write + Drop>(
     ensures fault { IfErr result (FailedToWrite output.new) }
 {
     let mut plant = plant;
-    match activate(alloc, &mut plant, tree) {
-        Ok(done) => print_report(alloc, asked.report, before, &done, &plant, output),
+    match make(alloc, &mut plant, tree) {
+        Ok(made) => print_report(alloc, asked.report, before, &made, &plant, output),
         Err(why) => refuse_change(why, output),
     }
 }

@@ -13,22 +13,24 @@ ghost use Rattle.iocm_model.specs.Machine.Numbering.{Numbering, cells_of};
 ghost use Rattle.iocm_model.specs.Operation.State.{State};
 ghost use Rattle.iocm_reports.specs.Deck.{deck_text};
 ghost use Rattle.iocm_tree.specs.Trees.{plain_tree, tree_of};
-ghost use Rattle.iocm_apply.specs.Apply.{reported, table_below};
-ghost use Rattle.iocm_apply.specs.Doing.{IsDoneBy};
+ghost use Rattle.iocm_activate.specs.Done.{AreToldBy};
+ghost use Rattle.iocm_activate.specs.Told.{told_of_all};
+ghost use Rattle.iocm_apply.specs.Apply.{count_altered, reported, table_below};
+ghost use Rattle.iocm_apply.specs.Making.{IsMadeBy};
 ghost use Rattle.iocm_apply.specs.WayBack.{way_back_text};
 
 use crate::back::way_back;
 use crate::report::Report;
 use crate::rows::print_rows;
-use iocm_activate::Done;
+use iocm_activate::Made;
 use iocm_config::Config;
 use iocm_console::{
     ConsoleError, Output, Status, TableCells, gather_cells, refuse, write_lines, write_sifted,
     write_text,
 };
 use iocm_filter::{Filters, Sieve};
-use iocm_plant::Plant;
-use iocm_reports::deck_text;
+use iocm_plant::{Plant, Touched};
+use iocm_reports::{count_altered, deck_text};
 use iocm_tree::Tree;
 use iocm_types::Fault;
 use std::alloc::{Allocator, Global};
@@ -43,25 +45,47 @@ pub fn print_report<W: Write + Drop>(
     alloc: Global,
     report: Report,
     before: &Sieve<'_>,
-    done: &Done,
+    made: &Made,
     plant: &Plant,
     output: &mut Output<W>,
 ) -> Result<Status, ConsoleError>
     ensures text { (w : Wanted) (es : List edit.Edit) (s : State) → IsSieveFor w s.config before.now
-        → IsDoneBy done.now es s
+        → IsMadeBy made.now es s
         → IfOk result (SaysIfMemory W.contents output.old output.new (reported report w es s plant.now.state)) }
     ensures works { OnOk result (has_failed output.new ≡ has_failed output.old) }
     ensures handed_on { OnOk result (IsHandedOn output.new) }
     ensures fault { IfErr result (FailedToWrite output.new) }
 {
-    let altered = done.effect.lives.len();
+    let performed = made.performed.as_slice();
     match report {
-        Report::Table => print_machine(alloc, altered, before.filters(), plant, output),
-        Report::WayBack => print_way_back(alloc, &done.inverse, output),
-        Report::Altered => print_rows(alloc, false, before, done, plant, output),
-        Report::Count => print_rows(alloc, true, before, done, plant, output),
+        Report::Table => print_table(alloc, performed, before.filters(), plant, output),
+        Report::WayBack => print_way_back(alloc, &made.inverse, output),
+        Report::Altered => print_rows(alloc, false, before, performed, plant, output),
+        Report::Count => print_rows(alloc, true, before, performed, plant, output),
         Report::Deck => print_deck(alloc, plant.config(), output),
-        Report::Test => print_test(altered, output),
+        Report::Test => print_test(alloc, performed, output),
+    }
+}
+
+/// Prints how many subchannels a change altered, of whose edits this was told, and the table of the
+/// machine, of the subchannels that are asked for.
+fn print_table<W: Write + Drop>(
+    alloc: Global,
+    performed: &[Touched],
+    filters: &Filters,
+    plant: &Plant,
+    output: &mut Output<W>,
+) -> Result<Status, ConsoleError>
+    ensures text { (es : List edit.Edit) (s : State) → AreToldBy performed.now (told_of_all es s)
+        → IfOk result (SaysIfMemory W.contents output.old output.new (table_below (count_altered es s)
+        (wanted_table filters.now plant.now.state.config plant.now.state.numbers))) }
+    ensures works { OnOk result (has_failed output.new ≡ has_failed output.old) }
+    ensures handed_on { OnOk result (IsHandedOn output.new) }
+    ensures fault { IfErr result (FailedToWrite output.new) }
+{
+    match count_altered(alloc, performed) {
+        Ok(altered) => print_machine(alloc, altered, filters, plant, output),
+        Err(error) => refuse(Fault::from(error), output),
     }
 }
 
@@ -186,8 +210,27 @@ fn print_deck<W: Write + Drop>(
     }
 }
 
-/// Prints how many subchannels a change altered. Can't run out of memory.
+/// Prints how many subchannels a change altered, of whose edits this was told.
 fn print_test<W: Write + Drop>(
+    alloc: Global,
+    performed: &[Touched],
+    output: &mut Output<W>,
+) -> Result<Status, ConsoleError>
+    ensures text { (es : List edit.Edit) (s : State) → AreToldBy performed.now (told_of_all es s)
+        → IfOk result (SaysIfMemory W.contents output.old output.new
+        (record { text = changed_text (count_altered es s) ++ 10 ∷ []; status = status.Done })) }
+    ensures works { OnOk result (has_failed output.new ≡ has_failed output.old) }
+    ensures handed_on { OnOk result (IsHandedOn output.new) }
+    ensures fault { IfErr result (FailedToWrite output.new) }
+{
+    match count_altered(alloc, performed) {
+        Ok(altered) => print_number(altered, output),
+        Err(error) => refuse(Fault::from(error), output),
+    }
+}
+
+/// Prints how many subchannels a change altered. Can't run out of memory.
+fn print_number<W: Write + Drop>(
     altered: usize,
     output: &mut Output<W>,
 ) -> Result<Status, ConsoleError>

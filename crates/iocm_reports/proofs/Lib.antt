@@ -1,6 +1,7 @@
 mod AlteredRows
 mod ByImage
 mod FirstRows
+mod Halves
 pub mod ListedPairs
 mod Printed
 mod Rows

@@ -3,6 +3,7 @@ pub mod Counts
 pub mod Deck
 pub mod Examples
 pub mod First
+pub mod ImageOrder
 pub mod Laws
 pub mod Lines
 pub mod Listed

@@ -1,5 +1,10 @@
 ghost use Rattle.std.specs.Prelude.{◌≡◌, ◌++◌, List, map, IfOk, OnOk};
+ghost use Rattle.std.specs.BTreeMap.{get, IsOrdered};
+ghost use Rattle.std.specs.FinMap.{find, len};
+ghost use Rattle.iocm_types.specs.SubId.{sub_id_cmp};
+ghost use Rattle.iocm_types.specs.declared.sub_id.SubId as subchannels;
 ghost use Rattle.iocm_model.specs.Change.Edit.{Edit};
+ghost use Rattle.iocm_model.specs.Change.Runs.{effect_of};
 ghost use Rattle.iocm_model.specs.Operation.State.{State};
 ghost use Rattle.iocm_activate.specs.Done.{AreToldBy};
 ghost use Rattle.iocm_activate.specs.Told.{told_of_all};
@@ -7,14 +12,13 @@ ghost use Rattle.iocm_reports.specs.Altered as meaning;
 ghost use Rattle.iocm_reports.specs.First.{row_of, seen_before, seen_before_edits};
 
 use crate::first::first_of_each;
-use iocm_activate::Done;
 use iocm_plant::{Plant, Touched};
 use iocm_seats::ViewChange;
 use iocm_types::{SubId, View};
 use std::alloc::{AllocError, Global};
 use std::collections::BTreeMap;
 
-/// What a change altered, of which this was told, on the machine that it left: each subchannel in
+/// What a change altered, of whose edits this was told, on the machine that it left: each subchannel in
 /// order, with what was seen there before the change and what is seen there after it. Also a
 /// subchannel is among them that one edit altered and a later one put back. The time is that
 /// of sorting them, each as often as an edit altered it.
@@ -22,16 +26,40 @@ use std::collections::BTreeMap;
 /// `AllocError` (M1): memory ran out.
 pub fn altered_rows(
     alloc: Global,
-    done: &Done,
+    performed: &[Touched],
     plant: &Plant,
 ) -> Result<Vec<ViewChange>, AllocError>
-    ensures rows { (es : List Edit) (s : State) → AreToldBy done.now.performed.items (told_of_all es s)
+    ensures rows { (es : List Edit) (s : State) → AreToldBy performed.now (told_of_all es s)
         → IfOk result (λ listed. listed.items ≡ meaning.altered_rows es s plant.now.state) }
     ensures order { IfOk result (λ listed. meaning.AreInOrder listed.items) }
 {
-    let listed = list_seen(alloc, done.performed.as_slice())?;
-    let first = first_of_each(alloc, listed)?;
+    let first = seen_first(alloc, performed)?;
     list_rows(alloc, &first, plant)
+}
+
+/// How many subchannels a change altered, of whose edits this was told: as many as there are rows.
+/// The time is that of listing them.
+///
+/// `AllocError` (M1): memory ran out.
+pub fn count_altered(alloc: Global, performed: &[Touched]) -> Result<usize, AllocError>
+    ensures { (es : List Edit) (s : State) → AreToldBy performed.now (told_of_all es s)
+        → IfOk result (λ count. count ≡ len (effect_of es s).lives) }
+{
+    let first = seen_first(alloc, performed)?;
+    Ok(first.len())
+}
+
+/// What was seen at each subchannel that an edit altered, before the first edit that did.
+fn seen_first(
+    alloc: Global,
+    performed: &[Touched],
+) -> Result<BTreeMap<SubId, Option<View>>, AllocError>
+    ensures first { IfOk result (λ m. (x : subchannels.SubId)
+        → get sub_id_cmp m x ≡ find sub_id_cmp x (seen_before_edits performed.now)) }
+    ensures order { IfOk result (λ m. IsOrdered sub_id_cmp m) }
+{
+    let listed = list_seen(alloc, performed)?;
+    first_of_each(alloc, listed)
 }
 
 /// What was seen at each subchannel that an edit altered, before it, edit by edit.

@@ -14,11 +14,11 @@ returns-in-Ok-clause-text g c =
     let asked = c.args.asked.now in
     let o = meaning (plain_tree (tree_of c.args.tree.now)) s in
     says_named g.W.Write.contents c.args.output.now c.print_report.new.output c.print_report.result
-    (reported c.asked.inside.report asked.wanted (edits_of o) s c.activate.new.plant.state) (made asked s o)
-    (made_is asked s c.activate.new.plant.state o (edits_of o) c.in-Ok.ensures.means
-    ∙ ap (λ (q : Question). reported q.report asked.wanted (edits_of o) s c.activate.new.plant.state) (sym c.asked.view_is))
+    (reported c.asked.inside.report asked.wanted (edits_of o) s c.make.new.plant.state) (made asked s o)
+    (made_is asked s c.make.new.plant.state o (edits_of o) c.in-Ok.ensures.means
+    ∙ ap (λ (q : Question). reported q.report asked.wanted (edits_of o) s c.make.new.plant.state) (sym c.asked.view_is))
     (c.print_report.ensures.text asked.wanted (edits_of o) s c.requires.sieve
-    (record { inverse = c.in-Ok.ensures.inverse; effect = c.in-Ok.ensures.effect; performed = c.in-Ok.ensures.performed }))
+    (record { inverse = c.in-Ok.ensures.inverse; performed = c.in-Ok.ensures.performed }))
 
 pub returns-clause-text : goal.returns-clause-text
 returns-clause-text g c = says_due g.W.Write.contents c.args.output.now c.refuse_change.new.output c.args.asked.now c.refuse_change.result

@@ -1,9 +1,9 @@
 use Rattle.std.proofs.Common.{map, sym, ap, subst, ◌∙◌}
 use Rattle.std.proofs.lemmas.Result.{IfOk-weaker}
-use Rattle.std.specs.FinMap.{entries-from_sorted, find, from_sorted}
+use Rattle.std.specs.FinMap.{entries-from_sorted, from_sorted}
 use Rattle.iocm_types.specs.SubId.{sub_id_cmp}
 use Rattle.iocm_reports.specs.Altered.{AreInOrder}
-use Rattle.iocm_reports.specs.First.{row_of, seen_before_edits}
+use Rattle.iocm_reports.specs.First.{row_of}
 use Rattle.iocm_reports.proofs.AlteredRows.{rows_are}
 use Rattle.iocm_reports.proofs.FirstRows.{in_order, same_at}
 use Rattle.iocm_reports.proofs.Rows.{made_in_order}
@@ -14,9 +14,8 @@ returns-clause-rows c =
     let first = c.in_ok-first.first in
     λ es s told. IfOk-weaker c.list_rows.result _ _
     (λ listed is. is ∙ ap (map (row_of c.args.plant.now.state)) (sym (entries-from_sorted sub_id_cmp first.entries (in_order sub_id_cmp first.entries c.in_ok-first.ensures.order)))
-    ∙ rows_are c.args.done.now.performed.items (from_sorted first.entries)
-    (λ x. same_at sub_id_cmp first c.in_ok-first.ensures.order x ∙ c.in_ok-first.ensures.first x
-    ∙ ap (find sub_id_cmp x) (c.in_ok-listed.ensures ∙ ap seen_before_edits c.as_slice.ensures.value)) es s c.args.plant.now.state told)
+    ∙ rows_are c.args.performed.now (from_sorted first.entries)
+    (λ x. same_at sub_id_cmp first c.in_ok-first.ensures.order x ∙ c.in_ok-first.ensures.first x) es s c.args.plant.now.state told)
     c.list_rows.ensures
 
 pub returns-clause-order : goal.returns-clause-order
