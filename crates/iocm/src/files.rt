@@ -8,6 +8,7 @@ use iocm_columns::Device;
 use iocm_console::ConsoleError;
 use std::collections::VecDeque;
 use std::io::{ErrorKind, Read};
+use std::os::unix::fs::FileTypeExt;
 use std::rt::Files;
 use std::{fs, io};
 
@@ -64,6 +65,33 @@ pub fn open<'a, R: Files>(
         Ok(file) => Ok(Source::File(file)),
         Err(_) => Err(ConsoleError::Read),
     }
+}
+
+/// Whether a file is a named pipe or a character device, as a terminal is: its text can be read
+/// once alone.
+pub fn is_read_once<R: Files>(rt: &R, name: &str) -> bool {
+    match fs::metadata(rt, name) {
+        Ok(found) => {
+            let kind = found.file_type();
+            kind.is_fifo() || kind.is_char_device()
+        }
+        Err(_) => false,
+    }
+}
+
+/// A text that was read before. That of a pipe or a terminal is gone, and opening a pipe once more
+/// could wait for ever.
+///
+/// L5 (`ConsoleError::Read`): the file can't be opened, or its text is gone.
+pub fn open_again<'a, R: Files>(
+    rt: &R,
+    name: &str,
+    input: &'a [u8],
+) -> Result<Source<'a, R::File>, ConsoleError> {
+    if !is_input(name) && is_read_once(rt, name) {
+        return Err(ConsoleError::Read);
+    }
+    open(rt, name, input)
 }
 
 /// The texts of these names, opened in their order; `None` where memory is missing for them.

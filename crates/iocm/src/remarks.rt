@@ -1,7 +1,7 @@
 //! What is said of a refusal on standard error: from which file and line it comes.
 
 use crate::command::{Command, Request};
-use crate::files::{is_input, open};
+use crate::files::{is_input, is_read_once, open, open_again};
 use iocm_columns::{Card, Device, join, read_cards};
 use iocm_console::Told;
 use iocm_faults::all_faults;
@@ -44,7 +44,7 @@ enum Role {
 }
 
 /// Says from which text of a command, and from where in it, a refusal comes. Each text is read once
-/// more. That memory is missing comes from no text.
+/// more, but for that of a pipe. That memory is missing comes from no text.
 pub fn remark_on<R: Files + Eprint + AllocGlobal>(
     rt: &R,
     command: &Command<'_>,
@@ -134,7 +134,7 @@ fn remark_on_further<R: Files + Eprint + AllocGlobal>(
     input: &[u8],
     first: Fault,
 ) {
-    let Ok(source) = open(rt, name, input) else {
+    let Ok(source) = open_again(rt, name, input) else {
         return;
     };
     let mut device = Device::new(source);
@@ -184,7 +184,7 @@ fn is_of<R: Files + Eprint + AllocGlobal>(
     input: &[u8],
     told: &Told,
 ) -> bool {
-    let Ok(source) = open(rt, name, input) else {
+    let Ok(source) = open_again(rt, name, input) else {
         return false;
     };
     let mut device = Device::new(source);
@@ -283,8 +283,11 @@ fn first_unread<'a, R: Files + AllocGlobal>(
     None
 }
 
-/// Whether the text in this file can be read to its end.
+/// Whether the text in this file can be read to its end, as far as this can be told.
 fn is_readable<R: Files + AllocGlobal>(rt: &R, name: &str, input: &[u8]) -> bool {
+    if is_read_once(rt, name) {
+        return true;
+    }
     let Ok(source) = open(rt, name, input) else {
         return false;
     };

@@ -83,7 +83,7 @@ pub const L5_TEXT: &str =
     "Explanation. The program printed fault L5 on standard error. A file of the command line
 couldn't be opened: it isn't there, or may not be read. Or a read failed, as it does of a folder. Or
 the file didn't end within 1,048,576 reads. Without --quiet the next line on standard error names
-the file, or standard input.
+the file, or standard input, but not a pipe.
 
 System action. Nothing was printed on standard output, and the exit status is 3.
 
@@ -97,6 +97,7 @@ pub const L6_TEXT: &str =
 failed. The disk is full, or the program that read from a pipe has ended.
 
 System action. The program stopped at once, with exit status 3. What was written before may end
-within a line.
+within a line. Where a limit of file sizes (ulimit -f) is reached, the system itself ends the
+program by a signal, without this line.
 
 Response. Make room, or look why the reader of the pipe ended. Run the command again.";
