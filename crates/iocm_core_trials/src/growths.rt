@@ -136,6 +136,28 @@ fn an_abort_asks_for_no_growth(rt: HostRuntime) -> Result<(), Fail> {
     Ok(())
 }
 
+/// How many of these acts go before one that isn't answered as it should be between the two marks,
+/// if there is one. So many go before the first that is tried.
+fn first_wrong_step(alloc: Global, acts: &[Act], begun: usize) -> Result<Option<usize>, Fail> {
+    for count in begun..acts.len() {
+        let before = acts.get(..count).ok_or("no such acts")?;
+        let step = acts.get(count).ok_or("no such act")?;
+        if !is_ended(alloc, before, step)? {
+            return Ok(Some(count));
+        }
+    }
+    Ok(None)
+}
+
+#[test]
+fn an_advance_asks_for_no_growth(rt: HostRuntime) -> Result<(), Fail> {
+    assert_eq!(rt; first_wrong_step(rt.alloc(), STAGES, 1)?, None);
+    assert_eq!(rt; first_wrong_step(rt.alloc(), LEFT_STAGED, 1)?, None);
+    assert_eq!(rt; first_wrong_step(rt.alloc(), MIXED, 1)?, None);
+    assert_eq!(rt; first_wrong_step(rt.alloc(), AFTER_AN_UNDO, 4)?, None);
+    Ok(())
+}
+
 /// A change in stages is begun.
 const BEGUN: &Ask = &Begin(EXCHANGE);
 
