@@ -16,18 +16,21 @@ from .trials import try_self
 MEMORY = "/dev/shm"
 MOST_PRINTED = 20
 DEFAULTS = {"--seed": 1, "--seconds": None, "--count": None, "--jobs": 1, "--only": None, "--keep": None}
+CHECKS = "--checks"
 SECONDS = 60
 
 
 def options_of(words):
     """The options by name, and the binary; None where the words aren't understood."""
-    options, left = dict(DEFAULTS), list(words)
+    options, left = {**DEFAULTS, CHECKS: False}, list(words)
     binary, is_self = None, False
     while left:
         word = left.pop(0)
         if word == "--self":
             is_self = True
-        elif word in options and left:
+        elif word == CHECKS:
+            options[word] = True
+        elif word in DEFAULTS and left:
             text = left.pop(0)
             options[word] = text if word == "--keep" else float(text) if word == "--seconds" else int(text)
         elif binary is None and not word.startswith("--"):
@@ -63,7 +66,7 @@ class Worker:
 
     def play(self, first, step):
         for number in self.numbers(first, step):
-            case = Case(self.program, self.tally, dice_of(self.options["--seed"], number))
+            case = Case(self.program, self.tally, dice_of(self.options["--seed"], number), self.options[CHECKS])
             play(case)
             if self.is_over:
                 self.tally.cut_short += 1  # its runs may have had the signal, too
@@ -79,7 +82,8 @@ class Worker:
             return
         self.printed += 1
         case.keep(folder)
-        lines = [f"case {number} failed: tests/drawn {self.binary} --seed {seed} --only {number}", f"  files: {folder}"]
+        checks = f" {CHECKS}" if self.options[CHECKS] else ""
+        lines = [f"case {number} failed: tests/drawn {self.binary}{checks} --seed {seed} --only {number}", f"  files: {folder}"]
         lines += [f"  {name}: {text}" for name, text in case.faults[:3]]
         print("\n".join(lines), flush=True)
 

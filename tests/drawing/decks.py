@@ -18,15 +18,22 @@ def try_deck(case, data, machine=None):
     if machine is not None:
         case.agree("check as drawn", check.line(), f"accepted {machine.count()}")
     if deck.refusal:
+        case.place(check, "deck", place_in_deck(data, deck.refusal))
+    if not case.is_check_alone:
+        try_others(case, check, deck, machine)
+    return deck
+
+
+def try_others(case, check, deck, machine):
+    """What the other commands answer to a deck that `check` answered."""
+    if deck.refusal:
         try_refused(case, check, deck)
     else:
         try_accepted(case, check, deck, machine)
-    return deck
 
 
 def try_refused(case, check, deck):
     """Every command prints the first refusal of a deck, and nothing else; `check --all` begins with it."""
-    case.place(check, "deck", place_in_deck(case.files["deck"], deck.refusal))
     for command in case.dice.sample(OTHERS, case.dice.choice((1, 1, 2))):
         if command == "check --all":
             try_all(case, check, deck)

@@ -159,9 +159,12 @@ KINDS = {
 }
 
 
+DECKS = {kind: KINDS[kind] for kind in (legal_deck, breaching_deck, faulty_deck, spoiled_deck, odd_deck, random_deck)}
+
+
 def play(case):
     """Draws a case of some kind, and tries it."""
-    kind = weighted(case.dice, KINDS)
+    kind = weighted(case.dice, DECKS if case.is_check_alone else KINDS)
     case.tally.kinds[kind.__name__.replace("_", " ")] += 1
     play_kind(case, kind)
 

@@ -208,18 +208,18 @@ def live_after(live, view, kept, change):
 
 
 def inverse_of(state, edit, after, altered):
-    """The edit that takes an edit back: the old record, the numbers that were freed, the live records that altered
-    subchannels had."""
+    """The edit that takes an edit back: the old record, the numbers that were freed, by device, and the live records that
+    altered subchannels had."""
     old = state.records.get(edit.key)
     action = {"add": "delete", "delete": "add", "modify": "modify"}[edit.action]
     numbered = {(css, number_set, device) for (css, number_set, _), device in after.numbers.items()}
-    freed = tuple(
+    freed = sorted(
         ((css, number_set, device), number)
-        for (css, number_set, number), device in sorted(state.numbers.items())
+        for (css, number_set, number), device in state.numbers.items()
         if (css, number_set, device) not in numbered
     )
     kept = tuple((subchannel, state.lives[subchannel]) for subchannel in sorted(altered) if subchannel in state.lives)
-    return Edit(action, edit.key, old if action != "delete" else None, freed, kept)
+    return Edit(action, edit.key, old if action != "delete" else None, tuple(freed), kept)
 
 
 def perform(state, edit, is_forced=False):

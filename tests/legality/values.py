@@ -77,8 +77,9 @@ def css_of(text):
 
 
 def is_group(text):
-    """Whether a text is a list whose first item is a word CSS(..)."""
-    return is_list(text) and inside_css((cut(text[1:-1]) or [""])[0]) is not None
+    """Whether a text is a list whose first item is a word CSS(..), or at least begins and ends like one."""
+    first = (cut(text[1:-1]) or [""])[0] if is_list(text) else ""
+    return first.startswith("CSS(") and first.endswith(")")
 
 
 def group_of(items, may_be_empty):
@@ -96,8 +97,8 @@ def by_css(text, may_be_empty=False):
         need(all(is_group(item) for item in items))
         groups = [group_of(items_of(item), may_be_empty) for item in items]
     else:
+        need(not any(is_group(item) for item in items))
         groups = [(0, items)]
-    need(not any(is_group(item) for _, group in groups for item in group))
     joined = {}
     for css, group in groups:
         joined.setdefault(css, []).extend(group)
@@ -105,7 +106,8 @@ def by_css(text, may_be_empty=False):
 
 
 def words_of(text):
-    """The words of a value at every depth; what is inside quotes is in none of them."""
+    """The words of a value at every depth; what is inside quotes is in none of them. What stands behind a list, as `)X`
+    in `(A)X`, is a word that begins with its parenthesis."""
     words, word, depth, in_quotes, has_quote = [], "", 0, False, False
     for letter in text + ",":
         if letter == "'":
@@ -113,9 +115,9 @@ def words_of(text):
         elif in_quotes:
             continue
         elif depth == 0 and (letter == "," or letter == ")" or (letter == "(" and not word)):
-            if word and not has_quote:
+            if word not in ("", ")") and not has_quote:
                 words.append(word)
-            word, has_quote = "", False
+            word, has_quote = letter if letter == ")" else "", False
         else:
             depth += (letter == "(") - (letter == ")")
             word += letter
