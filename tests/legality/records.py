@@ -109,7 +109,7 @@ def has_left_out_form(statement, looked_at):
         is_one_path = keyword == "PATH" and statement.operation in ("CHPID", "ONLINE")
         if has_several_css(text) or (is_one_path and has_several_paths(text)):
             return True
-        if keyword == "SCHSET" and text.startswith("(") and is_list(text):
+        if keyword == "SCHSET" and text.startswith("(") and text.endswith(")"):
             return True
     return False
 
