@@ -4,7 +4,7 @@
 //! `read_cards` reads a device to its end and checks each line (L5, L1, L2). `join` puts each
 //! statement and its continuations together (L3, L4) and takes its name, operation and operand part
 //! out of the columns. The layer above may rely on this: each answer is exactly what the
-//! definitions `cards_of` and `statements_of` say of the bytes, or their first fault; only want of
+//! definitions `cards_of` and `statements_of` say of the bytes, or their first fault; only lack of
 //! memory, and L5 of a device that can't be read to its end, may come instead. Where the bytes
 //! aren't known beforehand, this is said of some bytes.
 //!

@@ -2,7 +2,7 @@ use iocm_rules::Breach;
 use iocm_types::{Fault, Rule};
 use std::fmt;
 
-/// A refusal as it is printed, without the end of its line: its number and its line, and want of
+/// A refusal as it is printed, without the end of its line: its number and its line, and lack of
 /// memory, which stands at no line, by its number alone.
 #[derive(Clone, Copy)]
 pub struct Refusal(pub Fault);

@@ -1,11 +1,8 @@
 -- Sets of names and lists by channel subsystem that were read are in order.
-use Rattle.std.proofs.Common.{◌≡◌, ◌≢◌, ℕ, zero, suc, ◌<◌, ◌==◌, not, Bool, true, false, cond, Option, Some, None, List, [], ◌∷◌, ◌++◌, filter, fold, length, get_or, All, refl, sym, ap, ◌∙◌, subst, arith, append-nil, append_assoc, eqb-true, eq-eqb}
+use Rattle.std.proofs.Common.{◌≡◌, ◌≢◌, ℕ, zero, suc, ◌<◌, ◌==◌, not, Bool, true, false, cond, Option, Some, None, List, [], ◌∷◌, ◌++◌, filter, fold, length, get_or, All, refl, sym, ap, ◌∙◌, subst, arith, append-nil, eqb-true, eq-eqb}
 use Rattle.std.proofs.lemmas.Bool.{false≢true}
-use Rattle.std.proofs.lemmas.Cmp.{nat_list_cmp_total}
 use Rattle.std.proofs.lemmas.List.Elements.{All-nil, All-cons, All-head, All-tail, All-append, All-filter}
-use Rattle.std.specs.List.{AllByRecursion, flat_map, list_any}
-use Rattle.std.specs.List.Sorted.{IsStrictlySortedBy}
-use Rattle.std.specs.Ordering.{ordering_reverse}
+use Rattle.std.specs.List.{flat_map, list_any}
 use Rattle.std.specs.declared.cmp.Ordering.{Ordering}
 use Rattle.std.specs.declared.cmp.Ordering.TheVariants.{Less, Equal, Greater}
 use Rattle.std.specs.FinMap.Entries.{by_order}
@@ -14,50 +11,12 @@ use Rattle.iocm_values.specs.CssLists.{begins_with_css, begins_with_group, is_gr
 use Rattle.iocm_values.specs.NameSet.{name_cmp, with_name, name_set}
 use Rattle.iocm_values.specs.Reading.{◌>>=◌, every, gathered}
 use Rattle.iocm_values.specs.Value.{Value, word, list, items}
-use Rattle.iocm_values.proofs.Rising.{AreSorted, AllBehind, fold_again}
+use Rattle.iocm_values.proofs.Rising.{fold_again, set_is_sorted}
 use Rattle.iocm_operands.specs.Again.{IsNameSet, AreByCss}
 use Rattle.iocm_operands.proofs.Given.{no_value, same_value, step_gave, test_gave, css_small, values_some, every_gave}
 use Rattle.iocm_operands.proofs.Grouped.{all_css}
 
 -- ---- sets of names
-
-greater_is_less : (a b : List ℕ) → name_cmp a b ≡ Greater → name_cmp b a ≡ Less
-greater_is_less a b greater = nat_list_cmp_total.antisymm b a ∙ ap ordering_reverse greater
-
-behind_with : (first name : List ℕ) (names : List (List ℕ)) → name_cmp first name ≡ Less → AllBehind first names → AllBehind first (with_name names name)
-behind_with first name [] less behind = (less, tt)
-behind_with first name (n ∷ ns) less behind = by (name_cmp name n) (behind_with first name ns less behind.1)
-  where
-    by : (o : Ordering) → AllBehind first (with_name ns name) → AllBehind first (by_order o (name ∷ n ∷ ns) (n ∷ ns) (n ∷ with_name ns name))
-    by Less rest = (less, behind)
-    by Equal rest = behind
-    by Greater rest = (behind.0, rest)
-
-all_behind : (first name : List ℕ) (names : List (List ℕ)) → name_cmp first name ≡ Less → AllBehind name names → AllBehind first names
-all_behind first name [] less behind = tt
-all_behind first name (n ∷ ns) less behind = (nat_list_cmp_total.trans first name n less behind.0, all_behind first name ns less behind.1)
-
-sorted_with : (names : List (List ℕ)) (name : List ℕ) → AreSorted names → AreSorted (with_name names name)
-unfolding IsStrictlySortedBy
-sorted_with [] name sorted = (tt, tt)
-sorted_with (n ∷ ns) name sorted = by (name_cmp name n) refl (sorted_with ns name sorted.1)
-  where
-    by : (o : Ordering) → name_cmp name n ≡ o → AreSorted (with_name ns name) → AreSorted (by_order o (name ∷ n ∷ ns) (n ∷ ns) (n ∷ with_name ns name))
-    by Less less rest = ((less, all_behind name n ns less sorted.0), sorted)
-    by Equal same rest = sorted
-    by Greater greater rest = (behind_with n name ns (greater_is_less name n greater) sorted.0, rest)
-
-sorted_fold : (names set : List (List ℕ)) → AreSorted set → AreSorted (fold with_name set names)
-sorted_fold [] set sorted = sorted
-sorted_fold (name ∷ names) set sorted = sorted_fold names (with_name set name) (sorted_with set name sorted)
-
-none_sorted : AreSorted []
-unfolding IsStrictlySortedBy
-none_sorted = tt
-
--- the names of a set rise
-pub set_is_sorted : (names : List (List ℕ)) → AreSorted (name_set names)
-set_is_sorted names = sorted_fold names [] none_sorted
 
 -- a set of names is that of its names
 pub set_of_set : (names : List (List ℕ)) → name_set (name_set names) ≡ name_set names

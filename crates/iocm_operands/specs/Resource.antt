@@ -41,6 +41,10 @@ image_at p = option_map (λ name. record { css = p.css; mif = p.mif; name = name
 abbrev pub images_of : Value → Option (List ImageRecord)
 images_of v = option_map (filter_map image_at) (by_css false image_item (λ (p : ImagePlace). p.css) v)
 
+-- the name of an image, if it is one of the channel subsystem
+abbrev pub name_in : ℕ → ImageRecord → Option (List ℕ)
+name_in css i = if i.css == css then Some i.name else None
+
 -- the names of the images of a channel subsystem
 abbrev pub names_in : ℕ → List ImageRecord → List (List ℕ)
 names_in css images = name_set (map (λ (i : ImageRecord). i.name) (filter (λ (i : ImageRecord). i.css == css) images))

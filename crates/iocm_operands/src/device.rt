@@ -143,7 +143,7 @@ fn candidates_listed(alloc: Global, inner: &[u8]) -> Result<List<Name>, Unread>
     let words = words(alloc, inner)?;
     let names = read_candidates(alloc, &words)?;
     let names = those_there(alloc, &names)?;
-    Ok(List::from_vec(set_of_names(alloc, names)?))
+    Ok(List::from_vec(set_of_names(names)?))
 }
 
 // A name alone, or `0` for none.

@@ -1,14 +1,12 @@
-ghost use Rattle.std.specs.Prelude.{◌≡◌, ◌==◌, ◌++◌, IfOk, OnOk, [], ◌∷◌, map, filter, fold};
+ghost use Rattle.std.specs.Prelude.{◌≡◌, IfOk, map};
 ghost use Rattle.std.specs.List.{filter_map};
-ghost use Rattle.iocm_model.specs.Machine.Record.{ImageRecord};
 ghost use Rattle.iocm_statements.specs.Unread.{Reads};
-ghost use Rattle.iocm_values.specs.NameSet.{with_name};
 ghost use Rattle.iocm_values.specs.Value.{seen};
 ghost use Rattle.iocm_operands.specs.Resource as meaning;
 
 use iocm_statements::Unread;
 use iocm_types::{Css, Mif, Name};
-use iocm_values::{CssItem, Value, add_name, by_css, hex};
+use iocm_values::{CssItem, Value, by_css, hex, set_of_names};
 use std::alloc::{AllocError, Global};
 use std::marker::Model;
 
@@ -144,24 +142,36 @@ pub fn images_of(alloc: Global, value: Value) -> Result<Vec<ImageEntry>, Unread>
     Ok(images_at(alloc, &places)?)
 }
 
-fn add_image(names: &mut Vec<Name>, css: Css, image: ImageEntry) -> Result<(), AllocError>
-    ensures { OnOk result (names.new.items ≡ fold with_name names.old.items
-        (map (λ (i : ImageRecord). i.name) (filter (λ (i : ImageRecord). i.css == css) (image ∷ [])))) }
+fn name_in(css: Css, image: ImageEntry) -> Option<Name>
+    ensures { result ≡ meaning.name_in css image }
 {
-    if image.css.number() != css.number() {
-        return Ok(());
+    if image.css.number() == css.number() {
+        Some(image.name)
+    } else {
+        None
     }
-    add_name(names, image.name)
 }
 
-/// The names of the images of a channel subsystem, ascending with each once.
-#[tactic(auto, using(crate::proofs::Images::image_steps))]
-pub fn names_in(alloc: Global, css: Css, images: &[ImageEntry]) -> Result<Vec<Name>, AllocError>
-    ensures { IfOk result (λ names. names.items ≡ meaning.names_in css images.now) }
+// The names of the images of a channel subsystem, image by image.
+#[tactic(auto, using(iocm_values::proofs::Filtering::filter_maps))]
+fn listed_in(alloc: Global, css: Css, images: &[ImageEntry]) -> Result<Vec<Name>, AllocError>
+    ensures { IfOk result (λ names. names.items ≡ filter_map (meaning.name_in css) images.now) }
 {
     let mut names = Vec::new(alloc);
     for image in images {
-        add_image(&mut names, css, *image)?;
+        match name_in(css, *image) {
+            Some(name) => names.push(name)?,
+            None => continue,
+        }
     }
     Ok(names)
+}
+
+/// The names of the images of a channel subsystem, ascending with each once.
+#[tactic(auto, using(crate::proofs::Images::those_named))]
+pub fn names_in(alloc: Global, css: Css, images: &[ImageEntry]) -> Result<Vec<Name>, AllocError>
+    ensures { IfOk result (λ names. names.items ≡ meaning.names_in css images.now) }
+{
+    let names = listed_in(alloc, css, images)?;
+    set_of_names(names)
 }

@@ -17,7 +17,7 @@ use Rattle.iocm_types.proofs.Found.{same_key}
 use Rattle.iocm_model.specs.Machine.Record.{Rec, id, resource, image, limit, path, unit, device, online, key_of}
 use Rattle.iocm_model.specs.Machine.Configuration.{with_keys, HasNoKeyTwice}
 use Rattle.iocm_values.specs.NameSet.{name_cmp}
-use Rattle.iocm_operands.proofs.Ordered.{set_is_sorted}
+use Rattle.iocm_values.proofs.Rising.{set_is_sorted}
 use Rattle.iocm_record_reader.specs.ChpidRecords.{online_to}
 use Rattle.iocm_round_trip.specs.Again.{expanded, deck_of}
 use Rattle.iocm_round_trip.specs.Given.{IsGiven}

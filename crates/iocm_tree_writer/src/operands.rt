@@ -34,7 +34,7 @@ fn name_operand(alloc: Global, name: Name) -> Result<Carried, AllocError>
     valued(alloc, b"PARTITION", names_text(alloc, &[name])?)
 }
 
-/// The statement that a path is online to an image, or that it isn't any more. Answers the want of
+/// The statement that a path is online to an image, or that it isn't any more. Answers the lack of
 /// memory alone.
 pub fn online_statement(
     alloc: Global,

@@ -2,7 +2,7 @@ pub mod Filtering
 pub mod Joined
 pub mod Levels
 pub mod Looking
-pub mod Naming
+pub mod Members
 pub mod Numerals
 pub mod Passing
 pub mod Pieces

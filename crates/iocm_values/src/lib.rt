@@ -21,7 +21,7 @@ mod word_list;
 
 pub use css_lists::{CssItem, begins_with_css, by_css, css_number, inside_css, is_css};
 pub use digits::{decimal, hex, is_decimal_number, is_hex_number};
-pub use name_set::{add_name, names_of, names_text, read_names, set_of_names};
+pub use name_set::{names_of, names_text, read_names, set_of_names};
 pub use numbers::{count_of, path_number, unit_address, unit_number};
 pub use set_places::{SetItem, by_set, those_there};
 pub use texts::{CssText, by_css_text, comma_text, css_text, list_text, printed, subsystem};

@@ -55,7 +55,7 @@ fn put_items(text: &mut Vec<u8>, items: &[Text]) -> Result<(), AllocError>
     Ok(())
 }
 
-/// A list of items as it is written: in parentheses, with commas between them. Answers the want of
+/// A list of items as it is written: in parentheses, with commas between them. Answers the lack of
 /// memory alone.
 pub fn list_text(alloc: Global, items: &[Text]) -> Result<Text, AllocError>
     ensures { IfOk result (λ text. text ≡ meaning.list_text items.now) }
