@@ -54,10 +54,10 @@ fn has_wrong_units<A: Allocator>(config: &Config<A>, fields: &DeviceFields<A>) -
     ensures { result ≡ model.breaks_v8 config.now.records (device (device_of fields.now)) }
 {
     let units = fields.lists.units();
-    let is_over = 8 < units.len();
-    let is_twice = is_unit_twice(units);
-    let is_missing = is_unit_missing(config, units);
-    units.len() == 0 || is_over || is_twice || is_missing
+    if units.len() == 0 || 8 < units.len() {
+        return true;
+    }
+    is_unit_twice(units) || is_unit_missing(config, units)
 }
 
 /// Whether one of these units stands twice.

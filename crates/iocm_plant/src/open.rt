@@ -12,7 +12,7 @@ use iocm_config::Config;
 use iocm_index::Index;
 use iocm_lookup::index_of;
 use iocm_numbers::{Numbers, opening};
-use iocm_rules::{Breach, check};
+use iocm_rules::{Breach, check_at_opening};
 use iocm_seats::{Seats, open_seats};
 use iocm_types::{At, Refused};
 use std::alloc::Global;
@@ -73,11 +73,11 @@ fn make_tables(alloc: Global, config: &Config) -> Result<Tables, Obstacle>
 {
     // For the proof alone: each record stands under its own key.
     config.has_own_keys();
-    let numbers = opening(alloc, config)?;
-    let index = index_of(alloc, config)?;
-    if let Err(breach) = check(config, &numbers, &index) {
+    if let Some(breach) = check_at_opening(alloc, config)? {
         return Err(Obstacle::Refused(breach_refusal(breach)));
     }
+    let numbers = opening(alloc, config)?;
+    let index = index_of(alloc, config)?;
     let seats = open_seats(alloc, config, &numbers)?;
     Ok(Tables {
         numbers,

@@ -1,4 +1,4 @@
-ghost use Rattle.std.specs.Prelude.{◌≡◌, ◌||◌, Some};
+ghost use Rattle.std.specs.Prelude.{◌≡◌, ◌||◌, Some, true};
 ghost use Rattle.std.specs.Option.{ForSome};
 ghost use Rattle.iocm_model.specs.Machine.Record as kinds;
 ghost use Rattle.iocm_model.specs.Machine.Record.{online};
@@ -142,9 +142,21 @@ fn lists_name<A: Allocator>(fields: &PathFields<A>, name: Name) -> bool
     has_name(fields.access.as_slice(), name) || has_name(fields.candidates.as_slice(), name)
 }
 
-/// Whether a list has a name.
+/// Whether a list has a name. Lists are in ascending order as a rule, and in such a list a search by
+/// halves meets the name. Else it is looked for from the first on.
 fn has_name(names: &[Name], name: Name) -> bool
     ensures { result ≡ sight.has_name name names.now }
 {
-    names.iter().any(|other| name == *other)
+    let near = names.binary_search(&name).unwrap_or(0);
+    is_at(names, name, near) || names.iter().any(|other| name == *other)
+}
+
+/// Whether a name stands at a place of a list.
+fn is_at(names: &[Name], name: Name, place: usize) -> bool
+    ensures { result ≡ true → sight.has_name name names.now ≡ true }
+{
+    match names.get(place) {
+        Some(other) => name == *other,
+        None => false,
+    }
 }

@@ -1,7 +1,9 @@
 pub mod LinkNumbers
+pub mod LinkRanges
 pub mod LinksApart
 pub mod Linked
 pub mod Overlaps
 pub mod PathNumbers
+pub mod RangesApart
 pub mod SharedFirst
 pub mod Sharers

@@ -14,13 +14,13 @@ use Rattle.iocm_unit_rules.proofs.Linked.{first_linked, step}
 -- ---- lists that grow
 
 -- one item more: what it gives is behind what was there
-pub part_more : {A : Type 0} (gives : A → List ℕ) (xs : List A) (i : ℕ) (x : A) (front grown : List ℕ) → i < length xs → x ≡ get_or xs i x → grown ≡ front ++ gives x
+pub part_more : {A B : Type 0} (gives : A → List B) (xs : List A) (i : ℕ) (x : A) (front grown : List B) → i < length xs → x ≡ get_or xs i x → grown ≡ front ++ gives x
     → grown ++ flat_map gives (drop (i + 1) xs) ≡ front ++ flat_map gives (drop i xs)
 part_more gives xs i x front grown within item is =
     ap (λ l. l ++ flat_map gives (drop (i + 1) xs)) is ∙ append_assoc front (gives x) (flat_map gives (drop (i + 1) xs))
     ∙ ap (λ l. front ++ flat_map gives l) (sym (drop-item xs i x within item))
 
-pub part_end : {A : Type 0} (gives : A → List ℕ) (xs : List A) (i : ℕ) (front : List ℕ) → length xs ≤ i → front ++ flat_map gives (drop i xs) ≡ front
+pub part_end : {A B : Type 0} (gives : A → List B) (xs : List A) (i : ℕ) (front : List B) → length xs ≤ i → front ++ flat_map gives (drop i xs) ≡ front
 part_end gives xs i front past = ap (λ l. front ++ flat_map gives l) (drop_of_length-le xs past) ∙ append-nil front
 
 -- ---- paths with their links

@@ -15,11 +15,11 @@ use Rattle.iocm_lookup.proofs.KindWalks.{GivesOfKind}
 use Rattle.iocm_lookup.proofs.Apart.{Common, common_of_one, common_of_two, none_clashes}
 use Rattle.iocm_unit_rules.specs.LinkNumbers.{link_number, number_on, numbers_in, link_numbers}
 
-first : (a b : Bool) → (a && b) ≡ true → a ≡ true
+pub first : (a b : Bool) → (a && b) ≡ true → a ≡ true
 first true b h = refl
 first false b h = absurd (false≢true h)
 
-second : (a b : Bool) → (a && b) ≡ true → b ≡ true
+pub second : (a b : Bool) → (a && b) ≡ true → b ≡ true
 second true b h = h
 second false b h = absurd (false≢true h)
 
@@ -36,7 +36,7 @@ only_units_give (online x) is = refl
 
 -- ---- one link has one number
 
-same_value : (a b : ℕ) → nat_eq a b ≡ true → a ≡ b
+pub same_value : (a b : ℕ) → nat_eq a b ≡ true → a ≡ b
 same_value a b h = grind (arith, nat_tests)
 
 one_number : (a b : Link) → same_link a b ≡ true → link_number a ≡ link_number b
@@ -72,11 +72,11 @@ module _ (u v : UnitRecord) (cuadd : cuadd_or_zero u ≡ cuadd_or_zero v) where
 -- ---- the rule
 
 -- a unit that answers to an address of a unit record
-clashes : Rec → Rec → Bool
+unfoldable pub clashes : Rec → Rec → Bool
 clashes (unit u) other = answers_for u other
 clashes _ other = false
 
-with_one : (c : Configuration) (r : Rec) → breaks_v14 c r ≡ true → some_before c r (clashes r) ≡ true
+pub with_one : (c : Configuration) (r : Rec) → breaks_v14 c r ≡ true → some_before c r (clashes r) ≡ true
 unfolding clashes
 with_one c (unit u) h = h
 with_one c (id x) h = absurd (false≢true h)
@@ -87,7 +87,7 @@ with_one c (path x) h = absurd (false≢true h)
 with_one c (device x) h = absurd (false≢true h)
 with_one c (online x) h = absurd (false≢true h)
 
-of_unit : (u : UnitRecord) (r : Rec) → answers_for u r ≡ true → Common (link_numbers (unit u)) (link_numbers r)
+pub of_unit : (u : UnitRecord) (r : Rec) → answers_for u r ≡ true → Common (link_numbers (unit u)) (link_numbers r)
 of_unit u (unit v) h =
     let ranges = list_any (λ r. list_any (overlap r) v.ranges) u.ranges in
     let both = first (share_link u v && nat_eq (cuadd_or_zero u) (cuadd_or_zero v)) ranges h in

@@ -1,3 +1,4 @@
 pub mod LinkNumbers
+pub mod LinkRanges
 pub mod Links
 pub mod Sharing

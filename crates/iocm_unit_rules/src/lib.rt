@@ -8,12 +8,14 @@
 //! no memory.
 //!
 //! Where a configuration has no index yet, `first_shared_address_at_opening` answers V14. It lists
-//! the addresses that units have on their paths, and makes an index only where one is there twice.
+//! the addresses that units have on their paths. Where one is there twice, it lists the ranges of
+//! unit addresses on these too. It makes an index only where two ranges meet.
 //!
-//! Begin with `units.rt`, then `sharing.rt`, then `sharing_at_opening.rt`. What names no source is
-//! our own.
+//! Begin with `units.rt`, then `sharing.rt`, then `sharing_at_opening.rt` and `link_ranges.rt`. What
+//! names no source is our own.
 #![tactic(auto)]
 
+mod link_ranges;
 mod links;
 mod path_lists;
 mod ranges;

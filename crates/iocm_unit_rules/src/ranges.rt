@@ -44,7 +44,7 @@ impl<A: Allocator> Wanted<A> for WrongRanges {
 }
 
 /// Behind the last address of a range.
-fn end_of(range: UnitRange) -> usize
+pub fn end_of(range: UnitRange) -> usize
     ensures { result ≡ range.start + range.count }
 {
     usize::from(range.start) + usize::from(range.count)

@@ -8,6 +8,7 @@ ghost use Rattle.iocm_record.specs.Meaning.{unit_of};
 ghost use Rattle.iocm_lookup.specs.First.{first_key};
 ghost use Rattle.iocm_unit_rules.specs.LinkNumbers as numbers;
 
+use crate::link_ranges::{are_apart, list_ranges};
 use crate::links::{link_at, step};
 use crate::sharing::{cuadd_or_zero, first_shared_address};
 use iocm_config::Config;
@@ -19,7 +20,8 @@ use std::alloc::{AllocError, Allocator};
 /// V14 where there is no index yet: the key of the first unit that breaks it, if one does; V5 is
 /// kept. The addresses of all units on their paths are listed, and where none is there twice, no
 /// unit breaks the rule. Else two units share a link and a CUADD, which is no breach where their
-/// ranges are apart, and `first_shared_address` answers by an index that is made for it.
+/// ranges are apart. So the ranges on all links are listed next, and where no two meet, no unit
+/// breaks the rule either. Else `first_shared_address` answers by an index that is made for it.
 ///
 /// `AllocError` (M1): memory ran out.
 pub fn first_shared_address_at_opening<A: Allocator, B: Allocator + Copy>(
@@ -32,6 +34,10 @@ pub fn first_shared_address_at_opening<A: Allocator, B: Allocator + Copy>(
     config.has_own_keys();
     let listed = list_numbers(alloc, config)?;
     if !is_any_twice(listed)? {
+        return Ok(None);
+    }
+    let ranges = list_ranges(alloc, config)?;
+    if are_apart(ranges)? {
         return Ok(None);
     }
     let index = index_of(alloc, config)?;
@@ -65,7 +71,8 @@ fn list_of_record<A: Allocator, B: Allocator>(
     }
 }
 
-fn list_of_unit<A: Allocator, B: Allocator>(
+/// Puts the addresses of a unit's fields behind those that are listed.
+pub fn list_of_unit<A: Allocator, B: Allocator>(
     listed: &mut Vec<u64, B>,
     fields: &UnitFields<A>,
 ) -> Result<(), AllocError>

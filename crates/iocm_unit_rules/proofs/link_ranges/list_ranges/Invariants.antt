@@ -1,0 +1,9 @@
+-- The ranges so far, with those of the units that are left, are those of all records.
+use Rattle.std.proofs.Common.{◌≡◌, ◌++◌}
+use Rattle.std.specs.List.{flat_map}
+use Rattle.iocm_model.specs.Machine.Configuration.{records_of}
+use Rattle.iocm_unit_rules.specs.LinkRanges.{link_ranges}
+use Rattle.iocm_unit_rules.proofs.link_ranges.list_ranges.Given as goal
+
+abbrev pub invariant-loop-entry : goal.invariant-loop-entry
+invariant-loop-entry g l = l.listed.items ++ flat_map link_ranges l.entry-iterator ≡ flat_map link_ranges (records_of l.config.records)
