@@ -17,6 +17,7 @@ use Rattle.iocm_journal.specs.contracts.journal.Journal as Journal
 use Rattle.iocm_journal.specs.contracts.journal.Journal.TheInside as journal_inside
 use Rattle.iocm_journal.specs.contracts.kept.Kept as Kept
 use Rattle.iocm_journal.specs.contracts.kept.Undone as Undone
+use Rattle.iocm_journal.specs.contracts.undos.Undo as Undo
 use Rattle.iocm_plant.proofs.touched.Touched.TheSendSync as touched
 use Rattle.iocm_plant.specs.contracts.touched.Touched as Touched
 use Rattle.iocm_stage.specs.contracts.staged.Staged as Staged
@@ -51,12 +52,18 @@ kept_send =
 undone_send : IsSend Undone.the_row
 undone_send = declared_send Undone.the_type (search sendable depth 20, (tree_send, tt))
 
+undo_send : IsSend Undo.the_row
+undo_send = declared_send Undo.the_type (search sendable depth 20, (search sendable depth 20, tt))
+
 journal_send : IsSend Journal.the_row
 journal_send =
     view_send _ _ _ _ _
     (declared_send journal_inside.the_type (
       search (kept_send, crosses, sendable) depth 20,
-      (search sendable depth 20, (search (undone_send, crosses, sendable) depth 20, tt)),
+      (
+        search sendable depth 20,
+        (search (undone_send, crosses, sendable) depth 20, (search (undo_send, crosses, sendable) depth 20, tt)),
+      ),
     ))
 
 done_send : IsSend Done.the_row

@@ -1,7 +1,7 @@
 -- How many changes stand, when one is kept, undone or redone.
-use Rattle.std.proofs.Common.{◌≡◌, ℕ, zero, suc, ◌+◌, ◌-◌, ◌≤◌, true, false, cond, Some, List, [], ◌∷◌, get_or}
-use Rattle.std.proofs.Common.{set, sym, ap, ◌∙◌, arith}
-use Rattle.std.proofs.lemmas.List.Sums.{sum_by-set}
+use Rattle.std.proofs.Common.{◌≡◌, ℕ, zero, suc, ◌+◌, ◌-◌, ◌≤◌, true, false, cond, Some, List, [], ◌∷◌, ◌++◌}
+use Rattle.std.proofs.Common.{get_or, set, sym, ap, ◌∙◌, arith}
+use Rattle.std.proofs.lemmas.List.Sums.{sum_by-set, sum_by_push}
 use Rattle.std.proofs.lemmas.Option.{slice_get_within}
 use Rattle.std.specs.List.{slice_get}
 use Rattle.iocm_journal.specs.Journaled.{count_standing}
@@ -36,6 +36,9 @@ count_again : (ks : List Kept) (place : ℕ) (k : Kept) → slice_get ks place �
 count_again ks place k at_k off =
     let changed = count_set ks place k (again k) at_k in let none : counted k ≡ 0 = ap (λ b. cond b 1 0) off in
     omega (arith, changed, none)
+
+pub count_accepted : (ks : List Kept) (k : Kept) → k.stands ≡ true → count_standing (ks ++ k ∷ []) ≡ count_standing ks + 1
+count_accepted ks k on = sum_by_push counted ks k ∙ ap (λ b. count_standing ks + cond b 1 0) on
 
 -- where one stands, some do
 some_stand : (ks : List Kept) (place : ℕ) → stands_at ks place ≡ true → 1 ≤ count_standing ks

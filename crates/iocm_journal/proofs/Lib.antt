@@ -6,6 +6,8 @@ mod NeverUndone
 mod Counts
 mod Passing
 mod Places
+mod Items
+mod Noting
 mod GoingOn
 mod Refused
 mod Undoing

@@ -1,5 +1,6 @@
 pub mod Journaled
 pub mod Standing
+pub mod Noted
 pub mod Kept
 pub mod Now
 pub mod Answering

@@ -7,6 +7,7 @@ ghost use Rattle.iocm_journal.specs.Moving.{KeepsTheSame};
 ghost use Rattle.iocm_journal.specs.Now.{IsJournalOf};
 
 use crate::kept::{Kept, Undone};
+use crate::undos::Undo;
 use iocm_plant::Touched;
 use iocm_tree::Tree;
 use std::alloc::{AllocError, Global};
@@ -23,6 +24,9 @@ pub struct Journal {
     pub(crate) standing: u64,
     /// Those that are undone and not past, the last one undone last.
     pub(crate) undone: Vec<Undone>,
+    /// The undos in their order: of each change that doesn't stand the last one is among them.
+    /// Contracts don't see them: they only tell soon whether a change stands on another.
+    pub(crate) undos: Vec<Undo>,
 }
 
 impl Model for Journal {
@@ -34,6 +38,7 @@ impl Model for Journal {
     ghost use Rattle.iocm_journal.specs.declared.kept.Kept.{Kept};
     ghost use Rattle.iocm_journal.specs.declared.kept.Undone.{Undone};
     ghost use Rattle.iocm_journal.specs.Journaled.{Journaled, count_standing};
+    ghost use Rattle.iocm_journal.specs.Noted.{AreNoted};
 
     ghost Value = { Journaled };
 
@@ -51,7 +56,8 @@ impl Model for Journal {
       has_room = nat_lt (vec_len j.changes) (vec_capacity j.changes);
     } };
 
-    ghost invariant = { λ j. j.standing ≡ count_standing j.changes.items };
+    ghost invariant = { λ j. (j.standing ≡ count_standing j.changes.items)
+        × AreNoted j.changes.items j.undos.items };
 }
 
 impl Journal {
@@ -63,6 +69,7 @@ impl Journal {
             changes: Vec::new(alloc),
             standing: 0,
             undone: Vec::new(alloc),
+            undos: Vec::new(alloc),
         }
     }
 

@@ -5,6 +5,8 @@
 //! `redo` does the last one undone again. An undo is refused where a change stands on it: a later
 //! one that stands and wrote a cell that it wrote; or, where the change no longer fits, any later
 //! one that stands, and each earlier one that was undone since and doesn't stand.
+//! The undos are noted in their order (`undos.rt`): so an undo reads the changes accepted and the
+//! undos made since its change, and all changes only where it is refused.
 //!
 //! What the layer above may rely on: beside a history (`IsJournalOf`) the journal answers undo and
 //! redo as the history's definition says, and leaves the machine in the state to which the history
@@ -22,6 +24,7 @@ mod redo;
 mod sharing;
 mod standing_on;
 mod undo;
+mod undos;
 
 pub use journal::Journal;
 pub use laws::journals_keep_to_histories;

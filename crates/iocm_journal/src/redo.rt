@@ -19,6 +19,7 @@ ghost use Rattle.iocm_journal.specs.Standing.{is_last, redo_at_end, stands_at};
 use crate::Journal;
 use crate::kept::Undone;
 use crate::quiet::refused_for_not_quiet;
+use crate::undos::forget_last_of;
 use iocm_activate::{Effect, carry_out};
 use iocm_plant::Plant;
 use iocm_types::{Refused, Rule};
@@ -113,8 +114,8 @@ impl Journal {
         }
     }
 
-    /// Notes that the last change undone, at this place, stands again. It gives what was kept of it
-    /// while it was undone. Can't run out of memory.
+    /// Notes that the last change undone, at this place, stands again; its undo is forgotten. It
+    /// gives what was kept of it while it was undone. Can't run out of memory.
     fn note_redone(&mut self, place: usize) -> Option<Undone>
         requires place { place < length self.old.changes }
         requires undone { IsFalse (stands_at self.old.changes place) }
@@ -127,6 +128,7 @@ impl Journal {
         let kept = &mut self.changes[place];
         kept.stands = true;
         self.standing += 1;
+        forget_last_of(&mut self.undos, place);
         self.undone.pop()
     }
 }

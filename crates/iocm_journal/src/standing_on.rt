@@ -1,8 +1,13 @@
-ghost use Rattle.std.specs.Prelude.{◌≡◌, ◌<◌, ◌+◌, length, MatchOption, not, ◌&&◌, nat_le};
+ghost use Rattle.std.specs.Prelude.{◌≡◌, ◌<◌, ◌+◌, length, MatchOption, not, ◌&&◌, nat_le, List, is_some, false};
+ghost use Rattle.std.specs.List.{list_any};
+ghost use Rattle.iocm_activate.specs.declared.effect.Effect.{Effect};
+ghost use Rattle.iocm_journal.specs.declared.kept.Kept.{Kept};
+ghost use Rattle.iocm_journal.specs.Noted.{AreNoted, stands_later};
 ghost use Rattle.iocm_journal.specs.Standing.{is_on, last_passing};
 
 use crate::kept::Kept;
 use crate::sharing::share_a_cell;
+use crate::undos::{Undo, undone_since};
 use iocm_activate::Effect;
 
 /// The place of the greatest change that stands on the one at a place, if one does. Places count
@@ -48,4 +53,30 @@ fn is_undone_since(kept: &Kept, place: usize) -> bool
     ensures { result ≡ (not kept.now.stands && nat_le (place + 1) kept.now.undone_after) }
 {
     !kept.stands && kept.undone_after > place as u64
+}
+
+/// Whether a change stands on the one at a place, if that one doesn't fit: a later one stands, or an
+/// earlier one was undone since and doesn't stand. The undos are those noted beside the changes. The
+/// time is that of the changes accepted and the undos made since the one at the place.
+pub fn is_stood_on_if_unfit(kept: &[Kept], undos: &[Undo], place: usize) -> bool
+    requires within { place < length kept.now }
+    requires noted { AreNoted kept.now undos.now }
+    ensures { (fs : List Effect) → result ≡ is_some (last_passing (is_on kept.now fs place false) (length kept.now)) }
+{
+    stands_later(kept, place) || undone_since(kept, undos, place)
+}
+
+/// Whether a change after the one at a place stands.
+fn stands_later(kept: &[Kept], place: usize) -> bool
+    requires { place < length kept.now }
+    ensures { result ≡ stands_later kept.now place }
+{
+    some_stand(&kept[place + 1..])
+}
+
+/// Whether one of some changes stands.
+fn some_stand(kept: &[Kept]) -> bool
+    ensures { result ≡ list_any (λ (k : Kept). k.stands) kept.now }
+{
+    kept.iter().any(|one| one.stands)
 }

@@ -16,7 +16,8 @@ ghost use Rattle.iocm_journal.specs.Standing.{inverse_at, stands_at, IsGreatestO
 use crate::Journal;
 use crate::kept::Undone;
 use crate::quiet::refused_for_not_quiet;
-use crate::standing_on::greatest_on;
+use crate::standing_on::{greatest_on, is_stood_on_if_unfit};
+use crate::undos::Undo;
 use iocm_activate::{Effect, carry_out};
 use iocm_plant::Plant;
 use iocm_types::{At, Refused, Rule};
@@ -92,7 +93,8 @@ impl Journal {
 
     /// The place of the greatest change that stands on the one at a place, if one does. Whether
     /// that one fits is tried only where a change stood on it if it didn't: what stands on a change
-    /// that fits would stand on it then, too.
+    /// that fits would stand on it then, too. The time is that of the changes accepted and the undos
+    /// made since; only where the change doesn't fit all are read.
     ///
     /// `AllocError` (M1): memory ran out.
     fn stood_on_by(
@@ -111,7 +113,7 @@ impl Journal {
         ensures room { KeepsRoom plant.old.room plant.new.room }
     {
         let kept = self.changes.as_slice();
-        if greatest_on(kept, changes, place, false).is_none() {
+        if !is_stood_on_if_unfit(kept, self.undos.as_slice(), place) {
             return Ok(None);
         }
         let is_fit = self.kept_at(place).fits(alloc, plant)?;
@@ -119,7 +121,7 @@ impl Journal {
     }
 
     /// Takes the standing change at a place back, by its inverse tree; it is the last one undone
-    /// then.
+    /// then, and the undo is noted.
     ///
     /// The refusal that the inverse tree means, or M1: memory ran out.
     fn take_back(&mut self, alloc: Global, plant: &mut Plant, place: usize) -> Result<(), Refused>
@@ -136,6 +138,9 @@ impl Journal {
         if self.undone.reserve(1).is_err() {
             return Err(Refused::NO_MEMORY);
         }
+        if self.undos.reserve(1).is_err() {
+            return Err(Refused::NO_MEMORY);
+        }
         match carry_out(alloc, plant, &self.changes[place].inverse) {
             Ok(redo) => {
                 let count = self.changes.len() as u64;
@@ -146,6 +151,10 @@ impl Journal {
                 self.undone.push_reserved(Undone {
                     number: place as u64 + 1,
                     redo,
+                });
+                self.undos.push_reserved(Undo {
+                    place,
+                    after: count,
                 });
                 Ok(())
             }

@@ -1,9 +1,21 @@
 -- The journal has one more change.
-use Rattle.std.proofs.Common.{◌+◌, ◌++◌, ◌∷◌, [], ap, ◌∙◌}
+use Rattle.std.proofs.Common.{◌+◌, ◌++◌, ◌∷◌, [], refl, sym, ap, subst, ◌∙◌}
 use Rattle.iocm_journal.specs.Accepting.{newly_kept}
-use Rattle.iocm_journal.specs.Journaled.{Journaled}
+use Rattle.iocm_journal.specs.Journaled.{Journaled, count_standing}
+use Rattle.iocm_journal.specs.Noted.{AreNoted}
+use Rattle.iocm_journal.proofs.Counts.{count_accepted}
 use Rattle.iocm_journal.proofs.GoingOn.{accepts}
+use Rattle.iocm_journal.proofs.Noting.{noted_accepted}
 use Rattle.iocm_journal.proofs.journal.Journal.accept.Goals as goal
+
+pub invariant_of-self : goal.invariant_of-self
+invariant_of-self c =
+    let kept = newly_kept c.args.inverse c.args.performed in
+    let items = c.push_reserved.ensures.items in (
+      ap (λ n. n + 1) c.self.invariant.0 ∙ sym (count_accepted c.self.inside.changes.items kept refl) ∙ sym (ap count_standing items),
+      subst (λ ks. AreNoted ks c.self.inside.undos.items) (sym items)
+          (noted_accepted c.self.inside.changes.items c.self.inside.undos.items kept refl c.self.invariant.1),
+    )
 
 pub returns-clause-accepts : goal.returns-clause-accepts
 returns-clause-accepts c =

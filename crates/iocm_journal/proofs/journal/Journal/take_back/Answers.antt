@@ -1,25 +1,38 @@
 -- The change at a place was taken back.
-use Rattle.std.proofs.Common.{◌≡◌, ◌+◌, ◌-◌, ◌++◌, ◌∷◌, [], length, set, refl, sym, ap, subst, ◌∙◌, arith}
+use Rattle.std.proofs.Common.{◌≡◌, ◌+◌, ◌-◌, ◌<◌, ◌++◌, ◌∷◌, [], length, set, refl, sym, ap, subst, ◌∙◌, arith}
 use Rattle.iocm_model.specs.Change.Meaning.{meaning, state_reached}
 use Rattle.iocm_plant.specs.Refusing.{IsDue}
 use Rattle.iocm_activate.specs.Done.{refusal_in}
 use Rattle.iocm_journal.specs.Journaled.{Journaled}
 use Rattle.iocm_journal.specs.Moving.{no_more}
+use Rattle.iocm_journal.specs.Noted.{AreNoted}
 use Rattle.iocm_journal.specs.declared.kept.Undone.{Undone}
+use Rattle.iocm_journal.specs.declared.undos.Undo.{Undo}
 use Rattle.iocm_journal.proofs.Counts.{stands_one, stands_less}
+use Rattle.iocm_journal.proofs.Noting.{noted_undone}
 use Rattle.iocm_journal.proofs.Places.{inverse_item, read_there, set_there}
 use Rattle.iocm_journal.proofs.journal.Journal.take_back.Goals as goal
 
 pub overflow_sub-self : goal.overflow_sub-self
 overflow_sub-self c = stands_one (ap (λ (v : Journaled). v.changes) c.self.view_is) c.self.inside.standing
-    c.self.invariant c.args.place c.requires.stands
+    c.self.invariant.0 c.args.place c.requires.stands
 
 pub invariant_of-self-in-Ok : goal.invariant_of-self-in-Ok
 invariant_of-self-in-Ok c =
     let same = ap (λ (v : Journaled). v.changes) c.self.view_is in
+    let place = c.args.place in
+    let count = c.len-count.result in
     let k = c.index_mut-kept.result.now in
-    stands_less same c.self.inside.standing c.self.invariant c.args.place c.len-count.result k
-    (read_there same c.args.place k c.requires.place c.index_mut-kept.ensures.value) c.requires.stands
+    let ks = c.self.inside.changes.items in
+    let us = c.self.inside.undos.items in
+    let new : Undo = record { place = place; after = count } in
+    let noted = c.push_reserved-in-Ok.ensures.items ∙ ap (λ us. us ++ new ∷ []) c.reserve-2.ensures.items in
+    let within = subst (λ ks. place < length ks) (sym same) c.requires.place in (
+      stands_less same c.self.inside.standing c.self.invariant.0 place count k
+          (read_there same place k c.requires.place c.index_mut-kept.ensures.value) c.requires.stands,
+      subst (AreNoted (set ks place (no_more count k))) (sym noted)
+          (noted_undone ks us place count k (c.len-count.ensures ∙ c.self.inside.changes.ok.0) within c.self.invariant.1),
+    )
 
 pub returns-in-Ok-clause-done : goal.returns-in-Ok-clause-done
 returns-in-Ok-clause-done c =
@@ -30,7 +43,7 @@ returns-in-Ok-clause-done c =
     let there = read_there same place k c.requires.place c.index.ensures in
     let here = read_there same place i c.requires.place c.index_mut-kept.ensures.value in
     let count = c.len-count.ensures ∙ c.self.inside.changes.ok.0 ∙ ap length same in
-    let some = stands_one same c.self.inside.standing c.self.invariant place c.requires.stands in
+    let some = stands_one same c.self.inside.standing c.self.invariant.0 place c.requires.stands in
     let standing : c.self.inside.standing - 1 + 1 ≡ c.self.inside.standing = omega (arith, some) in
     let last : Undone = record { number = place + 1; redo = c.in-Ok.redo } in
     record {
