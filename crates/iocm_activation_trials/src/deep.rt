@@ -1,12 +1,10 @@
 use crate::acts::Act::Refuse;
 use crate::acts::first_wrong;
+use crate::attempt::refusal_of_begin;
 use crate::limits::over;
 use iocm_plant::Plant;
-use iocm_stage::begin;
 use iocm_tree::Tree;
-use iocm_trial_machines::{
-    BASE, Plan, gone, is_as_before, keeps_rules, look_at_last, machine, tree_of,
-};
+use iocm_trial_machines::{BASE, Plan, gone, is_as_before, look_at_last, machine, tree_of};
 use iocm_types::{Refused, Rule};
 use std::alloc::Global;
 use std::test::Fail;
@@ -23,19 +21,11 @@ fn a_very_deep_tree_is_not_activated_and_is_let_go(rt: HostRuntime) -> Result<()
     Ok(())
 }
 
-/// Why a machine that keeps the rules doesn't begin a change in stages, if it doesn't.
-fn refusal(alloc: Global, plant: &mut Plant, tree: &Tree) -> Result<Option<Refused>, Fail> {
-    if !keeps_rules(plant) {
-        return Err(Fail::from("a rule is broken"));
-    }
-    Ok(begin(alloc, plant, tree).err())
-}
-
 /// Whether a machine that keeps the rules doesn't begin a change in stages for this reason, and is
 /// left as it was.
 fn is_not_begun(alloc: Global, plant: &mut Plant, tree: &Tree, why: Refused) -> Result<bool, Fail> {
     let before = look_at_last(alloc, plant)?;
-    let found = refusal(alloc, plant, tree)?;
+    let found = refusal_of_begin(alloc, plant, tree)?;
     is_as_before(alloc, plant, &before)?;
     Ok(found == Some(why))
 }

@@ -6,7 +6,8 @@
 //! redone (`histories.rt`), also under later ones (`selective.rt`), changes in stages
 //! (`stages.rt`), what the machine shows between calls (`shown.rt`), and traces that are full
 //! (`full.rt`). Trees that are far too deep are refused and let go (`deep.rt`), and a change in
-//! stages ends where no growth is granted (`growths.rt`, run by `tests/growths --stages`).
+//! stages ends where no growth is granted (`growths.rt`, run by `tests/growths --stages`). A call at
+//! which memory runs out leaves all as it was (`short.rt`, run by `tests/growths --trials`).
 #![tactic(auto)]
 
 #[cfg(test)]
@@ -25,6 +26,8 @@ mod histories;
 mod plans;
 #[cfg(test)]
 mod selective;
+#[cfg(test)]
+mod short;
 #[cfg(test)]
 mod shown;
 #[cfg(test)]

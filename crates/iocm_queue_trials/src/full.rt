@@ -1,4 +1,5 @@
-use iocm_queue::{Item, Operator, Worker, queue};
+use crate::opened::queue_at_last;
+use iocm_queue::{Item, Operator, Worker};
 use std::alloc::Global;
 use std::sync::Wait;
 use std::test::Fail;
@@ -31,7 +32,7 @@ fn takes<R: Wait>(rt: &R, worker: &mut Worker<u64>, line: u64) -> bool {
 
 /// Sixteen lines find a place, the seventeenth is handed back, and finds one once a line was taken.
 fn is_full_at_the_seventeenth<R: Wait>(rt: &R, alloc: Global) -> Result<bool, Fail> {
-    let (mut first, _second, mut worker) = queue::<u64>(alloc)?;
+    let (mut first, _second, mut worker) = queue_at_last(alloc)?;
     Ok(
         are_sent(rt, &mut first, 0, 16)
             && is_handed_back(rt, &mut first, 16)
@@ -50,7 +51,7 @@ fn the_seventeenth_line_is_handed_back(rt: HostRuntime) -> Result<(), Fail> {
 /// Whether an end mark is handed back where the channel is full, and finds a place once a line was
 /// taken.
 fn is_mark_handed_back<R: Wait>(rt: &R, alloc: Global) -> Result<bool, Fail> {
-    let (mut first, second, mut worker) = queue::<u64>(alloc)?;
+    let (mut first, second, mut worker) = queue_at_last(alloc)?;
     if !are_sent(rt, &mut first, 0, 16) {
         return Ok(false);
     }

@@ -86,9 +86,17 @@ fn text_of(alloc: Global, deck: &[u8], is_copied: bool) -> Result<String, Fail> 
     }
 }
 
+/// A tree's copy, where memory may be wanted once.
+fn copy_at_last(alloc: Global, tree: &Tree) -> Result<Tree, AllocError> {
+    match tree.copy_in(alloc) {
+        Ok(copy) => Ok(copy),
+        Err(_error) => tree.copy_in(alloc),
+    }
+}
+
 /// A tree's copy as a text.
 fn text_of_copy(alloc: Global, tree: &Tree) -> Result<String, Fail> {
-    let copy = tree.copy_in(alloc)?;
+    let copy = copy_at_last(alloc, tree)?;
     shown(alloc, &copy)
 }
 
