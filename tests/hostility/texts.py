@@ -80,8 +80,6 @@ def down(size, number):
 
 BIG, BIGGER = (10 * MB, 100 * MB), (100 * MB, 1000 * MB)
 SMALL = (MB, 10 * MB)
-# of kinds that take longer than in proportion as yet, which the sizes of `--all` show
-FEW = (MB // 100, MB // 25)
 TABLE = rb"trace \d+\nCSS "
 LINE_1 = rb"refused S\d+ line 1\n"
 LINE_2 = rb"refused S\d line 2\n"
@@ -114,9 +112,9 @@ TEXTS = (
     Text("keywords that differ", CHECK, IMAGES_ON, differing(b"K%06X=1,", up), rb"accepted 2\n", SMALL, BIG, END),
     Text("the same downwards", CHECK, IMAGES_ON, differing(b"K%06X=1,", down), rb"accepted 2\n", SMALL, BIG, END),
     Text("names of a list", CHECK, NAMES, more(b"LPA,"), rb"accepted 3\n", SMALL, BIG, NAMES_END),
-    Text("names that differ", CHECK, NAMES, differing(b"N%06X,", up), rb"refused V2 path 0.50\n", FEW, SMALL, NAMES_END),
-    Text("the same downwards", CHECK, NAMES, differing(b"N%06X,", down), rb"refused V2 path 0.50\n", FEW, SMALL, NAMES_END),
-    Text("units of a path", CHECK, PATH, units_of_a_path, rb"accepted \d+\n", FEW, (MB // 10, MB)),
+    Text("names that differ", CHECK, NAMES, differing(b"N%06X,", up), rb"refused V2 path 0.50\n", SMALL, BIG, NAMES_END),
+    Text("the same downwards", CHECK, NAMES, differing(b"N%06X,", down), rb"refused V2 path 0.50\n", SMALL, BIG, NAMES_END),
+    Text("units of a path", CHECK, PATH, units_of_a_path, rb"accepted \d+\n", (MB // 10, MB), (MB, 9 * MB)),
     Text("one statement over and over", CHECK, IMAGES, DEVICE, rb"refused S8 line 3\n", SMALL, (43 * MB, 430 * MB)),
     Text("statements with a fault", ("check", "text", "--all"), IMAGES, b"         CHPID PATH=5G\n", LINE_2, SMALL, (23 * MB, 230 * MB)),
     Text("a change deck of blanks", APPLY, b"", BLANKS, rb"change 1 altered 0\n", BIG, BIGGER),
