@@ -8,6 +8,7 @@ mod Inside
 mod Opening
 mod Performed
 mod Placed
+mod ReachKept
 mod Records
 mod Refused
 mod Renumbered

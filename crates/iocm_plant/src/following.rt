@@ -6,6 +6,7 @@ ghost use Rattle.iocm_model.specs.Change.Renumbering.{numbers_after};
 ghost use Rattle.iocm_model.specs.Change.Refusal.{refusal_at};
 ghost use Rattle.iocm_numbers.specs.Numbered.{KeepsRoom};
 ghost use Rattle.iocm_numbers.specs.NumberChanges.{changes_between, WereBefore};
+ghost use Rattle.iocm_reach.specs.Tabled.{IsReachOf};
 ghost use Rattle.iocm_seats.specs.Seated.{lives_seated, KeepsPlaces};
 ghost use Rattle.iocm_seats.specs.Settling.{lives_met};
 ghost use Rattle.iocm_tree.specs.Carried.{AreInOrder};
@@ -21,6 +22,7 @@ use crate::touched::Touched;
 use iocm_affected::Affected;
 use iocm_config::Config;
 use iocm_numbers::{Numbers, Renumbered, sort_apart};
+use iocm_reach::ReachTable;
 use iocm_seats::{Altered, Seats, Tried, list_changes};
 use iocm_types::{At, Key, Live, NumberCell, Place, Refused, Rule, SubId};
 use std::alloc::{AllocError, Global};
@@ -60,7 +62,8 @@ pub struct Followed {
     pub told: Told,
 }
 
-/// Lets the numbers and the seats follow a change of the configuration, with what comes along.
+/// Lets the numbers and the seats follow a change of the configuration, with what comes along. The
+/// table of who reaches which path is that of the configuration as it is now.
 ///
 /// E4: a number that comes along is taken. B1, where altered subchannels are wanted quiet: the
 /// first that isn't. M1: memory ran out. Then numbers and seats are as before, but some may have
@@ -70,9 +73,11 @@ pub fn follow(
     numbers: &mut Numbers,
     seats: &mut Seats,
     config: &Config,
+    reach: &ReachTable,
     at: LookedAt,
     brought: Brought,
 ) -> Result<Followed, Obstacle>
+    requires reach { IsReachOf config.now.records reach.now }
     requires changed { WasChanged config.now.records numbers.old.numbers seats.old.seats at }
     requires places { ArePlacesInOrder at }
     requires images { AreImagesInOrder at }
@@ -103,7 +108,16 @@ pub fn follow(
         at.affected.places.as_slice(),
         brought.places.as_slice(),
     )?;
-    match follow_numbers(alloc, numbers, seats, config, at, brought, &renumbered) {
+    match follow_numbers(
+        alloc,
+        numbers,
+        seats,
+        config,
+        reach,
+        at,
+        brought,
+        &renumbered,
+    ) {
         Ok(told) => Ok(Followed { renumbered, told }),
         Err(obstacle) => {
             numbers.exchange(renumbered.given.as_slice(), renumbered.freed.as_slice());
@@ -125,10 +139,12 @@ fn follow_numbers(
     numbers: &Numbers,
     seats: &mut Seats,
     config: &Config,
+    reach: &ReachTable,
     at: LookedAt,
     brought: Brought,
     renumbered: &Renumbered<Global>,
 ) -> Result<Told, Obstacle>
+    requires reach { IsReachOf config.now.records reach.now }
     requires changed { WasRenumbered config.now.records numbers.now.numbers seats.old.seats at }
     requires images { AreImagesInOrder at }
     requires kept { AreInOrder brought.kept.items }
@@ -145,7 +161,7 @@ fn follow_numbers(
     ensures same { OnErr result (seats.new.seats ≡ seats.old.seats) }
     ensures places { KeepsPlaces seats.old seats.new }
 {
-    let Altered { changes, met } = list_altered(alloc, numbers, seats, config, at)?;
+    let Altered { changes, met } = list_altered(alloc, numbers, seats, config, reach, at)?;
     let changed = numbers.list_changes(
         alloc,
         renumbered.freed.as_slice(),
@@ -178,8 +194,10 @@ fn list_altered(
     numbers: &Numbers,
     seats: &Seats,
     config: &Config,
+    reach: &ReachTable,
     at: LookedAt,
 ) -> Result<Altered<Global>, AllocError>
+    requires reach { IsReachOf config.now.records reach.now }
     requires changed { WasRenumbered config.now.records numbers.now.numbers seats.now.seats at }
     requires images { AreImagesInOrder at }
     ensures changes { IfOk result (λ altered. altered.changes.items
@@ -194,6 +212,7 @@ fn list_altered(
         seats,
         config,
         numbers,
+        reach,
     };
     list_changes(
         alloc,

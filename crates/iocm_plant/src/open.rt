@@ -4,6 +4,7 @@ ghost use Rattle.iocm_model.specs.Change.Refusal.{refusal_at};
 ghost use Rattle.iocm_model.specs.Laws.Trees.{KeepsTheRules};
 ghost use Rattle.iocm_model.specs.Operation.State.{opening_state};
 ghost use Rattle.iocm_plant.specs.Operating.{IsOperating, state_of};
+ghost use Rattle.iocm_reach.specs.Tabled.{IsReachOf};
 ghost use Rattle.iocm_plant.specs.Refusing.{opening_refusal, Hinders, IsDue};
 
 use crate::Plant;
@@ -12,6 +13,7 @@ use iocm_config::Config;
 use iocm_index::Index;
 use iocm_lookup::index_of;
 use iocm_numbers::{Numbers, opening};
+use iocm_reach::ReachTable;
 use iocm_rules::{Breach, check_at_opening};
 use iocm_seats::{Seats, open_seats};
 use iocm_types::{At, Refused};
@@ -32,6 +34,7 @@ struct Tables {
     numbers: Numbers,
     index: Index,
     seats: Seats,
+    reach: ReachTable,
 }
 
 impl Plant {
@@ -53,6 +56,7 @@ impl Plant {
                 numbers: tables.numbers,
                 index: tables.index,
                 seats: tables.seats,
+                reach: tables.reach,
             }),
             Err(obstacle) => Err(Unopened {
                 why: obstacle.refusal(),
@@ -65,6 +69,7 @@ impl Plant {
 /// The tables of a machine with this configuration, if it keeps the rules.
 fn make_tables(alloc: Global, config: &Config) -> Result<Tables, Obstacle>
     ensures operating { IfOk result (λ t. IsOperating config.now.records t.numbers.numbers t.index t.seats.seats) }
+    ensures reach { IfOk result (λ t. IsReachOf config.now.records t.reach) }
     ensures state { IfOk result (λ t. state_of config.now.records t.numbers.numbers t.seats.seats
         ≡ opening_state config.now.records) }
     ensures kept { OnOk result (opening_refusal config.now.records ≡ None) }
@@ -79,10 +84,12 @@ fn make_tables(alloc: Global, config: &Config) -> Result<Tables, Obstacle>
     let numbers = opening(alloc, config)?;
     let index = index_of(alloc, config)?;
     let seats = open_seats(alloc, config, &numbers)?;
+    let reach = ReachTable::new(alloc, config)?;
     Ok(Tables {
         numbers,
         index,
         seats,
+        reach,
     })
 }
 

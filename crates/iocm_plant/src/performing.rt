@@ -99,17 +99,20 @@ impl Plant {
             quiet,
         };
         let back = exchange_record(&mut self.config, &mut self.index, action);
+        self.reach.renew(&self.config, &key);
         match follow(
             alloc,
             &mut self.numbers,
             &mut self.seats,
             &self.config,
+            &self.reach,
             at,
             brought,
         ) {
             Ok(followed) => Ok(applied(back, followed)),
             Err(obstacle) => {
                 change_back(&mut self.config, &mut self.index, back);
+                self.reach.renew(&self.config, &key);
                 Err(obstacle)
             }
         }

@@ -6,6 +6,7 @@ ghost use Rattle.iocm_model.specs.Operation.State.{seen_in, views_in, IsSound};
 use iocm_config::Config;
 use iocm_index::Index;
 use iocm_numbers::Numbers;
+use iocm_reach::ReachTable;
 use iocm_seats::Seats;
 use iocm_types::{Live, SubId, View};
 use std::marker::Model;
@@ -19,6 +20,9 @@ pub struct Plant {
     pub(crate) numbers: Numbers,
     pub(crate) index: Index,
     pub(crate) seats: Seats,
+    /// Which images reach each path, and to which it is online. Contracts don't see it: by it a view
+    /// is derived soon.
+    pub(crate) reach: ReachTable,
 }
 
 impl Model for Plant {
@@ -33,6 +37,7 @@ impl Model for Plant {
     ghost use Rattle.iocm_model.specs.Machine.Configuration.{Configuration};
     ghost use Rattle.iocm_model.specs.Machine.Numbering.{Numbering};
     ghost use Rattle.iocm_model.specs.Operation.State.{Lives};
+    ghost use Rattle.iocm_reach.specs.Tabled.{IsReachOf};
     ghost use Rattle.iocm_plant.specs.Operating.{Operating, operating_of, IsOperating};
 
     ghost Value = { Operating };
@@ -62,7 +67,8 @@ impl Model for Plant {
 
     ghost view = { λ p. operating_of p.config p.numbers p.index p.seats };
 
-    ghost invariant = { λ p. IsOperating p.config.records p.numbers.numbers p.index p.seats.seats };
+    ghost invariant = { λ p. IsOperating p.config.records p.numbers.numbers p.index p.seats.seats
+        × IsReachOf p.config.records p.reach };
 }
 
 impl Plant {

@@ -24,6 +24,7 @@ impl Plant {
         self.numbers.have_room();
         self.index.has_places();
         self.seats.has_places();
+        let key = inverse.key();
         let Parts {
             action,
             places,
@@ -32,11 +33,13 @@ impl Plant {
             mut meets,
         } = inverse.into_parts();
         let action = exchange_record(&mut self.config, &mut self.index, action);
+        self.reach.renew(&self.config, &key);
         self.numbers.exchange(frees.as_slice(), places.as_slice());
         exchange(
             &mut self.seats,
             &self.config,
             &self.numbers,
+            &self.reach,
             meets.as_mut_slice(),
             kept.as_slice(),
         );

@@ -3,6 +3,7 @@ ghost use Rattle.std.specs.Ordering.{eq_by_cmp};
 ghost use Rattle.std.specs.FinMap.{get};
 ghost use Rattle.iocm_types.specs.SubId.{sub_id_cmp};
 ghost use Rattle.iocm_types.specs.declared.sub_id.SubId as sub_id;
+ghost use Rattle.iocm_reach.specs.Tabled.{IsReachOf};
 ghost use Rattle.iocm_seats.specs.Seated.{views_seated};
 ghost use Rattle.iocm_seats.specs.Settling.{AreSeen};
 
@@ -10,6 +11,7 @@ use crate::small::small;
 use iocm_config::Config;
 use iocm_live::fresh;
 use iocm_numbers::{Numbers, opening};
+use iocm_reach::ReachTable;
 use iocm_seats::{
     Altered, Seat, Seats, Tried, ViewChange, exchange, first_not_quiet, list_changes, list_left,
     make_places, open_seats, settle_all,
@@ -106,7 +108,9 @@ fn list_there(
     alloc: Global,
     tried: &Tried<'_, Global, Global, Global>,
     there: &SubId,
-) -> Result<Altered<Global>, Fail> {
+) -> Result<Altered<Global>, Fail>
+    requires { IsReachOf tried.now.config.now.records tried.now.reach.now }
+{
     // For the proof alone: each record stands under its own key.
     tried.config.has_own_keys();
     let after = open_seats(alloc, tried.config, tried.numbers)?;
@@ -129,13 +133,23 @@ fn exchange_there(
     seats: &mut Seats,
     config: &Config,
     numbers: &Numbers,
+    reach: &ReachTable,
     there: &SubId,
     parm: u32,
-) -> Result<Live, AllocError> {
+) -> Result<Live, AllocError>
+    requires { IsReachOf config.now.records reach.now }
+{
     seats.room(*there)?;
     let mut out = [(*there, live(0))];
     let back = [(*there, live(parm))];
-    exchange(seats, config, numbers, out.as_mut_slice(), back.as_slice());
+    exchange(
+        seats,
+        config,
+        numbers,
+        reach,
+        out.as_mut_slice(),
+        back.as_slice(),
+    );
     Ok(out[0].1)
 }
 
@@ -168,10 +182,12 @@ fn altered_at(alloc: Global, seats: &Seats) -> Result<Altered<Global>, Fail> {
     let there = there()?;
     let config = offline(alloc, &online()?)?;
     let numbers = opening(alloc, &config)?;
+    let reach = ReachTable::new(alloc, &config)?;
     let tried = Tried {
         seats,
         config: &config,
         numbers: &numbers,
+        reach: &reach,
     };
     list_there(alloc, &tried, &there)
 }
@@ -275,7 +291,8 @@ fn what_changes_leave_is_listed(rt: HostRuntime) -> Result<(), Fail> {
 fn exchanged(alloc: Global, seats: &mut Seats, there: &SubId) -> Result<Live, Fail> {
     let config = small(alloc)?;
     let numbers = opening(alloc, &config)?;
-    Ok(exchange_there(seats, &config, &numbers, there, 6)?)
+    let reach = ReachTable::new(alloc, &config)?;
+    Ok(exchange_there(seats, &config, &numbers, &reach, there, 6)?)
 }
 
 #[test]

@@ -1,10 +1,15 @@
+ghost use Rattle.iocm_reach.specs.Tabled.{IsReachOf};
+
 use crate::small::small;
+use iocm_config::Config;
 use iocm_derive::{
     CellSight, ImageNames, ImageSight, image_view, name_of_image, path_list, sees, view_at,
 };
-use iocm_numbers::opening;
+use iocm_numbers::{Numbers, opening};
+use iocm_reach::{ReachTable, ReachedCell, ReachedWalk};
 use iocm_trial_decks::{image, name};
 use iocm_types::{Chpid, Css, DevNo, Mask, NumberCell, Paths, SetNo, SubId, View};
+use std::alloc::Global;
 use std::test::Fail;
 
 // The path 50 alone.
@@ -106,6 +111,52 @@ fn a_number_cell_shows_its_device_to_many(rt: HostRuntime) -> Result<(), Fail> {
     let sight = CellSight::gathered(&config, &numbers, &cell);
     let views = names.map(|name| [sight.view(first, name), sight.view(last, name)]);
     assert!(rt; views == [[Some(one_view()), Some(one_view())], [None, None]]);
+    Ok(())
+}
+
+/// What an image sees at a subchannel by the table of who reaches which path.
+fn seen_by_table(
+    table: &ReachTable,
+    config: &Config,
+    numbers: &Numbers,
+    there: &SubId,
+) -> Option<View>
+    requires { IsReachOf config.now.records table.now }
+{
+    let name = name_of_image(config, there.image)?;
+    let cell = NumberCell {
+        css: there.image.css,
+        set: there.set,
+        number: there.number,
+    };
+    ReachedCell::new(table, config, numbers, &cell).view(there.image.mif, name)
+}
+
+/// What the image of the small configuration sees at two of its subchannels, by its table: at each
+/// by itself, and at both one after the other.
+fn seen_by_small_table(alloc: Global) -> Result<[[Option<View>; 2]; 2], Fail> {
+    let image = image(1)?;
+    let set = SetNo::FIRST;
+    let subchannels = [0, 1].map(|number| SubId { image, set, number });
+    let config = small(alloc)?;
+    let numbers = opening(alloc, &config)?;
+    let table = ReachTable::new(alloc, &config)?;
+    let mut walk = ReachedWalk::new(&config, &numbers, &table);
+    Ok([
+        [
+            seen_by_table(&table, &config, &numbers, &subchannels[0]),
+            seen_by_table(&table, &config, &numbers, &subchannels[1]),
+        ],
+        [walk.view(subchannels[0]), walk.view(subchannels[1])],
+    ])
+}
+
+#[test]
+fn a_table_of_paths_shows_the_device(rt: HostRuntime) -> Result<(), Fail> {
+    let wanted = [Some(one_view()), None];
+    let [alone, in_turn] = seen_by_small_table(rt.alloc())?;
+    assert!(rt; alone == wanted);
+    assert!(rt; in_turn == wanted);
     Ok(())
 }
 

@@ -10,6 +10,8 @@ ghost use Rattle.iocm_model.specs.Machine.Configuration.{IsKeyed, lookup_of};
 ghost use Rattle.iocm_model.specs.Machine.View as model;
 ghost use Rattle.iocm_derive.specs.Derived.{name_at};
 ghost use Rattle.iocm_derive.specs.SightedCells.{sighted_cell, seen_there};
+ghost use Rattle.iocm_reach.specs.Reached.{image_in};
+ghost use Rattle.iocm_reach.specs.Tabled.{IsReachOf};
 ghost use Rattle.iocm_model.specs.Operation.State.{views_of};
 ghost use Rattle.iocm_seats.specs.Seated.{views_seated, lives_seated};
 ghost use Rattle.iocm_seats.specs.Settling.{lives_met, met_at};
@@ -18,22 +20,20 @@ ghost use Rattle.iocm_seats.specs.Sights.{AreSights, cells_of_sights};
 
 use crate::{Seat, Seats, ViewChange};
 use iocm_config::Config;
-use iocm_derive::{CellSight, ImageNames};
+use iocm_derive::ImageNames;
 use iocm_numbers::Numbers;
+use iocm_reach::{ReachTable, ReachedCell};
 use iocm_types::{Image, Live, Name, NumberCell, SubId, View};
-use std::alloc::{AllocError, Allocator};
+use std::alloc::{AllocError, Allocator, Global};
 
-/// Where so many images are asked, which of them have the paths of a number cell online is gathered
-/// beforehand.
-const MANY_IMAGES: usize = 6;
-
-/// A change that is tried: the seats as they were before it, the configuration and the numbers as
-/// they are after it.
+/// A change that is tried: the seats as they were before it, the configuration, the numbers and the
+/// table of who reaches which path as they are after it.
 #[derive(Drop)]
 pub struct Tried<'a, A: Allocator, B: Allocator, C: Allocator> {
     pub seats: &'a Seats<A>,
     pub config: &'a Config<B>,
     pub numbers: &'a Numbers<C>,
+    pub reach: &'a ReachTable,
 }
 
 /// What a change alters: the changes of what is seen, in the order of subchannels, and the live
@@ -54,7 +54,7 @@ struct NamedImage {
 /// All changes of what is seen, in the order of subchannels. They are looked for at the subchannels
 /// of some images and number cells alone, each given once and in order, and are among these. What
 /// the images of a channel subsystem share at a number cell is looked up once; beside that the time
-/// is that of one view for each of these subchannels, by its seat and by the paths that are online.
+/// is that of one view for each of these subchannels, by its seat and by the table.
 /// The live records are those of the same seats.
 ///
 /// `AllocError` (M1): memory ran out.
@@ -64,6 +64,7 @@ pub fn list_changes<A: Allocator, B: Allocator, C: Allocator, D: Allocator + Clo
     images: &[Image],
     cells: &[NumberCell],
 ) -> Result<Altered<D>, AllocError>
+    requires reach { IsReachOf tried.now.config.now.records tried.now.reach.now }
     requires images { IsStrictlySortedBy image_cmp images.now }
     requires cells { IsStrictlySortedBy cell_cmp cells.now }
     requires all { AreCandidates (get (views_seated tried.now.seats.now.seats))
@@ -77,40 +78,25 @@ pub fn list_changes<A: Allocator, B: Allocator, C: Allocator, D: Allocator + Clo
 {
     // For the proof alone: each record stands under its own key.
     tried.config.has_own_keys();
-    let sights = sight_cells(alloc.clone()?, tried, images, cells)?;
+    let sights = sight_cells(alloc.clone()?, tried, cells)?;
     list_at_images(alloc, tried, images, sights.as_slice())
 }
 
-/// What the images of a channel subsystem share at each of some number cells, of which these images
-/// are asked.
+/// What the images of a channel subsystem share at each of some number cells.
 fn sight_cells<'a, A: Allocator, B: Allocator, C: Allocator, D: Allocator>(
     alloc: D,
     tried: &Tried<'a, A, B, C>,
-    images: &[Image],
     cells: &[NumberCell],
-) -> Result<Vec<CellSight<'a, B>, D>, AllocError>
+) -> Result<Vec<ReachedCell<'a, B, Global>, D>, AllocError>
+    requires { IsReachOf tried.now.config.now.records tried.now.reach.now }
     ensures { IfOk result (λ sights. sights.items
         ≡ map (sighted_cell tried.now.config.now.records tried.now.numbers.now.numbers) cells.now) }
 {
     let mut sights = Vec::with_capacity(alloc, cells.len())?;
     for cell in cells {
-        sights.push(sight_cell(tried, images, cell))?;
+        sights.push(ReachedCell::new(tried.reach, tried.config, tried.numbers, cell))?;
     }
     Ok(sights)
-}
-
-/// What the images of a channel subsystem share at a number cell, of which these images are asked.
-fn sight_cell<'a, A: Allocator, B: Allocator, C: Allocator>(
-    tried: &Tried<'a, A, B, C>,
-    images: &[Image],
-    cell: &NumberCell,
-) -> CellSight<'a, B>
-    ensures { result ≡ sighted_cell tried.now.config.now.records tried.now.numbers.now.numbers cell.now }
-{
-    if images.len() < MANY_IMAGES {
-        return CellSight::new(tried.config, tried.numbers, cell);
-    }
-    CellSight::gathered(tried.config, tried.numbers, cell)
 }
 
 /// The changes at the subchannels of some images and number cells.
@@ -118,7 +104,7 @@ fn list_at_images<A: Allocator, B: Allocator, C: Allocator, D: Allocator + Clone
     alloc: D,
     tried: &Tried<'_, A, B, C>,
     images: &[Image],
-    sights: &[CellSight<'_, B>],
+    sights: &[ReachedCell<'_, B, Global>],
 ) -> Result<Altered<D>, AllocError>
     requires keyed { IsKeyed tried.now.config.now.records }
     requires sights { AreSights tried.now.config.now.records tried.now.numbers.now.numbers sights.now }
@@ -148,7 +134,7 @@ fn list_at_cells<A: Allocator, B: Allocator, C: Allocator, D: Allocator>(
     altered: &mut Altered<D>,
     tried: &Tried<'_, A, B, C>,
     named: &NamedImage,
-    sights: &[CellSight<'_, B>],
+    sights: &[ReachedCell<'_, B, Global>],
 ) -> Result<(), AllocError>
     requires met { altered.old.met.items
         ≡ lives_met (lives_seated tried.now.seats.now.seats) altered.old.changes.items }
@@ -173,7 +159,7 @@ fn list_at_cell<A: Allocator, B: Allocator, C: Allocator, D: Allocator>(
     altered: &mut Altered<D>,
     tried: &Tried<'_, A, B, C>,
     named: &NamedImage,
-    sight: &CellSight<'_, B>,
+    sight: &ReachedCell<'_, B, Global>,
 ) -> Result<(), AllocError>
     requires met { altered.old.met.items
         ≡ lives_met (lives_seated tried.now.seats.now.seats) altered.old.changes.items }
@@ -204,8 +190,9 @@ fn list_at_cell<A: Allocator, B: Allocator, C: Allocator, D: Allocator>(
     Ok(())
 }
 
-/// What an image sees at a number cell.
-fn view_there<B: Allocator>(named: &NamedImage, sight: &CellSight<'_, B>) -> Option<View>
+/// What an image sees at a number cell of its channel subsystem.
+fn view_there<B: Allocator>(named: &NamedImage, sight: &ReachedCell<'_, B, Global>) -> Option<View>
+    requires { named.now.name ≡ name_at (lookup_of sight.now.records) (image_in sight.now.cell.css named.now.image.mif) }
     ensures { result ≡ option_and_then (seen_there sight.now) named.now.name }
 {
     match &named.name {

@@ -6,13 +6,14 @@ ghost use Rattle.std.specs.Prelude.{fold};
 ghost use Rattle.iocm_types.specs.SubId.{sub_id_cmp};
 ghost use Rattle.iocm_model.specs.Machine.Configuration.{IsKeyed};
 ghost use Rattle.iocm_model.specs.Operation.State.{views_of};
+ghost use Rattle.iocm_reach.specs.Tabled.{IsReachOf};
 ghost use Rattle.iocm_seats.specs.Seated.{lives_seated, HasPlace};
 ghost use Rattle.iocm_seats.specs.Exchange.{exchanged, given, met};
 
 use crate::{Seat, Seats};
 use iocm_config::Config;
-use iocm_derive::ViewWalk;
 use iocm_numbers::Numbers;
+use iocm_reach::{ReachTable, ReachedWalk};
 use iocm_types::{Live, SubId};
 use std::alloc::Allocator;
 
@@ -23,9 +24,11 @@ pub fn exchange<A: Allocator, B: Allocator, C: Allocator>(
     seats: &mut Seats<A>,
     config: &Config<B>,
     numbers: &Numbers<C>,
+    reach: &ReachTable,
     out: &mut [(SubId, Live)],
     back: &[(SubId, Live)],
 )
+    requires reach { IsReachOf config.now.records reach.now }
     requires apart { T (is_sorted sub_id_cmp out.old) }
     requires places { AllByRecursion (λ row. HasPlace seats.old row.0) back.now }
     ensures seats { seats.new.seats
@@ -34,7 +37,7 @@ pub fn exchange<A: Allocator, B: Allocator, C: Allocator>(
     ensures places { seats.new.places ≡ seats.old.places }
 {
     take_all(seats, out);
-    give_all(seats, config, numbers, back);
+    give_all(seats, config, numbers, reach, back);
 }
 
 /// Takes the seats of some subchannels out, noting the live record of each.
@@ -65,16 +68,18 @@ fn give_all<A: Allocator, B: Allocator, C: Allocator>(
     seats: &mut Seats<A>,
     config: &Config<B>,
     numbers: &Numbers<C>,
+    reach: &ReachTable,
     back: &[(SubId, Live)],
 )
-    requires { AllByRecursion (λ row. HasPlace seats.old row.0) back.now }
+    requires reach { IsReachOf config.now.records reach.now }
+    requires places { AllByRecursion (λ row. HasPlace seats.old row.0) back.now }
     ensures seats { seats.new.seats
         ≡ fold (given (views_of config.now.records numbers.now.numbers)) seats.old.seats back.now }
     ensures places { seats.new.places ≡ seats.old.places }
 {
     // For the proof alone: each record stands under its own key.
     config.has_own_keys();
-    let mut views = ViewWalk::new(config, numbers);
+    let mut views = ReachedWalk::new(config, numbers, reach);
     for row in back {
         give_one(seats, &mut views, row);
     }
@@ -83,7 +88,7 @@ fn give_all<A: Allocator, B: Allocator, C: Allocator>(
 /// Gives a subchannel its seat, if anything is seen there.
 fn give_one<A: Allocator, B: Allocator, C: Allocator>(
     seats: &mut Seats<A>,
-    views: &mut ViewWalk<'_, B, C>,
+    views: &mut ReachedWalk<'_, B, C>,
     row: &(SubId, Live),
 )
     requires place { HasPlace seats.old row.now.0 }

@@ -2,13 +2,23 @@ use Rattle.std.proofs.Common.{◌≡◌, [], ◌++◌, Option, None, Some, appen
 use Rattle.std.specs.FinMap.{get}
 use Rattle.std.specs.List.{cons_option}
 use Rattle.std.specs.Option.{option_copied}
+use Rattle.iocm_types.specs.declared.place.NumberCell.{NumberCell}
 use Rattle.iocm_types.specs.declared.view.View.{View}
+use Rattle.iocm_model.specs.Machine.Configuration.{lookup_of}
+use Rattle.iocm_derive.specs.Derived.{name_at}
+use Rattle.iocm_derive.specs.SightedCells.{SightedCell}
 use Rattle.iocm_seats.specs.Changes.{subchannel_at, change_from}
 use Rattle.iocm_seats.specs.Seated.{views_seated, lives_seated}
 use Rattle.iocm_seats.proofs.Remembered.{met_more, met_there, met_nowhere}
 use Rattle.iocm_seats.proofs.Settled.{view_in, view_seated}
 use Rattle.iocm_seats.proofs.Sighted.{change_there, same_css}
 use Rattle.iocm_seats.proofs.changes.list_at_cell.Goals as goal
+
+pub view_there-after-requires : goal.view_there-after-requires
+view_there-after-requires g c =
+    let css = same_css c.cell-cell.result.css c.args.named.now.image.css c.ne.result c.ne.ensures c.if-ne.false in
+    c.requires.name ∙ (λ i. name_at (lookup_of (ap (λ (s : SightedCell). s.records) (sym c.requires.sight) i))
+    (record { css = (sym css ∙ ap (λ (x : NumberCell). x.css) c.cell-cell.ensures) i; mif = c.args.named.now.image.mif }))
 
 pub returns-in_ok-list_seated-in-Some-clause-changes : goal.returns-in_ok-list_seated-in-Some-clause-changes
 returns-in_ok-list_seated-in-Some-clause-changes g c =

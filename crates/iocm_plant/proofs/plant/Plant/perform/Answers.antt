@@ -16,6 +16,7 @@ use Rattle.iocm_plant.specs.Refusing.{Hinders, refusal_when}
 use Rattle.iocm_plant.proofs.Exchanged.{WasExchanged, back_has_key, back_has_namings, config_as_before}
 use Rattle.iocm_plant.proofs.Inside.{AreAsBefore, state_as_before, operating_as_before}
 use Rattle.iocm_plant.proofs.Performed.{HaveFollowed, made_order, operating_now, performs, performs_as}
+use Rattle.iocm_plant.proofs.ReachKept.{was_reach, was_reach_there}
 use Rattle.iocm_plant.proofs.Refused.{refusal_is, none_taken}
 use Rattle.iocm_plant.proofs.plant.Plant.perform.Goals as goal
 use Rattle.iocm_plant.proofs.plant.Plant.perform.Goals.{After-exchange_record-back, After-change_back, In-Ok}
@@ -27,8 +28,8 @@ exchanged c =
     let action = action_of c.into_parts-action.result.action in
     let same = c.in_ok-make_record_places.ensures.config in
     record {
-      keyed = c.self.invariant.keyed;
-      indexed = c.self.invariant.indexed;
+      keyed = c.self.invariant.0.keyed;
+      indexed = c.self.invariant.0.indexed;
       placed = c.has_places.ensures;
       there = c.exchange_record-back.ensures.config ∙ ap (config_after action) same;
       back = c.exchange_record-back.ensures.back
@@ -43,7 +44,7 @@ exchanged c =
 refusal : (c : After-exchange_record-back) → following_refusal c.exchange_record-back.new.config.records c.self.inside.numbers.numbers
     c.self.inside.seats.seats c.key-key.result c.into_parts-action.result.places.items c.args.quiet
     ≡ refusal_when c.args.quiet c.args.edit.edit c.args.self.now.state
-refusal c = refusal_is (carried_of c.into_parts-action.result).edit c.args.edit.edit c.self.inside c.args.self.now.state c.self.invariant
+refusal c = refusal_is (carried_of c.into_parts-action.result).edit c.args.edit.edit c.self.inside c.args.self.now.state c.self.invariant.0
     c.exchange_record-back.new.config.records (exchanged c).there (ap (λ (k : Carried). k.edit) c.into_parts-action.ensures.value)
     (ap (λ (p : Operating). p.state) c.self.view_is) c.key-key.result c.key-key.ensures (sym c.key_refusal.ensures ∙ c.in_default.is) c.args.quiet
 
@@ -54,6 +55,7 @@ now c = record {
   numbers = c.follow.new.numbers;
   index = c.exchange_record-back.new.index;
   seats = c.follow.new.seats;
+  reach = c.renew.new.self;
 }
 
 -- they have followed
@@ -62,7 +64,7 @@ followed : (c : In-Ok) → WasExchanged (action_of c.into_parts-action.result.ac
     → HaveFollowed (carried_of c.into_parts-action.result).edit (action_of c.exchange_record-back.result)
     c.self.inside (now c) c.in-Ok.followed
 followed c x = record {
-  before = c.self.invariant;
+  before = c.self.invariant.0;
   exchanged = x;
   numbers = c.in-Ok.ensures.numbers;
   seats = c.in-Ok.ensures.seats;
@@ -80,6 +82,7 @@ then c = record {
   numbers = c.follow.new.numbers;
   index = c.change_back.new.index;
   seats = c.follow.new.seats;
+  reach = c.renew.new.self;
 }
 
 -- they are as they were
@@ -92,16 +95,29 @@ as_before c x = record {
   same_seats = c.in-Err.ensures.same_seats;
 }
 
+-- the configuration is that after the edit's action
+after : (c : After-exchange_record-back) → c.exchange_record-back.new.config.records ≡ config_after c.args.edit.edit.action c.self.inside.config.records
+after c = (exchanged c).there ∙ ap (λ (k : Carried). config_after k.edit.action c.self.inside.config.records) c.into_parts-action.ensures.value
+
+pub renew-requires : goal.renew-requires
+renew-requires c = was_reach c.args.edit.edit.action c.key-key.result c.self.inside.config.records c.exchange_record-back.new.config.records
+    c.key-key.ensures (after (goal.at.renew-requires c).After-exchange_record-back) c.self.inside.reach c.self.invariant.1
+
+pub renew-requires-in-Err : goal.renew-requires-in-Err
+renew-requires-in-Err c =
+    let at = goal.at.renew-requires-in-Err c in
+    was_reach_there c.args.edit.edit.action c.key-key.result c.self.inside.config.records c.exchange_record-back.new.config.records
+    c.key-key.ensures (after at.After-exchange_record-back) c.change_back.new.config.records
+    (as_before at.After-change_back (exchanged at.After-exchange_record-back)).same_config c.renew.new.self c.renew.ensures
+
 pub follow-requires-clause-changed : goal.follow-requires-clause-changed
 follow-requires-clause-changed c =
-    let after : c.exchange_record-back.new.config.records ≡ config_after c.args.edit.edit.action c.self.inside.config.records =
-    (exchanged (goal.at.follow-requires-clause-changed c).After-exchange_record-back).there
-    ∙ ap (λ (k : Carried). config_after k.edit.action c.self.inside.config.records) c.into_parts-action.ensures.value in
+    let after = after (goal.at.follow-requires-clause-changed c).After-exchange_record-back in
     record {
       before = c.self.inside.config.records;
-      keyed = c.self.invariant.keyed;
-      numbered = c.self.invariant.numbered;
-      seated = c.self.invariant.seated;
+      keyed = c.self.invariant.0.keyed;
+      numbered = c.self.invariant.0.numbered;
+      seated = c.self.invariant.0.seated;
       affected = subst (λ (k : Configuration). AreAllAffected c.self.inside.config.records k c.in_ok-at.at.affected.places.items
           c.in_ok-at.at.affected.images.items) (sym after) c.in_ok-at.ensures.affected;
       cells_are = c.in_ok-at.ensures.cells;
@@ -114,10 +130,12 @@ applied-requires c =
 
 pub invariant_of-self-in-Ok : goal.invariant_of-self-in-Ok
 invariant_of-self-in-Ok c =
-    let at = goal.at.invariant_of-self-in-Ok c in
-    operating_now (followed at.In-Ok (exchanged at.After-exchange_record-back))
-    (none_taken c.exchange_record-back.new.config.records c.self.inside.numbers.numbers c.self.inside.seats.seats c.key-key.result
-    c.into_parts-action.result.places.items c.args.quiet c.in-Ok.ensures.clear) c.exchange_record-back.ensures.index
+    let at = goal.at.invariant_of-self-in-Ok c in (
+      operating_now (followed at.In-Ok (exchanged at.After-exchange_record-back))
+          (none_taken c.exchange_record-back.new.config.records c.self.inside.numbers.numbers c.self.inside.seats.seats c.key-key.result
+          c.into_parts-action.result.places.items c.args.quiet c.in-Ok.ensures.clear) c.exchange_record-back.ensures.index,
+      c.renew.ensures,
+    )
 
 pub returns-in-Ok-clause-accepted : goal.returns-in-Ok-clause-accepted
 returns-in-Ok-clause-accepted c =
@@ -137,8 +155,10 @@ change_back-requires-clause-namings c = back_has_namings (exchanged (goal.at.cha
 
 pub invariant_of-self-in-Err : goal.invariant_of-self-in-Err
 invariant_of-self-in-Err c =
-    let at = goal.at.invariant_of-self-in-Err c in
-    operating_as_before (as_before at.After-change_back (exchanged at.After-exchange_record-back)) c.self.invariant c.change_back.ensures.index
+    let at = goal.at.invariant_of-self-in-Err c in (
+      operating_as_before (as_before at.After-change_back (exchanged at.After-exchange_record-back)) c.self.invariant.0 c.change_back.ensures.index,
+      c.renew-in-Err.ensures,
+    )
 
 pub returns-clause-refused : goal.returns-clause-refused
 returns-clause-refused c = subst (λ (r : Option Refused). Hinders r c.in-Err.obstacle)

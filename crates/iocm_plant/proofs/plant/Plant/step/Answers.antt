@@ -13,7 +13,7 @@ use Rattle.iocm_plant.proofs.plant.Plant.step.Goals.{In_default, After-order}
 none : (c : In_default) → FoundNone c.args.self.now c.self.inside c.args.subchannel c.get_mut.follows.lender-at-none
 none c = record {
   is = c.self.view_is;
-  before = c.self.invariant;
+  before = c.self.invariant.0;
   none = sym c.get_mut.ensures.value ∙ ap option_copied_mut c.in_default.is;
   same_seats = c.get_mut.follows.holds-at-none.seats;
   same_places = c.get_mut.follows.holds-at-none.places;
@@ -27,14 +27,14 @@ left c = record { view = c.in-Some.seat.now.view; live = c.order.new.live }
 seat : (c : After-order) → FoundSeat c.args.self.now c.self.inside c.args.subchannel c.in-Some.seat.now c.order.new.live (c.get_mut.follows.lender (left c))
 seat c = record {
   is = c.self.view_is;
-  before = c.self.invariant;
+  before = c.self.invariant.0;
   here = sym c.get_mut.ensures.value ∙ ap option_copied_mut c.in-Some.is;
   changed = changed_seat c.get_mut.result c.in-Some.seat c.in-Some.is c.self.inside.seats c.args.subchannel (c.get_mut.follows.lender (left c)) (left c)
       (c.get_mut.follows.holds (left c));
 }
 
 pub invariant_of-self : goal.invariant_of-self
-invariant_of-self c = still_operating (none (goal.at.invariant_of-self c).In_default)
+invariant_of-self c = (still_operating (none (goal.at.invariant_of-self c).In_default), c.self.invariant.1)
 
 pub returns-in_default-clause-answer : goal.returns-in_default-clause-answer
 returns-in_default-clause-answer c = sym (ap (order_answer c.args.order) (none_there (none (goal.at.returns-in_default-clause-answer c).In_default)))
@@ -46,7 +46,7 @@ pub returns-in_default-clause-room : goal.returns-in_default-clause-room
 returns-in_default-clause-room c = same_room (none (goal.at.returns-in_default-clause-room c).In_default)
 
 pub invariant_of-self-2 : goal.invariant_of-self-2
-invariant_of-self-2 c = operating_after (seat (goal.at.invariant_of-self-2 c).After-order)
+invariant_of-self-2 c = (operating_after (seat (goal.at.invariant_of-self-2 c).After-order), c.self.invariant.1)
 
 pub returns-clause-answer : goal.returns-clause-answer
 returns-clause-answer c = c.order.ensures.answer

@@ -6,5 +6,5 @@ use Rattle.iocm_plant.proofs.Counted.{seats_counted}
 use Rattle.iocm_plant.proofs.plant.Plant.subchannels.Goals as goal
 
 pub returns : goal.returns
-returns c = c.len.ensures ∙ seats_counted c.self.inside.seats.seats ∙ ap len c.self.invariant.seated
+returns c = c.len.ensures ∙ seats_counted c.self.inside.seats.seats ∙ ap len c.self.invariant.0.seated
     ∙ ap (λ (p : Operating). len (views_in p.state)) c.self.view_is

@@ -21,6 +21,7 @@ use Rattle.iocm_plant.specs.declared.plant.Plant.TheInside.{Inside}
 use Rattle.iocm_plant.specs.Operating.{HasPlaceIn, KeepsPlaces}
 use Rattle.iocm_plant.specs.TakingBack.{CanUnapply}
 use Rattle.iocm_plant.proofs.Inside.{operating_in}
+use Rattle.iocm_plant.proofs.ReachKept.{was_reach}
 use Rattle.iocm_plant.proofs.RowsMet.{met_sorted}
 use Rattle.iocm_plant.proofs.TakenBack.{CanBePerformed, WasUnapplied, way_back, by_parts, edit_of, fit, come_to_places, operating_now, state_now}
 use Rattle.iocm_plant.proofs.TakenBack.{inverse_is, can_go_back}
@@ -30,7 +31,7 @@ use Rattle.iocm_plant.proofs.plant.Plant.unapply.Goals.{After-into_parts-action,
 -- the parts of the edit can be performed on the tables
 performable : (c : After-into_parts-action) → CanBePerformed c.into_parts-action.result c.self.inside
 performable c = record {
-  before = c.self.invariant;
+  before = c.self.invariant.0;
   can = by_parts c.into_parts-action.ensures.value c.self.view_is c.requires;
   order = c.into_parts-action.ensures.order;
 }
@@ -42,6 +43,7 @@ now c = record {
   numbers = c.exchange.new.self;
   index = c.exchange_record-action.new.index;
   seats = c.exchange-2.new.seats;
+  reach = c.renew.new.self;
 }
 
 -- they were performed
@@ -50,8 +52,8 @@ unapplied : (c : After-exchange-2) → CanBePerformed c.into_parts-action.result
 unapplied c here = record {
   here = here;
   exchanged = record {
-    keyed = c.self.invariant.keyed;
-    indexed = c.self.invariant.indexed;
+    keyed = c.self.invariant.0.keyed;
+    indexed = c.self.invariant.0.indexed;
     placed = c.has_places.ensures;
     there = c.exchange_record-action.ensures.config;
     back = c.exchange_record-action.ensures.back;
@@ -87,6 +89,12 @@ gives : (c : After-from_parts) → (with_items c.into_parts-action.result.meets 
 gives c is = c.from_parts.ensures ∙ ap (λ (ms : List (SubId × Live)). edit_of (action_of c.exchange_record-action.result)
     c.into_parts-action.result.frees.items ms c.into_parts-action.result.places.items c.into_parts-action.result.kept.items) is
 
+pub renew-requires : goal.renew-requires
+renew-requires c = was_reach (action_of c.into_parts-action.result.action) c.key-key.result c.self.inside.config.records
+    c.exchange_record-action.new.config.records (c.key-key.ensures
+    ∙ sym (ap (λ (k : Carried). action_key k.edit.action) c.into_parts-action.ensures.value)) c.exchange_record-action.ensures.config
+    c.self.inside.reach c.self.invariant.1
+
 pub exchange-requires-clause-fit : goal.exchange-requires-clause-fit
 exchange-requires-clause-fit c =
     subst (λ (rows : List (Place × ℕ) × List (Place × ℕ)). FitIn (numbers.without_rows c.self.inside.numbers.numbers rows.0) rows.1)
@@ -108,7 +116,7 @@ from_parts-requires c = record {
 pub invariant_of-self : goal.invariant_of-self
 invariant_of-self c =
     let at = goal.at.invariant_of-self c in
-    operating_now (unapplied at.After-exchange-2 (performable at.After-into_parts-action)) c.exchange_record-action.ensures.index
+    (operating_now (unapplied at.After-exchange-2 (performable at.After-into_parts-action)) c.exchange_record-action.ensures.index, c.renew.ensures)
 
 pub returns-clause-state : goal.returns-clause-state
 returns-clause-state c =

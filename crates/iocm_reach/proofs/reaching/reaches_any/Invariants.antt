@@ -1,0 +1,12 @@
+-- None of the paths so far is reached.
+use Rattle.std.proofs.Common.{◌≡◌, drop}
+use Rattle.std.specs.List.{list_any}
+use Rattle.iocm_model.specs.Machine.Configuration.{lookup_of}
+use Rattle.iocm_model.specs.Machine.PathList.{paths_in}
+use Rattle.iocm_model.specs.Machine.Sight.{reaches}
+use Rattle.iocm_reach.proofs.reaching.reaches_any.Given as goal
+
+abbrev pub invariant-loop-path : goal.invariant-loop-path
+invariant-loop-path g l =
+    list_any (reaches (lookup_of l.image.records) l.image.image.css l.image.image.name) (paths_in l.image.image.css (drop l.path-index l.paths))
+    ≡ list_any (reaches (lookup_of l.image.records) l.image.image.css l.image.image.name) (paths_in l.image.image.css l.paths)
