@@ -59,7 +59,7 @@ online 0.52.LPA is image LPA at path 52 of channel subsystem 0. The path isn't t
 list the image, or is dedicated or REC and another image is online there too. Of two such images the
 one whose name comes later in the alphabet is named, so it may be the one that was online before.
 Only a change causes this, since a deck's online records come from its access lists. With
-check --all it may also follow a deck's V2 or V3 at the same path, and is gone once that is mended.
+check --all it also follows a deck's V3 at the same path, and is gone once that is mended.
 
 System action. The change is taken back as a whole.
 
