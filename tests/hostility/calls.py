@@ -5,16 +5,18 @@ Right is the answer as without a failure, or L5 or L6 with status 3. In particul
 - a read or an open that fails is L5, and standard output is empty; or it was one that only says more of a refusal;
 - where it goes on failing, L5 has the name of a file;
 - a write to standard output that fails is L6, and what was written is the beginning of the answer;
-- a write to standard error that fails changes neither the answer nor the exit status;
+- a write to standard error that fails changes neither the answer nor the exit status, and loses what it would have
+  said; where the words aren't understood, so that only standard error says something, L6 is right too;
 - after an interrupted call (EINTR) the answer is whole, or L5: the kit reads again from standard input only;
 - reads and writes of 1 to 7 bytes change nothing.
 """
 from . import commands
 from .refusing import always, try_each
-from .right import Right
+from .right import FAULT, L6, Right
 
 FEW = (1, 2, 3, 7)  # bytes
 INTERRUPTED = 20  # calls one after the other
+NOT_UNDERSTOOD = 2  # the exit status where the words aren't understood
 
 
 def tried(program, tally, is_all):
@@ -61,4 +63,13 @@ def way_of_write(right, got):
     if got.told == b"w1":
         return "L6" if right.is_unwritten(got) else None
     whole = right.whole
-    return "answered" if got.status == whole.status and got.out == whole.out and whole.err.startswith(got.err) else None
+    if whole.status == NOT_UNDERSTOOD and got.status == FAULT and not got.out and got.err in (b"", L6):
+        return "L6"
+    is_less = got.status == whole.status and got.out == whole.out and is_part(got.err, whole.err)
+    return "answered" if is_less else None
+
+
+def is_part(said, whole):
+    """Whether standard error says what it would say, but for some lines, or parts of lines at the end."""
+    left = iter(whole.splitlines(keepends=True))
+    return all(any(line.startswith(part) for line in left) for part in said.splitlines(keepends=True))

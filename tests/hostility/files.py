@@ -29,9 +29,10 @@ def tried(program, tally, is_all):
         os.chmod(room, 0o755)
         unreadable = list(unreadable_files(room))
         for command in commands.of_examples() if is_all else commands.short():
-            for place in file_places(command):
+            places = file_places(command)
+            for place in places:
                 for name in unreadable:
-                    try_unreadable(program, tally, replaced(command, place, name), name)
+                    try_unreadable(program, tally, replaced(command, place, name), name, place == places[0])
                 try_pipes(program, tally, room, command, place)
         try_no_permission(program, tally, room)
         try_changing(program, tally, room)
@@ -57,11 +58,13 @@ def unreadable_files(room):
     yield ear
 
 
-def try_unreadable(program, tally, command, name):
-    """The first file that can't be read is named, unless another refusal comes before it is read."""
+def try_unreadable(program, tally, command, name, is_first):
+    """The first file that can't be read is named, unless another refusal comes before it is read: a directory is opened
+    first, so it may stand behind a file that is refused."""
     got = program.run(command)
     right = Right(command, got)
-    is_refused_before = got.status == 1 and not os.path.isdir(name) and got.out.startswith(b"refused ")
+    may_be_refused = not is_first or not os.path.isdir(name)
+    is_refused_before = got.status == 1 and may_be_refused and got.out.startswith(b"refused ")
     named = name if "--quiet" not in command.words else None
     way = "L5" if right.is_unread(got, named is not None) else "refused before" if is_refused_before else None
     tally.note(way, command, f"unreadable {name[:40]!r}", got)

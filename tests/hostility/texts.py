@@ -1,8 +1,8 @@
 """Texts of 100 MB and more: blanks, comments, one endless statement, very many statements; and very large machines.
 
 Right is the answer that is meant, or `refused M1`, in a time that grows in proportion: a text ten times as long takes
-at most GROWTH times as long a byte. A process has 8 GB of address space here, so that the machine stays at work. The
-table of sizes, times and memory is printed for docs/CONTRIBUTING.md.
+at most GROWTH times as long a byte, and a machine ten times as large a device. A process has 8 GB of address space
+here, so that the machine stays at work. The table of sizes, times and memory is printed for docs/CONTRIBUTING.md.
 """
 import os
 import re
@@ -141,7 +141,7 @@ def tried(program, tally, is_all):
             file.write(b"DELETE   IODEVICE ADDRESS=0001\n")
         for words, wanted in MACHINE_WORDS:
             machine = Text("a large machine", words, b"", b"", wanted, (), ())
-            try_sizes(program, tally, room, machine, [(size, size) for size in MACHINES[is_all]], write_machine)
+            try_sizes(program, tally, room, machine, [(size, size) for size in MACHINES[is_all]], write_machine, devices_of)
         try_endless(program, tally, room)
 
 
@@ -168,8 +168,13 @@ def write_machine(path, _, words):
         subprocess.run([LARGE_DECK, *words.split()], stdout=file, check=True)
 
 
-def try_sizes(program, tally, room, text, sizes, write_text):
-    """Two sizes of a text: both are answered, and the larger one in proportion."""
+def devices_of(words):
+    """How many devices a large machine has: a deck says of many in few bytes."""
+    return int(words.split()[-1])
+
+
+def try_sizes(program, tally, room, text, sizes, write_text, amount_of=None):
+    """Two sizes of a text: both are answered, and the larger one in proportion to its bytes, or to another amount."""
     path, times = os.path.join(room, "text"), []
     for name, size in sizes:
         write_text(path, text, size)
@@ -177,10 +182,10 @@ def try_sizes(program, tally, room, text, sizes, write_text):
         count = os.path.getsize(path) + got.count
         print(row(text, name, count, got), flush=True)
         tally.note(way_of(text.wanted, got), Command(text.words, room), f"{text.name}, {name}", got)
-        times.append((got.seconds, count))
+        times.append((got.seconds, amount_of(size) if amount_of else count))
     (least, few), (most, many) = times
     if most > max(least, SLACK) * GROWTH * many / few:
-        tally.fault(f"{text.name}: {most:.1f} s for {many:,} bytes, {least:.1f} s for {few:,}")
+        tally.fault(f"{text.name}: {most:.1f} s for {many:,}, {least:.1f} s for {few:,}")
 
 
 def row(text, size, count, got):
