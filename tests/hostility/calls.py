@@ -12,11 +12,10 @@ Right is the answer as without a failure, or L5 or L6 with status 3. In particul
 """
 from . import commands
 from .refusing import always, try_each
-from .right import FAULT, L6, Right
+from .right import Right
 
 FEW = (1, 2, 3, 7)  # bytes
 INTERRUPTED = 20  # calls one after the other
-NOT_UNDERSTOOD = 2  # the exit status where the words aren't understood
 
 
 def tried(program, tally, is_all):
@@ -63,7 +62,7 @@ def way_of_write(right, got):
     if got.told == b"w1":
         return "L6" if right.is_unwritten(got) else None
     whole = right.whole
-    if whole.status == NOT_UNDERSTOOD and got.status == FAULT and not got.out and got.err in (b"", L6):
+    if right.is_unsaid(got):
         return "L6"
     is_less = got.status == whole.status and got.out == whole.out and is_part(got.err, whole.err)
     return "answered" if is_less else None

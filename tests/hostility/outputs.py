@@ -4,7 +4,7 @@ Right is:
 
 - where standard output takes nothing, L6 with status 3; a command that prints nothing has nothing to lose;
 - where its reader ends after a line, L6, or the answer if all of it was written before;
-- where standard error takes nothing, the same answer and exit status;
+- where standard error takes nothing, the same answer and exit status, or L6 where the words aren't understood;
 - without standard input the same answer, and of `-` L5;
 - where descriptors are missing, L5.
 """
@@ -15,7 +15,7 @@ import signal
 import subprocess
 
 from . import commands
-from .right import FAULT, L6, Right
+from .right import FAULT, L6, NOT_UNDERSTOOD, Right
 from .running import Answer, Command
 
 FULL = "/dev/full"
@@ -44,7 +44,7 @@ def answered(right, got):
 def unwritten(right, got):
     """The way of an answer of which nothing, or only the beginning, could be written."""
     if not right.whole.out:
-        return answered(right, got)
+        return "L6" if right.is_unsaid(got) else answered(right, got)
     return "L6" if right.is_unwritten(got) and got.err in (L6, b"") else None
 
 
@@ -54,8 +54,8 @@ def try_without_output(program, tally, right):
     got = program.run(command, preexec_fn=lambda: os.close(1), stdout=None)
     tally.note(unwritten(right, got), command, "standard output is closed", got)
     got = program.run(command, preexec_fn=close_all, stdout=None, stderr=None)
-    status = FAULT if right.whole.out else right.whole.status
-    tally.note("L6" if got.status == status else None, command, "all three are closed", got)
+    is_said = right.whole.out or right.whole.status == NOT_UNDERSTOOD
+    tally.note("L6" if got.status == (FAULT if is_said else right.whole.status) else None, command, "all three are closed", got)
     with open(FULL, "wb") as full:
         got = program.run(command, stdout=full)
     tally.note(unwritten(right, got), command, "standard output is full", got)
@@ -118,7 +118,8 @@ def try_without_error(program, tally, right):
         ):
             got = program.run(command, **how)
             is_same = right.is_answer(got._replace(err=whole.err))
-            tally.note("answered" if is_same else None, command, f"standard error is {what}", got)
+            way = "answered" if is_same else "L6" if right.is_unsaid(got) else None
+            tally.note(way, command, f"standard error is {what}", got)
     os.close(writer)
 
 

@@ -11,7 +11,7 @@ L5 = b"fault L5\n"
 L5_SAID = b": a file can't be read (L5)\n  see: iocm explain L5\n"
 L6 = b"fault L6\n"
 SEE = b"\n  see: iocm explain "
-FAULT = 3
+FAULT, NOT_UNDERSTOOD = 3, 2  # exit statuses
 MOST_WAYS = 2000  # to go through a round
 
 
@@ -56,6 +56,10 @@ class Right:
     def is_unwritten(self, got):
         """Whether an answer says L6, and what was written is the beginning of a right one."""
         return got.status == FAULT and got.err in (b"", L6) and any(out.startswith(got.out) for out in self.outputs)
+
+    def is_unsaid(self, got):
+        """Whether it is L6 that words aren't understood: only standard error says that, and it could not be written."""
+        return self.whole.status == NOT_UNDERSTOOD and got.status == FAULT and not got.out and got.err in (b"", L6)
 
     @functools.cached_property
     def outputs(self):
