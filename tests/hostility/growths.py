@@ -1,8 +1,9 @@
 """Each growth of memory is refused in turn, and all from each on: so memory stays short.
 
 Right is the answer as where none is refused, or `refused M1` alone with status 1. Standard error says the same, but the
-file and the line of a refusal may be missing. Of `run` any output is right that the reading of tests/legality accepts,
-where an operator's call that takes memory may answer M1 in its place: any thread may meet the refusal.
+file and the line of a refusal may be missing, and the file of L5. Of `run` any output is right that the reading of
+tests/legality accepts, where an operator's call that takes memory may answer M1 in its place: any thread may meet the
+refusal.
 
 The short form takes the commands of `short_words`, and of each at most SAMPLE growths, spread evenly over all of it.
 `--all` takes each growth of every command on every deck, change deck and script of examples/, and of tests/cases of at
@@ -27,7 +28,8 @@ def tried(program, tally, is_all):
 def way_of(right, got):
     if right.is_without_memory(got):
         return "M1"
-    return "answered" if right.is_answer(got, True) else None
+    is_same = right.is_answer(got, True) or (right.is_unread(right.whole) and right.is_unread(got))
+    return "answered" if is_same else None
 
 
 def growths_of(program, command):
