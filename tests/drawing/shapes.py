@@ -55,7 +55,7 @@ DONE = {
     "run": rf"(?:{ANSWER}\n)*trace \d+\n{TABLE}",
 }
 DONE = {command: re.compile(text) for command, text in DONE.items()}
-# V4 is the first breach of no deck, but a deck may break it beside V2 and V3
+# V4 is the first breach of no deck, but a deck may break it beside V3
 BREACHES = re.compile(rf"(?:refused (?:{OF_DECK}|V4 {ONLINE})\n)+")
 REPORTS = ("--test", "--count", "--altered", "--deck", "--undo", "--old")
 

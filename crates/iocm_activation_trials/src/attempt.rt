@@ -1,6 +1,5 @@
 use iocm_activate::{Done, activate, fits};
 use iocm_plant::{Plant, Touched};
-use iocm_stage::begin;
 use iocm_tree::Tree;
 use iocm_trial_machines::{Sight, is_as_before, keeps_rules, look_at_last};
 use iocm_types::{At, Refused, Rule};
@@ -113,25 +112,4 @@ fn fits_anew(
         Ok(is_so) => Ok(is_so),
         Err(_) => Err(Fail::from("memory is wanted anew")),
     }
-}
-
-/// Why a machine that keeps the rules doesn't begin a change in stages, if it doesn't. One that it
-/// begins is let go at once.
-pub fn refusal_of_begin(
-    alloc: Global,
-    plant: &mut Plant,
-    tree: &Tree,
-) -> Result<Option<Refused>, Fail> {
-    if !keeps_rules(plant) {
-        return Err(Fail::from("a rule is broken"));
-    }
-    Ok(begin(alloc, plant, tree).err())
-}
-
-/// Whether a machine that keeps the rules begins a change in stages. It is let go at once.
-pub fn is_begun_once(alloc: Global, plant: &mut Plant, tree: &Tree) -> Result<bool, Fail> {
-    if !keeps_rules(plant) {
-        return Err(Fail::from("a rule is broken"));
-    }
-    Ok(begin(alloc, plant, tree).is_ok())
 }

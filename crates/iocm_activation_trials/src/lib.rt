@@ -3,22 +3,18 @@
 //!
 //! A trial is a list of acts with what they answer (`acts.rt`). A tree is activated on a machine
 //! that keeps the rules, where memory may be wanted once (`attempt.rt`). The worked examples say
-//! what is answered and what is left (`worked.rt`, `limits.rt`, `fitting.rt`). Trees that are far
-//! too deep are refused and let go (`deep.rt`), also where a change in stages is begun by
-//! `iocm_stage`. It begins worked changes, too, where memory may be wanted once (`begun.rt`). The
-//! edits of worked changes are performed one by one, and the rules are checked near their keys and
-//! everywhere (`near.rt`). Trees of every shape are drawn by chance (`runs.rt`) and compared with a
-//! plain reading of what a tree means (`plain.rt`) and of whether a change fits (`plain_fits.rt`),
-//! which makes each try on a machine that is opened afresh, does all that was done before once more,
-//! and takes nothing back.
+//! what is answered and what is left (`worked.rt`, `limits.rt`, `fitting.rt`). A tree that is far
+//! too deep is refused and let go (`deep.rt`). The edits of worked changes are performed one by one,
+//! and the rules are checked near their keys and everywhere (`near.rt`). Trees of every shape are
+//! drawn by chance (`runs.rt`) and compared with a plain reading of what a tree means (`plain.rt`)
+//! and of whether a change fits (`plain_fits.rt`). That makes each try on a machine that is opened
+//! afresh, does all that was done before once more, and takes nothing back.
 #![tactic(auto)]
 
 #[cfg(test)]
 mod acts;
 #[cfg(test)]
 mod attempt;
-#[cfg(test)]
-mod begun;
 #[cfg(test)]
 mod deep;
 #[cfg(test)]

@@ -12,7 +12,7 @@ use iocm_types::{
 use std::test::Fail;
 
 /// Two devices exchange their unit addresses in three steps.
-pub fn exchange() -> Plan {
+fn exchange() -> Plan {
     Plan::Three(
         Change::Modify(Deck::Away, device(0x1002)),
         Change::Modify(Deck::Over, device(0x1003)),

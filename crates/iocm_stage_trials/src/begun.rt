@@ -1,49 +1,13 @@
-use crate::attempt::{at_node, is_begun_once, refusal_of_begin};
-use crate::worked::exchange;
+use crate::attempt::{begins, refuses};
 use iocm_plant::Plant;
 use iocm_tree::Tree;
 use iocm_trial_machines::{
-    BASE, Change, Deck, Plan, device, enabled, gone, is_as_before, look_at_last, machine,
-    subchannel, tree_of, unit,
+    BASE, Change, Deck, Plan, device, enabled, gone, machine, subchannel, tree_of, unit,
 };
 use iocm_types::Order::Start;
 use iocm_types::{At, Io, Refused, Rule, SubId};
 use std::alloc::Global;
 use std::test::Fail;
-
-/// Why a machine doesn't begin a change in stages, if it doesn't, where memory may be wanted once.
-/// The machine is left as it was each time.
-fn why_not_begun(alloc: Global, plant: &mut Plant, tree: &Tree) -> Result<Option<Refused>, Fail> {
-    let before = look_at_last(alloc, plant)?;
-    let first = refusal_of_begin(alloc, plant, tree)?;
-    is_as_before(alloc, plant, &before)?;
-    if first != Some(Refused::NO_MEMORY) {
-        return Ok(first);
-    }
-    let again = refusal_of_begin(alloc, plant, tree)?;
-    is_as_before(alloc, plant, &before)?;
-    Ok(again)
-}
-
-/// Whether a machine begins a change, where memory may be wanted once. The machine is left as it was
-/// each time.
-fn begins(alloc: Global, plant: &mut Plant, tree: &Tree) -> Result<bool, Fail> {
-    let before = look_at_last(alloc, plant)?;
-    let first = is_begun_once(alloc, plant, tree)?;
-    is_as_before(alloc, plant, &before)?;
-    if first {
-        return Ok(true);
-    }
-    let second = is_begun_once(alloc, plant, tree)?;
-    is_as_before(alloc, plant, &before)?;
-    Ok(second)
-}
-
-/// Whether a machine doesn't begin a change, for this reason.
-fn refuses(alloc: Global, plant: &mut Plant, tree: &Tree, why: Refused) -> Result<bool, Fail> {
-    let found = why_not_begun(alloc, plant, tree)?;
-    Ok(found == Some(why))
-}
 
 /// Whether a machine of the base deck begins a change.
 fn is_begun(alloc: Global, plan: &Plan) -> Result<bool, Fail> {
@@ -70,6 +34,15 @@ fn a_device_that_comes_is_begun(rt: HostRuntime) -> Result<(), Fail> {
     Ok(())
 }
 
+/// Two devices exchange their unit addresses in three steps.
+fn exchange() -> Plan {
+    Plan::Three(
+        Change::Modify(Deck::Away, device(0x1002)),
+        Change::Modify(Deck::Over, device(0x1003)),
+        Change::Modify(Deck::Back, device(0x1002)),
+    )
+}
+
 #[test]
 fn an_exchange_of_unit_addresses_is_begun(rt: HostRuntime) -> Result<(), Fail> {
     assert!(rt; is_begun(rt.alloc(), &exchange())?);
@@ -79,7 +52,7 @@ fn an_exchange_of_unit_addresses_is_begun(rt: HostRuntime) -> Result<(), Fail> {
 #[test]
 fn a_group_that_breaks_a_rule_is_not_begun(rt: HostRuntime) -> Result<(), Fail> {
     let new = unit(0x2000)?;
-    let wanted = at_node(Rule::V5, 0, At::Key(new));
+    let wanted = Refused::about(Rule::V5, At::Key(new)).at_node(0);
     let group = Plan::Nested(Change::Add(Deck::NoPath, new), 1);
     assert!(rt; is_refused(rt.alloc(), &group, wanted)?);
     Ok(())
@@ -141,7 +114,18 @@ fn a_choose_beside_a_device_at_work_is_begun(rt: HostRuntime) -> Result<(), Fail
 #[test]
 fn a_device_at_work_does_not_go(rt: HostRuntime) -> Result<(), Fail> {
     let there = subchannel(1, 0)?;
-    let wanted = at_node(Rule::B1, 0, At::Subchannel(there));
+    let wanted = Refused::about(Rule::B1, At::Subchannel(there)).at_node(0);
     assert!(rt; is_deletion_refused(rt.alloc(), &there, wanted)?);
+    Ok(())
+}
+
+/// A tree of depth 100,000, far deeper than calls may go into each other.
+fn deep() -> Plan {
+    Plan::Nested(gone(0x1003), 99_999)
+}
+
+#[test]
+fn a_very_deep_tree_is_not_begun_and_is_let_go(rt: HostRuntime) -> Result<(), Fail> {
+    assert!(rt; is_refused(rt.alloc(), &deep(), Refused::of(Rule::C1))?);
     Ok(())
 }
