@@ -22,8 +22,7 @@ use iocm_tree::Tree;
 use iocm_types::Refused;
 use std::alloc::{Allocator, Global};
 
-/// Activates a change tree on a machine that keeps the rules: all of its edits that it means, or
-/// none.
+/// Activates a change tree on a machine that keeps the rules: all the edits that it means, or none.
 ///
 /// Refused by C1 or C2, if the tree is over a limit; else by the first refusal that the tree means,
 /// at its node: E1, E2, E4 or B1 of an edit, E3 of a Choose without parts, V1 to V14 where the

@@ -97,28 +97,6 @@ pub fn lists_image<A: Allocator>(entry: &Record<A>, name: Name) -> bool
     }
 }
 
-/// The same, where the name mostly stands at this place of the access list.
-pub fn lists_image_near<A: Allocator>(entry: &Record<A>, name: Name, near: usize) -> bool
-    ensures { result ≡ record_lists name (Some entry.now) }
-{
-    match entry.body() {
-        RecordBody::Path(fields) => {
-            is_at(fields.access.as_slice(), name, near) || lists_name(fields, name)
-        }
-        _ => false,
-    }
-}
-
-/// Whether a name stands at a place of a list.
-fn is_at(names: &[Name], name: Name, place: usize) -> bool
-    ensures { result ≡ true → has_name name names.now ≡ true }
-{
-    match names.get(place) {
-        Some(other) => name == *other,
-        None => false,
-    }
-}
-
 /// Whether a path has a name in its access or its candidate list.
 pub fn lists_name<A: Allocator>(fields: &PathFields<A>, name: Name) -> bool
     ensures { result ≡ record_lists name (Some (path (meaning.path_of fields.now))) }

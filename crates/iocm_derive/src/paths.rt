@@ -20,7 +20,7 @@ pub fn path_list<A: Allocator>(config: &Config<A>, css: Css, set: SetNo, device:
     paths_of_device(config, css, find_device(config, set, device))
 }
 
-/// The first eight paths of a device that is there.
+/// The first eight paths of a device, where it is known; none where it isn't there.
 pub fn paths_of_device<A: Allocator>(
     config: &Config<A>,
     css: Css,

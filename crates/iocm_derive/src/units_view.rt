@@ -44,11 +44,14 @@ pub fn units_view<'a, A: Allocator, R: Reach<A>>(
     }
 }
 
-/// Whether these are the same units.
+/// Whether these are the same units. Most devices are on one.
 pub fn are_same(units: &[UnitNo], others: &[UnitNo]) -> bool
     ensures { IsTrue result ↔ (units.now ≡ others.now) }
 {
-    units == others
+    match (units, others) {
+        ([unit], [other]) => unit == other,
+        _ => units == others,
+    }
 }
 
 /// The view of a device by its units, if the image sees it.

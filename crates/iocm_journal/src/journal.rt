@@ -25,7 +25,7 @@ pub struct Journal {
     /// Those that are undone and not past, the last one undone last.
     pub(crate) undone: Vec<Undone>,
     /// The undos in their order: of each change that doesn't stand the last one is among them.
-    /// Contracts don't see them: they only tell soon whether a change stands on another.
+    /// Contracts don't see them: they only tell quickly whether a change stands on another.
     pub(crate) undos: Vec<Undo>,
 }
 

@@ -12,8 +12,8 @@ use Rattle.iocm_model.specs.Machine.Record.{Rec}
 use Rattle.iocm_model.specs.Machine.Configuration.{Configuration, Lookup, lookup_of}
 use Rattle.iocm_model.specs.Machine.Sight.{record_lists}
 use Rattle.iocm_derive.specs.Derived.{name_at}
-use Rattle.iocm_derive.specs.OnlineMasks.{least, online_name}
-use Rattle.iocm_derive.proofs.PathKeys.{first_name, behind_names}
+use Rattle.iocm_reach.specs.OnlineKeys.{least, online_name}
+use Rattle.iocm_reach.proofs.OnlineKeys.{first_name, behind_names}
 use Rattle.iocm_derive.proofs.Tables.{all_after, found_after, none_before}
 use Rattle.iocm_reach.specs.declared.image_path.ImagePath.{ImagePath}
 use Rattle.iocm_reach.specs.Reached.{image_in, path_as}

@@ -1,6 +1,9 @@
+pub mod OnlineKeys
 pub mod Reached
 pub mod Seen
+pub mod SightedCells
 pub mod Tabled
+pub mod Walked
 pub mod Walking
 pub mod Worked
 pub mod Writing

@@ -3,7 +3,7 @@ use Rattle.std.specs.Prelude.{◌≡◌, Option, Some, IfSome}
 use Rattle.iocm_model.specs.Machine.Configuration.{Configuration, lookup_of}
 use Rattle.iocm_model.specs.Machine.Numbering.{Numbering}
 use Rattle.iocm_derive.specs.Derived.{name_at}
-use Rattle.iocm_derive.specs.SightedCells.{SightedCell, sighted_cell}
+use Rattle.iocm_reach.specs.SightedCells.{SightedCell, sighted_cell}
 use Rattle.iocm_reach.specs.declared.walk.NamedImage.{NamedImage}
 
 -- the names are those of the configuration's images, the image has its name, and what is kept of a

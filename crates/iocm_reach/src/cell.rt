@@ -4,13 +4,13 @@ ghost use Rattle.iocm_model.specs.Machine.Configuration.{lookup_of};
 ghost use Rattle.iocm_model.specs.Machine.View.{device_record};
 ghost use Rattle.iocm_record.specs.Meaning.{device_of};
 ghost use Rattle.iocm_derive.specs.Derived.{name_at};
-ghost use Rattle.iocm_derive.specs.SightedCells.{sighted_cell, seen_there};
+ghost use Rattle.iocm_reach.specs.SightedCells.{sighted_cell, seen_there};
 ghost use Rattle.iocm_reach.specs.Reached.{image_in};
 ghost use Rattle.iocm_reach.specs.Tabled.{IsReachOf};
 
 use crate::{ReachTable, ReachedImage};
 use iocm_config::Config;
-use iocm_derive::path_list;
+use iocm_derive::paths_of_device;
 use iocm_numbers::Numbers;
 use iocm_record::{DeviceFields, RecordBody};
 use iocm_types::{DevNo, Image, Key, Mif, Name, NumberCell, Paths, SetNo, View};
@@ -38,7 +38,7 @@ impl<'a, A: Allocator, B: Allocator> Model for ReachedCell<'a, A, B> {
     ghost use Rattle.iocm_model.specs.Machine.Record.{DeviceRecord};
     ghost use Rattle.iocm_model.specs.Machine.Configuration.{Configuration};
     ghost use Rattle.iocm_record.specs.Meaning.{device_of};
-    ghost use Rattle.iocm_derive.specs.SightedCells.{SightedCell};
+    ghost use Rattle.iocm_reach.specs.SightedCells.{SightedCell};
     ghost use Rattle.iocm_reach.specs.Seen.{IsReachedCell};
     ghost use Rattle.std.specs.Prelude as std_words;
 
@@ -71,21 +71,16 @@ impl<'a, A: Allocator, B: Allocator> ReachedCell<'a, A, B> {
         requires { IsReachOf config.now.records table.now }
         ensures { result ≡ sighted_cell config.entry.now.records numbers.now.numbers cell.now }
     {
-        match numbers.device_at(*cell) {
-            Some(number) => ReachedCell {
-                table,
-                config,
-                cell: *cell,
-                device: find_device(config, cell.set, number),
-                paths: path_list(config, cell.css, cell.set, number),
-            },
-            None => ReachedCell {
-                table,
-                config,
-                cell: *cell,
-                device: None,
-                paths: Paths::new(),
-            },
+        let device = match numbers.device_at(*cell) {
+            Some(number) => find_device(config, cell.set, number),
+            None => None,
+        };
+        ReachedCell {
+            table,
+            config,
+            cell: *cell,
+            device,
+            paths: paths_of_device(config, cell.css, device),
         }
     }
 

@@ -1,7 +1,7 @@
 ghost use Rattle.std.specs.Prelude.{◌≡◌, true, is_some};
 ghost use Rattle.iocm_types.specs.declared.key.Key.TheVariants as keys;
 ghost use Rattle.iocm_model.specs.Machine.Configuration.{lookup_of};
-ghost use Rattle.iocm_derive.specs.OnlineMasks.{least, online_name};
+ghost use Rattle.iocm_reach.specs.OnlineKeys.{least, online_name};
 ghost use Rattle.iocm_reach.specs.Writing.{IsOnlineToNone};
 
 use iocm_config::Config;

@@ -2,7 +2,7 @@ ghost use Rattle.std.specs.Prelude.{◌≡◌, Some};
 ghost use Rattle.iocm_model.specs.Machine.Configuration.{lookup_of};
 ghost use Rattle.iocm_model.specs.Machine.View as model;
 ghost use Rattle.iocm_derive.specs.Derived.{name_at};
-ghost use Rattle.iocm_derive.specs.Walked.{cell_at, seen_as};
+ghost use Rattle.iocm_reach.specs.Walked.{cell_at, seen_as};
 ghost use Rattle.iocm_reach.specs.Tabled.{IsReachOf};
 
 use crate::{ReachTable, ReachedCell};
@@ -41,7 +41,7 @@ impl<'a, A: Allocator, B: Allocator> Model for ReachedWalk<'a, A, B> {
     ghost use Rattle.std.specs.Coded.{code_by, coded×, coded_ℕ, codes};
     ghost use Rattle.iocm_model.specs.Machine.Configuration.{Configuration};
     ghost use Rattle.iocm_model.specs.Machine.Numbering.{Numbering};
-    ghost use Rattle.iocm_derive.specs.Walked.{Walked};
+    ghost use Rattle.iocm_reach.specs.Walked.{Walked};
     ghost use Rattle.iocm_reach.specs.Tabled.{IsReachOf};
     ghost use Rattle.iocm_reach.specs.Walking.{IsWalking};
 

@@ -2,9 +2,7 @@ ghost use Rattle.iocm_reach.specs.Tabled.{IsReachOf};
 
 use crate::small::small;
 use iocm_config::Config;
-use iocm_derive::{
-    CellSight, ImageNames, ImageSight, image_view, name_of_image, path_list, sees, view_at,
-};
+use iocm_derive::{ImageNames, ImageSight, image_view, name_of_image, path_list, sees, view_at};
 use iocm_numbers::{Numbers, opening};
 use iocm_reach::{ReachTable, ReachedCell, ReachedWalk};
 use iocm_trial_decks::{image, name};
@@ -75,42 +73,6 @@ fn a_subchannel_has_the_view_of_its_device(rt: HostRuntime) -> Result<(), Fail> 
     let set = SetNo::FIRST;
     let views = [0, 1].map(|number| view_at(&config, &numbers, SubId { image, set, number }));
     assert!(rt; views == [Some(one_view()), None]);
-    Ok(())
-}
-
-#[test]
-fn a_number_cell_shows_its_device(rt: HostRuntime) -> Result<(), Fail> {
-    let config = small(rt.alloc())?;
-    let numbers = opening(rt.alloc(), &config)?;
-    let first = image(1)?.mif;
-    let name = name_of_image(&config, image(1)?).ok_or("LPA")?;
-    let views = [0, 1].map(|number| {
-        let cell = NumberCell {
-            css: Css::FIRST,
-            set: SetNo::FIRST,
-            number,
-        };
-        CellSight::new(&config, &numbers, &cell).view(first, name)
-    });
-    assert!(rt; views == [Some(one_view()), None]);
-    Ok(())
-}
-
-#[test]
-fn a_number_cell_shows_its_device_to_many(rt: HostRuntime) -> Result<(), Fail> {
-    // Wherever the name is looked for first, it is found.
-    let names = [name(b"LPA")?, name(b"LPB")?];
-    let [first, last] = [image(1)?.mif, image(15)?.mif];
-    let config = small(rt.alloc())?;
-    let numbers = opening(rt.alloc(), &config)?;
-    let cell = NumberCell {
-        css: Css::FIRST,
-        set: SetNo::FIRST,
-        number: 0,
-    };
-    let sight = CellSight::gathered(&config, &numbers, &cell);
-    let views = names.map(|name| [sight.view(first, name), sight.view(last, name)]);
-    assert!(rt; views == [[Some(one_view()), Some(one_view())], [None, None]]);
     Ok(())
 }
 

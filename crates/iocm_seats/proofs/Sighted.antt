@@ -11,8 +11,8 @@ use Rattle.iocm_model.specs.Machine.Configuration.{Configuration, lookup_of, IsK
 use Rattle.iocm_model.specs.Machine.Numbering.{Numbering}
 use Rattle.iocm_model.specs.Machine.View.{view_at}
 use Rattle.iocm_derive.specs.Derived.{name_at}
-use Rattle.iocm_derive.specs.SightedCells.{SightedCell, sighted_cell, seen_there}
-use Rattle.iocm_derive.proofs.Viewed.{seen_at_cell}
+use Rattle.iocm_reach.specs.SightedCells.{SightedCell, sighted_cell, seen_there}
+use Rattle.iocm_reach.proofs.Viewed.{seen_at_cell}
 use Rattle.iocm_seats.specs.declared.view_change.ViewChange.{ViewChange}
 use Rattle.iocm_seats.specs.Changes.{subchannel_at, candidates, change_at, change_from}
 use Rattle.iocm_seats.specs.Sights.{AreSights, cells_of_sights}

@@ -4,7 +4,7 @@ use Rattle.std.specs.List.{AllByRecursion}
 use Rattle.iocm_types.specs.declared.place.NumberCell.{NumberCell}
 use Rattle.iocm_model.specs.Machine.Configuration.{Configuration}
 use Rattle.iocm_model.specs.Machine.Numbering.{Numbering}
-use Rattle.iocm_derive.specs.SightedCells.{SightedCell, sighted_cell}
+use Rattle.iocm_reach.specs.SightedCells.{SightedCell, sighted_cell}
 
 -- the number cells
 abbrev pub cells_of_sights : List SightedCell → List NumberCell

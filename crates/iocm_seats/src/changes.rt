@@ -9,7 +9,7 @@ ghost use Rattle.iocm_model.specs.Change.Edit.{same_view};
 ghost use Rattle.iocm_model.specs.Machine.Configuration.{IsKeyed, lookup_of};
 ghost use Rattle.iocm_model.specs.Machine.View as model;
 ghost use Rattle.iocm_derive.specs.Derived.{name_at};
-ghost use Rattle.iocm_derive.specs.SightedCells.{sighted_cell, seen_there};
+ghost use Rattle.iocm_reach.specs.SightedCells.{sighted_cell, seen_there};
 ghost use Rattle.iocm_reach.specs.Reached.{image_in};
 ghost use Rattle.iocm_reach.specs.Tabled.{IsReachOf};
 ghost use Rattle.iocm_model.specs.Operation.State.{views_of};

@@ -22,8 +22,8 @@ pub struct LinkRange {
     pub addresses: UnitRange,
 }
 
-/// The ranges that all units have on their paths. A range is listed as it is, and not address by
-/// address, so the list is as long as the units' records.
+/// The ranges that all units have on their paths: a row for each range on each path, however many
+/// addresses it has.
 ///
 /// `AllocError` (M1): memory ran out.
 pub fn list_ranges<A: Allocator, B: Allocator + Copy>(

@@ -16,5 +16,5 @@ told : (b : Bool) (xs ys : List ℕ) → b ≡ pointwise nat_eq xs ys → IsTrue
 told true xs ys is = (λ _. same_text xs ys is, λ _. refl)
 told false xs ys is = (λ no. cc, λ same. absurd (told_apart xs ys (sym is) same))
 
-pub returns : goal.returns
-returns c = told c.eq.result c.args.units.now c.args.others.now c.eq.ensures
+pub returns-in_default : goal.returns-in_default
+returns-in_default c = told c.eq-in_default.result c.args.units.now c.args.others.now c.eq-in_default.ensures

@@ -5,7 +5,7 @@ use Rattle.iocm_types.specs.declared.key.Key.{Key}
 use Rattle.iocm_types.specs.Key.{key_cmp}
 use Rattle.iocm_types.proofs.Tests.{absent}
 use Rattle.iocm_table.specs.Slots.{rows_from}
-use Rattle.iocm_derive.specs.OnlineMasks.{online_name}
+use Rattle.iocm_reach.specs.OnlineKeys.{online_name}
 use Rattle.iocm_reach.proofs.Bare.{none_online, others_online}
 use Rattle.iocm_reach.proofs.online.is_online_to_none.Goals as goal
 

@@ -6,7 +6,7 @@ use Rattle.iocm_types.specs.declared.place.NumberCell.{NumberCell}
 use Rattle.iocm_types.specs.declared.view.View.{View}
 use Rattle.iocm_model.specs.Machine.Configuration.{lookup_of}
 use Rattle.iocm_derive.specs.Derived.{name_at}
-use Rattle.iocm_derive.specs.SightedCells.{SightedCell}
+use Rattle.iocm_reach.specs.SightedCells.{SightedCell}
 use Rattle.iocm_seats.specs.Changes.{subchannel_at, change_from}
 use Rattle.iocm_seats.specs.Seated.{views_seated, lives_seated}
 use Rattle.iocm_seats.proofs.Remembered.{met_more, met_there, met_nowhere}

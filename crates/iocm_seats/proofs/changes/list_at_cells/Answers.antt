@@ -3,7 +3,7 @@ use Rattle.std.specs.List.{filter_map}
 use Rattle.std.specs.FinMap.{get}
 use Rattle.std.proofs.lemmas.List.Elements.{filter_map-append}
 use Rattle.iocm_model.specs.Machine.View.{view_at}
-use Rattle.iocm_derive.specs.SightedCells.{SightedCell, sighted_cell}
+use Rattle.iocm_reach.specs.SightedCells.{SightedCell, sighted_cell}
 use Rattle.iocm_seats.specs.Seated.{views_seated}
 use Rattle.iocm_seats.specs.Changes.{change_at, candidates}
 use Rattle.iocm_seats.specs.Sights.{cells_of_sights}

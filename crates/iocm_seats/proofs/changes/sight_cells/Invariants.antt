@@ -1,6 +1,6 @@
 -- The sights so far and those of the cells that are left.
 use Rattle.std.proofs.Common.{◌≡◌, ◌++◌, drop, map}
-use Rattle.iocm_derive.specs.SightedCells.{sighted_cell}
+use Rattle.iocm_reach.specs.SightedCells.{sighted_cell}
 use Rattle.iocm_seats.proofs.changes.sight_cells.Given as goal
 
 abbrev pub invariant-loop-cell : goal.invariant-loop-cell

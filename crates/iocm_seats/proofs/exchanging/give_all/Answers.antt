@@ -5,7 +5,7 @@ use Rattle.iocm_types.specs.declared.live.Live.{Live}
 use Rattle.iocm_types.specs.declared.sub_id.SubId.{SubId}
 use Rattle.iocm_types.specs.SubId.{sub_id_cmp}
 use Rattle.iocm_model.specs.Operation.State.{views_of}
-use Rattle.iocm_derive.specs.Walked.{Walked}
+use Rattle.iocm_reach.specs.Walked.{Walked}
 use Rattle.iocm_seats.specs.Seated.{Seats, HasPlace}
 use Rattle.iocm_seats.specs.Exchange.{given}
 use Rattle.iocm_seats.proofs.Loops.{fold_open, opened}

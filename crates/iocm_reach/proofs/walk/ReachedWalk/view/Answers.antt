@@ -1,7 +1,7 @@
 use Rattle.std.proofs.Common.{ap, subst, ◌∙◌}
 use Rattle.iocm_model.specs.Machine.Configuration.{IsKeyed}
-use Rattle.iocm_derive.specs.Walked.{Walked, seen_as}
-use Rattle.iocm_derive.proofs.Viewed.{seen_named}
+use Rattle.iocm_reach.specs.Walked.{Walked, seen_as}
+use Rattle.iocm_reach.proofs.Viewed.{seen_named}
 use Rattle.iocm_reach.proofs.walk.ReachedWalk.view.Goals as goal
 
 pub returns-clause-view : goal.returns-clause-view

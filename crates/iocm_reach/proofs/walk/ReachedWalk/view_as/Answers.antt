@@ -1,6 +1,6 @@
 use Rattle.std.proofs.Common.{sym, ap, ◌∙◌}
-use Rattle.iocm_derive.specs.Walked.{Walked, seen_as}
-use Rattle.iocm_derive.proofs.Viewed.{seen_again}
+use Rattle.iocm_reach.specs.Walked.{Walked, seen_as}
+use Rattle.iocm_reach.proofs.Viewed.{seen_again}
 use Rattle.iocm_reach.proofs.walk.ReachedWalk.view_as.Goals as goal
 
 pub returns-then-eq-clause-view : goal.returns-then-eq-clause-view

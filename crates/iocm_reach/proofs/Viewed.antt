@@ -12,8 +12,8 @@ use Rattle.iocm_model.specs.Machine.Numbering.{Numbering, device_at}
 use Rattle.iocm_model.specs.Machine.View.{device_record, image_view, view_at, view_if_seen}
 use Rattle.iocm_model.proofs.Machine.OwnKeys.{keyed_own}
 use Rattle.iocm_derive.specs.Derived.{name_at}
-use Rattle.iocm_derive.specs.SightedCells.{SightedCell, sighted_cell, seen_there}
-use Rattle.iocm_derive.specs.Walked.{Walked, cell_at, seen_as}
+use Rattle.iocm_reach.specs.SightedCells.{SightedCell, sighted_cell, seen_there}
+use Rattle.iocm_reach.specs.Walked.{Walked, cell_at, seen_as}
 
 by_device : (at : Lookup) (css set : ℕ) (name : List ℕ) (o : Option ℕ)
     → option_and_then (view_if_seen at css name) (option_and_then (device_record at set) o)

@@ -1,12 +1,9 @@
--- A number cell of a configuration, with the device there, and the paths and the records of paths
--- by which its channel subsystem reaches it.
-use Rattle.std.specs.Prelude.{◌≡◌, ℕ, List, Option, Some}
+-- A number cell of a configuration, with the device there.
+use Rattle.std.specs.Prelude.{ℕ, List, Option}
 use Rattle.std.specs.Option.{option_and_then}
-use Rattle.std.specs.FinMap.{get}
-use Rattle.iocm_types.specs.declared.key.Key.TheVariants.{Path}
 use Rattle.iocm_types.specs.declared.place.NumberCell.{NumberCell}
 use Rattle.iocm_types.specs.declared.view.View.{View}
-use Rattle.iocm_model.specs.Machine.Record.{Rec, DeviceRecord}
+use Rattle.iocm_model.specs.Machine.Record.{DeviceRecord}
 use Rattle.iocm_model.specs.Machine.Configuration.{Configuration, lookup_of}
 use Rattle.iocm_model.specs.Machine.Numbering.{Numbering, device_at}
 use Rattle.iocm_model.specs.Machine.View.{device_record, view_if_seen}
@@ -28,7 +25,3 @@ sighted_cell c n cell = record { records = c; cell = cell; device = cell_device 
 -- what the image of a name in the cell's channel subsystem sees there
 abbrev pub seen_there : SightedCell → List ℕ → Option View
 seen_there s name = option_and_then (view_if_seen (lookup_of s.records) s.cell.css name) s.device
-
--- whether this is the record of a path
-abbrev pub IsRecordOf : Configuration → ℕ → ℕ → Rec → Type 0
-IsRecordOf c css path r = get c (Path css path) ≡ Some r
