@@ -219,10 +219,11 @@ impl<A: Allocator> Numbers<A> {
         Ok(())
     }
 
-    /// Whether a device comes in at a place: it is reached there and has no number yet.
+    /// Whether a device comes in at a place: it is reached there and has no number yet. The number
+    /// is looked up first, since that takes one search.
     pub(crate) fn comes_in<B: Allocator>(&self, config: &Config<B>, place: &Place) -> bool
         ensures { result ≡ needs_number config.now.records self.now.numbers place.now }
     {
-        is_place_reached(config, *place) && self.number_of(*place).is_none()
+        self.number_of(*place).is_none() && is_place_reached(config, *place)
     }
 }
