@@ -92,7 +92,7 @@ fn node_of_edits<A: Allocator + Copy>(
 ) -> Result<Node<A>, AllocError>
     ensures { IfOk result (λ node. node_seen node ≡ leaves.node_of_edits edits.items) }
 {
-    let sorted = in_key_order(alloc, edits)?;
+    let sorted = in_key_order(edits)?;
     Ok(whole(leaves_of(alloc, sorted)?))
 }
 
