@@ -5,8 +5,8 @@ use Rattle.iocm_console.specs.Command.{answered, showed}
 use Rattle.iocm_console.specs.declared.command.DeckCommand.{DeckCommand}
 use Rattle.iocm_console.specs.Opening.{Shown}
 use Rattle.iocm_console.specs.declared.command.DeckCommand.TheVariants as deck_command
-use Rattle.iocm.specs.declared.command.Request.{Request}
-use Rattle.iocm.specs.declared.command.Request.TheVariants.{Check, Show, Write, Apply}
+use Rattle.iocm_command.specs.declared.command.Request.{Request}
+use Rattle.iocm_command.specs.declared.command.Request.TheVariants.{Check, Show, Write, Apply}
 
 -- which breaches of the rules are printed: the first one, or all
 abbrev pub checked_by : Bool → DeckCommand

@@ -1,4 +1,2 @@
 pub mod Answer
-pub mod CommandLine
-pub mod Program
 pub mod Source

@@ -7,11 +7,11 @@ ghost use Rattle.iocm_console.specs.Output.{has_failed, IsHandedOn};
 ghost use Rattle.iocm_console.specs.Opening.{refused, Says, SaysIfMemory};
 ghost use Rattle.iocm_apply.specs.Apply.{IsRefusedDeck};
 ghost use Rattle.iocm.specs.Answer.{printed};
-ghost use Rattle.iocm.specs.CommandLine.{change_deck_of};
+ghost use Rattle.iocm_command.specs.CommandLine.{change_deck_of};
 
-use crate::command::Request;
 use iocm_apply::{Asked, apply_change};
 use iocm_columns::Device;
+use iocm_command::Request;
 use iocm_console::{ConsoleError, DeckCommand, Output, Status, answer_deck};
 use std::alloc::Global;
 use std::io::{Read, Write};

@@ -2,9 +2,9 @@
 ghost use Rattle.std.specs.Prelude.{◌+◌, ◌^◌, ◌<◌, All, IfOk, IfSome};
 ghost use Rattle.iocm_columns.specs.Device.{reads_of, IsOpen};
 
-use crate::command::{Command, Request};
 use crate::source::Source;
 use iocm_columns::Device;
+use iocm_command::{Command, Request};
 use iocm_console::ConsoleError;
 use std::collections::VecDeque;
 use std::io::{ErrorKind, Read};

@@ -16,24 +16,21 @@
 //! error). Beside a refusal, standard error says from which file and line it comes; with `--quiet`
 //! it doesn't.
 //!
-//! Begin with `command.rt`, the command line, and `answer.rt`, which call is whose; all else is in
-//! `iocm_console`, `iocm_apply` and `iocm_run`. `files.rt` opens texts, `remarks.rt` says where a
-//! refusal comes from.
+//! Begin with `answer.rt`, which call is whose; what the words of a command line ask for is in
+//! `iocm_command`, all else in `iocm_console`, `iocm_apply` and `iocm_run`. `files.rt` opens texts,
+//! `remarks.rt` says where a refusal comes from.
 #![tactic(auto)]
 
 mod answer;
-mod command;
 mod files;
-mod matches;
-mod program;
 mod remarks;
 mod source;
 
 use answer::print_answer;
 use clap::error::ErrorKind;
-use command::{Command, Request, Understood, command_of};
 use files::{count_inputs, open, open_all, read_input};
 use iocm_columns::Device;
+use iocm_command::{Command, Request, Understood, command_of};
 use iocm_console::{ConsoleError, Output, Status, Told, refuse};
 use iocm_diff::diff_decks;
 use iocm_explain::explain;

@@ -1,8 +1,8 @@
 //! What is said of a refusal on standard error: from which file and line it comes.
 
-use crate::command::{Command, Request};
 use crate::files::{is_input, is_read_once, open, open_again};
 use iocm_columns::{Card, Device, join, read_cards};
+use iocm_command::{Command, Request};
 use iocm_console::Told;
 use iocm_faults::all_faults;
 use iocm_origin::{

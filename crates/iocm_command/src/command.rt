@@ -1,9 +1,9 @@
 ghost use Rattle.std.specs.Prelude.{◌≡◌, [], List, Some, IfOk, IfErr, map, option_map};
 ghost use Rattle.clap.specs.Words.{HasKind, kind_of};
-ghost use Rattle.iocm.specs.CommandLine.{all_asked_of, change_deck_of, request_words, AsksQuiet};
-ghost use Rattle.iocm.specs.CommandLine.{mistakes, mistakes_or_others};
-ghost use Rattle.iocm.specs.CommandLine.{IsAsNamed, NamesApply, NamesDeck, NamesRun};
-ghost use Rattle.iocm.specs.CommandLine.{StatesApply, StatesArguments, StatesCommand, StatesDeck, StatesOther, StatesRun};
+ghost use Rattle.iocm_command.specs.CommandLine.{all_asked_of, change_deck_of, request_words, AsksQuiet};
+ghost use Rattle.iocm_command.specs.CommandLine.{mistakes, mistakes_or_others};
+ghost use Rattle.iocm_command.specs.CommandLine.{IsAsNamed, NamesApply, NamesDeck, NamesRun};
+ghost use Rattle.iocm_command.specs.CommandLine.{StatesApply, StatesArguments, StatesCommand, StatesDeck, StatesOther, StatesRun};
 
 use crate::matches::{command_in, has_one_report, is_quiet};
 use crate::program::iocm;

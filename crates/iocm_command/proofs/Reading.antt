@@ -15,9 +15,9 @@ use Rattle.clap.specs.Kinds.{or_else}
 use Rattle.clap.specs.declared.error.Error.{Error}
 use Rattle.clap.specs.declared.error.kind.ErrorKind.TheVariants.{ArgumentConflict, ValueValidation}
 use Rattle.clap.proofs.OnLiterals.{clap_on_literals}
-use Rattle.iocm.specs.CommandLine.{argument_of, arguments_of, quiet_of, mistakes, mistakes_or_others, HasQuiet, HasArguments, HasCommand, StatesArguments, StatesCommand}
-use Rattle.iocm.specs.Program.{iocm_app}
-use Rattle.iocm.specs.declared.command.Command.{Command}
+use Rattle.iocm_command.specs.CommandLine.{argument_of, arguments_of, quiet_of, mistakes, mistakes_or_others, HasQuiet, HasArguments, HasCommand, StatesArguments, StatesCommand}
+use Rattle.iocm_command.specs.Program.{iocm_app}
+use Rattle.iocm_command.specs.declared.command.Command.{Command}
 
 -- one of these kinds is one of these or, where there is none, of others
 pub has_kind_or : (kinds more : Kinds) (e : Error) → HasKind kinds e → HasKind (or_else kinds more) e

@@ -2,8 +2,8 @@
 use Rattle.std.proofs.Common.{◌≡◌, ◌∙◌, ap, codes}
 use Rattle.std.proofs.lemmas.Result.{IfOk-weaker}
 use Rattle.clap.specs.Words.{app_of}
-use Rattle.iocm.specs.Program.{with_filter, with_filters, with_ways}
-use Rattle.iocm.proofs.program.with_filters.Goals as goal
+use Rattle.iocm_command.specs.Program.{with_filter, with_filters, with_ways}
+use Rattle.iocm_command.proofs.program.with_filters.Goals as goal
 
 pub returns-clause-app : goal.returns-clause-app
 returns-clause-app c = IfOk-weaker c.with_filter.result

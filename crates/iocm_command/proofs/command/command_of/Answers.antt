@@ -1,12 +1,12 @@
 use Rattle.std.proofs.Common.{◌≡◌, ◌∷◌, [], List, inl, inr, map, subst, sym}
 use Rattle.clap.specs.Words.{Text, HasKind, app_of, kind_of}
 use Rattle.clap.specs.declared.error.kind.ErrorKind.TheVariants.{ArgumentConflict, OutOfMemory, ValueValidation}
-use Rattle.iocm.specs.CommandLine.{mistakes, mistakes_or_others, HasQuiet, IsApply, IsDiff, IsExplain, IsOnDeck, IsRun, NamesApply, NamesDeck, NamesRun, StatesApply, StatesDeck, StatesOther, StatesRun}
-use Rattle.iocm.proofs.Plain.{only_memory, states_deck}
-use Rattle.iocm.proofs.PlainApply.{states_apply}
-use Rattle.iocm.proofs.PlainRun.{as_named, states_run}
-use Rattle.iocm.proofs.Reading.{has_kind_or, is_accepted, is_entered, is_mistaken, is_conflict, is_of_other_form, is_stated_as, has_stated, not_some, passed_on}
-use Rattle.iocm.proofs.command.command_of.Goals as goal
+use Rattle.iocm_command.specs.CommandLine.{mistakes, mistakes_or_others, HasQuiet, IsApply, IsDiff, IsExplain, IsOnDeck, IsRun, NamesApply, NamesDeck, NamesRun, StatesApply, StatesDeck, StatesOther, StatesRun}
+use Rattle.iocm_command.proofs.Plain.{only_memory, states_deck}
+use Rattle.iocm_command.proofs.PlainApply.{states_apply}
+use Rattle.iocm_command.proofs.PlainRun.{as_named, states_run}
+use Rattle.iocm_command.proofs.Reading.{has_kind_or, is_accepted, is_entered, is_mistaken, is_conflict, is_of_other_form, is_stated_as, has_stated, not_some, passed_on}
+use Rattle.iocm_command.proofs.command.command_of.Goals as goal
 
 pub returns-in_err-matches-clause-understood : goal.returns-in_err-matches-clause-understood
 returns-in_err-matches-clause-understood g c =

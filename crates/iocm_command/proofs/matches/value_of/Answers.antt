@@ -1,8 +1,8 @@
 use Rattle.std.proofs.Common.{refl}
 use Rattle.clap.specs.Words.{found_of, subcommand_rows_of}
-use Rattle.iocm.specs.CommandLine.{argument_of}
-use Rattle.iocm.proofs.Reading.{argument_is, has_value, is_value}
-use Rattle.iocm.proofs.matches.value_of.Goals as goal
+use Rattle.iocm_command.specs.CommandLine.{argument_of}
+use Rattle.iocm_command.proofs.Reading.{argument_is, has_value, is_value}
+use Rattle.iocm_command.proofs.matches.value_of.Goals as goal
 
 pub returns-clause-some : goal.returns-clause-some
 returns-clause-some c = has_value (argument_of c.args.argument.now (subcommand_rows_of c.args.matches.now)) c.args.name.now c.get_str.result

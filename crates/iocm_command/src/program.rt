@@ -1,7 +1,7 @@
 ghost use Rattle.std.specs.Prelude.{◌≡◌, IfOk, false};
 ghost use Rattle.clap.specs.Words.{app_of, rule_of};
-ghost use Rattle.iocm.specs.Program as meaning;
-ghost use Rattle.iocm.specs.Program.{has_globals};
+ghost use Rattle.iocm_command.specs.Program as meaning;
+ghost use Rattle.iocm_command.specs.Program.{has_globals};
 
 use clap::builder::ValueParser;
 use clap::{Arg, ArgAction};

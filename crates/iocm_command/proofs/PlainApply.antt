@@ -17,9 +17,9 @@ use Rattle.clap.proofs.ValueTestLemmas.{accepts-Accepts, Accepts-accepts}
 use Rattle.iocm_apply.specs.declared.report.Report.{Report}
 use Rattle.iocm_apply.specs.declared.report.Report.TheVariants.{Table, WayBack}
 use Rattle.iocm_filter.specs.Wanted.{nothing}
-use Rattle.iocm.specs.CommandLine.{mistakes, values_under, AsksFor, IsApplyOf, IsHeapOption, IsPlainName, IsSizeText, NamesApply, StatesApply}
-use Rattle.iocm.specs.Program.{deck_app, decks_app, diff_app, explain_app, file_rule, heap_rule, iocm_app, run_app, with_filters, with_reports}
-use Rattle.iocm.proofs.Plain.{no_filters}
+use Rattle.iocm_command.specs.CommandLine.{mistakes, values_under, AsksFor, IsApplyOf, IsHeapOption, IsPlainName, IsSizeText, NamesApply, StatesApply}
+use Rattle.iocm_command.specs.Program.{deck_app, decks_app, diff_app, explain_app, file_rule, heap_rule, iocm_app, run_app, with_filters, with_reports}
+use Rattle.iocm_command.proofs.Plain.{no_filters}
 
 abbrev pub size_parser : ValueParser
 size_parser = Unsigned 16 16777216

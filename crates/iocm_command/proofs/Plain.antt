@@ -7,8 +7,8 @@ use Rattle.clap.proofs.OnLiterals.{clap_on_literals}
 use Rattle.iocm_filter.specs.Wanted.{nothing}
 use Rattle.iocm_filter.specs.Words.{filters_of}
 use Rattle.iocm_values.specs.Reading.{every}
-use Rattle.iocm.specs.CommandLine.{mistakes, stated, values_under, AsksFor, HasFlag, IsDeckCommand, NamesDeck, StatesDeck}
-use Rattle.iocm.specs.Program.{iocm_app}
+use Rattle.iocm_command.specs.CommandLine.{mistakes, stated, values_under, AsksFor, HasFlag, IsDeckCommand, NamesDeck, StatesDeck}
+use Rattle.iocm_command.specs.Program.{iocm_app}
 
 -- no filter is asked for
 none_asked : filters_of [] [] [] [] [] ≡ Some nothing

@@ -5,10 +5,10 @@ ghost use Rattle.clap.specs.Words.{Text, subcommand_rows_of};
 ghost use Rattle.iocm_apply.specs.declared.report.Report as report;
 ghost use Rattle.iocm_filter.specs.Wanted.{Wanted};
 ghost use Rattle.iocm_statements.specs.Unread.{Reads};
-ghost use Rattle.iocm.specs.CommandLine.{argument_of, arguments_of, name_of};
-ghost use Rattle.iocm.specs.CommandLine.{asks_altered, asks_back, asks_count, asks_deck, asks_test};
-ghost use Rattle.iocm.specs.CommandLine.{AsksFor, AsksReport, GivesSize, HasArguments, HasChange};
-ghost use Rattle.iocm.specs.CommandLine.{HasCommand, HasFlag, HasQuiet, HasRequest, IsApply, IsApplyOf, IsDiff, IsExplain, IsOnDeck, IsRun, IsSizeText};
+ghost use Rattle.iocm_command.specs.CommandLine.{argument_of, arguments_of, name_of};
+ghost use Rattle.iocm_command.specs.CommandLine.{asks_altered, asks_back, asks_count, asks_deck, asks_test};
+ghost use Rattle.iocm_command.specs.CommandLine.{AsksFor, AsksReport, GivesSize, HasArguments, HasChange};
+ghost use Rattle.iocm_command.specs.CommandLine.{HasCommand, HasFlag, HasQuiet, HasRequest, IsApply, IsApplyOf, IsDiff, IsExplain, IsOnDeck, IsRun, IsSizeText};
 
 use crate::command::{Command, Request};
 use crate::program::{LARGEST_HEAP, LEAST_HEAP};

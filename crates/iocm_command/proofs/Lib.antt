@@ -1,4 +1,4 @@
-pub mod Reading
 pub mod Plain
 pub mod PlainApply
 pub mod PlainRun
+pub mod Reading

@@ -1,8 +1,8 @@
 -- What is found under the flag is what clap makes of it.
 use Rattle.std.proofs.Common.{option_map, sym, ap, ◌∙◌}
 use Rattle.clap.specs.Words.{found_of, subcommand_rows_of}
-use Rattle.iocm.proofs.Reading.{quiet_by, quiet_found}
-use Rattle.iocm.proofs.matches.is_quiet.Goals as goal
+use Rattle.iocm_command.proofs.Reading.{quiet_by, quiet_found}
+use Rattle.iocm_command.proofs.matches.is_quiet.Goals as goal
 
 pub returns-in-Some-get_str : goal.returns-in-Some-get_str
 returns-in-Some-get_str c = quiet_by (subcommand_rows_of c.args.matches.now) c.in-Some-get_str.value.now c.is_true.result

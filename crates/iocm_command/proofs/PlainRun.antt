@@ -15,19 +15,19 @@ use Rattle.clap.proofs.FaultLemmas.{stopped_fault}
 use Rattle.clap.proofs.OnLiterals.{clap_on_literals}
 use Rattle.clap.proofs.ValueTestLemmas.{Accepts-accepts}
 use Rattle.clap.proofs.WalkLemmas.{walk_stopped}
-use Rattle.iocm.specs.CommandLine.{argument_of, arguments_of, mistakes, stated}
-use Rattle.iocm.specs.Program.{apply_app, changes_rule, deck_app, decks_app, diff_app, explain_app, file_rule, heap_rule, iocm_app}
-use Rattle.iocm.specs.CommandLine.{GivesHeap, GivesSize, IsAsNamed, IsHeapOption, IsPlainName, IsRunLine, IsRunOf, IsRunWith, IsSizeText, NamesRun, StatesArguments, StatesCommand, StatesRun}
-use Rattle.iocm.specs.declared.command.Command.{Command}
-use Rattle.iocm.specs.declared.command.Command.TheVariants.{Answer, Diff, Explain, Run}
-use Rattle.iocm.specs.declared.command.Request.TheVariants.{Check, Show, Write, Apply}
+use Rattle.iocm_command.specs.CommandLine.{argument_of, arguments_of, mistakes, stated}
+use Rattle.iocm_command.specs.Program.{apply_app, changes_rule, deck_app, decks_app, diff_app, explain_app, file_rule, heap_rule, iocm_app}
+use Rattle.iocm_command.specs.CommandLine.{GivesHeap, GivesSize, IsAsNamed, IsHeapOption, IsPlainName, IsRunLine, IsRunOf, IsRunWith, IsSizeText, NamesRun, StatesArguments, StatesCommand, StatesRun}
+use Rattle.iocm_command.specs.declared.command.Command.{Command}
+use Rattle.iocm_command.specs.declared.command.Command.TheVariants.{Answer, Diff, Explain, Run}
+use Rattle.iocm_command.specs.declared.command.Request.TheVariants.{Check, Show, Write, Apply}
 use Rattle.std.specs.Option.{option_map, option_map_or}
 use Rattle.std.specs.Prelude.{Option, option_and_then, unwrap_or, ◌⊎◌}
 use Rattle.std.specs.Str.{bytes_eq}
 use Rattle.std.specs.Str.Parse.{digits_value, without_leading_plus}
 use Rattle.clap.specs.Walk.{texts}
-use Rattle.iocm.proofs.PlainApply.{default_is_size, size_is_plain, size_parser}
-use Rattle.iocm.proofs.Reading.{name_is}
+use Rattle.iocm_command.proofs.PlainApply.{default_is_size, size_is_plain, size_parser}
+use Rattle.iocm_command.proofs.Reading.{name_is}
 
 -- ---- the program's own words
 

@@ -13,11 +13,11 @@ use Rattle.iocm_filter.specs.Wanted.{Wanted}
 use Rattle.iocm_filter.specs.Words.{filters_of}
 use Rattle.iocm_apply.specs.declared.report.Report.{Report}
 use Rattle.iocm_apply.specs.declared.report.Report.TheVariants as report
-use Rattle.iocm.specs.Program.{iocm_app}
-use Rattle.iocm.specs.declared.command.Command.{Command}
-use Rattle.iocm.specs.declared.command.Command.TheVariants.{Answer, Diff, Explain, Run}
-use Rattle.iocm.specs.declared.command.Request.{Request}
-use Rattle.iocm.specs.declared.command.Request.TheVariants.{Check, Show, Write, Apply}
+use Rattle.iocm_command.specs.Program.{iocm_app}
+use Rattle.iocm_command.specs.declared.command.Command.{Command}
+use Rattle.iocm_command.specs.declared.command.Command.TheVariants.{Answer, Diff, Explain, Run}
+use Rattle.iocm_command.specs.declared.command.Request.{Request}
+use Rattle.iocm_command.specs.declared.command.Request.TheVariants.{Check, Show, Write, Apply}
 
 -- a command's name, and the value of one of its arguments
 abbrev pub argument_of : Text → Option (Text × List Row) → Option (Text × Option Text)

@@ -1,9 +1,9 @@
 -- Words on a deck alone name one of the three commands.
 use Rattle.std.proofs.Common.{inl, inr}
 use Rattle.clap.specs.Words.{subcommand_rows_of}
-use Rattle.iocm.specs.CommandLine.{IsOnDeck}
-use Rattle.iocm.proofs.Reading.{if_ok_any, not_some}
-use Rattle.iocm.proofs.matches.request_in.Goals as goal
+use Rattle.iocm_command.specs.CommandLine.{IsOnDeck}
+use Rattle.iocm_command.proofs.Reading.{if_ok_any, not_some}
+use Rattle.iocm_command.proofs.matches.request_in.Goals as goal
 
 pub returns-clause-only : goal.returns-clause-only
 returns-clause-only c = if_ok_any c.apply_in.result _ (λ found s. absurd (none s))

@@ -1,5 +1,5 @@
-use Rattle.iocm.proofs.Reading.{not_some}
-use Rattle.iocm.proofs.matches.apply_in.Goals as goal
+use Rattle.iocm_command.proofs.Reading.{not_some}
+use Rattle.iocm_command.proofs.matches.apply_in.Goals as goal
 
 pub returns-in_default-clause-only : goal.returns-in_default-clause-only
 returns-in_default-clause-only c (deck, change, size, r, of, sized, w, asks) =

@@ -2,8 +2,8 @@ use Rattle.std.proofs.Common.{◌∙◌, List, Some, ap, option_map, refl, sym}
 use Rattle.std.specs.Borrow.{Bor}
 use Rattle.clap.specs.Walk.{texts}
 use Rattle.clap.specs.Words.{Text, found_of}
-use Rattle.iocm.proofs.Reading.{arguments_are, texts_or_none}
-use Rattle.iocm.proofs.matches.values_of.Goals as goal
+use Rattle.iocm_command.proofs.Reading.{arguments_are, texts_or_none}
+use Rattle.iocm_command.proofs.matches.values_of.Goals as goal
 
 pub returns-clause-some : goal.returns-clause-some
 returns-clause-some c =
