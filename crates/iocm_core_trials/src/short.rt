@@ -1,30 +1,29 @@
 use crate::acts::{Act, ask_once, first_wrong_of, opened, sight_of};
-use crate::asks::Ask;
 use crate::asks::Ask::{Abort, Activate, Advance, Begin, Redo, Show, Undo};
 use crate::plans::Edit::Goes;
 use crate::plans::Shape::One;
 use crate::stages::EXCHANGE;
 use crate::wanted::Wanted::{Aborted, Changed, Left, Redone, Shown, Staged, Undone};
-use crate::wanted::refused;
+use crate::wanted::{answer_of, refused};
 use iocm_core::Core;
 use iocm_trial_machines::{Sight, is_same};
 use iocm_types::{At, Rule};
 use std::alloc::Global;
 use std::test::Fail;
 
-/// Whether memory ran out at a call that is made once, after these acts. The acts behind it are
-/// answered as where the call wasn't made.
+/// Whether memory ran out at a call that is made once, after these acts. Else it is answered as it
+/// should be. The acts behind it are then answered as where the call wasn't made.
 fn ran_out(
     alloc: Global,
     core: &mut Core,
     before: &[Act],
-    ask: &Ask,
+    act: &Act,
     behind: &[Act],
 ) -> Result<bool, Fail> {
     if first_wrong_of(alloc, core, before)?.is_some() {
         return Err(Fail::from("an act before is answered otherwise"));
     }
-    if ask_once(alloc, core, ask)? != Some(refused(Rule::M1, None, At::Nothing)) {
+    if !wants_memory(alloc, core, act)? {
         return Ok(false);
     }
     if first_wrong_of(alloc, core, behind)?.is_some() {
@@ -33,16 +32,30 @@ fn ran_out(
     Ok(true)
 }
 
+/// Whether a call that is made once is refused since memory ran out. Else it is answered as it
+/// should be.
+fn wants_memory(alloc: Global, core: &mut Core, act: &Act) -> Result<bool, Fail> {
+    let (ask, wanted) = act;
+    let answer = ask_once(alloc, core, ask)?.ok_or("the trace is full")?;
+    if answer == refused(Rule::M1, None, At::Nothing) {
+        return Ok(true);
+    }
+    if answer != answer_of(wanted)? {
+        return Err(Fail::from("the call is answered otherwise"));
+    }
+    Ok(false)
+}
+
 /// What the machine shows after a call at which memory ran out, with acts before and behind it;
 /// nothing where memory didn't run out.
 fn sight_if_short(
     alloc: Global,
     before: &[Act],
-    ask: &Ask,
+    act: &Act,
     behind: &[Act],
 ) -> Result<Option<Sight>, Fail> {
     let mut core = opened(alloc, 64)?;
-    match ran_out(alloc, &mut core, before, ask, behind) {
+    match ran_out(alloc, &mut core, before, act, behind) {
         Ok(true) => Ok(Some(sight_of(alloc, core)?)),
         Ok(false) => Ok(None),
         Err(fail) => Err(fail),
@@ -76,19 +89,24 @@ fn are_answered(
 fn is_left_as_it_was(
     alloc: Global,
     before: &[Act],
-    ask: &Ask,
+    act: &Act,
     behind: &[Act],
 ) -> Result<bool, Fail> {
-    match sight_if_short(alloc, before, ask, behind)? {
+    match sight_if_short(alloc, before, act, behind)? {
         Some(seen) => Ok(is_same(&seen, &sight_after(alloc, before, behind)?)),
         None => Ok(true),
     }
 }
 
 /// The unit addresses of two devices are exchanged, at once and in stages.
-const EXCHANGING: &Ask = &Activate(EXCHANGE);
+const EXCHANGING: &Act = &(Activate(EXCHANGE), Changed(1));
 
-const BEGINNING: &Ask = &Begin(EXCHANGE);
+const BEGINNING: &Act = &(Begin(EXCHANGE), Staged(3));
+
+/// It is undone, and done again.
+const UNDOING: &Act = &(Undo(1), Undone(1));
+
+const REDOING: &Act = &(Redo(1), Redone(1));
 
 /// Nothing was done before.
 const NOTHING: &[Act] = &[];
@@ -116,13 +134,13 @@ fn a_change_without_memory_leaves_all_as_it_was(rt: HostRuntime) -> Result<(), F
 
 #[test]
 fn an_undo_without_memory_leaves_all_as_it_was(rt: HostRuntime) -> Result<(), Fail> {
-    assert!(rt; is_left_as_it_was(rt.alloc(), EXCHANGED, &Undo(1), ONE_STANDS)?);
+    assert!(rt; is_left_as_it_was(rt.alloc(), EXCHANGED, UNDOING, ONE_STANDS)?);
     Ok(())
 }
 
 #[test]
 fn a_redo_without_memory_leaves_all_as_it_was(rt: HostRuntime) -> Result<(), Fail> {
-    assert!(rt; is_left_as_it_was(rt.alloc(), PUT_BACK, &Redo(1), ONE_IS_UNDONE)?);
+    assert!(rt; is_left_as_it_was(rt.alloc(), PUT_BACK, REDOING, ONE_IS_UNDONE)?);
     Ok(())
 }
 
