@@ -1,5 +1,6 @@
 pub mod BitWords
 pub mod Built
+pub mod CellsFrom
 pub mod CellsThere
 pub mod ChangedCells
 pub mod Counting

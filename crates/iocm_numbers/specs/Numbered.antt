@@ -1,5 +1,5 @@
 -- Subchannel numbers in memory.
-use Rattle.std.specs.Prelude.{◌≡◌, ℕ, ◌<◌, T, List, Some}
+use Rattle.std.specs.Prelude.{◌≡◌, ℕ, ◌<◌, nat_le, T, List, filter, Some}
 use Rattle.std.specs.List.{list_any}
 use Rattle.std.specs.Ordering.{eq_by_cmp}
 use Rattle.std.specs.FinMap.{get}
@@ -18,6 +18,10 @@ pub record Numbered : Type 0 where
 -- the number cell that a number at a place takes
 abbrev pub cell_at : Place → ℕ → NumberCell
 cell_at place number = record { css = place.css; set = place.set; number = number }
+
+-- of number cells, with their devices, those of a channel subsystem and of the ones after it
+abbrev pub cells_from : ℕ → List (NumberCell × ℕ) → List (NumberCell × ℕ)
+cells_from css cells = filter (λ (e : NumberCell × ℕ). nat_le css e.0.css) cells
 
 -- a place can be given a number without memory, as far as the place goes
 abbrev pub HasPlaceRoom : Numbered → Place → Type 0

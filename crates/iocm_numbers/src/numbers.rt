@@ -5,8 +5,8 @@ ghost use Rattle.iocm_types.specs.declared.place.NumberCell as cell_type;
 ghost use Rattle.iocm_types.specs.declared.place.Place as place_type;
 ghost use Rattle.iocm_model.specs.Machine.Numbering.{cells_of, device_at};
 ghost use Rattle.iocm_model.specs.Change.Renumbering as renumbering;
-ghost use Rattle.iocm_numbers.specs.Numbered.{cell_at, HasCellRoom, HasNoNumberTwice, HasPlaceRoom};
-ghost use Rattle.iocm_numbers.specs.Numbered.{HasRoom, HasSameRoom, HasSmallDevices, KeepsRoom};
+ghost use Rattle.iocm_numbers.specs.Numbered.{cell_at, cells_from, HasCellRoom, HasNoNumberTwice};
+ghost use Rattle.iocm_numbers.specs.Numbered.{HasPlaceRoom, HasRoom, HasSameRoom, HasSmallDevices, KeepsRoom};
 ghost use Rattle.iocm_numbers.specs.TiedTables as tied;
 
 use crate::bits::{clear_bit, clear_words, lowest_clear, set_bit};
@@ -97,6 +97,14 @@ impl<A: Allocator> Numbers<A> {
         self.cells.walk()
     }
 
+    /// The numbers that devices have in a channel subsystem and in those after it, with these
+    /// devices, by channel subsystem, set and number. The time is that of one search.
+    pub fn cells_from(&self, css: Css) -> Rows<'_, NumberCell, DevNo>
+        ensures { result ≡ cells_from css (map.entries (cells_of self.now.numbers)) }
+    {
+        self.cells.walk_from(&first_cell(css))
+    }
+
     /// The lowest number that no device has in a channel subsystem and set, if one of the 65,536 is
     /// free. The time is that of looking at a bit for each lower number, 64 at a time: at 1,024
     /// words at the most, however many devices there are.
@@ -177,6 +185,17 @@ impl<A: Allocator> Numbers<A> {
         let _ = self.cells.take(&cell);
         clear_bit(&mut self.words, bit_of(cell));
         Some(number)
+    }
+}
+
+/// The first number cell of a channel subsystem: number 0000 of set 0.
+fn first_cell(css: Css) -> NumberCell
+    ensures { result ≡ record { css = css; set = 0; number = 0 } }
+{
+    NumberCell {
+        css,
+        set: SetNo::FIRST,
+        number: 0,
     }
 }
 
