@@ -1,6 +1,6 @@
 -- A table that follows the change of a record.
-use Rattle.std.proofs.Common.{◌≡◌, ◌≢◌, ◌⊎◌, inl, inr, ◌∙◌, ℕ, ◌<◌, Bool, true, false, nat_eq, List, Option, None, Some, is_some, refl, sym, ap, subst}
-use Rattle.std.proofs.lemmas.Bool.{eqb-true, eqb-false}
+use Rattle.std.proofs.Common.{◌≡◌, ◌≢◌, ◌⊎◌, inl, inr, ◌∙◌, ℕ, ◌<◌, ◌≤◌, Bool, true, false, nat_eq, nat_le, List, Option, None, Some, is_some, refl, sym, ap, subst, arith}
+use Rattle.std.proofs.lemmas.Bool.{eqb-true, eqb-false, leb-true, leb-false}
 use Rattle.std.specs.Option.{option_map, option_and_then}
 use Rattle.iocm_types.specs.declared.key.Key.{Key}
 use Rattle.iocm_types.specs.declared.key.Key.TheVariants.{Image, Path, Online}
@@ -10,7 +10,7 @@ use Rattle.iocm_model.specs.Machine.Sight.{record_lists}
 use Rattle.iocm_reach.specs.declared.image_path.ImagePath.{ImagePath}
 use Rattle.iocm_reach.specs.Reached.{path_to, path_as}
 use Rattle.iocm_reach.specs.Tabled.{cell_of, row_of, IsReachOf, IsSameBut, WasReach}
-use Rattle.iocm_reach.specs.Writing.{IsRowSet, IsImageSet}
+use Rattle.iocm_reach.specs.Writing.{AreRowsSet, IsBeside, IsImageSet}
 
 -- a key isn't one by which an image has a path
 pub record IsApart (key : Key) (css path mif : ℕ) : Type 0 where
@@ -50,15 +50,24 @@ module _ (css path of other : ℕ) where
       by true here false there = inr (inr (eqb-false other path there))
       by false here d there = inr (inl (eqb-false of css here))
 
+-- a path that isn't the one of a range is beside it
+beside : (css path of other : ℕ) → (of ≢ css) ⊎ (other ≢ path) → IsBeside (record { css = css; first = path; last = path }) of other
+beside css path of other (inl differ) = inl differ
+beside css path of other (inr differ) = inr (by (nat_le path other) refl)
+  where
+    by : (b : Bool) → nat_le path other ≡ b → (other < path) ⊎ (path < other)
+    by true from = inr (let more : path ≤ other = leb-true path other from in omega (arith, differ))
+    by false less = inl (leb-false path other less)
+
 -- the record of a path changed, or one by which a path is online, and its row was written
 pub row_followed : (key : Key) (now : Configuration) (css path : ℕ) (old new : List ImagePath)
     → ((of other mif : ℕ) → (of ≢ css) ⊎ (other ≢ path) → IsApart key of other mif)
-    → WasReach key now old → IsRowSet (lookup_of now) css path old new → IsReachOf now new
+    → WasReach key now old → AreRowsSet (lookup_of now) (record { css = css; first = path; last = path }) old new → IsReachOf now new
 row_followed key now css path old new apart was set of other within low mif above below = by (either css path of other)
   where
     by : ((of ≡ css) × (other ≡ path)) ⊎ ((of ≢ css) ⊎ (other ≢ path)) → cell_of new (row_of of other) mif ≡ path_to (lookup_of now) of other mif
-    by (inl same) = rw (same.0, same.1) (set.row mif above below)
-    by (inr differ) = set.others of other mif low below differ ∙ cell_kept key now old was of other mif within low above below (apart of other mif differ)
+    by (inl same) = rw (same.0, same.1) (set.rows path (omega arith) (omega arith) mif above below)
+    by (inr differ) = set.others of other mif low below (beside css path of other differ) ∙ cell_kept key now old was of other mif within low above below (apart of other mif differ)
 
 -- the record of an image changed, and what it has of each path was written
 pub image_followed : (now : Configuration) (css id : ℕ) (old new : List ImagePath) → WasReach (Image css id) now old

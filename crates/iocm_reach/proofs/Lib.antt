@@ -1,7 +1,7 @@
-pub mod Bare
 pub mod Changed
 pub mod Followed
-pub mod OnlineKeys
+pub mod Marked
+pub mod RangeKeys
 pub mod RowByRow
 pub mod Viewed
 pub mod Written

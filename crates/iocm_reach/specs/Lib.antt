@@ -1,4 +1,5 @@
-pub mod OnlineKeys
+pub mod Marking
+pub mod Ranges
 pub mod Reached
 pub mod Seen
 pub mod SightedCells

@@ -58,9 +58,17 @@ fn is_listed<A: Allocator>(entry: Option<&Record<A>>, name: Name, near: usize) -
     ensures { result ≡ record_lists name (option_copied entry.entry) }
 {
     match entry {
-        Some(found) => is_at(found, name, near) || lists_image(found, name),
+        Some(found) => is_listed_near(found, name, near),
         None => false,
     }
+}
+
+/// Whether a record is of a path that has a name in its access or its candidate list. The name is
+/// first looked for at this place of the access list.
+pub fn is_listed_near<A: Allocator>(entry: &Record<A>, name: Name, near: usize) -> bool
+    ensures { result ≡ record_lists name (Some entry.now) }
+{
+    is_at(entry, name, near) || lists_image(entry, name)
 }
 
 /// Whether a record is of a path that has a name at this place of its access list.

@@ -20,12 +20,13 @@ mod image;
 mod image_path;
 mod images;
 mod laws;
+mod listed;
 mod names;
 mod online;
 mod path_masks;
+mod range;
 mod reaching;
 mod rows;
-mod subsystem;
 mod table;
 mod walk;
 

@@ -1,71 +1,51 @@
 ghost use Rattle.std.specs.Prelude.{◌≡◌, ◌<◌, length};
-ghost use Rattle.std.specs.Option.{option_copied};
-ghost use Rattle.iocm_types.specs.declared.key.Key.TheVariants as key;
 ghost use Rattle.iocm_model.specs.Machine.Configuration.{lookup_of};
 ghost use Rattle.iocm_reach.specs.Tabled.{row_of};
-ghost use Rattle.iocm_reach.specs.Writing.{AreNamesOf, IsRowCleared, IsRowSet};
+ghost use Rattle.iocm_reach.specs.Writing.{AreRowsSet, AreRowsWritten};
 
-use crate::image_path::{ImagePath, image_path};
-use crate::online::is_online_to_none;
-use iocm_config::{Config, RecordWalk};
-use iocm_record::Record;
-use iocm_types::{CssPath, Key, Name};
+use crate::image_path::ImagePath;
+use crate::listed::listed_images;
+use crate::names::names_of;
+use crate::online::online_images;
+use crate::range::PathRange;
+use iocm_config::Config;
+use iocm_types::CssPath;
 use std::alloc::Allocator;
 
 /// How many places a table has: 16 for each of 256 paths of six channel subsystems.
 pub const PLACES: usize = 6 * 256 * 16;
 
-/// Writes the row of a path, with the names of the images of its channel subsystem. A path that
-/// isn't there, and is online to nobody, costs two searches.
-pub fn set_row<A: Allocator>(
-    table: &mut [ImagePath],
-    config: &Config<A>,
-    records: &mut RecordWalk<'_, A>,
-    names: &[Option<Name>; 16],
-    at: &CssPath,
-)
-    requires alike { records.old ≡ config.now.records }
-    requires names { AreNamesOf (lookup_of config.now.records) at.now.css names.now }
-    requires long { length table.old ≡ 24576 }
-    ensures row { IsRowSet (lookup_of config.now.records) at.now.css at.now.path table.old table.new }
-    ensures same { records.new ≡ records.old }
-{
-    let entry = config.get(&Key::Path(at.css, at.path));
-    if entry.is_none() && is_online_to_none(config, at) {
-        clear_row(table, at);
-        return;
-    }
-    fill_row(table, records, names, at, entry);
-}
-
-/// Writes the row of a path with this record.
-fn fill_row<A: Allocator>(
-    table: &mut [ImagePath],
-    records: &mut RecordWalk<'_, A>,
-    names: &[Option<Name>; 16],
-    at: &CssPath,
-    entry: Option<&Record<A>>,
-)
-    requires entry { option_copied entry ≡ lookup_of records.old (key.Path at.now.css at.now.path) }
-    requires names { AreNamesOf (lookup_of records.old) at.now.css names.now }
-    requires long { length table.old ≡ 24576 }
-    ensures row { IsRowSet (lookup_of records.old) at.now.css at.now.path table.old table.new }
-    ensures same { records.new ≡ records.old }
-{
-    let first = row_of(at) * 16;
-    for mif in 1usize..16 {
-        table[first + mif] = image_path(records, at, entry, names[mif], mif - 1);
-    }
-}
-
-/// Writes the row of a path that nobody reaches, and that is online to nobody.
-fn clear_row(table: &mut [ImagePath], at: &CssPath)
+/// Writes the rows of a range of paths, by a walk over their records and one over those by which
+/// they are online. The names of images are looked up once.
+pub fn set_rows<A: Allocator>(table: &mut [ImagePath], config: &Config<A>, range: &PathRange)
     requires { length table.old ≡ 24576 }
-    ensures { IsRowCleared at.now.css at.now.path table.old table.new }
+    ensures { AreRowsSet (lookup_of config.now.records) range.now table.old table.new }
 {
-    let first = row_of(at) * 16;
-    for mif in 1usize..16 {
-        table[first + mif] = ImagePath::NEITHER;
+    let names = names_of(config, range.css);
+    let listed = listed_images(config, &names, range);
+    let online = online_images(config, &names, range);
+    write_rows(table, range, &listed, &online);
+}
+
+/// Writes which images reach the paths of a range, and to which these are online, at the places of
+/// a channel subsystem.
+fn write_rows(
+    table: &mut [ImagePath],
+    range: &PathRange,
+    listed: &[bool; 4096],
+    online: &[bool; 4096],
+)
+    requires { length table.old ≡ 24576 }
+    ensures { AreRowsWritten range.now listed.now online.now table.old table.new }
+{
+    let start = usize::from(range.css.number()) * 4096;
+    let first = usize::from(range.first.number()) * 16;
+    let end = usize::from(range.last.number()) * 16 + 16;
+    for place in first..end {
+        table[start + place] = ImagePath {
+            reached: listed[place],
+            online: online[place],
+        };
     }
 }
 

@@ -5,10 +5,10 @@ ghost use Rattle.iocm_reach.specs.Tabled.{IsReachOf, WasReach};
 
 use crate::image_path::ImagePath;
 use crate::images::set_image;
-use crate::rows::{PLACES, row_of};
-use crate::subsystem::{set_path, set_rows};
+use crate::range::PathRange;
+use crate::rows::{PLACES, row_of, set_rows};
 use iocm_config::Config;
-use iocm_types::{Css, CssPath, Key, Mif};
+use iocm_types::{Chpid, Css, CssPath, Key, Mif};
 use std::alloc::{AllocError, Allocator, Global};
 use std::marker::Model;
 
@@ -31,8 +31,8 @@ impl<A: Allocator> Model for ReachTable<A> {
 }
 
 impl<A: Allocator> ReachTable<A> {
-    /// The table of a configuration. The time is in proportion to 256 paths for each of six channel
-    /// subsystems, and 15 images for each path.
+    /// The table of a configuration. The time is in proportion to its paths and to the records by
+    /// which these are online, each with 15 images.
     ///
     /// `AllocError` (M1): memory ran out.
     pub fn new<B: Allocator>(alloc: A, config: &Config<B>) -> Result<Self, AllocError>
@@ -73,11 +73,12 @@ fn follow_key<B: Allocator>(table: &mut [ImagePath], config: &Config<B>, key: &K
     match key {
         Key::Image(css, mif) => set_image(table, config, *css, *mif),
         Key::Path(css, path) | Key::Online(css, path, _) => {
-            let at = CssPath {
+            let range = PathRange {
                 css: *css,
-                path: *path,
+                first: *path,
+                last: *path,
             };
-            set_path(table, config, &at);
+            set_rows(table, config, &range);
         }
         _ => {}
     }
@@ -102,6 +103,11 @@ fn set_all<B: Allocator>(table: &mut [ImagePath], config: &Config<B>)
         let Some(css) = Css::new(number) else {
             unreachable!()
         };
-        set_rows(table, config, css);
+        let range = PathRange {
+            css,
+            first: Chpid::new(0),
+            last: Chpid::new(255),
+        };
+        set_rows(table, config, &range);
     }
 }

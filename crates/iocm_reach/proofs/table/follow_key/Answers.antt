@@ -12,8 +12,8 @@ returns-in-Image-clause-reach g c =
 
 pub returns-in-Path-clause-reach : goal.returns-in-Path-clause-reach
 returns-in-Path-clause-reach g c =
-    row_followed c.args.key.now c.args.config.now.records c.in-Path.css c.in-Path.path c.args.table.now c.set_path.new.table
-    (row_apart c.args.key.now c.in-Path.css c.in-Path.path c.in-Path.is) c.requires.was c.set_path.ensures
+    row_followed c.args.key.now c.args.config.now.records c.in-Path.css c.in-Path.path c.args.table.now c.set_rows.new.table
+    (row_apart c.args.key.now c.in-Path.css c.in-Path.path c.in-Path.is) c.requires.was c.set_rows.ensures
 
 pub returns-in_default-clause-reach : goal.returns-in_default-clause-reach
 returns-in_default-clause-reach g c =
