@@ -1,8 +1,9 @@
 mod AlteredRows
 mod ByImage
+mod EachImage
 mod FirstRows
-mod Halves
 pub mod ListedPairs
+mod Passing
 mod Printed
 mod Rows
 mod Summed
