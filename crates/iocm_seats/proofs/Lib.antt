@@ -1,6 +1,8 @@
 pub mod Busy
+pub mod CellsTogether
 pub mod Everywhere
 pub mod Exchanged
+pub mod ImagesTogether
 pub mod Known
 pub mod Lending
 pub mod Listed
@@ -14,3 +16,4 @@ pub mod Settled
 pub mod Sighted
 pub mod Taken
 pub mod Taking
+pub mod Together

@@ -1,7 +1,9 @@
 -- The seats at opening: one channel subsystem after the other, and at each number cell all images.
-use Rattle.std.specs.Prelude.{ℕ, nat_eq, ◌==◌, T, List, [], ◌∷◌, map, filter}
+use Rattle.std.specs.Prelude.{ℕ, nat_eq, ◌==◌, Bool, true, false, T, List, [], ◌∷◌, map, filter}
 use Rattle.std.specs.FinMap.{insert}
 use Rattle.std.specs.List.{flat_map, filter_map, list_any, AllByRecursion}
+use Rattle.iocm_types.specs.declared.key.Key.{Key}
+use Rattle.iocm_types.specs.declared.key.Key.TheVariants.{Id, Resource, Image}
 use Rattle.iocm_types.specs.declared.place.NumberCell.{NumberCell}
 use Rattle.iocm_types.specs.declared.sub_id.SubId.{SubId}
 use Rattle.iocm_model.specs.Machine.Record.{Rec, ImageRecord}
@@ -26,6 +28,13 @@ cells_seats sights cells = flat_map (cell_seats sights) cells
 -- the images of a channel subsystem among some records
 abbrev pub images_among : ℕ → List Rec → List ImageRecord
 images_among css records = filter (λ (i : ImageRecord). i.css == css) (filter_map as_image records)
+
+-- whether a key is past all images, before which are ID and RESOURCE alone
+abbrev pub is_past_images : Key → Bool
+is_past_images Id = false
+is_past_images Resource = false
+is_past_images (Image css mif) = false
+is_past_images _ = true
 
 -- each of some images as one of a configuration
 abbrev pub sights_of : Configuration → List ImageRecord → List Sighted

@@ -3,12 +3,14 @@ ghost use Rattle.std.specs.List.{list_any};
 ghost use Rattle.iocm_model.specs.Machine.Configuration.{records_of};
 ghost use Rattle.iocm_seats.specs.Listing.{AreSubsystemsOf};
 
+use crate::image_keys::is_past_images;
 use iocm_config::Config;
 use iocm_record::{Record, RecordBody};
 use iocm_types::Css;
 use std::alloc::{AllocError, Allocator};
 
-/// The channel subsystems of the images of a configuration.
+/// The channel subsystems of the images of a configuration. The walk over the records stops behind
+/// the images.
 ///
 /// `AllocError` (M1): memory ran out.
 pub(crate) fn image_subsystems<A: Allocator, B: Allocator>(
@@ -18,8 +20,13 @@ pub(crate) fn image_subsystems<A: Allocator, B: Allocator>(
     ensures { IfOk result (λ subsystems.
         AreSubsystemsOf (records_of config.now.records) subsystems.items) }
 {
+    // For the proof alone: each record stands under its own key.
+    config.has_own_keys();
     let mut subsystems = Vec::new(alloc);
-    for (_, entry) in config.walk() {
+    for (key, entry) in config.walk() {
+        if is_past_images(key) {
+            return Ok(subsystems);
+        }
         if let Some(css) = new_subsystem(subsystems.as_slice(), entry) {
             subsystems.push(css)?;
         }

@@ -15,6 +15,7 @@
 
 mod changes;
 mod exchanging;
+mod image_keys;
 mod image_subsystems;
 mod laws;
 mod met;

@@ -22,8 +22,9 @@ use iocm_types::{Css, SubId};
 use std::alloc::{AllocError, Allocator};
 
 /// A seat for each subchannel that has a view, with a fresh live record. The time is in proportion
-/// to the number cells that are taken, and for each to the images of its channel subsystem. Each
-/// cell is gone over for all of these before the next one, since their seats stand side by side.
+/// to the number cells that are taken, and for each to the images of its channel subsystem. Of the
+/// cells each channel subsystem looks at its own alone. Each cell is gone over for all images before
+/// the next one, since their seats stand side by side.
 ///
 /// `AllocError` (M1): memory ran out.
 pub fn open_seats<A: Allocator, B: Allocator, C: Allocator + Clone>(

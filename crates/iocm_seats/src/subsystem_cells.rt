@@ -11,8 +11,9 @@ use iocm_numbers::Numbers;
 use iocm_types::{Css, DevNo, NumberCell};
 use std::alloc::{AllocError, Allocator};
 
-/// The number cells of a channel subsystem that are taken, with their devices. Each device is
-/// looked up once, for all images.
+/// The number cells of a channel subsystem that are taken, with their devices. They stand side by
+/// side, and no cell is looked at but these and the next one. Each device is looked up once, for
+/// all images.
 ///
 /// `AllocError` (M1): memory ran out.
 pub(crate) fn subsystem_cells<'a, A: Allocator, B: Allocator, C: Allocator>(
@@ -27,10 +28,11 @@ pub(crate) fn subsystem_cells<'a, A: Allocator, B: Allocator, C: Allocator>(
 {
     let mut devices = DeviceWalk::new(config);
     let mut cells = Vec::new(alloc);
-    for (cell, device) in numbers.cells() {
-        if let Some(taken) = taken_in(&mut devices, css, *cell, *device) {
-            cells.push(taken)?;
-        }
+    for (cell, device) in numbers.cells_from(css) {
+        let Some(taken) = taken_in(&mut devices, css, *cell, *device) else {
+            return Ok(cells);
+        };
+        cells.push(taken)?;
     }
     Ok(cells)
 }

@@ -2,13 +2,15 @@ ghost use Rattle.std.specs.Prelude.{◌≡◌, [], ◌∷◌, IfOk, MatchOption}
 ghost use Rattle.iocm_model.specs.Machine.Configuration.{records_of};
 ghost use Rattle.iocm_seats.specs.Listing.{images_among, sights_of};
 
+use crate::image_keys::is_past_images;
 use iocm_config::Config;
 use iocm_derive::ImageSight;
 use iocm_record::{Record, RecordBody};
 use iocm_types::{Css, Image};
 use std::alloc::{AllocError, Allocator};
 
-/// The images of a channel subsystem, in order. The paths that each reaches are looked up once.
+/// The images of a channel subsystem, in order. The walk over the records stops behind the images.
+/// The paths that each image reaches are looked up once.
 ///
 /// `AllocError` (M1): memory ran out.
 pub(crate) fn subsystem_sights<'a, A: Allocator, B: Allocator>(
@@ -19,8 +21,13 @@ pub(crate) fn subsystem_sights<'a, A: Allocator, B: Allocator>(
     ensures { IfOk result (λ sights. sights.items ≡ sights_of config.entry.now.records
         (images_among css (records_of config.entry.now.records))) }
 {
+    // For the proof alone: each record stands under its own key.
+    config.has_own_keys();
     let mut sights = Vec::new(alloc);
-    for (_, entry) in config.walk() {
+    for (key, entry) in config.walk() {
+        if is_past_images(key) {
+            return Ok(sights);
+        }
         if let Some(sight) = sight_in(config, css, entry) {
             sights.push(sight)?;
         }
