@@ -8,6 +8,7 @@ EXAMPLES = os.path.join(TOP, "examples")
 CASES = os.path.join(TOP, "tests", "cases")
 REPORTS = ("--altered", "--count", "--deck", "--test", "--undo")
 LARGEST = 20_480  # bytes of a case's files
+share = slice(None)  # which of all commands are tried, where several processes try some each
 
 
 def script_words(script):
@@ -94,4 +95,5 @@ def of_cases():
 
 
 def everything():
-    return of_examples() + list(of_cases())
+    """Every command, or the share of them that this process tries."""
+    return (of_examples() + list(of_cases()))[share]
