@@ -6,6 +6,7 @@ ghost use Rattle.iocm_numbers.specs.Numbered.{cell_at};
 
 use iocm_config::Config;
 use iocm_numbers::{NumberChange, Numbers, is_place_reached, is_reached, opening, sort_apart};
+use iocm_table::Rows;
 use iocm_trial_decks::configuration;
 use iocm_types::{Css, DevNo, NumberCell, Place, SetNo, UnitNo};
 use std::alloc::Global;
@@ -144,6 +145,29 @@ fn numbers_are_looked_up_both_ways(rt: HostRuntime) -> Result<(), Fail> {
     let device = opened.numbers.device_at(cell);
     let number = opened.numbers.number_of(there);
     assert_eq!(rt; (device, number), (Some(DevNo::new(0x1002)), Some(2)));
+    Ok(())
+}
+
+/// The device of the next number cell of a walk.
+fn next_device(cells: &mut Rows<'_, NumberCell, DevNo>) -> Option<DevNo> {
+    let (_, device) = cells.next()?;
+    Some(*device)
+}
+
+#[test]
+fn cells_from_a_subsystem_on_begin_with_its_first(rt: HostRuntime) -> Result<(), Fail> {
+    let third = css(2)?;
+    let opened = numbered(rt.alloc())?;
+    let mut cells = opened.numbers.cells_from(third);
+    let devices = [
+        next_device(&mut cells),
+        next_device(&mut cells),
+        next_device(&mut cells),
+    ];
+    assert_eq!(rt;
+        devices,
+        [Some(DevNo::new(0x1002)), Some(DevNo::new(0x1003)), None]
+    );
     Ok(())
 }
 
