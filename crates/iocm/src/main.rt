@@ -16,8 +16,8 @@
 //! error). Beside a refusal, standard error says from which file and line it comes; with `--quiet`
 //! it doesn't.
 //!
-//! Begin with `answer.rt`, which call is whose; what the words of a command line ask for is in
-//! `iocm_command`, all else in `iocm_console`, `iocm_apply` and `iocm_run`. `files.rt` opens texts,
+//! Begin with `answer.rt`, which call is whose. What the words of a command line ask for is in
+//! `iocm_command`, and what a command prints in a crate of its own for most. `files.rt` opens texts,
 //! `remarks.rt` says where a refusal comes from.
 #![tactic(auto)]
 

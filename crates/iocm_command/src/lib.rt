@@ -1,8 +1,9 @@
 //! The command line of `iocm`: what its words ask for.
 //!
-//! `command_of` reads the words by `clap`, and gives the `Command` that they state: a `Request` of a
-//! deck, two decks to compare, a refusal to explain, or a script to run; and whether standard error
-//! is to be quiet. Help, the version and every mistake in the words are errors of `clap`.
+//! `command_of` reads the words by `clap`. It gives the `Command` that they state, and whether
+//! standard error is to be quiet. A command is a `Request` of a deck, two decks to compare, a refusal
+//! to explain, or a script to run. Help, the version and every mistake in the words are errors of
+//! `clap`.
 //! `program.rt` has the commands and what they take, as `clap` is told of them. `matches.rt` reads
 //! what `clap` found in the words. What the words mean is in `specs/CommandLine.antt` and
 //! `specs/Program.antt`.

@@ -11,8 +11,9 @@ use iocm_types::{At, Rule};
 use std::alloc::Global;
 use std::test::Fail;
 
-/// Whether memory ran out at a call that is made once, after these acts. Else it is answered as it
-/// should be. The acts behind it are then answered as where the call wasn't made.
+/// Whether memory ran out at a call that is made once, after these acts. Where it did, the acts
+/// behind it are answered as if the call wasn't made. Where it didn't, the call itself is answered as
+/// it should be.
 fn ran_out(
     alloc: Global,
     core: &mut Core,
@@ -32,8 +33,8 @@ fn ran_out(
     Ok(true)
 }
 
-/// Whether a call that is made once is refused since memory ran out. Else it is answered as it
-/// should be.
+/// Whether a call that is made once is refused since memory ran out. Where it isn't, it is answered
+/// as it should be.
 fn wants_memory(alloc: Global, core: &mut Core, act: &Act) -> Result<bool, Fail> {
     let (ask, wanted) = act;
     let answer = ask_once(alloc, core, ask)?.ok_or("the trace is full")?;
