@@ -18,10 +18,10 @@ use iocm_types::{SubId, View};
 use std::alloc::{AllocError, Global};
 use std::collections::BTreeMap;
 
-/// What a change altered, of whose edits this was told, on the machine that it left: each subchannel in
-/// order, with what was seen there before the change and what is seen there after it. Also a
-/// subchannel is among them that one edit altered and a later one put back. The time is that
-/// of sorting them, each as often as an edit altered it.
+/// What a change altered, of whose edits this was told, on the machine that it left: each subchannel
+/// in order, with what was seen there before the change and what is seen there after it. A subchannel
+/// that one edit altered and a later one put back is among them, too. The time is that of sorting
+/// them, each as often as an edit altered it.
 ///
 /// `AllocError` (M1): memory ran out.
 pub fn altered_rows(

@@ -1,5 +1,5 @@
 -- There are as many subchannels as rows, whatever state the rows are of.
-use Rattle.std.proofs.Common.{length, map, sym, ap, ◌∙◌}
+use Rattle.std.proofs.Common.{length, sym, ap, ◌∙◌}
 use Rattle.std.proofs.lemmas.List.{length-map}
 use Rattle.std.specs.FinMap.{entries, entries-from_sorted, from_sorted}
 use Rattle.iocm_types.specs.SubId.{sub_id_cmp}
