@@ -3,10 +3,11 @@
 //! Each function reads a `Config`, and `view_at` its `Numbers` too, and answers exactly what its
 //! definition says. None can run out of memory. `view_at` is what an image sees at one
 //! subchannel; `path_list`, `sees`, `pim` and `pam` are its parts. `DeviceWalk` finds many devices,
-//! one after the other. `ImageSight` gives the views of one image at many devices: it keeps such a
+//! one after the other. `ImageSight` gives the views of one image at many devices. It keeps such a
 //! walk, tables of the image's paths, and what it sees by the last device's control units.
 //! `ImageNames` gives the names of many images, one after the other. Views by a table of who reaches
 //! which path are in `iocm_reach`.
+//!
 //! Begin with `view.rt`, then `reach.rt` for what both ways share.
 #![tactic(auto)]
 

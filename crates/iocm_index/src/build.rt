@@ -52,8 +52,8 @@ pub fn list_namings<B: Allocator, C: Allocator>(
 
 /// The same namings in order, each once. Records are mostly listed in the order of keys. So those
 /// of records alone, and all others behind them, are in long runs that rise for the first sort. That
-/// looks at what is named alone, keeps equals in their order, and leaves nothing to the second. It
-/// compares far less where a thing has many users.
+/// looks at what is named alone and keeps equals in their order, so it compares far less where a
+/// thing has many users. It leaves nothing to the second where the records came in the order of keys.
 fn sort_apart<A: Allocator, B: Allocator>(
     alloc: A,
     namings: Vec<Naming, B>,

@@ -2,6 +2,6 @@ pub mod Changed
 pub mod Followed
 pub mod Marked
 pub mod RangeKeys
-pub mod RowByRow
+pub mod RangeRows
 pub mod Viewed
 pub mod Written

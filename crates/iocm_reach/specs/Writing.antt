@@ -1,4 +1,5 @@
--- How a table is written: by the names of images, row by row, or image by image.
+-- How a table is written: by the names of images, the rows of a range of paths at once, or image by
+-- image.
 use Rattle.std.specs.Prelude.{◌≡◌, ◌≢◌, ℕ, ◌<◌, ◌≤◌, ◌⊎◌, Bool, List, Option, None, IfSome, IsTrue, slice_index_or, length}
 use Rattle.iocm_types.specs.Name.{is_name}
 use Rattle.iocm_model.specs.Machine.Configuration.{Lookup}

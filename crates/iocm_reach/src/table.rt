@@ -31,8 +31,9 @@ impl<A: Allocator> Model for ReachTable<A> {
 }
 
 impl<A: Allocator> ReachTable<A> {
-    /// The table of a configuration. The time is in proportion to its paths and to the records by
-    /// which these are online, each with 15 images.
+    /// The table of a configuration. It has 24,576 entries, which are all written. Beyond that the
+    /// time is in proportion to the configuration's paths and to the records by which these are
+    /// online, each with 15 images.
     ///
     /// `AllocError` (M1): memory ran out.
     pub fn new<B: Allocator>(alloc: A, config: &Config<B>) -> Result<Self, AllocError>

@@ -5,7 +5,7 @@ use Rattle.iocm_model.specs.Machine.Configuration.{lookup_of}
 use Rattle.iocm_reach.specs.Reached.{path_to}
 use Rattle.iocm_reach.specs.Tabled.{row_of, neither, cell_of}
 use Rattle.iocm_reach.specs.declared.image_path.ImagePath.{ImagePath}
-use Rattle.iocm_reach.proofs.RowByRow.{image_apart, place_written, read_by_name}
+use Rattle.iocm_reach.proofs.RangeRows.{image_apart, place_written, read_by_name}
 use Rattle.iocm_reach.proofs.Written.{right_more}
 use Rattle.iocm_reach.proofs.images.set_image.Goals as goal
 

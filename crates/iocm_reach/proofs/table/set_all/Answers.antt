@@ -1,7 +1,7 @@
 -- One channel subsystem more.
 use Rattle.std.proofs.Common.{◌∙◌}
 use Rattle.iocm_model.specs.Machine.Configuration.{lookup_of}
-use Rattle.iocm_reach.proofs.RowByRow.{rows_more}
+use Rattle.iocm_reach.proofs.RangeRows.{rows_more}
 use Rattle.iocm_reach.proofs.table.set_all.Goals as goal
 
 pub loop-number-preserved : goal.loop-number-preserved
