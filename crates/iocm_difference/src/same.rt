@@ -9,7 +9,7 @@ use iocm_types::{Chpid, Css, List, Mif, Name, PathKind, SetNo, Text};
 use std::alloc::Allocator;
 
 /// Whether two records are the same, carried operands included.
-pub(crate) fn is_same_record<A: Allocator, B: Allocator>(old: &Record<A>, new: &Record<B>) -> bool
+pub fn is_same_record<A: Allocator, B: Allocator>(old: &Record<A>, new: &Record<B>) -> bool
     ensures { result ≡ specs.same_record old.now new.now }
 {
     match old.body() {
