@@ -1,7 +1,8 @@
 ghost use Rattle.std.specs.Prelude.{◌≡◌, not};
 ghost use Rattle.iocm_model.specs.Machine.Configuration.{lookup_of};
 ghost use Rattle.iocm_model.specs.Machine.Numbering.{is_empty, is_record_reached, is_reached_at};
-ghost use Rattle.iocm_model.specs.Machine.PathList.{paths_in, unit_paths, path_list};
+ghost use Rattle.iocm_model.specs.Machine.PathList.{paths_in, unit_record_paths, path_list};
+ghost use Rattle.std.specs.Option.{option_copied};
 
 use iocm_config::Config;
 use iocm_record::{Record, RecordBody};
@@ -14,7 +15,7 @@ pub fn is_reached<A: Allocator>(config: &Config<A>, css: Css, units: &[UnitNo]) 
     ensures { result ≡ not (is_empty (path_list (lookup_of config.now.records) css units.now)) }
 {
     for unit in units {
-        if has_path(config, css, *unit) {
+        if has_path(config.get(&Key::Unit(*unit)), css) {
             return true;
         }
     }
@@ -47,11 +48,11 @@ fn is_device_reached<A: Allocator>(config: &Config<A>, css: Css, entry: &Record<
     }
 }
 
-/// Whether a unit has a path in a channel subsystem; one that isn't there has none.
-fn has_path<A: Allocator>(config: &Config<A>, css: Css, unit: UnitNo) -> bool
-    ensures { result ≡ not (is_empty (unit_paths (lookup_of config.now.records) css unit)) }
+/// Whether a record, if there is one, is that of a unit that has a path in a channel subsystem.
+pub(crate) fn has_path<A: Allocator>(entry: Option<&Record<A>>, css: Css) -> bool
+    ensures { result ≡ not (is_empty (unit_record_paths css (option_copied entry.entry))) }
 {
-    let Some(entry) = config.get(&Key::Unit(unit)) else {
+    let Some(entry) = entry else {
         return false;
     };
     match entry.body() {

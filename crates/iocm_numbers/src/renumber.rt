@@ -8,7 +8,7 @@ ghost use Rattle.iocm_numbers.specs.PutBack.{numbers_at};
 ghost use Rattle.iocm_numbers.specs.Renumbering.{left_by, filled_by, given_by, needs_number};
 ghost use Rattle.iocm_numbers.specs.Renumbering.{AreAllTouched, ChangesComersAlone, Rise};
 
-use crate::reached::is_place_reached;
+use crate::reached_walk::ReachedWalk;
 use crate::{Numbers, Renumbered};
 use iocm_config::Config;
 use iocm_types::Place;
@@ -111,17 +111,19 @@ impl<A: Allocator> Numbers<A> {
         ensures numbers { self.new.numbers ≡ fold (left_by config.now.records) self.old.numbers touched.now }
         ensures room { HasSameRoom self.new self.old }
     {
+        let mut walk = ReachedWalk::new(config);
         for place in touched {
-            self.leave_one(config, place);
+            self.leave_one(&mut walk, place);
         }
     }
 
     /// A device that isn't reached loses its number.
-    fn leave_one<B: Allocator>(&mut self, config: &Config<B>, place: &Place)
-        ensures numbers { self.new.numbers ≡ left_by config.now.records self.old.numbers place.now }
+    fn leave_one<B: Allocator>(&mut self, walk: &mut ReachedWalk<'_, B>, place: &Place)
+        ensures numbers { self.new.numbers ≡ left_by walk.old self.old.numbers place.now }
         ensures room { HasSameRoom self.new self.old }
+        ensures same { walk.new ≡ walk.old }
     {
-        if !is_place_reached(config, *place) {
+        if !walk.is_reached(place) {
             let _ = self.free(*place);
         }
     }
@@ -142,8 +144,9 @@ impl<A: Allocator> Numbers<A> {
         ensures room { KeepsRoom self.old self.new }
     {
         self.are_apart();
+        let mut walk = ReachedWalk::new(config);
         for row in carried {
-            self.carry_one(config, &row.0, row.1)?;
+            self.carry_one(&mut walk, &row.0, row.1)?;
         }
         Ok(())
     }
@@ -151,20 +154,21 @@ impl<A: Allocator> Numbers<A> {
     /// A device that comes in gets the number that it has carried along.
     fn carry_one<B: Allocator>(
         &mut self,
-        config: &Config<B>,
+        walk: &mut ReachedWalk<'_, B>,
         place: &Place,
         number: u16,
     ) -> Result<(), AllocError>
     where
         A: Clone,
-        requires { needs_number config.now.records self.old.numbers place.now ≡ true
+        requires { needs_number walk.old self.old.numbers place.now ≡ true
             → device_at self.old.numbers (cell_at place.now number) ≡ None }
         ensures numbers { OnOk result
-            (self.new.numbers ≡ with_carried config.now.records self.old.numbers (place.now, number)) }
+            (self.new.numbers ≡ with_carried walk.old self.old.numbers (place.now, number)) }
         ensures same { OnErr result (self.new.numbers ≡ self.old.numbers) }
         ensures room { KeepsRoom self.old self.new }
+        ensures walk { walk.new ≡ walk.old }
     {
-        if !self.comes_in(config, place) {
+        if !self.comes_in(walk, place) {
             return Ok(());
         }
         self.room(*place, number)?;
@@ -186,8 +190,9 @@ impl<A: Allocator> Numbers<A> {
         ensures others { ChangesComersAlone config.now.records self.old.numbers self.new.numbers }
         ensures room { KeepsRoom self.old self.new }
     {
+        let mut walk = ReachedWalk::new(config);
         for place in touched {
-            self.fill_one(config, place)?;
+            self.fill_one(&mut walk, place)?;
         }
         Ok(())
     }
@@ -195,16 +200,17 @@ impl<A: Allocator> Numbers<A> {
     /// A device that comes in gets the lowest free number.
     fn fill_one<B: Allocator>(
         &mut self,
-        config: &Config<B>,
+        walk: &mut ReachedWalk<'_, B>,
         place: &Place,
     ) -> Result<(), AllocError>
     where
         A: Clone,
-        ensures numbers { OnOk result (self.new.numbers ≡ filled_by config.now.records self.old.numbers place.now) }
+        ensures numbers { OnOk result (self.new.numbers ≡ filled_by walk.old self.old.numbers place.now) }
         ensures same { OnErr result (self.new.numbers ≡ self.old.numbers) }
         ensures room { KeepsRoom self.old self.new }
+        ensures walk { walk.new ≡ walk.old }
     {
-        if !self.comes_in(config, place) {
+        if !self.comes_in(walk, place) {
             return Ok(());
         }
         // For the proof alone: there are no more devices in a set than device numbers, so one
@@ -221,9 +227,14 @@ impl<A: Allocator> Numbers<A> {
 
     /// Whether a device comes in at a place: it is reached there and has no number yet. The number
     /// is looked up first, since that takes one search.
-    pub(crate) fn comes_in<B: Allocator>(&self, config: &Config<B>, place: &Place) -> bool
-        ensures { result ≡ needs_number config.now.records self.now.numbers place.now }
+    pub(crate) fn comes_in<B: Allocator>(
+        &self,
+        walk: &mut ReachedWalk<'_, B>,
+        place: &Place,
+    ) -> bool
+        ensures needs { result ≡ needs_number walk.old self.now.numbers place.now }
+        ensures same { walk.new ≡ walk.old }
     {
-        self.number_of(*place).is_none() && is_place_reached(config, *place)
+        self.number_of(*place).is_none() && walk.is_reached(place)
     }
 }

@@ -11,6 +11,7 @@ ghost use Rattle.iocm_numbers.specs.Taken.{is_noted, with_noted};
 use crate::Numbers;
 use crate::numbers::cell_of;
 use crate::reached::is_place_reached;
+use crate::reached_walk::ReachedWalk;
 use iocm_config::Config;
 use iocm_table::Table;
 use iocm_types::{DevNo, NumberCell, Place};
@@ -44,8 +45,9 @@ impl<A: Allocator> Numbers<A> {
             (λ row. list_any (same_cell row) (entries (without_leavers config.now.records self.now.numbers)))
             (filter (comes_in config.now.records self.now.numbers) carried.now) }
     {
+        let mut walk = ReachedWalk::new(config);
         for row in carried {
-            if self.comes_in(config, &row.0) && self.is_held(config, row) {
+            if self.comes_in(&mut walk, &row.0) && self.is_held(config, row) {
                 return true;
             }
         }
@@ -77,8 +79,9 @@ impl<A: Allocator> Numbers<A> {
             ≡ has_cell_twice (filter (comes_in config.now.records self.now.numbers) carried.now)) }
     {
         let mut seen = Table::new(alloc);
+        let mut walk = ReachedWalk::new(config);
         for row in carried {
-            if self.note(config, &mut seen, row)? {
+            if self.note(&mut walk, &mut seen, row)? {
                 return Ok(true);
             }
         }
@@ -89,16 +92,17 @@ impl<A: Allocator> Numbers<A> {
     /// before.
     fn note<B: Allocator, C: Allocator + Clone>(
         &self,
-        config: &Config<B>,
+        walk: &mut ReachedWalk<'_, B>,
         seen: &mut Table<NumberCell, (), C>,
         row: &(Place, u16),
     ) -> Result<bool, AllocError>
-        ensures again { IfOk result (λ again. again ≡ (comes_in config.now.records self.now.numbers row.now
+        ensures again { IfOk result (λ again. again ≡ (comes_in walk.old self.now.numbers row.now
             && is_noted (rows cell_cmp seen.old) row.now)) }
         ensures noted { OnOk result (rows cell_cmp seen.new
-            ≡ with_noted config.now.records self.now.numbers (rows cell_cmp seen.old) row.now) }
+            ≡ with_noted walk.old self.now.numbers (rows cell_cmp seen.old) row.now) }
+        ensures same { walk.new ≡ walk.old }
     {
-        if !self.comes_in(config, &row.0) {
+        if !self.comes_in(walk, &row.0) {
             return Ok(false);
         }
         let cell = cell_of(&row.0, row.1);
