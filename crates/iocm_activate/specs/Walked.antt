@@ -1,6 +1,6 @@
 -- A walk through a part of a change tree: what it did to the machine, what it kept of that, and
 -- what it answered.
-use Rattle.std.specs.Prelude.{◌≡◌, ◌≤◌, List, [], ◌++◌, map, drop, length, Option, None, Some, Ok, Err}
+use Rattle.std.specs.Prelude.{◌≡◌, ◌≤◌, ℕ, ◌==◌, if◌then◌else◌, List, [], ◌++◌, map, drop, length, Option, None, Some, Ok, Err}
 use Rattle.iocm_types.specs.declared.refused.Refused.{Refused}
 use Rattle.iocm_model.specs.Operation.State.{State, IsSound}
 use Rattle.iocm_model.specs.Change.Edit.{Edit}
@@ -56,3 +56,8 @@ pub record WasAccepted (t : ChangeTree) (p q : Operating) (log : Log) : Type 0 w
   pub none : first.done.items ≡ []
   pub no_keys : first.keys.items ≡ []
   pub answers : Answers (meaning t p.state) p first q log None
+
+-- from which place on the rules may be broken after one edit more, which left all records as they
+-- were
+abbrev pub kept_through : Log → Log → ℕ
+kept_through old new = if old.kept == length old.keys.items then length new.keys.items else old.kept

@@ -6,12 +6,14 @@ ghost use Rattle.iocm_plant.specs.Refusing.{IsDue};
 ghost use Rattle.iocm_activate.specs.Walked.{Answers, Ran, WereKept};
 
 use crate::log::Log;
+use crate::unchanged::leaves_its_record;
 use iocm_plant::{Plant, what_happens_between};
 use iocm_tree::Edit;
 use iocm_types::{Refused, Rule};
 use std::alloc::{AllocError, Allocator, Global};
 
-/// Performs the edit of a leaf. The answer is why it is refused, if it is.
+/// Performs the edit of a leaf. The answer is why it is refused, if it is. Where it leaves the
+/// record under its key as it was, the rules needn't be looked at for it.
 ///
 /// `AllocError` (M1): memory ran out.
 pub fn perform<A: Allocator>(
@@ -35,6 +37,10 @@ pub fn perform<A: Allocator>(
     let key = copy.key();
     match plant.apply(alloc, copy) {
         Ok(applied) => {
+            if leaves_its_record(edit, &applied) {
+                log.note_unchanged(key, applied);
+                return Ok(None);
+            }
             log.note(key, applied);
             Ok(None)
         }

@@ -28,6 +28,7 @@ mod making;
 mod rules;
 mod taking_back;
 mod turned;
+mod unchanged;
 mod walk;
 mod whole_tree;
 

@@ -1,4 +1,5 @@
 ghost use Rattle.std.specs.Prelude.{◌≡◌, ◌<◌, ◌++◌, ◌∷◌, [], length, OnOk};
+ghost use Rattle.iocm_activate.specs.Walked.{kept_through};
 ghost use Rattle.std.specs.Vec.{vec_len, vec_capacity};
 
 use iocm_plant::Applied;
@@ -73,5 +74,21 @@ impl Log {
     {
         self.done.push_reserved(applied);
         self.keys.push_reserved(key);
+    }
+
+    /// Tells of one more edit, for which there is room, and which left all records as they were. Where
+    /// the rules were kept before it, they are kept after it. Can't run out of memory.
+    pub fn note_unchanged(&mut self, key: Key, applied: Applied)
+        requires room { vec_len self.old.done < vec_capacity self.old.done }
+        requires key_room { vec_len self.old.keys < vec_capacity self.old.keys }
+        ensures done { self.new.done.items ≡ self.old.done.items ++ applied ∷ [] }
+        ensures keys { self.new.keys.items ≡ self.old.keys.items ++ key ∷ [] }
+        ensures kept { self.new.kept ≡ kept_through self.old self.new }
+    {
+        let was_kept = self.kept == self.keys.len();
+        self.note(key, applied);
+        if was_kept {
+            self.kept = self.keys.len();
+        }
     }
 }

@@ -48,7 +48,7 @@ named_places t r (thing ∷ things) has = (
 )
 
 -- the namings of a record that stands in a configuration have places in its index
-record_has_room : (c : Configuration) (t : Stored Naming (Unit {0})) (key : Key) → IsKeyed c → IsIndexOf c t → RowsHavePlaces naming_cmp t
+pub record_has_room : (c : Configuration) (t : Stored Naming (Unit {0})) (key : Key) → IsKeyed c → IsIndexOf c t → RowsHavePlaces naming_cmp t
     → (o : Option Rec) → get c key ≡ o → HasNamingRoom t.places o
 record_has_room c t key keyed index have None is = tt
 record_has_room c t key keyed index have (Some r) is = named_places t r (named_by r) (λ thing among.

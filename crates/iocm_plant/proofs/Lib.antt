@@ -8,6 +8,7 @@ mod Inside
 mod Opening
 mod Performed
 mod Placed
+mod PutAlike
 mod ReachKept
 mod Records
 mod Refused

@@ -20,7 +20,7 @@ use Rattle.iocm_model.proofs.Machine.OwnKeys.{keyed_own}
 use Rattle.iocm_index.specs.Namings.{naming, is_naming_of, is_linked}
 use Rattle.iocm_lookup.specs.Indexed.{names, IsIndexOf}
 use Rattle.iocm_affected.specs.Alike.{IsSeenAlike}
-use Rattle.iocm_plant.specs.Alike.{address_of}
+use Rattle.iocm_plant.specs.Alike.{address_of, AreAlike, IsPutAlike}
 
 -- ---- the namings of a record
 
@@ -104,7 +104,7 @@ same_number : (a b : ℕ) → ◌≡◌ {A = Option ℕ} (Some a) (Some b) → a
 same_number a b e = cc
 
 -- devices of the same control units, unit address and candidates name the same things
-pub named_alike : (old new : Rec) → IsSeenAlike old new → address_of old ≡ address_of new → named_by old ≡ named_by new
+named_alike : (old new : Rec) → IsSeenAlike old new → address_of old ≡ address_of new → named_by old ≡ named_by new
 named_alike old new alike same =
     ap named_by alike.old_is
     ∙ (λ i. map unit_named (alike.units i) ++ map (address_named (address i)) (alike.units i) ++ map image_named (unwrap_or (alike.candidates i) []))
@@ -121,3 +121,14 @@ linked c t u r index more n =
     ∙ in_by c t n r (eq_by_cmp key_cmp n.user (key_of r)) (names n.named (Some r)) refl
     (index n ∙ ap (names n.named) (get-remove keys_total c (key_of r) n.user))
     ∙ ap (names n.named) (sym (get-insert keys_total c (key_of r) r n.user))
+
+-- such devices are alike
+pub alike : (old new : Rec) → IsSeenAlike old new → address_of old ≡ address_of new → AreAlike old new
+alike old new seen same = record { seen = seen; named = named_alike old new seen same }
+
+-- a record that comes in the place of such a one
+pub put_alike_linked : (c : Configuration) (t : Stored Naming (Unit {0})) (r : Rec) → IsPutAlike (get c (key_of r)) (Some r) → IsIndexOf c t
+    → IsIndexOf (insert c (key_of r) r) t
+put_alike_linked c t r x index =
+    let is : x.new ≡ r = cc in
+    alike_linked c t x.old r x.was_there (x.alike.named ∙ ap named_by is) index

@@ -15,6 +15,7 @@
 //! then `plant.rt`, `performing.rt` and `unapply.rt`. What names no source is our own.
 #![tactic(auto)]
 
+mod alike;
 mod following;
 mod laws;
 mod obstacle;

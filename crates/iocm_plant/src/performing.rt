@@ -1,5 +1,6 @@
-ghost use Rattle.std.specs.Prelude.{◌≡◌, None, Some, IfOk, IfErr, OnOk, OnErr, if◌then◌else◌};
+ghost use Rattle.std.specs.Prelude.{◌≡◌, [], true, is_some, None, Some, IfOk, IfErr, OnOk, OnErr, if◌then◌else◌};
 ghost use Rattle.std.specs.FinMap as map;
+ghost use Rattle.std.specs.Option.{option_copied};
 ghost use Rattle.std.specs.List.Sorted.{IsStrictlySortedBy};
 ghost use Rattle.iocm_types.specs.Key.{key_cmp};
 ghost use Rattle.iocm_types.specs.Naming.{naming_cmp};
@@ -14,20 +15,23 @@ ghost use Rattle.iocm_affected.specs.Affected.{AreAllAffected};
 ghost use Rattle.iocm_lookup.specs.Indexed.{IsIndexOf};
 ghost use Rattle.iocm_numbers.specs.LookedAt.{cells_at};
 ghost use Rattle.iocm_tree.specs.Carried.{action_of};
+ghost use Rattle.iocm_plant.specs.Alike.{IsPutAlike};
 ghost use Rattle.iocm_plant.specs.Operating.{HasNamingRoom, HasPlaceIn, KeepsPlaces, KeepsRoom};
 ghost use Rattle.iocm_plant.specs.Performing.{HasMadeOrder, Performs, made_of};
 ghost use Rattle.iocm_plant.specs.Refusing.{refusal_when, Hinders, IsDue};
 ghost use Rattle.iocm_plant.specs.declared.quiet.Quiet.TheVariants as quiet;
 
+use crate::alike::is_put_alike;
 use crate::following::{Brought, Followed, LookedAt, Told, follow};
 use crate::obstacle::Obstacle;
 use crate::quiet::Quiet;
-use crate::record::{change_back, exchange_record};
+use crate::record::{change_back, exchange_known};
 use crate::{Applied, Plant};
-use iocm_affected::affected_by;
+use iocm_affected::{Affected, affected_by};
 use iocm_config::Config;
 use iocm_index::Index;
 use iocm_numbers::{Numbers, Renumbered};
+use iocm_record::Record;
 use iocm_tree::{Action, Edit, Parts, Verb};
 use iocm_types::{At, Key, Refused, Rule};
 use std::alloc::{AllocError, Global};
@@ -79,12 +83,21 @@ impl Plant {
         self.numbers.have_room();
         self.index.has_places();
         self.seats.has_places();
-        if let Some(why) = key_refusal(&self.config, &edit) {
+        let key = edit.key();
+        let before = self.config.get(&key);
+        if let Some(why) = key_refusal(before, &edit) {
             return Err(Obstacle::Refused(why));
         }
-        let at = look(alloc, &self.config, &self.index, &self.numbers, &edit)?;
-        make_record_places(&mut self.config, &mut self.index, &edit)?;
-        let key = edit.key();
+        let is_alike = is_put_alike(before, edit.after());
+        let at = look(
+            alloc,
+            &self.config,
+            &self.index,
+            &self.numbers,
+            &edit,
+            is_alike,
+        )?;
+        make_record_places(&mut self.config, &mut self.index, &edit, is_alike)?;
         let Parts {
             action,
             places,
@@ -98,7 +111,7 @@ impl Plant {
             kept,
             quiet,
         };
-        let back = exchange_record(&mut self.config, &mut self.index, action);
+        let back = exchange_known(&mut self.config, &mut self.index, action, is_alike);
         self.reach.renew(&self.config, &key);
         match follow(
             alloc,
@@ -119,13 +132,12 @@ impl Plant {
     }
 }
 
-/// E1 or E2, if the key of an edit is in its way.
-fn key_refusal(config: &Config, edit: &Edit) -> Option<Refused>
-    ensures { result ≡ refusal_by_key edit.now.edit.action
-        (map.contains_key config.now.records (action_key edit.now.edit.action)) }
+/// E1 or E2, if what stands under the key of an edit is in its way.
+fn key_refusal(before: Option<&Record>, edit: &Edit) -> Option<Refused>
+    ensures { result ≡ refusal_by_key edit.now.edit.action (is_some (option_copied before.entry)) }
 {
     let key = edit.key();
-    let is_there = config.get(&key).is_some();
+    let is_there = before.is_some();
     match edit.verb() {
         Verb::Add => refusal_if(is_there, Rule::E1, key),
         Verb::Delete => refusal_if(!is_there, Rule::E2, key),
@@ -143,21 +155,30 @@ fn refusal_if(is_so: bool, rule: Rule, key: Key) -> Option<Refused>
     Some(Refused::about(rule, At::Key(key)))
 }
 
-/// Where an edit is looked for.
+/// Where an edit is looked for: nowhere, where it puts a device in the place of one that is seen
+/// alike.
 fn look(
     alloc: Global,
     config: &Config,
     index: &Index,
     numbers: &Numbers,
     edit: &Edit,
+    is_alike: bool,
 ) -> Result<LookedAt, AllocError>
-    requires { IsIndexOf config.now.records index.now }
+    requires index { IsIndexOf config.now.records index.now }
+    requires alike { is_alike ≡ true → IsPutAlike
+        (map.get config.now.records (action_key edit.now.edit.action)) (record_after edit.now.edit.action) }
     ensures affected { IfOk result (λ at. AreAllAffected config.now.records
         (config_after edit.now.edit.action config.now.records) at.affected.places.items at.affected.images.items) }
     ensures places { IfOk result (λ at. IsStrictlySortedBy place_cmp at.affected.places.items) }
     ensures images { IfOk result (λ at. IsStrictlySortedBy image_cmp at.affected.images.items) }
     ensures cells { IfOk result (λ at. at.cells.items ≡ cells_at numbers.now.numbers at.affected.places.items) }
 {
+    if is_alike {
+        // For the proof alone: each record stands under its own key.
+        config.has_own_keys();
+        return Ok(nowhere(alloc));
+    }
     let key = edit.key();
     let affected = affected_by(alloc, config, index, &key, edit.after())?;
     let mut cells = Vec::new(alloc);
@@ -165,8 +186,32 @@ fn look(
     Ok(LookedAt { affected, cells })
 }
 
-/// Gives the key of an edit and what its record names places, where they have none.
-fn make_record_places(config: &mut Config, index: &mut Index, edit: &Edit) -> Result<(), AllocError>
+/// No place, no image and no number cell.
+fn nowhere(alloc: Global) -> LookedAt
+    ensures places { result.affected.places.items ≡ [] }
+    ensures images { result.affected.images.items ≡ [] }
+    ensures cells { result.cells.items ≡ [] }
+{
+    LookedAt {
+        affected: Affected {
+            places: Vec::new(alloc),
+            images: Vec::new(alloc),
+        },
+        cells: Vec::new(alloc),
+    }
+}
+
+/// Gives the key of an edit and what its record names places, where they have none. They have them
+/// where it puts a device in the place of one that names the same things.
+fn make_record_places(
+    config: &mut Config,
+    index: &mut Index,
+    edit: &Edit,
+    is_alike: bool,
+) -> Result<(), AllocError>
+    requires index { IsIndexOf config.old.records index.old }
+    requires alike { is_alike ≡ true → IsPutAlike
+        (map.get config.old.records (action_key edit.now.edit.action)) (record_after edit.now.edit.action) }
     ensures config { config.new.records ≡ config.old.records }
     ensures index { rows naming_cmp index.new ≡ rows naming_cmp index.old }
     ensures key { OnOk result (HasPlaceIn key_cmp config.new.places (action_key edit.now.edit.action)) }
@@ -174,6 +219,14 @@ fn make_record_places(config: &mut Config, index: &mut Index, edit: &Edit) -> Re
     ensures same_keys { KeepsPlaces key_cmp config.old.places config.new.places }
     ensures same_namings { KeepsPlaces naming_cmp index.old.places index.new.places }
 {
+    if is_alike {
+        // For the proof alone: whatever is there has a place, and each record stands under its own
+        // key.
+        config.has_places();
+        config.has_own_keys();
+        index.has_places();
+        return Ok(());
+    }
     config.room(edit.key())?;
     if let Some(entry) = edit.after() {
         index.room(entry)?;

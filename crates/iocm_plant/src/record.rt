@@ -1,19 +1,18 @@
 ghost use Rattle.std.specs.Prelude.{◌≡◌, true, Some, None};
 ghost use Rattle.std.specs.FinMap.{get, insert, remove};
 ghost use Rattle.iocm_types.specs.Key.{key_cmp};
-ghost use Rattle.iocm_model.specs.Machine.Naming.{named_by};
 ghost use Rattle.iocm_model.specs.Machine.Record.{key_of};
 ghost use Rattle.iocm_model.specs.Change.Edit.{action_key, config_after, record_after};
 ghost use Rattle.iocm_model.specs.Change.Inverse.{action_back};
 ghost use Rattle.iocm_lookup.specs.Indexed.{IsIndexOf};
 ghost use Rattle.iocm_tree.specs.Carried.{action_of};
-ghost use Rattle.iocm_plant.specs.Alike.{address_of};
+ghost use Rattle.iocm_plant.specs.Alike.{IsPutAlike};
 ghost use Rattle.iocm_plant.specs.Operating.{HasPlaceIn, HasNamingRoom};
 
-use iocm_affected::is_seen_alike;
+use crate::alike::is_put_alike;
 use iocm_config::Config;
 use iocm_index::Index;
-use iocm_record::{Record, RecordBody};
+use iocm_record::Record;
 use iocm_tree::Action;
 use iocm_types::Key;
 
@@ -31,17 +30,42 @@ pub fn exchange_record(config: &mut Config, index: &mut Index, action: Action) -
     ensures keys { config.new.places ≡ config.old.places }
     ensures namings { index.new.places ≡ index.old.places }
 {
+    let is_alike = is_put_alike(config.get(&action.key()), action.after());
+    exchange_known(config, index, action, is_alike)
+}
+
+/// Does the same where it is known whether a device comes in the place of one that is seen alike and
+/// names the same things. Then the index isn't touched.
+pub fn exchange_known(
+    config: &mut Config,
+    index: &mut Index,
+    action: Action,
+    is_alike: bool,
+) -> Action
+    requires index { IsIndexOf config.old.records index.old }
+    requires alike { is_alike ≡ true → IsPutAlike
+        (get config.old.records (action_key (action_of action))) (record_after (action_of action)) }
+    requires key { HasPlaceIn key_cmp config.old.places (action_key (action_of action)) }
+    requires namings { HasNamingRoom index.old.places (record_after (action_of action)) }
+    ensures config { config.new.records ≡ config_after (action_of action) config.old.records }
+    ensures index { IsIndexOf config.new.records index.new }
+    ensures back { action_of result ≡ action_back (action_key (action_of action))
+        (get config.old.records (action_key (action_of action))) (record_after (action_of action)) }
+    ensures keys { config.new.places ≡ config.old.places }
+    ensures namings { index.new.places ≡ index.old.places }
+{
     match action {
-        Action::Add(entry) => put_record(config, index, entry),
+        Action::Add(entry) => put_record(config, index, entry, is_alike),
         Action::Delete(key) => take_record(config, index, key),
-        Action::Modify(entry) => put_record(config, index, entry),
+        Action::Modify(entry) => put_record(config, index, entry, is_alike),
     }
 }
 
 /// Puts a record in under its key, and gives the action that takes it out again or puts back the
 /// one that was there.
-fn put_record(config: &mut Config, index: &mut Index, entry: Record) -> Action
+fn put_record(config: &mut Config, index: &mut Index, entry: Record, is_alike: bool) -> Action
     requires index { IsIndexOf config.old.records index.old }
+    requires alike { is_alike ≡ true → IsPutAlike (get config.old.records (key_of entry)) (Some entry) }
     requires key { HasPlaceIn key_cmp config.old.places (key_of entry) }
     requires namings { HasNamingRoom index.old.places (Some entry) }
     ensures config { config.new.records ≡ insert config.old.records (key_of entry) entry }
@@ -51,7 +75,7 @@ fn put_record(config: &mut Config, index: &mut Index, entry: Record) -> Action
     ensures namings { index.new.places ≡ index.old.places }
 {
     let key = entry.key();
-    relink_record(config, index, &entry);
+    relink_record(config, index, &entry, is_alike);
     match config.put(entry) {
         Some(old) => Action::Modify(old),
         None => Action::Delete(key),
@@ -59,38 +83,21 @@ fn put_record(config: &mut Config, index: &mut Index, entry: Record) -> Action
 }
 
 /// Takes what the record of a key names out of the index, if there is one, and puts in what its new
-/// record names. Where this is the same nothing is to be done.
-fn relink_record(config: &Config, index: &mut Index, entry: &Record)
+/// record names. Where a device comes in the place of one that names the same things, nothing is to
+/// be done.
+fn relink_record(config: &Config, index: &mut Index, entry: &Record, is_alike: bool)
     requires index { IsIndexOf config.now.records index.old }
+    requires alike { is_alike ≡ true → IsPutAlike (get config.now.records (key_of entry.now)) (Some entry.now) }
     requires namings { HasNamingRoom index.old.places (Some entry.now) }
     ensures index { IsIndexOf (insert config.now.records (key_of entry.now) entry.now) index.new }
     ensures namings { index.new.places ≡ index.old.places }
 {
-    let key = entry.key();
-    if let Some(old) = config.get(&key) {
-        if names_alike(old, entry) {
-            return;
-        }
+    if is_alike {
+        return;
     }
+    let key = entry.key();
     unlink_record(config, index, &key);
     index.link(entry);
-}
-
-/// Whether two records are devices that name the same things. Of other records it isn't asked.
-fn names_alike(old: &Record, new: &Record) -> bool
-    ensures { result ≡ true → named_by old.now ≡ named_by new.now }
-{
-    is_seen_alike(old, new) && unit_address(old) == unit_address(new)
-}
-
-/// The unit address of a device.
-fn unit_address(entry: &Record) -> Option<u8>
-    ensures { result ≡ address_of entry.now }
-{
-    match entry.body() {
-        RecordBody::Device(fields) => Some(fields.unit_address),
-        _ => None,
-    }
 }
 
 /// Takes the record of a key out, if there is one, and gives the action that puts it back.

@@ -1,11 +1,13 @@
 use Rattle.std.proofs.Common.{[], ◌∷◌, ◌++◌, Some, None, refl, ap, subst, ◌∙◌}
-use Rattle.iocm_model.specs.Change.Edit.{Edit}
+use Rattle.std.specs.FinMap.{get}
+use Rattle.iocm_model.specs.Change.Edit.{Edit, action_key, record_after}
 use Rattle.iocm_model.specs.Change.Meaning.{unless_refused}
 use Rattle.iocm_model.specs.Change.Refusal.{refusal_of}
+use Rattle.iocm_model.proofs.Change.EditsGoBack.{back_record}
 use Rattle.iocm_model.proofs.Change.RunsGoBack.{accepted_carry}
 use Rattle.iocm_tree.specs.Carried.{Carried}
 use Rattle.iocm_activate.specs.Walked.{Answers}
-use Rattle.iocm_activate.proofs.Kept.{kept_still, kept_before}
+use Rattle.iocm_activate.proofs.Kept.{kept_still, kept_before, kept_unchanged}
 use Rattle.iocm_activate.proofs.Leaves.{on_err, leaf_done, leaf_refused}
 use Rattle.iocm_activate.proofs.Runs.{ran_nothing, ran_one}
 use Rattle.iocm_activate.proofs.leaf.perform.Goals as goal
@@ -38,8 +40,31 @@ returns-in_err-unless_no_memory-in-Err-clause-kept g c =
     kept_still c.args.log.now c.room.new.self c.args.plant.now.state c.apply.new.self.state c.requires.kept c.room.ensures.keys c.room.ensures.kept
     c.in-Err.ensures.same
 
-pub returns-in-Ok-clause-answers : goal.returns-in-Ok-clause-answers
-returns-in-Ok-clause-answers g c =
+pub returns-then-leaves_its_record-clause-answers : goal.returns-then-leaves_its_record-clause-answers
+returns-then-leaves_its_record-clause-answers g c =
+    let s = c.args.plant.now.state in let e = c.in_ok-copy.copy.edit in
+    subst (λ (d : Edit). Answers (unless_refused (refusal_of d s) c.args.node d s) c.args.plant.now c.args.log.now c.apply.new.self c.note_unchanged.new.self None)
+    (ap (λ (i : Carried). i.edit) c.in_ok-copy.ensures) (record {
+      ran = ran_one c.args.plant.now c.args.log.now c.apply.new.self c.note_unchanged.new.self e c.in-Ok.applied c.key-key.result c.is_sound.ensures
+          c.in-Ok.ensures.accepted c.in-Ok.ensures.performs c.apply.ensures.room
+          (c.note_unchanged.ensures.done ∙ ap (λ ds. ds ++ c.in-Ok.applied ∷ []) c.room.ensures.done) c.key-key.ensures
+          (c.note_unchanged.ensures.keys ∙ ap (λ ks. ks ++ c.key-key.result ∷ []) c.room.ensures.keys);
+      means = leaf_done c.args.node s c.apply.new.self.state e c.in-Ok.ensures.accepted c.in-Ok.ensures.performs.state;
+    })
+
+pub returns-then-leaves_its_record-clause-kept : goal.returns-then-leaves_its_record-clause-kept
+returns-then-leaves_its_record-clause-kept g c =
+    let s = c.args.plant.now.state in let e = c.in_ok-copy.copy.edit in
+    kept_unchanged c.room.new.self c.note_unchanged.new.self s c.apply.new.self.state e c.key-key.result
+    (kept_still c.args.log.now c.room.new.self s s c.requires.kept c.room.ensures.keys c.room.ensures.kept refl)
+    (accepted_carry (e ∷ []) s (c.in-Ok.ensures.accepted, tt)) c.in-Ok.ensures.performs.state
+    (ap (λ (i : Carried). record_after i.edit.action) c.in_ok-copy.ensures ∙ c.leaves_its_record.ensures c.if-leaves_its_record.true
+    ∙ ap (λ (i : Edit). record_after i.action) c.in-Ok.ensures.performs.inverse
+    ∙ back_record (action_key e.action) (get s.config (action_key e.action)) (record_after e.action))
+    c.note_unchanged.ensures.keys c.key-key.ensures c.note_unchanged.ensures.kept
+
+pub returns-else-leaves_its_record-clause-answers : goal.returns-else-leaves_its_record-clause-answers
+returns-else-leaves_its_record-clause-answers g c =
     let s = c.args.plant.now.state in let e = c.in_ok-copy.copy.edit in
     subst (λ (d : Edit). Answers (unless_refused (refusal_of d s) c.args.node d s) c.args.plant.now c.args.log.now c.apply.new.self c.note.new.self None)
     (ap (λ (i : Carried). i.edit) c.in_ok-copy.ensures) (record {
@@ -50,8 +75,8 @@ returns-in-Ok-clause-answers g c =
       means = leaf_done c.args.node s c.apply.new.self.state e c.in-Ok.ensures.accepted c.in-Ok.ensures.performs.state;
     })
 
-pub returns-in-Ok-clause-kept : goal.returns-in-Ok-clause-kept
-returns-in-Ok-clause-kept g c =
+pub returns-else-leaves_its_record-clause-kept : goal.returns-else-leaves_its_record-clause-kept
+returns-else-leaves_its_record-clause-kept g c =
     kept_before c.args.log.now c.note.new.self c.args.plant.now.state c.apply.new.self.state c.in_ok-copy.copy.edit c.key-key.result c.requires.kept
     (accepted_carry (c.in_ok-copy.copy.edit ∷ []) c.args.plant.now.state (c.in-Ok.ensures.accepted, tt)) c.in-Ok.ensures.performs.state
     (c.note.ensures.keys ∙ ap (λ ks. ks ++ c.key-key.result ∷ []) c.room.ensures.keys) c.key-key.ensures
