@@ -1,4 +1,4 @@
-ghost use Rattle.std.specs.Prelude.{◌≡◌, Some};
+ghost use Rattle.std.specs.Prelude.{◌≡◌, Some, is_some};
 ghost use Rattle.std.specs.Option.{option_copied, option_map};
 ghost use Rattle.iocm_model.specs.Machine.Configuration.{lookup_of};
 ghost use Rattle.iocm_model.specs.Machine.View.{device_record};
@@ -89,6 +89,13 @@ impl<'a, A: Allocator, B: Allocator> ReachedCell<'a, A, B> {
         ensures { result ≡ self.now.cell }
     {
         self.cell
+    }
+
+    /// Whether there is a device. Where there is none, no image sees anything.
+    pub fn has_device(&self) -> bool
+        ensures { result ≡ is_some self.now.device }
+    {
+        self.device.is_some()
     }
 
     /// What the image of a MIF image ID, which has this name, sees there, if there is a device and
