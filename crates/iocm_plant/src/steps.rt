@@ -20,7 +20,10 @@ impl Plant {
         let Some(seat) = self.seats.get_mut(&subchannel) else {
             return Io::Code(3);
         };
-        live::order(&mut seat.live, &seat.view, order)
+        let mut left = seat.live();
+        let answer = live::order(&mut left, &seat.view(), order);
+        seat.set_live(left);
+        answer
     }
 
     /// The device of a subchannel begins what it was started for: a start that is pending becomes
@@ -35,7 +38,10 @@ impl Plant {
         let Some(seat) = self.seats.get_mut(&subchannel) else {
             return false;
         };
-        live::device_begin(&mut seat.live)
+        let mut left = seat.live();
+        let answer = live::device_begin(&mut left);
+        seat.set_live(left);
+        answer
     }
 
     /// The device of a subchannel ends a function that is in progress: its status is pending then.
@@ -50,6 +56,9 @@ impl Plant {
         let Some(seat) = self.seats.get_mut(&subchannel) else {
             return false;
         };
-        live::device_end(&mut seat.live)
+        let mut left = seat.live();
+        let answer = live::device_end(&mut left);
+        seat.set_live(left);
+        answer
     }
 }

@@ -8,6 +8,7 @@ pub mod Lending
 pub mod Listed
 pub mod Loops
 pub mod Maps
+pub mod Named
 pub mod Opened
 pub mod Ordered
 pub mod Remembered

@@ -42,12 +42,12 @@ same_css a b test is failed = eqb-true a b (by (a == b) (sym is ∙ failed))
     by false h = cc
 
 -- the same by what the images of a channel subsystem share at the cell
-pub change_there : (v : SubId → Option View) (c : Configuration) (n : Numbering) → IsKeyed c → (im : Image) (name : Option (List ℕ)) (s : SightedCell) (cell : NumberCell)
-    → name ≡ name_at (lookup_of c) im → s ≡ sighted_cell c n s.cell → cell ≡ s.cell → cell.css ≡ im.css
-    → (after : Option View) → after ≡ option_and_then (seen_there s) name
+pub change_there : (v : SubId → Option View) (c : Configuration) (n : Numbering) → IsKeyed c → (im : Image) (s : SightedCell) (cell : NumberCell)
+    → s ≡ sighted_cell c n s.cell → cell ≡ s.cell → cell.css ≡ im.css
+    → (after : Option View) → after ≡ option_and_then (seen_there s) (name_at (lookup_of s.records) im)
     → (o : Option ViewChange) → o ≡ change_from (v (subchannel_at im cell)) after (subchannel_at im cell)
     → filter_map (change_at v (view_at c n)) (candidates (im ∷ []) (s.cell ∷ [])) ≡ cons_option o []
-change_there v c n keyed im name s cell named sight own there after seen o is =
+change_there v c n keyed im s cell sight own there after seen o is =
     let here : s.cell.css ≡ im.css = sym (ap (λ (k : NumberCell). k.css) own) ∙ there in
-    let shown : after ≡ view_at c n (subchannel_at im s.cell) = seen ∙ (λ j. option_and_then (seen_there (sight j)) (named j)) ∙ seen_at_cell c n im s.cell here keyed in
+    let shown : after ≡ view_at c n (subchannel_at im s.cell) = seen ∙ (λ j. option_and_then (seen_there (sight j)) (name_at (lookup_of (sight j).records) im)) ∙ seen_at_cell c n im s.cell here keyed in
     one_change (change_at v (view_at c n)) im s.cell here o (sym (is ∙ (λ j. change_from (v (subchannel_at im (own j))) (shown j) (subchannel_at im (own j)))))

@@ -7,7 +7,7 @@ use Rattle.iocm_types.specs.declared.sub_id.SubId.{SubId}
 use Rattle.iocm_seats.specs.Seated.{Seated}
 use Rattle.iocm_seats.specs.declared.seat.Seat.{Seat}
 use Rattle.iocm_seats.specs.contracts.seats.Seats as seats
-use Rattle.iocm_seats.specs.contracts.seat.Seat as seat
+use Rattle.iocm_seats.specs.contracts.kept_seat.KeptSeat as kept
 
 -- one subchannel has this seat now, and the same subchannels have places
 pub record IsChangedAt (before : Seated) (x : SubId) (after : Seated) (now : Seat) : Type 0 where
@@ -23,4 +23,4 @@ pub record IsUnchanged (before after : Seated) : Type 0 where
 -- they are
 abbrev pub lends_seat : (A : RattleType) → alloc.Ghosts A.Denot → MutBor Seated → SubId → Option (MutBor Seat) → Fml
 lends_seat A heap s x r =
-    LendsSo (seats.the_row A heap) seat.the_row s r (λ n w. OnSome r (IsChangedAt s.now x n w)) (IsUnchanged s.now)
+    LendsSo (seats.the_row A heap) kept.the_row s r (λ n w. OnSome r (IsChangedAt s.now x n w)) (IsUnchanged s.now)

@@ -1,4 +1,5 @@
 pub mod Changes
+pub mod EnabledPhases
 pub mod Exchange
 pub mod Lent
 pub mod Listing

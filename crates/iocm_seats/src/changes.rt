@@ -1,5 +1,5 @@
 ghost use Rattle.std.specs.Prelude.{◌≡◌, [], ◌∷◌, ◌++◌, map, None, Some, IfOk, OnOk};
-ghost use Rattle.std.specs.List.{cons_option};
+ghost use Rattle.std.specs.List.{cons_option, list_any, AllByRecursion};
 ghost use Rattle.std.specs.List.Sorted.{IsStrictlySortedBy};
 ghost use Rattle.std.specs.Option.{option_copied, option_eq, option_and_then};
 ghost use Rattle.std.specs.FinMap.{get};
@@ -10,20 +10,19 @@ ghost use Rattle.iocm_model.specs.Machine.Configuration.{IsKeyed, lookup_of};
 ghost use Rattle.iocm_model.specs.Machine.View as model;
 ghost use Rattle.iocm_derive.specs.Derived.{name_at};
 ghost use Rattle.iocm_reach.specs.SightedCells.{sighted_cell, seen_there};
-ghost use Rattle.iocm_reach.specs.Reached.{image_in};
 ghost use Rattle.iocm_reach.specs.Tabled.{IsReachOf};
 ghost use Rattle.iocm_model.specs.Operation.State.{views_of};
 ghost use Rattle.iocm_seats.specs.Seated.{views_seated, lives_seated};
 ghost use Rattle.iocm_seats.specs.Settling.{lives_met, met_at};
 ghost use Rattle.iocm_seats.specs.Changes.{candidates, changes_at, change_from, changes_between, AreCandidates};
-ghost use Rattle.iocm_seats.specs.Sights.{AreSights, cells_of_sights};
+ghost use Rattle.iocm_seats.specs.Sights.{cells_of_sights, has_device_in, AreSights, IsNamedAt};
 
 use crate::{Seat, Seats, ViewChange};
 use iocm_config::Config;
 use iocm_derive::ImageNames;
 use iocm_numbers::Numbers;
 use iocm_reach::{ReachTable, ReachedCell};
-use iocm_types::{Image, Live, Name, NumberCell, SubId, View};
+use iocm_types::{Css, Image, Live, Name, NumberCell, SubId, View};
 use std::alloc::{AllocError, Allocator, Global};
 
 /// A change that is tried: the seats as they were before it, the configuration, the numbers and the
@@ -44,7 +43,8 @@ pub struct Altered<D: Allocator> {
     pub met: Vec<(SubId, Live), D>,
 }
 
-/// An image, and its name if it is there.
+/// An image, and its name if it is there. The name may be left out where the image's channel
+/// subsystem has no device at the number cells that are looked at.
 #[derive(Drop)]
 struct NamedImage {
     image: Image,
@@ -122,11 +122,42 @@ fn list_at_images<A: Allocator, B: Allocator, C: Allocator, D: Allocator + Clone
     for image in images {
         let named = NamedImage {
             image: *image,
-            name: names.name(image),
+            name: name_for(&mut names, image, sights),
         };
         list_at_cells(&mut altered, tried, &named, sights)?;
     }
     Ok(altered)
+}
+
+/// The name of an image, if it is there. It is looked up only where the image's channel subsystem
+/// has a device at one of these number cells: where no cell has one, nothing is seen.
+fn name_for<A: Allocator, B: Allocator>(
+    names: &mut ImageNames<'_, A>,
+    image: &Image,
+    sights: &[ReachedCell<'_, A, B>],
+) -> Option<Name>
+    requires { AllByRecursion (λ s. s.records ≡ names.old) sights.now }
+    ensures name { AllByRecursion (IsNamedAt image.now result) sights.now }
+    ensures same { names.new ≡ names.old }
+{
+    if !any_has_device(image.css, sights) {
+        return None;
+    }
+    names.name(image)
+}
+
+/// Whether a channel subsystem has a device at one of some number cells.
+fn any_has_device<A: Allocator, B: Allocator>(css: Css, sights: &[ReachedCell<'_, A, B>]) -> bool
+    ensures { result ≡ list_any (has_device_in css) sights.now }
+{
+    sights.iter().any(|sight| has_device_in(css, sight))
+}
+
+/// Whether a number cell is one of a channel subsystem, and has a device.
+fn has_device_in<A: Allocator, B: Allocator>(css: Css, sight: &ReachedCell<'_, A, B>) -> bool
+    ensures { result ≡ has_device_in css sight.now }
+{
+    sight.cell().css == css && sight.has_device()
 }
 
 /// Puts the changes of an image at some number cells behind those that are listed.
@@ -139,7 +170,7 @@ fn list_at_cells<A: Allocator, B: Allocator, C: Allocator, D: Allocator>(
     requires met { altered.old.met.items
         ≡ lives_met (lives_seated tried.now.seats.now.seats) altered.old.changes.items }
     requires keyed { IsKeyed tried.now.config.now.records }
-    requires name { named.now.name ≡ name_at (lookup_of tried.now.config.now.records) named.now.image }
+    requires name { AllByRecursion (IsNamedAt named.now.image named.now.name) sights.now }
     requires sights { AreSights tried.now.config.now.records tried.now.numbers.now.numbers sights.now }
     ensures changes { OnOk result (altered.new.changes.items ≡ altered.old.changes.items ++ changes_at
         tried.now.seats.now.seats tried.now.config.now.records tried.now.numbers.now.numbers
@@ -164,7 +195,7 @@ fn list_at_cell<A: Allocator, B: Allocator, C: Allocator, D: Allocator>(
     requires met { altered.old.met.items
         ≡ lives_met (lives_seated tried.now.seats.now.seats) altered.old.changes.items }
     requires keyed { IsKeyed tried.now.config.now.records }
-    requires name { named.now.name ≡ name_at (lookup_of tried.now.config.now.records) named.now.image }
+    requires name { IsNamedAt named.now.image named.now.name sight.now }
     requires sight { sight.now
         ≡ sighted_cell tried.now.config.now.records tried.now.numbers.now.numbers sight.now.cell }
     ensures changes { OnOk result (altered.new.changes.items ≡ altered.old.changes.items ++ changes_at
@@ -184,7 +215,7 @@ fn list_at_cell<A: Allocator, B: Allocator, C: Allocator, D: Allocator>(
     };
     let after = view_there(named, sight);
     match tried.seats.get(&subchannel) {
-        Some(seat) => list_seated(altered, &subchannel, seat, after)?,
+        Some(seat) => list_seated(altered, &subchannel, &seat, after)?,
         None => list_new(altered, &subchannel, after)?,
     }
     Ok(())
@@ -192,9 +223,13 @@ fn list_at_cell<A: Allocator, B: Allocator, C: Allocator, D: Allocator>(
 
 /// What an image sees at a number cell of its channel subsystem.
 fn view_there<B: Allocator>(named: &NamedImage, sight: &ReachedCell<'_, B, Global>) -> Option<View>
-    requires { named.now.name ≡ name_at (lookup_of sight.now.records) (image_in sight.now.cell.css named.now.image.mif) }
-    ensures { result ≡ option_and_then (seen_there sight.now) named.now.name }
+    requires css { named.now.image.css ≡ sight.now.cell.css }
+    requires name { IsNamedAt named.now.image named.now.name sight.now }
+    ensures { result ≡ option_and_then (seen_there sight.now) (name_at (lookup_of sight.now.records) named.now.image) }
 {
+    if !sight.has_device() {
+        return None;
+    }
     match &named.name {
         Some(name) => sight.view(named.image.mif, *name),
         None => None,

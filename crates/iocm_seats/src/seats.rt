@@ -1,12 +1,12 @@
 ghost use Rattle.std.specs.Prelude.{◌≡◌, [], IsOk, OnErr, OnOk};
 ghost use Rattle.std.specs.Borrow.{sem};
-ghost use Rattle.std.specs.Option.{option_copied, option_copied_mut};
+ghost use Rattle.std.specs.Option.{option_copied_mut};
 ghost use Rattle.std.specs.FinMap as map;
 ghost use Rattle.iocm_seats.specs.Lent.{lends_seat};
 ghost use Rattle.iocm_seats.specs.Listing.{with_seat};
 ghost use Rattle.iocm_seats.specs.Seated.{views_seated, lives_seated, HasPlace, KeepsPlaces, SeatsHavePlaces};
 
-use crate::Seat;
+use crate::{KeptSeat, Seat};
 use iocm_grid::Grid;
 use iocm_types::{Live, SubId, View};
 use std::alloc::{AllocError, Allocator, Global};
@@ -17,7 +17,7 @@ use std::marker::Model;
 /// place, which can be given a seat without memory.
 #[derive(Drop)]
 pub struct Seats<A: Allocator = Global> {
-    grid: Grid<Seat, A>,
+    grid: Grid<KeptSeat, A>,
 }
 
 impl<A: Allocator> Model for Seats<A> {
@@ -56,7 +56,7 @@ impl<A: Allocator> Seats<A> {
         ensures seats { OnOk result (self.new.seats ≡ with_seat self.old.seats (subchannel, seat)) }
         ensures err { OnErr result (self.new.seats ≡ self.old.seats) }
     {
-        let _ = self.grid.add(&subchannel, seat)?;
+        let _ = self.grid.add(&subchannel, KeptSeat::new(&seat))?;
         Ok(())
     }
 
@@ -68,14 +68,17 @@ impl<A: Allocator> Seats<A> {
     }
 
     /// The seat of a subchannel, if it has one.
-    pub fn get(&self, subchannel: &SubId) -> Option<&Seat>
-        ensures { option_copied result ≡ map.get self.now.seats subchannel.now }
+    pub fn get(&self, subchannel: &SubId) -> Option<Seat>
+        ensures { result ≡ map.get self.now.seats subchannel.now }
     {
-        self.grid.get(subchannel)
+        match self.grid.get(subchannel) {
+            Some(kept) => Some(kept.seat()),
+            None => None,
+        }
     }
 
     /// The seat of a subchannel, to be changed in its place. Can't run out of memory.
-    pub fn get_mut(&mut self, subchannel: &SubId) -> Option<&mut Seat>
+    pub fn get_mut(&mut self, subchannel: &SubId) -> Option<&mut KeptSeat>
         ensures* writes_back { sem 𝓛 (lends_seat A.row A.Allocator self.entry subchannel.now result) }
         ensures value { option_copied_mut result ≡ map.get self.old.seats subchannel.now }
     {
@@ -86,8 +89,8 @@ impl<A: Allocator> Seats<A> {
     pub fn view(&self, subchannel: SubId) -> Option<View>
         ensures { result ≡ map.get (views_seated self.now.seats) subchannel }
     {
-        match self.get(&subchannel) {
-            Some(seat) => Some(seat.view),
+        match self.grid.get(&subchannel) {
+            Some(kept) => Some(kept.view()),
             None => None,
         }
     }
@@ -96,8 +99,8 @@ impl<A: Allocator> Seats<A> {
     pub fn live(&self, subchannel: SubId) -> Option<Live>
         ensures { result ≡ map.get (lives_seated self.now.seats) subchannel }
     {
-        match self.get(&subchannel) {
-            Some(seat) => Some(seat.live),
+        match self.grid.get(&subchannel) {
+            Some(kept) => Some(kept.live()),
             None => None,
         }
     }
@@ -133,7 +136,10 @@ impl<A: Allocator> Seats<A> {
         ensures seats { self.new.seats ≡ map.insert self.old.seats subchannel.now seat }
         ensures places { self.new.places ≡ self.old.places }
     {
-        self.grid.put(subchannel, seat)
+        match self.grid.put(subchannel, KeptSeat::new(&seat)) {
+            Some(kept) => Some(kept.seat()),
+            None => None,
+        }
     }
 
     /// Takes the seat of a subchannel out, if it has one. Its place stays. Can't run out of
@@ -143,6 +149,9 @@ impl<A: Allocator> Seats<A> {
         ensures seats { self.new.seats ≡ map.remove self.old.seats subchannel.now }
         ensures places { self.new.places ≡ self.old.places }
     {
-        self.grid.take(subchannel)
+        match self.grid.take(subchannel) {
+            Some(kept) => Some(kept.seat()),
+            None => None,
+        }
     }
 }

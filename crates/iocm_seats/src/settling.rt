@@ -1,5 +1,5 @@
 ghost use Rattle.std.specs.Prelude.{◌≡◌, OnOk, Some, None};
-ghost use Rattle.std.specs.Option.{option_copied, option_map};
+ghost use Rattle.std.specs.Option.{option_map};
 ghost use Rattle.std.specs.FinMap.{get};
 ghost use Rattle.iocm_types.specs.SubId.{sub_id_cmp};
 ghost use Rattle.iocm_table.specs.Slots.{rows};
@@ -85,14 +85,14 @@ fn settle<A: Allocator>(seats: &mut Seats<A>, change: &ViewChange, own: Option<L
 
 /// The live record of an altered subchannel: the one that comes along, or else a fresh one where
 /// it had none, or else its own, with LPM equal to PIM where its path list changed.
-fn live_after(old: Option<&Seat>, new: &View, own: Option<Live>) -> Live
-    ensures { result ≡ live_of_altered (option_map (λ s. s.view) (option_copied old.entry)) new.now own
-        (option_map (λ s. s.live) (option_copied old.entry)) }
+fn live_after(old: Option<Seat>, new: &View, own: Option<Live>) -> Live
+    ensures { result ≡ live_of_altered (option_map (λ s. s.view) old) new.now own
+        (option_map (λ s. s.live) old) }
 {
     match (own, old) {
         (Some(live), _) => live,
         (None, None) => fresh(new.pim),
-        (None, Some(seat)) => own_live(seat, new),
+        (None, Some(seat)) => own_live(&seat, new),
     }
 }
 

@@ -8,7 +8,12 @@ use Rattle.iocm_seats.specs.Seated.{views_seated}
 use Rattle.iocm_seats.specs.Changes.{change_at, candidates}
 use Rattle.iocm_seats.specs.Sights.{cells_of_sights}
 use Rattle.iocm_seats.proofs.Loops.{candidates_image, listed_more}
+use Rattle.iocm_seats.proofs.Named.{same_records}
 use Rattle.iocm_seats.proofs.changes.list_at_images.Goals as goal
+
+pub name_for-requires : goal.name_for-requires
+name_for-requires g c = same_records c.args.tried.now.config.now.records c.args.tried.now.numbers.now.numbers c.loop-image.names c.loop-image.invariant.names
+    c.args.sights.now c.requires.sights
 
 pub loop-image-preserved : goal.loop-image-preserved
 loop-image-preserved g c =
@@ -18,6 +23,6 @@ loop-image-preserved g c =
           (λ x xs. ap (filter_map change) (candidates_image x xs (cells_of_sights c.args.sights.now)) ∙ filter_map-append change (candidates (x ∷ []) (cells_of_sights c.args.sights.now)) (candidates xs (cells_of_sights c.args.sights.now)))
           c.args.images.now c.loop-image.image-index c.image-item.result c.loop-image-test.true c.image-item.is c.loop-image.altered.changes.items c.list_at_cells.new.altered.changes.items _
           c.in_ok-list_at_cells.ensures.changes c.loop-image.invariant.left;
-      names = c.name.ensures.same ∙ c.loop-image.invariant.names;
+      names = c.name_for.ensures.same ∙ c.loop-image.invariant.names;
       met = c.in_ok-list_at_cells.ensures.met;
     }

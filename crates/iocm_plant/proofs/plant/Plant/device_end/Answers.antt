@@ -1,13 +1,15 @@
-use Rattle.std.proofs.Common.{sym, ap, ◌∙◌}
+use Rattle.std.proofs.Common.{sym, ap, subst, ◌∙◌}
 use Rattle.std.specs.Option.{option_copied_mut}
+use Rattle.iocm_types.specs.declared.live.Live.{Live}
+use Rattle.iocm_model.specs.Operation.Orders as orders
 use Rattle.iocm_model.specs.Operation.Step as step
 use Rattle.iocm_model.specs.Operation.Step.{ends_function}
-use Rattle.iocm_seats.specs.declared.seat.Seat.{Seat}
+use Rattle.iocm_seats.specs.Lent.{IsChangedAt}
 use Rattle.iocm_plant.proofs.Between.{same_places_are_kept}
 use Rattle.iocm_plant.proofs.Stepping.{FoundNone, FoundSeat, changed_seat, none_there, still_operating, state_still, same_room, one_there}
 use Rattle.iocm_plant.proofs.Stepping.{operating_after, state_after_step, room_as_before}
 use Rattle.iocm_plant.proofs.plant.Plant.device_end.Goals as goal
-use Rattle.iocm_plant.proofs.plant.Plant.device_end.Goals.{In_default, After-device_end}
+use Rattle.iocm_plant.proofs.plant.Plant.device_end.Goals.{In_default, After-set_live}
 
 -- the subchannel isn't there
 none : (c : In_default) → FoundNone c.args.self.now c.self.inside c.args.subchannel c.get_mut.follows.lender-at-none
@@ -19,19 +21,15 @@ none c = record {
   same_places = c.get_mut.follows.holds-at-none.places;
 }
 
--- the seat with the live record that is left
-abbrev left : After-device_end → Seat
-left c = record { view = c.in-Some.seat.now.view; live = c.device_end.new.live }
-
 -- its seat got that
-seat : (c : After-device_end) → FoundSeat c.args.self.now c.self.inside c.args.subchannel c.in-Some.seat.now c.device_end.new.live
-    (c.get_mut.follows.lender (left c))
+seat : (c : After-set_live) → FoundSeat c.args.self.now c.self.inside c.args.subchannel c.in-Some.seat.now c.device_end-answer.new.live (c.get_mut.follows.lender c.set_live.new.self)
 seat c = record {
   is = c.self.view_is;
   before = c.self.invariant.0;
   here = sym c.get_mut.ensures.value ∙ ap option_copied_mut c.in-Some.is;
-  changed = changed_seat c.get_mut.result c.in-Some.seat c.in-Some.is c.self.inside.seats c.args.subchannel (c.get_mut.follows.lender (left c)) (left c)
-      (c.get_mut.follows.holds (left c));
+  changed = subst (IsChangedAt c.self.inside.seats c.args.subchannel (c.get_mut.follows.lender c.set_live.new.self)) c.set_live.ensures
+      (changed_seat c.get_mut.result c.in-Some.seat c.in-Some.is c.self.inside.seats c.args.subchannel (c.get_mut.follows.lender c.set_live.new.self) c.set_live.new.self
+      (c.get_mut.follows.holds c.set_live.new.self));
 }
 
 pub invariant_of-self : goal.invariant_of-self
@@ -47,18 +45,18 @@ pub returns-in_default-clause-room : goal.returns-in_default-clause-room
 returns-in_default-clause-room c = same_room (none (goal.at.returns-in_default-clause-room c).In_default)
 
 pub invariant_of-self-2 : goal.invariant_of-self-2
-invariant_of-self-2 c = (operating_after (seat (goal.at.invariant_of-self-2 c).After-device_end), c.self.invariant.1)
+invariant_of-self-2 c = (operating_after (seat (goal.at.invariant_of-self-2 c).After-set_live), c.self.invariant.1)
 
 pub returns-clause-answer : goal.returns-clause-answer
-returns-clause-answer c = c.device_end.ensures.answer
-    ∙ sym (ap ends_function (one_there (seat (goal.at.returns-clause-answer c).After-device_end)))
+returns-clause-answer c = c.device_end-answer.ensures.answer ∙ ap (λ (l : Live). orders.is_busy l.phase) c.live-left.ensures
+    ∙ sym (ap ends_function (one_there (seat (goal.at.returns-clause-answer c).After-set_live)))
 
 pub returns-clause-state : goal.returns-clause-state
-returns-clause-state c = state_after_step (seat (goal.at.returns-clause-state c).After-device_end) step.device_end
-    c.device_end.ensures.left
+returns-clause-state c = state_after_step (seat (goal.at.returns-clause-state c).After-set_live) step.device_end
+    (c.device_end-answer.ensures.left ∙ ap orders.live_after_device_end c.live-left.ensures)
 
 pub returns-clause-room : goal.returns-clause-room
-returns-clause-room c = room_as_before (seat (goal.at.returns-clause-room c).After-device_end)
+returns-clause-room c = room_as_before (seat (goal.at.returns-clause-room c).After-set_live)
 
 pub returns-in_default-clause-kept : goal.returns-in_default-clause-kept
 returns-in_default-clause-kept c = same_places_are_kept _ _ (returns-in_default-clause-room c)

@@ -1,13 +1,14 @@
-use Rattle.std.proofs.Common.{sym, ap, ◌∙◌}
+use Rattle.std.proofs.Common.{sym, ap, subst, ◌∙◌}
 use Rattle.std.specs.Option.{option_copied_mut}
+use Rattle.iocm_model.specs.Operation.Orders as orders
 use Rattle.iocm_model.specs.Operation.Step as step
 use Rattle.iocm_model.specs.Operation.Step.{order_answer}
-use Rattle.iocm_seats.specs.declared.seat.Seat.{Seat}
+use Rattle.iocm_seats.specs.Lent.{IsChangedAt}
 use Rattle.iocm_plant.proofs.Between.{same_places_are_kept}
 use Rattle.iocm_plant.proofs.Stepping.{FoundNone, FoundSeat, changed_seat, none_there, still_operating, state_still, same_room, one_there}
 use Rattle.iocm_plant.proofs.Stepping.{operating_after, state_after_step, room_as_before}
 use Rattle.iocm_plant.proofs.plant.Plant.step.Goals as goal
-use Rattle.iocm_plant.proofs.plant.Plant.step.Goals.{In_default, After-order}
+use Rattle.iocm_plant.proofs.plant.Plant.step.Goals.{In_default, After-set_live}
 
 -- the subchannel isn't there
 none : (c : In_default) → FoundNone c.args.self.now c.self.inside c.args.subchannel c.get_mut.follows.lender-at-none
@@ -19,18 +20,15 @@ none c = record {
   same_places = c.get_mut.follows.holds-at-none.places;
 }
 
--- the seat with the live record that is left
-abbrev left : After-order → Seat
-left c = record { view = c.in-Some.seat.now.view; live = c.order.new.live }
-
 -- its seat got that
-seat : (c : After-order) → FoundSeat c.args.self.now c.self.inside c.args.subchannel c.in-Some.seat.now c.order.new.live (c.get_mut.follows.lender (left c))
+seat : (c : After-set_live) → FoundSeat c.args.self.now c.self.inside c.args.subchannel c.in-Some.seat.now c.order-answer.new.live (c.get_mut.follows.lender c.set_live.new.self)
 seat c = record {
   is = c.self.view_is;
   before = c.self.invariant.0;
   here = sym c.get_mut.ensures.value ∙ ap option_copied_mut c.in-Some.is;
-  changed = changed_seat c.get_mut.result c.in-Some.seat c.in-Some.is c.self.inside.seats c.args.subchannel (c.get_mut.follows.lender (left c)) (left c)
-      (c.get_mut.follows.holds (left c));
+  changed = subst (IsChangedAt c.self.inside.seats c.args.subchannel (c.get_mut.follows.lender c.set_live.new.self)) c.set_live.ensures
+      (changed_seat c.get_mut.result c.in-Some.seat c.in-Some.is c.self.inside.seats c.args.subchannel (c.get_mut.follows.lender c.set_live.new.self) c.set_live.new.self
+      (c.get_mut.follows.holds c.set_live.new.self));
 }
 
 pub invariant_of-self : goal.invariant_of-self
@@ -46,18 +44,18 @@ pub returns-in_default-clause-room : goal.returns-in_default-clause-room
 returns-in_default-clause-room c = same_room (none (goal.at.returns-in_default-clause-room c).In_default)
 
 pub invariant_of-self-2 : goal.invariant_of-self-2
-invariant_of-self-2 c = (operating_after (seat (goal.at.invariant_of-self-2 c).After-order), c.self.invariant.1)
+invariant_of-self-2 c = (operating_after (seat (goal.at.invariant_of-self-2 c).After-set_live), c.self.invariant.1)
 
 pub returns-clause-answer : goal.returns-clause-answer
-returns-clause-answer c = c.order.ensures.answer
-    ∙ sym (ap (order_answer c.args.order) (one_there (seat (goal.at.returns-clause-answer c).After-order)))
+returns-clause-answer c = c.order-answer.ensures.answer ∙ (λ i. orders.answer_of c.args.order (c.view.ensures i) (c.live-left.ensures i))
+    ∙ sym (ap (order_answer c.args.order) (one_there (seat (goal.at.returns-clause-answer c).After-set_live)))
 
 pub returns-clause-state : goal.returns-clause-state
-returns-clause-state c = state_after_step (seat (goal.at.returns-clause-state c).After-order) (step.order c.args.order)
-    c.order.ensures.left
+returns-clause-state c = state_after_step (seat (goal.at.returns-clause-state c).After-set_live) (step.order c.args.order)
+    (c.order-answer.ensures.left ∙ (λ i. orders.live_after c.args.order (c.view.ensures i) (c.live-left.ensures i)))
 
 pub returns-clause-room : goal.returns-clause-room
-returns-clause-room c = room_as_before (seat (goal.at.returns-clause-room c).After-order)
+returns-clause-room c = room_as_before (seat (goal.at.returns-clause-room c).After-set_live)
 
 pub returns-in_default-clause-kept : goal.returns-in_default-clause-kept
 returns-in_default-clause-kept c = same_places_are_kept _ _ (returns-in_default-clause-room c)

@@ -1,0 +1,45 @@
+-- Whether a subchannel is enabled, and its phase, by the byte that keeps both.
+use Rattle.std.specs.Prelude.{Bool, false, true}
+use Rattle.iocm_types.specs.declared.live.Function.TheVariants as function
+use Rattle.iocm_types.specs.declared.live.Phase.{Phase}
+use Rattle.iocm_types.specs.declared.live.Phase.TheVariants.{Idle, StartPending, StartActive, Halt, Clear, Pending}
+use Rattle.iocm_seats.specs.declared.enabled_phase.EnabledPhase.{EnabledPhase}
+use Rattle.iocm_seats.specs.declared.enabled_phase.EnabledPhase.TheVariants.{DisabledIdle, DisabledStartPending, DisabledStartActive, DisabledHalt, DisabledClear, DisabledStartEnded, DisabledHaltEnded, DisabledClearEnded, EnabledIdle, EnabledStartPending, EnabledStartActive, EnabledHalt, EnabledClear, EnabledStartEnded, EnabledHaltEnded, EnabledClearEnded}
+
+-- whether it is enabled
+abbrev pub is_enabled : EnabledPhase → Bool
+is_enabled DisabledIdle = false
+is_enabled DisabledStartPending = false
+is_enabled DisabledStartActive = false
+is_enabled DisabledHalt = false
+is_enabled DisabledClear = false
+is_enabled DisabledStartEnded = false
+is_enabled DisabledHaltEnded = false
+is_enabled DisabledClearEnded = false
+is_enabled EnabledIdle = true
+is_enabled EnabledStartPending = true
+is_enabled EnabledStartActive = true
+is_enabled EnabledHalt = true
+is_enabled EnabledClear = true
+is_enabled EnabledStartEnded = true
+is_enabled EnabledHaltEnded = true
+is_enabled EnabledClearEnded = true
+
+-- its phase
+abbrev pub phase_of : EnabledPhase → Phase
+phase_of DisabledIdle = Idle
+phase_of DisabledStartPending = StartPending
+phase_of DisabledStartActive = StartActive
+phase_of DisabledHalt = Halt
+phase_of DisabledClear = Clear
+phase_of DisabledStartEnded = Pending function.Start
+phase_of DisabledHaltEnded = Pending function.Halt
+phase_of DisabledClearEnded = Pending function.Clear
+phase_of EnabledIdle = Idle
+phase_of EnabledStartPending = StartPending
+phase_of EnabledStartActive = StartActive
+phase_of EnabledHalt = Halt
+phase_of EnabledClear = Clear
+phase_of EnabledStartEnded = Pending function.Start
+phase_of EnabledHaltEnded = Pending function.Halt
+phase_of EnabledClearEnded = Pending function.Clear
