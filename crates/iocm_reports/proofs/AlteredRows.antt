@@ -1,12 +1,14 @@
 -- What is seen first where edits altered something is what was seen before all of them.
-use Rattle.std.proofs.Common.{◌≡◌, Bool, true, false, cond, ◌||◌, List, [], ◌∷◌, ◌++◌, map, Option, Some, None, is_some, T, refl, sym, ap, ◌∙◌}
+use Rattle.std.proofs.Common.{◌≡◌, Bool, true, false, cond, ◌||◌, List, [], ◌∷◌, ◌++◌, map, Option, Some, None, is_some, T, append-nil, refl, sym, ap, subst, ◌∙◌}
 use Rattle.std.specs.List.{flat_map, list_any}
 use Rattle.std.specs.Map.{keys_of}
 use Rattle.std.specs.Option.{option_or}
 use Rattle.std.specs.Ordering.{eq_by_cmp}
 use Rattle.std.specs.declared.cmp.Ordering.{Ordering}
 use Rattle.std.specs.Cmp.{IsTotalOrder}
-use Rattle.std.specs.FinMap.{FinMap, IsAntisymmetric, find, is_sorted, get, entries, entries_sorted, keys, same_map, get-entries, get-from_entries, contains_key-keys}
+use Rattle.std.specs.FinMap.{FinMap, IsAntisymmetric, find, is_sorted, get, entries, entries_sorted, keys, get-entries, get-from_entries, contains_key-keys}
+use Rattle.std.specs.FinMap.Entries.{same_entries}
+use Rattle.std.specs.List.Sorted.{IsStrictlySortedBy}
 use Rattle.std.proofs.lemmas.Bool.{not-false}
 use Rattle.std.proofs.lemmas.List.Folds.{list_any-append}
 use Rattle.iocm_types.specs.declared.sub_id.SubId.{SubId}
@@ -23,12 +25,14 @@ use Rattle.iocm_model.specs.Operation.State.{State, Views, views_in, seen_in, is
 use Rattle.iocm_model.proofs.Change.SameViews.{sight_is}
 use Rattle.iocm_model.proofs.Maps.Cells.{get_cells_at, in_differing}
 use Rattle.iocm_seats.specs.Changes.{view_change, changes_between}
-use Rattle.iocm_seats.proofs.Ordered.{keys_rise, same_members}
+use Rattle.iocm_seats.proofs.Ordered.{differing_rise, keys_rise, same_members}
 use Rattle.iocm_plant.specs.declared.touched.Touched.{Touched}
 use Rattle.iocm_activate.specs.Done.{AreToldBy}
 use Rattle.iocm_activate.specs.Told.{Told, told_of_all}
 use Rattle.iocm_reports.specs.Altered.{altered_rows}
-use Rattle.iocm_reports.specs.First.{Seen, seen_before, seen_before_edits, row_of}
+use Rattle.iocm_reports.specs.First.{seen_before, seen_before_edits, row_of}
+use Rattle.iocm_reports.specs.ImageOrder.{SeenRow}
+use Rattle.iocm_reports.proofs.FirstRows.{in_order}
 
 from_cond : {A : Type 0} (b : Bool) (x v : A) → cond b (Some x) None ≡ Some v → v ≡ x
 from_cond true x v h = cc
@@ -112,14 +116,36 @@ rows_made : (s t : State) (xs : List SubId) → map (row_of t) (map (λ x. (x, s
 rows_made s t [] = refl
 rows_made s t (x ∷ xs) = ap (λ rs. view_change (get (views_in s)) (get (views_in t)) x ∷ rs) (rows_made s t xs)
 
--- the rows of what was seen first are those of the subchannels that were altered
-pub rows_are : (performed : List Touched) (first : Seen) → ((x : SubId) → get first x ≡ find sub_id_cmp x (seen_before_edits performed))
-    → (es : List Edit) (s t : State) → AreToldBy performed (told_of_all es s) → map (row_of t) (entries first) ≡ altered_rows es s t
-rows_are performed first is es s t told =
+-- the rows of what was seen first, in order, are those of the subchannels that were altered
+pub rows_are : (performed : List Touched) (rows : List SeenRow) → IsStrictlySortedBy sub_id_cmp (keys_of rows)
+    → ((x : SubId) → find sub_id_cmp x rows ≡ find sub_id_cmp x (seen_before_edits performed))
+    → (es : List Edit) (s t : State) → AreToldBy performed (told_of_all es s) → map (row_of t) rows ≡ altered_rows es s t
+rows_are performed rows rise is es s t told =
     let xs = (cells_written_by_all es s).subchannels in
-    let same : first ≡ cells_at (views_in s) xs = same_map sub_ids_total sub_ids_exact first (cells_at (views_in s) xs)
-    (λ x. is x ∙ ap (find sub_id_cmp x) (told_is performed (told_of_all es s) told) ∙ first_is es s x ∙ sym (get_cells_at sub_ids_total sub_ids_exact (views_in s) xs x)) in
-    ap (λ (m : Seen). map (row_of t) (entries m)) same
+    let cells = cells_at (views_in s) xs in
+    let same : rows ≡ entries cells = same_entries sub_id_cmp sub_ids_total sub_ids_exact rows (entries cells) (in_order sub_id_cmp rows rise) (entries_sorted cells)
+    (λ x. is x ∙ ap (find sub_id_cmp x) (told_is performed (told_of_all es s) told) ∙ first_is es s x ∙ sym (get_cells_at sub_ids_total sub_ids_exact (views_in s) xs x) ∙ get-entries cells x) in
+    ap (map (row_of t)) same
     ∙ ap (map (row_of t)) (cells_rows sub_ids_total sub_ids_exact (views_in s) xs)
-    ∙ rows_made s t (keys (cells_at (views_in s) xs))
+    ∙ rows_made s t (keys cells)
     ∙ ap (map (view_change (get (views_in s)) (get (views_in t)))) (same_keys sub_ids_total sub_ids_exact (views_in s) (state_after_all es s).lives xs)
+
+-- ---- one edit
+
+given_keys : (v : SubId → Option View) (xs : List SubId) → keys_of (map (λ x. (x, v x)) xs) ≡ xs
+given_keys v [] = refl
+given_keys v (x ∷ xs) = ap (λ ys. x ∷ ys) (given_keys v xs)
+
+-- what was seen before an edit is told in order
+told_in_order : (v w : Views) → IsStrictlySortedBy sub_id_cmp (keys_of (seen_before (changes_between v w)))
+told_in_order v w =
+    let xs = differing same_view v w in
+    subst (IsStrictlySortedBy sub_id_cmp) (sym (ap keys_of (before_is (get v) (get w) xs) ∙ given_keys (get v) xs)) (differing_rise sub_id_cmp same_view v w)
+
+-- and so it is of one edit alone
+pub one_is_in_order : (d : Touched) (es : List Edit) (s : State) → AreToldBy (d ∷ []) (told_of_all es s)
+    → IsStrictlySortedBy sub_id_cmp (keys_of (seen_before_edits (d ∷ [])))
+one_is_in_order d [] s told = absurd told
+one_is_in_order d (e ∷ es) s told =
+    let t = state_after e s in
+    subst (λ rows. IsStrictlySortedBy sub_id_cmp (keys_of rows)) (sym (append-nil (seen_before d.subchannels.items) ∙ ap seen_before told.0.1)) (told_in_order (views_in s) (views_in t))

@@ -1,43 +1,101 @@
--- Rows that are put into a map from the last to the first: of those of one key the first stays.
-use Rattle.std.proofs.Common.{◌≡◌, T, cond, List, [], ◌∷◌, reverse, Some, None, refl, sym, ap, subst, ◌∙◌}
-use Rattle.std.proofs.lemmas.List.{reverse-append}
-use Rattle.std.proofs.lemmas.Map.{update_all_push}
-use Rattle.std.proofs.lemmas.Map.Keys.{sorted_head, sorted_tail}
-use Rattle.std.specs.BTreeMap.{BTreeMap, IsOrdered, is_at}
-use Rattle.std.specs.declared.cmp.Ordering.{Ordering}
-use Rattle.std.specs.declared.cmp.Ordering.TheVariants.{Less}
-use Rattle.std.specs.FinMap.{find, from_sorted, get, get-from_sorted, is_sorted}
+-- Rows under keys that are sorted, and of which the first of each key is kept.
+use Rattle.std.proofs.Common.{◌≡◌, ◌+◌, ◌<◌, Bool, true, false, cond, not, ◌&&◌, List, [], ◌∷◌, length, Option, Some, T, refl, sym, ap, ap₂, subst, ◌∙◌, arith}
+use Rattle.std.proofs.lemmas.List.{get_or-map, length-map}
+use Rattle.std.proofs.lemmas.List.Kept.{IsStrictlySortedBy-dedup}
+use Rattle.std.proofs.lemmas.List.Sorted.{ranks_by}
+use Rattle.std.proofs.lemmas.Map.Keys.{sorted_from_all_adjacent, sorted_head, sorted_tail}
+use Rattle.std.specs.Cmp.{IsStrictWeakOrder, IsTotalOrder, on_total, tied_itself}
+use Rattle.std.specs.FinMap.{IsAntisymmetric, find, is_sorted}
 use Rattle.std.specs.FinMap.Entries.{below_all}
-use Rattle.std.specs.List.{AllByRecursion}
-use Rattle.std.specs.List.Sorted.{IsStrictlySortedBy}
-use Rattle.std.specs.Map.{keys_of, lookup, update_all}
-use Rattle.std.specs.Ordering.{eq_by_cmp, is_eq, is_lt}
+use Rattle.std.specs.List.{AllAdjacentBelow, AllByRecursion, dedup, dedup_from}
+use Rattle.std.specs.List.Sorted.{IsSortedBy, IsStableBy, IsStrictlySortedBy}
+use Rattle.std.specs.Map.{keys_of}
+use Rattle.std.specs.Ordering.{eq_by_cmp, is_lt}
+use Rattle.std.specs.declared.cmp.Ordering.{Ordering}
+use Rattle.std.specs.declared.cmp.Ordering.TheVariants.{Less, Equal, Greater}
+use Rattle.iocm_types.proofs.Found.{same_key}
 use Rattle.iocm_types.proofs.Tests.{both_hold}
+use Rattle.iocm_reports.proofs.Passing.{finds_passing}
 
-module _ {K X : Type 0} (R : K → K → Ordering) (turned : (x y : K) → eq_by_cmp R x y ≡ eq_by_cmp R y x) where
-  pub first_stays : (ps : List (K × X)) (q : K) → update_all (eq_by_cmp R) (λ _. None) (reverse ps) q ≡ find R q ps
-  first_stays [] q = refl
-  first_stays (p ∷ ps) q =
-      ap (λ xs. update_all (eq_by_cmp R) (λ _. None) xs q) (reverse-append (p ∷ []) ps)
-      ∙ sym (update_all_push (eq_by_cmp R) (λ _. None) (update_all (eq_by_cmp R) (λ _. None) (reverse ps)) (reverse ps) p q refl)
-      ∙ (λ i. cond (turned p.0 q i) (Some p.1) (first_stays ps q i))
+less_is : (r : Ordering) → is_lt r ≡ true → r ≡ Less
+less_is Less h = refl
+less_is Equal h = cc
+less_is Greater h = cc
 
--- ---- a map in memory as a finite map
+-- a key is not below itself
+not_itself : {K : Type 0} (R : K → K → Ordering) → IsTotalOrder R → (k : K) → (not (is_lt (R k k)) && not (is_lt (R k k))) ≡ true
+not_itself R total k = ap (λ r. not (is_lt r) && not (is_lt r)) (tied_itself total k)
+
+module _ {K X : Type 0} (R : K → K → Ordering) (total : IsTotalOrder R) where
+  -- a row is below another if its key is
+  abbrev pub is_below : K × X → K × X → Bool
+  is_below r s = is_lt (R r.0 s.0)
+
+  pub ranks : IsStrictWeakOrder is_below
+  ranks = ranks_by total (λ r. r.0)
+
+  -- two rows have one key
+  abbrev pub have_one_key : K × X → K × X → Bool
+  have_one_key r s = eq_by_cmp R r.0 s.0
+
+  -- rows of which each is below the next have keys in order
+  pub neighbours_rise : (rows : List (K × X)) → AllAdjacentBelow (λ r s. true ≡ is_below r s) rows (length rows) → IsStrictlySortedBy R (keys_of rows)
+  unfolding IsStrictlySortedBy
+  neighbours_rise [] all = tt
+  neighbours_rise (r ∷ rest) all = sorted_from_all_adjacent total (keys_of (r ∷ rest)) r.0 (λ k within.
+      let rows = r ∷ rest in
+      let inside : k + 1 < length rows = subst (λ n. k + 1 < n) (length-map rows (λ e. e.0)) within in
+      ap₂ R (get_or-map (λ e. e.0) rows k r r.0 (omega (arith, inside))) (get_or-map (λ e. e.0) rows (k + 1) r r.0 inside) ∙ less_is _ (sym (all k r inside)))
+
+  -- ---- a stable sort
+
+  -- rows that tie stand as they stood, so the same row is the first of its key
+  pub first_is_kept : IsAntisymmetric R → (v : X) (rows sorted : List (K × X)) → IsStableBy is_below rows sorted → (q : K) → find R q sorted ≡ find R q rows
+  first_is_kept exact v rows sorted stable q =
+      let test : K → Bool = λ k. not (is_lt (R q k)) && not (is_lt (R k q)) in
+      sym (finds_passing R exact test q (not_itself R total q) sorted) ∙ ap (find R q) (stable (q, v)) ∙ finds_passing R exact test q (not_itself R total q) rows
+
+  -- ---- each kept once
+
+  covered : (first second : Bool) (x y : X) (rest : Option X) → second ≡ first → cond first (Some x) rest ≡ cond first (Some x) (cond second (Some y) rest)
+  covered true second x y rest e = refl
+  covered false second x y rest e = sym (ap (λ b. cond b (Some y) rest) e)
+
+  found_from : IsAntisymmetric R → (q : K) (e : K × X) (rows : List (K × X)) → find R q (dedup_from have_one_key e rows) ≡ find R q (e ∷ rows)
+  found_from exact q e [] = refl
+  found_from exact q e (r ∷ rows) = by (have_one_key r e) refl (found_from exact q e rows) (found_from exact q r rows)
+    where
+      by : (b : Bool) → have_one_key r e ≡ b → find R q (dedup_from have_one_key e rows) ≡ find R q (e ∷ rows) → find R q (dedup_from have_one_key r rows) ≡ find R q (r ∷ rows)
+          → find R q (cond b (dedup_from have_one_key e rows) (e ∷ dedup_from have_one_key r rows)) ≡ find R q (e ∷ r ∷ rows)
+      by true one here next = here ∙ covered (eq_by_cmp R q e.0) (eq_by_cmp R q r.0) e.1 r.1 (find R q rows) (ap (eq_by_cmp R q) (same_key R exact r.0 e.0 one))
+      by false one here next = ap (cond (eq_by_cmp R q e.0) (Some e.1)) next
+
+  -- where of rows in turn with one key the first is kept, the same row is the first of its key
+  pub first_is_found : IsAntisymmetric R → (q : K) (rows : List (K × X)) → find R q (dedup have_one_key rows) ≡ find R q rows
+  first_is_found exact q [] = refl
+  first_is_found exact q (r ∷ rows) = found_from exact q r rows
+
+  keys_below : (k : K) (rows : List (K × X)) → AllByRecursion (λ r. R k r.0 ≡ Less) rows → AllByRecursion (λ key. R k key ≡ Less) (keys_of rows)
+  keys_below k [] all = tt
+  keys_below k (r ∷ rows) all = (all.0, keys_below k rows all.1)
+
+  keys_rise : (rows : List (K × X)) → IsStrictlySortedBy (λ r s. R r.0 s.0) rows → IsStrictlySortedBy R (keys_of rows)
+  unfolding IsStrictlySortedBy
+  keys_rise [] rise = tt
+  keys_rise (r ∷ rows) rise = (keys_below r.0 rows rise.0, keys_rise rows rise.1)
+
+  -- the keys of sorted rows, each kept once, are in order
+  pub once_rise : (rows : List (K × X)) → IsSortedBy is_below rows → IsStrictlySortedBy R (keys_of (dedup have_one_key rows))
+  once_rise rows up = keys_rise (dedup have_one_key rows) (IsStrictlySortedBy-dedup (on_total (λ (r : K × X). r.0) total) (λ r s. refl) rows up)
+
+-- ---- rows as the entries of a map
 
 module _ {K X : Type 0} (R : K → K → Ordering) where
   below : (x : K) (es : List (K × X)) → AllByRecursion (λ y. R x y ≡ Less) (keys_of es) → T (below_all R x es)
   below x [] h = tt
   below x (e ∷ es) h = both_hold _ _ (subst (λ r. T (is_lt r)) (sym h.0) tt) (below x es h.1)
 
-  -- its entries are in order
+  -- rows with keys in order are sorted entries
   pub in_order : (es : List (K × X)) → IsStrictlySortedBy R (keys_of es) → T (is_sorted R es)
   in_order [] h = tt
   in_order (e ∷ es) h = both_hold _ _ (below e.0 es (sorted_head R _ _ h)) (in_order es (sorted_tail R _ _ h))
-
-  looked_up : (q : K) (es : List (K × X)) → find R q es ≡ lookup (is_at (R q)) es
-  looked_up q [] = refl
-  looked_up q (e ∷ es) = λ i. cond (is_eq (R q e.0)) (Some e.1) (looked_up q es i)
-
-  -- and it has the same at each key
-  pub same_at : (m : BTreeMap K X) → IsOrdered R m → (q : K) → get (from_sorted {R = R} m.entries) q ≡ lookup (is_at (R q)) m.entries
-  same_at m rise q = get-from_sorted R m.entries q (in_order m.entries rise) ∙ looked_up q m.entries

@@ -1,8 +1,8 @@
 -- The rows of a change: how many, in which order, and what they lead to.
-use Rattle.std.proofs.Common.{◌≡◌, false, List, [], ◌∷◌, map, Option, refl, sym, ap, subst, ◌∙◌}
+use Rattle.std.proofs.Common.{◌≡◌, false, List, [], ◌∷◌, append-nil, length, map, Option, refl, sym, ap, subst, ◌∙◌}
 use Rattle.std.specs.List.Sorted.{IsStrictlySortedBy}
 use Rattle.std.specs.Map.{keys_of}
-use Rattle.std.specs.FinMap.{get, entries, entries_sorted, keys, len-entries}
+use Rattle.std.specs.FinMap.{find, get, entries, entries_sorted, keys, len, len-entries}
 use Rattle.std.proofs.lemmas.Bool.{not-false}
 use Rattle.std.proofs.lemmas.List.{length-map}
 use Rattle.iocm_types.specs.declared.sub_id.SubId.{SubId}
@@ -18,11 +18,15 @@ use Rattle.iocm_model.proofs.Maps.Cells.{in_differing}
 use Rattle.iocm_model.proofs.Maps.Overwriting.{not_in_first, not_in_second, with_cells_is}
 use Rattle.iocm_seats.specs.declared.view_change.ViewChange.{ViewChange}
 use Rattle.iocm_seats.specs.Changes.{view_change}
+use Rattle.iocm_plant.specs.declared.touched.Touched.{Touched}
+use Rattle.iocm_activate.specs.Done.{AreToldBy}
+use Rattle.iocm_activate.specs.Told.{told_of_all}
 use Rattle.iocm_seats.proofs.Ordered.{keys_rise}
 use Rattle.iocm_reports.specs.Altered.{subchannels_altered, AreInOrder}
-use Rattle.iocm_reports.specs.First.{Seen, row_of}
+use Rattle.iocm_reports.specs.First.{row_of, seen_before, seen_before_edits}
+use Rattle.iocm_reports.specs.ImageOrder.{SeenRow}
 use Rattle.iocm_reports.specs.Laws.{RowsAreCounted, RowsLeadBack, RowsLeadToTheTable, RowsStandInOrder}
-use Rattle.iocm_reports.proofs.AlteredRows.{cells_rows, same_keys}
+use Rattle.iocm_reports.proofs.AlteredRows.{cells_rows, one_is_in_order, rows_are, same_keys}
 
 -- ---- how many, and in which order
 
@@ -46,10 +50,24 @@ row_subchannels : (t : State) (es : List (SubId × Option View)) → map (λ (r 
 row_subchannels t [] = refl
 row_subchannels t (e ∷ es) = ap (λ xs. e.0 ∷ xs) (row_subchannels t es)
 
--- rows that are made of what was seen first stand in order
-pub made_in_order : (first : Seen) (t : State) → AreInOrder (map (row_of t) (entries first))
-made_in_order first t = subst (IsStrictlySortedBy sub_id_cmp) (sym (row_subchannels t (entries first)))
-    (keys_rise sub_id_cmp (entries first) (entries_sorted first))
+-- rows that are made of what was seen, in order, stand in order
+pub made_in_order : (rows : List SeenRow) (t : State) → IsStrictlySortedBy sub_id_cmp (keys_of rows) → AreInOrder (map (row_of t) rows)
+made_in_order rows t rise = subst (IsStrictlySortedBy sub_id_cmp) (sym (row_subchannels t rows)) rise
+
+-- there are as many subchannels of which it is known what was seen first as rows, whatever state
+-- these are of
+pub seen_are_counted : (performed : List Touched) (rows : List SeenRow) → IsStrictlySortedBy sub_id_cmp (keys_of rows)
+    → ((x : SubId) → find sub_id_cmp x rows ≡ find sub_id_cmp x (seen_before_edits performed))
+    → (es : List Edit) (s : State) → AreToldBy performed (told_of_all es s) → length rows ≡ len (effect_of es s).lives
+seen_are_counted performed rows rise is es s told =
+    sym (length-map rows (row_of s)) ∙ ap length (rows_are performed rows rise is es s s told) ∙ rows_are_counted es s s
+
+-- of one edit there are as many as it tells of
+pub one_is_counted : (d : Touched) (es : List Edit) (s : State) → AreToldBy (d ∷ []) (told_of_all es s) → length d.subchannels.items ≡ len (effect_of es s).lives
+one_is_counted d es s told =
+    sym (length-map d.subchannels.items (λ (c : ViewChange). (c.subchannel, c.before)))
+    ∙ ap length (sym (append-nil (seen_before d.subchannels.items)))
+    ∙ seen_are_counted (d ∷ []) (seen_before_edits (d ∷ [])) (one_is_in_order d es s told) (λ x. refl) es s told
 
 -- ---- what they lead to
 

@@ -1,17 +1,11 @@
 -- What was seen at subchannels before edits altered them, as it is gathered in memory.
 use Rattle.std.specs.Prelude.{List, map, Option}
 use Rattle.std.specs.List.{flat_map}
-use Rattle.std.specs.FinMap.{FinMap}
 use Rattle.iocm_types.specs.declared.sub_id.SubId.{SubId}
 use Rattle.iocm_types.specs.declared.view.View.{View}
-use Rattle.iocm_types.specs.SubId.{sub_id_cmp}
 use Rattle.iocm_model.specs.Operation.State.{State, seen_in}
 use Rattle.iocm_seats.specs.declared.view_change.ViewChange.{ViewChange}
 use Rattle.iocm_plant.specs.declared.touched.Touched.{Touched}
-
--- what was seen before an edit, by subchannel
-abbrev pub Seen : Type 0
-Seen = FinMap sub_id_cmp (Option View)
 
 -- the subchannels of changes, each with what was seen there before
 abbrev pub seen_before : List ViewChange → List (SubId × Option View)

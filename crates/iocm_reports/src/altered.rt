@@ -1,6 +1,7 @@
 ghost use Rattle.std.specs.Prelude.{◌≡◌, ◌++◌, List, map, IfOk, OnOk};
-ghost use Rattle.std.specs.BTreeMap.{get, IsOrdered};
 ghost use Rattle.std.specs.FinMap.{find, len};
+ghost use Rattle.std.specs.List.Sorted.{IsStrictlySortedBy};
+ghost use Rattle.std.specs.Map.{keys_of};
 ghost use Rattle.iocm_types.specs.SubId.{sub_id_cmp};
 ghost use Rattle.iocm_types.specs.declared.sub_id.SubId as subchannels;
 ghost use Rattle.iocm_model.specs.Change.Edit.{Edit};
@@ -16,12 +17,11 @@ use iocm_plant::{Plant, Touched};
 use iocm_seats::ViewChange;
 use iocm_types::{SubId, View};
 use std::alloc::{AllocError, Global};
-use std::collections::BTreeMap;
 
 /// What a change altered, of whose edits this was told, on the machine that it left: each subchannel
 /// in order, with what was seen there before the change and what is seen there after it. A subchannel
 /// that one edit altered and a later one put back is among them, too. The time is that of sorting
-/// them, each as often as an edit altered it.
+/// them, each as often as an edit altered it; of one edit nothing is sorted.
 ///
 /// `AllocError` (M1): memory ran out.
 pub fn altered_rows(
@@ -34,29 +34,33 @@ pub fn altered_rows(
     ensures order { IfOk result (λ listed. meaning.AreInOrder listed.items) }
 {
     let first = seen_first(alloc, performed)?;
-    list_rows(alloc, &first, plant)
+    list_rows(alloc, first.as_slice(), plant)
 }
 
 /// How many subchannels a change altered, of whose edits this was told: as many as there are rows.
-/// The time is that of listing them.
+/// The time is that of sorting them, as for rows; of one edit nothing is listed.
 ///
 /// `AllocError` (M1): memory ran out.
 pub fn count_altered(alloc: Global, performed: &[Touched]) -> Result<usize, AllocError>
     ensures { (es : List Edit) (s : State) → AreToldBy performed.now (told_of_all es s)
         → IfOk result (λ count. count ≡ len (effect_of es s).lives) }
 {
+    // An edit tells of each subchannel once.
+    if let [touched] = performed {
+        return Ok(touched.subchannels.len());
+    }
     let first = seen_first(alloc, performed)?;
     Ok(first.len())
 }
 
-/// What was seen at each subchannel that an edit altered, before the first edit that did.
+/// What was seen at each subchannel that an edit altered, before the first edit that did, in order.
 fn seen_first(
     alloc: Global,
     performed: &[Touched],
-) -> Result<BTreeMap<SubId, Option<View>>, AllocError>
-    ensures first { IfOk result (λ m. (x : subchannels.SubId)
-        → get sub_id_cmp m x ≡ find sub_id_cmp x (seen_before_edits performed.now)) }
-    ensures order { IfOk result (λ m. IsOrdered sub_id_cmp m) }
+) -> Result<Vec<(SubId, Option<View>)>, AllocError>
+    ensures first { IfOk result (λ rows. (x : subchannels.SubId)
+        → find sub_id_cmp x rows.items ≡ find sub_id_cmp x (seen_before_edits performed.now)) }
+    ensures order { IfOk result (λ rows. IsStrictlySortedBy sub_id_cmp (keys_of rows.items)) }
 {
     let listed = list_seen(alloc, performed)?;
     first_of_each(alloc, listed)
@@ -80,6 +84,7 @@ fn add_seen(
 ) -> Result<(), AllocError>
     ensures { OnOk result (listed.new.items ≡ listed.old.items ++ seen_before changes.now) }
 {
+    listed.reserve(changes.len())?;
     for change in changes {
         listed.push((change.subchannel, change.before))?;
     }
@@ -90,17 +95,17 @@ fn add_seen(
 /// left.
 fn list_rows(
     alloc: Global,
-    first: &BTreeMap<SubId, Option<View>>,
+    first: &[(SubId, Option<View>)],
     plant: &Plant,
 ) -> Result<Vec<ViewChange>, AllocError>
-    ensures { IfOk result (λ listed. listed.items ≡ map (row_of plant.now.state) first.now.entries) }
+    ensures { IfOk result (λ listed. listed.items ≡ map (row_of plant.now.state) first.now) }
 {
     let mut listed = Vec::with_capacity(alloc, first.len())?;
-    for (subchannel, before) in first {
+    for row in first {
         listed.push(ViewChange {
-            subchannel: *subchannel,
-            before: *before,
-            after: plant.view(*subchannel),
+            subchannel: row.0,
+            before: row.1,
+            after: plant.view(row.0),
         })?;
     }
     Ok(listed)

@@ -1,39 +1,52 @@
-ghost use Rattle.std.specs.Prelude.{◌≡◌, IfOk};
+ghost use Rattle.std.specs.Prelude.{◌≡◌, IfOk, MatchBool, ⊤};
 ghost use Rattle.std.specs.FinMap.{find};
-ghost use Rattle.std.specs.BTreeMap.{get, IsFromIterResult, IsOrdered};
+ghost use Rattle.std.specs.List.Sorted.{IsStrictlySortedBy};
+ghost use Rattle.std.specs.Map.{keys_of};
 ghost use Rattle.iocm_types.specs.SubId.{sub_id_cmp};
 ghost use Rattle.iocm_types.specs.declared.sub_id.SubId as subchannels;
 
 use crate::image_order::in_image_order;
 use iocm_types::{SubId, View};
 use std::alloc::{AllocError, Global};
-use std::collections::BTreeMap;
 
-/// What is listed by subchannel, in order: of what is listed of one subchannel the first. The time
-/// is in proportion to what is listed where the subchannels of each image are listed in order, and
-/// else that of sorting.
+/// What is listed by subchannel, in order, each once: of what is listed of one subchannel the
+/// first. Where the subchannels rise, as those of one edit do, the list stays as it is, and takes no
+/// memory. Else the time is in proportion to what is listed where the subchannels of each image are
+/// listed in order, and otherwise that of sorting.
 ///
 /// `AllocError` (M1): memory ran out.
 pub(crate) fn first_of_each(
     alloc: Global,
     listed: Vec<(SubId, Option<View>)>,
-) -> Result<BTreeMap<SubId, Option<View>>, AllocError>
+) -> Result<Vec<(SubId, Option<View>)>, AllocError>
     ensures first { IfOk result
-        (λ m. (x : subchannels.SubId) → get sub_id_cmp m x ≡ find sub_id_cmp x listed.items) }
-    ensures order { IfOk result (λ m. IsOrdered sub_id_cmp m) }
+        (λ rows. (x : subchannels.SubId) → find sub_id_cmp x rows.items ≡ find sub_id_cmp x listed.items) }
+    ensures order { IfOk result (λ rows. IsStrictlySortedBy sub_id_cmp (keys_of rows.items)) }
 {
-    let mut rows = in_image_order(alloc, listed)?;
-    // A map keeps the last of those with one key.
-    rows.reverse();
-    last_of_each(alloc, rows)
+    if do_rise(listed.as_slice()) {
+        return Ok(listed);
+    }
+    first_in_order(in_image_order(alloc, listed)?)
 }
 
-/// The same with the last of what is listed of one subchannel.
-fn last_of_each(
-    alloc: Global,
-    listed: Vec<(SubId, Option<View>)>,
-) -> Result<BTreeMap<SubId, Option<View>>, AllocError>
-    ensures { IfOk result (IsFromIterResult sub_id_cmp listed.items) }
+/// Whether the subchannel of each row is behind that of the row before.
+fn do_rise(rows: &[(SubId, Option<View>)]) -> bool
+    ensures { MatchBool result (IsStrictlySortedBy sub_id_cmp (keys_of rows.now)) ⊤ }
 {
-    listed.into_iter().collect(alloc)
+    rows.is_sorted_by(|row, next| row.0.order(next.0).is_lt())
+}
+
+/// The rows in the order of subchannels, the first of each. A stable sort leaves those of one
+/// subchannel as they were listed.
+fn first_in_order(
+    rows: Vec<(SubId, Option<View>)>,
+) -> Result<Vec<(SubId, Option<View>)>, AllocError>
+    ensures first { IfOk result
+        (λ once. (x : subchannels.SubId) → find sub_id_cmp x once.items ≡ find sub_id_cmp x rows.items) }
+    ensures order { IfOk result (λ once. IsStrictlySortedBy sub_id_cmp (keys_of once.items)) }
+{
+    let mut once = rows;
+    once.sort_by(|row, other| row.0.order(other.0))?;
+    once.dedup_by(|row, kept| row.0.order(kept.0).is_eq());
+    Ok(once)
 }

@@ -1,21 +1,22 @@
--- There are as many subchannels as rows, whatever state the rows are of.
-use Rattle.std.proofs.Common.{length, sym, ap, ◌∙◌}
-use Rattle.std.proofs.lemmas.List.{length-map}
-use Rattle.std.specs.FinMap.{entries, entries-from_sorted, from_sorted}
-use Rattle.iocm_types.specs.SubId.{sub_id_cmp}
-use Rattle.iocm_reports.specs.First.{row_of}
-use Rattle.iocm_reports.proofs.AlteredRows.{rows_are}
-use Rattle.iocm_reports.proofs.FirstRows.{in_order, same_at}
-use Rattle.iocm_reports.proofs.Rows.{rows_are_counted}
+use Rattle.std.proofs.Common.{◌≡◌, ◌<◌, ◌≤◌, List, [], ◌∷◌, length, get_or, sym, ap, subst, ◌∙◌, arith}
+use Rattle.iocm_activate.specs.Done.{AreToldBy}
+use Rattle.iocm_activate.specs.Told.{told_of_all}
+use Rattle.iocm_reports.proofs.Rows.{one_is_counted, seen_are_counted}
 use Rattle.iocm_reports.proofs.altered.count_altered.Goals as goal
 
+-- a list of one item is that item
+one_item : {A : Type 0} (xs : List A) (x : A) → 1 ≤ length xs → length xs < 2 → x ≡ get_or xs 0 x → xs ≡ x ∷ []
+one_item [] x some few is = absurd (omega (arith, some))
+one_item (y ∷ []) x some few is = ap (λ z. z ∷ []) (sym is)
+one_item (y ∷ z ∷ xs) x some few is = absurd (omega (arith, few))
+
+pub returns-in-len1 : goal.returns-in-len1
+returns-in-len1 c = λ es s told.
+    let touched = c.touched-item.result in
+    let one = one_item c.args.performed.now touched c.in-len1.len_at_least c.in-len1.len_below c.touched-item.is in
+    c.len.ensures ∙ touched.subchannels.ok.0 ∙ one_is_counted touched es s (subst (λ ds. AreToldBy ds (told_of_all es s)) one told)
+
 pub returns : goal.returns
-returns c =
-    let first = c.in_ok-first.first in
-    let order = c.in_ok-first.ensures.order in
-    λ es s told. c.len.ensures.len
-    ∙ ap length (sym (entries-from_sorted sub_id_cmp first.entries (in_order sub_id_cmp first.entries order)))
-    ∙ sym (length-map (entries (from_sorted {R = sub_id_cmp} first.entries)) (row_of s))
-    ∙ ap length (rows_are c.args.performed.now (from_sorted first.entries)
-    (λ x. same_at sub_id_cmp first order x ∙ c.in_ok-first.ensures.first x) es s s told)
-    ∙ rows_are_counted es s s
+returns c = λ es s told.
+    c.len-2.ensures ∙ c.in_ok-first.first.ok.0
+    ∙ seen_are_counted c.args.performed.now c.in_ok-first.first.items c.in_ok-first.ensures.order c.in_ok-first.ensures.first es s told

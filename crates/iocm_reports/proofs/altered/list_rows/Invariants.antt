@@ -1,7 +1,7 @@
--- The rows so far, and those that are left.
-use Rattle.std.proofs.Common.{◌≡◌, ◌++◌, map}
+-- The rows so far.
+use Rattle.std.proofs.Common.{◌≡◌, map, take}
 use Rattle.iocm_reports.specs.First.{row_of}
 use Rattle.iocm_reports.proofs.altered.list_rows.Given as goal
 
-abbrev pub invariant-loop-subchannel : goal.invariant-loop-subchannel
-invariant-loop-subchannel l = l.listed.items ++ map (row_of l.plant.state) l.subchannel-iterator ≡ map (row_of l.plant.state) l.initial.subchannel-iterator
+abbrev pub invariant-loop-row : goal.invariant-loop-row
+invariant-loop-row l = l.listed.items ≡ map (row_of l.plant.state) (take l.row-index l.first)
