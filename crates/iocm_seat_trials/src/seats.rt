@@ -13,8 +13,8 @@ use iocm_live::fresh;
 use iocm_numbers::{Numbers, opening};
 use iocm_reach::ReachTable;
 use iocm_seats::{
-    Altered, Seat, Seats, Tried, ViewChange, exchange, first_not_quiet, list_changes, list_left,
-    make_places, open_seats, settle_all,
+    Altered, KeptSeat, Seat, Seats, Tried, ViewChange, exchange, first_not_quiet, list_changes,
+    list_left, make_places, open_seats, settle_all,
 };
 use iocm_table::Table;
 use iocm_trial_decks::{name, subchannel};
@@ -64,7 +64,7 @@ fn seated(alloc: Global) -> Result<Seats, Fail> {
         view: view(0x80),
         live: live(5),
     };
-    let _ = seats.put(&there, seat);
+    let _ = seats.put(&there, KeptSeat::new(&seat));
     Ok(seats)
 }
 

@@ -4,7 +4,10 @@ use Rattle.iocm_types.specs.declared.live.Function.TheVariants as function
 use Rattle.iocm_types.specs.declared.live.Phase.{Phase}
 use Rattle.iocm_types.specs.declared.live.Phase.TheVariants.{Idle, StartPending, StartActive, Halt, Clear, Pending}
 use Rattle.iocm_seats.specs.declared.enabled_phase.EnabledPhase.{EnabledPhase}
-use Rattle.iocm_seats.specs.declared.enabled_phase.EnabledPhase.TheVariants.{DisabledIdle, DisabledStartPending, DisabledStartActive, DisabledHalt, DisabledClear, DisabledStartEnded, DisabledHaltEnded, DisabledClearEnded, EnabledIdle, EnabledStartPending, EnabledStartActive, EnabledHalt, EnabledClear, EnabledStartEnded, EnabledHaltEnded, EnabledClearEnded}
+use Rattle.iocm_seats.specs.declared.enabled_phase.EnabledPhase.TheVariants.{DisabledIdle, DisabledStartPending, DisabledStartActive, DisabledHalt, DisabledClear}
+use Rattle.iocm_seats.specs.declared.enabled_phase.EnabledPhase.TheVariants.{DisabledStartEnded, DisabledHaltEnded, DisabledClearEnded}
+use Rattle.iocm_seats.specs.declared.enabled_phase.EnabledPhase.TheVariants.{EnabledIdle, EnabledStartPending, EnabledStartActive, EnabledHalt, EnabledClear}
+use Rattle.iocm_seats.specs.declared.enabled_phase.EnabledPhase.TheVariants.{EnabledStartEnded, EnabledHaltEnded, EnabledClearEnded}
 
 -- whether it is enabled
 abbrev pub is_enabled : EnabledPhase → Bool

@@ -17,7 +17,7 @@ ghost use Rattle.iocm_seats.specs.Settling.{lives_met, met_at};
 ghost use Rattle.iocm_seats.specs.Changes.{candidates, changes_at, change_from, changes_between, AreCandidates};
 ghost use Rattle.iocm_seats.specs.Sights.{cells_of_sights, has_device_in, AreSights, IsNamedAt};
 
-use crate::{Seat, Seats, ViewChange};
+use crate::{KeptSeat, Seats, ViewChange};
 use iocm_config::Config;
 use iocm_derive::ImageNames;
 use iocm_numbers::Numbers;
@@ -215,7 +215,7 @@ fn list_at_cell<A: Allocator, B: Allocator, C: Allocator, D: Allocator>(
     };
     let after = view_there(named, sight);
     match tried.seats.get(&subchannel) {
-        Some(seat) => list_seated(altered, &subchannel, &seat, after)?,
+        Some(seat) => list_seated(altered, &subchannel, seat, after)?,
         None => list_new(altered, &subchannel, after)?,
     }
     Ok(())
@@ -241,7 +241,7 @@ fn view_there<B: Allocator>(named: &NamedImage, sight: &ReachedCell<'_, B, Globa
 fn list_seated<D: Allocator>(
     altered: &mut Altered<D>,
     subchannel: &SubId,
-    seat: &Seat,
+    seat: &KeptSeat,
     after: Option<View>,
 ) -> Result<(), AllocError>
     ensures changes { OnOk result (altered.new.changes.items
@@ -249,11 +249,11 @@ fn list_seated<D: Allocator>(
     ensures met { OnOk result (altered.new.met.items ≡ altered.old.met.items
         ++ met_at seat.now.live (cons_option (change_from (Some seat.now.view) after subchannel.now) [])) }
 {
-    let before = Some(seat.view);
+    let before = Some(seat.view());
     if is_same(before.as_ref(), after.as_ref()) {
         return Ok(());
     }
-    altered.met.push((*subchannel, seat.live))?;
+    altered.met.push((*subchannel, seat.live()))?;
     altered.changes.push(ViewChange {
         subchannel: *subchannel,
         before,

@@ -10,7 +10,7 @@ ghost use Rattle.iocm_reach.specs.Tabled.{IsReachOf};
 ghost use Rattle.iocm_seats.specs.Seated.{lives_seated, HasPlace};
 ghost use Rattle.iocm_seats.specs.Exchange.{exchanged, given, met};
 
-use crate::{Seat, Seats};
+use crate::{KeptSeat, Seat, Seats};
 use iocm_config::Config;
 use iocm_numbers::Numbers;
 use iocm_reach::{ReachTable, ReachedWalk};
@@ -59,7 +59,7 @@ fn take_one<A: Allocator>(seats: &mut Seats<A>, row: &mut (SubId, Live))
     ensures places { seats.new.places ≡ seats.old.places }
 {
     if let Some(seat) = seats.take(&row.0) {
-        row.1 = seat.live;
+        row.1 = seat.live();
     }
 }
 
@@ -102,5 +102,5 @@ fn give_one<A: Allocator, B: Allocator, C: Allocator>(
         return;
     };
     let seat = Seat { view, live: row.1 };
-    let _ = seats.put(&row.0, seat);
+    let _ = seats.put(&row.0, KeptSeat::new(&seat));
 }

@@ -40,7 +40,7 @@ impl Model for KeptSeat {
 
 impl KeptSeat {
     /// A seat, to be kept.
-    pub(crate) fn new(seat: &Seat) -> Self
+    pub fn new(seat: &Seat) -> Self
         ensures { result ≡ seat.now }
     {
         KeptSeat {
@@ -51,16 +51,6 @@ impl KeptSeat {
             lpm: seat.live.lpm,
             parm: Word::new(seat.live.parm.number()),
             state: EnabledPhase::new(seat.live.enabled, seat.live.phase),
-        }
-    }
-
-    /// The seat.
-    pub fn seat(&self) -> Seat
-        ensures { result ≡ self.now }
-    {
-        Seat {
-            view: self.view(),
-            live: self.live(),
         }
     }
 

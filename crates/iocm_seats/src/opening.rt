@@ -13,7 +13,7 @@ use crate::set_places::make_set_places;
 use crate::subsystem_cells::subsystem_cells;
 use crate::subsystem_sights::subsystem_sights;
 use crate::taken_cell::TakenCell;
-use crate::{Seat, Seats};
+use crate::{KeptSeat, Seat, Seats};
 use iocm_config::Config;
 use iocm_derive::ImageSight;
 use iocm_live::fresh;
@@ -130,5 +130,5 @@ fn open_cell<'a, A: Allocator, B: Allocator + Clone>(
         number: cell.number,
     };
     let live = fresh(view.pim);
-    seats.add(subchannel, Seat { view, live })
+    seats.add(subchannel, KeptSeat::new(&Seat { view, live }))
 }

@@ -1,12 +1,12 @@
 ghost use Rattle.std.specs.Prelude.{◌≡◌, [], IsOk, OnErr, OnOk};
 ghost use Rattle.std.specs.Borrow.{sem};
-ghost use Rattle.std.specs.Option.{option_copied_mut};
+ghost use Rattle.std.specs.Option.{option_copied, option_copied_mut};
 ghost use Rattle.std.specs.FinMap as map;
 ghost use Rattle.iocm_seats.specs.Lent.{lends_seat};
 ghost use Rattle.iocm_seats.specs.Listing.{with_seat};
 ghost use Rattle.iocm_seats.specs.Seated.{views_seated, lives_seated, HasPlace, KeepsPlaces, SeatsHavePlaces};
 
-use crate::{KeptSeat, Seat};
+use crate::KeptSeat;
 use iocm_grid::Grid;
 use iocm_types::{Live, SubId, View};
 use std::alloc::{AllocError, Allocator, Global};
@@ -50,13 +50,13 @@ impl<A: Allocator> Seats<A> {
     /// Gives a subchannel a place, if it has none, and this seat.
     ///
     /// `AllocError` (M1): memory ran out. Then no seat has changed.
-    pub(crate) fn add(&mut self, subchannel: SubId, seat: Seat) -> Result<(), AllocError>
+    pub(crate) fn add(&mut self, subchannel: SubId, seat: KeptSeat) -> Result<(), AllocError>
     where
         A: Clone,
         ensures seats { OnOk result (self.new.seats ≡ with_seat self.old.seats (subchannel, seat)) }
         ensures err { OnErr result (self.new.seats ≡ self.old.seats) }
     {
-        let _ = self.grid.add(&subchannel, KeptSeat::new(&seat))?;
+        let _ = self.grid.add(&subchannel, seat)?;
         Ok(())
     }
 
@@ -68,13 +68,10 @@ impl<A: Allocator> Seats<A> {
     }
 
     /// The seat of a subchannel, if it has one.
-    pub fn get(&self, subchannel: &SubId) -> Option<Seat>
-        ensures { result ≡ map.get self.now.seats subchannel.now }
+    pub fn get(&self, subchannel: &SubId) -> Option<&KeptSeat>
+        ensures { option_copied result ≡ map.get self.now.seats subchannel.now }
     {
-        match self.grid.get(subchannel) {
-            Some(kept) => Some(kept.seat()),
-            None => None,
-        }
+        self.grid.get(subchannel)
     }
 
     /// The seat of a subchannel, to be changed in its place. Can't run out of memory.
@@ -89,8 +86,8 @@ impl<A: Allocator> Seats<A> {
     pub fn view(&self, subchannel: SubId) -> Option<View>
         ensures { result ≡ map.get (views_seated self.now.seats) subchannel }
     {
-        match self.grid.get(&subchannel) {
-            Some(kept) => Some(kept.view()),
+        match self.get(&subchannel) {
+            Some(seat) => Some(seat.view()),
             None => None,
         }
     }
@@ -99,8 +96,8 @@ impl<A: Allocator> Seats<A> {
     pub fn live(&self, subchannel: SubId) -> Option<Live>
         ensures { result ≡ map.get (lives_seated self.now.seats) subchannel }
     {
-        match self.grid.get(&subchannel) {
-            Some(kept) => Some(kept.live()),
+        match self.get(&subchannel) {
+            Some(seat) => Some(seat.live()),
             None => None,
         }
     }
@@ -130,28 +127,22 @@ impl<A: Allocator> Seats<A> {
 
     /// Gives a subchannel that has a place a seat, and gives back the one that it had. Can't run
     /// out of memory.
-    pub fn put(&mut self, subchannel: &SubId, seat: Seat) -> Option<Seat>
+    pub fn put(&mut self, subchannel: &SubId, seat: KeptSeat) -> Option<KeptSeat>
         requires { HasPlace self.old subchannel.now }
         ensures before { result ≡ map.get self.old.seats subchannel.now }
         ensures seats { self.new.seats ≡ map.insert self.old.seats subchannel.now seat }
         ensures places { self.new.places ≡ self.old.places }
     {
-        match self.grid.put(subchannel, KeptSeat::new(&seat)) {
-            Some(kept) => Some(kept.seat()),
-            None => None,
-        }
+        self.grid.put(subchannel, seat)
     }
 
     /// Takes the seat of a subchannel out, if it has one. Its place stays. Can't run out of
     /// memory.
-    pub fn take(&mut self, subchannel: &SubId) -> Option<Seat>
+    pub fn take(&mut self, subchannel: &SubId) -> Option<KeptSeat>
         ensures before { result ≡ map.get self.old.seats subchannel.now }
         ensures seats { self.new.seats ≡ map.remove self.old.seats subchannel.now }
         ensures places { self.new.places ≡ self.old.places }
     {
-        match self.grid.take(subchannel) {
-            Some(kept) => Some(kept.seat()),
-            None => None,
-        }
+        self.grid.take(subchannel)
     }
 }

@@ -1,5 +1,5 @@
 ghost use Rattle.std.specs.Prelude.{◌≡◌, OnOk, Some, None};
-ghost use Rattle.std.specs.Option.{option_map};
+ghost use Rattle.std.specs.Option.{option_copied, option_map};
 ghost use Rattle.std.specs.FinMap.{get};
 ghost use Rattle.iocm_types.specs.SubId.{sub_id_cmp};
 ghost use Rattle.iocm_table.specs.Slots.{rows};
@@ -8,7 +8,7 @@ ghost use Rattle.iocm_model.specs.Change.Maps.{with_value};
 ghost use Rattle.iocm_seats.specs.Seated.{views_seated, HasPlace, KeepsPlaces};
 ghost use Rattle.iocm_seats.specs.Settling.{seat_after, settled_all, AreSeen, HavePlaces};
 
-use crate::{Seat, Seats, ViewChange};
+use crate::{KeptSeat, Seat, Seats, ViewChange};
 use iocm_live::fresh;
 use iocm_table::Table;
 use iocm_types::{Live, SubId, View};
@@ -80,31 +80,32 @@ fn settle<A: Allocator>(seats: &mut Seats<A>, change: &ViewChange, own: Option<L
         return;
     };
     let live = live_after(seats.get(&change.subchannel), &view, own);
-    let _ = seats.put(&change.subchannel, Seat { view, live });
+    let _ = seats.put(&change.subchannel, KeptSeat::new(&Seat { view, live }));
 }
 
 /// The live record of an altered subchannel: the one that comes along, or else a fresh one where
 /// it had none, or else its own, with LPM equal to PIM where its path list changed.
-fn live_after(old: Option<Seat>, new: &View, own: Option<Live>) -> Live
-    ensures { result ≡ live_of_altered (option_map (λ s. s.view) old) new.now own
-        (option_map (λ s. s.live) old) }
+fn live_after(old: Option<&KeptSeat>, new: &View, own: Option<Live>) -> Live
+    ensures { result ≡ live_of_altered (option_map (λ s. s.view) (option_copied old.entry)) new.now own
+        (option_map (λ s. s.live) (option_copied old.entry)) }
 {
     match (own, old) {
         (Some(live), _) => live,
         (None, None) => fresh(new.pim),
-        (None, Some(seat)) => own_live(&seat, new),
+        (None, Some(seat)) => own_live(seat, new),
     }
 }
 
 /// An altered subchannel's own live record: with LPM equal to PIM where its path list changed.
-fn own_live(old: &Seat, new: &View) -> Live
+fn own_live(old: &KeptSeat, new: &View) -> Live
     ensures { result ≡ live_of_altered (Some old.now.view) new.now None (Some old.now.live) }
 {
-    if old.view.paths == new.paths {
-        return old.live;
+    let live = old.live();
+    if old.view().paths == new.paths {
+        return live;
     }
     Live {
         lpm: new.pim,
-        ..old.live
+        ..live
     }
 }

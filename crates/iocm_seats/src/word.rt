@@ -39,8 +39,8 @@ impl Halfword {
 /// A word that may stand at any address: 32 bits in four bytes. Contracts see its number.
 #[derive(Drop)]
 pub(crate) struct Word {
-    low: Halfword,
     high: Halfword,
+    low: Halfword,
 }
 
 impl Model for Word {
@@ -57,8 +57,8 @@ impl Word {
         ensures { result ≡ number }
     {
         Word {
-            low: Halfword::new((number % 65536) as u16),
             high: Halfword::new((number / 65536) as u16),
+            low: Halfword::new((number % 65536) as u16),
         }
     }
 

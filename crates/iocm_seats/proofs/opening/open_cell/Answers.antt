@@ -38,10 +38,13 @@ returns-clause-seats g c =
     let seen = ap (option_and_then (view_if_seen at i.css i.name)) (sym c.requires ∙ sym c.fields.ensures ∙ ap (λ o. option_map device_of (option_copied o)) c.in-Some.is)
     ∙ sym c.view_of.ensures.view ∙ c.in-Some-view_of.is in
     on_ok_weaker c.add.result (λ given. given ∙ ap (fold with_seat c.args.seats.now.seats)
-    ((λ z. row_of ((c.image.ensures ∙ ap image_in c.view_of.ensures.same) z) (c.cell-cell.ensures z) (c.fresh-live.ensures z) ∷ []) ∙ sym (one_view at i e c.in-Some-view_of.view seen))) c.add.ensures.seats
+    ((λ z. row_of ((c.image.ensures ∙ ap image_in c.view_of.ensures.same) z) (c.cell-cell.ensures z) ((c.new.ensures ∙ ap seat_of c.fresh-live.ensures) z) ∷ []) ∙ sym (one_view at i e c.in-Some-view_of.view seen))) c.add.ensures.seats
   where
     image_in : Sighted → Image
     image_in s = record { css = s.image.css; mif = s.image.mif }
 
-    row_of : Image → NumberCell → Live → SubId × Seat
-    row_of im n l = (record { image = im; set = n.set; number = n.number }, record { view = c.in-Some-view_of.view; live = l })
+    seat_of : Live → Seat
+    seat_of l = record { view = c.in-Some-view_of.view; live = l }
+
+    row_of : Image → NumberCell → Seat → SubId × Seat
+    row_of im n s = (record { image = im; set = n.set; number = n.number }, s)

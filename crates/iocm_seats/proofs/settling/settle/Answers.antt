@@ -13,7 +13,7 @@ returns-clause-seats g c =
     let seats = c.args.seats.now.seats in
     let x = c.args.change.now.subchannel in
     let view = c.in-Some.view in
-    c.put.ensures.seats
+    c.put.ensures.seats ∙ ap (insert seats x) c.new.ensures
     ∙ (λ i. insert seats x (seat_of view ((c.live_after-live.ensures ∙ ap (live_by view c.args.own) c.get.ensures) i)))
     ∙ (λ i. with_value seats x (seat_after (get seats x) (sym c.in-Some.is i) c.args.own))
   where

@@ -1,14 +1,10 @@
 use Rattle.std.proofs.Common.{Some, sym, ap, ◌∙◌}
-use Rattle.std.specs.FinMap.{get}
 use Rattle.std.specs.Option.{option_copied}
-use Rattle.iocm_seats.specs.Seated.{Seated}
 use Rattle.iocm_seats.proofs.Settled.{view_in, view_seated}
 use Rattle.iocm_seats.proofs.seats.Seats.view.Goals as goal
 
 pub returns-in-Some : goal.returns-in-Some
-returns-in-Some g c = ap Some c.view.ensures ∙ ap view_in (ap option_copied (sym c.in-Some.is) ∙ c.get.ensures ∙ ap (λ (s : Seated). get s.seats c.args.subchannel) c.self.view_is)
-    ∙ sym (view_seated c.args.self.now.seats c.args.subchannel)
+returns-in-Some g c = ap Some c.view.ensures ∙ ap view_in (ap option_copied (sym c.in-Some.is) ∙ c.get.ensures) ∙ sym (view_seated c.args.self.now.seats c.args.subchannel)
 
 pub returns-in-None : goal.returns-in-None
-returns-in-None g c = ap view_in (ap option_copied (sym c.in-None.is) ∙ c.get.ensures ∙ ap (λ (s : Seated). get s.seats c.args.subchannel) c.self.view_is)
-    ∙ sym (view_seated c.args.self.now.seats c.args.subchannel)
+returns-in-None g c = ap view_in (ap option_copied (sym c.in-None.is) ∙ c.get.ensures) ∙ sym (view_seated c.args.self.now.seats c.args.subchannel)
