@@ -1,6 +1,7 @@
 mod Activated
 mod Back
 mod GoingBack
+mod InCommon
 mod Kept
 mod Leaves
 mod Next
@@ -8,6 +9,7 @@ mod Pairs
 mod Parts
 mod Rising
 mod Runs
+mod Signed
 mod Taking
 mod Telling
 mod Trying

@@ -2,5 +2,6 @@ pub mod Done
 pub mod Effects
 pub mod Fitting
 pub mod Going
+pub mod Signature
 pub mod Told
 pub mod Walked

@@ -14,6 +14,7 @@ ghost use Rattle.iocm_types.specs.SubId.{sub_id_cmp};
 
 use crate::in_order::each_once;
 use crate::log::Log;
+use crate::written::Written;
 use iocm_config::Config;
 use iocm_numbers::{NumberChange, Numbers};
 use iocm_plant::{Applied, Plant};
@@ -29,11 +30,11 @@ use std::alloc::{AllocError, Global};
 #[derive(Drop)]
 pub struct Effect {
     /// The records, under the keys of the edits.
-    pub records: Table<Key, Option<Record>>,
+    pub records: Written<Key, Record>,
     /// The devices that have the numbers.
-    pub numbers: Table<NumberCell, Option<DevNo>>,
+    pub numbers: Written<NumberCell, DevNo>,
     /// The live records of the subchannels that were altered.
-    pub lives: Table<SubId, Option<Live>>,
+    pub lives: Written<SubId, Live>,
 }
 
 /// The effect of the edits of a log.
@@ -44,9 +45,9 @@ pub fn effect_of(alloc: Global, plant: &Plant, log: &Log) -> Result<Effect, Allo
     let numbers = number_cells(alloc, plant.numbers(), log.done.as_slice())?;
     let lives = live_cells(alloc, plant, log.done.as_slice())?;
     Ok(Effect {
-        records,
-        numbers,
-        lives,
+        records: Written::of(records),
+        numbers: Written::of(numbers),
+        lives: Written::of(lives),
     })
 }
 

@@ -7,7 +7,7 @@
 //! tree, the `Effect`, and what each edit did. `make` activates for a report, without the effect;
 //! `carry_out` for an undo or a redo, and gives the inverse tree alone. `fits` tries whether the
 //! inverse tree of a change would take back now just what the change did, and leaves the state as
-//! it was.
+//! it was. What an `Effect` has of one kind is `Written`, which tells cells in common.
 //!
 //! What the layer above may rely on: the state afterwards and each refusal are those of the model's
 //! `meaning`, a refused tree leaves the state as it was, and the inverse tree takes the change
@@ -18,6 +18,8 @@
 
 mod activation;
 mod carrying_out;
+mod cell_key;
+mod common_keys;
 mod done;
 mod effect;
 mod fitting;
@@ -31,10 +33,13 @@ mod turned;
 mod unchanged;
 mod walk;
 mod whole_tree;
+mod written;
 
 pub use activation::activate;
 pub use carrying_out::carry_out;
+pub use cell_key::CellKey;
 pub use done::{Done, Made};
 pub use effect::Effect;
 pub use fitting::fits;
 pub use making::make;
+pub use written::Written;

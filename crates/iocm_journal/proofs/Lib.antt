@@ -1,7 +1,6 @@
 mod Answers
 mod Taken
 mod Rows
-mod InCommon
 mod NeverUndone
 mod Counts
 mod Passing

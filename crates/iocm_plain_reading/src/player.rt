@@ -46,15 +46,15 @@ fn have_common<K: TableKey, V, W>(first: &Table<K, V>, second: &Table<K, W>) -> 
 
 /// Whether two changes wrote a cell in common.
 fn share_a_cell(first: &Effect, second: &Effect) -> bool {
-    have_common(&first.records, &second.records)
-        || have_common(&first.numbers, &second.numbers)
-        || have_common(&first.lives, &second.lives)
+    have_common(first.records.table(), second.records.table())
+        || have_common(first.numbers.table(), second.numbers.table())
+        || have_common(first.lives.table(), second.lives.table())
 }
 
 /// The subchannels that a change altered, in their order.
 fn altered(alloc: Global, done: &Done) -> Result<Vec<SubId>, Fail> {
     let mut list = Vec::new(alloc);
-    for (there, _) in done.effect.lives.walk() {
+    for (there, _) in done.effect.lives.table().walk() {
         list.push(*there)?;
     }
     Ok(list)
@@ -145,7 +145,7 @@ impl Player {
     /// Whether a subchannel is held.
     fn holds(&self, there: &SubId) -> bool {
         match &self.stage {
-            Some(stage) => stage.done.effect.lives.get(there).is_some(),
+            Some(stage) => stage.done.effect.lives.table().get(there).is_some(),
             None => false,
         }
     }

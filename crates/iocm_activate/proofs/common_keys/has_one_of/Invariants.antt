@@ -4,7 +4,7 @@ use Rattle.std.specs.List.{list_any}
 use Rattle.std.specs.Map.{keys_of}
 use Rattle.std.specs.FinMap.{contains_key, keys}
 use Rattle.iocm_table.specs.Slots.{rows}
-use Rattle.iocm_journal.proofs.sharing.has_one_of.Given as goal
+use Rattle.iocm_activate.proofs.common_keys.has_one_of.Given as goal
 
 abbrev pub invariant-loop-key : goal.invariant-loop-key
 invariant-loop-key g l =

@@ -2,8 +2,8 @@ use Rattle.std.proofs.Common.{subst, ◌∙◌}
 use Rattle.std.specs.Cmp.{IsTotalOrder}
 use Rattle.std.specs.FinMap.{IsAntisymmetric}
 use Rattle.iocm_table.specs.Slots.{rows}
-use Rattle.iocm_journal.proofs.InCommon.{common_both}
-use Rattle.iocm_journal.proofs.sharing.have_common.Goals as goal
+use Rattle.iocm_activate.proofs.InCommon.{common_both}
+use Rattle.iocm_activate.proofs.common_keys.have_common.Goals as goal
 
 pub returns : goal.returns
 returns g c = c.has_one_of-2.ensures
