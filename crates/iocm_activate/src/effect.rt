@@ -137,6 +137,7 @@ fn list_altered(alloc: Global, done: &[Applied]) -> Result<Vec<SubId>, AllocErro
 fn list_subchannels(listed: &mut Vec<SubId>, changes: &[ViewChange]) -> Result<(), AllocError>
     ensures { OnOk result (listed.new.items ≡ listed.old.items ++ subchannels_changed changes.now) }
 {
+    listed.reserve(changes.len())?;
     for change in changes {
         listed.push(change.subchannel)?;
     }
