@@ -68,7 +68,8 @@ pub fn settle_all<A: Allocator, B: Allocator>(
     }
 }
 
-/// Gives the subchannel of a change the seat that it has afterwards.
+/// Gives the subchannel of a change the seat that it has afterwards. A seat that is there is written
+/// over, so it is searched once.
 fn settle<A: Allocator>(seats: &mut Seats<A>, change: &ViewChange, own: Option<Live>)
     requires { HasPlace seats.old change.now.subchannel }
     ensures seats { seats.new.seats ≡ with_value seats.old.seats change.now.subchannel
@@ -79,8 +80,13 @@ fn settle<A: Allocator>(seats: &mut Seats<A>, change: &ViewChange, own: Option<L
         let _ = seats.take(&change.subchannel);
         return;
     };
-    let live = live_after(seats.get(&change.subchannel), &view, own);
-    let _ = seats.put(&change.subchannel, KeptSeat::new(&Seat { view, live }));
+    let Some(seat) = seats.get_mut(&change.subchannel) else {
+        let live = live_after(None, &view, own);
+        let _ = seats.put(&change.subchannel, KeptSeat::new(&Seat { view, live }));
+        return;
+    };
+    let live = live_after(Some(&*seat), &view, own);
+    *seat = KeptSeat::new(&Seat { view, live });
 }
 
 /// The live record of an altered subchannel: the one that comes along, or else a fresh one where
