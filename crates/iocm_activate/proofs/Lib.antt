@@ -1,5 +1,6 @@
 mod Activated
 mod Back
+mod CarryingBack
 mod GoingBack
 mod InCommon
 mod Kept

@@ -123,7 +123,7 @@ leads_same still p q old new lived same room done s leads =
 -- ---- along the way
 
 -- what is left, from its end
-on_the_last : (left rest : List Touched) (was : Touched) → left ≡ rest ++ was ∷ [] → reverse left ≡ was ∷ reverse rest
+pub on_the_last : (left rest : List Touched) (was : Touched) → left ≡ rest ++ was ∷ [] → reverse left ≡ was ∷ reverse rest
 on_the_last left rest was is = ap reverse is ∙ reverse-append rest (was ∷ [])
 
 -- at first all parts are left, and all that was performed

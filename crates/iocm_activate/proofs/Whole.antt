@@ -40,7 +40,7 @@ module _ {p q : Operating} {log : Log} (w : WasWalked p q log) where
   told_alone = w.ran.log ∙ ap (λ ds. ds ++ w.ran.done) w.none
 
   -- and what is told of them is what they did
-  all_told : map told_in log.done.items ≡ told_of_all w.ran.edits p.state
+  pub all_told : map told_in log.done.items ≡ told_of_all w.ran.edits p.state
   all_told = ap (map told_in) told_alone ∙ w.ran.told
 
   -- the way back leads to the state from before

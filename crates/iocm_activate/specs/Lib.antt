@@ -1,3 +1,4 @@
+pub mod CarryingBack
 pub mod Done
 pub mod Effects
 pub mod Fitting

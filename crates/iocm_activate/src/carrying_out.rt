@@ -49,7 +49,7 @@ pub fn carry_out<A: Allocator>(
 /// The tree that takes back what was done.
 ///
 /// M1: memory ran out; what was done is taken back.
-fn give_way_back(alloc: Global, plant: &mut Plant, log: Log) -> Result<Tree, Refused>
+pub(crate) fn give_way_back(alloc: Global, plant: &mut Plant, log: Log) -> Result<Tree, Refused>
     requires back { CanTakeBack log.done.items plant.old }
     ensures inverse { IfOk result (λ t. tree_of t ≡ row (leaves_from (way_back log.done.items))) }
     ensures done { OnOk result (plant.new ≡ plant.old) }

@@ -17,6 +17,7 @@
 #![tactic(auto)]
 
 mod activation;
+mod carrying_back;
 mod carrying_out;
 mod cell_key;
 mod common_keys;
@@ -36,6 +37,7 @@ mod whole_tree;
 mod written;
 
 pub use activation::activate;
+pub use carrying_back::carry_back;
 pub use carrying_out::carry_out;
 pub use cell_key::CellKey;
 pub use done::{Done, Made};

@@ -1,0 +1,34 @@
+-- An inverse tree that is carried out because the change fits.
+use Rattle.std.specs.Prelude.{◌≡◌, Bool, true, false, ◌&&◌, List, [], ◌∷◌, Ok}
+use Rattle.std.specs.Cmp.Lexicographic.{pointwise}
+use Rattle.iocm_model.specs.Operation.State.{State}
+use Rattle.iocm_model.specs.Change.Edit.{Edit}
+use Rattle.iocm_model.specs.Change.InverseTree.{inverse_tree, TakesBack}
+use Rattle.iocm_model.specs.Change.Meaning.{meaning}
+use Rattle.iocm_model.specs.Change.Tree.{ChangeTree}
+use Rattle.iocm_history.specs.Fits.{fits}
+use Rattle.iocm_plant.specs.declared.touched.Applied.{Applied}
+use Rattle.iocm_plant.specs.declared.touched.Touched.{Touched}
+use Rattle.iocm_activate.specs.Done.{edits_meant, AreToldBy}
+use Rattle.iocm_activate.specs.Fitting.{is_turned_number, is_turned_view}
+use Rattle.iocm_activate.specs.Told.{told_of_all}
+
+-- an edit did just what another one did, turned round
+abbrev pub is_turned : Touched → Touched → Bool
+is_turned now was = pointwise is_turned_number now.numbers.items was.numbers.items
+    && pointwise is_turned_view now.subchannels.items was.subchannels.items
+
+-- so did each of some edits, with the others in the order in which they are taken back
+abbrev pub are_turned_back : List Applied → List Touched → Bool
+are_turned_back [] ds = true
+are_turned_back (a ∷ done) [] = false
+are_turned_back (a ∷ done) (d ∷ ds) = is_turned a.touched d && are_turned_back done ds
+
+-- an inverse tree was carried out, and the change that did this fitted before, whatever it was. The
+-- tree that is given takes this back
+pub record WentBack (t : ChangeTree) (performed : List Touched) (before after : State) (redo : ChangeTree) : Type 0 where
+  pub means : meaning t before ≡ Ok (record { state = after; edits = edits_meant t before })
+  pub inverse : redo ≡ inverse_tree (edits_meant t before) before
+  pub takes_back : TakesBack redo (edits_meant t before) before
+  pub fitted : (es : List Edit) (s : State) → t ≡ inverse_tree es s → AreToldBy performed (told_of_all es s)
+      → fits (record { edits = es; from = s }) before ≡ true
