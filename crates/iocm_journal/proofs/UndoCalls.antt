@@ -40,7 +40,7 @@ use Rattle.iocm_journal.specs.Journaled.{Journaled}
 use Rattle.iocm_journal.proofs.Answers.{unless_busy}
 use Rattle.iocm_journal.proofs.Deciding.{stands_is, effect_there}
 use Rattle.iocm_journal.proofs.Places.{stands_low, inverse_item}
-use Rattle.iocm_journal.proofs.Refused.{right_undo, lacking_undo, undo_refused}
+use Rattle.iocm_journal.proofs.Refused.{kept_the_same, right_undo, lacking_undo, undo_refused}
 use Rattle.iocm_journal.proofs.UndoDecided.{quiet_is, stands_on_is, undo_decided, not_standing}
 use Rattle.iocm_journal.proofs.Undoing.{undone_now}
 
@@ -52,6 +52,18 @@ rules_now b = subst KeepsTheRules (sym b.now.state) (states_stay_in_use b.openin
 
 pub same_journal : (j : Journaled) → KeepsTheSame j j
 same_journal j = record { changes = refl; standing = refl; undone = refl }
+
+-- a journal that keeps the same, and a machine in the same state, are of the same history
+module _ {j i : Journaled} {fs : List Effect} {p q : Operating} (same : KeepsTheSame j i) (stays : q.state ≡ p.state) where
+  pub still_now : {opening : State} {h : History} → IsNow opening h j fs p → IsNow opening h i fs q
+  still_now {opening} {h} now = record {
+    journal = kept_the_same opening h j i fs same now.journal;
+    idle = now.idle;
+    state = stays ∙ now.state;
+  }
+
+  pub still_together : BelongTogether j fs p → BelongTogether i fs q
+  still_together b = record { opening = b.opening; history = b.history; now = still_now b.now }
 
 differ : true ≡ false → ⊥
 differ e = cc

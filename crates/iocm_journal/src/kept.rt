@@ -1,11 +1,17 @@
-ghost use Rattle.std.specs.Prelude.{◌≡◌, IfOk};
+ghost use Rattle.std.specs.Prelude.{◌≡◌, true, IfOk, IfErr, OnOk, OnErr, Ok};
+ghost use Rattle.iocm_model.specs.Change.InverseTree.{TakesBack};
+ghost use Rattle.iocm_model.specs.Change.Meaning.{meaning};
 ghost use Rattle.iocm_model.specs.Laws.Trees.{KeepsTheRules};
+ghost use Rattle.iocm_tree.specs.Trees.{plain};
 ghost use Rattle.iocm_plant.specs.Operating.{KeepsRoom};
+ghost use Rattle.iocm_plant.specs.Refusing.{IsDue};
+ghost use Rattle.iocm_activate.specs.Done.{edits_meant, refusal_in};
 ghost use Rattle.iocm_journal.specs.Standing.{IsWhetherItFits};
 
-use iocm_activate::fits;
+use iocm_activate::{carry_back, carry_out, fits};
 use iocm_plant::{Plant, Touched};
 use iocm_tree::Tree;
+use iocm_types::Refused;
 use std::alloc::{AllocError, Global};
 
 /// An accepted change, as the journal keeps it. The word is own.
@@ -42,5 +48,29 @@ impl Kept {
         ensures room { KeepsRoom plant.old.room plant.new.room }
     {
         fits(alloc, plant, &self.inverse, self.performed.as_slice())
+    }
+
+    /// Carries out the tree that takes the change back, on a machine that keeps the rules, and gives
+    /// the tree that does it again. Where it is asked for, only if the change fits.
+    ///
+    /// Refused as by `carry_out`, or by M1: the change was to fit and doesn't. Then the state stays.
+    pub fn carry(&self, alloc: Global, plant: &mut Plant, if_it_fits: bool) -> Result<Tree, Refused>
+        requires { KeepsTheRules plant.old.state }
+        ensures means { OnOk result (meaning (plain self.now.inverse) plant.old.state
+            ≡ Ok (record { state = plant.new.state; edits = edits_meant (plain self.now.inverse) plant.old.state })) }
+        ensures takes_back { IfOk result (λ t. TakesBack (plain t)
+            (edits_meant (plain self.now.inverse) plant.old.state) plant.old.state) }
+        ensures fits { OnOk result (if_it_fits ≡ true → IsWhetherItFits self.now plant.old.state true) }
+        ensures refused { IfErr result (IsDue (refusal_in (meaning (plain self.now.inverse) plant.old.state))) }
+        ensures same { OnErr result (plant.new.state ≡ plant.old.state) }
+        ensures room { KeepsRoom plant.old.room plant.new.room }
+    {
+        if !if_it_fits {
+            return carry_out(alloc, plant, &self.inverse);
+        }
+        match carry_back(alloc, plant, &self.inverse, self.performed.as_slice()) {
+            Some(redo) => Ok(redo),
+            None => Err(Refused::NO_MEMORY),
+        }
     }
 }

@@ -39,8 +39,8 @@ fn stands_on(kept: &[Kept], changes: &[Effect], place: usize, fits: bool, other:
 {
     if fits {
         return place < other
-            && kept[other].stands
-            && share_a_cell(&changes[place], &changes[other]);
+            && share_a_cell(&changes[place], &changes[other])
+            && kept[other].stands;
     }
     if place < other {
         return kept[other].stands;

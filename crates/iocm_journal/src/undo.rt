@@ -1,5 +1,5 @@
 ghost use Rattle.std.specs.Prelude.{◌≡◌, ◌<◌, ◌+◌, ℕ, length, MatchOption};
-ghost use Rattle.std.specs.Prelude.{IfOk, IfErr, IfSome, IsFalse, IsTrue, OnOk, OnErr};
+ghost use Rattle.std.specs.Prelude.{IfOk, IfErr, IfSome, IsFalse, IsTrue, OnOk, OnErr, Ok, Some, true, false, slice_get};
 ghost use Rattle.iocm_model.specs.Change.Meaning.{meaning};
 ghost use Rattle.iocm_model.specs.Laws.Trees.{KeepsTheRules};
 ghost use Rattle.iocm_model.specs.Operation.State.{State};
@@ -11,14 +11,15 @@ ghost use Rattle.iocm_journal.specs.Answering.{GoOnBy, undo_made};
 ghost use Rattle.iocm_journal.specs.Deciding.{IsUndoDecided};
 ghost use Rattle.iocm_journal.specs.Moving.{KeepsTheSame, WasUndone};
 ghost use Rattle.iocm_journal.specs.Now.{BelongTogether, IsNow};
-ghost use Rattle.iocm_journal.specs.Standing.{inverse_at, stands_at, IsGreatestOn};
+ghost use Rattle.iocm_journal.specs.Standing.{inverse_at, stands_at, IsGreatestOn, IsWhetherItFits};
+ghost use Rattle.iocm_journal.specs.declared.kept.Kept.{Kept};
 
 use crate::Journal;
 use crate::kept::Undone;
 use crate::quiet::refused_for_not_quiet;
 use crate::standing_on::{greatest_on, is_stood_on_if_unfit};
 use crate::undos::Undo;
-use iocm_activate::{Effect, carry_out};
+use iocm_activate::Effect;
 use iocm_plant::Plant;
 use iocm_types::{At, Refused, Rule};
 use std::alloc::{AllocError, Global};
@@ -47,8 +48,67 @@ impl Journal {
         let Some(place) = self.standing_place(number) else {
             return Err(Refused::of(Rule::J1));
         };
+        if self.undo_if_it_fits(alloc, plant, changes, place) {
+            return Ok(());
+        }
+        self.undo_if_nothing_stands_on_it(alloc, plant, changes, place)
+    }
+
+    /// Undoes the standing change at a place by one walk through its inverse tree, which tells
+    /// whether the change fits: where later ones stand, none of which has a cell in common with it,
+    /// and all that it altered is quiet. Whether it did so; where not, nothing is changed, and
+    /// nothing is said of the undo.
+    fn undo_if_it_fits(
+        &mut self,
+        alloc: Global,
+        plant: &mut Plant,
+        changes: &[Effect],
+        place: usize,
+    ) -> bool
+        requires now { BelongTogether self.old changes.now plant.old }
+        requires place { place < length self.old.changes }
+        requires stands { IsTrue (stands_at self.old.changes place) }
+        ensures next { result ≡ true
+            → GoOnBy (undo_made (place + 1) (Ok tt)) changes.now self.old plant.old self.new plant.new }
+        ensures state { result ≡ false → plant.new.state ≡ plant.old.state }
+        ensures same { result ≡ false → KeepsTheSame self.old self.new }
+        ensures room { KeepsRoom plant.old.room plant.new.room }
+    {
+        let kept = self.changes.as_slice();
+        let undos = self.undos.as_slice();
+        if !is_stood_on_if_unfit(kept, undos, place) {
+            return false;
+        }
+        if greatest_on(kept, changes, place, true).is_some() {
+            return false;
+        }
+        if refused_for_not_quiet(plant, &changes[place]).is_some() {
+            return false;
+        }
+        match self.take_back(alloc, plant, place, true) {
+            Ok(()) => true,
+            Err(_why) => false,
+        }
+    }
+
+    /// Undoes the standing change at a place, unless one stands on it or a subchannel that it altered
+    /// isn't quiet.
+    fn undo_if_nothing_stands_on_it(
+        &mut self,
+        alloc: Global,
+        plant: &mut Plant,
+        changes: &[Effect],
+        place: usize,
+    ) -> Result<(), Refused>
+        requires now { BelongTogether self.old changes.now plant.old }
+        requires place { place < length self.old.changes }
+        requires stands { IsTrue (stands_at self.old.changes place) }
+        ensures next { GoOnBy (undo_made (place + 1) result) changes.now self.old plant.old self.new plant.new }
+        ensures same { OnErr result (KeepsTheSame self.old self.new) }
+        ensures room { KeepsRoom plant.old.room plant.new.room }
+    {
         match self.undo_obstacle(alloc, plant, changes, place) {
-            Ok(None) => self.take_back(alloc, plant, place),
+            Ok(None) => self.take_back(alloc, plant, place, false),
             Ok(Some(why)) => Err(why),
             Err(_error) => Err(Refused::NO_MEMORY),
         }
@@ -121,14 +181,23 @@ impl Journal {
     }
 
     /// Takes the standing change at a place back, by its inverse tree; it is the last one undone
-    /// then, and the undo is noted.
+    /// then, and the undo is noted. Where it is asked for, only if the change fits.
     ///
-    /// The refusal that the inverse tree means, or M1: memory ran out.
-    fn take_back(&mut self, alloc: Global, plant: &mut Plant, place: usize) -> Result<(), Refused>
+    /// The refusal that the inverse tree means, or M1: memory ran out, or the change was to fit and
+    /// doesn't.
+    fn take_back(
+        &mut self,
+        alloc: Global,
+        plant: &mut Plant,
+        place: usize,
+        if_it_fits: bool,
+    ) -> Result<(), Refused>
         requires rules { KeepsTheRules plant.old.state }
         requires place { place < length self.old.changes }
         requires stands { IsTrue (stands_at self.old.changes place) }
         ensures done { OnOk result (WasUndone self.old place plant.old.state plant.new.state self.new) }
+        ensures fits { OnOk result (if_it_fits ≡ true → (k : Kept) → slice_get self.old.changes place ≡ Some k
+            → IsWhetherItFits k plant.old.state true) }
         ensures refused { IfErr result (IsDue (refusal_in
             (meaning (inverse_at self.old.changes place) plant.old.state))) }
         ensures same { OnErr result (plant.new.state ≡ plant.old.state) }
@@ -141,7 +210,7 @@ impl Journal {
         if self.undos.reserve(1).is_err() {
             return Err(Refused::NO_MEMORY);
         }
-        match carry_out(alloc, plant, &self.changes[place].inverse) {
+        match self.changes[place].carry(alloc, plant, if_it_fits) {
             Ok(redo) => {
                 let count = self.changes.len() as u64;
                 let kept = &mut self.changes[place];
