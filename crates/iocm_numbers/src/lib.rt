@@ -10,9 +10,9 @@
 //! `lowest_free` is the least number that no device has.
 //!
 //! Begin with `numbers.rt`; `bits.rt` has the bits, `first_numbers.rt` the numbers at opening,
-//! `first_cells.rt` their cells, `taken.rt` which carried numbers are taken, `renumber.rt` the numbers after a change,
-//! `changes.rt` what it did to them, and `exchange.rt` how a change is taken back. What names no
-//! source is our own.
+//! `first_cells.rt` their cells, and `place_walk.rt` which places are reached. `taken.rt` has which
+//! carried numbers are taken, `renumber.rt` the numbers after a change, `changes.rt` what it did to
+//! them, and `exchange.rt` how a change is taken back. What names no source is our own.
 #![tactic(auto)]
 
 mod bits;
@@ -29,9 +29,9 @@ mod looked_at;
 mod number_change;
 mod number_laws;
 mod numbers;
+mod place_walk;
 mod put_back;
 mod reached;
-mod reached_walk;
 mod renumber;
 mod renumbered;
 mod taken;

@@ -1,9 +1,10 @@
 ghost use Rattle.std.specs.Prelude.{◌≡◌, not};
 ghost use Rattle.iocm_model.specs.Machine.Configuration.{lookup_of};
-ghost use Rattle.iocm_model.specs.Machine.Numbering.{is_empty, is_record_reached, is_reached_at};
+ghost use Rattle.iocm_model.specs.Machine.Numbering.{is_empty, is_reached_at};
 ghost use Rattle.iocm_model.specs.Machine.PathList.{paths_in, unit_record_paths, path_list};
 ghost use Rattle.std.specs.Option.{option_copied};
 
+use crate::place_walk::PlaceWalk;
 use iocm_config::Config;
 use iocm_record::{Record, RecordBody};
 use iocm_types::{Css, CssPath, Key, Place, UnitNo};
@@ -27,25 +28,7 @@ pub fn is_reached<A: Allocator>(config: &Config<A>, css: Css, units: &[UnitNo]) 
 pub fn is_place_reached<A: Allocator>(config: &Config<A>, place: Place) -> bool
     ensures { result ≡ is_reached_at config.now.records place }
 {
-    // For the proof alone: each record stands under its own key, and the place's numbers are in
-    // their ranges.
-    config.has_own_keys();
-    let _css = place.css.number();
-    let _set = place.set.number();
-    match config.get(&Key::Device(place.set, place.device)) {
-        Some(entry) => is_device_reached(config, place.css, entry),
-        None => false,
-    }
-}
-
-/// Whether a record is that of a device that a channel subsystem reaches.
-fn is_device_reached<A: Allocator>(config: &Config<A>, css: Css, entry: &Record<A>) -> bool
-    ensures { result ≡ is_record_reached (lookup_of config.now.records) css (Some entry.now) }
-{
-    match entry.body() {
-        RecordBody::Device(fields) => is_reached(config, css, fields.lists.units()),
-        _ => false,
-    }
+    PlaceWalk::new(config).is_reached(&place)
 }
 
 /// Whether a record, if there is one, is that of a unit that has a path in a channel subsystem.

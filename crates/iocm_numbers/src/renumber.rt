@@ -8,7 +8,7 @@ ghost use Rattle.iocm_numbers.specs.PutBack.{numbers_at};
 ghost use Rattle.iocm_numbers.specs.Renumbering.{left_by, filled_by, given_by, needs_number};
 ghost use Rattle.iocm_numbers.specs.Renumbering.{AreAllTouched, ChangesComersAlone, Rise};
 
-use crate::reached_walk::ReachedWalk;
+use crate::place_walk::PlaceWalk;
 use crate::{Numbers, Renumbered};
 use iocm_config::Config;
 use iocm_types::Place;
@@ -111,14 +111,14 @@ impl<A: Allocator> Numbers<A> {
         ensures numbers { self.new.numbers ≡ fold (left_by config.now.records) self.old.numbers touched.now }
         ensures room { HasSameRoom self.new self.old }
     {
-        let mut walk = ReachedWalk::new(config);
+        let mut walk = PlaceWalk::new(config);
         for place in touched {
             self.leave_one(&mut walk, place);
         }
     }
 
     /// A device that isn't reached loses its number.
-    fn leave_one<B: Allocator>(&mut self, walk: &mut ReachedWalk<'_, B>, place: &Place)
+    fn leave_one<B: Allocator>(&mut self, walk: &mut PlaceWalk<'_, B>, place: &Place)
         ensures numbers { self.new.numbers ≡ left_by walk.old self.old.numbers place.now }
         ensures room { HasSameRoom self.new self.old }
         ensures same { walk.new ≡ walk.old }
@@ -144,7 +144,7 @@ impl<A: Allocator> Numbers<A> {
         ensures room { KeepsRoom self.old self.new }
     {
         self.are_apart();
-        let mut walk = ReachedWalk::new(config);
+        let mut walk = PlaceWalk::new(config);
         for row in carried {
             self.carry_one(&mut walk, &row.0, row.1)?;
         }
@@ -154,7 +154,7 @@ impl<A: Allocator> Numbers<A> {
     /// A device that comes in gets the number that it has carried along.
     fn carry_one<B: Allocator>(
         &mut self,
-        walk: &mut ReachedWalk<'_, B>,
+        walk: &mut PlaceWalk<'_, B>,
         place: &Place,
         number: u16,
     ) -> Result<(), AllocError>
@@ -190,7 +190,7 @@ impl<A: Allocator> Numbers<A> {
         ensures others { ChangesComersAlone config.now.records self.old.numbers self.new.numbers }
         ensures room { KeepsRoom self.old self.new }
     {
-        let mut walk = ReachedWalk::new(config);
+        let mut walk = PlaceWalk::new(config);
         for place in touched {
             self.fill_one(&mut walk, place)?;
         }
@@ -200,7 +200,7 @@ impl<A: Allocator> Numbers<A> {
     /// A device that comes in gets the lowest free number.
     fn fill_one<B: Allocator>(
         &mut self,
-        walk: &mut ReachedWalk<'_, B>,
+        walk: &mut PlaceWalk<'_, B>,
         place: &Place,
     ) -> Result<(), AllocError>
     where
@@ -227,11 +227,7 @@ impl<A: Allocator> Numbers<A> {
 
     /// Whether a device comes in at a place: it is reached there and has no number yet. The number
     /// is looked up first, since that takes one search.
-    pub(crate) fn comes_in<B: Allocator>(
-        &self,
-        walk: &mut ReachedWalk<'_, B>,
-        place: &Place,
-    ) -> bool
+    pub(crate) fn comes_in<B: Allocator>(&self, walk: &mut PlaceWalk<'_, B>, place: &Place) -> bool
         ensures needs { result ≡ needs_number walk.old self.now.numbers place.now }
         ensures same { walk.new ≡ walk.old }
     {

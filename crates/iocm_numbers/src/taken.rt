@@ -10,8 +10,8 @@ ghost use Rattle.iocm_numbers.specs.Taken.{is_noted, with_noted};
 
 use crate::Numbers;
 use crate::numbers::cell_of;
+use crate::place_walk::PlaceWalk;
 use crate::reached::is_place_reached;
-use crate::reached_walk::ReachedWalk;
 use iocm_config::Config;
 use iocm_table::Table;
 use iocm_types::{DevNo, NumberCell, Place};
@@ -45,7 +45,7 @@ impl<A: Allocator> Numbers<A> {
             (λ row. list_any (same_cell row) (entries (without_leavers config.now.records self.now.numbers)))
             (filter (comes_in config.now.records self.now.numbers) carried.now) }
     {
-        let mut walk = ReachedWalk::new(config);
+        let mut walk = PlaceWalk::new(config);
         for row in carried {
             if self.comes_in(&mut walk, &row.0) && self.is_held(config, row) {
                 return true;
@@ -79,7 +79,7 @@ impl<A: Allocator> Numbers<A> {
             ≡ has_cell_twice (filter (comes_in config.now.records self.now.numbers) carried.now)) }
     {
         let mut seen = Table::new(alloc);
-        let mut walk = ReachedWalk::new(config);
+        let mut walk = PlaceWalk::new(config);
         for row in carried {
             if self.note(&mut walk, &mut seen, row)? {
                 return Ok(true);
@@ -92,7 +92,7 @@ impl<A: Allocator> Numbers<A> {
     /// before.
     fn note<B: Allocator, C: Allocator + Clone>(
         &self,
-        walk: &mut ReachedWalk<'_, B>,
+        walk: &mut PlaceWalk<'_, B>,
         seen: &mut Table<NumberCell, (), C>,
         row: &(Place, u16),
     ) -> Result<bool, AllocError>

@@ -129,8 +129,8 @@ fn list_at_images<A: Allocator, B: Allocator, C: Allocator, D: Allocator + Clone
     Ok(altered)
 }
 
-/// The name of an image, if it is there. It is looked up only where the image's channel subsystem
-/// has a device at one of these number cells: where no cell has one, nothing is seen.
+/// The name of an image, if it is there. It is looked up only where it is needed: where the image's
+/// channel subsystem has a device at one of these number cells.
 fn name_for<A: Allocator, B: Allocator>(
     names: &mut ImageNames<'_, A>,
     image: &Image,

@@ -3,7 +3,7 @@ use Rattle.std.proofs.Common.{◌≡◌, drop}
 use Rattle.std.specs.List.{list_any}
 use Rattle.iocm_model.specs.Machine.Configuration.{lookup_of}
 use Rattle.iocm_numbers.proofs.PathsThere.{has_path}
-use Rattle.iocm_numbers.proofs.reached_walk.is_one_reaching.Given as goal
+use Rattle.iocm_numbers.proofs.place_walk.is_one_reaching.Given as goal
 
 abbrev pub invariant-loop-unit : goal.invariant-loop-unit
 invariant-loop-unit g l =

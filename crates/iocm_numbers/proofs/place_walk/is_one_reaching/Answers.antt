@@ -8,7 +8,7 @@ use Rattle.iocm_model.specs.Machine.Numbering.{is_empty}
 use Rattle.iocm_model.specs.Machine.PathList.{unit_record_paths}
 use Rattle.iocm_model.specs.Machine.Record.{Rec}
 use Rattle.iocm_numbers.proofs.PathsThere.{has_path, some_unit}
-use Rattle.iocm_numbers.proofs.reached_walk.is_one_reaching.Goals as goal
+use Rattle.iocm_numbers.proofs.place_walk.is_one_reaching.Goals as goal
 
 pub returns-then-has_path-clause-reached : goal.returns-then-has_path-clause-reached
 returns-then-has_path-clause-reached g c =

@@ -12,15 +12,15 @@ use std::alloc::Allocator;
 use std::marker::Model;
 
 /// Tells of one place after the other whether it is reached. The device and the control unit that
-/// were looked up last are kept, so the places of one device take one search of each. Contracts see
-/// the configuration.
+/// were looked up last are kept: so the places of one device, one after the other, mostly take one
+/// search of each. Contracts see the configuration.
 #[derive(Drop)]
-pub(crate) struct ReachedWalk<'a, A: Allocator> {
+pub(crate) struct PlaceWalk<'a, A: Allocator> {
     devices: LastRecord<'a, A>,
     units: LastRecord<'a, A>,
 }
 
-impl<'a, A: Allocator> Model for ReachedWalk<'a, A> {
+impl<'a, A: Allocator> Model for PlaceWalk<'a, A> {
     ghost use Rattle.std.specs.Prelude.{◌≡◌};
     ghost use Rattle.std.specs.FinMap as map;
     ghost use Rattle.std.specs.Coded.{codes};
@@ -35,14 +35,14 @@ impl<'a, A: Allocator> Model for ReachedWalk<'a, A> {
     ghost invariant = { λ w. (w.units ≡ w.devices) × IsKeyed w.devices };
 }
 
-impl<'a, A: Allocator> ReachedWalk<'a, A> {
+impl<'a, A: Allocator> PlaceWalk<'a, A> {
     /// That of a configuration, before the first place.
     pub fn new(config: &'a Config<A>) -> Self
         ensures { result ≡ config.entry.now.records }
     {
         // For the proof alone: each record stands under its own key.
         config.has_own_keys();
-        ReachedWalk {
+        PlaceWalk {
             devices: LastRecord::new(config),
             units: LastRecord::new(config),
         }

@@ -3,7 +3,7 @@ use Rattle.std.proofs.Common.{arith, sym, ap, ◌∙◌}
 use Rattle.iocm_model.specs.Machine.Configuration.{Configuration, lookup_of}
 use Rattle.iocm_model.specs.Machine.Numbering.{is_record_reached, is_reached_at}
 use Rattle.iocm_model.proofs.Numbers.Opening.{reached_places_are_of_devices}
-use Rattle.iocm_numbers.proofs.reached_walk.ReachedWalk.is_reached.Goals as goal
+use Rattle.iocm_numbers.proofs.place_walk.PlaceWalk.is_reached.Goals as goal
 
 pub returns-in-Some-clause-reached : goal.returns-in-Some-clause-reached
 returns-in-Some-clause-reached g c =
