@@ -22,9 +22,9 @@ use Rattle.iocm_history.specs.Fits.{fits, is_barred, keeps_the_rules}
 use Rattle.iocm_plant.specs.Operating.{Operating}
 use Rattle.iocm_plant.specs.declared.touched.Applied.{Applied}
 use Rattle.iocm_plant.specs.declared.touched.Touched.{Touched}
-use Rattle.iocm_activate.specs.CarryingBack.{are_turned_back, is_turned}
+use Rattle.iocm_activate.specs.CarryingBack.{are_turned_back}
 use Rattle.iocm_activate.specs.Done.{AreToldBy}
-use Rattle.iocm_activate.specs.Fitting.{gone_back, gone_back_along, is_turned_number, is_turned_view}
+use Rattle.iocm_activate.specs.Fitting.{gone_back, gone_back_along, is_turned, is_turned_number, is_turned_view}
 use Rattle.iocm_activate.specs.Told.{Told, told_in, told_of, told_of_all}
 use Rattle.iocm_activate.specs.Walked.{WasAccepted}
 use Rattle.iocm_activate.specs.declared.log.Log.{Log}

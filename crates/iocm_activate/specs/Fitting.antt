@@ -30,6 +30,11 @@ abbrev pub is_turned_view : ViewChange → ViewChange → Bool
 is_turned_view now was = eq_by_cmp sub_id_cmp now.subchannel was.subchannel
     && (option_eq same_view now.before was.after && option_eq same_view now.after was.before)
 
+-- an edit did just what another one did, turned round
+abbrev pub is_turned : Touched → Touched → Bool
+is_turned now was = pointwise is_turned_number now.numbers.items was.numbers.items
+    && pointwise is_turned_view now.subchannels.items was.subchannels.items
+
 -- the state that an edit leaves, if it can be performed there, be the subchannels quiet or not. Its
 -- changes have to be those of another one turned round
 abbrev pub gone_back : Edit → Touched → State → Option State

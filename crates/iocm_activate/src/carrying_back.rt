@@ -15,8 +15,8 @@ use std::alloc::{Allocator, Global};
 /// Carries out the inverse tree of a change where the change fits, and gives the tree that does the
 /// change again. So it is tried and taken back by one walk through the tree.
 ///
-/// None where the change doesn't fit, or where something stands in the way: an altered subchannel
-/// that isn't quiet, or memory. Then the state is as it was.
+/// None where the change doesn't fit, where the tree is refused, or where memory is missing; no
+/// clause says when. Then the state is as it was.
 pub fn carry_back<A: Allocator>(
     alloc: Global,
     plant: &mut Plant,
@@ -46,6 +46,7 @@ pub fn carry_back<A: Allocator>(
 }
 
 /// Whether edits that were done did just what others did, turned round, the last of those first.
+/// There may be more of the others.
 fn are_turned_back(done: &[Applied], performed: &[Touched]) -> bool
     ensures { result ≡ are_turned_back done.now (reverse performed.now) }
 {

@@ -7,7 +7,8 @@
 //! tree, the `Effect`, and what each edit did. `make` activates for a report, without the effect;
 //! `carry_out` for an undo or a redo, and gives the inverse tree alone. `fits` tries whether the
 //! inverse tree of a change would take back now just what the change did, and leaves the state as
-//! it was; `carry_back` takes it back if so. What an `Effect` has of one kind is `Written`, which tells cells in common.
+//! it was; `carry_back` takes it back if so. What an `Effect` has of one kind is `Written`, which
+//! tells cells in common.
 //!
 //! What the layer above may rely on: the state afterwards and each refusal are those of the model's
 //! `meaning`, a refused tree leaves the state as it was, and the inverse tree takes the change

@@ -76,8 +76,8 @@ impl Log {
         self.keys.push_reserved(key);
     }
 
-    /// Tells of one more edit, for which there is room, and which left all records as they were. Where
-    /// the rules were kept before it, they are kept after it. Can't run out of memory.
+    /// Tells of one more edit, for which there is room, and which left all records as they were.
+    /// Where the rules were kept before it, they are kept after it. Can't run out of memory.
     pub fn note_unchanged(&mut self, key: Key, applied: Applied)
         requires room { vec_len self.old.done < vec_capacity self.old.done }
         requires key_room { vec_len self.old.keys < vec_capacity self.old.keys }

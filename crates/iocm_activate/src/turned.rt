@@ -2,7 +2,7 @@ ghost use Rattle.std.specs.Prelude.{◌≡◌, ◌&&◌, ◌==◌};
 ghost use Rattle.std.specs.Cmp.Lexicographic.{pointwise};
 ghost use Rattle.std.specs.Option.{option_eq};
 ghost use Rattle.iocm_model.specs.Change.Edit.{same_view};
-ghost use Rattle.iocm_activate.specs.Fitting.{is_turned_number, is_turned_view};
+ghost use Rattle.iocm_activate.specs.Fitting.{is_turned, is_turned_number, is_turned_view};
 
 use iocm_numbers::NumberChange;
 use iocm_plant::Touched;
@@ -12,8 +12,7 @@ use iocm_types::View;
 /// Whether an edit did just what another one did, turned round: each change at the same cell, from
 /// what was there after that one to what was there before it.
 pub fn is_turned(now: &Touched, was: &Touched) -> bool
-    ensures { result ≡ (pointwise is_turned_number now.now.numbers.items was.now.numbers.items
-        && pointwise is_turned_view now.now.subchannels.items was.now.subchannels.items) }
+    ensures { result ≡ is_turned now.now was.now }
 {
     are_numbers_turned(now.numbers.as_slice(), was.numbers.as_slice())
         && are_views_turned(now.subchannels.as_slice(), was.subchannels.as_slice())

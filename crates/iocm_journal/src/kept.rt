@@ -7,6 +7,7 @@ ghost use Rattle.iocm_plant.specs.Operating.{KeepsRoom};
 ghost use Rattle.iocm_plant.specs.Refusing.{IsDue};
 ghost use Rattle.iocm_activate.specs.Done.{edits_meant, refusal_in};
 ghost use Rattle.iocm_journal.specs.Standing.{IsWhetherItFits};
+ghost use Rattle.iocm_journal.specs.declared.kept.Undoing.TheVariants.{IfItFits};
 
 use iocm_activate::{carry_back, carry_out, fits};
 use iocm_plant::{Plant, Touched};
@@ -37,6 +38,15 @@ pub struct Undone {
     pub redo: Tree,
 }
 
+/// How a change is undone. The word is own.
+#[derive(Clone, Copy)]
+pub enum Undoing {
+    /// Whether it fits or not.
+    Anyway,
+    /// Only if it fits.
+    IfItFits,
+}
+
 impl Kept {
     /// Whether the change fits a machine that keeps the rules. The state stays as it is.
     ///
@@ -51,26 +61,34 @@ impl Kept {
     }
 
     /// Carries out the tree that takes the change back, on a machine that keeps the rules, and gives
-    /// the tree that does it again. Where it is asked for, only if the change fits.
+    /// the tree that does it again.
     ///
-    /// Refused as by `carry_out`, or by M1: the change was to fit and doesn't. Then the state stays.
-    pub fn carry(&self, alloc: Global, plant: &mut Plant, if_it_fits: bool) -> Result<Tree, Refused>
+    /// Refused as by `carry_out`. Where the change is to fit, each refusal is M1, whatever stood in
+    /// the way. A refused change leaves the state as it was.
+    pub fn go_back(
+        &self,
+        alloc: Global,
+        plant: &mut Plant,
+        undoing: Undoing,
+    ) -> Result<Tree, Refused>
         requires { KeepsTheRules plant.old.state }
         ensures means { OnOk result (meaning (plain self.now.inverse) plant.old.state
             ≡ Ok (record { state = plant.new.state; edits = edits_meant (plain self.now.inverse) plant.old.state })) }
         ensures takes_back { IfOk result (λ t. TakesBack (plain t)
             (edits_meant (plain self.now.inverse) plant.old.state) plant.old.state) }
-        ensures fits { OnOk result (if_it_fits ≡ true → IsWhetherItFits self.now plant.old.state true) }
+        ensures fits { OnOk result (undoing ≡ IfItFits → IsWhetherItFits self.now plant.old.state true) }
         ensures refused { IfErr result (IsDue (refusal_in (meaning (plain self.now.inverse) plant.old.state))) }
         ensures same { OnErr result (plant.new.state ≡ plant.old.state) }
         ensures room { KeepsRoom plant.old.room plant.new.room }
     {
-        if !if_it_fits {
-            return carry_out(alloc, plant, &self.inverse);
-        }
-        match carry_back(alloc, plant, &self.inverse, self.performed.as_slice()) {
-            Some(redo) => Ok(redo),
-            None => Err(Refused::NO_MEMORY),
+        match undoing {
+            Undoing::Anyway => carry_out(alloc, plant, &self.inverse),
+            Undoing::IfItFits => {
+                match carry_back(alloc, plant, &self.inverse, self.performed.as_slice()) {
+                    Some(redo) => Ok(redo),
+                    None => Err(Refused::NO_MEMORY),
+                }
+            }
         }
     }
 }

@@ -6,8 +6,8 @@
 //! one that stands and wrote a cell that it wrote; or, where the change no longer fits, any later
 //! one that stands, and each earlier one that was undone since and doesn't stand.
 //! The undos are noted in their order (`undos.rt`): so an undo reads the changes accepted and the
-//! undos made since its change, and all changes only where a change stands on it. Mostly none does:
-//! then one walk through the inverse tree tells that the change fits, and takes it back.
+//! undos made since its change, and all changes only where a change stands on it. Where no later one
+//! has a cell in common and all is quiet, one walk tries the change and takes it back.
 //!
 //! What the layer above may rely on: beside a history (`IsJournalOf`) the journal answers undo and
 //! redo as the history's definition says, and leaves the machine in the state to which the history

@@ -38,6 +38,7 @@ fn stands_on(kept: &[Kept], changes: &[Effect], place: usize, fits: bool, other:
     ensures { result ≡ is_on kept.now changes.now place fits other }
 {
     if fits {
+        // The signatures mostly tell, and then what is kept of the other isn't read.
         return place < other
             && share_a_cell(&changes[place], &changes[other])
             && kept[other].stands;

@@ -13,9 +13,10 @@ ghost use Rattle.iocm_journal.specs.Moving.{KeepsTheSame, WasUndone};
 ghost use Rattle.iocm_journal.specs.Now.{BelongTogether, IsNow};
 ghost use Rattle.iocm_journal.specs.Standing.{inverse_at, stands_at, IsGreatestOn, IsWhetherItFits};
 ghost use Rattle.iocm_journal.specs.declared.kept.Kept.{Kept};
+ghost use Rattle.iocm_journal.specs.declared.kept.Undoing.TheVariants.{IfItFits};
 
 use crate::Journal;
-use crate::kept::Undone;
+use crate::kept::{Undoing, Undone};
 use crate::quiet::refused_for_not_quiet;
 use crate::standing_on::{greatest_on, is_stood_on_if_unfit};
 use crate::undos::Undo;
@@ -54,10 +55,10 @@ impl Journal {
         self.undo_if_nothing_stands_on_it(alloc, plant, changes, place)
     }
 
-    /// Undoes the standing change at a place by one walk through its inverse tree, which tells
-    /// whether the change fits: where later ones stand, none of which has a cell in common with it,
-    /// and all that it altered is quiet. Whether it did so; where not, nothing is changed, and
-    /// nothing is said of the undo.
+    /// Tries to undo the standing change at a place by one walk through its inverse tree. It is for a
+    /// change that one would stand on if it didn't fit. No later one that stands may have a cell in
+    /// common with it, and all that it altered has to be quiet. Tells whether it did so. Else the
+    /// state and the journal are as they were, and nothing is said of the undo.
     fn undo_if_it_fits(
         &mut self,
         alloc: Global,
@@ -85,7 +86,7 @@ impl Journal {
         if refused_for_not_quiet(plant, &changes[place]).is_some() {
             return false;
         }
-        match self.take_back(alloc, plant, place, true) {
+        match self.take_back(alloc, plant, place, Undoing::IfItFits) {
             Ok(()) => true,
             Err(_why) => false,
         }
@@ -108,7 +109,7 @@ impl Journal {
         ensures room { KeepsRoom plant.old.room plant.new.room }
     {
         match self.undo_obstacle(alloc, plant, changes, place) {
-            Ok(None) => self.take_back(alloc, plant, place, false),
+            Ok(None) => self.take_back(alloc, plant, place, Undoing::Anyway),
             Ok(Some(why)) => Err(why),
             Err(_error) => Err(Refused::NO_MEMORY),
         }
@@ -181,22 +182,22 @@ impl Journal {
     }
 
     /// Takes the standing change at a place back, by its inverse tree; it is the last one undone
-    /// then, and the undo is noted. Where it is asked for, only if the change fits.
+    /// then, and the undo is noted.
     ///
-    /// The refusal that the inverse tree means, or M1: memory ran out, or the change was to fit and
-    /// doesn't.
+    /// The refusal that the inverse tree means, or M1: memory ran out. Where the change is to fit,
+    /// M1 comes in place of any other refusal.
     fn take_back(
         &mut self,
         alloc: Global,
         plant: &mut Plant,
         place: usize,
-        if_it_fits: bool,
+        undoing: Undoing,
     ) -> Result<(), Refused>
         requires rules { KeepsTheRules plant.old.state }
         requires place { place < length self.old.changes }
         requires stands { IsTrue (stands_at self.old.changes place) }
         ensures done { OnOk result (WasUndone self.old place plant.old.state plant.new.state self.new) }
-        ensures fits { OnOk result (if_it_fits ≡ true → (k : Kept) → slice_get self.old.changes place ≡ Some k
+        ensures fits { OnOk result (undoing ≡ IfItFits → (k : Kept) → slice_get self.old.changes place ≡ Some k
             → IsWhetherItFits k plant.old.state true) }
         ensures refused { IfErr result (IsDue (refusal_in
             (meaning (inverse_at self.old.changes place) plant.old.state))) }
@@ -210,7 +211,7 @@ impl Journal {
         if self.undos.reserve(1).is_err() {
             return Err(Refused::NO_MEMORY);
         }
-        match self.changes[place].carry(alloc, plant, if_it_fits) {
+        match self.changes[place].go_back(alloc, plant, undoing) {
             Ok(redo) => {
                 let count = self.changes.len() as u64;
                 let kept = &mut self.changes[place];

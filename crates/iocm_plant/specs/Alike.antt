@@ -14,7 +14,7 @@ pub record AreAlike (old new : Rec) : Type 0 where
   pub seen : IsSeenAlike old new
   pub named : named_by old ≡ named_by new
 
--- what stood under a key, and what comes there
+-- a record stood under a key, and the one that comes there is alike
 pub record IsPutAlike (before after : Option Rec) : Type 0 where
   pub old : Rec
   pub new : Rec

@@ -1,18 +1,28 @@
 ghost use Rattle.std.specs.Prelude.{◌≡◌, true};
 ghost use Rattle.std.specs.Option.{option_copied};
 ghost use Rattle.iocm_plant.specs.Alike.{address_of, AreAlike, IsPutAlike};
+ghost use Rattle.iocm_plant.specs.declared.alike.Likeness.TheVariants.{Alike};
 
 use iocm_affected::is_seen_alike;
 use iocm_record::{Record, RecordBody};
 
-/// Whether a device comes in the place of one that is seen alike and names the same things. Then who
-/// names whom stays as it is, and no subchannel is altered.
-pub fn is_put_alike(before: Option<&Record>, after: Option<&Record>) -> bool
-    ensures { result ≡ true → IsPutAlike (option_copied before.entry) (option_copied after.entry) }
+/// How the record that an edit puts in stands to the one that was there. The word is own.
+#[derive(Clone, Copy)]
+pub enum Likeness {
+    /// A device comes in the place of one that is seen alike and names the same things. So who
+    /// names whom stays as it is, and all is seen as before.
+    Alike,
+    /// Of anything else it isn't known.
+    Unknown,
+}
+
+/// How a record that comes stands to the one that was there.
+pub fn likeness_of(before: Option<&Record>, after: Option<&Record>) -> Likeness
+    ensures { result ≡ Alike → IsPutAlike (option_copied before.entry) (option_copied after.entry) }
 {
     match (before, after) {
-        (Some(old), Some(new)) => are_alike(old, new),
-        _ => false,
+        (Some(old), Some(new)) if are_alike(old, new) => Likeness::Alike,
+        _ => Likeness::Unknown,
     }
 }
 

@@ -1,4 +1,4 @@
-ghost use Rattle.std.specs.Prelude.{◌≡◌, [], true, is_some, None, Some, IfOk, IfErr, OnOk, OnErr, if◌then◌else◌};
+ghost use Rattle.std.specs.Prelude.{◌≡◌, [], is_some, None, Some, IfOk, IfErr, OnOk, OnErr, if◌then◌else◌};
 ghost use Rattle.std.specs.FinMap as map;
 ghost use Rattle.std.specs.Option.{option_copied};
 ghost use Rattle.std.specs.List.Sorted.{IsStrictlySortedBy};
@@ -19,9 +19,10 @@ ghost use Rattle.iocm_plant.specs.Alike.{IsPutAlike};
 ghost use Rattle.iocm_plant.specs.Operating.{HasNamingRoom, HasPlaceIn, KeepsPlaces, KeepsRoom};
 ghost use Rattle.iocm_plant.specs.Performing.{HasMadeOrder, Performs, made_of};
 ghost use Rattle.iocm_plant.specs.Refusing.{refusal_when, Hinders, IsDue};
+ghost use Rattle.iocm_plant.specs.declared.alike.Likeness.TheVariants.{Alike};
 ghost use Rattle.iocm_plant.specs.declared.quiet.Quiet.TheVariants as quiet;
 
-use crate::alike::is_put_alike;
+use crate::alike::{Likeness, likeness_of};
 use crate::following::{Brought, Followed, LookedAt, Told, follow};
 use crate::obstacle::Obstacle;
 use crate::quiet::Quiet;
@@ -88,16 +89,15 @@ impl Plant {
         if let Some(why) = key_refusal(before, &edit) {
             return Err(Obstacle::Refused(why));
         }
-        let is_alike = is_put_alike(before, edit.after());
-        let at = look(
+        let likeness = likeness_of(before, edit.after());
+        let at = prepare(
             alloc,
-            &self.config,
-            &self.index,
+            &mut self.config,
+            &mut self.index,
             &self.numbers,
             &edit,
-            is_alike,
+            likeness,
         )?;
-        make_record_places(&mut self.config, &mut self.index, &edit, is_alike)?;
         let Parts {
             action,
             places,
@@ -111,7 +111,7 @@ impl Plant {
             kept,
             quiet,
         };
-        let back = exchange_known(&mut self.config, &mut self.index, action, is_alike);
+        let back = exchange_known(&mut self.config, &mut self.index, action, likeness);
         self.reach.renew(&self.config, &key);
         match follow(
             alloc,
@@ -155,18 +155,47 @@ fn refusal_if(is_so: bool, rule: Rule, key: Key) -> Option<Refused>
     Some(Refused::about(rule, At::Key(key)))
 }
 
+/// Where an edit is looked for; and places for its key and for what its record names.
+fn prepare(
+    alloc: Global,
+    config: &mut Config,
+    index: &mut Index,
+    numbers: &Numbers,
+    edit: &Edit,
+    likeness: Likeness,
+) -> Result<LookedAt, AllocError>
+    requires index { IsIndexOf config.old.records index.old }
+    requires alike { likeness ≡ Alike → IsPutAlike
+        (map.get config.old.records (action_key edit.now.edit.action)) (record_after edit.now.edit.action) }
+    ensures affected { IfOk result (λ at. AreAllAffected config.old.records
+        (config_after edit.now.edit.action config.old.records) at.affected.places.items at.affected.images.items) }
+    ensures places { IfOk result (λ at. IsStrictlySortedBy place_cmp at.affected.places.items) }
+    ensures images { IfOk result (λ at. IsStrictlySortedBy image_cmp at.affected.images.items) }
+    ensures cells { IfOk result (λ at. at.cells.items ≡ cells_at numbers.now.numbers at.affected.places.items) }
+    ensures config { config.new.records ≡ config.old.records }
+    ensures index { rows naming_cmp index.new ≡ rows naming_cmp index.old }
+    ensures key { OnOk result (HasPlaceIn key_cmp config.new.places (action_key edit.now.edit.action)) }
+    ensures namings { OnOk result (HasNamingRoom index.new.places (record_after edit.now.edit.action)) }
+    ensures same_keys { KeepsPlaces key_cmp config.old.places config.new.places }
+    ensures same_namings { KeepsPlaces naming_cmp index.old.places index.new.places }
+{
+    let at = look(alloc, config, index, numbers, edit, likeness)?;
+    make_record_places(config, index, edit, likeness)?;
+    Ok(at)
+}
+
 /// Where an edit is looked for: nowhere, where it puts a device in the place of one that is seen
-/// alike.
+/// alike and names the same things.
 fn look(
     alloc: Global,
     config: &Config,
     index: &Index,
     numbers: &Numbers,
     edit: &Edit,
-    is_alike: bool,
+    likeness: Likeness,
 ) -> Result<LookedAt, AllocError>
     requires index { IsIndexOf config.now.records index.now }
-    requires alike { is_alike ≡ true → IsPutAlike
+    requires alike { likeness ≡ Alike → IsPutAlike
         (map.get config.now.records (action_key edit.now.edit.action)) (record_after edit.now.edit.action) }
     ensures affected { IfOk result (λ at. AreAllAffected config.now.records
         (config_after edit.now.edit.action config.now.records) at.affected.places.items at.affected.images.items) }
@@ -174,7 +203,7 @@ fn look(
     ensures images { IfOk result (λ at. IsStrictlySortedBy image_cmp at.affected.images.items) }
     ensures cells { IfOk result (λ at. at.cells.items ≡ cells_at numbers.now.numbers at.affected.places.items) }
 {
-    if is_alike {
+    if let Likeness::Alike = likeness {
         // For the proof alone: each record stands under its own key.
         config.has_own_keys();
         return Ok(nowhere(alloc));
@@ -207,10 +236,10 @@ fn make_record_places(
     config: &mut Config,
     index: &mut Index,
     edit: &Edit,
-    is_alike: bool,
+    likeness: Likeness,
 ) -> Result<(), AllocError>
     requires index { IsIndexOf config.old.records index.old }
-    requires alike { is_alike ≡ true → IsPutAlike
+    requires alike { likeness ≡ Alike → IsPutAlike
         (map.get config.old.records (action_key edit.now.edit.action)) (record_after edit.now.edit.action) }
     ensures config { config.new.records ≡ config.old.records }
     ensures index { rows naming_cmp index.new ≡ rows naming_cmp index.old }
@@ -219,7 +248,7 @@ fn make_record_places(
     ensures same_keys { KeepsPlaces key_cmp config.old.places config.new.places }
     ensures same_namings { KeepsPlaces naming_cmp index.old.places index.new.places }
 {
-    if is_alike {
+    if let Likeness::Alike = likeness {
         // For the proof alone: whatever is there has a place, and each record stands under its own
         // key.
         config.has_places();

@@ -1,4 +1,4 @@
-ghost use Rattle.std.specs.Prelude.{◌≡◌, true, Some, None};
+ghost use Rattle.std.specs.Prelude.{◌≡◌, Some, None};
 ghost use Rattle.std.specs.FinMap.{get, insert, remove};
 ghost use Rattle.iocm_types.specs.Key.{key_cmp};
 ghost use Rattle.iocm_model.specs.Machine.Record.{key_of};
@@ -8,8 +8,9 @@ ghost use Rattle.iocm_lookup.specs.Indexed.{IsIndexOf};
 ghost use Rattle.iocm_tree.specs.Carried.{action_of};
 ghost use Rattle.iocm_plant.specs.Alike.{IsPutAlike};
 ghost use Rattle.iocm_plant.specs.Operating.{HasPlaceIn, HasNamingRoom};
+ghost use Rattle.iocm_plant.specs.declared.alike.Likeness.TheVariants.{Alike};
 
-use crate::alike::is_put_alike;
+use crate::alike::{Likeness, likeness_of};
 use iocm_config::Config;
 use iocm_index::Index;
 use iocm_record::Record;
@@ -30,20 +31,20 @@ pub fn exchange_record(config: &mut Config, index: &mut Index, action: Action) -
     ensures keys { config.new.places ≡ config.old.places }
     ensures namings { index.new.places ≡ index.old.places }
 {
-    let is_alike = is_put_alike(config.get(&action.key()), action.after());
-    exchange_known(config, index, action, is_alike)
+    let likeness = likeness_of(config.get(&action.key()), action.after());
+    exchange_known(config, index, action, likeness)
 }
 
-/// Does the same where it is known whether a device comes in the place of one that is seen alike and
-/// names the same things. Then the index isn't touched.
+/// Does the same where it is known how the record that comes stands to the one that was there. The
+/// index isn't touched where they name the same things.
 pub fn exchange_known(
     config: &mut Config,
     index: &mut Index,
     action: Action,
-    is_alike: bool,
+    likeness: Likeness,
 ) -> Action
     requires index { IsIndexOf config.old.records index.old }
-    requires alike { is_alike ≡ true → IsPutAlike
+    requires alike { likeness ≡ Alike → IsPutAlike
         (get config.old.records (action_key (action_of action))) (record_after (action_of action)) }
     requires key { HasPlaceIn key_cmp config.old.places (action_key (action_of action)) }
     requires namings { HasNamingRoom index.old.places (record_after (action_of action)) }
@@ -55,17 +56,17 @@ pub fn exchange_known(
     ensures namings { index.new.places ≡ index.old.places }
 {
     match action {
-        Action::Add(entry) => put_record(config, index, entry, is_alike),
+        Action::Add(entry) => put_record(config, index, entry, likeness),
         Action::Delete(key) => take_record(config, index, key),
-        Action::Modify(entry) => put_record(config, index, entry, is_alike),
+        Action::Modify(entry) => put_record(config, index, entry, likeness),
     }
 }
 
 /// Puts a record in under its key, and gives the action that takes it out again or puts back the
 /// one that was there.
-fn put_record(config: &mut Config, index: &mut Index, entry: Record, is_alike: bool) -> Action
+fn put_record(config: &mut Config, index: &mut Index, entry: Record, likeness: Likeness) -> Action
     requires index { IsIndexOf config.old.records index.old }
-    requires alike { is_alike ≡ true → IsPutAlike (get config.old.records (key_of entry)) (Some entry) }
+    requires alike { likeness ≡ Alike → IsPutAlike (get config.old.records (key_of entry)) (Some entry) }
     requires key { HasPlaceIn key_cmp config.old.places (key_of entry) }
     requires namings { HasNamingRoom index.old.places (Some entry) }
     ensures config { config.new.records ≡ insert config.old.records (key_of entry) entry }
@@ -75,7 +76,7 @@ fn put_record(config: &mut Config, index: &mut Index, entry: Record, is_alike: b
     ensures namings { index.new.places ≡ index.old.places }
 {
     let key = entry.key();
-    relink_record(config, index, &entry, is_alike);
+    relink_record(config, index, &entry, likeness);
     match config.put(entry) {
         Some(old) => Action::Modify(old),
         None => Action::Delete(key),
@@ -85,14 +86,14 @@ fn put_record(config: &mut Config, index: &mut Index, entry: Record, is_alike: b
 /// Takes what the record of a key names out of the index, if there is one, and puts in what its new
 /// record names. Where a device comes in the place of one that names the same things, nothing is to
 /// be done.
-fn relink_record(config: &Config, index: &mut Index, entry: &Record, is_alike: bool)
+fn relink_record(config: &Config, index: &mut Index, entry: &Record, likeness: Likeness)
     requires index { IsIndexOf config.now.records index.old }
-    requires alike { is_alike ≡ true → IsPutAlike (get config.now.records (key_of entry.now)) (Some entry.now) }
+    requires alike { likeness ≡ Alike → IsPutAlike (get config.now.records (key_of entry.now)) (Some entry.now) }
     requires namings { HasNamingRoom index.old.places (Some entry.now) }
     ensures index { IsIndexOf (insert config.now.records (key_of entry.now) entry.now) index.new }
     ensures namings { index.new.places ≡ index.old.places }
 {
-    if is_alike {
+    if let Likeness::Alike = likeness {
         return;
     }
     let key = entry.key();

@@ -20,9 +20,9 @@ impl Plant {
         let Some(seat) = self.seats.get_mut(&subchannel) else {
             return Io::Code(3);
         };
-        let mut left = seat.live();
-        let answer = live::order(&mut left, &seat.view(), order);
-        seat.set_live(left);
+        let mut record = seat.live();
+        let answer = live::order(&mut record, &seat.view(), order);
+        seat.set_live(record);
         answer
     }
 
@@ -38,9 +38,9 @@ impl Plant {
         let Some(seat) = self.seats.get_mut(&subchannel) else {
             return false;
         };
-        let mut left = seat.live();
-        let answer = live::device_begin(&mut left);
-        seat.set_live(left);
+        let mut record = seat.live();
+        let answer = live::device_begin(&mut record);
+        seat.set_live(record);
         answer
     }
 
@@ -56,9 +56,9 @@ impl Plant {
         let Some(seat) = self.seats.get_mut(&subchannel) else {
             return false;
         };
-        let mut left = seat.live();
-        let answer = live::device_end(&mut left);
-        seat.set_live(left);
+        let mut record = seat.live();
+        let answer = live::device_end(&mut record);
+        seat.set_live(record);
         answer
     }
 }

@@ -10,9 +10,9 @@ use Rattle.iocm_plant.specs.Operating.{HasPlaceIn}
 use Rattle.iocm_plant.proofs.Records.{put_alike_linked, linked}
 use Rattle.iocm_plant.proofs.record.relink_record.Goals as goal
 
-pub returns-then-is_alike-clause-index : goal.returns-then-is_alike-clause-index
-returns-then-is_alike-clause-index c =
-    put_alike_linked c.args.config.now.records c.args.index.now c.args.entry.now (c.requires.alike c.if-is_alike.true) c.requires.index
+pub returns-in-Alike-clause-index : goal.returns-in-Alike-clause-index
+returns-in-Alike-clause-index c =
+    put_alike_linked c.args.config.now.records c.args.index.now c.args.entry.now (c.requires.alike c.in-Alike.is) c.requires.index
 
 pub link-requires : goal.link-requires
 link-requires c = subst (λ (ps : List Naming). AllByRecursion (HasPlaceIn naming_cmp ps) (namings_of c.args.entry.now))

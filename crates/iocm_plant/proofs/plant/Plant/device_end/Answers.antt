@@ -48,12 +48,12 @@ pub invariant_of-self-2 : goal.invariant_of-self-2
 invariant_of-self-2 c = (operating_after (seat (goal.at.invariant_of-self-2 c).After-set_live), c.self.invariant.1)
 
 pub returns-clause-answer : goal.returns-clause-answer
-returns-clause-answer c = c.device_end-answer.ensures.answer ∙ ap (λ (l : Live). orders.is_busy l.phase) c.live-left.ensures
+returns-clause-answer c = c.device_end-answer.ensures.answer ∙ ap (λ (l : Live). orders.is_busy l.phase) c.live-record.ensures
     ∙ sym (ap ends_function (one_there (seat (goal.at.returns-clause-answer c).After-set_live)))
 
 pub returns-clause-state : goal.returns-clause-state
 returns-clause-state c = state_after_step (seat (goal.at.returns-clause-state c).After-set_live) step.device_end
-    (c.device_end-answer.ensures.left ∙ ap orders.live_after_device_end c.live-left.ensures)
+    (c.device_end-answer.ensures.left ∙ ap orders.live_after_device_end c.live-record.ensures)
 
 pub returns-clause-room : goal.returns-clause-room
 returns-clause-room c = room_as_before (seat (goal.at.returns-clause-room c).After-set_live)

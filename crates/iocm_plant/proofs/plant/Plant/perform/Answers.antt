@@ -29,7 +29,7 @@ exchanged : (c : After-exchange_known-back) → WasExchanged (action_of c.into_p
     c.self.inside.config c.exchange_known-back.new.config c.self.inside.index c.exchange_known-back.new.index
 exchanged c =
     let action = action_of c.into_parts-action.result.action in
-    let same = c.in_ok-make_record_places.ensures.config in
+    let same = c.in_ok-at.ensures.config in
     record {
       keyed = c.self.invariant.0.keyed;
       indexed = c.self.invariant.0.indexed;
@@ -38,9 +38,9 @@ exchanged c =
       back = c.exchange_known-back.ensures.back
           ∙ ap (λ (k : Configuration). action_back (action_key action) (get k (action_key action)) (record_after action)) same;
       key = subst (λ (x : List Key × Carried). HasPlaceIn key_cmp x.0 (action_key x.1.edit.action))
-          (sym (λ i. (c.exchange_known-back.ensures.keys i, c.into_parts-action.ensures.value i))) c.in_ok-make_record_places.ensures.key;
+          (sym (λ i. (c.exchange_known-back.ensures.keys i, c.into_parts-action.ensures.value i))) c.in_ok-at.ensures.key;
       namings = subst (KeepsPlaces naming_cmp c.self.inside.index.places) (sym c.exchange_known-back.ensures.namings)
-          c.in_ok-make_record_places.ensures.same_namings;
+          c.in_ok-at.ensures.same_namings;
     }
 
 -- the key isn't in the way

@@ -47,12 +47,12 @@ pub invariant_of-self-2 : goal.invariant_of-self-2
 invariant_of-self-2 c = (operating_after (seat (goal.at.invariant_of-self-2 c).After-set_live), c.self.invariant.1)
 
 pub returns-clause-answer : goal.returns-clause-answer
-returns-clause-answer c = c.order-answer.ensures.answer ∙ (λ i. orders.answer_of c.args.order (c.view.ensures i) (c.live-left.ensures i))
+returns-clause-answer c = c.order-answer.ensures.answer ∙ (λ i. orders.answer_of c.args.order (c.view.ensures i) (c.live-record.ensures i))
     ∙ sym (ap (order_answer c.args.order) (one_there (seat (goal.at.returns-clause-answer c).After-set_live)))
 
 pub returns-clause-state : goal.returns-clause-state
 returns-clause-state c = state_after_step (seat (goal.at.returns-clause-state c).After-set_live) (step.order c.args.order)
-    (c.order-answer.ensures.left ∙ (λ i. orders.live_after c.args.order (c.view.ensures i) (c.live-left.ensures i)))
+    (c.order-answer.ensures.left ∙ (λ i. orders.live_after c.args.order (c.view.ensures i) (c.live-record.ensures i)))
 
 pub returns-clause-room : goal.returns-clause-room
 returns-clause-room c = room_as_before (seat (goal.at.returns-clause-room c).After-set_live)
