@@ -70,11 +70,21 @@ fn seen_first(
 fn list_seen(alloc: Global, performed: &[Touched]) -> Result<Vec<(SubId, Option<View>)>, AllocError>
     ensures { IfOk result (λ listed. listed.items ≡ seen_before_edits performed.now) }
 {
-    let mut listed = Vec::new(alloc);
+    let mut listed = Vec::with_capacity(alloc, told_of(performed))?;
     for touched in performed {
         add_seen(&mut listed, touched.subchannels.as_slice())?;
     }
     Ok(listed)
+}
+
+/// How many subchannels edits tell of, each as often as an edit altered it. No clause says it: memory
+/// that is taken for them at once doesn't move.
+fn told_of(performed: &[Touched]) -> usize {
+    let mut count = 0usize;
+    for touched in performed {
+        count = count.saturating_add(touched.subchannels.len());
+    }
+    count
 }
 
 /// Puts what was seen before an edit where it altered a subchannel behind what is listed.
@@ -84,7 +94,6 @@ fn add_seen(
 ) -> Result<(), AllocError>
     ensures { OnOk result (listed.new.items ≡ listed.old.items ++ seen_before changes.now) }
 {
-    listed.reserve(changes.len())?;
     for change in changes {
         listed.push((change.subchannel, change.before))?;
     }

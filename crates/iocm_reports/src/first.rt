@@ -26,7 +26,11 @@ pub(crate) fn first_of_each(
     if do_rise(listed.as_slice()) {
         return Ok(listed);
     }
-    first_in_order(in_image_order(alloc, listed)?)
+    let by_image = in_image_order(alloc, listed)?;
+    if do_rise(by_image.as_slice()) {
+        return Ok(by_image);
+    }
+    first_in_order(by_image)
 }
 
 /// Whether the subchannel of each row is behind that of the row before.
