@@ -5,9 +5,9 @@ use Rattle.iocm_types.specs.declared.live.Phase.{Phase}
 use Rattle.iocm_types.specs.declared.live.Phase.TheVariants.{Idle, StartPending, StartActive, Halt, Clear, Pending}
 use Rattle.iocm_seats.specs.declared.enabled_phase.EnabledPhase.{EnabledPhase}
 use Rattle.iocm_seats.specs.declared.enabled_phase.EnabledPhase.TheVariants.{DisabledIdle, DisabledStartPending, DisabledStartActive, DisabledHalt, DisabledClear}
-use Rattle.iocm_seats.specs.declared.enabled_phase.EnabledPhase.TheVariants.{DisabledStartEnded, DisabledHaltEnded, DisabledClearEnded}
+use Rattle.iocm_seats.specs.declared.enabled_phase.EnabledPhase.TheVariants.{DisabledStartStatusPending, DisabledHaltStatusPending, DisabledClearStatusPending}
 use Rattle.iocm_seats.specs.declared.enabled_phase.EnabledPhase.TheVariants.{EnabledIdle, EnabledStartPending, EnabledStartActive, EnabledHalt, EnabledClear}
-use Rattle.iocm_seats.specs.declared.enabled_phase.EnabledPhase.TheVariants.{EnabledStartEnded, EnabledHaltEnded, EnabledClearEnded}
+use Rattle.iocm_seats.specs.declared.enabled_phase.EnabledPhase.TheVariants.{EnabledStartStatusPending, EnabledHaltStatusPending, EnabledClearStatusPending}
 
 -- whether it is enabled
 abbrev pub is_enabled : EnabledPhase → Bool
@@ -16,17 +16,17 @@ is_enabled DisabledStartPending = false
 is_enabled DisabledStartActive = false
 is_enabled DisabledHalt = false
 is_enabled DisabledClear = false
-is_enabled DisabledStartEnded = false
-is_enabled DisabledHaltEnded = false
-is_enabled DisabledClearEnded = false
+is_enabled DisabledStartStatusPending = false
+is_enabled DisabledHaltStatusPending = false
+is_enabled DisabledClearStatusPending = false
 is_enabled EnabledIdle = true
 is_enabled EnabledStartPending = true
 is_enabled EnabledStartActive = true
 is_enabled EnabledHalt = true
 is_enabled EnabledClear = true
-is_enabled EnabledStartEnded = true
-is_enabled EnabledHaltEnded = true
-is_enabled EnabledClearEnded = true
+is_enabled EnabledStartStatusPending = true
+is_enabled EnabledHaltStatusPending = true
+is_enabled EnabledClearStatusPending = true
 
 -- its phase
 abbrev pub phase_of : EnabledPhase → Phase
@@ -35,14 +35,14 @@ phase_of DisabledStartPending = StartPending
 phase_of DisabledStartActive = StartActive
 phase_of DisabledHalt = Halt
 phase_of DisabledClear = Clear
-phase_of DisabledStartEnded = Pending function.Start
-phase_of DisabledHaltEnded = Pending function.Halt
-phase_of DisabledClearEnded = Pending function.Clear
+phase_of DisabledStartStatusPending = Pending function.Start
+phase_of DisabledHaltStatusPending = Pending function.Halt
+phase_of DisabledClearStatusPending = Pending function.Clear
 phase_of EnabledIdle = Idle
 phase_of EnabledStartPending = StartPending
 phase_of EnabledStartActive = StartActive
 phase_of EnabledHalt = Halt
 phase_of EnabledClear = Clear
-phase_of EnabledStartEnded = Pending function.Start
-phase_of EnabledHaltEnded = Pending function.Halt
-phase_of EnabledClearEnded = Pending function.Clear
+phase_of EnabledStartStatusPending = Pending function.Start
+phase_of EnabledHaltStatusPending = Pending function.Halt
+phase_of EnabledClearStatusPending = Pending function.Clear

@@ -11,17 +11,17 @@ pub(crate) enum EnabledPhase {
     DisabledStartActive,
     DisabledHalt,
     DisabledClear,
-    DisabledStartEnded,
-    DisabledHaltEnded,
-    DisabledClearEnded,
+    DisabledStartStatusPending,
+    DisabledHaltStatusPending,
+    DisabledClearStatusPending,
     EnabledIdle,
     EnabledStartPending,
     EnabledStartActive,
     EnabledHalt,
     EnabledClear,
-    EnabledStartEnded,
-    EnabledHaltEnded,
-    EnabledClearEnded,
+    EnabledStartStatusPending,
+    EnabledHaltStatusPending,
+    EnabledClearStatusPending,
 }
 
 impl EnabledPhase {
@@ -36,17 +36,17 @@ impl EnabledPhase {
             (false, Phase::StartActive) => EnabledPhase::DisabledStartActive,
             (false, Phase::Halt) => EnabledPhase::DisabledHalt,
             (false, Phase::Clear) => EnabledPhase::DisabledClear,
-            (false, Phase::Pending(Function::Start)) => EnabledPhase::DisabledStartEnded,
-            (false, Phase::Pending(Function::Halt)) => EnabledPhase::DisabledHaltEnded,
-            (false, Phase::Pending(Function::Clear)) => EnabledPhase::DisabledClearEnded,
+            (false, Phase::Pending(Function::Start)) => EnabledPhase::DisabledStartStatusPending,
+            (false, Phase::Pending(Function::Halt)) => EnabledPhase::DisabledHaltStatusPending,
+            (false, Phase::Pending(Function::Clear)) => EnabledPhase::DisabledClearStatusPending,
             (true, Phase::Idle) => EnabledPhase::EnabledIdle,
             (true, Phase::StartPending) => EnabledPhase::EnabledStartPending,
             (true, Phase::StartActive) => EnabledPhase::EnabledStartActive,
             (true, Phase::Halt) => EnabledPhase::EnabledHalt,
             (true, Phase::Clear) => EnabledPhase::EnabledClear,
-            (true, Phase::Pending(Function::Start)) => EnabledPhase::EnabledStartEnded,
-            (true, Phase::Pending(Function::Halt)) => EnabledPhase::EnabledHaltEnded,
-            (true, Phase::Pending(Function::Clear)) => EnabledPhase::EnabledClearEnded,
+            (true, Phase::Pending(Function::Start)) => EnabledPhase::EnabledStartStatusPending,
+            (true, Phase::Pending(Function::Halt)) => EnabledPhase::EnabledHaltStatusPending,
+            (true, Phase::Pending(Function::Clear)) => EnabledPhase::EnabledClearStatusPending,
         }
     }
 
@@ -60,17 +60,17 @@ impl EnabledPhase {
             | EnabledPhase::DisabledStartActive
             | EnabledPhase::DisabledHalt
             | EnabledPhase::DisabledClear
-            | EnabledPhase::DisabledStartEnded
-            | EnabledPhase::DisabledHaltEnded
-            | EnabledPhase::DisabledClearEnded => false,
+            | EnabledPhase::DisabledStartStatusPending
+            | EnabledPhase::DisabledHaltStatusPending
+            | EnabledPhase::DisabledClearStatusPending => false,
             EnabledPhase::EnabledIdle
             | EnabledPhase::EnabledStartPending
             | EnabledPhase::EnabledStartActive
             | EnabledPhase::EnabledHalt
             | EnabledPhase::EnabledClear
-            | EnabledPhase::EnabledStartEnded
-            | EnabledPhase::EnabledHaltEnded
-            | EnabledPhase::EnabledClearEnded => true,
+            | EnabledPhase::EnabledStartStatusPending
+            | EnabledPhase::EnabledHaltStatusPending
+            | EnabledPhase::EnabledClearStatusPending => true,
         }
     }
 
@@ -88,13 +88,13 @@ impl EnabledPhase {
             }
             EnabledPhase::DisabledHalt | EnabledPhase::EnabledHalt => Phase::Halt,
             EnabledPhase::DisabledClear | EnabledPhase::EnabledClear => Phase::Clear,
-            EnabledPhase::DisabledStartEnded | EnabledPhase::EnabledStartEnded => {
+            EnabledPhase::DisabledStartStatusPending | EnabledPhase::EnabledStartStatusPending => {
                 Phase::Pending(Function::Start)
             }
-            EnabledPhase::DisabledHaltEnded | EnabledPhase::EnabledHaltEnded => {
+            EnabledPhase::DisabledHaltStatusPending | EnabledPhase::EnabledHaltStatusPending => {
                 Phase::Pending(Function::Halt)
             }
-            EnabledPhase::DisabledClearEnded | EnabledPhase::EnabledClearEnded => {
+            EnabledPhase::DisabledClearStatusPending | EnabledPhase::EnabledClearStatusPending => {
                 Phase::Pending(Function::Clear)
             }
         }

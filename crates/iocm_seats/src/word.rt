@@ -36,7 +36,7 @@ impl Halfword {
     }
 }
 
-/// A word that may stand at any address: 32 bits in four bytes. Contracts see its number.
+/// A word that may be at any address: 32 bits in four bytes. Contracts see its number.
 #[derive(Drop)]
 pub(crate) struct Word {
     high: Halfword,
