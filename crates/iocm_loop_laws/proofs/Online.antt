@@ -18,7 +18,8 @@ use Rattle.iocm_record_reader.specs.ChpidRecords.{online_to}
 use Rattle.iocm_deck_writer.specs.Canonical.{canonical_deck}
 use Rattle.iocm_round_trip.specs.Again.{deck_of}
 use Rattle.iocm_round_trip.proofs.Keys.{is_of_its_deck}
-use Rattle.iocm_seats.proofs.Ordered.{keys_rise, same_members}
+use Rattle.iocm_types.proofs.InOrder.{keys_rise}
+use Rattle.iocm_seats.proofs.Ordered.{same_members}
 use Rattle.iocm_reports.specs.Deck.{online_by, online_by_lists, online_in, pairs_untold, remark_line}
 use Rattle.iocm_reports.proofs.ListedPairs.{keys_of_records}
 use Rattle.iocm_reports.proofs.Told.{empty_is, in_both}

@@ -1,18 +1,9 @@
 -- What stands in the order of subchannels: as rows of a table.
 use Rattle.std.proofs.Common.{◌≡◌, List, T, sym, ◌∙◌}
-use Rattle.std.specs.List.{IsDistinct}
-use Rattle.std.specs.Map.{keys_of}
-use Rattle.std.specs.Ordering.{eq_by_cmp}
 use Rattle.std.specs.FinMap.{from_entries, from_sorted, is_sorted, same_map, get-from_entries, get-from_sorted}
-use Rattle.std.proofs.lemmas.Map.Keys.{IsDistinct-from_sorted}
-use Rattle.iocm_types.specs.declared.live.Live.{Live}
 use Rattle.iocm_types.specs.declared.sub_id.SubId.{SubId}
 use Rattle.iocm_types.specs.SubId.{sub_id_cmp}
 use Rattle.iocm_types.specs.KeyOrder.{sub_ids_total, sub_ids_exact}
-use Rattle.iocm_seats.proofs.Ordered.{keys_rise}
 
 pub as_rows : {X : Type 0} (rows : List (SubId × X)) → T (is_sorted sub_id_cmp rows) → from_entries {R = sub_id_cmp} rows ≡ from_sorted rows
 as_rows rows up = same_map sub_ids_total sub_ids_exact _ _ (λ x. get-from_entries sub_ids_total rows x ∙ sym (get-from_sorted sub_id_cmp rows x up))
-
-pub rows_distinct : (rows : List (SubId × Live)) → T (is_sorted sub_id_cmp rows) → IsDistinct (eq_by_cmp sub_id_cmp) (keys_of rows)
-rows_distinct rows up = IsDistinct-from_sorted sub_id_cmp (keys_of rows) (keys_rise sub_id_cmp rows up)

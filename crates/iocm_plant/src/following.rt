@@ -172,7 +172,7 @@ fn follow_numbers(
         seats,
         changes.as_slice(),
         met,
-        brought.kept,
+        brought.kept.as_slice(),
         brought.quiet,
     ) {
         Ok(seated) => Ok(Told {

@@ -16,7 +16,6 @@ ghost use Rattle.iocm_plant.specs.Seating.{TellsOfSettling};
 use crate::obstacle::Obstacle;
 use crate::quiet::Quiet;
 use iocm_seats::{Seats, ViewChange, first_not_quiet, list_left, make_places, settle_all};
-use iocm_table::Table;
 use iocm_types::{At, Live, Refused, Rule, SubId};
 use std::alloc::Global;
 
@@ -38,13 +37,13 @@ pub fn seat(
     seats: &mut Seats,
     changes: &[ViewChange],
     met: Vec<(SubId, Live)>,
-    kept: Vec<(SubId, Live)>,
+    kept: &[(SubId, Live)],
     quiet: Quiet,
 ) -> Result<Settled, Obstacle>
     requires seen { AreSeen (views_seated seats.old.seats) changes.now }
     requires met { met.items ≡ lives_met (lives_seated seats.old.seats) changes.now }
-    requires kept { AreInOrder kept.items }
-    ensures seats { OnOk result (seats.new.seats ≡ settled_all (from_sorted kept.items) seats.old.seats changes.now) }
+    requires kept { AreInOrder kept.now }
+    ensures seats { OnOk result (seats.new.seats ≡ settled_all (from_sorted kept.now) seats.old.seats changes.now) }
     ensures told { IfOk result (λ s. TellsOfSettling seats.old.seats changes.now s.kept.items s.meets.items) }
     ensures quiet { OnOk result (settling_refusal seats.old.seats changes.now quiet ≡ None) }
     ensures refused { IfErr result (Hinders (settling_refusal seats.old.seats changes.now quiet)) }
@@ -55,9 +54,8 @@ pub fn seat(
         return Err(Obstacle::Refused(subchannel_refusal(subchannel)));
     }
     make_places(seats, changes)?;
-    let own = Table::from_rows(alloc, kept)?;
     let left = list_left(alloc, changes)?;
-    settle_all(seats, changes, &own);
+    settle_all(seats, changes, kept);
     Ok(Settled {
         kept: met,
         meets: left,

@@ -25,7 +25,8 @@ use Rattle.iocm_model.specs.Operation.State.{State, Views, views_in, seen_in, is
 use Rattle.iocm_model.proofs.Change.SameViews.{sight_is}
 use Rattle.iocm_model.proofs.Maps.Cells.{get_cells_at, in_differing}
 use Rattle.iocm_seats.specs.Changes.{view_change, changes_between}
-use Rattle.iocm_seats.proofs.Ordered.{differing_rise, keys_rise, same_members}
+use Rattle.iocm_types.proofs.InOrder.{keys_rise}
+use Rattle.iocm_seats.proofs.Ordered.{differing_rise, same_members}
 use Rattle.iocm_plant.specs.declared.touched.Touched.{Touched}
 use Rattle.iocm_activate.specs.Done.{AreToldBy}
 use Rattle.iocm_activate.specs.Told.{Told, told_of_all}

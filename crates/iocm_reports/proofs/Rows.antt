@@ -21,7 +21,7 @@ use Rattle.iocm_seats.specs.Changes.{view_change}
 use Rattle.iocm_plant.specs.declared.touched.Touched.{Touched}
 use Rattle.iocm_activate.specs.Done.{AreToldBy}
 use Rattle.iocm_activate.specs.Told.{told_of_all}
-use Rattle.iocm_seats.proofs.Ordered.{keys_rise}
+use Rattle.iocm_types.proofs.InOrder.{keys_rise}
 use Rattle.iocm_reports.specs.Altered.{subchannels_altered, AreInOrder}
 use Rattle.iocm_reports.specs.First.{row_of, seen_before, seen_before_edits}
 use Rattle.iocm_reports.specs.ImageOrder.{SeenRow}

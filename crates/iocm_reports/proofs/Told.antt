@@ -13,7 +13,8 @@ use Rattle.iocm_model.specs.Machine.Configuration.{Configuration}
 use Rattle.iocm_model.specs.Machine.Record.{Rec}
 use Rattle.iocm_model.proofs.Maps.Cells.{in_differing}
 use Rattle.iocm_deck_writer.specs.Canonical.{canonical_deck}
-use Rattle.iocm_seats.proofs.Ordered.{keys_rise, same_members}
+use Rattle.iocm_types.proofs.InOrder.{keys_rise}
+use Rattle.iocm_seats.proofs.Ordered.{same_members}
 use Rattle.iocm_reports.specs.Deck.{online_by_lists, online_in, pairs_untold, remark_line}
 use Rattle.iocm_reports.specs.Laws.{DeckSaysAll, OnlyADeckSaysAll}
 

@@ -16,7 +16,6 @@ use iocm_seats::{
     Altered, KeptSeat, Seat, Seats, Tried, ViewChange, exchange, first_not_quiet, list_changes,
     list_left, make_places, open_seats, settle_all,
 };
-use iocm_table::Table;
 use iocm_trial_decks::{name, subchannel};
 use iocm_types::{Chpid, Css, DevNo, Key, Live, Mask, NumberCell, Parm, Paths, Phase, SubId, View};
 use std::alloc::{AllocError, Global};
@@ -240,11 +239,10 @@ fn offline_after(seats: &Seats, there: &SubId) -> [ViewChange; 1]
 }
 
 /// Settles the seat of the device's subchannel, once its path isn't available.
-fn settle(alloc: Global, seats: &mut Seats, there: &SubId) -> Result<(), AllocError> {
+fn settle(seats: &mut Seats, there: &SubId) -> Result<(), AllocError> {
     let changes = offline_after(seats, there);
     make_places(seats, changes.as_slice())?;
-    let kept: Table<SubId, Live> = Table::new(alloc);
-    settle_all(seats, changes.as_slice(), &kept);
+    settle_all(seats, changes.as_slice(), &[]);
     Ok(())
 }
 
@@ -252,7 +250,7 @@ fn settle(alloc: Global, seats: &mut Seats, there: &SubId) -> Result<(), AllocEr
 fn a_seat_is_settled(rt: HostRuntime) -> Result<(), Fail> {
     let there = there()?;
     let mut seats = seated(rt.alloc())?;
-    settle(rt.alloc(), &mut seats, &there)?;
+    settle(&mut seats, &there)?;
     assert!(rt; has_seat(&seats, &there, 0, &live(5)));
     Ok(())
 }
@@ -262,7 +260,7 @@ fn a_new_seat_is_settled(rt: HostRuntime) -> Result<(), Fail> {
     let there = there()?;
     let wanted = fresh(Mask::from_bits(0x80));
     let mut seats: Seats = Seats::new(rt.alloc());
-    settle(rt.alloc(), &mut seats, &there)?;
+    settle(&mut seats, &there)?;
     assert!(rt; has_seat(&seats, &there, 0, &wanted));
     Ok(())
 }

@@ -22,7 +22,7 @@ use Rattle.iocm_seats.specs.Listing.{seats_at, cell_seats, images_among, sights_
 use Rattle.iocm_seats.specs.Taken.{cells_in}
 use Rattle.iocm_seats.proofs.Everywhere.{of_both, of_first, of_second, of_parts, in_parts, weaker, by_both, of_any, of_passing, in_passing, of_made, in_made, turned}
 use Rattle.iocm_seats.proofs.Listed.{all_seats, seats_at-more, seats_at-nil, seat_keys}
-use Rattle.iocm_seats.proofs.Ordered.{keys_rise}
+use Rattle.iocm_types.proofs.InOrder.{keys_rise}
 
 abbrev Row : Type 0
 Row = SubId × Seat

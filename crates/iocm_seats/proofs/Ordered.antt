@@ -5,14 +5,13 @@ use Rattle.std.specs.List.{list_any, filter_map, cons_option, AllByRecursion}
 use Rattle.std.specs.List.Sorted.{IsStrictlySortedBy}
 use Rattle.std.specs.Map.{keys_of}
 use Rattle.std.specs.Option.{option_eq}
-use Rattle.std.specs.Ordering.{eq_by_cmp, is_lt, ordering_then, nat_cmp}
+use Rattle.std.specs.Ordering.{eq_by_cmp, ordering_then, nat_cmp}
 use Rattle.std.specs.declared.cmp.Ordering.{Ordering}
 use Rattle.std.specs.declared.cmp.Ordering.TheVariants.{Less}
 use Rattle.std.specs.Cmp.{IsTotalOrder, tied_itself, nat_cmp_total}
 use Rattle.std.specs.FinMap.{FinMap, IsAntisymmetric, find, is_sorted, get, entries, entries_sorted, from_entries, get-from_entries}
-use Rattle.std.specs.FinMap.Entries.{below_all, is_some-find, same_entries}
+use Rattle.std.specs.FinMap.Entries.{is_some-find, same_entries}
 use Rattle.std.proofs.lemmas.List.Kept.{IsStrictlySortedBy-filter}
-use Rattle.std.proofs.lemmas.Map.Keys.{sorted_head, sorted_tail}
 use Rattle.iocm_types.specs.declared.image.Image.{Image}
 use Rattle.iocm_types.specs.declared.place.NumberCell.{NumberCell}
 use Rattle.iocm_types.specs.declared.sub_id.SubId.{SubId}
@@ -20,8 +19,7 @@ use Rattle.iocm_types.specs.declared.view.View.{View}
 use Rattle.iocm_types.specs.SubId.{sub_id_cmp, image_cmp}
 use Rattle.iocm_types.specs.Place.{cell_cmp}
 use Rattle.iocm_types.specs.KeyOrder.{sub_ids_total, sub_ids_exact, images_total}
-use Rattle.iocm_types.proofs.Orderings.{less_is}
-use Rattle.iocm_types.proofs.Tests.{first_holds, second_holds, both_hold}
+use Rattle.iocm_types.proofs.InOrder.{keys_rise, rows_sorted}
 use Rattle.iocm_model.specs.Machine.Configuration.{Configuration, IsKeyed}
 use Rattle.iocm_model.specs.Machine.Numbering.{Numbering}
 use Rattle.iocm_model.specs.Machine.View.{views, view_at}
@@ -43,18 +41,12 @@ module _ {K : Type 0} (R : K → K → Ordering) where
   abbrev as_row : K → K × Unit {0}
   as_row k = (k, tt)
 
-  below_rows : (k : K) (ks : List K) → AllByRecursion (λ y. R k y ≡ Less) ks → T (below_all R k (map as_row ks))
-  below_rows k [] all = tt
-  below_rows k (x ∷ ks) all = both_hold (is_lt (R k x)) (below_all R k (map as_row ks)) (subst (λ r. T (is_lt r)) (sym all.0) tt) (below_rows k ks all.1)
-
-  rows_sorted : (ks : List K) → IsStrictlySortedBy R ks → T (is_sorted R (map as_row ks))
-  rows_sorted [] rise = tt
-  rows_sorted (k ∷ ks) rise =
-      both_hold (below_all R k (map as_row ks)) (is_sorted R (map as_row ks)) (below_rows k ks (sorted_head R k ks rise)) (rows_sorted ks (sorted_tail R k ks rise))
-
   keys_again : (ks : List K) → map (λ (e : K × Unit {0}). e.0) (map as_row ks) ≡ ks
   keys_again [] = refl
   keys_again (k ∷ ks) = ap (λ xs. k ∷ xs) (keys_again ks)
+
+  marked_sorted : (ks : List K) → IsStrictlySortedBy R ks → T (is_sorted R (map as_row ks))
+  marked_sorted ks rise = rows_sorted R (map as_row ks) (subst (λ xs. IsStrictlySortedBy R xs) (sym (keys_again ks)) rise)
 
   nothing_more : (a b : Option (Unit {0})) → is_some a ≡ is_some b → a ≡ b
   nothing_more None None h = refl
@@ -69,7 +61,7 @@ module _ {K : Type 0} (R : K → K → Ordering) where
   pub same_members : IsTotalOrder R → IsAntisymmetric R → (xs ys : List K) → IsStrictlySortedBy R xs → IsStrictlySortedBy R ys
       → ((q : K) → list_any (eq_by_cmp R q) xs ≡ list_any (eq_by_cmp R q) ys) → xs ≡ ys
   same_members total exact xs ys rise rises same =
-      sym (keys_again xs) ∙ ap (map (λ (e : K × Unit {0}). e.0)) (same_entries R total exact (map as_row xs) (map as_row ys) (rows_sorted xs rise) (rows_sorted ys rises)
+      sym (keys_again xs) ∙ ap (map (λ (e : K × Unit {0}). e.0)) (same_entries R total exact (map as_row xs) (map as_row ys) (marked_sorted xs rise) (marked_sorted ys rises)
       (λ q. nothing_more _ _ (found_row q xs ∙ same q ∙ sym (found_row q ys)))) ∙ keys_again ys
 
   all_both : (P : K → Type 0) (xs ys : List K) → AllByRecursion P xs → AllByRecursion P ys → AllByRecursion P (xs ++ ys)
@@ -82,17 +74,6 @@ module _ {K : Type 0} (R : K → K → Ordering) where
   unfolding IsStrictlySortedBy
   both_rise [] ys rise rises apart = rises
   both_rise (x ∷ xs) ys rise rises apart = (all_both (λ y. R x y ≡ Less) xs ys rise.0 apart.0, both_rise xs ys rise.1 rises apart.1)
-
-module _ {K X : Type 0} (R : K → K → Ordering) where
-  keys_below : (k : K) (es : List (K × X)) → T (below_all R k es) → AllByRecursion (λ y. R k y ≡ Less) (keys_of es)
-  keys_below k [] below = tt
-  keys_below k (e ∷ es) below = (less_is (R k e.0) (first_holds _ _ below), keys_below k es (second_holds _ _ below))
-
-  -- the keys of rows in order stand in order
-  pub keys_rise : (es : List (K × X)) → T (is_sorted R es) → IsStrictlySortedBy R (keys_of es)
-  unfolding IsStrictlySortedBy
-  keys_rise [] up = tt
-  keys_rise (e ∷ es) up = (keys_below e.0 es (first_holds _ _ up), keys_rise es (second_holds _ _ up))
 
 -- the keys at which two maps differ stand in order
 pub differing_rise : {K X : Type 0} (R : K → K → Ordering) (same : X → X → Bool) (m n : FinMap R X) → IsStrictlySortedBy R (differing same m n)

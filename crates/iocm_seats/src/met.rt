@@ -48,7 +48,12 @@ pub fn list_left<B: Allocator>(
 ) -> Result<Vec<(SubId, Live), B>, AllocError>
     ensures { IfOk result (λ listed. keys_of listed.items ≡ subchannels_left changes.now) }
 {
-    let mut listed = Vec::with_capacity(alloc, changes.len())?;
+    // These rows stay with the change, so no room is taken for those that go.
+    let count = changes
+        .iter()
+        .filter(|change| change.after.is_some())
+        .count();
+    let mut listed = Vec::with_capacity(alloc, count)?;
     for change in changes {
         if let Some(view) = &change.after {
             listed.push((change.subchannel, fresh(view.pim)))?;

@@ -1,8 +1,7 @@
-ghost use Rattle.std.specs.Prelude.{◌≡◌, OnOk, Some, None};
+ghost use Rattle.std.specs.Prelude.{◌≡◌, OnOk, Some, None, T};
 ghost use Rattle.std.specs.Option.{option_copied, option_map};
-ghost use Rattle.std.specs.FinMap.{get};
+ghost use Rattle.std.specs.FinMap.{from_sorted, get, is_sorted};
 ghost use Rattle.iocm_types.specs.SubId.{sub_id_cmp};
-ghost use Rattle.iocm_table.specs.Slots.{rows};
 ghost use Rattle.iocm_model.specs.Change.Edit.{live_of_altered};
 ghost use Rattle.iocm_model.specs.Change.Maps.{with_value};
 ghost use Rattle.iocm_seats.specs.Seated.{views_seated, HasPlace, KeepsPlaces};
@@ -10,8 +9,7 @@ ghost use Rattle.iocm_seats.specs.Settling.{seat_after, settled_all, AreSeen, Ha
 
 use crate::{KeptSeat, Seat, Seats, ViewChange};
 use iocm_live::fresh;
-use iocm_table::Table;
-use iocm_types::{Live, SubId, View};
+use iocm_types::{Live, SubId, View, value_under};
 use std::alloc::{AllocError, Allocator};
 
 /// Gives each subchannel of these changes a place, if it has none. One at which something is seen
@@ -53,18 +51,24 @@ fn make_place<A: Allocator + Clone>(
 
 /// Gives each subchannel of these changes the seat that it has afterwards: none where nothing is
 /// seen any more, else the view with the live record that comes along for it, or with a fresh one
-/// where it is new, or with its own. Can't run out of memory.
-pub fn settle_all<A: Allocator, B: Allocator>(
+/// where it is new, or with its own. Each that comes along is found by binary search. Can't run out
+/// of memory.
+pub fn settle_all<A: Allocator>(
     seats: &mut Seats<A>,
     changes: &[ViewChange],
-    kept: &Table<SubId, Live, B>,
+    kept: &[(SubId, Live)],
 )
-    requires { HavePlaces seats.old changes.now }
-    ensures seats { seats.new.seats ≡ settled_all (rows sub_id_cmp kept.now) seats.old.seats changes.now }
+    requires places { HavePlaces seats.old changes.now }
+    requires kept { T (is_sorted sub_id_cmp kept.now) }
+    ensures seats { seats.new.seats ≡ settled_all (from_sorted kept.now) seats.old.seats changes.now }
     ensures places { seats.new.places ≡ seats.old.places }
 {
     for change in changes {
-        settle(seats, change, kept.get(&change.subchannel).copied());
+        settle(
+            seats,
+            change,
+            value_under(kept, &change.subchannel).copied(),
+        );
     }
 }
 

@@ -3,6 +3,7 @@ pub mod Each
 pub mod Entries
 pub mod Found
 pub mod Giving
+pub mod InOrder
 pub mod Lists
 pub mod Numbers
 pub mod Mapped
@@ -10,4 +11,5 @@ pub mod Once
 pub mod Orderings
 pub mod Padding
 pub mod Parts
+pub mod Searched
 pub mod Tests
