@@ -1,4 +1,5 @@
 mod Activated
+mod Apart
 mod Back
 mod CarryingBack
 mod GoingBack

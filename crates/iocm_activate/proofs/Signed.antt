@@ -55,3 +55,16 @@ module _ {K : Type 0} (number : K → ℕ) where
 
     pub none_in_both : list_any (contains_key n) (keys m) ≡ false
     none_in_both = list_any_none (contains_key n) (keys m) (λ i d within. not_both _ _ (own i d within) refl)
+
+-- a bit that is set in one of two words is set in both together
+pub either_set : (a b i : ℕ) → bit_at a i ≡ 1 → bit_at (bit_or a b) i ≡ 1
+either_set a b i is = bit_at_or a b i ∙ ap (λ n. max n (bit_at b i)) is ∙ largest (bit_at b i) (bit_at-lt b i)
+  where
+    largest : (b : ℕ) → b < 2 → max 1 b ≡ 1
+    largest b small = omega (arith, small)
+
+pub other_set : (a b i : ℕ) → bit_at b i ≡ 1 → bit_at (bit_or a b) i ≡ 1
+other_set a b i is = bit_at_or a b i ∙ ap (λ n. max (bit_at a i) n) is ∙ largest (bit_at a i) (bit_at-lt a i)
+  where
+    largest : (b : ℕ) → b < 2 → max b 1 ≡ 1
+    largest b small = omega (arith, small)

@@ -1,18 +1,16 @@
--- The effect of a change as it stands in memory: tables of the cells that it wrote, with their
--- values.
-use Rattle.std.specs.Prelude.{List, [], ◌∷◌, map, Option}
+-- The effect of a change as it is in memory: the cells that it wrote, in order, with their values.
+-- Then the effects of several changes.
+use Rattle.std.specs.Prelude.{Bool, List, map}
 use Rattle.std.specs.List.{flat_map}
-use Rattle.std.specs.declared.cmp.Ordering.{Ordering}
-use Rattle.std.specs.FinMap.{FinMap, get, insert}
 use Rattle.iocm_types.specs.declared.place.NumberCell.{NumberCell}
 use Rattle.iocm_types.specs.declared.sub_id.SubId.{SubId}
 use Rattle.iocm_types.specs.Key.{key_cmp}
 use Rattle.iocm_types.specs.Place.{cell_cmp}
 use Rattle.iocm_types.specs.SubId.{sub_id_cmp}
-use Rattle.iocm_table.specs.Slots.{rows}
 use Rattle.iocm_model.specs.Change.Effect as model
 use Rattle.iocm_numbers.specs.declared.number_change.NumberChange.{NumberChange}
 use Rattle.iocm_seats.specs.declared.view_change.ViewChange.{ViewChange}
+use Rattle.iocm_activate.specs.Cells.{cells_in}
 use Rattle.iocm_activate.specs.Told.{Told, told_in}
 use Rattle.iocm_activate.specs.declared.effect.Effect.{Effect}
 use Rattle.iocm_activate.specs.declared.log.Log.{Log}
@@ -20,9 +18,9 @@ use Rattle.iocm_activate.specs.declared.log.Log.{Log}
 -- the model's effect
 abbrev pub effect_in : Effect → model.Effect
 effect_in e = record {
-  records = rows key_cmp e.records;
-  numbers = rows cell_cmp e.numbers;
-  lives = rows sub_id_cmp e.lives;
+  records = cells_in key_cmp e.records;
+  numbers = cells_in cell_cmp e.numbers;
+  lives = cells_in sub_id_cmp e.lives;
 }
 
 -- the number cells that edits changed, and the subchannels that they altered
@@ -46,8 +44,8 @@ cells_told log = let told = map told_in log.done.items in record {
   subchannels = subchannels_told told;
 }
 
-module _ {K X : Type 0} {R : K → K → Ordering} where
-  -- cells, and of a map what it has at these keys, absent included
-  abbrev pub with_values : FinMap R X → List K → FinMap R (Option X) → FinMap R (Option X)
-  with_values m [] cells = cells
-  with_values m (key ∷ keys) cells = with_values m keys (insert cells key (get m key))
+-- what contracts see of the effects of changes: the effects in the order of the changes, and
+-- whether there is room for one more
+pub record Listed : Type 0 where
+  pub items : List Effect
+  pub has_room : Bool

@@ -1,8 +1,10 @@
 pub mod CarryingBack
+pub mod Cells
 pub mod Done
 pub mod Effects
 pub mod Fitting
 pub mod Going
 pub mod Signature
+pub mod Signatures
 pub mod Told
 pub mod Walked

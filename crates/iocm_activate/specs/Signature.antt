@@ -1,13 +1,13 @@
--- The signature of keys: a word of 64 bits, in which each key has set one.
+-- The bits of keys: a word of 64 bits, in which each key has set one.
 use Rattle.std.specs.Prelude.{◌≡◌, ℕ, ◌%◌, List}
 use Rattle.std.specs.Int.{bit_at}
 use Rattle.std.specs.List.{All}
 use Rattle.iocm_types.specs.declared.key.Key.{Key}
 use Rattle.iocm_types.specs.declared.key.Key.TheVariants.{Id, Resource, Image, Limit, Path, Unit, Device, Online}
 
--- each of these keys has its bit in a signature, by its number
+-- each of these keys has its bit in a word, by its number
 abbrev pub AreSigned : {K : Type 0} → (K → ℕ) → ℕ → List K → Type 0
-AreSigned number signature keys = All (λ k. bit_at signature (number k % 64) ≡ 1) keys
+AreSigned number word keys = All (λ k. bit_at word (number k % 64) ≡ 1) keys
 
 -- the number of a key by which most of its kind differ
 abbrev pub number_in : Key → ℕ

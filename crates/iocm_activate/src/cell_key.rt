@@ -1,7 +1,7 @@
 use iocm_types::{Key, NumberCell, SubId, TableKey};
 
 /// What a cell that a change writes is under: the key of a record, a number cell, or a subchannel.
-/// Its number says which bit it sets in the signature of the cells that it is among.
+/// Its number says which bit it sets in the signature of its effect.
 pub trait CellKey: TableKey {
     ghost use Rattle.std.specs.Prelude.{◌≡◌, ℕ};
 

@@ -2,12 +2,12 @@ ghost use Rattle.std.specs.Prelude.{◌≡◌, ◌++◌, IfOk, OnOk};
 ghost use Rattle.std.specs.FinMap as map;
 ghost use Rattle.iocm_types.specs.Key.{key_cmp};
 ghost use Rattle.iocm_types.specs.Place.{cell_cmp};
-ghost use Rattle.iocm_table.specs.Slots.{rows};
 ghost use Rattle.iocm_model.specs.Machine.Numbering.{cells_of};
 ghost use Rattle.iocm_model.specs.Change.Effect.{values_in};
 ghost use Rattle.iocm_model.specs.Change.Maps.{cells_at};
+ghost use Rattle.iocm_activate.specs.Cells.{cells_in};
 ghost use Rattle.iocm_activate.specs.Effects.{cells_changed, cells_told, effect_in, numbers_told};
-ghost use Rattle.iocm_activate.specs.Effects.{subchannels_changed, subchannels_told, with_values};
+ghost use Rattle.iocm_activate.specs.Effects.{subchannels_changed, subchannels_told};
 ghost use Rattle.iocm_activate.specs.Told as told;
 ghost use Rattle.std.specs.Prelude.{map as map_list};
 ghost use Rattle.iocm_types.specs.SubId.{sub_id_cmp};
@@ -20,8 +20,7 @@ use iocm_numbers::{NumberChange, Numbers};
 use iocm_plant::{Applied, Plant};
 use iocm_record::Record;
 use iocm_seats::ViewChange;
-use iocm_table::Table;
-use iocm_types::{DevNo, Key, Live, NumberCell, SubId, TableKey};
+use iocm_types::{DevNo, Key, Live, NumberCell, SubId, sorted_once};
 use std::alloc::{AllocError, Global};
 
 /// The effect of a change: the cells that it wrote, each with its value after the change; none
@@ -41,30 +40,43 @@ pub struct Effect {
 pub fn effect_of(alloc: Global, plant: &Plant, log: &Log) -> Result<Effect, AllocError>
     ensures { IfOk result (λ e. effect_in e ≡ values_in plant.now.state (cells_told log.now)) }
 {
-    let records = record_cells(alloc, plant.config(), log.keys.as_slice())?;
-    let numbers = number_cells(alloc, plant.numbers(), log.done.as_slice())?;
-    let lives = live_cells(alloc, plant, log.done.as_slice())?;
+    let records = written_records(alloc, plant.config(), log.keys.as_slice())?;
+    let numbers = written_numbers(alloc, plant.numbers(), log.done.as_slice())?;
+    let lives = written_lives(alloc, plant, log.done.as_slice())?;
     Ok(Effect {
-        records: Written::of(records),
-        numbers: Written::of(numbers),
-        lives: Written::of(lives),
+        records,
+        numbers,
+        lives,
     })
 }
 
 /// The records under these keys.
-fn record_cells(
+fn written_records(
     alloc: Global,
     config: &Config,
     keys: &[Key],
-) -> Result<Table<Key, Option<Record>>, AllocError>
-    ensures { IfOk result (λ cells. rows key_cmp cells ≡ cells_at config.now.records keys.now) }
+) -> Result<Written<Key, Record>, AllocError>
+    ensures { IfOk result (λ cells. cells_in key_cmp cells ≡ cells_at config.now.records keys.now) }
 {
-    let mut cells = Table::new(alloc);
+    let once = sorted_once(Vec::from_slice(alloc, keys)?)?;
+    let listed = list_records(alloc, config, once.as_slice())?;
+    Ok(Written::of(listed))
+}
+
+/// Keys with copies of their records.
+fn list_records(
+    alloc: Global,
+    config: &Config,
+    keys: &[Key],
+) -> Result<Vec<(Key, Option<Record>)>, AllocError>
+    ensures { IfOk result (λ listed. listed.items ≡ map_list (λ key. (key, map.get config.now.records key)) keys.now) }
+{
+    let mut listed = Vec::with_capacity(alloc, keys.len())?;
     for key in keys {
         let value = record_at(alloc, config, key)?;
-        add_cell(&mut cells, *key, value)?;
+        listed.push((*key, value))?;
     }
-    Ok(cells)
+    Ok(listed)
 }
 
 /// A copy of the record under a key.
@@ -78,48 +90,69 @@ fn record_at(alloc: Global, config: &Config, key: &Key) -> Result<Option<Record>
 }
 
 /// The number cells that edits changed, with the devices that have them now.
-fn number_cells(
+fn written_numbers(
     alloc: Global,
     numbers: &Numbers,
     done: &[Applied],
-) -> Result<Table<NumberCell, Option<DevNo>>, AllocError>
-    ensures { IfOk result (λ cells. rows cell_cmp cells
+) -> Result<Written<NumberCell, DevNo>, AllocError>
+    ensures { IfOk result (λ cells. cells_in cell_cmp cells
         ≡ cells_at (cells_of numbers.now.numbers) (numbers_told (map_list told.told_in done.now))) }
 {
-    let mut cells = Table::new(alloc);
-    for applied in done {
-        add_numbers(&mut cells, numbers, applied.touched.numbers.as_slice())?;
-    }
-    Ok(cells)
+    let once = sorted_once(list_changed(alloc, done)?)?;
+    let listed = list_devices(alloc, numbers, once.as_slice())?;
+    Ok(Written::of(listed))
 }
 
-/// Adds the number cells that an edit changed.
-fn add_numbers(
-    cells: &mut Table<NumberCell, Option<DevNo>>,
-    numbers: &Numbers,
-    changes: &[NumberChange],
-) -> Result<(), AllocError>
-    ensures { OnOk result (rows cell_cmp cells.new
-        ≡ with_values (cells_of numbers.now.numbers) (cells_changed changes.now) (rows cell_cmp cells.old)) }
+/// The number cells that edits changed, edit by edit.
+fn list_changed(alloc: Global, done: &[Applied]) -> Result<Vec<NumberCell>, AllocError>
+    ensures { IfOk result (λ listed. listed.items ≡ numbers_told (map_list told.told_in done.now)) }
 {
+    let mut listed = Vec::new(alloc);
+    for applied in done {
+        list_cells(&mut listed, applied.touched.numbers.as_slice())?;
+    }
+    Ok(listed)
+}
+
+/// Puts the number cells that an edit changed after those that are listed.
+fn list_cells(listed: &mut Vec<NumberCell>, changes: &[NumberChange]) -> Result<(), AllocError>
+    ensures { OnOk result (listed.new.items ≡ listed.old.items ++ cells_changed changes.now) }
+{
+    listed.reserve(changes.len())?;
     for change in changes {
-        add_cell(cells, change.cell, numbers.device_at(change.cell))?;
+        listed.push(change.cell)?;
     }
     Ok(())
 }
 
+/// Number cells with the devices that have them now.
+fn list_devices(
+    alloc: Global,
+    numbers: &Numbers,
+    cells: &[NumberCell],
+) -> Result<Vec<(NumberCell, Option<DevNo>)>, AllocError>
+    ensures { IfOk result (λ listed. listed.items
+        ≡ map_list (λ cell. (cell, map.get (cells_of numbers.now.numbers) cell)) cells.now) }
+{
+    let mut listed = Vec::with_capacity(alloc, cells.len())?;
+    for cell in cells {
+        listed.push((*cell, numbers.device_at(*cell)))?;
+    }
+    Ok(listed)
+}
+
 /// The subchannels that edits altered, with their live records now.
-fn live_cells(
+fn written_lives(
     alloc: Global,
     plant: &Plant,
     done: &[Applied],
-) -> Result<Table<SubId, Option<Live>>, AllocError>
-    ensures { IfOk result (λ cells. rows sub_id_cmp cells
+) -> Result<Written<SubId, Live>, AllocError>
+    ensures { IfOk result (λ cells. cells_in sub_id_cmp cells
         ≡ cells_at plant.now.state.lives (subchannels_told (map_list told.told_in done.now))) }
 {
-    let altered = each_once(list_altered(alloc, done)?)?;
-    let listed = list_lives(alloc, plant, altered.as_slice())?;
-    Table::from_rows(alloc, listed)
+    let once = each_once(list_altered(alloc, done)?)?;
+    let listed = list_lives(alloc, plant, once.as_slice())?;
+    Ok(Written::of(listed))
 }
 
 /// The subchannels that edits altered, edit by edit.
@@ -133,7 +166,7 @@ fn list_altered(alloc: Global, done: &[Applied]) -> Result<Vec<SubId>, AllocErro
     Ok(listed)
 }
 
-/// Puts the subchannels that an edit altered behind those that are listed.
+/// Puts the subchannels that an edit altered after those that are listed.
 fn list_subchannels(listed: &mut Vec<SubId>, changes: &[ViewChange]) -> Result<(), AllocError>
     ensures { OnOk result (listed.new.items ≡ listed.old.items ++ subchannels_changed changes.now) }
 {
@@ -158,17 +191,4 @@ fn list_lives(
         listed.push((*subchannel, plant.live(*subchannel)))?;
     }
     Ok(listed)
-}
-
-/// Puts a cell into a table, over one with the same key.
-fn add_cell<K: TableKey + Copy + Drop, V: Drop>(
-    cells: &mut Table<K, Option<V>>,
-    key: K,
-    value: Option<V>,
-) -> Result<(), AllocError>
-    ensures { OnOk result (rows K.order cells.new ≡ map.insert (rows K.order cells.old) key value) }
-{
-    cells.room(key)?;
-    let _before = cells.put(&key, value);
-    Ok(())
 }

@@ -7,29 +7,31 @@
 //! tree, the `Effect`, and what each edit did. `make` activates for a report, without the effect;
 //! `carry_out` for an undo or a redo, and gives the inverse tree alone. `fits` tries whether the
 //! inverse tree of a change would take back now just what the change did, and leaves the state as
-//! it was; `carry_back` takes it back if so. What an `Effect` has of one kind is `Written`, which
-//! tells cells in common.
+//! it was; `carry_back` takes it back if so. What an `Effect` has of one kind is `Written`, cells
+//! in order. `Effects` has the effects of all changes, and tells whether two have a cell in common.
 //!
 //! What the layer above may rely on: the state afterwards and each refusal are those of the model's
 //! `meaning`, a refused tree leaves the state as it was, and the inverse tree takes the change
 //! back, by its meaning and, edit by edit, without memory. Begin with `specs/Told.antt` and
 //! `specs/Walked.antt`, then `activation.rt` and `walk.rt`; of `fits` with `specs/Fitting.antt`,
-//! then `fitting.rt`. What names no source is our own.
+//! then `fitting.rt`; of `Effects` with `specs/Signatures.antt`. What names no source is our own.
 #![tactic(auto)]
 
 mod activation;
 mod carrying_back;
 mod carrying_out;
 mod cell_key;
-mod common_keys;
 mod done;
 mod effect;
+mod effects;
 mod fitting;
 mod in_order;
 mod leaf;
 mod log;
 mod making;
 mod rules;
+mod sharing;
+mod signature;
 mod taking_back;
 mod turned;
 mod unchanged;
@@ -40,9 +42,9 @@ mod written;
 pub use activation::activate;
 pub use carrying_back::carry_back;
 pub use carrying_out::carry_out;
-pub use cell_key::CellKey;
 pub use done::{Done, Made};
 pub use effect::Effect;
+pub use effects::Effects;
 pub use fitting::fits;
 pub use making::make;
 pub use written::Written;

@@ -1,77 +1,82 @@
 ghost use Rattle.std.specs.Prelude.{◌≡◌};
-ghost use Rattle.std.specs.FinMap.{contains_key, keys};
+ghost use Rattle.std.specs.FinMap as map;
+ghost use Rattle.std.specs.FinMap.{contains_key};
 ghost use Rattle.std.specs.List.{list_any};
-ghost use Rattle.iocm_table.specs.Slots.{rows};
-ghost use Rattle.iocm_activate.specs.Signature.{AreSigned};
+ghost use Rattle.std.specs.List.Sorted.{IsStrictlySortedBy};
+ghost use Rattle.std.specs.Map.{keys_of};
+ghost use Rattle.std.specs.Option.{option_copied};
+ghost use Rattle.iocm_activate.specs.Cells.{cells_in};
 
-use crate::CellKey;
-use crate::common_keys::have_common;
-use iocm_table::Table;
+use iocm_types::{TableKey, value_under};
 use std::marker::Model;
 
-/// The cells of one kind that a change wrote, each with its value after the change; none where there
-/// is nothing any more. Beside them is their signature: 64 bits, of which each key sets one. So two
-/// changes that have no cell in common are mostly told apart unread. Contracts see the table of the
-/// cells alone. The word is own.
+/// The cells of one kind that a change wrote, each with its value after the change; none where
+/// there is nothing any more. They are in the order of their keys, each once, and contracts see
+/// them so. The word is own.
 #[derive(Drop)]
-pub struct Written<K: CellKey, V> {
-    cells: Table<K, Option<V>>,
-    signature: u64,
+pub struct Written<K: TableKey, V> {
+    cells: Vec<(K, Option<V>)>,
 }
 
-impl<K: CellKey, V> Model for Written<K, V> {
-    ghost use Rattle.std.specs.Prelude.{refl, List, Option};
-    ghost use Rattle.std.specs.Coded.{code_by, coded×, coded_list, coded_option};
-    ghost use Rattle.std.specs.FinMap.{keys};
-    ghost use Rattle.iocm_table.specs.Slots.{Stored, rows};
-    ghost use Rattle.iocm_activate.specs.Signature.{AreSigned};
+impl<K: TableKey, V> Model for Written<K, V> {
+    ghost use Rattle.std.specs.Prelude.{List, Option};
+    ghost use Rattle.std.specs.Coded.{coded×, coded_list, coded_option};
+    ghost use Rattle.std.specs.List.Sorted.{IsStrictlySortedBy};
+    ghost use Rattle.std.specs.Map.{keys_of};
 
-    ghost Value = { Stored K (Option V) };
+    ghost Value = { List (K × Option V) };
 
-    ghost coded = { code_by (List (K × Option V) × List K)
-        (coded× (coded_list (coded× K.code (coded_option V.code))) (coded_list K.code))
-        (λ s. (s.listed, s.places)) (λ p. record { listed = p.0; places = p.1 }) (λ _. refl) };
+    ghost coded = { coded_list (coded× K.code (coded_option V.code)) };
 
-    ghost view = { λ w. w.cells };
+    ghost view = { λ w. w.cells.items };
 
-    ghost invariant = { λ w. AreSigned K.number w.signature (keys (rows K.order w.cells)) };
+    ghost invariant = { λ w. IsStrictlySortedBy K.order (keys_of w.cells.items) };
 }
 
-impl<K: CellKey, V> Written<K, V> {
-    /// The cells of a table. The time is that of one walk over it.
-    pub fn of(cells: Table<K, Option<V>>) -> Self
-        ensures { result ≡ cells }
+impl<K: TableKey, V> Written<K, V> {
+    /// These cells, which are in the order of their keys, each once.
+    pub fn of(cells: Vec<(K, Option<V>)>) -> Self
+        requires { IsStrictlySortedBy K.order (keys_of cells.items) }
+        ensures { result ≡ cells.items }
     {
-        let signature = signature_of(&cells);
-        Written { cells, signature }
+        Written { cells }
     }
 
-    /// The cells in a table.
-    pub fn table(&self) -> &Table<K, Option<V>>
-        ensures { result.now ≡ self.now }
+    /// The cells in the order of their keys.
+    pub fn cells(&self) -> &[(K, Option<V>)]
+        ensures { result.now ≡ map.entries (cells_in K.order self.now) }
     {
-        &self.cells
+        self.cells.as_slice()
+    }
+}
+
+impl<K: TableKey + Copy + Drop, V> Written<K, V> {
+    /// What there is at a cell after the change, if it is among these; it is found by binary search.
+    pub fn get(&self, key: &K) -> Option<&Option<V>>
+        ensures { option_copied result ≡ map.get (cells_in K.order self.now) key.now }
+    {
+        value_under(self.cells.as_slice(), key)
     }
 
-    /// Whether a cell is among both. Where their signatures have no bit in common, neither table is
-    /// read. Else the time is that of a walk over the smaller one.
+    /// Whether a cell is among both. Each of the fewer ones is looked for among the others.
     pub fn have_common(&self, other: &Written<K, V>) -> bool
-        ensures { result ≡ list_any (contains_key (rows K.order other.now)) (keys (rows K.order self.now)) }
+        ensures { result ≡ list_any (contains_key (cells_in K.order other.now)) (map.keys (cells_in K.order self.now)) }
     {
-        if self.signature & other.signature == 0 {
-            return false;
+        if self.cells.len() <= other.cells.len() {
+            return has_one_of(other, self);
         }
-        have_common(&self.cells, &other.cells)
+        has_one_of(self, other)
     }
 }
 
-/// The signature of the rows of a table: each key has set its bit.
-fn signature_of<K: CellKey, V>(table: &Table<K, V>) -> u64
-    ensures { AreSigned K.number result (keys (rows K.order table.now)) }
+/// Whether a cell of `others` is among those of `written`.
+fn has_one_of<K: TableKey + Copy + Drop, V>(written: &Written<K, V>, others: &Written<K, V>) -> bool
+    ensures { result ≡ list_any (contains_key (cells_in K.order written.now)) (map.keys (cells_in K.order others.now)) }
 {
-    let mut signature = 0u64;
-    for (key, _) in table.walk() {
-        signature |= 1u64 << (key.number() % 64);
+    for cell in others.cells() {
+        if written.get(&cell.0).is_some() {
+            return true;
+        }
     }
-    signature
+    false
 }

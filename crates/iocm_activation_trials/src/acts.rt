@@ -70,7 +70,7 @@ impl Trial {
     fn activate(&mut self, alloc: Global, plan: &Plan) -> Result<(usize, usize), Fail> {
         let tree = tree_of(alloc, plan)?;
         let done = accepted(alloc, &mut self.plant, &tree)?;
-        let counts = (done.performed.len(), done.effect.lives.table().len());
+        let counts = (done.performed.len(), done.effect.lives.cells().len());
         if self.kept.is_none() {
             self.kept = Some(done);
         }

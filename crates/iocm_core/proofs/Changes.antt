@@ -1,5 +1,5 @@
 -- Activations, and changes in stages, as calls.
-use Rattle.std.proofs.Common.{◌≡◌, inl, inr, ℕ, ◌+◌, ◌-◌, ◌<◌, length, Some, None, Ok, Err, List, [], ◌∷◌, ◌++◌, IsTrue}
+use Rattle.std.proofs.Common.{◌≡◌, inl, inr, ℕ, ◌+◌, ◌-◌, length, Some, None, Ok, Err, List, [], ◌∷◌, ◌++◌, IsTrue}
 use Rattle.std.proofs.Common.{refl, sym, ap, subst, ◌∙◌, arith}
 use Rattle.iocm_types.specs.declared.answer.Answer.TheVariants as answers
 use Rattle.iocm_types.specs.declared.refused.Refused.{Refused}
@@ -24,10 +24,9 @@ use Rattle.iocm_plant.specs.Refusing.{IsDue}
 use Rattle.iocm_tree.specs.Limits.{limit_refusal, meaning_unless}
 use Rattle.iocm_tree.specs.Trees.{plain_tree, tree_of}
 use Rattle.iocm_activate.specs.Done.{edits_of, refusal_in, AreToldBy}
-use Rattle.iocm_activate.specs.Effects.{effect_in}
+use Rattle.iocm_activate.specs.Effects.{Listed, effect_in}
 use Rattle.iocm_activate.specs.Told.{told_of_all}
 use Rattle.iocm_activate.specs.declared.done.Done.{Done}
-use Rattle.std.specs.Vec.{vec_len, vec_capacity}
 use Rattle.iocm_journal.specs.Journaled.{Journaled}
 use Rattle.iocm_journal.specs.Accepting.{newly_kept}
 use Rattle.iocm_journal.specs.Moving.{KeepsTheSame}
@@ -205,7 +204,7 @@ advance_answered others opening h m n g new k it was moves left staged journal c
   where
     room_still : HasRoomForAChange m → HasRoomForAChange n
     room_still had = record {
-      changes = subst (λ (fs : _). vec_len fs < vec_capacity fs) (sym changes) had.changes;
+      changes = subst (λ (fs : Listed). IsTrue fs.has_room) (sym changes) had.changes;
       journal = subst (λ (j : Journaled). IsTrue j.has_room) (sym journal) had.journal;
     }
 
@@ -325,7 +324,7 @@ module _ (t : ChangeTree) (m r n : Installation) (plant : r.plant ≡ m.plant) (
           changes = (λ z. (changes z).items) ∙ rest.changes;
         };
         room = record {
-          changes = subst (λ (fs : _). vec_len fs < vec_capacity fs) (sym changes) had.changes;
+          changes = subst (λ (fs : Listed). IsTrue fs.has_room) (sym changes) had.changes;
           journal = subst (λ (j : Journaled). IsTrue j.has_room) (sym journal) had.journal;
         };
       }

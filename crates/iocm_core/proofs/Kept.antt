@@ -201,15 +201,8 @@ next_answered opening h call answer n next none told =
 
 -- an undo or a redo by the journal is answered as the journal goes on
 pub journal_answered : {opening : State} {h : History} {m : Installation} (it : IsInstallationOf opening h m) (none : m.stage ≡ None)
-    (call : Call) (answer : Answer) (fs : List Effect) (j : Journaled) (p : Operating) → fs ≡ m.changes.items
-    → GoOnBy (plain_entry call answer) fs m.journal m.plant j p → effect_told m.changes.items answer ≡ no_effect
+    (call : Call) (answer : Answer) (j : Journaled) (p : Operating)
+    → GoOnBy (plain_entry call answer) m.changes.items m.journal m.plant j p → effect_told m.changes.items answer ≡ no_effect
     → IsAnswered opening h call answer (record m { plant = p; journal = j })
-journal_answered {opening = opening} {h = h} {m = m} it none call answer fs j p known goes told =
-    let here = subst (λ (gs : List Effect). IsNow opening h m.journal gs m.plant) (sym known) (now_of opening h m it none) in
-    let next = subst (λ (gs : List Effect). IsNext opening h (plain_entry call answer) j gs p) known (goes opening h here) in
-    next_answered opening h call answer (record m { plant = p; journal = j }) next none told
-
-pub together_with : (m : Installation) → IsRunning m → m.stage ≡ None → (fs : List Effect) → fs ≡ m.changes.items
-    → BelongTogether m.journal fs m.plant
-together_with m r none fs known =
-    subst (λ (gs : List Effect). BelongTogether m.journal gs m.plant) (sym known) (together m r none)
+journal_answered {opening = opening} {h = h} {m = m} it none call answer j p goes told =
+    next_answered opening h call answer (record m { plant = p; journal = j }) (goes opening h (now_of opening h m it none)) none told

@@ -12,6 +12,8 @@ use Rattle.iocm_tree.specs.contracts.tree.Tree as Tree
 use Rattle.iocm_tree.specs.contracts.edit.Edit as Edit
 use Rattle.iocm_activate.proofs.effect.Effect.TheSendSync as effect
 use Rattle.iocm_activate.specs.contracts.effect.Effect as Effect
+use Rattle.iocm_activate.proofs.effects.Effects.TheSendSync as effects
+use Rattle.iocm_activate.specs.contracts.effects.Effects as Effects
 use Rattle.iocm_activate.specs.contracts.done.Done as Done
 use Rattle.iocm_journal.specs.contracts.journal.Journal as Journal
 use Rattle.iocm_journal.specs.contracts.journal.Journal.TheInside as journal_inside
@@ -38,6 +40,9 @@ edit_send = search (edit.the_send, crosses, sendable) depth 20
 
 effect_send : IsSend Effect.the_row
 effect_send = effect.the_send
+
+effects_send : IsSend Effects.the_row
+effects_send = effects.the_send
 
 touched_send : IsSend Touched.the_row
 touched_send = touched.the_send
@@ -82,7 +87,7 @@ installation_send =
       plant.the_send,
       (
         journal_send,
-        (search (staged_send, crosses, sendable) depth 20, (search (effect_send, crosses, sendable) depth 20, tt)),
+        (search (staged_send, crosses, sendable) depth 20, (effects_send, tt)),
       ),
     )
 

@@ -1,5 +1,5 @@
 -- Steps at subchannels, held or not.
-use Rattle.std.proofs.Common.{◌≡◌, true, false, ◌<◌, Option, Some, None, List, ◌∷◌, IsTrue, refl, sym, ap, subst, ◌∙◌}
+use Rattle.std.proofs.Common.{◌≡◌, true, false, Option, Some, None, List, ◌∷◌, IsTrue, refl, sym, ap, subst, ◌∙◌}
 use Rattle.iocm_types.specs.declared.answer.Answer.{Answer}
 use Rattle.iocm_types.specs.declared.answer.Answer.TheVariants as answers
 use Rattle.iocm_types.specs.declared.sub_id.SubId.{SubId}
@@ -7,7 +7,7 @@ use Rattle.iocm_model.specs.Operation.State.{State}
 use Rattle.iocm_model.specs.Operation.Step.{Step, order, device_begin, device_end, after_step, answer_in}
 use Rattle.iocm_history.specs.Entry.{at, Entry, History, plain_entry, no_effect}
 use Rattle.iocm_history.specs.Legal.{IsRight}
-use Rattle.std.specs.Vec.{vec_len, vec_capacity}
+use Rattle.iocm_activate.specs.Effects.{Listed}
 use Rattle.iocm_activate.specs.declared.effect.Effect.{Effect}
 use Rattle.iocm_journal.specs.Now.{IsJournalOf}
 use Rattle.iocm_journal.specs.Journaled.{Journaled}
@@ -102,7 +102,7 @@ module _ (law : StepsElsewherePassAStage) (others : OtherEntriesLeaveIt) (openin
       with_stage : (g : Option Staged) → HasRoomFor g m → HasRoomFor g n
       with_stage None had = tt
       with_stage (Some g) had = record {
-        changes = subst (λ fs. vec_len fs < vec_capacity fs) (sym changes) had.changes;
+        changes = subst (λ (fs : Listed). IsTrue fs.has_room) (sym changes) had.changes;
         journal = subst (λ (j : Journaled). IsTrue j.has_room) (sym journal) had.journal;
       }
 

@@ -1,6 +1,5 @@
 -- What the acceptance of a change, or its beginning, does to an installation.
-use Rattle.std.specs.Prelude.{◌≡◌, ◌<◌, ℕ, ◌+◌, [], ◌∷◌, ◌++◌, length, Ok, Some, None, IsTrue}
-use Rattle.std.specs.Vec.{vec_len, vec_capacity}
+use Rattle.std.specs.Prelude.{◌≡◌, ℕ, ◌+◌, [], ◌∷◌, ◌++◌, length, Ok, Some, None, IsTrue}
 use Rattle.iocm_model.specs.Operation.State.{State}
 use Rattle.iocm_model.specs.Change.Tree.{ChangeTree}
 use Rattle.iocm_model.specs.Change.Meaning.{Performed, meaning}
@@ -19,7 +18,7 @@ pub record KeepsTheRest (old new : Installation) : Type 0 where
 
 -- there is memory for one more change
 pub record HasRoomForAChange (i : Installation) : Type 0 where
-  pub changes : vec_len i.changes < vec_capacity i.changes
+  pub changes : IsTrue i.changes.has_room
   pub journal : IsTrue i.journal.has_room
 
 -- an installation accepts a change that was done: it knows what that wrote, and its journal accepts

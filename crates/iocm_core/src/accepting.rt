@@ -13,7 +13,7 @@ impl Installation {
         ensures rest { KeepsTheRest self.old self.new }
         ensures room { OnOk result (HasRoomForAChange self.new) }
     {
-        self.changes.reserve(1)?;
+        self.changes.room()?;
         self.journal.room()
     }
 
@@ -31,7 +31,7 @@ impl Installation {
             effect,
             performed,
         } = done;
-        self.changes.push_reserved(effect);
+        self.changes.push(effect);
         self.journal.accept(inverse, performed)
     }
 }

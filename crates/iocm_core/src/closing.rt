@@ -50,7 +50,7 @@ impl Core {
             trace: Trace {
                 opening,
                 entries,
-                changes,
+                changes: changes.into_effects(),
             },
         }
     }

@@ -4,7 +4,7 @@ ghost use Rattle.iocm_core.specs.Running.{Answers, IsRunning};
 ghost use Rattle.iocm_core.specs.Told.{GoesOnWith};
 
 use crate::Call;
-use iocm_activate::Effect;
+use iocm_activate::Effects;
 use iocm_journal::Journal;
 use iocm_plant::Plant;
 use iocm_stage::Staged;
@@ -22,7 +22,7 @@ pub struct Installation {
     /// The change in stages, if one was begun.
     pub stage: Option<Staged>,
     /// What each accepted change wrote, in the order of their numbers.
-    pub changes: Vec<Effect>,
+    pub changes: Effects,
 }
 
 impl Installation {

@@ -9,6 +9,7 @@ ghost use Rattle.iocm_core.specs.Running.{IsInstallationOf};
 
 use crate::installation::Installation;
 use crate::{Core, Entry};
+use iocm_activate::Effects;
 use iocm_config::Config;
 use iocm_journal::Journal;
 use iocm_plant::{Plant, Unopened};
@@ -98,6 +99,6 @@ fn installation(alloc: Global, plant: Plant) -> Installation
         plant,
         journal: Journal::new(alloc),
         stage: None,
-        changes: Vec::new(alloc),
+        changes: Effects::new(alloc),
     }
 }

@@ -23,7 +23,7 @@ impl Installation {
         }
         match self
             .journal
-            .undo(alloc, &mut self.plant, self.changes.as_slice(), number)
+            .undo(alloc, &mut self.plant, &self.changes, number)
         {
             Ok(()) => Answer::Undone(number),
             Err(why) => Answer::Refused(why),
@@ -44,7 +44,7 @@ impl Installation {
         }
         match self
             .journal
-            .redo(alloc, &mut self.plant, self.changes.as_slice(), number)
+            .redo(alloc, &mut self.plant, &self.changes, number)
         {
             Ok(()) => Answer::Redone(number),
             Err(why) => Answer::Refused(why),

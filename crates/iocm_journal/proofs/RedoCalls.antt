@@ -77,12 +77,9 @@ module _ {opening : State} {h : History} {j : Journaled} {fs : List Effect} {p :
         (sym (last_is j.undone (journal_of h).undone n now.journal.undone) ∙ last)
 
     -- B1, or nothing
-    pub is_the_last : (f : Effect) (came : Option Refused) → f ≡ get_or fs place f → is_last j.undone n ≡ true
+    pub is_the_last : (f : Effect) (came : Option Refused) → slice_get fs place ≡ Some f → is_last j.undone n ≡ true
         → came ≡ option_map not_quiet (first_not_quiet p.state.lives (keys (effect_in f).lives)) → IsRedoDecided opening h n came
-    is_the_last f came read last is =
-        let low : place < length fs = let here = slice_get_within j.changes place k at_k in
-        let same = now.journal.effects in omega (arith, here, same) in
-        let at_f = slice_get_read fs (length fs) place f refl low read in
+    is_the_last f came at_f last is =
         let it : IsKept opening h n k f
         = subst (λ m. IsKept opening h m k f) (sym number) (now.journal.kept place k f at_k at_f) in
         let top = sym (last_is j.undone (journal_of h).undone n now.journal.undone) ∙ last in

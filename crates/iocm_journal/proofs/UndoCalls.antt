@@ -126,12 +126,9 @@ module _ {opening : State} {h : History} {j : Journaled} {fs : List Effect} {p :
       (not_quiet_now opening h (place + 1)) (on_is f.0 f.1 ∙ ap (option_map (λ at. at + 1)) is) refl
 
   -- B1, or nothing
-  pub waits_for : (f : Effect) (why : Option Refused) → f ≡ get_or fs place f → on ≡ None
+  pub waits_for : (f : Effect) (why : Option Refused) → slice_get fs place ≡ Some f → on ≡ None
       → why ≡ option_map not_quiet (first_not_quiet p.state.lives (keys (effect_in f).lives)) → IsUndoDecided opening h (place + 1) why
-  waits_for f why read none is =
-      let within : place < length fs = let low = slice_get_within j.changes place k there in
-      let same = now.journal.effects in omega (arith, low, same) in
-      let at_f = slice_get_read fs (length fs) place f refl within read in
+  waits_for f why at_f none is =
       ap (unless_refused (answers.Undone (place + 1))) is ∙ unless_busy (answers.Undone (place + 1)) _
       ∙ undo_decided now place k f there at_f it_stands None _ (on_is f at_f ∙ ap (option_map (λ at. at + 1)) none)
       (quiet_is now (place + 1) k f (now.journal.kept place k f there at_f))

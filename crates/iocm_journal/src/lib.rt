@@ -22,7 +22,6 @@ mod kept;
 mod laws;
 mod quiet;
 mod redo;
-mod sharing;
 mod standing_on;
 mod undo;
 mod undos;

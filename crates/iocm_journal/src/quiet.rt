@@ -22,9 +22,9 @@ pub fn refused_for_not_quiet(plant: &Plant, change: &Effect) -> Option<Refused>
 fn first_not_quiet(plant: &Plant, change: &Effect) -> Option<SubId>
     ensures { result ≡ refusal.first_not_quiet plant.now.state.lives (map.keys (effect_in change.now).lives) }
 {
-    for (subchannel, _) in change.lives.table().walk() {
-        if is_not_quiet(plant.live(*subchannel)) {
-            return Some(*subchannel);
+    for cell in change.lives.cells() {
+        if is_not_quiet(plant.live(cell.0)) {
+            return Some(cell.0);
         }
     }
     None

@@ -20,7 +20,7 @@ use crate::Journal;
 use crate::kept::Undone;
 use crate::quiet::refused_for_not_quiet;
 use crate::undos::forget_last_of;
-use iocm_activate::{Effect, carry_out};
+use iocm_activate::{Effects, carry_out};
 use iocm_plant::Plant;
 use iocm_types::{Refused, Rule};
 use std::alloc::Global;
@@ -37,11 +37,11 @@ impl Journal {
         &mut self,
         alloc: Global,
         plant: &mut Plant,
-        changes: &[Effect],
+        changes: &Effects,
         number: u64,
     ) -> Result<(), Refused>
-        requires { BelongTogether self.old changes.now plant.old }
-        ensures next { GoOnBy (redo_made number result) changes.now self.old plant.old self.new plant.new }
+        requires { BelongTogether self.old changes.now.items plant.old }
+        ensures next { GoOnBy (redo_made number result) changes.now.items self.old plant.old self.new plant.new }
         ensures same { OnErr result (KeepsTheSame self.old self.new) }
         ensures room { KeepsRoom plant.old.room plant.new.room }
     {
@@ -52,9 +52,9 @@ impl Journal {
     }
 
     /// The place of a change that may be done again, counted from 0; or J1, J3 or B1.
-    fn redo_place(&self, plant: &Plant, changes: &[Effect], number: u64) -> Result<usize, Refused>
-        requires now { BelongTogether self.now changes.now plant.now }
-        ensures decided { (opening : State) (h : History) → IsNow opening h self.now changes.now plant.now
+    fn redo_place(&self, plant: &Plant, changes: &Effects, number: u64) -> Result<usize, Refused>
+        requires now { BelongTogether self.now changes.now.items plant.now }
+        ensures decided { (opening : State) (h : History) → IsNow opening h self.now changes.now.items plant.now
             → IsRedoDecided opening h number (result_err result) }
         ensures number { IfOk result (λ place. number ≡ place + 1) }
         ensures last { OnOk result (IsTrue (is_last self.now.undone number)) }
@@ -70,7 +70,7 @@ impl Journal {
         if !self.is_last_undone(number) {
             return Err(Refused::of(Rule::J3));
         }
-        match refused_for_not_quiet(plant, &changes[place]) {
+        match refused_for_not_quiet(plant, changes.get(place)) {
             Some(why) => Err(why),
             None => Ok(place),
         }

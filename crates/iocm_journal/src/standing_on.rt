@@ -6,16 +6,15 @@ ghost use Rattle.iocm_journal.specs.Noted.{AreNoted, stands_later};
 ghost use Rattle.iocm_journal.specs.Standing.{is_on, last_passing};
 
 use crate::kept::Kept;
-use crate::sharing::share_a_cell;
 use crate::undos::{Undo, undone_since};
-use iocm_activate::Effect;
+use iocm_activate::Effects;
 
 /// The place of the greatest change that stands on the one at a place, if one does. Places count
 /// from 0; `fits` tells whether the change at the place fits the machine now.
-pub fn greatest_on(kept: &[Kept], changes: &[Effect], place: usize, fits: bool) -> Option<usize>
+pub fn greatest_on(kept: &[Kept], changes: &Effects, place: usize, fits: bool) -> Option<usize>
     requires within { place < length kept.now }
-    requires changes { length changes.now ≡ length kept.now }
-    ensures last { result ≡ last_passing (is_on kept.now changes.now place fits) (length kept.now) }
+    requires changes { length changes.now.items ≡ length kept.now }
+    ensures last { result ≡ last_passing (is_on kept.now changes.now.items place fits) (length kept.now) }
     ensures within { MatchOption result (Unit {0}) (λ at. at < length kept.now) }
 {
     let mut left = kept.len();
@@ -31,17 +30,15 @@ pub fn greatest_on(kept: &[Kept], changes: &[Effect], place: usize, fits: bool) 
 }
 
 /// Whether the change at a place `other` stands on the one at a place.
-fn stands_on(kept: &[Kept], changes: &[Effect], place: usize, fits: bool, other: usize) -> bool
+fn stands_on(kept: &[Kept], changes: &Effects, place: usize, fits: bool, other: usize) -> bool
     requires within { place < length kept.now }
     requires other { other < length kept.now }
-    requires changes { length changes.now ≡ length kept.now }
-    ensures { result ≡ is_on kept.now changes.now place fits other }
+    requires changes { length changes.now.items ≡ length kept.now }
+    ensures { result ≡ is_on kept.now changes.now.items place fits other }
 {
     if fits {
         // The signatures mostly tell, and then what is kept of the other isn't read.
-        return place < other
-            && share_a_cell(&changes[place], &changes[other])
-            && kept[other].stands;
+        return place < other && changes.share_a_cell(place, other) && kept[other].stands;
     }
     if place < other {
         return kept[other].stands;

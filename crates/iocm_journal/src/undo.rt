@@ -20,7 +20,7 @@ use crate::kept::{Undoing, Undone};
 use crate::quiet::refused_for_not_quiet;
 use crate::standing_on::{greatest_on, is_stood_on_if_unfit};
 use crate::undos::Undo;
-use iocm_activate::Effect;
+use iocm_activate::Effects;
 use iocm_plant::Plant;
 use iocm_types::{At, Refused, Rule};
 use std::alloc::{AllocError, Global};
@@ -38,11 +38,11 @@ impl Journal {
         &mut self,
         alloc: Global,
         plant: &mut Plant,
-        changes: &[Effect],
+        changes: &Effects,
         number: u64,
     ) -> Result<(), Refused>
-        requires { BelongTogether self.old changes.now plant.old }
-        ensures next { GoOnBy (undo_made number result) changes.now self.old plant.old self.new plant.new }
+        requires { BelongTogether self.old changes.now.items plant.old }
+        ensures next { GoOnBy (undo_made number result) changes.now.items self.old plant.old self.new plant.new }
         ensures same { OnErr result (KeepsTheSame self.old self.new) }
         ensures room { KeepsRoom plant.old.room plant.new.room }
     {
@@ -63,14 +63,14 @@ impl Journal {
         &mut self,
         alloc: Global,
         plant: &mut Plant,
-        changes: &[Effect],
+        changes: &Effects,
         place: usize,
     ) -> bool
-        requires now { BelongTogether self.old changes.now plant.old }
+        requires now { BelongTogether self.old changes.now.items plant.old }
         requires place { place < length self.old.changes }
         requires stands { IsTrue (stands_at self.old.changes place) }
         ensures next { result ≡ true
-            → GoOnBy (undo_made (place + 1) (Ok tt)) changes.now self.old plant.old self.new plant.new }
+            → GoOnBy (undo_made (place + 1) (Ok tt)) changes.now.items self.old plant.old self.new plant.new }
         ensures state { result ≡ false → plant.new.state ≡ plant.old.state }
         ensures same { result ≡ false → KeepsTheSame self.old self.new }
         ensures room { KeepsRoom plant.old.room plant.new.room }
@@ -83,7 +83,7 @@ impl Journal {
         if greatest_on(kept, changes, place, true).is_some() {
             return false;
         }
-        if refused_for_not_quiet(plant, &changes[place]).is_some() {
+        if refused_for_not_quiet(plant, changes.get(place)).is_some() {
             return false;
         }
         match self.take_back(alloc, plant, place, Undoing::IfItFits) {
@@ -98,13 +98,13 @@ impl Journal {
         &mut self,
         alloc: Global,
         plant: &mut Plant,
-        changes: &[Effect],
+        changes: &Effects,
         place: usize,
     ) -> Result<(), Refused>
-        requires now { BelongTogether self.old changes.now plant.old }
+        requires now { BelongTogether self.old changes.now.items plant.old }
         requires place { place < length self.old.changes }
         requires stands { IsTrue (stands_at self.old.changes place) }
-        ensures next { GoOnBy (undo_made (place + 1) result) changes.now self.old plant.old self.new plant.new }
+        ensures next { GoOnBy (undo_made (place + 1) result) changes.now.items self.old plant.old self.new plant.new }
         ensures same { OnErr result (KeepsTheSame self.old self.new) }
         ensures room { KeepsRoom plant.old.room plant.new.room }
     {
@@ -134,22 +134,24 @@ impl Journal {
         &self,
         alloc: Global,
         plant: &mut Plant,
-        changes: &[Effect],
+        changes: &Effects,
         place: usize,
     ) -> Result<Option<Refused>, AllocError>
-        requires now { BelongTogether self.now changes.now plant.old }
+        requires now { BelongTogether self.now changes.now.items plant.old }
         requires place { place < length self.now.changes }
         requires stands { IsTrue (stands_at self.now.changes place) }
         ensures decided { IfOk result (λ why. (opening : State) (h : History)
-            → IsNow opening h self.now changes.now plant.old → IsUndoDecided opening h (place + 1) why) }
+            → IsNow opening h self.now changes.now.items plant.old → IsUndoDecided opening h (place + 1) why) }
         ensures same { plant.new.state ≡ plant.old.state }
         ensures room { KeepsRoom plant.old.room plant.new.room }
     {
         let on = self.stood_on_by(alloc, plant, changes, place)?;
         if let Some(other) = on {
+            // For the proof alone: so many places have numbers that fit.
+            let _count = self.changes.len();
             return Ok(Some(Refused::about(Rule::J2, At::Change(other as u64 + 1))));
         }
-        Ok(refused_for_not_quiet(plant, &changes[place]))
+        Ok(refused_for_not_quiet(plant, changes.get(place)))
     }
 
     /// The place of the greatest change that stands on the one at a place, if one does. Whether
@@ -162,13 +164,13 @@ impl Journal {
         &self,
         alloc: Global,
         plant: &mut Plant,
-        changes: &[Effect],
+        changes: &Effects,
         place: usize,
     ) -> Result<Option<usize>, AllocError>
         requires rules { KeepsTheRules plant.old.state }
         requires place { place < length self.now.changes }
-        requires changes { length changes.now ≡ length self.now.changes }
-        ensures greatest { IfOk result (IsGreatestOn self.now.changes changes.now place plant.old.state) }
+        requires changes { length changes.now.items ≡ length self.now.changes }
+        ensures greatest { IfOk result (IsGreatestOn self.now.changes changes.now.items place plant.old.state) }
         ensures within { IfOk result (λ on. IfSome on (λ at. at < length self.now.changes)) }
         ensures same { plant.new.state ≡ plant.old.state }
         ensures room { KeepsRoom plant.old.room plant.new.room }

@@ -55,19 +55,19 @@ impl Marked {
 
     /// The record that it wrote under a key, if it wrote there.
     fn record(&self, key: &Key) -> Option<Option<&Record>> {
-        Some(self.effect()?.records.table().get(key)?.as_ref())
+        Some(self.effect()?.records.get(key)?.as_ref())
     }
 
     /// The device to which it gave a number, if it wrote there.
     fn device(&self, cell: &NumberCell) -> Option<Option<DevNo>> {
-        Some(*self.effect()?.numbers.table().get(cell)?)
+        Some(*self.effect()?.numbers.get(cell)?)
     }
 
     /// The live record that it wrote at a subchannel, if it wrote there.
     fn live(&self, there: &SubId) -> Option<Option<Live>> {
         match &self.deed {
             Deed::Step(here, live) if here == there && self.mark == Mark::Kept => Some(*live),
-            _ => Some(*self.effect()?.lives.table().get(there)?),
+            _ => Some(*self.effect()?.lives.get(there)?),
         }
     }
 
@@ -230,9 +230,9 @@ impl History {
 
 /// Adds the keys at which a change wrote.
 fn add_keys(keys: &mut Vec<Key>, effect: &Effect) -> Result<(), AllocError> {
-    for (key, _) in effect.records.table().walk() {
-        if !keys.contains(key) {
-            keys.push(*key)?;
+    for cell in effect.records.cells() {
+        if !keys.contains(&cell.0) {
+            keys.push(cell.0)?;
         }
     }
     Ok(())
@@ -240,9 +240,9 @@ fn add_keys(keys: &mut Vec<Key>, effect: &Effect) -> Result<(), AllocError> {
 
 /// Adds the number cells that a change wrote.
 fn add_cells(cells: &mut Vec<NumberCell>, effect: &Effect) -> Result<(), AllocError> {
-    for (cell, _) in effect.numbers.table().walk() {
-        if !cells.contains(cell) {
-            cells.push(*cell)?;
+    for written in effect.numbers.cells() {
+        if !cells.contains(&written.0) {
+            cells.push(written.0)?;
         }
     }
     Ok(())

@@ -1,10 +1,9 @@
 //! The plain reading answers calls: in each state on a machine that is built anew.
 use crate::plain::{Deed, History};
 use crate::rebuilt::{images, rebuilt};
-use iocm_activate::{Done, Effect, activate, fits};
+use iocm_activate::{Done, Effect, Written, activate, fits};
 use iocm_core::Call;
 use iocm_plant::Plant;
-use iocm_table::Table;
 use iocm_tree::Tree;
 use iocm_trial_machines::{keeps_rules, machine};
 use iocm_types::{Answer, At, Counts, Order, Phase, Refused, Rule, SubId, TableKey};
@@ -34,10 +33,13 @@ pub struct Player {
     pub undone: Vec<u64>,
 }
 
-/// Whether two tables have a key in common.
-fn have_common<K: TableKey, V, W>(first: &Table<K, V>, second: &Table<K, W>) -> bool {
-    for (key, _) in first.walk() {
-        if second.get(key).is_some() {
+/// Whether two changes have a cell of one kind in common.
+fn have_common<K: TableKey + Copy + Drop, V>(
+    first: &Written<K, V>,
+    second: &Written<K, V>,
+) -> bool {
+    for cell in first.cells() {
+        if second.get(&cell.0).is_some() {
             return true;
         }
     }
@@ -46,16 +48,16 @@ fn have_common<K: TableKey, V, W>(first: &Table<K, V>, second: &Table<K, W>) -> 
 
 /// Whether two changes wrote a cell in common.
 fn share_a_cell(first: &Effect, second: &Effect) -> bool {
-    have_common(first.records.table(), second.records.table())
-        || have_common(first.numbers.table(), second.numbers.table())
-        || have_common(first.lives.table(), second.lives.table())
+    have_common(&first.records, &second.records)
+        || have_common(&first.numbers, &second.numbers)
+        || have_common(&first.lives, &second.lives)
 }
 
 /// The subchannels that a change altered, in their order.
 fn altered(alloc: Global, done: &Done) -> Result<Vec<SubId>, Fail> {
     let mut list = Vec::new(alloc);
-    for (there, _) in done.effect.lives.table().walk() {
-        list.push(*there)?;
+    for cell in done.effect.lives.cells() {
+        list.push(cell.0)?;
     }
     Ok(list)
 }
@@ -145,7 +147,7 @@ impl Player {
     /// Whether a subchannel is held.
     fn holds(&self, there: &SubId) -> bool {
         match &self.stage {
-            Some(stage) => stage.done.effect.lives.table().get(there).is_some(),
+            Some(stage) => stage.done.effect.lives.get(there).is_some(),
             None => false,
         }
     }

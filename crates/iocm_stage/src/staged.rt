@@ -31,7 +31,7 @@ impl Staged {
         ensures { (t : Stage) (s : State) (p : Operating) → IsStageOf self.now t s p
             → result ≡ is_held subchannel (Some t) }
     {
-        self.done.effect.lives.table().get(&subchannel).is_some()
+        self.done.effect.lives.get(&subchannel).is_some()
     }
 
     /// How many edits are left.

@@ -5,7 +5,7 @@ use Rattle.iocm_types.specs.declared.answer.Answer.TheVariants as answers
 use Rattle.iocm_types.specs.declared.refused.At.TheVariants.{Nothing}
 use Rattle.iocm_types.specs.declared.rule.Rule.TheVariants.{O1}
 use Rattle.iocm_model.specs.Change.Refusal.{refusal_at}
-use Rattle.iocm_core.proofs.Kept.{none_if, staged_if, refuses, together_with, journal_answered}
+use Rattle.iocm_core.proofs.Kept.{none_if, staged_if, refuses, together, journal_answered}
 use Rattle.iocm_core.proofs.Rightness.{undo_o1}
 use Rattle.iocm_core.proofs.installation.Installation.undo.Goals as goal
 
@@ -19,16 +19,15 @@ returns-then-is_some-clause-answers c = λ opening h it.
 pub undo-requires : goal.undo-requires
 undo-requires c =
     let m = c.args.self.now in
-    together_with m c.requires (none_if m.stage c.if-is_some.ensures) c.as_slice.result.now c.as_slice.ensures.value
+    together m c.requires (none_if m.stage c.if-is_some.ensures)
 
 pub returns-in-Ok-clause-answers : goal.returns-in-Ok-clause-answers
 returns-in-Ok-clause-answers c = λ opening h it.
     let n = c.args.number in
     journal_answered it (none_if c.args.self.now.stage c.if-is_some.ensures) (history.undo n) (answers.Undone n)
-    c.as_slice.result.now c.undo.new.self c.undo.new.plant c.as_slice.ensures.value c.in-Ok.ensures.next refl
+    c.undo.new.self c.undo.new.plant c.in-Ok.ensures.next refl
 
 pub returns-in-Err-clause-answers : goal.returns-in-Err-clause-answers
 returns-in-Err-clause-answers c = λ opening h it.
     journal_answered it (none_if c.args.self.now.stage c.if-is_some.ensures) (history.undo c.args.number)
-    (answers.Refused c.in-Err.why) c.as_slice.result.now c.undo.new.self c.undo.new.plant c.as_slice.ensures.value
-    c.in-Err.ensures.next refl
+    (answers.Refused c.in-Err.why) c.undo.new.self c.undo.new.plant c.in-Err.ensures.next refl

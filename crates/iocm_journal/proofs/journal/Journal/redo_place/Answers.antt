@@ -21,12 +21,12 @@ returns-then-not-is_last_undone-clause-decided c = λ opening h now.
 pub returns-in-Some-refused_for_not_quiet-clause-decided : goal.returns-in-Some-refused_for_not_quiet-clause-decided
 returns-in-Some-refused_for_not_quiet-clause-decided c = λ opening h now.
     is_the_last now c.args.number c.in-Some.place c.kept_at.result.now c.in-Some.ensures.0 c.kept_at.ensures
-    c.index-changes-place.result (Some c.in-Some-refused_for_not_quiet.why) c.index-changes-place.is
+    c.get.result.now (Some c.in-Some-refused_for_not_quiet.why) c.get.ensures
     (sym c.is_last_undone.ensures ∙ c.if-not-is_last_undone.false)
     (sym c.in-Some-refused_for_not_quiet.is ∙ c.refused_for_not_quiet.ensures)
 
 pub returns-in-None-clause-decided : goal.returns-in-None-clause-decided
 returns-in-None-clause-decided c = λ opening h now.
     is_the_last now c.args.number c.in-Some.place c.kept_at.result.now c.in-Some.ensures.0 c.kept_at.ensures
-    c.index-changes-place.result None c.index-changes-place.is
+    c.get.result.now None c.get.ensures
     (sym c.is_last_undone.ensures ∙ c.if-not-is_last_undone.false) (sym c.in-None.is ∙ c.refused_for_not_quiet.ensures)

@@ -16,7 +16,7 @@ take_back-requires-clause-rules c = rules_now c.requires.now
 pub returns-in-Ok-clause-next : goal.returns-in-Ok-clause-next
 returns-in-Ok-clause-next c = λ done opening h now.
     let ks = c.args.self.now.changes in
-    let fs = c.args.changes.now in
+    let fs = c.args.changes.now.items in
     let place = c.args.place in
     let same = c.as_slice-kept.ensures.value ∙ ap (λ (v : Journaled). v.changes) c.self.view_is in
     let free : last_passing (is_on ks fs place true) (length ks) ≡ None =
@@ -25,6 +25,6 @@ returns-in-Ok-clause-next c = λ done opening h now.
     let greatest : IsGreatestOn ks fs place c.args.plant.now.state None = λ k es s at inverse told.
     sym free ∙ ap (λ b. last_passing (is_on ks fs place b) (length ks)) (c.in-Ok.ensures.fits refl k at es s inverse told) in
     let quiet = sym (nothing_there c.refused_for_not_quiet.result (sym c.is_some-2.ensures ∙ c.if-is_some-2.false)) ∙ c.refused_for_not_quiet.ensures in
-    let decided = waits_for now place c.requires.stands None greatest c.index-changes-place.result None c.index-changes-place.is refl quiet in
+    let decided = waits_for now place c.requires.stands None greatest c.get.result.now None c.get.ensures refl quiet in
     undo_performed now place decided c.requires.stands c.args.plant.now.state refl (Ok tt) c.take_back.new.self c.take_back.new.plant
     c.in-Ok.ensures.done tt tt tt

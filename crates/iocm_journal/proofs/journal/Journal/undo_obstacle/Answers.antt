@@ -17,7 +17,7 @@ returns-in-Some-clause-decided c = λ opening h now.
 
 pub returns-clause-decided : goal.returns-clause-decided
 returns-clause-decided c = λ opening h now.
-    let f = c.index-changes-place.result in
+    let f = c.get.result.now in
     let lives = ap (λ (s : State). first_not_quiet s.lives (keys (effect_in f).lives)) c.in_ok-on.ensures.same in
     let busy = c.refused_for_not_quiet.ensures ∙ ap (option_map not_quiet) lives in
-    waits_for now c.args.place c.requires.stands _ c.in_ok-on.ensures.greatest f _ c.index-changes-place.is c.in_default.is busy
+    waits_for now c.args.place c.requires.stands _ c.in_ok-on.ensures.greatest f _ c.get.ensures c.in_default.is busy

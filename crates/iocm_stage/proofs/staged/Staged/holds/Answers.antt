@@ -1,7 +1,5 @@
 use Rattle.std.proofs.Common.{◌≡◌, Bor, Option, Some, None, is_some, refl, ap, ◌∙◌}
-use Rattle.std.specs.FinMap.{contains_key}
 use Rattle.std.specs.Option.{option_copied}
-use Rattle.iocm_activate.specs.Effects.{effect_in}
 use Rattle.iocm_stage.proofs.Stages.{is_held_by}
 use Rattle.iocm_stage.proofs.staged.Staged.holds.Goals as goal
 
@@ -12,5 +10,4 @@ copied (Some x) = refl
 
 pub returns : goal.returns
 returns c t s p stage = c.is_some.ensures ∙ copied c.get.result ∙ ap is_some c.get.ensures
-    ∙ ap (λ cells. contains_key (effect_in (record c.args.self.now.done.effect { lives = cells })).lives c.args.subchannel) c.table.ensures
     ∙ is_held_by c.args.self.now t s p c.args.subchannel stage
