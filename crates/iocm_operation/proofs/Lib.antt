@@ -7,3 +7,6 @@ mod SoFar
 mod Few
 mod Lines
 mod Ending
+mod OneOrder
+mod OneHistory
+mod OneAnswer

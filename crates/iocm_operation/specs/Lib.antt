@@ -6,3 +6,4 @@ pub mod Running
 pub mod Placing
 pub mod Answering
 pub mod SoFar
+pub mod OneActor

@@ -12,6 +12,10 @@
 //! before. Each line has the answer of its call. The machine is in the state to which the history
 //! leads.
 //!
+//! Where each round has the lines of one actor alone, there is one order: the calls are in the
+//! trace as their lines are in the script. So, with memory, such a script has one history
+//! (`laws.rt`, `specs/OneActor.antt`).
+//!
 //! Begin with `specs/Saying.antt`, `specs/Segments.antt` and `specs/Running.antt`, then
 //! `operating.rt`. What names no source is our own.
 #![tactic(auto)]
@@ -19,6 +23,7 @@
 mod answered;
 mod answering;
 mod asking;
+mod laws;
 mod operated;
 mod operating;
 mod placed;
@@ -26,5 +31,6 @@ mod placing;
 mod round;
 
 pub use answered::Answered;
+pub use laws::{one_actor_has_one_history, one_actor_has_one_order};
 pub use operated::Operated;
 pub use operating::operate;

@@ -3,7 +3,7 @@ ghost use Rattle.iocm_core.specs.Seen as seen;
 ghost use Rattle.iocm_model.specs.Change.Tree.{ChangeTree};
 ghost use Rattle.iocm_operation.specs.declared.operated.Operated as operated;
 ghost use Rattle.iocm_operation.specs.Running.{IsOperation};
-ghost use Rattle.iocm_operation_laws.specs.OneActor.{AreOfOne, AreTheSame, HadMemory, StandAsInTheScript};
+ghost use Rattle.iocm_operation.specs.OneActor.{AreOfOne, AreTheSame, HadMemory, StandAsInTheScript};
 ghost use Rattle.iocm_script.specs.declared.line.Line as its_line;
 ghost use Rattle.iocm_system.specs.OneRun.{history_of};
 

@@ -16,8 +16,8 @@ use Rattle.iocm_operation.specs.declared.answered.Answered.{Answered}
 use Rattle.iocm_operation.specs.Marks.{chosen}
 use Rattle.iocm_operation.specs.Saying.{actor_of, call_said}
 use Rattle.iocm_operation.specs.Segments.{AreRun, IsRoundRun, Segment, answers_by, answers_in, answers_of, entries_of, in_order, taking}
-use Rattle.iocm_operation_laws.specs.OneActor.{AreOfOne, IsOfOne}
-use Rattle.iocm_operation_laws.proofs.OneOrder.{all_of_one, no_lines, nothing_made, one_round}
+use Rattle.iocm_operation.specs.OneActor.{AreOfOne, IsOfOne}
+use Rattle.iocm_operation.proofs.OneOrder.{all_of_one, no_lines, nothing_made, one_round}
 
 -- lines take answers, one after the other
 abbrev placed : List Line → List Answer → List Answered

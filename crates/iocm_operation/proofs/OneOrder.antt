@@ -13,7 +13,7 @@ use Rattle.iocm_operation.specs.declared.operated.Operated.{Operated}
 use Rattle.iocm_operation.specs.Running.{IsOperation}
 use Rattle.iocm_operation.specs.Saying.{actor_of, call_said, lines_of}
 use Rattle.iocm_operation.specs.Segments.{AreRun, IsRoundRun, Segment, entries_of, in_order}
-use Rattle.iocm_operation_laws.specs.OneActor.{AreOfOne, IsOfOne, StandAsInTheScript, calls_of_entries, calls_of_lines}
+use Rattle.iocm_operation.specs.OneActor.{AreOfOne, IsOfOne, StandAsInTheScript, calls_of_entries, calls_of_lines}
 
 -- a list of which something is made is empty where that is
 pub nothing_made : {A B : Type 0} (f : A → B) (xs : List A) → map f xs ≡ [] → xs ≡ []

@@ -21,10 +21,10 @@ use Rattle.iocm_types.specs.declared.refused.At.TheVariants.{Nothing}
 use Rattle.iocm_types.specs.declared.rule.Rule.TheVariants.{M1}
 use Rattle.iocm_operation.specs.declared.operated.Operated.{Operated}
 use Rattle.iocm_operation.specs.Running.{IsOperation}
-use Rattle.iocm_operation_laws.specs.OneActor.{AreOfOne, AreTheSame, HadMemory, calls_of_entries}
+use Rattle.iocm_operation.specs.OneActor.{AreOfOne, AreTheSame, HadMemory, calls_of_entries}
 use Rattle.iocm_operation.specs.Segments.{in_order}
-use Rattle.iocm_operation_laws.proofs.OneAnswer.{replies_of, same_answers}
-use Rattle.iocm_operation_laws.proofs.OneOrder.{one_order}
+use Rattle.iocm_operation.proofs.OneAnswer.{replies_of, same_answers}
+use Rattle.iocm_operation.proofs.OneOrder.{one_order}
 
 abbrev calls_in : History → List Call
 calls_in h = map (λ (e : Entry). e.call) h

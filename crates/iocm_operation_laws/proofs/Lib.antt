@@ -1,3 +1,0 @@
-mod OneOrder
-mod OneHistory
-mod OneAnswer
