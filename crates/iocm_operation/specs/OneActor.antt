@@ -32,7 +32,7 @@ calls_of_lines ts ls = map (λ (l : Line). call_said ts l.said) ls
 abbrev pub calls_of_entries : List Entry → List history.Call
 calls_of_entries es = map (λ (e : Entry). call_in e.call) es
 
--- the calls stand in the trace as their lines stand in the script, behind those from before
+-- the calls are in the trace as their lines are in the script, after those from before
 abbrev pub StandAsInTheScript : seen.Core → List ChangeTree → List (List Line) → Operated → Type 0
 StandAsInTheScript core ts rounds o =
     calls_of_entries o.closed.trace.entries.items ≡ calls_of_entries core.entries ++ flat_map (calls_of_lines ts) rounds

@@ -9,7 +9,7 @@ use Rattle.iocm_operation.specs.declared.placing.Hands.{Hands}
 use Rattle.iocm_operation.specs.Marks.{Marked, chosen, those_of}
 use Rattle.iocm_operation.specs.Saying.{actor_of}
 
--- a line takes the first of some places, if there is one, and the lines behind it have the others
+-- a line takes the first of some places, if there is one, and the lines after it have the others
 abbrev pub taking_place : ℕ → List ℕ → (List ℕ → List Placed) → List Placed
 taking_place line [] behind = behind []
 taking_place line (k ∷ ks) behind = record { line = line; number = k } ∷ behind ks
@@ -51,7 +51,7 @@ abbrev pub AreCut : List Receipt → Option ℕ → List Receipt → Type 0
 AreCut old None new = (old ≡ []) × (new ≡ [])
 AreCut old (Some k) new = (r : Receipt) × (old ≡ r ∷ new) × (r.number ≡ k)
 
--- a line that says this takes a place, if there is one for it; the lines behind it have what is
+-- a line that says this takes a place, if there is one for it; the lines after it have what is
 -- left
 abbrev pub Takes : Said → Hands → Option ℕ → Hands → Type 0
 Takes said old taken left =

@@ -42,8 +42,8 @@ RoundIsRan r me ran =
     IsRan r.p.items r.q.items r.a.items r.b.items me ran.caller
     ran.p.items ran.q.items ran.a.items ran.b.items ran.stopped
 
--- a script was run on a core: behind the entries from before, the trace has those of the rounds,
--- one round behind the other. In each the calls of each actor are those that its lines ask for, in
+-- a script was run on a core: after the entries from before, the trace has those of the rounds,
+-- one round after the other. In each the calls of each actor are those that its lines ask for, in
 -- order, each once. The answers are those of the entries. The trace is a legal history, and the
 -- machine is in the state to which that leads
 pub record IsOperation (core : seen.Core) (ts : List ChangeTree) (rounds : List (List Line))

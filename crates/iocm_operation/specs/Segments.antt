@@ -35,7 +35,7 @@ AreRun ts _ _ = ⊥
 abbrev pub answers_in : ℕ → Segment → List Answer
 answers_in n s = map (λ (e : Entry). e.answer) (entries_of n s)
 
--- a line takes the first of some answers, if there is one, and the lines behind it have the others
+-- a line takes the first of some answers, if there is one, and the lines after it have the others
 abbrev pub taking : ℕ → List Answer → (List Answer → List Answered) → List Answered
 taking line [] behind = behind []
 taking line (x ∷ xs) behind = record { line = line; answer = x } ∷ behind xs

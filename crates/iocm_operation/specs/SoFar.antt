@@ -17,7 +17,7 @@ abbrev pub segment_of : Marked → Segment
 segment_of ms = map (λ (m : ℕ × Made). (m.0, m.1.entry)) ms
 
 -- these rounds were run by a caller that had no receipt at first: it has those of the rounds, one
--- round behind the other; each line has the place of its call; and the caller is whole
+-- round after the other; each line has the place of its call; and the caller is whole
 pub record IsSoFar (ts : List ChangeTree) (rounds : List (List Line)) (first now : Sight)
     (places : List Placed) : Type 0 where
   pub parts : List Marked

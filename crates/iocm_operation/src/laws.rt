@@ -14,8 +14,8 @@ pub fn one_actor_has_one_order()
         → AreOfOne rounds → IsOperation core ts rounds o → StandAsInTheScript core ts rounds o }
 {}
 
-/// Two runs of such a script on a new machine, in which memory was there, give each line the same
-/// answer, have one history, and leave the machine in one state. So they print the same.
+/// Two runs of such a script on a new machine, in neither of which an answer was M1, have one
+/// history. They give each line the same answer and leave one state, so they print the same.
 pub fn one_actor_has_one_history()
     ensures { (core : seen.Core) (ts : List ChangeTree) (rounds : List (List its_line.Line)) (o p : operated.Operated)
         → core.entries ≡ [] → AreOfOne rounds → IsOperation core ts rounds o → IsOperation core ts rounds p

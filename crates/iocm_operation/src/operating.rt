@@ -137,7 +137,7 @@ fn operate_named<B: Identity + Send + Sync, R: Threads + Wait + Sync>(
     }
 }
 
-/// Runs a script on a core, and closes it: its rounds one behind the other, in each the lines of
+/// Runs a script on a core, and closes it: its rounds one after the other, in each the lines of
 /// all actors at the same time. `trees` are the change trees that the script names by number, from
 /// 1.
 ///

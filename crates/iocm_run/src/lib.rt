@@ -2,7 +2,7 @@
 //!
 //! `run_script` reads a deck, change decks and a script, opens the machine of the deck, and lets
 //! two images and two operators work on it as the script says (`iocm_operation`). It prints every
-//! answer behind the number of its line, how many calls were made, and the table at the end.
+//! answer after the number of its line, how many calls were made, and the table at the end.
 //!
 //! The program above may rely on this: what is printed is the one line of the first refusal, or it
 //! is of an operation in the sense of `IsOperation`, whose answers stand in one legal history of

@@ -66,7 +66,7 @@ fn print_lines<W: Write + Drop>(
     write_lines(output, cells)
 }
 
-/// Prints answers, each behind the number of its line. Can't run out of memory.
+/// Prints answers, each after the number of its line. Can't run out of memory.
 fn print_answers<W: Write + Drop>(
     answers: &[Answered],
     output: &mut Output<W>,

@@ -32,7 +32,7 @@ use std::io::{Read, Write};
 use std::sync::Wait;
 use std::thread::Threads;
 
-/// Runs a script on the machine of a deck, and prints the answers behind the numbers of their
+/// Runs a script on the machine of a deck, and prints the answers after the numbers of their
 /// lines, how many calls were made, and the table of the machine that is left; or the refusal of
 /// the deck's first fault or of the first rule that it breaks, of the change decks' first fault, or
 /// of the script's. Each text is read to its end by at most `limit` reads, each change tree in a
