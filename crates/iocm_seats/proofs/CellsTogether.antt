@@ -24,7 +24,7 @@ another_css css e nothing = by (e.0.css == css) nothing
     by false is = refl
 
 -- a cell that is before another isn't of a later channel subsystem
-css_rises : (c d : NumberCell) → cell_cmp c d ≡ Less → c.css ≤ d.css
+pub css_rises : (c d : NumberCell) → cell_cmp c d ≡ Less → c.css ≤ d.css
 css_rises c d less = by (nat_cmp c.css d.css) (ranks c.css d.css) less
   where
     by : (o : Ordering) → MatchOrdering o (c.css < d.css) (c.css ≡ d.css) (d.css < c.css)

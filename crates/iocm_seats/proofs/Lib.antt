@@ -11,6 +11,7 @@ pub mod Maps
 pub mod Named
 pub mod Opened
 pub mod Ordered
+pub mod OwnSights
 pub mod Remembered
 pub mod SetEnds
 pub mod Settled

@@ -1,6 +1,7 @@
 -- The seats at opening, image by image and cell by cell.
 use Rattle.std.proofs.Common.{◌≡◌, ℕ, ◌==◌, List, [], ◌∷◌, ◌++◌, map, filter, Some, None, refl, sym, ap, ◌∙◌}
-use Rattle.std.specs.List.{flat_map, filter_map}
+use Rattle.std.specs.List.{flat_map, filter_map, AllByRecursion}
+use Rattle.std.specs.Option.{option_and_then}
 use Rattle.std.specs.Map.{keys_of}
 use Rattle.std.proofs.lemmas.List.{map-append}
 use Rattle.std.proofs.lemmas.List.Elements.{filter-append, filter_map-append}
@@ -11,10 +12,11 @@ use Rattle.iocm_types.specs.declared.view.View.{View}
 use Rattle.iocm_model.specs.Machine.Record.{Rec, ImageRecord}
 use Rattle.iocm_model.specs.Machine.Configuration.{Configuration, Lookup, lookup_of, as_image, images_of}
 use Rattle.iocm_model.specs.Machine.Numbering.{Numbering, cells_of}
-use Rattle.iocm_model.specs.Machine.View.{row_at, image_view, views}
+use Rattle.iocm_model.specs.Machine.View.{row_at, image_view, view_if_seen, views}
+use Rattle.iocm_derive.specs.Sighted.{Sighted}
 use Rattle.iocm_seats.specs.Seated.{fresh_seat}
-use Rattle.iocm_seats.specs.Listing.{images_among, seats_at, sights_of}
-use Rattle.iocm_seats.specs.Taken.{cells_in}
+use Rattle.iocm_seats.specs.Listing.{cell_seats, images_among, seats_at, sights_of}
+use Rattle.iocm_seats.specs.Taken.{cells_in, taken, IsTaken, Taken}
 
 abbrev Cells : Type 0
 Cells = List (NumberCell × ℕ)
@@ -30,6 +32,15 @@ seats_at-more c i e es = seats_at-append c i (e ∷ []) es
 pub no_view : (c : Lookup) (i : ImageRecord) (e : NumberCell × ℕ) → image_view c i e.0.set e.1 ≡ None → seats_at c i (e ∷ []) ≡ []
 unfolding seats_at
 no_view c i e h = rw h refl
+
+-- no image has one where the device isn't there
+pub none_there : (t : Taken) (sights : List Sighted) → AllByRecursion (λ (s : Sighted). IsTaken (lookup_of s.records) t) sights
+    → t.record_there ≡ None → cell_seats sights (taken t) ≡ []
+none_there t [] all none = refl
+none_there t (s ∷ sights) all none =
+    let first = no_view (lookup_of s.records) s.image (taken t)
+    (ap (option_and_then (view_if_seen (lookup_of s.records) s.image.css s.image.name)) (sym all.0 ∙ none)) in
+    (λ i. first i ++ none_there t sights all.1 none i)
 
 -- a view has its seat
 pub one_view : (c : Lookup) (i : ImageRecord) (e : NumberCell × ℕ) (v : View) → image_view c i e.0.set e.1 ≡ Some v

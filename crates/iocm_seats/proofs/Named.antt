@@ -1,4 +1,4 @@
--- The name of an image at number cells: it is needed only where a cell of its channel subsystem has a
+-- The name of an image at number cells of its channel subsystem: it is needed only where one has a
 -- device.
 use Rattle.std.proofs.Common.{◌≡◌, ◌||◌, ℕ, Bool, true, false, List, [], ◌∷◌, Option, refl, sym, ap, ◌∙◌}
 use Rattle.std.specs.List.{list_any, AllByRecursion}
@@ -7,7 +7,7 @@ use Rattle.iocm_model.specs.Machine.Configuration.{Configuration, lookup_of}
 use Rattle.iocm_model.specs.Machine.Numbering.{Numbering}
 use Rattle.iocm_derive.specs.Derived.{name_at}
 use Rattle.iocm_reach.specs.SightedCells.{SightedCell}
-use Rattle.iocm_seats.specs.Sights.{has_device_in, AreSights, IsNamedAt}
+use Rattle.iocm_seats.specs.Sights.{has_device, AreSights, IsNamedAt}
 
 -- cells of a configuration have its records
 pub same_records : (c : Configuration) (n : Numbering) (m : Configuration) → m ≡ c → (sights : List SightedCell) → AreSights c n sights
@@ -26,13 +26,13 @@ neither true b h = cc
 neither false b h = (refl, h)
 
 -- where no cell has a device, any name will do
-pub no_name_needed : (i : Image) (name : Option (List ℕ)) (sights : List SightedCell) → list_any (has_device_in i.css) sights ≡ false
+pub no_name_needed : (i : Image) (name : Option (List ℕ)) (sights : List SightedCell) → list_any has_device sights ≡ false
     → AllByRecursion (IsNamedAt i name) sights
 no_name_needed i name [] none = tt
 no_name_needed i name (s ∷ sights) none =
-    let parts = neither (has_device_in i.css s) (list_any (has_device_in i.css) sights) none in
-    let lacks : has_device_in i.css s ≡ false = parts.0 in
-    ((λ has. absurd (no_both (has_device_in i.css s) has lacks)), no_name_needed i name sights parts.1)
+    let parts = neither (has_device s) (list_any has_device sights) none in
+    let lacks : has_device s ≡ false = parts.0 in
+    ((λ has. absurd (no_both (has_device s) has lacks)), no_name_needed i name sights parts.1)
   where
     no_both : (b : Bool) → b ≡ true → b ≡ false → ⊥
     no_both b holds fails = cc

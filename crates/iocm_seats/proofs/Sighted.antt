@@ -1,6 +1,6 @@
 -- What is seen at a number cell, by what its channel subsystem's images share there, is what is
 -- seen at the subchannel.
-use Rattle.std.proofs.Common.{◌≡◌, ◌==◌, ℕ, Bool, true, false, cond, not, List, [], ◌∷◌, ◌++◌, map, Option, eq-eqb, eqb-true, refl, sym, ap, ◌∙◌}
+use Rattle.std.proofs.Common.{◌≡◌, cond, List, [], ◌∷◌, ◌++◌, map, Option, eq-eqb, refl, sym, ap, ◌∙◌}
 use Rattle.std.specs.List.{filter_map, cons_option}
 use Rattle.std.specs.Option.{option_and_then}
 use Rattle.iocm_types.specs.declared.image.Image.{Image}
@@ -32,14 +32,6 @@ one_change : (change : SubId → Option ViewChange) (im : Image) (cell : NumberC
 one_change change im cell there o is =
     ap (λ b. filter_map change (map (subchannel_at im) (cond {A = List NumberCell} b (cell ∷ []) []) ++ [])) (eq-eqb cell.css im.css there)
     ∙ ap (λ (p : Option ViewChange). cons_option p []) is
-
--- what is told from a test that failed
-pub same_css : (a b : ℕ) (test : Bool) → test ≡ not (a == b) → test ≡ false → a ≡ b
-same_css a b test is failed = eqb-true a b (by (a == b) (sym is ∙ failed))
-  where
-    by : (r : Bool) → not r ≡ false → r ≡ true
-    by true h = refl
-    by false h = cc
 
 -- the same by what the images of a channel subsystem share at the cell
 pub change_there : (v : SubId → Option View) (c : Configuration) (n : Numbering) → IsKeyed c → (im : Image) (s : SightedCell) (cell : NumberCell)

@@ -1,5 +1,5 @@
 -- What the images of a channel subsystem share at some number cells.
-use Rattle.std.specs.Prelude.{◌≡◌, ◌==◌, ◌&&◌, ℕ, Bool, true, List, Option, is_some, map}
+use Rattle.std.specs.Prelude.{◌≡◌, ◌==◌, ℕ, nat_lt, Bool, true, List, Option, is_some, map, filter}
 use Rattle.std.specs.List.{AllByRecursion}
 use Rattle.iocm_types.specs.declared.image.Image.{Image}
 use Rattle.iocm_types.specs.declared.place.NumberCell.{NumberCell}
@@ -16,10 +16,25 @@ cells_of_sights sights = map (λ (s : SightedCell). s.cell) sights
 abbrev pub AreSights : Configuration → Numbering → List SightedCell → Type 0
 AreSights c n sights = AllByRecursion (λ (s : SightedCell). s ≡ sighted_cell c n s.cell) sights
 
--- a number cell is of this channel subsystem, and has a device
-abbrev pub has_device_in : ℕ → SightedCell → Bool
-has_device_in css s = s.cell.css == css && is_some s.device
+-- a number cell is of this channel subsystem, and of one before it
+abbrev pub is_in : ℕ → SightedCell → Bool
+is_in css s = s.cell.css == css
 
--- this is the name of an image, if it is there, where the image may see a device at a number cell
+abbrev pub is_before : ℕ → SightedCell → Bool
+is_before css s = nat_lt s.cell.css css
+
+abbrev pub IsIn : ℕ → SightedCell → Type 0
+IsIn css s = s.cell.css ≡ css
+
+-- those of a channel subsystem
+abbrev pub sights_in : ℕ → List SightedCell → List SightedCell
+sights_in css sights = filter (is_in css) sights
+
+-- a number cell has a device
+abbrev pub has_device : SightedCell → Bool
+has_device s = is_some s.device
+
+-- this is the name of an image, if it is there, where there is a device at a number cell of its
+-- channel subsystem
 abbrev pub IsNamedAt : Image → Option (List ℕ) → SightedCell → Type 0
-IsNamedAt i name s = has_device_in i.css s ≡ true → name ≡ name_at (lookup_of s.records) i
+IsNamedAt i name s = has_device s ≡ true → name ≡ name_at (lookup_of s.records) i

@@ -15,8 +15,9 @@ ghost use Rattle.iocm_model.specs.Operation.State.{views_of};
 ghost use Rattle.iocm_seats.specs.Seated.{views_seated, lives_seated};
 ghost use Rattle.iocm_seats.specs.Settling.{lives_met, met_at};
 ghost use Rattle.iocm_seats.specs.Changes.{candidates, changes_at, change_from, changes_between, AreCandidates};
-ghost use Rattle.iocm_seats.specs.Sights.{cells_of_sights, has_device_in, AreSights, IsNamedAt};
+ghost use Rattle.iocm_seats.specs.Sights.{cells_of_sights, has_device, AreSights, IsIn, IsNamedAt};
 
+use crate::own_sights::OwnSights;
 use crate::{KeptSeat, Seats, ViewChange};
 use iocm_config::Config;
 use iocm_derive::ImageNames;
@@ -108,6 +109,7 @@ fn list_at_images<A: Allocator, B: Allocator, C: Allocator, D: Allocator + Clone
 ) -> Result<Altered<D>, AllocError>
     requires keyed { IsKeyed tried.now.config.now.records }
     requires sights { AreSights tried.now.config.now.records tried.now.numbers.now.numbers sights.now }
+    requires order { IsStrictlySortedBy cell_cmp (cells_of_sights sights.now) }
     ensures changes { IfOk result (λ altered. altered.changes.items ≡ changes_at
         tried.now.seats.now.seats tried.now.config.now.records tried.now.numbers.now.numbers
         (candidates images.now (cells_of_sights sights.now))) }
@@ -119,18 +121,21 @@ fn list_at_images<A: Allocator, B: Allocator, C: Allocator, D: Allocator + Clone
         met: Vec::with_capacity(alloc, images.len())?,
     };
     let mut names = ImageNames::new(tried.config);
+    let mut own = OwnSights::find(Css::FIRST, sights);
     for image in images {
+        own = own.follow(image.css, sights);
+        let here = own.as_slice();
         let named = NamedImage {
             image: *image,
-            name: name_for(&mut names, image, sights),
+            name: name_for(&mut names, image, here),
         };
-        list_at_cells(&mut altered, tried, &named, sights)?;
+        list_at_cells(&mut altered, tried, &named, here)?;
     }
     Ok(altered)
 }
 
-/// The name of an image, if it is there. It is looked up only where it is needed: where the image's
-/// channel subsystem has a device at one of these number cells.
+/// The name of an image, if it is there. It is looked up only where it is needed: where one of these
+/// number cells, which are of the image's channel subsystem, has a device.
 fn name_for<A: Allocator, B: Allocator>(
     names: &mut ImageNames<'_, A>,
     image: &Image,
@@ -140,27 +145,28 @@ fn name_for<A: Allocator, B: Allocator>(
     ensures name { AllByRecursion (IsNamedAt image.now result) sights.now }
     ensures same { names.new ≡ names.old }
 {
-    if !any_has_device(image.css, sights) {
+    if !any_has_device(sights) {
         return None;
     }
     names.name(image)
 }
 
-/// Whether a channel subsystem has a device at one of some number cells.
-fn any_has_device<A: Allocator, B: Allocator>(css: Css, sights: &[ReachedCell<'_, A, B>]) -> bool
-    ensures { result ≡ list_any (has_device_in css) sights.now }
+/// Whether one of some number cells has a device.
+fn any_has_device<A: Allocator, B: Allocator>(sights: &[ReachedCell<'_, A, B>]) -> bool
+    ensures { result ≡ list_any has_device sights.now }
 {
-    sights.iter().any(|sight| has_device_in(css, sight))
+    sights.iter().any(|sight| has_device(sight))
 }
 
-/// Whether a number cell is one of a channel subsystem, and has a device.
-fn has_device_in<A: Allocator, B: Allocator>(css: Css, sight: &ReachedCell<'_, A, B>) -> bool
-    ensures { result ≡ has_device_in css sight.now }
+/// Whether a number cell has a device.
+fn has_device<A: Allocator, B: Allocator>(sight: &ReachedCell<'_, A, B>) -> bool
+    ensures { result ≡ has_device sight.now }
 {
-    sight.cell().css == css && sight.has_device()
+    sight.has_device()
 }
 
-/// Puts the changes of an image at some number cells behind those that are listed.
+/// Puts the changes of an image at some number cells of its channel subsystem behind those that are
+/// listed.
 fn list_at_cells<A: Allocator, B: Allocator, C: Allocator, D: Allocator>(
     altered: &mut Altered<D>,
     tried: &Tried<'_, A, B, C>,
@@ -170,6 +176,7 @@ fn list_at_cells<A: Allocator, B: Allocator, C: Allocator, D: Allocator>(
     requires met { altered.old.met.items
         ≡ lives_met (lives_seated tried.now.seats.now.seats) altered.old.changes.items }
     requires keyed { IsKeyed tried.now.config.now.records }
+    requires own { AllByRecursion (IsIn named.now.image.css) sights.now }
     requires name { AllByRecursion (IsNamedAt named.now.image named.now.name) sights.now }
     requires sights { AreSights tried.now.config.now.records tried.now.numbers.now.numbers sights.now }
     ensures changes { OnOk result (altered.new.changes.items ≡ altered.old.changes.items ++ changes_at
@@ -184,8 +191,8 @@ fn list_at_cells<A: Allocator, B: Allocator, C: Allocator, D: Allocator>(
     Ok(())
 }
 
-/// Puts the change of an image at a number cell behind those that are listed, if the cell is of its
-/// channel subsystem and something else is seen there.
+/// Puts the change of an image at a number cell of its channel subsystem behind those that are
+/// listed, if something else is seen there.
 fn list_at_cell<A: Allocator, B: Allocator, C: Allocator, D: Allocator>(
     altered: &mut Altered<D>,
     tried: &Tried<'_, A, B, C>,
@@ -195,6 +202,7 @@ fn list_at_cell<A: Allocator, B: Allocator, C: Allocator, D: Allocator>(
     requires met { altered.old.met.items
         ≡ lives_met (lives_seated tried.now.seats.now.seats) altered.old.changes.items }
     requires keyed { IsKeyed tried.now.config.now.records }
+    requires own { IsIn named.now.image.css sight.now }
     requires name { IsNamedAt named.now.image named.now.name sight.now }
     requires sight { sight.now
         ≡ sighted_cell tried.now.config.now.records tried.now.numbers.now.numbers sight.now.cell }
@@ -205,9 +213,6 @@ fn list_at_cell<A: Allocator, B: Allocator, C: Allocator, D: Allocator>(
         ≡ lives_met (lives_seated tried.now.seats.now.seats) altered.new.changes.items) }
 {
     let cell = sight.cell();
-    if cell.css != named.image.css {
-        return Ok(());
-    }
     let subchannel = SubId {
         image: named.image,
         set: cell.set,
@@ -223,7 +228,7 @@ fn list_at_cell<A: Allocator, B: Allocator, C: Allocator, D: Allocator>(
 
 /// What an image sees at a number cell of its channel subsystem.
 fn view_there<B: Allocator>(named: &NamedImage, sight: &ReachedCell<'_, B, Global>) -> Option<View>
-    requires css { named.now.image.css ≡ sight.now.cell.css }
+    requires own { IsIn named.now.image.css sight.now }
     requires name { IsNamedAt named.now.image named.now.name sight.now }
     ensures { result ≡ option_and_then (seen_there sight.now) (name_at (lookup_of sight.now.records) named.now.image) }
 {

@@ -9,8 +9,9 @@ use iocm_record::{Record, RecordBody};
 use iocm_types::Css;
 use std::alloc::{AllocError, Allocator};
 
-/// The channel subsystems of the images of a configuration. The clause says that none is missing; one
-/// that is there twice would only take longer. The walk over the records stops behind the images.
+/// The channel subsystems of the images of a configuration. The clause says that none is missing;
+/// one that is there twice would only take longer. The walk over the records stops behind the
+/// images.
 ///
 /// `AllocError` (M1): memory ran out.
 pub(crate) fn image_subsystems<A: Allocator, B: Allocator>(

@@ -22,6 +22,7 @@ mod kept_seat;
 mod laws;
 mod met;
 mod opening;
+mod own_sights;
 mod seat;
 mod seats;
 mod set_places;

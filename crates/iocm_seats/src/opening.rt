@@ -1,9 +1,10 @@
-ghost use Rattle.std.specs.Prelude.{◌≡◌, [], ◌∷◌, All, map, fold, IfOk, OnOk};
+ghost use Rattle.std.specs.Prelude.{◌≡◌, [], ◌∷◌, All, map, fold, Some, IfOk, OnOk};
 ghost use Rattle.std.specs.List.{AllByRecursion};
 ghost use Rattle.std.specs.FinMap.{entries, from_entries};
 ghost use Rattle.iocm_model.specs.Machine.Configuration.{lookup_of};
 ghost use Rattle.iocm_model.specs.Machine.Numbering.{cells_of};
 ghost use Rattle.iocm_model.specs.Machine.View.{views};
+ghost use Rattle.iocm_record.specs.Meaning.{device_of};
 ghost use Rattle.iocm_seats.specs.Seated.{fresh_seat};
 ghost use Rattle.iocm_seats.specs.Listing.{cell_seats, cells_seats, seats_at, subsystem_seats, with_seat};
 ghost use Rattle.iocm_seats.specs.Taken.{taken, taken_of, IsTaken};
@@ -18,6 +19,7 @@ use iocm_config::Config;
 use iocm_derive::ImageSight;
 use iocm_live::fresh;
 use iocm_numbers::Numbers;
+use iocm_record::DeviceFields;
 use iocm_types::{Css, SubId};
 use std::alloc::{AllocError, Allocator};
 
@@ -85,7 +87,8 @@ fn open_cells<'a, A: Allocator, B: Allocator + Clone>(
     Ok(())
 }
 
-/// Gives the subchannels of some images at a number cell their seats.
+/// Gives the subchannels of some images at a number cell their seats. Where the device isn't there,
+/// no image sees it.
 ///
 /// `AllocError` (M1): memory ran out.
 fn open_at<'a, A: Allocator, B: Allocator + Clone>(
@@ -98,28 +101,31 @@ fn open_at<'a, A: Allocator, B: Allocator + Clone>(
         ≡ fold with_seat seats.old.seats (cell_seats sights.old (taken at.now))) }
     ensures same { OnOk result (sights.new ≡ sights.old) }
 {
+    let Some(fields) = at.fields() else {
+        return Ok(());
+    };
     for place in 0..sights.len() {
-        open_cell(seats, &mut sights[place], at)?;
+        open_cell(seats, &mut sights[place], at, fields)?;
     }
     Ok(())
 }
 
-/// Gives the subchannel of an image at a number cell its seat, if the image sees the device there.
+/// Gives the subchannel of an image at a number cell its seat, if the image sees the device there,
+/// whose fields these are.
 ///
 /// `AllocError` (M1): memory ran out.
 fn open_cell<'a, A: Allocator, B: Allocator + Clone>(
     seats: &mut Seats<B>,
     sight: &mut ImageSight<'a, A>,
     at: &TakenCell<'a, A>,
+    fields: &'a DeviceFields<A>,
 ) -> Result<(), AllocError>
-    requires { IsTaken (lookup_of sight.old.records) at.now }
+    requires taken { IsTaken (lookup_of sight.old.records) at.now }
+    requires fields { at.now.record_there ≡ Some (device_of fields.now) }
     ensures seats { OnOk result (seats.new.seats ≡ fold with_seat seats.old.seats
         (seats_at (lookup_of sight.old.records) sight.old.image (taken at.now ∷ []))) }
     ensures same { sight.new ≡ sight.old }
 {
-    let Some(fields) = at.fields() else {
-        return Ok(());
-    };
     let Some(view) = sight.view_of(fields) else {
         return Ok(());
     };

@@ -3,8 +3,8 @@ ghost use Rattle.std.specs.Prelude.{◌≡◌};
 use std::marker::Model;
 
 /// An interruption parameter, 32 bits that the program gives with MODIFY (Principles of Operation,
-/// subchannel-information block). It is in two halves, so that what holds one may be at any even
-/// address, and takes no bytes to reach a fourth one. Contracts see its number.
+/// subchannel-information block). It is kept as two halves, so that a struct with one is aligned to
+/// two bytes, not to four. Contracts see its number.
 #[derive(Clone, Copy, Debug)]
 pub struct Parm {
     high: u16,

@@ -8,15 +8,8 @@ use Rattle.iocm_seats.specs.Changes.{subchannel_at, change_from}
 use Rattle.iocm_seats.specs.Seated.{views_seated, lives_seated}
 use Rattle.iocm_seats.proofs.Remembered.{met_more, met_there, met_nowhere}
 use Rattle.iocm_seats.proofs.Settled.{view_in, view_seated}
-use Rattle.iocm_seats.proofs.Sighted.{change_there, same_css}
+use Rattle.iocm_seats.proofs.Sighted.{change_there}
 use Rattle.iocm_seats.proofs.changes.list_at_cell.Goals as goal
-
-pub view_there-after-requires : goal.view_there-after-requires
-view_there-after-requires g c =
-    let css = same_css c.cell-cell.result.css c.args.named.now.image.css c.ne.result c.ne.ensures c.if-ne.false in record {
-      css = sym css ∙ ap (λ (x : NumberCell). x.css) c.cell-cell.ensures;
-      name = c.requires.name;
-    }
 
 pub returns-in_ok-list_seated-in-Some-clause-changes : goal.returns-in_ok-list_seated-in-Some-clause-changes
 returns-in_ok-list_seated-in-Some-clause-changes g c =
@@ -27,7 +20,7 @@ returns-in_ok-list_seated-in-Some-clause-changes g c =
     c.in_ok-list_seated-in-Some.ensures.changes ∙ ap (λ xs. c.args.altered.now.changes.items ++ xs) (sym
     (change_there (get (views_seated seats)) c.args.tried.now.config.now.records c.args.tried.now.numbers.now.numbers c.requires.keyed
     c.args.named.now.image c.args.sight.now c.cell-cell.result c.requires.sight c.cell-cell.ensures
-    (same_css c.cell-cell.result.css c.args.named.now.image.css c.ne.result c.ne.ensures c.if-ne.false)
+    (ap (λ (x : NumberCell). x.css) c.cell-cell.ensures ∙ c.requires.own)
     c.view_there-after.result c.view_there-after.ensures (change_from (Some c.in-Some.seat.now.view) after x)
     (ap (λ (o : Option View). change_from o after x) (sym (view_seated seats x ∙ ap view_in found)))))
 
@@ -49,7 +42,7 @@ returns-in_ok-list_new-in-None-clause-changes g c =
     c.in_ok-list_new-in-None.ensures.changes ∙ ap (λ xs. c.args.altered.now.changes.items ++ xs) (sym
     (change_there (get (views_seated seats)) c.args.tried.now.config.now.records c.args.tried.now.numbers.now.numbers c.requires.keyed
     c.args.named.now.image c.args.sight.now c.cell-cell.result c.requires.sight c.cell-cell.ensures
-    (same_css c.cell-cell.result.css c.args.named.now.image.css c.ne.result c.ne.ensures c.if-ne.false)
+    (ap (λ (x : NumberCell). x.css) c.cell-cell.ensures ∙ c.requires.own)
     c.view_there-after.result c.view_there-after.ensures (change_from None after x)
     (ap (λ (o : Option View). change_from o after x) (sym (view_seated seats x ∙ ap view_in found)))))
 

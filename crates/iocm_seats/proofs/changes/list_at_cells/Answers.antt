@@ -6,7 +6,7 @@ use Rattle.iocm_model.specs.Machine.View.{view_at}
 use Rattle.iocm_reach.specs.SightedCells.{SightedCell, sighted_cell}
 use Rattle.iocm_seats.specs.Seated.{views_seated}
 use Rattle.iocm_seats.specs.Changes.{change_at, candidates}
-use Rattle.iocm_seats.specs.Sights.{cells_of_sights, IsNamedAt}
+use Rattle.iocm_seats.specs.Sights.{cells_of_sights, IsIn, IsNamedAt}
 use Rattle.iocm_seats.proofs.Loops.{candidates_cell, listed_more, opened}
 use Rattle.iocm_seats.proofs.changes.list_at_cells.Goals as goal
 
@@ -14,6 +14,8 @@ pub list_at_cell-requires : goal.list_at_cell-requires
 list_at_cell-requires g c =
     let sight = (opened (λ (s : SightedCell). s ≡ sighted_cell c.args.tried.now.config.now.records c.args.tried.now.numbers.now.numbers s.cell) c.args.sights.now c.loop-sight.sight-index
     c.sight-item.result c.loop-sight-test.true c.sight-item.is c.loop-sight.invariant.sights).0 in
+    let own = (opened (IsIn c.args.named.now.image.css) c.args.sights.now c.loop-sight.sight-index
+    c.sight-item.result c.loop-sight-test.true c.sight-item.is c.loop-sight.invariant.own).0 in
     let name = (opened (IsNamedAt c.args.named.now.image c.args.named.now.name) c.args.sights.now c.loop-sight.sight-index
     c.sight-item.result c.loop-sight-test.true c.sight-item.is c.loop-sight.invariant.name).0 in search rules
 
@@ -27,6 +29,8 @@ loop-sight-preserved g c =
           c.args.sights.now c.loop-sight.sight-index c.sight-item.result c.loop-sight-test.true c.sight-item.is c.loop-sight.altered.changes.items c.list_at_cell.new.altered.changes.items _
           c.in_ok-list_at_cell.ensures.changes c.loop-sight.invariant.left;
       met = c.in_ok-list_at_cell.ensures.met;
+      own = (opened (IsIn c.args.named.now.image.css) c.args.sights.now c.loop-sight.sight-index
+          c.sight-item.result c.loop-sight-test.true c.sight-item.is c.loop-sight.invariant.own).1;
       name = (opened (IsNamedAt c.args.named.now.image c.args.named.now.name) c.args.sights.now c.loop-sight.sight-index
           c.sight-item.result c.loop-sight-test.true c.sight-item.is c.loop-sight.invariant.name).1;
       sights = (opened (λ (s : SightedCell). s ≡ sighted_cell c.args.tried.now.config.now.records c.args.tried.now.numbers.now.numbers s.cell) c.args.sights.now
