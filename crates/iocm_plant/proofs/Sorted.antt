@@ -1,4 +1,4 @@
--- What stands in the order of subchannels: as rows of a table.
+-- Rows in the order of subchannels: the finite map of them, made either way, is one.
 use Rattle.std.proofs.Common.{◌≡◌, List, T, sym, ◌∙◌}
 use Rattle.std.specs.FinMap.{from_entries, from_sorted, is_sorted, same_map, get-from_entries, get-from_sorted}
 use Rattle.iocm_types.specs.declared.sub_id.SubId.{SubId}

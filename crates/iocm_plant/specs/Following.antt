@@ -1,10 +1,11 @@
 -- How the numbers and the seats follow a change of the configuration.
-use Rattle.std.specs.Prelude.{◌≡◌, ℕ, true, List, Option, Some}
+use Rattle.std.specs.Prelude.{◌≡◌, ℕ, true, List, map, Option, Some}
 use Rattle.std.specs.List.Sorted.{IsStrictlySortedBy}
 use Rattle.std.specs.Option.{option_or}
 use Rattle.std.specs.FinMap.{get, from_sorted}
 use Rattle.iocm_types.specs.declared.key.Key.{Key}
 use Rattle.iocm_types.specs.declared.place.Place.{Place}
+use Rattle.iocm_types.specs.declared.place.NumberCell.{NumberCell}
 use Rattle.iocm_types.specs.Place.{place_cmp}
 use Rattle.iocm_types.specs.SubId.{image_cmp}
 use Rattle.iocm_types.specs.declared.refused.Refused.{Refused}
@@ -16,6 +17,7 @@ use Rattle.iocm_model.specs.Change.Refusal.{is_number_taken}
 use Rattle.iocm_model.specs.Change.Renumbering.{numbers_after}
 use Rattle.iocm_affected.specs.Affected.{AreAllAffected}
 use Rattle.iocm_numbers.specs.LookedAt.{cells_at}
+use Rattle.iocm_numbers.specs.Numbered.{cell_at}
 use Rattle.iocm_numbers.specs.NumberChanges as numbers
 use Rattle.iocm_seats.specs.declared.view_change.ViewChange.{ViewChange}
 use Rattle.iocm_seats.specs.Changes as views
@@ -41,12 +43,17 @@ pub record WasChanged (d : Configuration) (n : Numbering) (seats : Seats) (at : 
   pub affected : AreAllAffected before d at.affected.places.items at.affected.images.items
   pub cells_are : at.cells.items ≡ cells_at n at.affected.places.items
 
--- the numbers have followed it: those of devices that stay are as they were
-pub record WasRenumbered (d : Configuration) (m : Numbering) (seats : Seats) (at : LookedAt) : Type 0 where
+-- the numbers have followed it: those of devices that stay are as they were, and these were given
+pub record WasRenumbered (d : Configuration) (m : Numbering) (seats : Seats) (at : LookedAt) (given : List (Place × ℕ)) : Type 0 where
   pub first : Numbering
   pub changed : WasChanged d first seats at
   pub now_numbered : AreNumbersOf d m
   pub stay : (p : Place) (k : ℕ) → is_reached_at d p ≡ true → get first p ≡ Some k → get m p ≡ Some k
+  pub given_are : given ≡ freed_numbers m first
+
+-- the number cells of numbers that were given
+abbrev pub cells_given : List (Place × ℕ) → List NumberCell
+cells_given given = map (λ (row : Place × ℕ). cell_at row.0 row.1) given
 
 -- the places that are looked at are in order, and so are the images
 abbrev pub ArePlacesInOrder : LookedAt → Type 0

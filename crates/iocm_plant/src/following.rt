@@ -1,4 +1,4 @@
-ghost use Rattle.std.specs.Prelude.{◌≡◌, None, IfOk, IfErr, OnOk, OnErr};
+ghost use Rattle.std.specs.Prelude.{◌≡◌, ◌++◌, None, IfOk, IfErr, OnOk, OnErr};
 ghost use Rattle.iocm_types.specs.declared.refused.At.TheVariants as at;
 ghost use Rattle.iocm_types.specs.declared.rule.Rule.TheVariants as rule;
 ghost use Rattle.iocm_model.specs.Machine.Numbering.{Numbering};
@@ -11,7 +11,7 @@ ghost use Rattle.iocm_seats.specs.Seated.{lives_seated, KeepsPlaces};
 ghost use Rattle.iocm_seats.specs.Settling.{lives_met};
 ghost use Rattle.iocm_tree.specs.Carried.{AreInOrder};
 ghost use Rattle.iocm_plant.specs.Following.{WasChanged, WasRenumbered, ArePlacesInOrder, AreImagesInOrder};
-ghost use Rattle.iocm_plant.specs.Following.{seen_changes, seats_after, TellsAll, TellsOfSeats};
+ghost use Rattle.iocm_plant.specs.Following.{cells_given, seen_changes, seats_after, TellsAll, TellsOfSeats};
 ghost use Rattle.iocm_plant.specs.Following.{seating_refusal, refusal_with};
 ghost use Rattle.iocm_plant.specs.Refusing.{Hinders};
 
@@ -145,7 +145,8 @@ fn follow_numbers(
     renumbered: &Renumbered<Global>,
 ) -> Result<Told, Obstacle>
     requires reach { IsReachOf config.now.records reach.now }
-    requires changed { WasRenumbered config.now.records numbers.now.numbers seats.old.seats at }
+    requires changed { WasRenumbered config.now.records numbers.now.numbers seats.old.seats at
+        renumbered.now.given.items }
     requires images { AreImagesInOrder at }
     requires kept { AreInOrder brought.kept.items }
     ensures seats { OnOk result (seats.new.seats
@@ -161,12 +162,9 @@ fn follow_numbers(
     ensures same { OnErr result (seats.new.seats ≡ seats.old.seats) }
     ensures places { KeepsPlaces seats.old seats.new }
 {
-    let Altered { changes, met } = list_altered(alloc, numbers, seats, config, reach, at)?;
-    let changed = numbers.list_changes(
-        alloc,
-        renumbered.freed.as_slice(),
-        renumbered.given.as_slice(),
-    )?;
+    let given = renumbered.given.as_slice();
+    let Altered { changes, met } = list_altered(alloc, numbers, seats, config, reach, at, given)?;
+    let changed = numbers.list_changes(alloc, renumbered.freed.as_slice(), given)?;
     match seat(
         alloc,
         seats,
@@ -188,7 +186,8 @@ fn follow_numbers(
 }
 
 /// The subchannels at which another view is seen, with their live records, where the configuration
-/// and the numbers are those after a change.
+/// and the numbers are those after a change, which gave these numbers. They are looked for at the
+/// number cells from before, and at those of the numbers that were given.
 fn list_altered(
     alloc: Global,
     numbers: &Numbers,
@@ -196,9 +195,10 @@ fn list_altered(
     config: &Config,
     reach: &ReachTable,
     at: LookedAt,
+    given: &[(Place, u16)],
 ) -> Result<Altered<Global>, AllocError>
     requires reach { IsReachOf config.now.records reach.now }
-    requires changed { WasRenumbered config.now.records numbers.now.numbers seats.now.seats at }
+    requires changed { WasRenumbered config.now.records numbers.now.numbers seats.now.seats at given.now }
     requires images { AreImagesInOrder at }
     ensures changes { IfOk result (λ altered. altered.changes.items
         ≡ seen_changes config.now.records numbers.now.numbers seats.now.seats) }
@@ -206,7 +206,7 @@ fn list_altered(
         ≡ lives_met (lives_seated seats.now.seats) altered.changes.items) }
 {
     let mut cells = at.cells;
-    numbers.list_cells(&mut cells, at.affected.places.as_slice())?;
+    list_given(&mut cells, given)?;
     let cells = sort_apart(cells)?;
     let tried = Tried {
         seats,
@@ -220,4 +220,19 @@ fn list_altered(
         at.affected.images.as_slice(),
         cells.as_slice(),
     )
+}
+
+/// Puts the number cells of numbers that were given behind those that are listed.
+fn list_given(cells: &mut Vec<NumberCell>, given: &[(Place, u16)]) -> Result<(), AllocError>
+    ensures { OnOk result (cells.new.items ≡ cells.old.items ++ cells_given given.now) }
+{
+    cells.reserve(given.len())?;
+    for row in given {
+        cells.push(NumberCell {
+            css: row.0.css,
+            set: row.0.set,
+            number: row.1,
+        })?;
+    }
+    Ok(())
 }

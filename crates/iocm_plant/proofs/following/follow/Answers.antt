@@ -38,6 +38,7 @@ follow_numbers-requires-clause-changed c =
     let at = (goal.at.follow_numbers-requires-clause-changed c).In_ok-renumbered in
     was_renumbered c.args.config.now.records c.args.numbers.now.numbers c.args.seats.now.seats c.args.at c.requires.changed
     c.args.brought.places.items c.renumber.new.self.numbers (renumbered at).now (none_taken at)
+    c.in_ok-renumbered.renumbered.given.items (renumbered at).come
 
 pub exchange-requires-clause-room : goal.exchange-requires-clause-room
 exchange-requires-clause-room c = subst (HaveRoom c.renumber.new.self) (sym c.as_slice-in-Err-2.ensures.value)
