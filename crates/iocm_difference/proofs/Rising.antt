@@ -1,41 +1,28 @@
 -- Keys at which two configurations differ stand in order, and lists in order with the same members
 -- are one.
 use Rattle.std.proofs.Common.{◌≡◌, not, List, [], ◌∷◌, ◌++◌, map, Option, Some, None, is_some, T, refl, sym, ap, subst, ◌∙◌}
-use Rattle.std.specs.List.{list_any, AllByRecursion}
+use Rattle.std.specs.List.{list_any}
 use Rattle.std.specs.List.Sorted.{IsStrictlySortedBy}
 use Rattle.std.specs.Option.{option_eq}
-use Rattle.std.specs.Ordering.{eq_by_cmp, is_lt}
-use Rattle.std.specs.declared.cmp.Ordering.TheVariants.{Less}
+use Rattle.std.specs.Ordering.{eq_by_cmp}
 use Rattle.std.specs.FinMap.{get, entries, entries_sorted, from_entries}
-use Rattle.std.specs.FinMap.Entries.{find, is_sorted, below_all, is_some-find, same_entries}
+use Rattle.std.specs.FinMap.Entries.{find, is_sorted, is_some-find, same_entries}
 use Rattle.std.proofs.lemmas.List.Kept.{IsStrictlySortedBy-filter}
-use Rattle.std.proofs.lemmas.Map.Keys.{sorted_head, sorted_tail}
 use Rattle.iocm_types.specs.declared.key.Key.{Key}
 use Rattle.iocm_types.specs.Key.{key_cmp}
 use Rattle.iocm_types.specs.KeyOrder.{keys_total, keys_exact}
-use Rattle.iocm_types.proofs.Orderings.{less_is}
-use Rattle.iocm_types.proofs.Tests.{first_holds, second_holds, both_hold}
+use Rattle.iocm_types.proofs.InOrder.{keys_rise, rows_sorted}
 use Rattle.iocm_model.specs.Machine.Configuration.{Configuration}
 use Rattle.iocm_model.specs.Change.Maps.{differing}
 use Rattle.iocm_difference.specs.Same.{same_record}
-use Rattle.iocm_difference.specs.Walks.{Row}
 use Rattle.iocm_difference.proofs.Paired.{keys_of_both}
 
 -- ---- the keys at which two configurations differ
 
-keys_below : (k : Key) (es : List Row) → T (below_all key_cmp k es) → AllByRecursion (λ y. key_cmp k y ≡ Less) (map (λ (e : Row). e.0) es)
-keys_below k [] below = tt
-keys_below k (e ∷ es) below = (less_is (key_cmp k e.0) (first_holds _ _ below), keys_below k es (second_holds _ _ below))
-
-keys_rise : (es : List Row) → T (is_sorted key_cmp es) → IsStrictlySortedBy key_cmp (map (λ (e : Row). e.0) es)
-unfolding IsStrictlySortedBy
-keys_rise [] up = tt
-keys_rise (e ∷ es) up = (keys_below e.0 es (first_holds _ _ up), keys_rise es (second_holds _ _ up))
-
 -- they stand in order
 pub differing_rise : (c d : Configuration) → IsStrictlySortedBy key_cmp (differing same_record c d)
 differing_rise c d = IsStrictlySortedBy-filter key_cmp (λ key. not (option_eq same_record (get c key) (get d key))) (keys_of_both c d)
-    (keys_rise (entries both) (entries_sorted both))
+    (keys_rise key_cmp (entries both) (entries_sorted both))
   where
     both : Configuration
     both = from_entries (entries c ++ entries d)
@@ -46,20 +33,12 @@ differing_rise c d = IsStrictlySortedBy-filter key_cmp (λ key. not (option_eq s
 abbrev as_row : Key → Key × Unit {0}
 as_row k = (k, tt)
 
-below_rows : (k : Key) (ks : List Key) → AllByRecursion (λ y. key_cmp k y ≡ Less) ks → T (below_all key_cmp k (map as_row ks))
-below_rows k [] all = tt
-below_rows k (x ∷ ks) all =
-    both_hold (is_lt (key_cmp k x)) (below_all key_cmp k (map as_row ks)) (subst (λ r. T (is_lt r)) (sym all.0) tt) (below_rows k ks all.1)
-
-rows_sorted : (ks : List Key) → IsStrictlySortedBy key_cmp ks → T (is_sorted key_cmp (map as_row ks))
-rows_sorted [] rise = tt
-rows_sorted (k ∷ ks) rise =
-    both_hold (below_all key_cmp k (map as_row ks)) (is_sorted key_cmp (map as_row ks)) (below_rows k ks (sorted_head key_cmp k ks rise))
-    (rows_sorted ks (sorted_tail key_cmp k ks rise))
-
 keys_again : (ks : List Key) → map (λ (e : Key × Unit {0}). e.0) (map as_row ks) ≡ ks
 keys_again [] = refl
 keys_again (k ∷ ks) = ap (λ xs. k ∷ xs) (keys_again ks)
+
+marked_sorted : (ks : List Key) → IsStrictlySortedBy key_cmp ks → T (is_sorted key_cmp (map as_row ks))
+marked_sorted ks rise = rows_sorted key_cmp (map as_row ks) (subst (λ xs. IsStrictlySortedBy key_cmp xs) (sym (keys_again ks)) rise)
 
 nothing_more : (a b : Option (Unit {0})) → is_some a ≡ is_some b → a ≡ b
 nothing_more None None h = refl
@@ -74,5 +53,5 @@ found_row q ks = is_some-find key_cmp q (map as_row ks) ∙ ap (list_any (eq_by_
 pub same_members : (xs ys : List Key) → IsStrictlySortedBy key_cmp xs → IsStrictlySortedBy key_cmp ys
     → ((q : Key) → list_any (eq_by_cmp key_cmp q) xs ≡ list_any (eq_by_cmp key_cmp q) ys) → xs ≡ ys
 same_members xs ys rise rises same =
-    sym (keys_again xs) ∙ ap (map (λ (e : Key × Unit {0}). e.0)) (same_entries key_cmp keys_total keys_exact (map as_row xs) (map as_row ys) (rows_sorted xs rise) (rows_sorted ys rises)
+    sym (keys_again xs) ∙ ap (map (λ (e : Key × Unit {0}). e.0)) (same_entries key_cmp keys_total keys_exact (map as_row xs) (map as_row ys) (marked_sorted xs rise) (marked_sorted ys rises)
     (λ q. nothing_more _ _ (found_row q xs ∙ same q ∙ sym (found_row q ys)))) ∙ keys_again ys
