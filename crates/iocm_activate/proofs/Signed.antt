@@ -11,6 +11,19 @@ use Rattle.std.specs.FinMap.{FinMap, IsAntisymmetric, contains_key, contains_key
 use Rattle.iocm_types.proofs.Found.{same_key}
 use Rattle.iocm_activate.specs.Signature.{AreSigned}
 
+-- a bit that is set in one of two words is set in both together
+pub either_set : (a b i : ℕ) → bit_at a i ≡ 1 → bit_at (bit_or a b) i ≡ 1
+either_set a b i is = bit_at_or a b i ∙ ap (λ n. max n (bit_at b i)) is ∙ largest (bit_at b i) (bit_at-lt b i)
+  where
+    largest : (b : ℕ) → b < 2 → max 1 b ≡ 1
+    largest b small = omega (arith, small)
+
+pub other_set : (a b i : ℕ) → bit_at b i ≡ 1 → bit_at (bit_or a b) i ≡ 1
+other_set a b i is = bit_at_or a b i ∙ ap (λ n. max (bit_at a i) n) is ∙ largest (bit_at a i) (bit_at-lt a i)
+  where
+    largest : (b : ℕ) → b < 2 → max b 1 ≡ 1
+    largest b small = omega (arith, small)
+
 module _ {K : Type 0} (number : K → ℕ) where
   -- a signature with the bits of these keys
   abbrev pub with_bits : ℕ → List K → ℕ
@@ -24,12 +37,7 @@ module _ {K : Type 0} (number : K → ℕ) where
   bit_stays : (signature i : ℕ) (ks : List K) → bit_at signature i ≡ 1 → bit_at (with_bits signature ks) i ≡ 1
   bit_stays signature i [] is = is
   bit_stays signature i (k ∷ ks) is =
-      bit_stays (bit_or signature (1 * 2 ^ (number k % 64) % 2 ^ 64)) i ks
-      (bit_at_or signature (1 * 2 ^ (number k % 64) % 2 ^ 64) i ∙ ap (λ b. max b (bit_at (1 * 2 ^ (number k % 64) % 2 ^ 64) i)) is
-      ∙ largest (bit_at (1 * 2 ^ (number k % 64) % 2 ^ 64) i) (bit_at-lt _ i))
-    where
-      largest : (b : ℕ) → b < 2 → max 1 b ≡ 1
-      largest b small = omega (arith, small)
+      bit_stays (bit_or signature (1 * 2 ^ (number k % 64) % 2 ^ 64)) i ks (either_set signature (1 * 2 ^ (number k % 64) % 2 ^ 64) i is)
 
   -- all keys have their bits then
   pub all_signed : (signature : ℕ) (ks : List K) → AreSigned number (with_bits signature ks) ks
@@ -55,16 +63,3 @@ module _ {K : Type 0} (number : K → ℕ) where
 
     pub none_in_both : list_any (contains_key n) (keys m) ≡ false
     none_in_both = list_any_none (contains_key n) (keys m) (λ i d within. not_both _ _ (own i d within) refl)
-
--- a bit that is set in one of two words is set in both together
-pub either_set : (a b i : ℕ) → bit_at a i ≡ 1 → bit_at (bit_or a b) i ≡ 1
-either_set a b i is = bit_at_or a b i ∙ ap (λ n. max n (bit_at b i)) is ∙ largest (bit_at b i) (bit_at-lt b i)
-  where
-    largest : (b : ℕ) → b < 2 → max 1 b ≡ 1
-    largest b small = omega (arith, small)
-
-pub other_set : (a b i : ℕ) → bit_at b i ≡ 1 → bit_at (bit_or a b) i ≡ 1
-other_set a b i is = bit_at_or a b i ∙ ap (λ n. max (bit_at a i) n) is ∙ largest (bit_at a i) (bit_at-lt a i)
-  where
-    largest : (b : ℕ) → b < 2 → max b 1 ≡ 1
-    largest b small = omega (arith, small)

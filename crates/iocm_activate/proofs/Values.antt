@@ -22,6 +22,11 @@ module _ {K X : Type 0} {R : K → K → Ordering} where
   keys_with_values m [] = refl
   keys_with_values m (k ∷ ks) = ap (λ xs. k ∷ xs) (keys_with_values m ks)
 
+  -- so it is in order where they are
+  pub values_rise : (m : FinMap R X) (ks once : List K) (cells : List (K × Option X)) → cells ≡ with_values m ks → ks ≡ once
+      → IsStrictlySortedBy R once → IsStrictlySortedBy R (keys_of cells)
+  values_rise m ks once cells are same rise = subst (IsStrictlySortedBy R) (sym (ap keys_of are ∙ keys_with_values m ks ∙ same)) rise
+
 module _ {K X : Type 0} {R : K → K → Ordering} (total : IsTotalOrder R) (exact : IsAntisymmetric R) where
   -- the cells of a map at the same keys, in another order or more than once
   pub same_cells : (m : FinMap R X) (ks js : List K) → ((q : K) → list_any (eq_by_cmp R q) ks ≡ list_any (eq_by_cmp R q) js)

@@ -44,7 +44,8 @@ impl<K: TableKey, V> Written<K, V> {
 
     /// The cells in the order of their keys.
     pub fn cells(&self) -> &[(K, Option<V>)]
-        ensures { result.now ≡ map.entries (cells_in K.order self.now) }
+        ensures entries { result.now ≡ map.entries (cells_in K.order self.now) }
+        ensures list { result.now ≡ self.now }
     {
         self.cells.as_slice()
     }

@@ -1,25 +1,31 @@
-use Rattle.std.proofs.Common.{◌≡◌, length, slice_get, sym, ap, ◌∙◌, arith}
+use Rattle.std.proofs.Common.{◌≡◌, ◌<◌, ℕ, List, length, slice_get, sym, ap, ◌∙◌, arith}
 use Rattle.std.proofs.lemmas.Option.{get_or_from_slice_get}
 use Rattle.iocm_history.specs.Change.{share_a_cell}
+use Rattle.iocm_activate.specs.declared.effect.Effect.{Effect}
+use Rattle.iocm_activate.specs.declared.signature.Signature.{Signature}
 use Rattle.iocm_activate.specs.Effects.{Listed, effect_in}
+use Rattle.iocm_activate.specs.Signatures.{AreSignaturesOf}
 use Rattle.iocm_activate.proofs.Apart.{as_many, signed_at}
 use Rattle.iocm_activate.proofs.effects.Effects.share_a_cell.Goals as goal
 
+-- a place that has an effect has a signature
+is_signed : (ss : List Signature) (es : List Effect) (items : List Effect) → AreSignaturesOf ss es → length es ≡ length items
+    → (place : ℕ) → place < length items → place < length ss
+is_signed ss es items signed same place low = let many = as_many ss es signed in omega (arith, many, same, low)
+
 pub index-requires : goal.index-requires
 index-requires c =
-    let many = as_many c.self.inside.signatures.items c.self.inside.effects.items c.self.invariant in
-    let same : length c.self.inside.effects.items ≡ length c.args.self.now.items = ap (λ (v : Listed). length v.items) c.self.view_is in
-    let low = c.requires.one in
+    let within = is_signed c.self.inside.signatures.items c.self.inside.effects.items c.args.self.now.items c.self.invariant
+    (ap (λ (v : Listed). length v.items) c.self.view_is) c.args.one c.requires.one in
     let len = c.self.inside.signatures.ok.0 in
-    omega (arith, many, same, low, len)
+    omega (arith, within, len)
 
 pub index-requires-2 : goal.index-requires-2
 index-requires-2 c =
-    let many = as_many c.self.inside.signatures.items c.self.inside.effects.items c.self.invariant in
-    let same : length c.self.inside.effects.items ≡ length c.args.self.now.items = ap (λ (v : Listed). length v.items) c.self.view_is in
-    let low = c.requires.other in
+    let within = is_signed c.self.inside.signatures.items c.self.inside.effects.items c.args.self.now.items c.self.invariant
+    (ap (λ (v : Listed). length v.items) c.self.view_is) c.args.other c.requires.other in
     let len = c.self.inside.signatures.ok.0 in
-    omega (arith, many, same, low, len)
+    omega (arith, within, len)
 
 pub returns-then-is_apart : goal.returns-then-is_apart
 returns-then-is_apart c = λ f g at_f at_g.
