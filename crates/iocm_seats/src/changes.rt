@@ -54,9 +54,9 @@ struct NamedImage {
 
 /// All changes of what is seen, in the order of subchannels. They are looked for at the subchannels
 /// of some images and number cells alone, each given once and in order, and are among these. What
-/// the images of a channel subsystem share at a number cell is looked up once; beside that the time
-/// is that of one view for each of these subchannels, by its seat and by the table.
-/// The live records are those of the same seats.
+/// the images of a channel subsystem share at a number cell is looked up once. Its number cells are
+/// found by two walks over all. Beside that the time is that of one view for each of these
+/// subchannels, by its seat and by the table. The live records are those of the same seats.
 ///
 /// `AllocError` (M1): memory ran out.
 pub fn list_changes<A: Allocator, B: Allocator, C: Allocator, D: Allocator + Clone>(
@@ -134,8 +134,8 @@ fn list_at_images<A: Allocator, B: Allocator, C: Allocator, D: Allocator + Clone
     Ok(altered)
 }
 
-/// The name of an image, if it is there. It is looked up only where it is needed: where one of these
-/// number cells, which are of the image's channel subsystem, has a device.
+/// The name of an image, if it is there. It is looked up only where it is needed: where one of
+/// these number cells has a device.
 fn name_for<A: Allocator, B: Allocator>(
     names: &mut ImageNames<'_, A>,
     image: &Image,
@@ -165,7 +165,7 @@ fn has_device<A: Allocator, B: Allocator>(sight: &ReachedCell<'_, A, B>) -> bool
     sight.has_device()
 }
 
-/// Puts the changes of an image at some number cells of its channel subsystem behind those that are
+/// Puts the changes of an image at some number cells of its channel subsystem after those that are
 /// listed.
 fn list_at_cells<A: Allocator, B: Allocator, C: Allocator, D: Allocator>(
     altered: &mut Altered<D>,
@@ -191,7 +191,7 @@ fn list_at_cells<A: Allocator, B: Allocator, C: Allocator, D: Allocator>(
     Ok(())
 }
 
-/// Puts the change of an image at a number cell of its channel subsystem behind those that are
+/// Puts the change of an image at a number cell of its channel subsystem after those that are
 /// listed, if something else is seen there.
 fn list_at_cell<A: Allocator, B: Allocator, C: Allocator, D: Allocator>(
     altered: &mut Altered<D>,
@@ -289,7 +289,7 @@ fn list_new<D: Allocator>(
     Ok(())
 }
 
-/// Whether two sights are one.
+/// Whether two views are one.
 fn is_same(before: Option<&View>, after: Option<&View>) -> bool
     ensures { result ≡ option_eq same_view (option_copied before.entry) (option_copied after.entry) }
 {

@@ -110,8 +110,8 @@ fn open_at<'a, A: Allocator, B: Allocator + Clone>(
     Ok(())
 }
 
-/// Gives the subchannel of an image at a number cell its seat, if the image sees the device there,
-/// whose fields these are.
+/// Gives the subchannel of an image at a number cell its seat, if the image sees the device there.
+/// The fields are the device's.
 ///
 /// `AllocError` (M1): memory ran out.
 fn open_cell<'a, A: Allocator, B: Allocator + Clone>(

@@ -27,8 +27,8 @@ impl<'s, 'a, A: Allocator, B: Allocator> OwnSights<'s, 'a, A, B> {
         }
     }
 
-    /// Those of a channel subsystem among the same number cells. They are looked for only where
-    /// these are another's.
+    /// Those of a channel subsystem among the same number cells. Where it is the same channel
+    /// subsystem, nothing is looked for.
     pub(crate) fn follow(&self, css: Css, sights: &'s [ReachedCell<'a, A, B>]) -> Self
         requires order { IsStrictlySortedBy cell_cmp (cells_of_sights sights.now) }
         requires own { self.now.sights.now ≡ sights_in self.now.css sights.now }
@@ -52,8 +52,8 @@ impl<'s, 'a, A: Allocator, B: Allocator> OwnSights<'s, 'a, A, B> {
     }
 }
 
-/// The number cells of a channel subsystem among some that are in order: they stand side by side,
-/// behind those of the channel subsystems before it.
+/// The number cells of a channel subsystem, among some in order. They are side by side, after those
+/// of the channel subsystems before it.
 fn find_sights<'s, 'a, A: Allocator, B: Allocator>(
     css: Css,
     sights: &'s [ReachedCell<'a, A, B>],
