@@ -12,9 +12,9 @@ use iocm_types::{NumberCell, Place, sorted_once};
 use std::alloc::{AllocError, Allocator};
 
 impl<A: Allocator> Numbers<A> {
-    /// Puts the number cells of the numbers at these places behind those that are listed, in the
-    /// order of the places. A place whose device has no number has none. So the cells are listed at
-    /// which subchannels may change, before and after a change.
+    /// Puts the number cells of the numbers at these places after those that are listed, in the
+    /// order of the places. A place whose device has no number has none. Where the places change,
+    /// subchannels may change at these cells, and at those of the numbers that are given then.
     ///
     /// `AllocError` (M1): memory ran out.
     pub fn list_cells<B: Allocator>(

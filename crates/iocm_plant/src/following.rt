@@ -28,7 +28,7 @@ use iocm_types::{At, Key, Live, NumberCell, Place, Refused, Rule, SubId};
 use std::alloc::{AllocError, Global};
 
 /// Where a change of the configuration is looked for: at the places and images that it may affect,
-/// and the number cells of these places.
+/// and at the number cells that these places had.
 #[derive(Drop)]
 pub struct LookedAt {
     pub affected: Affected<Global>,
@@ -185,9 +185,9 @@ fn follow_numbers(
     }
 }
 
-/// The subchannels at which another view is seen, with their live records, where the configuration
-/// and the numbers are those after a change, which gave these numbers. They are looked for at the
-/// number cells from before, and at those of the numbers that were given.
+/// The subchannels at which another view is seen, with their live records. The configuration and
+/// the numbers are those after a change, which gave these numbers. A place has the number that it
+/// had, or was given one. So its cell is among those from before, or of the numbers given.
 fn list_altered(
     alloc: Global,
     numbers: &Numbers,
@@ -222,7 +222,7 @@ fn list_altered(
     )
 }
 
-/// Puts the number cells of numbers that were given behind those that are listed.
+/// Puts the number cells of numbers that were given after those that are listed.
 fn list_given(cells: &mut Vec<NumberCell>, given: &[(Place, u16)]) -> Result<(), AllocError>
     ensures { OnOk result (cells.new.items ≡ cells.old.items ++ cells_given given.now) }
 {
