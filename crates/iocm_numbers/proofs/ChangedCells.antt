@@ -1,17 +1,21 @@
 -- The number cells that a change of the configuration changed are those of the rows that it freed
 -- and gave.
 use Rattle.std.proofs.Common.{◌≡◌, ℕ, Bool, true, false, cond, not, ◌||◌, nat_eq, eq-eqb, eqb-true, List, [], ◌∷◌, ◌++◌, map, Option, Some, None, is_some, T, refl, sym, ap, ◌∙◌}
-use Rattle.std.specs.List.{filter, fold, list_any, AllByRecursion}
+use Rattle.std.proofs.lemmas.List.{append-nil}
+use Rattle.std.specs.List.{filter, list_any, AllByRecursion}
+use Rattle.std.specs.List.Sorted.{IsStrictlySortedBy}
+use Rattle.std.specs.Map.{keys_of}
 use Rattle.std.specs.Option.{option_eq}
 use Rattle.std.specs.Ordering.{is_lt, eq_by_cmp}
 use Rattle.std.specs.declared.cmp.Ordering.{Ordering}
-use Rattle.std.specs.FinMap.{find, get, insert, empty, contains_key, entries, entries_sorted, is_sorted, from_entries, from_sorted, get-empty, get-insert, get-entries, get-from_entries, get-from_sorted, entries-from_sorted, same_map}
-use Rattle.std.specs.FinMap.Entries.{below_all, is_sorted-where_key}
+use Rattle.std.specs.FinMap.{find, get, contains_key, entries, entries_sorted, is_sorted, from_entries, get-entries, get-from_entries}
+use Rattle.std.specs.FinMap.Entries.{below_all, is_sorted-where_key, same_entries}
 use Rattle.iocm_types.specs.declared.place.Place.{Place}
 use Rattle.iocm_types.specs.declared.place.NumberCell.{NumberCell}
 use Rattle.iocm_types.specs.Place.{place_cmp, cell_cmp}
 use Rattle.iocm_types.specs.KeyOrder.{places_total, places_exact, cells_total, cells_exact}
 use Rattle.iocm_types.proofs.Found.{same_key, ties_itself, found_first, found_later, found_fails, passing}
+use Rattle.iocm_types.proofs.InOrder.{rows_sorted}
 use Rattle.iocm_types.proofs.Tests.{first_holds, second_holds, both_hold}
 use Rattle.iocm_model.specs.Machine.Numbering.{Numbering, cells_of, device_at}
 use Rattle.iocm_model.specs.Change.Inverse.{freed_numbers}
@@ -22,7 +26,7 @@ use Rattle.iocm_model.proofs.Numbers.Cells.{IsApart, place, has_number, has_devi
 use Rattle.iocm_numbers.specs.declared.number_change.NumberChange.{NumberChange}
 use Rattle.iocm_numbers.specs.Exchange.{Agree}
 use Rattle.iocm_numbers.specs.Numbered.{cell_at}
-use Rattle.iocm_numbers.specs.NumberChanges.{Holders, with_given, with_freed, number_change, change_from, changes_between, WereBefore}
+use Rattle.iocm_numbers.specs.NumberChanges.{given_cell, noted_cells, number_change, change_from, changes_between, WereBefore}
 
 -- ---- cells that are noted
 
@@ -31,23 +35,24 @@ abbrev has_cell : NumberCell → Place × ℕ → Bool
 has_cell c row = eq_by_cmp cell_cmp c (cell_at row.0 row.1)
 
 module _ (value : Place × ℕ → Option ℕ) (expected : NumberCell → Option ℕ) where
-  -- with the cell of a row, and its value
-  abbrev with_row : Holders → Place × ℕ → Holders
-  with_row holders row = insert holders (cell_at row.0 row.1) (value row)
-
-  noted_by : (c : NumberCell) (row : Place × ℕ) (x : Option (Option ℕ)) (b among : Bool) → has_cell c row ≡ b → value row ≡ expected (cell_at row.0 row.1)
-      → cond among (Some (expected c)) (cond b (Some (value row)) x) ≡ cond (b || among) (Some (expected c)) x
-  noted_by c row x true true same is = refl
-  noted_by c row x true false same is = ap Some (is ∙ ap expected (sym (same_key cell_cmp cells_exact c (cell_at row.0 row.1) same)))
-  noted_by c row x false among same is = refl
+  -- the cells of rows, each with its value
+  abbrev with_values : List (Place × ℕ) → List (NumberCell × Option ℕ)
+  with_values rows = map (λ (row : Place × ℕ). (cell_at row.0 row.1, value row)) rows
 
   -- where the value of each row is the one expected of its cell, the cells of rows have it
-  get_noted : (holders : Holders) (rows : List (Place × ℕ)) → AllByRecursion (λ row. value row ≡ expected (cell_at row.0 row.1)) rows → (c : NumberCell)
-      → get (fold with_row holders rows) c ≡ cond (list_any (has_cell c) rows) (Some (expected c)) (get holders c)
-  get_noted holders [] all c = refl
-  get_noted holders (row ∷ rows) all c = get_noted (with_row holders row) rows all.1 c
-      ∙ ap (cond (list_any (has_cell c) rows) (Some (expected c))) (get-insert cells_total holders (cell_at row.0 row.1) (value row) c)
-      ∙ noted_by c row (get holders c) (has_cell c row) (list_any (has_cell c) rows) refl all.0
+  find_noted : (rows : List (Place × ℕ)) → AllByRecursion (λ row. value row ≡ expected (cell_at row.0 row.1)) rows → (rest : List (NumberCell × Option ℕ)) (c : NumberCell)
+      → find cell_cmp c (with_values rows ++ rest) ≡ cond (list_any (has_cell c) rows) (Some (expected c)) (find cell_cmp c rest)
+  find_noted [] all rest c = refl
+  find_noted (row ∷ rows) all rest c = by (has_cell c row) refl (find_noted rows all.1 rest c)
+    where
+      by : (b : Bool) → has_cell c row ≡ b → find cell_cmp c (with_values rows ++ rest) ≡ cond (list_any (has_cell c) rows) (Some (expected c)) (find cell_cmp c rest)
+          → cond (has_cell c row) (Some (value row)) (find cell_cmp c (with_values rows ++ rest))
+          ≡ cond (has_cell c row || list_any (has_cell c) rows) (Some (expected c)) (find cell_cmp c rest)
+      by true e more = ap (λ b. cond b (Some (value row)) (find cell_cmp c (with_values rows ++ rest))) e
+          ∙ ap Some (all.0 ∙ ap expected (sym (same_key cell_cmp cells_exact c (cell_at row.0 row.1) e)))
+          ∙ sym (ap (λ b. cond (b || list_any (has_cell c) rows) (Some (expected c)) (find cell_cmp c rest)) e)
+      by false e more = ap (λ b. cond b (Some (value row)) (find cell_cmp c (with_values rows ++ rest))) e ∙ more
+          ∙ sym (ap (λ b. cond (b || list_any (has_cell c) rows) (Some (expected c)) (find cell_cmp c rest)) e)
 
 -- ---- rows of one of two numberings alone
 
@@ -139,29 +144,23 @@ module _ (n m : Numbering) (agree : Agree n m) (agree_back : Agree m n) (apart :
   abbrev differ : List NumberCell
   differ = differing nat_eq (cells_of n) (cells_of m)
 
-  -- the cells that are noted, with the devices that had them
-  abbrev noted : Holders
-  noted = fold with_freed (fold with_given empty (freed_numbers m n)) (freed_numbers n m)
-
   none_expected : AllByRecursion (λ (row : Place × ℕ). ◌≡◌ {A = Option ℕ} None None) (freed_numbers m n)
   none_expected = all_kept (λ (row : Place × ℕ). ◌≡◌ {A = Option ℕ} None None) (λ (e : Place × ℕ). not (contains_key n e.0)) (entries m) (entries_sorted m) (λ q k is. refl)
 
-  get_all : (c : NumberCell) → get noted c
+  -- what is found of a cell among those that are noted
+  find_all : (c : NumberCell) → find cell_cmp c (noted_cells (freed_numbers n m) (freed_numbers m n))
       ≡ cond (list_any (has_cell c) (freed_numbers n m)) (Some (device_at n c)) (cond (list_any (has_cell c) (freed_numbers m n)) (Some None) None)
-  get_all c = get_noted (λ row. Some row.0.device) (device_at n) (fold with_given empty (freed_numbers m n)) (freed_numbers n m) (devices_of_rows n m agree apart other) c
-      ∙ ap (cond (list_any (has_cell c) (freed_numbers n m)) (Some (device_at n c))) (get_noted (λ row. None) (λ x. None) empty (freed_numbers m n) none_expected c
-      ∙ ap (cond (list_any (has_cell c) (freed_numbers m n)) (Some None)) (get-empty cell_cmp c))
+  find_all c = find_noted (λ row. Some row.0.device) (device_at n) (freed_numbers n m) (devices_of_rows n m agree apart other) (map given_cell (freed_numbers m n)) c
+      ∙ ap (cond (list_any (has_cell c) (freed_numbers n m)) (Some (device_at n c)))
+      (ap (find cell_cmp c) (sym (append-nil (map given_cell (freed_numbers m n)))) ∙ find_noted (λ row. None) (λ x. None) (freed_numbers m n) none_expected [] c)
 
-  noted_at : (c : NumberCell) → get noted c ≡ get (cells_at (cells_of n) differ) c
-  noted_at c = get_all c
+  -- it is what is found of it among the cells that differ, each with the device that had it
+  pub noted_at : (c : NumberCell) → find cell_cmp c (noted_cells (freed_numbers n m) (freed_numbers m n)) ≡ get (cells_at (cells_of n) differ) c
+  noted_at c = find_all c
       ∙ changed_by (list_any (has_cell c) (freed_numbers n m)) (list_any (has_cell c) (freed_numbers m n)) (device_at n c) (device_at m c)
       (turns n m agree apart other c) (turns m n agree_back other apart c) (stays n m agree apart other c) (stays m n agree_back other apart c)
       ∙ sym (get_cells_at cells_total cells_exact (cells_of n) differ c
       ∙ ap (λ b. cond b (Some (device_at n c)) None) (in_differing cells_total cells_exact nat_eq (cells_of n) (cells_of m) c))
-
-  -- they are the cells that differ, each with the device that had it
-  pub noted_is : noted ≡ cells_at (cells_of n) differ
-  noted_is = same_map cells_total cells_exact _ _ noted_at
 
 -- ---- in order
 
@@ -187,25 +186,21 @@ module _ {K X Y : Type 0} (R : K → K → Ordering) (test : K → Bool) (value 
       by true more = both_hold _ _ (below_kept e.0 es (first_holds (below_all R e.0 es) (is_sorted R es) up)) more
       by false more = more
 
--- the entries of a map that is made of entries in order
-entries_made : (es : List (NumberCell × Option ℕ)) → T (is_sorted cell_cmp es) → entries (from_entries {R = cell_cmp} es) ≡ es
-entries_made es up =
-    ap entries (same_map cells_total cells_exact (from_entries es) (from_sorted es) (λ q. get-from_entries cells_total es q ∙ sym (get-from_sorted cell_cmp es q up)))
-    ∙ entries-from_sorted cell_cmp es up
-
+-- what each of these has
 changes_each : (n m : Numbering) (cs : List NumberCell) → map (change_from m) (map (λ c. (c, device_at n c)) cs) ≡ map (number_change n m) cs
 changes_each n m [] = refl
 changes_each n m (c ∷ cs) = ap (λ xs. number_change n m c ∷ xs) (changes_each n m cs)
 
--- the changes of the cells that are noted are all
-pub changes_are : (n m : Numbering) (freed given : List (Place × ℕ)) (start first second : Holders) (changes : List NumberChange) → IsApart m → WereBefore n m freed given
-    → start ≡ empty → first ≡ fold with_given start given → second ≡ fold with_freed first freed → changes ≡ map (change_from m) (entries second) → changes ≡ changes_between n m
-changes_are n m freed given start first second changes other was none one two all =
+-- the changes of the cells that are noted, in order and each once, are all
+pub changes_are : (n m : Numbering) (freed given : List (Place × ℕ)) (holders : List (NumberCell × Option ℕ)) (changes : List NumberChange) → IsApart m → WereBefore n m freed given
+    → ((c : NumberCell) → find cell_cmp c holders ≡ find cell_cmp c (noted_cells freed given)) → IsStrictlySortedBy cell_cmp (keys_of holders)
+    → changes ≡ map (change_from m) holders → changes ≡ changes_between n m
+changes_are n m freed given holders changes other was first order all =
     let agree_back : Agree m n = λ p j k is had. sym (was.agree p k j had is) in
-    let made : second ≡ cells_at (cells_of n) (differing nat_eq (cells_of n) (cells_of m)) =
-    two ∙ (λ i. fold with_freed ((one ∙ (λ j. fold with_given (none j) (was.come j))) i) (was.gone i)) ∙ noted_is n m was.agree agree_back was.apart other in
-    let up = kept_sorted cell_cmp (λ c. not (option_eq nat_eq (device_at n c) (device_at m c))) (device_at n)
+    let differ : List NumberCell = differing nat_eq (cells_of n) (cells_of m) in
+    let rows : List (NumberCell × Option ℕ) = map (λ c. (c, device_at n c)) differ in
+    let up : T (is_sorted cell_cmp rows) = kept_sorted cell_cmp (λ c. not (option_eq nat_eq (device_at n c) (device_at m c))) (device_at n)
     (entries (from_entries {R = cell_cmp} (entries (cells_of n) ++ entries (cells_of m)))) (entries_sorted (from_entries {R = cell_cmp} (entries (cells_of n) ++ entries (cells_of m)))) in
-    all ∙ ap (λ h. map (change_from m) (entries h)) made
-    ∙ ap (map (change_from m)) (entries_made (map (λ c. (c, device_at n c)) (differing nat_eq (cells_of n) (cells_of m))) up)
-    ∙ changes_each n m (differing nat_eq (cells_of n) (cells_of m))
+    let same : holders ≡ rows = same_entries cell_cmp cells_total cells_exact holders rows (rows_sorted cell_cmp holders order) up (λ c.
+    first c ∙ (λ i. find cell_cmp c (noted_cells (was.gone i) (was.come i))) ∙ noted_at n m was.agree agree_back was.apart other c ∙ get-from_entries cells_total rows c) in
+    all ∙ ap (map (change_from m)) same ∙ changes_each n m differ

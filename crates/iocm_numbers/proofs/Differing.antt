@@ -23,7 +23,7 @@ use Rattle.iocm_model.proofs.Maps.Cells.{any_filter}
 use Rattle.iocm_model.proofs.Numbers.Back as back
 use Rattle.iocm_model.proofs.Numbers.Changed.{numbers_after_are_exact}
 use Rattle.iocm_numbers.specs.PutBack.{numbers_at}
-use Rattle.iocm_numbers.specs.Renumbering.{AreAllTouched, Rise}
+use Rattle.iocm_numbers.specs.Renumbering.{unreached, unnumbered, AreAllTouched, Rise}
 
 -- a place is one of these
 abbrev is_one_of : Place → List Place → Bool
@@ -95,30 +95,6 @@ some_rise test (p ∷ ps) rise = by (test p) (some_rise test ps rise.1)
     by true more = ((λ q among. rise.0 q (and_parts _ _ (sym (any_filter places_exact q ps test) ∙ among)).0), more)
     by false more = more
 
--- the places so far, and those that are left, are all that pass
-pub record IsSifting (test : Place → Bool) (ps : List Place) (i : ℕ) (left : List Place) : Type 0 where
-  pub all : left ++ filter test (drop i ps) ≡ filter test ps
-
-sifted_at : (test : Place → Bool) (ps : List Place) (i : ℕ) (left : List Place) (p : Place) (b : Bool) → i < length ps → p ≡ get_or ps i p → IsSifting test ps i left
-    → test p ≡ b → left ++ cond b (p ∷ filter test (drop (i + 1) ps)) (filter test (drop (i + 1) ps)) ≡ filter test ps
-sifted_at test ps i left p b within item before is =
-    ap (λ t. left ++ cond t (p ∷ filter test (drop (i + 1) ps)) (filter test (drop (i + 1) ps))) (sym is)
-    ∙ ap (λ (qs : List Place). left ++ filter test qs) (sym (drop-item ps i p within item)) ∙ before.all
-
-pub sifted_one : (test : Place → Bool) (ps : List Place) (i : ℕ) (left : List Place) (p : Place) → i < length ps → p ≡ get_or ps i p → IsSifting test ps i left
-    → test p ≡ true → IsSifting test ps (i + 1) (left ++ p ∷ [])
-sifted_one test ps i left p within item before is = record {
-  all = append_assoc left (p ∷ []) (filter test (drop (i + 1) ps)) ∙ sifted_at test ps i left p true within item before is;
-}
-
-pub sifted_none : (test : Place → Bool) (ps : List Place) (i : ℕ) (left : List Place) (p : Place) → i < length ps → p ≡ get_or ps i p → IsSifting test ps i left
-    → test p ≡ false → IsSifting test ps (i + 1) left
-sifted_none test ps i left p within item before is = record { all = sifted_at test ps i left p false within item before is }
-
-pub sifted_all : (test : Place → Bool) (ps : List Place) (i : ℕ) (left : List Place) → length ps ≤ i → IsSifting test ps i left → left ≡ filter test ps
-sifted_all test ps i left past is =
-    sym (append-nil left) ∙ ap (λ (qs : List Place). left ++ filter test qs) (sym (drop_of_length-le ps past)) ∙ is.all
-
 -- ---- what the one has alone
 
 module _ (n m : Numbering) (ps : List Place) (rise : Rise ps)
@@ -166,10 +142,10 @@ module _ (c : Configuration) (carried : List (Place × ℕ)) (n : Numbering) (ps
   same_elsewhere : (q : Place) → is_one_of q ps ≡ false → contains_key after q ≡ contains_key n q
   same_elsewhere q out = numbers_after_are_exact c carried n q ∙ sym (all q out)
 
-  -- what was freed
-  pub freed_is : filter (λ (row : Place × ℕ). not (contains_key after row.0)) (numbers_at n ps) ≡ freed_numbers n after
-  freed_is = alone_is n after ps rise same_elsewhere
+  -- what was freed: the numbers at those of the places that aren't reached
+  pub freed_is : numbers_at n (unreached c ps) ≡ freed_numbers n after
+  freed_is = sym (λ i. numbers_at n (filter (λ p. not (numbers_after_are_exact c carried n p i)) ps)) ∙ alone_at n after ps rise same_elsewhere
 
   -- what was given
-  pub given_is : numbers_at after (filter (λ p. not (contains_key n p)) ps) ≡ freed_numbers after n
+  pub given_is : numbers_at after (unnumbered n ps) ≡ freed_numbers after n
   given_is = alone_at after n ps rise (λ q out. sym (same_elsewhere q out))

@@ -19,7 +19,7 @@ use Rattle.iocm_model.proofs.Numbers.Cells.{IsApart, place, has_number}
 use Rattle.iocm_model.proofs.Numbers.Apart.{IsFreeFor, step_by, one_cell, free_for_carried}
 use Rattle.iocm_model.proofs.Numbers.Changed.{comes_new, comes_reached, other_place}
 use Rattle.iocm_numbers.specs.Numbered.{Numbered, cell_at, HasSameRoom, KeepsRoom}
-use Rattle.iocm_numbers.specs.Renumbering.{left_by, filled_by, ChangesComersAlone}
+use Rattle.iocm_numbers.specs.Renumbering.{filled_by, ChangesComersAlone}
 
 -- one step more
 fold_open : {A B : Type 0} (f : B → A → B) (b : B) (xs : List A) (i : ℕ) (x : A) → i < length xs → x ≡ get_or xs i x
@@ -29,23 +29,6 @@ fold_open f b xs i x within item = ap (fold f b) (sym (drop-item xs i x within i
 -- no step is left
 fold_done : {A B : Type 0} (f : B → A → B) (b : B) (xs : List A) (i : ℕ) → length xs ≤ i → fold f b (drop i xs) ≡ b
 fold_done f b xs i past = ap (fold f b) (drop_of_length-le xs past)
-
--- ---- those that leave
-
-pub record IsLeaving (c : Configuration) (touched : List Place) (i : ℕ) (start now : Numbered) : Type 0 where
-  pub left : fold (left_by c) now.numbers (drop i touched) ≡ fold (left_by c) start.numbers touched
-  pub room : HasSameRoom now start
-
-pub leaves_one : (c : Configuration) (touched : List Place) (i : ℕ) (start now next : Numbered) (p : Place) → i < length touched → p ≡ get_or touched i p
-    → IsLeaving c touched i start now → next.numbers ≡ left_by c now.numbers p → HasSameRoom next now → IsLeaving c touched (i + 1) start next
-leaves_one c touched i start now next p within item before is room = record {
-  left = ap (λ (m : Numbering). fold (left_by c) m (drop (i + 1) touched)) is ∙ fold_open (left_by c) now.numbers touched i p within item ∙ before.left;
-  room = record { same_places = room.same_places ∙ before.room.same_places; same_cells = room.same_cells ∙ before.room.same_cells };
-}
-
-pub left_all : (c : Configuration) (touched : List Place) (i : ℕ) (start now : Numbered) → length touched ≤ i → IsLeaving c touched i start now
-    → now.numbers ≡ fold (left_by c) start.numbers touched
-left_all c touched i start now past is = sym (fold_done (left_by c) now.numbers touched i past) ∙ is.left
 
 -- ---- those that come in
 

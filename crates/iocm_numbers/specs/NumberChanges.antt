@@ -1,10 +1,8 @@
 -- What a change of the configuration did to the numbers: which number cells have another device
 -- now, and which had and have them.
-use Rattle.std.specs.Prelude.{◌≡◌, ◌==◌, ℕ, List, Option, Some, None, map}
-use Rattle.std.specs.FinMap.{FinMap, insert}
+use Rattle.std.specs.Prelude.{◌≡◌, ◌==◌, ◌++◌, ℕ, List, Option, Some, None, map}
 use Rattle.iocm_types.specs.declared.place.Place.{Place}
 use Rattle.iocm_types.specs.declared.place.NumberCell.{NumberCell}
-use Rattle.iocm_types.specs.Place.{cell_cmp}
 use Rattle.iocm_model.specs.Machine.Numbering.{Numbering, cells_of, device_at}
 use Rattle.iocm_model.specs.Change.Inverse.{freed_numbers}
 use Rattle.iocm_model.specs.Change.Maps.{differing}
@@ -28,17 +26,17 @@ pub record WereBefore (n m : Numbering) (freed given : List (Place × ℕ)) : Ty
   pub gone : freed ≡ freed_numbers n m
   pub come : given ≡ freed_numbers m n
 
--- number cells with the devices that had them before a change, if one had
-abbrev pub Holders : Type 0
-Holders = FinMap cell_cmp (Option ℕ)
+-- the number cell of a row that was freed, with the device that had it
+abbrev pub freed_cell : Place × ℕ → NumberCell × Option ℕ
+freed_cell row = (cell_at row.0 row.1, Some row.0.device)
 
--- with the cell of a row that was given, as one that no device had
-abbrev pub with_given : Holders → Place × ℕ → Holders
-with_given holders row = insert holders (cell_at row.0 row.1) None
+-- the number cell of a row that was given, as one that no device had
+abbrev pub given_cell : Place × ℕ → NumberCell × Option ℕ
+given_cell row = (cell_at row.0 row.1, None)
 
--- with the cell of a row that was freed
-abbrev pub with_freed : Holders → Place × ℕ → Holders
-with_freed holders row = insert holders (cell_at row.0 row.1) (Some row.0.device)
+-- both, those that were freed first
+abbrev pub noted_cells : List (Place × ℕ) → List (Place × ℕ) → List (NumberCell × Option ℕ)
+noted_cells freed given = map freed_cell freed ++ map given_cell given
 
 -- a cell of these, with the device that has it now
 abbrev pub change_from : Numbering → NumberCell × Option ℕ → NumberChange

@@ -1,9 +1,9 @@
 -- The three steps of numbering after a change, at the places that it may touch.
-use Rattle.std.specs.Prelude.{◌≡◌, ℕ, Bool, true, false, not, ◌&&◌, if◌then◌else◌, List, [], ◌∷◌, fold}
+use Rattle.std.specs.Prelude.{◌≡◌, ℕ, Bool, true, false, not, ◌&&◌, if◌then◌else◌, List, [], ◌∷◌, fold, filter}
 use Rattle.std.specs.List.{list_any}
 use Rattle.std.specs.Ordering.{eq_by_cmp}
 use Rattle.std.specs.declared.cmp.Ordering.TheVariants.{Less}
-use Rattle.std.specs.FinMap.{get, remove, contains_key}
+use Rattle.std.specs.FinMap.{get, contains_key}
 use Rattle.iocm_types.specs.declared.place.Place.{Place}
 use Rattle.iocm_types.specs.Place.{place_cmp}
 use Rattle.iocm_model.specs.Machine.Configuration.{Configuration}
@@ -14,9 +14,13 @@ use Rattle.iocm_model.specs.Change.Renumbering.{with_carried, with_lowest}
 abbrev pub needs_number : Configuration → Numbering → Place → Bool
 needs_number c n p = is_reached_at c p && not (contains_key n p)
 
--- a device that isn't reached at a place loses its number
-abbrev pub left_by : Configuration → Numbering → Place → Numbering
-left_by c n p = if is_reached_at c p then n else remove n p
+-- those of these places at which no device is reached: a device that has a number there loses it
+abbrev pub unreached : Configuration → List Place → List Place
+unreached c ps = filter (λ p. not (is_reached_at c p)) ps
+
+-- those of these places that have no number
+abbrev pub unnumbered : Numbering → List Place → List Place
+unnumbered n ps = filter (λ p. not (contains_key n p)) ps
 
 -- a device that is reached at a place and has no number there gets the lowest free one
 abbrev pub filled_by : Configuration → Numbering → Place → Numbering

@@ -23,7 +23,7 @@ impl<A: Allocator> Numbers<A> {
     }
 
     /// Takes the numbers at the places of these rows back.
-    fn free_rows(&mut self, rows: &[(Place, u16)])
+    pub(crate) fn free_rows(&mut self, rows: &[(Place, u16)])
         ensures numbers { self.new.numbers ≡ without_rows self.old.numbers rows.now }
         ensures room { HasSameRoom self.new self.old }
     {

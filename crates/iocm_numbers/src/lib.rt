@@ -11,8 +11,9 @@
 //!
 //! Begin with `numbers.rt`; `bits.rt` has the bits, `first_numbers.rt` the numbers at opening,
 //! `first_cells.rt` their cells, and `place_walk.rt` which places are reached. `taken.rt` has which
-//! carried numbers are taken, `renumber.rt` the numbers after a change, `changes.rt` what it did to
-//! them, and `exchange.rt` how a change is taken back. What names no source is our own.
+//! carried numbers are taken, and `sifted.rt` which numbers a change takes away and which places
+//! have none. `renumber.rt` has the numbers after the change, `changes.rt` what it did to them, and
+//! `exchange.rt` how it is taken back. What names no source is our own.
 #![tactic(auto)]
 
 mod bits;
@@ -34,6 +35,7 @@ mod put_back;
 mod reached;
 mod renumber;
 mod renumbered;
+mod sifted;
 mod taken;
 
 pub use first_cells::opening_cells;

@@ -1,5 +1,5 @@
-ghost use Rattle.std.specs.Prelude.{◌≡◌, [], ◌∷◌, fold, filter, not, IfOk};
-ghost use Rattle.std.specs.FinMap.{contains_key, remove};
+ghost use Rattle.std.specs.Prelude.{◌≡◌, [], ◌∷◌, fold, IfOk};
+ghost use Rattle.std.specs.FinMap.{remove};
 ghost use Rattle.iocm_numbers.specs.Numbered.{HasSameRoom};
 ghost use Rattle.iocm_numbers.specs.PutBack as spec;
 ghost use Rattle.iocm_numbers.specs.PutBack.{put_in, FitIn, HaveRoom};
@@ -24,34 +24,6 @@ impl<A: Allocator> Numbers<A> {
             }
         }
         Ok(rows)
-    }
-
-    /// Of these places those that have no number.
-    pub(crate) fn unnumbered_at<B: Allocator>(
-        &self,
-        alloc: B,
-        places: &[Place],
-    ) -> Result<Vec<Place, B>, AllocError>
-        ensures { IfOk result (λ left. left.items ≡ filter (λ p. not (contains_key self.now.numbers p)) places.now) }
-    {
-        let mut left = Vec::new(alloc);
-        for place in places {
-            if self.number_of(*place).is_none() {
-                left.push(*place)?;
-            }
-        }
-        Ok(left)
-    }
-
-    /// Of these rows those whose places have no number. Can't run out of memory.
-    pub(crate) fn unnumbered_of<B: Allocator>(
-        &self,
-        mut rows: Vec<(Place, u16), B>,
-    ) -> Vec<(Place, u16), B>
-        ensures { result.items ≡ filter (λ row. not (contains_key self.now.numbers row.0)) rows.items }
-    {
-        rows.retain(|row| self.number_of(row.0).is_none());
-        rows
     }
 
     /// Takes the numbers at these places back.

@@ -3,9 +3,9 @@ ghost use Rattle.iocm_model.specs.Machine.Numbering.{device_at};
 ghost use Rattle.iocm_model.specs.Change.Renumbering.{without_leavers, with_carried, numbers_after};
 ghost use Rattle.iocm_model.specs.Change.Refusal.{is_number_taken};
 ghost use Rattle.iocm_model.specs.Change.Inverse.{freed_numbers};
-ghost use Rattle.iocm_numbers.specs.Numbered.{cell_at, HasSameRoom, KeepsRoom};
+ghost use Rattle.iocm_numbers.specs.Numbered.{cell_at, KeepsRoom};
 ghost use Rattle.iocm_numbers.specs.PutBack.{numbers_at};
-ghost use Rattle.iocm_numbers.specs.Renumbering.{left_by, filled_by, given_by, needs_number};
+ghost use Rattle.iocm_numbers.specs.Renumbering.{filled_by, given_by, needs_number};
 ghost use Rattle.iocm_numbers.specs.Renumbering.{AreAllTouched, ChangesComersAlone, Rise};
 
 use crate::place_walk::PlaceWalk;
@@ -47,28 +47,28 @@ impl<A: Allocator> Numbers<A> {
         config.has_own_keys();
         self.are_apart();
         self.have_room();
-        let before = self.numbers_at(alloc, touched)?;
-        let without = self.unnumbered_at(alloc, touched)?;
-        self.leave(config, touched);
-        match self.give_listed(alloc, config, touched, carried, without.as_slice()) {
+        let sifted = self.sift(alloc, config, touched)?;
+        self.free_rows(sifted.leaving.as_slice());
+        let unnumbered = sifted.unnumbered.as_slice();
+        match self.give_listed(alloc, config, carried, unnumbered) {
             Ok(given) => Ok(Renumbered {
-                freed: self.unnumbered_of(before),
+                freed: sifted.leaving,
                 given,
             }),
             Err(error) => {
-                self.free_all(touched);
-                self.place_all(before.as_slice());
+                self.free_all(unnumbered);
+                self.place_all(sifted.leaving.as_slice());
                 Err(error)
             }
         }
     }
 
-    /// The second and the third step, and the numbers that some places have then.
+    /// The second and the third step, and the numbers that the listed places have then. All places
+    /// at which a device comes in are listed.
     fn give_listed<B: Allocator, C: Allocator>(
         &mut self,
         alloc: C,
         config: &Config<B>,
-        touched: &[Place],
         carried: &[(Place, u16)],
         listed: &[Place],
     ) -> Result<Vec<(Place, u16), C>, AllocError>
@@ -77,12 +77,12 @@ impl<A: Allocator> Numbers<A> {
         requires stay { without_leavers config.now.records self.old.numbers ≡ self.old.numbers }
         requires free { is_number_taken config.now.records self.old.numbers carried.now ≡ false }
         ensures numbers { OnOk result (self.new.numbers
-            ≡ given_by config.now.records carried.now touched.now self.old.numbers) }
+            ≡ given_by config.now.records carried.now listed.now self.old.numbers) }
         ensures others { ChangesComersAlone config.now.records self.old.numbers self.new.numbers }
         ensures room { KeepsRoom self.old self.new }
         ensures listed { IfOk result (λ rows. rows.items ≡ numbers_at self.new.numbers listed.now) }
     {
-        self.give(config, touched, carried)?;
+        self.give(config, listed, carried)?;
         self.numbers_at(alloc, listed)
     }
 
@@ -104,28 +104,6 @@ impl<A: Allocator> Numbers<A> {
     {
         self.carry(config, carried)?;
         self.fill(config, touched)
-    }
-
-    /// The first step: devices at these places that aren't reached lose their numbers.
-    fn leave<B: Allocator>(&mut self, config: &Config<B>, touched: &[Place])
-        ensures numbers { self.new.numbers ≡ fold (left_by config.now.records) self.old.numbers touched.now }
-        ensures room { HasSameRoom self.new self.old }
-    {
-        let mut walk = PlaceWalk::new(config);
-        for place in touched {
-            self.leave_one(&mut walk, place);
-        }
-    }
-
-    /// A device that isn't reached loses its number.
-    fn leave_one<B: Allocator>(&mut self, walk: &mut PlaceWalk<'_, B>, place: &Place)
-        ensures numbers { self.new.numbers ≡ left_by walk.old self.old.numbers place.now }
-        ensures room { HasSameRoom self.new self.old }
-        ensures same { walk.new ≡ walk.old }
-    {
-        if !walk.is_reached(place) {
-            let _ = self.free(*place);
-        }
     }
 
     /// The second step: devices that come in and have a number carried along get it.

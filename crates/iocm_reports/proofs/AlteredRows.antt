@@ -33,7 +33,7 @@ use Rattle.iocm_activate.specs.Told.{Told, told_of_all}
 use Rattle.iocm_reports.specs.Altered.{altered_rows}
 use Rattle.iocm_reports.specs.First.{seen_before, seen_before_edits, row_of}
 use Rattle.iocm_reports.specs.ImageOrder.{SeenRow}
-use Rattle.iocm_reports.proofs.FirstRows.{in_order}
+use Rattle.iocm_numbers.proofs.FirstOfEach.{in_order}
 
 from_cond : {A : Type 0} (b : Bool) (x v : A) → cond b (Some x) None ≡ Some v → v ≡ x
 from_cond true x v h = cc

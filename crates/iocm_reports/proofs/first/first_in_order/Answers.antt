@@ -8,7 +8,7 @@ use Rattle.std.proofs.lemmas.Fn.{dedup_same}
 use Rattle.std.proofs.lemmas.List.Sorted.{answers_always}
 use Rattle.iocm_types.specs.KeyOrder.{sub_ids_exact, sub_ids_total}
 use Rattle.iocm_types.specs.SubId.{sub_id_cmp}
-use Rattle.iocm_reports.proofs.FirstRows.{first_is_found, first_is_kept, have_one_key, is_below, once_rise, ranks}
+use Rattle.iocm_numbers.proofs.FirstOfEach.{first_is_found, first_is_kept, have_one_key, is_below, once_rise, ranks}
 use Rattle.iocm_reports.proofs.first.first_in_order.Goals as goal
 
 pub returns-clause-first : goal.returns-clause-first

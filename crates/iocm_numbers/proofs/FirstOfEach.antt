@@ -15,7 +15,7 @@ use Rattle.std.specs.declared.cmp.Ordering.{Ordering}
 use Rattle.std.specs.declared.cmp.Ordering.TheVariants.{Less, Equal, Greater}
 use Rattle.iocm_types.proofs.Found.{same_key}
 use Rattle.iocm_types.proofs.Tests.{both_hold}
-use Rattle.iocm_reports.proofs.Passing.{finds_passing}
+use Rattle.iocm_numbers.proofs.Passing.{finds_passing}
 
 less_is : (r : Ordering) → is_lt r ≡ true → r ≡ Less
 less_is Less h = refl
