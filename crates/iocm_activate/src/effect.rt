@@ -172,7 +172,8 @@ fn list_subchannels(listed: &mut Vec<SubId>, changes: &[ViewChange]) -> Result<(
 {
     listed.reserve(changes.len())?;
     for change in changes {
-        listed.push(change.subchannel)?;
+        listed.reserve(1)?;
+        listed.push_reserved(change.subchannel);
     }
     Ok(())
 }
@@ -188,7 +189,8 @@ fn list_lives(
 {
     let mut listed = Vec::with_capacity(alloc, subchannels.len())?;
     for subchannel in subchannels {
-        listed.push((*subchannel, plant.live(*subchannel)))?;
+        listed.reserve(1)?;
+        listed.push_reserved((*subchannel, plant.live(*subchannel)));
     }
     Ok(listed)
 }

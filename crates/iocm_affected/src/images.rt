@@ -114,9 +114,10 @@ fn list_if_chosen<A: Allocator, B: Allocator, C: Choice>(
     if !choice.has(*css, *name) {
         return Ok(());
     }
-    images.push(Image {
+    images.reserve(1)?;
+    images.push_reserved(Image {
         css: *css,
         mif: *mif,
-    })?;
+    });
     Ok(())
 }

@@ -39,7 +39,7 @@ same_candidates i sights =
 
 -- ---- side by side
 
--- those that are behind a cell of a channel subsystem, or of a later one
+-- a number cell is of this channel subsystem, or of a later one
 abbrev IsFrom : ℕ → SightedCell → Type 0
 IsFrom css s = css ≤ s.cell.css
 

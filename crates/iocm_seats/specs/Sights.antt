@@ -16,13 +16,14 @@ cells_of_sights sights = map (λ (s : SightedCell). s.cell) sights
 abbrev pub AreSights : Configuration → Numbering → List SightedCell → Type 0
 AreSights c n sights = AllByRecursion (λ (s : SightedCell). s ≡ sighted_cell c n s.cell) sights
 
--- a number cell is of this channel subsystem, and of one before it
+-- whether a number cell is of this channel subsystem, or of one before it
 abbrev pub is_in : ℕ → SightedCell → Bool
 is_in css s = s.cell.css == css
 
 abbrev pub is_before : ℕ → SightedCell → Bool
 is_before css s = nat_lt s.cell.css css
 
+-- a number cell is of this channel subsystem
 abbrev pub IsIn : ℕ → SightedCell → Type 0
 IsIn css s = s.cell.css ≡ css
 
@@ -34,7 +35,6 @@ sights_in css sights = filter (is_in css) sights
 abbrev pub has_device : SightedCell → Bool
 has_device s = is_some s.device
 
--- this is the name of an image, if it is there, where there is a device at a number cell of its
--- channel subsystem
+-- where a number cell has a device, this is the name of an image, if it is there
 abbrev pub IsNamedAt : Image → Option (List ℕ) → SightedCell → Type 0
 IsNamedAt i name s = has_device s ≡ true → name ≡ name_at (lookup_of s.records) i

@@ -258,12 +258,14 @@ fn list_seated<D: Allocator>(
     if is_same(before.as_ref(), after.as_ref()) {
         return Ok(());
     }
-    altered.met.push((*subchannel, seat.live()))?;
-    altered.changes.push(ViewChange {
+    altered.met.reserve(1)?;
+    altered.changes.reserve(1)?;
+    altered.met.push_reserved((*subchannel, seat.live()));
+    altered.changes.push_reserved(ViewChange {
         subchannel: *subchannel,
         before,
         after,
-    })?;
+    });
     Ok(())
 }
 
@@ -281,11 +283,12 @@ fn list_new<D: Allocator>(
     if after.is_none() {
         return Ok(());
     }
-    altered.changes.push(ViewChange {
+    altered.changes.reserve(1)?;
+    altered.changes.push_reserved(ViewChange {
         subchannel: *subchannel,
         before: None,
         after,
-    })?;
+    });
     Ok(())
 }
 

@@ -56,7 +56,8 @@ pub fn list_left<B: Allocator>(
     let mut listed = Vec::with_capacity(alloc, count)?;
     for change in changes {
         if let Some(view) = &change.after {
-            listed.push((change.subchannel, fresh(view.pim)))?;
+            listed.reserve(1)?;
+            listed.push_reserved((change.subchannel, fresh(view.pim)));
         }
     }
     Ok(listed)

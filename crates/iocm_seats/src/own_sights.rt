@@ -1,4 +1,4 @@
-ghost use Rattle.std.specs.Prelude.{◌≡◌, ◌==◌, ◌<◌, length, filter, true};
+ghost use Rattle.std.specs.Prelude.{◌≡◌, length, filter};
 ghost use Rattle.std.specs.List.Sorted.{IsStrictlySortedBy};
 ghost use Rattle.iocm_types.specs.Place.{cell_cmp};
 ghost use Rattle.iocm_seats.specs.Sights.{cells_of_sights, is_in, is_before, sights_in};

@@ -51,8 +51,8 @@ fn make_place<A: Allocator + Clone>(
 
 /// Gives each subchannel of these changes the seat that it has afterwards: none where nothing is
 /// seen any more, else the view with the live record that comes along for it, or with a fresh one
-/// where it is new, or with its own. Each that comes along is found by binary search. Can't run out
-/// of memory.
+/// where it is new, or with its own. Those that come along mostly stand as the changes do, and are
+/// met one after the other. Can't run out of memory.
 pub fn settle_all<A: Allocator>(
     seats: &mut Seats<A>,
     changes: &[ViewChange],
@@ -63,12 +63,23 @@ pub fn settle_all<A: Allocator>(
     ensures seats { seats.new.seats ≡ settled_all (from_sorted kept.now) seats.old.seats changes.now }
     ensures places { seats.new.places ≡ seats.old.places }
 {
+    let mut near = 0usize;
     for change in changes {
-        settle(
-            seats,
-            change,
-            value_under(kept, &change.subchannel).copied(),
-        );
+        let own = live_near(kept, near, &change.subchannel);
+        near = near.wrapping_add(usize::from(own.is_some()));
+        settle(seats, change, own);
+    }
+}
+
+/// The live record that comes along for a subchannel, if one does. It is first looked for at the
+/// place `near` of those that come along, and then by binary search.
+fn live_near(kept: &[(SubId, Live)], near: usize, subchannel: &SubId) -> Option<Live>
+    requires { T (is_sorted sub_id_cmp kept.now) }
+    ensures { result ≡ get (from_sorted {R = sub_id_cmp} kept.now) subchannel.now }
+{
+    match kept.get(near) {
+        Some(row) if row.0.order(*subchannel).is_eq() => Some(row.1),
+        _ => value_under(kept, subchannel).copied(),
     }
 }
 

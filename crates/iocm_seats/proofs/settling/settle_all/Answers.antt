@@ -18,7 +18,7 @@ loop-change-preserved g c =
     let rest = drop (c.loop-change.change-index + 1) c.args.changes.now in record {
       left = ap (λ (m : Seats). fold (settled kept) m rest) (c.settle.ensures.seats
           ∙ ap (λ (o : Option Live). with_value c.loop-change.seats.seats c.change-item.result.subchannel
-          (seat_after (get c.loop-change.seats.seats c.change-item.result.subchannel) c.change-item.result.after o)) (c.copied.ensures ∙ c.value_under.ensures))
+          (seat_after (get c.loop-change.seats.seats c.change-item.result.subchannel) c.change-item.result.after o)) c.live_near-own.ensures)
           ∙ fold_open (settled kept) c.loop-change.seats.seats c.args.changes.now c.loop-change.change-index c.change-item.result c.loop-change-test.true c.change-item.is
           ∙ c.loop-change.invariant.left;
       ready = subst (λ (ps : List SubId). AllByRecursion (λ (ch : ViewChange). T (list_any (eq_by_cmp sub_id_cmp ch.subchannel) ps)) rest) (sym c.settle.ensures.places)
