@@ -33,7 +33,7 @@ use Rattle.iocm_seats.specs.Changes.{subchannel_at, candidates}
 
 -- ---- a subchannel of an image and a cell that are looked at is a candidate
 
-or_first : (a b : Bool) → a ≡ true → (a || b) ≡ true
+pub or_first : (a b : Bool) → a ≡ true → (a || b) ≡ true
 or_first true b h = refl
 or_first false b h = cc
 

@@ -37,11 +37,7 @@ use Rattle.iocm_seats.specs.Settling.{AreSeen}
 use Rattle.iocm_seats.proofs.Ordered.{seen_is}
 use Rattle.iocm_plant.specs.declared.following.LookedAt.{LookedAt}
 use Rattle.iocm_plant.specs.Following.{WasChanged, WasRenumbered, cells_given}
-use Rattle.iocm_plant.proofs.Candidates.{AreLookedAt, looked_for}
-
-or_left : (a b : Bool) → a ≡ true → (a || b) ≡ true
-or_left true b h = refl
-or_left false b h = cc
+use Rattle.iocm_plant.proofs.Candidates.{AreLookedAt, looked_for, or_first}
 
 less_of : (p q : Place) (ps : List Place) → AllByRecursion (λ y. place_cmp p y ≡ Less) ps → list_any (eq_by_cmp place_cmp q) ps ≡ true
     → place_cmp p q ≡ Less
@@ -88,7 +84,7 @@ found_given p k (row ∷ rows) is = by (eq_by_cmp place_cmp p row.0) refl is (fo
     by true tied is more =
         let place : p ≡ row.0 = same_key place_cmp places_exact p row.0 tied in
         let number : row.1 ≡ k = cc in
-        or_left _ _ (ap (eq_by_cmp cell_cmp (cell_at p k)) (λ i. cell_at (sym place i) (number i)) ∙ ties_itself cell_cmp cells_total (cell_at p k))
+        or_first _ _ (ap (eq_by_cmp cell_cmp (cell_at p k)) (λ i. cell_at (sym place i) (number i)) ∙ ties_itself cell_cmp cells_total (cell_at p k))
     by false tied is more = or_right _ _ (more is)
 
 -- the cell of a place that has a number now and had none is among them
@@ -130,7 +126,7 @@ all_looked_at d m seats at given sorted was same x differ =
 
     from_before : (p : Place) (k : ℕ) → list_any (eq_by_cmp place_cmp p) places ≡ true → get was.first p ≡ Some k → is_there p k
     from_before p k among has = among_both (cell_at p k)
-        ∙ or_left (list_any (eq_by_cmp cell_cmp (cell_at p k)) cells) (list_any (eq_by_cmp cell_cmp (cell_at p k)) (cells_given given))
+        ∙ or_first (list_any (eq_by_cmp cell_cmp (cell_at p k)) cells) (list_any (eq_by_cmp cell_cmp (cell_at p k)) (cells_given given))
         (ap (list_any (eq_by_cmp cell_cmp (cell_at p k))) was.changed.cells_are ∙ cells_are_listed was.first places p k among has)
 
     -- a place that has a number now had it before, or was given it
