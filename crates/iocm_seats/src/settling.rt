@@ -51,8 +51,8 @@ fn make_place<A: Allocator + Clone>(
 
 /// Gives each subchannel of these changes the seat that it has afterwards: none where nothing is
 /// seen any more, else the view with the live record that comes along for it, or with a fresh one
-/// where it is new, or with its own. Those that come along mostly stand as the changes do, and are
-/// met one after the other. Can't run out of memory.
+/// where it is new, or with its own. Those that come along mostly come in the order of the changes.
+/// So each is first looked for after the one that was found before. Can't run out of memory.
 pub fn settle_all<A: Allocator>(
     seats: &mut Seats<A>,
     changes: &[ViewChange],
