@@ -39,7 +39,8 @@ module _ (value : Place × ℕ → Option ℕ) (expected : NumberCell → Option
   abbrev with_values : List (Place × ℕ) → List (NumberCell × Option ℕ)
   with_values rows = map (λ (row : Place × ℕ). (cell_at row.0 row.1, value row)) rows
 
-  -- where the value of each row is the one expected of its cell, the cells of rows have it
+  -- where the value of each row is the one expected of its cell, a cell of a row is found with it,
+  -- and another cell as it is found in the rest
   find_noted : (rows : List (Place × ℕ)) → AllByRecursion (λ row. value row ≡ expected (cell_at row.0 row.1)) rows → (rest : List (NumberCell × Option ℕ)) (c : NumberCell)
       → find cell_cmp c (with_values rows ++ rest) ≡ cond (list_any (has_cell c) rows) (Some (expected c)) (find cell_cmp c rest)
   find_noted [] all rest c = refl

@@ -8,7 +8,7 @@ use Rattle.std.specs.Option.{option_map}
 use Rattle.std.specs.Ordering.{is_lt, eq_by_cmp}
 use Rattle.std.specs.declared.cmp.Ordering.TheVariants.{Less}
 use Rattle.std.specs.FinMap.{find, get, contains_key, entries, entries_sorted, is_sorted}
-use Rattle.std.specs.FinMap.Entries.{below_all, find-where_key, is_sorted-where_key, same_entries}
+use Rattle.std.specs.FinMap.Entries.{below_all, is_sorted-where_key, same_entries}
 use Rattle.iocm_types.specs.declared.place.Place.{Place}
 use Rattle.iocm_types.specs.Place.{place_cmp}
 use Rattle.iocm_types.specs.KeyOrder.{places_total, places_exact}
@@ -113,19 +113,12 @@ module _ (n m : Numbering) (ps : List Place) (rise : Rise ps)
   alone_by q true is = refl
   alone_by q false is = none_out (get n q) (get m q) (alike q is)
 
-  -- the numbers at these places that the one has alone are all
-  pub alone_is : filter (λ (row : Place × ℕ). not (contains_key m row.0)) (numbers_at n ps) ≡ freed_numbers n m
-  alone_is = same_entries place_cmp places_total places_exact _ _ (is_sorted-where_key place_cmp is_alone (numbers_at n ps) (rows_rise n ps rise))
-      (is_sorted-where_key place_cmp is_alone (entries n) (entries_sorted n)) (λ q.
-      find-where_key place_cmp is_alone q (λ x e. ap is_alone (sym (places_exact q x e))) (numbers_at n ps)
-      ∙ ap (λ o. cond (is_alone q) o None) (find_at n ps q) ∙ alone_by q (is_one_of q ps) refl ∙ sym (back.get_freed n m q))
-
   both_by : (a b : Bool) (x : Option ℕ) → cond (a && b) x None ≡ cond b (cond a x None) None
   both_by true b x = refl
   both_by false true x = refl
   both_by false false x = refl
 
-  -- so are the numbers at those of the places that have none in the other
+  -- the numbers at those of the places that have none in the other are all that the one has alone
   pub alone_at : numbers_at n (filter (λ p. not (contains_key m p)) ps) ≡ freed_numbers n m
   alone_at = same_entries place_cmp places_total places_exact _ _ (rows_rise n (filter is_alone ps) (some_rise is_alone ps rise))
       (is_sorted-where_key place_cmp is_alone (entries n) (entries_sorted n)) (λ q.

@@ -6,7 +6,6 @@ pub mod ChangedCells
 pub mod Counting
 pub mod Differing
 pub mod Exchanging
-pub mod FirstOfEach
 pub mod FirstPlaces
 pub mod FirstRows
 pub mod Gathering
@@ -16,7 +15,6 @@ pub mod OneCarried
 pub mod OneLess
 pub mod OneMore
 pub mod OpeningCells
-pub mod Passing
 pub mod PathsThere
 pub mod Restored
 pub mod Sifting

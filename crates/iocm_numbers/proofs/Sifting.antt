@@ -1,5 +1,5 @@
--- Places that are sifted: what leaves has left, what has no number may come in, and both are put
--- back where memory runs out.
+-- Places that are sifted: which of them lose their numbers, and which have none. Where memory runs
+-- out, the numbers that came in are taken back, and those that left are put back.
 use Rattle.std.proofs.Common.{◌≡◌, ℕ, ◌+◌, ◌<◌, ◌≤◌, Bool, true, false, cond, not, ◌&&◌, List, [], ◌∷◌, ◌++◌, length, get_or, drop, Option, Some, None, is_some, refl, sym, ap, ◌∙◌, append_assoc}
 use Rattle.std.proofs.Math.ListN.{drop_of_length-le}
 use Rattle.std.proofs.lemmas.List.{append-nil}
@@ -99,7 +99,7 @@ module _ (c : Configuration) (n : Numbering) (ps : List Place) (all : AreAllTouc
       ∙ ap (λ b. cond b (get n q) None) (any_filter places_exact q ps (λ p. not (is_reached_at c p))))
       ∙ gone_by (is_one_of q ps) (is_reached_at c q) (get n q) (all q) ∙ sym (get_without c n q))
 
-  -- what is reached and has a number isn't among the places that have none
+  -- a place that is reached and isn't among those without a number has one
   pub numbered : (q : Place) → is_one_of q (unnumbered n ps) ≡ false → is_reached_at c q ≡ true → contains_key n q ≡ true
   numbered q out in_reach = by (is_one_of q ps) (contains_key n q) refl refl
     where

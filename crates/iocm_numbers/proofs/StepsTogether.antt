@@ -1,5 +1,5 @@
--- The steps together are the numbers after the change, and what was changed is at the places that
--- are touched.
+-- The steps together: what leaves has left once, the same numbers come in afterwards, and room that
+-- was made is there. Places that rise are apart.
 use Rattle.std.proofs.Common.{◌≡◌, ℕ, Bool, true, false, cond, not, ◌&&◌, ◌||◌, List, [], ◌∷◌, Option, Some, None, is_some, T, refl, sym, ap, subst, ◌∙◌}
 use Rattle.std.specs.List.{fold, list_any, filter}
 use Rattle.std.specs.Ordering.{eq_by_cmp, is_eq}

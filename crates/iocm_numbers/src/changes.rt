@@ -1,17 +1,11 @@
-ghost use Rattle.std.specs.Prelude.{◌≡◌, List, [], ◌∷◌, ◌++◌, ℕ, map, fold, IfOk, OnOk};
-ghost use Rattle.std.specs.FinMap.{find};
-ghost use Rattle.std.specs.List.Sorted.{IsStrictlySortedBy};
-ghost use Rattle.std.specs.Map.{keys_of};
-ghost use Rattle.iocm_types.specs.Place.{cell_cmp};
-ghost use Rattle.iocm_types.specs.declared.place.NumberCell as number_cell;
+ghost use Rattle.std.specs.Prelude.{◌≡◌, map, IfOk};
 ghost use Rattle.iocm_model.specs.Machine.Numbering.{Numbering};
 ghost use Rattle.iocm_numbers.specs.NumberChanges.{changes_between, change_from, noted_cells, WereBefore};
 
 use crate::numbers::cell_of;
 use crate::{NumberChange, Numbers};
-use iocm_types::{DevNo, NumberCell, Place};
+use iocm_types::{DevNo, NumberCell, Place, first_in_order};
 use std::alloc::{AllocError, Allocator};
-use std::cmp::Ordering;
 
 impl<A: Allocator> Numbers<A> {
     /// The number cells that a change of the configuration changed, by channel subsystem, set and
@@ -74,27 +68,4 @@ fn note_cells<B: Allocator>(
         noted.push((cell_of(&row.0, row.1), None))?;
     }
     Ok(noted)
-}
-
-/// The number cells in order, each once, as it was listed first. A stable sort leaves rows of one
-/// cell as they were listed. Rows that are in order, as those of one device are, are only looked
-/// through.
-fn first_in_order<B: Allocator>(
-    noted: Vec<(NumberCell, Option<DevNo>), B>,
-) -> Result<Vec<(NumberCell, Option<DevNo>), B>, AllocError>
-    ensures first { IfOk result
-        (λ once. (c : number_cell.NumberCell) → find cell_cmp c once.items ≡ find cell_cmp c noted.items) }
-    ensures order { IfOk result (λ once. IsStrictlySortedBy cell_cmp (keys_of once.items)) }
-{
-    let mut once = noted;
-    once.sort_by(|row, other| cell_order(&row.0, &other.0))?;
-    once.dedup_by(|row, kept| cell_order(&row.0, &kept.0).is_eq());
-    Ok(once)
-}
-
-/// By channel subsystem, set and number.
-fn cell_order(cell: &NumberCell, other: &NumberCell) -> Ordering
-    ensures { result ≡ cell_cmp cell.now other.now }
-{
-    cell.cmp(other)
 }

@@ -90,7 +90,7 @@ impl<A: Allocator> Numbers<A> {
     fn give<B: Allocator>(
         &mut self,
         config: &Config<B>,
-        touched: &[Place],
+        places: &[Place],
         carried: &[(Place, u16)],
     ) -> Result<(), AllocError>
     where
@@ -98,12 +98,12 @@ impl<A: Allocator> Numbers<A> {
         requires stay { without_leavers config.now.records self.old.numbers ≡ self.old.numbers }
         requires free { is_number_taken config.now.records self.old.numbers carried.now ≡ false }
         ensures numbers { OnOk result (self.new.numbers
-            ≡ given_by config.now.records carried.now touched.now self.old.numbers) }
+            ≡ given_by config.now.records carried.now places.now self.old.numbers) }
         ensures others { ChangesComersAlone config.now.records self.old.numbers self.new.numbers }
         ensures room { KeepsRoom self.old self.new }
     {
         self.carry(config, carried)?;
-        self.fill(config, touched)
+        self.fill(config, places)
     }
 
     /// The second step: devices that come in and have a number carried along get it.
@@ -156,20 +156,16 @@ impl<A: Allocator> Numbers<A> {
 
     /// The third step: the rest of those that come in get the lowest free numbers, in the order of
     /// these places.
-    fn fill<B: Allocator>(
-        &mut self,
-        config: &Config<B>,
-        touched: &[Place],
-    ) -> Result<(), AllocError>
+    fn fill<B: Allocator>(&mut self, config: &Config<B>, places: &[Place]) -> Result<(), AllocError>
     where
         A: Clone,
         ensures numbers { OnOk result
-            (self.new.numbers ≡ fold (filled_by config.now.records) self.old.numbers touched.now) }
+            (self.new.numbers ≡ fold (filled_by config.now.records) self.old.numbers places.now) }
         ensures others { ChangesComersAlone config.now.records self.old.numbers self.new.numbers }
         ensures room { KeepsRoom self.old self.new }
     {
         let mut walk = PlaceWalk::new(config);
-        for place in touched {
+        for place in places {
             self.fill_one(&mut walk, place)?;
         }
         Ok(())

@@ -33,7 +33,7 @@ use Rattle.iocm_activate.specs.Told.{Told, told_of_all}
 use Rattle.iocm_reports.specs.Altered.{altered_rows}
 use Rattle.iocm_reports.specs.First.{seen_before, seen_before_edits, row_of}
 use Rattle.iocm_reports.specs.ImageOrder.{SeenRow}
-use Rattle.iocm_numbers.proofs.FirstOfEach.{in_order}
+use Rattle.iocm_types.proofs.InOrder.{rows_sorted}
 
 from_cond : {A : Type 0} (b : Bool) (x v : A) → cond b (Some x) None ≡ Some v → v ≡ x
 from_cond true x v h = cc
@@ -124,7 +124,7 @@ pub rows_are : (performed : List Touched) (rows : List SeenRow) → IsStrictlySo
 rows_are performed rows rise is es s t told =
     let xs = (cells_written_by_all es s).subchannels in
     let cells = cells_at (views_in s) xs in
-    let same : rows ≡ entries cells = same_entries sub_id_cmp sub_ids_total sub_ids_exact rows (entries cells) (in_order sub_id_cmp rows rise) (entries_sorted cells)
+    let same : rows ≡ entries cells = same_entries sub_id_cmp sub_ids_total sub_ids_exact rows (entries cells) (rows_sorted sub_id_cmp rows rise) (entries_sorted cells)
     (λ x. is x ∙ ap (find sub_id_cmp x) (told_is performed (told_of_all es s) told) ∙ first_is es s x ∙ sym (get_cells_at sub_ids_total sub_ids_exact (views_in s) xs x) ∙ get-entries cells x) in
     ap (map (row_of t)) same
     ∙ ap (map (row_of t)) (cells_rows sub_ids_total sub_ids_exact (views_in s) xs)

@@ -6,7 +6,7 @@ ghost use Rattle.iocm_types.specs.SubId.{sub_id_cmp};
 ghost use Rattle.iocm_types.specs.declared.sub_id.SubId as subchannels;
 
 use crate::image_order::in_image_order;
-use iocm_types::{SubId, View};
+use iocm_types::{SubId, View, first_in_order};
 use std::alloc::{AllocError, Global};
 
 /// What is listed by subchannel, in order, each once: of what is listed of one subchannel the
@@ -38,19 +38,4 @@ fn do_rise(rows: &[(SubId, Option<View>)]) -> bool
     ensures { MatchBool result (IsStrictlySortedBy sub_id_cmp (keys_of rows.now)) ⊤ }
 {
     rows.is_sorted_by(|row, next| row.0.order(next.0).is_lt())
-}
-
-/// The rows in the order of subchannels, the first of each. A stable sort leaves those of one
-/// subchannel as they were listed.
-fn first_in_order(
-    rows: Vec<(SubId, Option<View>)>,
-) -> Result<Vec<(SubId, Option<View>)>, AllocError>
-    ensures first { IfOk result
-        (λ once. (x : subchannels.SubId) → find sub_id_cmp x once.items ≡ find sub_id_cmp x rows.items) }
-    ensures order { IfOk result (λ once. IsStrictlySortedBy sub_id_cmp (keys_of once.items)) }
-{
-    let mut once = rows;
-    once.sort_by(|row, other| row.0.order(other.0))?;
-    once.dedup_by(|row, kept| row.0.order(kept.0).is_eq());
-    Ok(once)
 }

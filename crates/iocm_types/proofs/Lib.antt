@@ -1,6 +1,7 @@
 pub mod Any
 pub mod Each
 pub mod Entries
+pub mod FirstOfEach
 pub mod Found
 pub mod Giving
 pub mod InOrder
@@ -11,5 +12,6 @@ pub mod Once
 pub mod Orderings
 pub mod Padding
 pub mod Parts
+pub mod Passing
 pub mod Searched
 pub mod Tests

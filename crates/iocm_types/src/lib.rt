@@ -72,7 +72,7 @@ pub use rule::Rule;
 pub use scsw::ScswBits;
 pub use searching::value_under;
 pub use set_no::SetNo;
-pub use sorting::sorted_once;
+pub use sorting::{first_in_order, sorted_once};
 pub use sub_id::SubId;
 pub use table_key::TableKey;
 pub use text::Text;

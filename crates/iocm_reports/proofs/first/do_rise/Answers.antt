@@ -4,7 +4,7 @@ use Rattle.std.specs.Prelude.{MatchBool, ⊤}
 use Rattle.std.proofs.lemmas.List.Sorted.{answers_always}
 use Rattle.iocm_types.specs.KeyOrder.{sub_ids_total}
 use Rattle.iocm_types.specs.SubId.{sub_id_cmp}
-use Rattle.iocm_numbers.proofs.FirstOfEach.{is_below, neighbours_rise}
+use Rattle.iocm_types.proofs.FirstOfEach.{is_below, neighbours_rise}
 use Rattle.iocm_reports.proofs.first.do_rise.Goals as goal
 
 -- what is known if the answer is yes

@@ -1,12 +1,11 @@
 -- Rows under keys that are sorted, and of which the first of each key is kept.
-use Rattle.std.proofs.Common.{◌≡◌, ◌+◌, ◌<◌, Bool, true, false, cond, not, ◌&&◌, List, [], ◌∷◌, length, Option, Some, T, refl, sym, ap, ap₂, subst, ◌∙◌, arith}
+use Rattle.std.proofs.Common.{◌≡◌, ◌+◌, ◌<◌, Bool, true, false, cond, not, ◌&&◌, List, [], ◌∷◌, length, Option, Some, refl, sym, ap, ap₂, subst, ◌∙◌, arith}
 use Rattle.std.proofs.lemmas.List.{get_or-map, length-map}
 use Rattle.std.proofs.lemmas.List.Kept.{IsStrictlySortedBy-dedup}
 use Rattle.std.proofs.lemmas.List.Sorted.{ranks_by}
-use Rattle.std.proofs.lemmas.Map.Keys.{sorted_from_all_adjacent, sorted_head, sorted_tail}
+use Rattle.std.proofs.lemmas.Map.Keys.{sorted_from_all_adjacent}
 use Rattle.std.specs.Cmp.{IsStrictWeakOrder, IsTotalOrder, on_total, tied_itself}
-use Rattle.std.specs.FinMap.{IsAntisymmetric, find, is_sorted}
-use Rattle.std.specs.FinMap.Entries.{below_all}
+use Rattle.std.specs.FinMap.{IsAntisymmetric, find}
 use Rattle.std.specs.List.{AllAdjacentBelow, AllByRecursion, dedup, dedup_from}
 use Rattle.std.specs.List.Sorted.{IsSortedBy, IsStableBy, IsStrictlySortedBy}
 use Rattle.std.specs.Map.{keys_of}
@@ -14,8 +13,7 @@ use Rattle.std.specs.Ordering.{eq_by_cmp, is_lt}
 use Rattle.std.specs.declared.cmp.Ordering.{Ordering}
 use Rattle.std.specs.declared.cmp.Ordering.TheVariants.{Less, Equal, Greater}
 use Rattle.iocm_types.proofs.Found.{same_key}
-use Rattle.iocm_types.proofs.Tests.{both_hold}
-use Rattle.iocm_numbers.proofs.Passing.{finds_passing}
+use Rattle.iocm_types.proofs.Passing.{finds_passing}
 
 less_is : (r : Ordering) → is_lt r ≡ true → r ≡ Less
 less_is Less h = refl
@@ -50,10 +48,15 @@ module _ {K X : Type 0} (R : K → K → Ordering) (total : IsTotalOrder R) wher
   -- ---- a stable sort
 
   -- rows that tie stand as they stood, so the same row is the first of its key
-  pub first_is_kept : IsAntisymmetric R → (v : X) (rows sorted : List (K × X)) → IsStableBy is_below rows sorted → (q : K) → find R q sorted ≡ find R q rows
-  first_is_kept exact v rows sorted stable q =
+  kept_with : IsAntisymmetric R → (v : X) (rows sorted : List (K × X)) → IsStableBy is_below rows sorted → (q : K) → find R q sorted ≡ find R q rows
+  kept_with exact v rows sorted stable q =
       let test : K → Bool = λ k. not (is_lt (R q k)) && not (is_lt (R k q)) in
       sym (finds_passing R exact test q (not_itself R total q) sorted) ∙ ap (find R q) (stable (q, v)) ∙ finds_passing R exact test q (not_itself R total q) rows
+
+  pub first_is_kept : IsAntisymmetric R → (rows sorted : List (K × X)) → IsStableBy is_below rows sorted → (q : K) → find R q sorted ≡ find R q rows
+  first_is_kept exact [] [] stable q = refl
+  first_is_kept exact (r ∷ rows) sorted stable q = kept_with exact r.1 (r ∷ rows) sorted stable q
+  first_is_kept exact [] (s ∷ sorted) stable q = kept_with exact s.1 [] (s ∷ sorted) stable q
 
   -- ---- each kept once
 
@@ -87,15 +90,3 @@ module _ {K X : Type 0} (R : K → K → Ordering) (total : IsTotalOrder R) wher
   -- the keys of sorted rows, each kept once, are in order
   pub once_rise : (rows : List (K × X)) → IsSortedBy is_below rows → IsStrictlySortedBy R (keys_of (dedup have_one_key rows))
   once_rise rows up = keys_rise (dedup have_one_key rows) (IsStrictlySortedBy-dedup (on_total (λ (r : K × X). r.0) total) (λ r s. refl) rows up)
-
--- ---- rows as the entries of a map
-
-module _ {K X : Type 0} (R : K → K → Ordering) where
-  below : (x : K) (es : List (K × X)) → AllByRecursion (λ y. R x y ≡ Less) (keys_of es) → T (below_all R x es)
-  below x [] h = tt
-  below x (e ∷ es) h = both_hold _ _ (subst (λ r. T (is_lt r)) (sym h.0) tt) (below x es h.1)
-
-  -- rows with keys in order are sorted entries
-  pub in_order : (es : List (K × X)) → IsStrictlySortedBy R (keys_of es) → T (is_sorted R es)
-  in_order [] h = tt
-  in_order (e ∷ es) h = both_hold _ _ (below e.0 es (sorted_head R _ _ h)) (in_order es (sorted_tail R _ _ h))
