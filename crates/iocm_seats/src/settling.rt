@@ -1,9 +1,10 @@
-ghost use Rattle.std.specs.Prelude.{◌≡◌, OnOk, Some, None, T};
+ghost use Rattle.std.specs.Prelude.{◌≡◌, OnOk, Option, Some, None, T};
 ghost use Rattle.std.specs.Option.{option_copied, option_map};
 ghost use Rattle.std.specs.FinMap.{from_sorted, get, is_sorted};
 ghost use Rattle.iocm_types.specs.SubId.{sub_id_cmp};
 ghost use Rattle.iocm_model.specs.Change.Edit.{live_of_altered};
 ghost use Rattle.iocm_model.specs.Change.Maps.{with_value};
+ghost use Rattle.iocm_seats.specs.declared.seat.Seat as model;
 ghost use Rattle.iocm_seats.specs.Seated.{views_seated, HasPlace, KeepsPlaces};
 ghost use Rattle.iocm_seats.specs.Settling.{seat_after, settled_all, AreSeen, HavePlaces};
 
@@ -65,10 +66,23 @@ pub fn settle_all<A: Allocator>(
 {
     let mut near = 0usize;
     for change in changes {
-        let own = live_near(kept, near, &change.subchannel);
+        let own = live_brought(kept, near, change);
         near = near.wrapping_add(usize::from(own.is_some()));
         settle(seats, change, own);
     }
+}
+
+/// The live record that comes along for the subchannel of a change, if one does. Where nothing is
+/// seen there any more, none is wanted, and none is looked for.
+fn live_brought(kept: &[(SubId, Live)], near: usize, change: &ViewChange) -> Option<Live>
+    requires { T (is_sorted sub_id_cmp kept.now) }
+    ensures { (old : Option model.Seat) → seat_after old change.now.after result
+        ≡ seat_after old change.now.after (get (from_sorted {R = sub_id_cmp} kept.now) change.now.subchannel) }
+{
+    if change.after.is_none() {
+        return None;
+    }
+    live_near(kept, near, &change.subchannel)
 }
 
 /// The live record that comes along for a subchannel, if one does. It is first looked for at the

@@ -1,5 +1,5 @@
 -- A row of the subchannel has its live record.
-use Rattle.std.proofs.Common.{◌≡◌, ◌<◌, arith, ℕ, true, length, Some, ltb, ltb-true, get_or, refl, sym, ap, subst, ◌∙◌}
+use Rattle.std.proofs.Common.{◌≡◌, ◌<◌, arith, true, length, Some, ltb-true, get_or, refl, sym, ap, subst, ◌∙◌}
 use Rattle.std.specs.Cmp.{Equal-is}
 use Rattle.std.specs.Ordering.{is_eq}
 use Rattle.std.specs.declared.cmp.Ordering.TheVariants.{Equal}
