@@ -61,12 +61,12 @@ keys_are [] s = refl
 keys_are (e ∷ es) s = ap (λ ks. key_of_edit e ∷ ks) (keys_are es (state_after e s))
 
 -- the cells of changes between numbers
-cells_are : (n m : Numbering) (cells : List NumberCell) → cells_changed (map (numbers.number_change n m) cells) ≡ cells
+pub cells_are : (n m : Numbering) (cells : List NumberCell) → cells_changed (map (numbers.number_change n m) cells) ≡ cells
 cells_are n m [] = refl
 cells_are n m (c ∷ cs) = ap (λ ds. c ∷ ds) (cells_are n m cs)
 
 -- the subchannels of changes between views
-subchannels_are : (v w : SubId → Option View) (xs : List SubId) → subchannels_changed (map (views.view_change v w) xs) ≡ xs
+pub subchannels_are : (v w : SubId → Option View) (xs : List SubId) → subchannels_changed (map (views.view_change v w) xs) ≡ xs
 subchannels_are v w [] = refl
 subchannels_are v w (x ∷ xs) = ap (λ ys. x ∷ ys) (subchannels_are v w xs)
 

@@ -7,6 +7,7 @@ mod InCommon
 mod Kept
 mod Leaves
 mod Next
+mod OnlyEdit
 mod Pairs
 mod Parts
 mod Rising

@@ -21,7 +21,7 @@ use Rattle.iocm_plant.specs.Operating.{Operating}
 use Rattle.iocm_plant.specs.declared.touched.Touched.{Touched}
 use Rattle.iocm_activate.specs.Done.{edits_of, edits_meant, leaves_from, touched_in, AreToldBy}
 use Rattle.iocm_activate.specs.Effects.{cells_told}
-use Rattle.iocm_activate.specs.Told.{key_of_edit, told_in, told_of_all, way_back, LeadsTo, CanTakeBack}
+use Rattle.iocm_activate.specs.Told.{key_of_edit, told_in, told_of_all, way_back, LeadsTo, CanTakeBack, HaveLedTo}
 use Rattle.iocm_activate.specs.Walked.{Ran, Answers, WasAccepted}
 use Rattle.iocm_activate.specs.declared.log.Log.{Log}
 use Rattle.iocm_activate.proofs.Activated.{inverse_is, cells_told_are, are_told}
@@ -50,6 +50,10 @@ module _ {p q : Operating} {log : Log} (w : WasWalked p q log) where
   -- so all can be taken back
   pub can_take_all_back : CanTakeBack log.done.items q
   can_take_all_back = record { state = p.state; leads = leads_back }
+
+  -- and they led to the state as it is
+  pub have_led : HaveLedTo log.done.items q.state
+  have_led = record { before = p.state; edits = w.ran.edits; told = all_told; now = w.ran.state }
 
 -- ---- what is told of a tree that was accepted
 

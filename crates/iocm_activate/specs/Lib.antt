@@ -4,6 +4,7 @@ pub mod Done
 pub mod Effects
 pub mod Fitting
 pub mod Going
+pub mod OnlyEdit
 pub mod Signature
 pub mod Signatures
 pub mod Told

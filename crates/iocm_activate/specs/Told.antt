@@ -1,9 +1,10 @@
 -- What is kept of edits that were performed: what each changed, and the edits that take them back.
-use Rattle.std.specs.Prelude.{◌≡◌, List, [], ◌∷◌, ◌++◌}
+use Rattle.std.specs.Prelude.{◌≡◌, List, [], ◌∷◌, ◌++◌, map}
 use Rattle.iocm_types.specs.declared.key.Key.{Key}
 use Rattle.iocm_model.specs.Operation.State.{State, views_in}
 use Rattle.iocm_model.specs.Change.Edit.{Edit, action_key, state_after}
 use Rattle.iocm_model.specs.Change.Inverse.{inverse_of}
+use Rattle.iocm_model.specs.Change.Runs.{state_after_all}
 use Rattle.iocm_numbers.specs.declared.number_change.NumberChange.{NumberChange}
 use Rattle.iocm_numbers.specs.NumberChanges as numbers
 use Rattle.iocm_seats.specs.declared.view_change.ViewChange.{ViewChange}
@@ -39,6 +40,13 @@ told_in a = record {
   numbers = a.touched.numbers.items;
   subchannels = a.touched.subchannels.items;
 }
+
+-- edits led to a state, and what is kept in memory tells what each of them did
+pub record HaveLedTo (done : List Applied) (s : State) : Type 0 where
+  pub before : State
+  pub edits : List Edit
+  pub told : map told_in done ≡ told_of_all edits before
+  pub now : s ≡ state_after_all edits before
 
 -- the key of an edit
 abbrev pub key_of_edit : Edit → Key

@@ -10,7 +10,7 @@ ghost use Rattle.iocm_plant.specs.Operating.{KeepsRoom};
 ghost use Rattle.iocm_plant.specs.Refusing.{IsDue, no_memory};
 ghost use Rattle.iocm_activate.specs.Done.{AreToldBy, IsWayBack, leaves_from, refusal_in, touched_in, edits_meant};
 ghost use Rattle.iocm_activate.specs.Effects.{cells_told, effect_in};
-ghost use Rattle.iocm_activate.specs.Told.{CanTakeBack, LeadsTo, told_of_all, way_back};
+ghost use Rattle.iocm_activate.specs.Told.{CanTakeBack, HaveLedTo, LeadsTo, told_of_all, way_back};
 
 use crate::done::{Done, Made};
 use crate::effect::{Effect, effect_of};
@@ -63,6 +63,7 @@ pub fn activate<A: Allocator>(
 /// M1: memory ran out; the change is taken back.
 fn finish(alloc: Global, plant: &mut Plant, log: Log) -> Result<Done, Refused>
     requires back { CanTakeBack log.done.items plant.old }
+    requires told { HaveLedTo log.done.items plant.old.state }
     ensures inverse { IfOk result (λ d. tree_of d.inverse ≡ row (leaves_from (way_back log.done.items))) }
     ensures effect { IfOk result (λ d. effect_in d.effect ≡ values_in plant.old.state (cells_told log)) }
     ensures performed { IfOk result (λ d. d.performed.items ≡ touched_in log.done.items) }

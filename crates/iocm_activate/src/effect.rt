@@ -14,6 +14,7 @@ ghost use Rattle.iocm_types.specs.SubId.{sub_id_cmp};
 
 use crate::in_order::each_once;
 use crate::log::Log;
+use crate::only_edit::effect_of_one;
 use crate::written::Written;
 use iocm_config::Config;
 use iocm_numbers::{NumberChange, Numbers};
@@ -36,10 +37,16 @@ pub struct Effect {
     pub lives: Written<SubId, Live>,
 }
 
-/// The effect of the edits of a log.
+/// The effect of the edits of a log, which led to the state as it is.
+///
+/// `AllocError` (M1): memory ran out.
 pub fn effect_of(alloc: Global, plant: &Plant, log: &Log) -> Result<Effect, AllocError>
+    requires told { told.HaveLedTo log.now.done.items plant.now.state }
     ensures { IfOk result (λ e. effect_in e ≡ values_in plant.now.state (cells_told log.now)) }
 {
+    if let [only] = log.done.as_slice() {
+        return effect_of_one(alloc, plant, log.keys.as_slice(), &only.touched);
+    }
     let records = written_records(alloc, plant.config(), log.keys.as_slice())?;
     let numbers = written_numbers(alloc, plant.numbers(), log.done.as_slice())?;
     let lives = written_lives(alloc, plant, log.done.as_slice())?;
@@ -51,7 +58,7 @@ pub fn effect_of(alloc: Global, plant: &Plant, log: &Log) -> Result<Effect, Allo
 }
 
 /// The records under these keys.
-fn written_records(
+pub fn written_records(
     alloc: Global,
     config: &Config,
     keys: &[Key],

@@ -3,12 +3,15 @@ use Rattle.iocm_model.specs.Laws.Trees.{KeepsTheRules}
 use Rattle.iocm_tree.specs.Trees.{tree_of}
 use Rattle.iocm_plant.specs.Operating.{Operating}
 use Rattle.iocm_activate.specs.Effects.{effect_in}
-use Rattle.iocm_activate.proofs.Whole.{ok_then, on_ok_then, either_way, can_take_all_back, leads_back, walked}
+use Rattle.iocm_activate.proofs.Whole.{ok_then, on_ok_then, either_way, can_take_all_back, have_led, leads_back, walked}
 use Rattle.iocm_activate.proofs.Whole.{means_now, inverse_now, takes_back_now, kept_by, effect_now, told_now}
 use Rattle.iocm_activate.proofs.activation.activate.Goals as goal
 
 pub finish-requires : goal.finish-requires
-finish-requires g c = record { back = can_take_all_back (walked c.in-Ok.ensures.accepted) }
+finish-requires g c = record {
+  back = can_take_all_back (walked c.in-Ok.ensures.accepted);
+  told = have_led (walked c.in-Ok.ensures.accepted);
+}
 
 pub returns-in-Ok-clause-means : goal.returns-in-Ok-clause-means
 returns-in-Ok-clause-means g c = on_ok_then c.finish.result c.finish.ensures.done (means_now c.in-Ok.ensures.accepted c.finish.new.plant)
