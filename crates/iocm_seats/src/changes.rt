@@ -1,11 +1,10 @@
 ghost use Rattle.std.specs.Prelude.{◌≡◌, [], ◌∷◌, ◌++◌, map, None, Some, IfOk, OnOk};
 ghost use Rattle.std.specs.List.{cons_option, list_any, AllByRecursion};
 ghost use Rattle.std.specs.List.Sorted.{IsStrictlySortedBy};
-ghost use Rattle.std.specs.Option.{option_copied, option_eq, option_and_then};
+ghost use Rattle.std.specs.Option.{option_and_then};
 ghost use Rattle.std.specs.FinMap.{get};
 ghost use Rattle.iocm_types.specs.SubId.{image_cmp};
 ghost use Rattle.iocm_types.specs.Place.{cell_cmp};
-ghost use Rattle.iocm_model.specs.Change.Edit.{same_view};
 ghost use Rattle.iocm_model.specs.Machine.Configuration.{IsKeyed, lookup_of};
 ghost use Rattle.iocm_model.specs.Machine.View as model;
 ghost use Rattle.iocm_derive.specs.Derived.{name_at};
@@ -254,18 +253,57 @@ fn list_seated<D: Allocator>(
     ensures met { OnOk result (altered.new.met.items ≡ altered.old.met.items
         ++ met_at seat.now.live (cons_option (change_from (Some seat.now.view) after subchannel.now) [])) }
 {
-    let before = Some(seat.view());
-    if is_same(before.as_ref(), after.as_ref()) {
+    let Some(view) = after else {
+        return list_gone(altered, subchannel, seat);
+    };
+    if seat.view() == view {
         return Ok(());
     }
-    altered.met.reserve(1)?;
+    list_met(altered, subchannel, seat)?;
     altered.changes.reserve(1)?;
-    altered.met.push_reserved((*subchannel, seat.live()));
     altered.changes.push_reserved(ViewChange {
         subchannel: *subchannel,
-        before,
-        after,
+        before: Some(seat.view()),
+        after: Some(view),
     });
+    Ok(())
+}
+
+/// Puts the change at a subchannel with this seat, where nothing is seen afterwards, and the seat's
+/// live record, behind those that are listed.
+fn list_gone<D: Allocator>(
+    altered: &mut Altered<D>,
+    subchannel: &SubId,
+    seat: &KeptSeat,
+) -> Result<(), AllocError>
+    ensures changes { OnOk result (altered.new.changes.items
+        ≡ altered.old.changes.items ++ cons_option (change_from (Some seat.now.view) None subchannel.now) []) }
+    ensures met { OnOk result (altered.new.met.items ≡ altered.old.met.items
+        ++ met_at seat.now.live (cons_option (change_from (Some seat.now.view) None subchannel.now) [])) }
+{
+    let view = seat.view();
+    list_met(altered, subchannel, seat)?;
+    altered.changes.reserve(1)?;
+    altered.changes.push_reserved(ViewChange {
+        subchannel: *subchannel,
+        before: Some(view),
+        after: None,
+    });
+    Ok(())
+}
+
+/// Puts the live record of an altered subchannel behind those that are listed.
+fn list_met<D: Allocator>(
+    altered: &mut Altered<D>,
+    subchannel: &SubId,
+    seat: &KeptSeat,
+) -> Result<(), AllocError>
+    ensures met { OnOk result
+        (altered.new.met.items ≡ altered.old.met.items ++ (subchannel.now, seat.now.live) ∷ []) }
+    ensures changes { altered.new.changes.items ≡ altered.old.changes.items }
+{
+    altered.met.reserve(1)?;
+    altered.met.push_reserved((*subchannel, seat.live()));
     Ok(())
 }
 
@@ -280,25 +318,14 @@ fn list_new<D: Allocator>(
         ≡ altered.old.changes.items ++ cons_option (change_from None after subchannel.now) []) }
     ensures met { altered.new.met.items ≡ altered.old.met.items }
 {
-    if after.is_none() {
+    let Some(view) = after else {
         return Ok(());
-    }
+    };
     altered.changes.reserve(1)?;
     altered.changes.push_reserved(ViewChange {
         subchannel: *subchannel,
         before: None,
-        after,
+        after: Some(view),
     });
     Ok(())
-}
-
-/// Whether two views are one.
-fn is_same(before: Option<&View>, after: Option<&View>) -> bool
-    ensures { result ≡ option_eq same_view (option_copied before.entry) (option_copied after.entry) }
-{
-    match (before, after) {
-        (Some(old), Some(new)) => old == new,
-        (None, None) => true,
-        _ => false,
-    }
 }
