@@ -10,7 +10,6 @@ mod Next
 mod OnlyEdit
 mod Pairs
 mod Parts
-mod Rising
 mod Runs
 mod Signed
 mod Taking

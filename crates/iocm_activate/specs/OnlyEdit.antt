@@ -1,5 +1,4 @@
--- The effect of a change of one edit, by what is told of it: its cells come in order, with what is
--- there afterwards.
+-- The effect of a change of one edit, by what is told of the edit.
 use Rattle.std.specs.Prelude.{◌≡◌, ℕ, false, List, Option, None, is_some}
 use Rattle.std.specs.FinMap.{get}
 use Rattle.iocm_types.specs.declared.key.Key.{Key}
@@ -16,14 +15,14 @@ use Rattle.iocm_seats.specs.Changes as views
 use Rattle.iocm_plant.specs.declared.touched.Touched.{Touched}
 use Rattle.iocm_activate.specs.Effects.{cells_changed, subchannels_changed}
 
--- what is told of an edit is what it did to number cells and views, which are as it left them
+-- what is told is how some numbers and some views of before differ from those of a state
 pub record TellsOf (d : Touched) (now : State) : Type 0 where
   pub numbers_before : Numbering
   pub views_before : Views
   pub numbers : d.numbers.items ≡ numbers.changes_between numbers_before now.numbers
   pub views : d.subchannels.items ≡ views.changes_between views_before (views_in now)
 
--- the cells that it wrote
+-- these keys, with the number cells and subchannels that are told
 abbrev pub cells_of_one : List Key → Touched → Cells
 cells_of_one keys d = record {
   keys = keys;

@@ -12,7 +12,6 @@ ghost use Rattle.iocm_activate.specs.Told as told;
 ghost use Rattle.std.specs.Prelude.{map as map_list};
 ghost use Rattle.iocm_types.specs.SubId.{sub_id_cmp};
 
-use crate::in_order::each_once;
 use crate::log::Log;
 use crate::only_edit::effect_of_one;
 use crate::written::Written;
@@ -58,6 +57,8 @@ pub fn effect_of(alloc: Global, plant: &Plant, log: &Log) -> Result<Effect, Allo
 }
 
 /// The records under these keys.
+///
+/// `AllocError` (M1): memory ran out.
 pub fn written_records(
     alloc: Global,
     config: &Config,
@@ -157,7 +158,7 @@ fn written_lives(
     ensures { IfOk result (λ cells. cells_in sub_id_cmp cells
         ≡ cells_at plant.now.state.lives (subchannels_told (map_list told.told_in done.now))) }
 {
-    let once = each_once(list_altered(alloc, done)?)?;
+    let once = sorted_once(list_altered(alloc, done)?)?;
     let listed = list_lives(alloc, plant, once.as_slice())?;
     Ok(Written::of(listed))
 }

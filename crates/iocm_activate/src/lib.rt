@@ -8,8 +8,8 @@
 //! `carry_out` for an undo or a redo, and gives the inverse tree alone. `fits` tries whether the
 //! inverse tree of a change would take back now just what the change did, and leaves the state as
 //! it was; `carry_back` takes it back if so. What an `Effect` has of one kind is `Written`, cells
-//! in order; that of one edit is made in `only_edit.rt`, from what is told of the edit. `Effects`
-//! has the effects of all changes, and tells whether two have a cell in common.
+//! in order. The effect of a single edit is made in `only_edit.rt`. `Effects` has the effects of
+//! all changes, and tells whether two have a cell in common.
 //!
 //! What the layer above may rely on: the state afterwards and each refusal are those of the model's
 //! `meaning`, a refused tree leaves the state as it was, and the inverse tree takes the change
@@ -26,7 +26,6 @@ mod done;
 mod effect;
 mod effects;
 mod fitting;
-mod in_order;
 mod leaf;
 mod log;
 mod making;

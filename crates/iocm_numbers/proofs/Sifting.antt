@@ -5,10 +5,10 @@ use Rattle.std.proofs.Math.ListN.{drop_of_length-le}
 use Rattle.std.proofs.lemmas.List.{append-nil}
 use Rattle.std.proofs.lemmas.List.Elements.{filter-append, filter_map-append}
 use Rattle.std.proofs.lemmas.Bool.{and_parts}
-use Rattle.std.specs.List.{fold, filter, list_any}
+use Rattle.std.specs.List.{fold, list_any}
 use Rattle.std.specs.Option.{option_map}
 use Rattle.std.specs.Ordering.{eq_by_cmp}
-use Rattle.std.specs.FinMap.{find, get, remove, contains_key, same_map}
+use Rattle.std.specs.FinMap.{get, remove, contains_key, same_map}
 use Rattle.iocm_types.specs.declared.place.Place.{Place}
 use Rattle.iocm_types.specs.Place.{place_cmp}
 use Rattle.iocm_types.specs.KeyOrder.{places_total, places_exact}

@@ -18,7 +18,7 @@ use Rattle.iocm_model.specs.Change.Refusal.{is_number_taken, same_cell}
 use Rattle.iocm_model.proofs.Numbers.Cells.{IsApart, place, has_number}
 use Rattle.iocm_model.proofs.Numbers.Apart.{IsFreeFor, step_by, one_cell, free_for_carried}
 use Rattle.iocm_model.proofs.Numbers.Changed.{comes_new, comes_reached, other_place}
-use Rattle.iocm_numbers.specs.Numbered.{Numbered, cell_at, HasSameRoom, KeepsRoom}
+use Rattle.iocm_numbers.specs.Numbered.{Numbered, cell_at, KeepsRoom}
 use Rattle.iocm_numbers.specs.Renumbering.{filled_by, ChangesComersAlone}
 
 -- one step more

@@ -1,20 +1,19 @@
 -- The steps together: what leaves has left once, the same numbers come in afterwards, and room that
 -- was made is there. Places that rise are apart.
-use Rattle.std.proofs.Common.{◌≡◌, ℕ, Bool, true, false, cond, not, ◌&&◌, ◌||◌, List, [], ◌∷◌, Option, Some, None, is_some, T, refl, sym, ap, subst, ◌∙◌}
-use Rattle.std.specs.List.{fold, list_any, filter}
+use Rattle.std.proofs.Common.{◌≡◌, ℕ, Bool, true, false, cond, not, ◌&&◌, ◌||◌, List, [], ◌∷◌, Option, None, is_some, T, refl, sym, ap, subst, ◌∙◌}
+use Rattle.std.specs.List.{list_any, filter}
 use Rattle.std.specs.Ordering.{eq_by_cmp, is_eq}
-use Rattle.std.specs.FinMap.{get, remove, contains_key, entries, get-remove, same_map}
+use Rattle.std.specs.FinMap.{get, entries, same_map}
 use Rattle.iocm_types.specs.declared.place.Place.{Place}
 use Rattle.iocm_types.specs.declared.place.NumberCell.{NumberCell}
 use Rattle.iocm_types.specs.Place.{place_cmp, cell_cmp}
 use Rattle.iocm_types.specs.KeyOrder.{places_total, places_exact}
-use Rattle.iocm_types.proofs.Found.{same_key, ties_itself}
-use Rattle.iocm_types.proofs.Tests.{present}
+use Rattle.iocm_types.proofs.Found.{ties_itself}
 use Rattle.iocm_model.specs.Machine.Configuration.{Configuration}
 use Rattle.iocm_model.specs.Machine.Numbering.{Numbering, is_reached_at}
-use Rattle.iocm_model.specs.Change.Renumbering.{comes_in, without_leavers, with_carried}
+use Rattle.iocm_model.specs.Change.Renumbering.{comes_in, without_leavers}
 use Rattle.iocm_model.specs.Change.Refusal.{is_number_taken, same_cell, has_cell_twice}
-use Rattle.iocm_model.proofs.Numbers.Changed.{get_without, stays, carried_keep}
+use Rattle.iocm_model.proofs.Numbers.Changed.{get_without}
 use Rattle.iocm_numbers.specs.Numbered.{Numbered, cell_at, HasRoom, HasSameRoom}
 use Rattle.iocm_numbers.specs.Renumbering.{Rise}
 use Rattle.iocm_numbers.proofs.Restored.{AreApart}

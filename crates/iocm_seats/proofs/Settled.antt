@@ -50,10 +50,10 @@ seat_left seats w kept x =
     (sorted_apart sub_id_cmp (λ (y : SubId). not (option_eq same_view (get v y) (get w y))) (entries all) (entries_sorted all)) x
     ∙ ap (λ b. cond b (seat_after (get seats x) (get w x) (get kept x)) (get seats x)) (in_differing sub_ids_total sub_ids_exact same_view v w x)
 
--- where nothing is seen afterwards, no live record is wanted
-pub none_wanted : (old : Option Seat) (new : Option View) (kept brought : Option Live) → is_some new ≡ false → seat_after old new kept ≡ seat_after old new brought
-none_wanted old None kept brought none = refl
-none_wanted old (Some w) kept brought none = cc
+-- where nothing is seen afterwards, no live record is needed
+pub none_needed : (old : Option Seat) (new : Option View) (kept brought : Option Live) → is_some new ≡ false → seat_after old new kept ≡ seat_after old new brought
+none_needed old None kept brought none = refl
+none_needed old (Some w) kept brought none = cc
 
 view_after : (old : Option Seat) (new : Option View) (kept : Option Live) → view_in (seat_after old new kept) ≡ new
 view_after old None kept = refl

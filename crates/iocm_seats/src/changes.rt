@@ -240,8 +240,8 @@ fn view_there<B: Allocator>(named: &NamedImage, sight: &ReachedCell<'_, B, Globa
     }
 }
 
-/// Puts the change at a subchannel with this seat, and the seat's live record, behind those that
-/// are listed, if something else is seen there afterwards.
+/// Puts the change at a subchannel with this seat, and the seat's live record, after those that are
+/// listed, if something else is seen there afterwards.
 fn list_seated<D: Allocator>(
     altered: &mut Altered<D>,
     subchannel: &SubId,
@@ -270,7 +270,7 @@ fn list_seated<D: Allocator>(
 }
 
 /// Puts the change at a subchannel with this seat, where nothing is seen afterwards, and the seat's
-/// live record, behind those that are listed.
+/// live record, after those that are listed.
 fn list_gone<D: Allocator>(
     altered: &mut Altered<D>,
     subchannel: &SubId,
@@ -292,7 +292,7 @@ fn list_gone<D: Allocator>(
     Ok(())
 }
 
-/// Puts the live record of an altered subchannel behind those that are listed.
+/// Puts the live record of an altered subchannel after those that are listed.
 fn list_met<D: Allocator>(
     altered: &mut Altered<D>,
     subchannel: &SubId,
@@ -307,8 +307,8 @@ fn list_met<D: Allocator>(
     Ok(())
 }
 
-/// Puts the change at a subchannel without a seat behind those that are listed, if something is
-/// seen there afterwards.
+/// Puts the change at a subchannel without a seat after those that are listed, if something is seen
+/// there afterwards.
 fn list_new<D: Allocator>(
     altered: &mut Altered<D>,
     subchannel: &SubId,

@@ -72,8 +72,8 @@ pub fn settle_all<A: Allocator>(
     }
 }
 
-/// The live record that comes along for the subchannel of a change, if one does. Where nothing is
-/// seen there any more, none is wanted, and none is looked for.
+/// The live record that comes along for the subchannel of a change, if one does and something is
+/// seen there afterwards. Else none is needed, and none is looked for.
 fn live_brought(kept: &[(SubId, Live)], near: usize, change: &ViewChange) -> Option<Live>
     requires { T (is_sorted sub_id_cmp kept.now) }
     ensures { (old : Option model.Seat) → seat_after old change.now.after result

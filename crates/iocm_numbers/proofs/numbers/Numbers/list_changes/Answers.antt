@@ -1,5 +1,5 @@
 -- The changes of the cells that were noted are all.
-use Rattle.std.proofs.Common.{◌≡◌, ap, ◌∙◌, map}
+use Rattle.std.proofs.Common.{ap, ◌∙◌, map}
 use Rattle.std.proofs.lemmas.Result.{IfOk-weaker}
 use Rattle.std.specs.FinMap.{find}
 use Rattle.iocm_types.specs.Place.{cell_cmp}

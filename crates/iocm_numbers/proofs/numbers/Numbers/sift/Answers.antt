@@ -1,5 +1,5 @@
 -- One place more is sifted.
-use Rattle.std.proofs.Common.{◌≡◌, ap, [], ◌∷◌, ◌++◌, ◌∙◌}
+use Rattle.std.proofs.Common.{ap, [], ◌∷◌, ◌++◌, ◌∙◌}
 use Rattle.iocm_model.specs.Machine.Configuration.{Configuration}
 use Rattle.iocm_numbers.specs.PutBack.{numbers_at}
 use Rattle.iocm_numbers.specs.Renumbering.{unreached}
