@@ -25,8 +25,8 @@ use iocm_reach::{ReachTable, ReachedCell};
 use iocm_types::{Css, Image, Live, Name, NumberCell, SubId, View};
 use std::alloc::{AllocError, Allocator, Global};
 
-/// A change that is tried: the seats as they were before it, the configuration, the numbers and the
-/// table of who reaches which path as they are after it.
+/// A change that is tried. The seats are as they were before it. The configuration, the numbers and
+/// the table of who reaches which path are as they are after it.
 #[derive(Drop)]
 pub struct Tried<'a, A: Allocator, B: Allocator, C: Allocator> {
     pub seats: &'a Seats<A>,
@@ -35,8 +35,8 @@ pub struct Tried<'a, A: Allocator, B: Allocator, C: Allocator> {
     pub reach: &'a ReachTable,
 }
 
-/// What a change alters: the changes of what is seen, in the order of subchannels, and the live
-/// records that these have, of those that have a seat. The word is own.
+/// What a change alters: the changes of what is seen, in the order of subchannels. Of those
+/// subchannels that have a seat it has the live records, too. The word is own.
 #[derive(Drop)]
 pub struct Altered<D: Allocator> {
     pub changes: Vec<ViewChange, D>,
@@ -52,10 +52,12 @@ struct NamedImage {
 }
 
 /// All changes of what is seen, in the order of subchannels. They are looked for at the subchannels
-/// of some images and number cells alone, each given once and in order, and are among these. What
-/// the images of a channel subsystem share at a number cell is looked up once. Its number cells are
-/// found by two walks over all. Beside that the time is that of one view for each of these
-/// subchannels, by its seat and by the table. The live records are those of the same seats.
+/// of some images and number cells alone, and are among these. Images and cells are given in order,
+/// each once.
+///
+/// What the images of a channel subsystem share at a number cell is looked up once. Its number
+/// cells are found by two walks over all. Beside that the time is that of one view for each of
+/// these subchannels, by its seat and by the table. The live records are those of the same seats.
 ///
 /// `AllocError` (M1): memory ran out.
 pub fn list_changes<A: Allocator, B: Allocator, C: Allocator, D: Allocator + Clone>(

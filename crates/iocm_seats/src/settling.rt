@@ -51,9 +51,11 @@ fn make_place<A: Allocator + Clone>(
 }
 
 /// Gives each subchannel of these changes the seat that it has afterwards: none where nothing is
-/// seen any more, else the view with the live record that comes along for it, or with a fresh one
-/// where it is new, or with its own. Those that come along mostly come in the order of the changes.
-/// So each is first looked for after the one that was found before. Can't run out of memory.
+/// seen any more, else the view with a live record. That is the one that comes along for it, or a
+/// fresh one where it is new, or else its own. Can't run out of memory.
+///
+/// Those that come along mostly come in the order of the changes. So each is first looked for after
+/// the one that was found before.
 pub fn settle_all<A: Allocator>(
     seats: &mut Seats<A>,
     changes: &[ViewChange],
@@ -119,7 +121,7 @@ fn settle<A: Allocator>(seats: &mut Seats<A>, change: &ViewChange, own: Option<L
 }
 
 /// The live record of an altered subchannel: the one that comes along, or else a fresh one where
-/// it had none, or else its own, with LPM equal to PIM where its path list changed.
+/// it had none. Or else it is its own, with LPM equal to PIM where its path list changed.
 fn live_after(old: Option<&KeptSeat>, new: &View, own: Option<Live>) -> Live
     ensures { result ≡ live_of_altered (option_map (λ s. s.view) (option_copied old.entry)) new.now own
         (option_map (λ s. s.live) (option_copied old.entry)) }
