@@ -13,9 +13,9 @@ use iocm_seats::ViewChange;
 use iocm_types::{DevNo, Key, Live, NumberCell, SubId};
 use std::alloc::{AllocError, Global};
 
-/// The effect of a change of one edit, under its key. The edit told of its cells in order, with the
-/// devices that have the numbers now. So no number cell and no subchannel is sorted, and no device
-/// is looked up. A live record is looked up only where something is seen.
+/// The effect of a change of one edit, under its key. What it touched comes in order, with the
+/// devices that have the numbers now. So no number cell and no subchannel is sorted, and no number
+/// cell is looked up. A live record is looked up only where something is seen.
 ///
 /// `AllocError` (M1): memory ran out.
 pub fn effect_of_one(
