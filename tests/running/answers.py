@@ -1,0 +1,68 @@
+"""How the program is called, and what is wrong with its answer: `run(words, room)` and `differences(got, status, stdout)`."""
+import os
+import re
+import subprocess
+
+EDITS = re.compile(rb"^(no|\d+) edits?\b.*\n")
+REFUSED = re.compile(rb"refused ([A-Z]\d+)(?: line (\d+))?")
+
+
+def read(folder, name, absent=b""):
+    path = os.path.join(folder, name)
+    if not os.path.exists(path):
+        return absent
+    with open(path, "rb") as file:
+        return file.read()
+
+
+def run(words, room, output="", given=b"", source=""):
+    """What a command answers, given a standard input, or what to open for it, run in a folder, with its output as it is asked for."""
+    how = {"cwd": room, "stderr": subprocess.PIPE, "timeout": 60}
+    if not source:
+        return run_to(output, words, how | {"input": given})
+    reader = os.open(source, os.O_RDONLY)
+    try:
+        return run_to(output, words, how | {"stdin": reader})
+    finally:
+        os.close(reader)
+
+
+def run_to(output, words, how):
+    """What a command answers, with its output kept, at a device, or in a pipe that nobody reads."""
+    if not output:
+        return subprocess.run(words, stdout=subprocess.PIPE, **how)
+    if output == "closed pipe":
+        reader, writer = os.pipe()
+        os.close(reader)
+    else:
+        writer = os.open(output, os.O_WRONLY)
+    try:
+        return subprocess.run(words, stdout=writer, **how)
+    finally:
+        os.close(writer)
+
+
+def differences(got, status, stdout, stderr=b"", others=()):
+    """What is wrong with an answer, as lines of text. Others may be right, too."""
+    wrong = []
+    if got.returncode != status:
+        wrong.append(f"status {got.returncode}, wanted {status}")
+    printed = got.stdout or b""
+    if printed != stdout and printed not in others:
+        wrong.append(f"standard output differs: {printed[:400]!r}")
+    if stderr.strip() not in got.stderr:
+        wrong.append(f"standard error differs: {got.stderr[:400]!r}")
+    return wrong + faults_of_remark(got)
+
+
+def faults_of_remark(got):
+    """What is wrong with what standard error says: beside a refusal its line, its number and which entry says more; else nothing, where all was done."""
+    refused = REFUSED.match(got.stdout or b"")
+    if got.returncode == 0 or "--quiet" in got.args:
+        said = EDITS.sub(b"", got.stderr) if "diff" in got.args and "--quiet" not in got.args else got.stderr
+        return [f"standard error: {got.stderr[:400]!r}"] if said else []
+    if not refused:
+        return []
+    rule, line = refused.groups()
+    wanted = [b" (" + rule + b")", b"\n  see: iocm explain " + rule + b"\n"] + ([b", line " + line + b": "] if line else [])
+    return [f"standard error says no {text!r}: {got.stderr[:400]!r}" for text in wanted if text not in got.stderr]
