@@ -69,29 +69,20 @@ def functions_in(file, text):
     return found
 
 
-def pairs_of(text):
-    """The pairs of an edit: the file, the old text and the new one."""
-    pairs, path, old = [], None, None
-    for line in text.split("\n"):
-        word, _, rest = line.partition(": ")
-        if word == "file":
-            path = rest.strip()
-        elif word == "old":
-            old = rest
-        elif line.startswith("new:"):
-            pairs.append((path, old, line[len("new:") :].removeprefix(" ")))
-    return pairs
-
-
-def places_of(text, read):
-    """The functions in whose bodies an edit lies, all of it; None where a part lies elsewhere, or can't be found."""
-    found = {}
-    for path, old, _ in pairs_of(text):
-        source = read(path) if path and path.startswith("src/") else None
-        if not old or source is None or source.count(old) != 1:
+def places_of(edit, read):
+    """The functions in whose bodies an edit lies; None if a part lies elsewhere, or can't be found. A part that puts a function in the
+    place of a comment lies nowhere: another part calls it. No part makes a line more or less, so lines are those of the source."""
+    found, texts = {}, {}
+    for path, old, new in edit.pairs:
+        source = read(path) if path.startswith("src/") else None
+        now = texts.get(path) or source
+        if source is None or now.count(old) != 1:
             return None
-        line = source[: source.index(old)].count("\n")
+        texts[path] = now.replace(old, new)
+        line = now[: now.index(old)].count("\n")
         inside = [it for it in functions_in(path, source) if it.body <= line < it.end]
+        if not inside and old.startswith("///"):
+            continue
         if len(inside) != 1 or in_a_cycle(source, inside[0].first):
             return None
         found[inside[0].key()] = inside[0]
@@ -105,14 +96,3 @@ def in_a_cycle(source, first):
         if CYCLE.match(above.pop()):
             return True
     return False
-
-
-def applied(text, read):
-    """The texts of the files that an edit changes, by path; None where a text that it quotes isn't there just once."""
-    texts = {}
-    for path, old, new in pairs_of(text):
-        now = texts.get(path) or read(path)
-        if now.count(old) != 1:
-            return None
-        texts[path] = now.replace(old, new)
-    return texts
