@@ -1,7 +1,3 @@
-mod Css
-mod Outer
-mod Reading
 mod Rows
-mod Runs
-mod Within
 mod Without
+mod Worked

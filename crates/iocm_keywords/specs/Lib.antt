@@ -1,4 +1,3 @@
 pub mod Examples
 pub mod Known
 pub mod LeftOut
-pub mod Walk

@@ -1,14 +1,64 @@
-ghost use Rattle.std.specs.Prelude.{◌≡◌, ◌++◌, map, IfOk, OnOk};
-ghost use Rattle.std.specs.List.{flat_map, list_any};
+ghost use Rattle.std.specs.Prelude.{◌≡◌, ◌==◌, map, IfOk, OnOk};
+ghost use Rattle.std.specs.List.{list_any};
 ghost use Rattle.iocm_keywords.specs.LeftOut as meaning;
 ghost use Rattle.iocm_values.specs.Value.{seen};
-ghost use Rattle.iocm_values.specs.Words.{words};
+ghost use Rattle.iocm_values.specs.ItemWords.{item_words};
 
 use crate::known::{Form, form_in, has_value, table, word_of};
-use crate::nested_css::names_several_css;
-use iocm_statements::{OperandKey, Operands, Operation, is_same_word};
-use iocm_values::{Value, is_hex_number, words};
+use iocm_statements::{OperandKey, Operands, Operation, Unread, is_same_word, pieces};
+use iocm_values::{Value, inside_css, is_decimal_number, is_hex_number, item_words};
 use std::alloc::{AllocError, Global};
+
+fn count_decimals(texts: &[&[u8]]) -> usize
+    ensures { result ≡ meaning.count_decimals (map (λ k. k.now) texts.now) }
+{
+    texts.iter().filter(|text| is_decimal_number(text)).count()
+}
+
+// The word `CSS(..)` with two decimal numbers or more among its items.
+fn spans_css(alloc: Global, text: &[u8]) -> Result<bool, AllocError>
+    ensures { IfOk result (λ answer. answer ≡ meaning.spans_css text.now) }
+{
+    let Some(inner) = inside_css(text) else {
+        return Ok(false);
+    };
+    match pieces(alloc, inner) {
+        Ok(pieces) => Ok(count_decimals(&pieces) >= 2),
+        Err(Unread::Malformed) => Ok(false),
+        Err(Unread::Memory) => Err(AllocError),
+    }
+}
+
+#[tactic(auto, using(iocm_values::proofs::Looking::any_steps))]
+fn has_span(alloc: Global, texts: &[&[u8]]) -> Result<bool, AllocError>
+    ensures { IfOk result (λ answer. answer ≡ list_any meaning.spans_css (map (λ k. k.now) texts.now)) }
+{
+    for text in texts {
+        if spans_css(alloc, text)? {
+            return Ok(true);
+        }
+    }
+    Ok(false)
+}
+
+fn has_s(text: &[u8]) -> bool
+    ensures { result ≡ list_any (λ b. b == 83) text.now }
+{
+    text.iter().any(|byte| *byte == b'S')
+}
+
+// One of the words of items names several channel subsystems. A text without an S, as most are,
+// isn't cut into words.
+#[tactic(auto, using(crate::proofs::Without::none_without_s))]
+fn names_several_css(alloc: Global, text: &[u8]) -> Result<bool, AllocError>
+    ensures { IfOk result (λ answer. answer ≡ meaning.names_several_css text.now) }
+{
+    if !has_s(text) {
+        return Ok(false);
+    }
+    let words = item_words(alloc, text)?;
+    has_span(alloc, &words)
+}
 
 fn is_path_word(text: &[u8]) -> bool
     ensures { result ≡ meaning.is_path_word text.now }
@@ -16,20 +66,21 @@ fn is_path_word(text: &[u8]) -> bool
     is_hex_number(text) && text.len() <= 2
 }
 
-// Two of the words at any depth are path numbers, or more.
+// Two of the words of items are path numbers, or more.
 fn names_several_paths(alloc: Global, text: &[u8]) -> Result<bool, AllocError>
     ensures { IfOk result (λ answer. answer ≡ meaning.names_several_paths text.now) }
 {
-    let words = words(alloc, text)?;
+    let words = item_words(alloc, text)?;
     Ok(words.iter().filter(|word| is_path_word(word)).count() >= 2)
 }
 
-fn is_list(value: Value) -> bool
-    ensures { result ≡ meaning.is_list (seen value.entry) }
+fn is_list(alloc: Global, value: Value) -> Result<bool, AllocError>
+    ensures { IfOk result (λ answer. answer ≡ meaning.is_list (seen value.entry)) }
 {
-    match value {
-        Value::Word(_) => false,
-        Value::List(_) => true,
+    match value.items(alloc) {
+        Ok(_) => Ok(true),
+        Err(Unread::Malformed) => Ok(false),
+        Err(Unread::Memory) => Err(AllocError),
     }
 }
 
@@ -49,7 +100,12 @@ fn is_form_left_out(
             }
             names_several_paths(alloc, text)
         }
-        Operation::Iodevice => Ok(is_same_word(keyword, b"SCHSET") && is_list(Value::new(text))),
+        Operation::Iodevice => {
+            if !is_same_word(keyword, b"SCHSET") {
+                return Ok(false);
+            }
+            is_list(alloc, Value::new(text))
+        }
         _ => Ok(false),
     }
 }
@@ -101,7 +157,8 @@ fn is_left_out(
 }
 
 /// Whether one of the operands is left out by name: NOTPART; a value that names several channel
-/// subsystems in one `CSS(..)`, at any depth; several paths of a CHPID; a list of subchannel sets.
+/// subsystems in one `CSS(..)`; several paths of a CHPID; a list of subchannel sets. Lists are looked
+/// into at every depth, and what is between the parentheses of a `CSS(..)` isn't.
 #[tactic(auto, using(iocm_types::proofs::Any::any_steps))]
 pub fn has_left_out(
     alloc: Global,

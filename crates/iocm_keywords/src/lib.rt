@@ -4,8 +4,7 @@
 //! in. What is required, what stands bare, what is in another form than its own and what is carried
 //! along follow from it. `left_out.rt` finds the operands that are left out: NOTPART, a value that
 //! names several channel subsystems at once, several paths of a CHPID, a list of subchannel sets.
-//! `nested_css.rt` looks for several channel subsystems in one pass over the text, however deep one
-//! `CSS(..)` stands inside another. What a value says is read by the crate above.
+//! What a value says is read by the crate above.
 //!
 //! Begin with `specs/Known.antt`.
 #![tactic(auto)]
@@ -13,8 +12,7 @@
 mod known;
 mod laws;
 mod left_out;
-mod nested_css;
 
 pub use known::{Form, Row, has_other_form, is_carried, is_one_missing, lacks_required, table};
-pub use laws::subsystems_are_named_as_worked;
+pub use laws::forms_are_left_out_as_worked;
 pub use left_out::{has_left_out, is_text_left_out};

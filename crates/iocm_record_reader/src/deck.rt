@@ -165,6 +165,8 @@ fn read_all(
 /// or RESOURCE statement; S3, a required keyword that is missing; S5, a form that this product
 /// leaves out; S4, a malformed value; S8, a key that the deck has already. M1 comes without memory.
 /// (IOCP User's Guide, the statements; the numbers and the order of the faults are own.)
+///
+/// Promise: a deck's records are made exactly, or its first fault is answered.
 pub fn from_statements(alloc: Global, statements: &[Statement]) -> Result<Vec<Record>, Fault>
     ensures records { Gives (λ v. v.items) result (deck.deck_records statements.now) }
     ensures apart { IfOk result (λ v. HasNoKeyTwice v.items) }

@@ -16,7 +16,8 @@ use Rattle.iocm_values.specs.CssLists.{inside_css}
 use Rattle.iocm_values.specs.Digits.{is_number, is_decimal_digit}
 use Rattle.iocm_values.specs.Texts.{list_text, css_text}
 use Rattle.iocm_values.specs.Words.{ended, ends_word, words_from, words}
-use Rattle.iocm_keywords.specs.LeftOut.{count_decimals, css_items, spans_css, words_inside, spans_within, names_several_css}
+use Rattle.iocm_keywords.specs.LeftOut.{count_decimals, css_items, spans_css, names_several_css}
+use Rattle.iocm_values.proofs.ItemWordsAmong.{none_in_items}
 use Rattle.iocm_values.proofs.Levels.{before_last}
 use Rattle.iocm_values.proofs.Numerals.{glyph, glyph_plain, hex1_text, hex1_plain}
 use Rattle.iocm_values.proofs.Pieces.{is_plain, whole_plain, pieces_again}
@@ -134,38 +135,26 @@ css_is_word n small rest =
 
 -- ---- several channel subsystems
 
--- no word of the text names several, however many levels are gone into
+-- no word of the text names several
 abbrev pub IsInOneCss : List ℕ → Type 0
-IsInOneCss text = (levels : ℕ) → Lacks (spans_within levels) text
+IsInOneCss text = Lacks spans_css text
 
 -- one isn't two
 pub no_two : (is : Bool) → nat_le 2 (0 + cond is 1 0) ≡ false
 no_two true = refl
 no_two false = refl
 
--- a word that doesn't span, and none of those inside it does
-spans_none : (levels : ℕ) (text : List ℕ) → spans_css text ≡ false → ((n : ℕ) → list_any (spans_within n) (words_inside text) ≡ false)
-    → spans_within levels text ≡ false
-unfolding spans_within
-spans_none zero text other inside = refl
-spans_none (suc levels) text other inside = λ i. other i || inside levels i
-
 -- ---- another word than CSS(..)
 
-no_items : (text : List ℕ) → is_some (inside_css text) ≡ false → css_items text ≡ []
-no_items text = by (inside_css text)
+other_spans_none : (text : List ℕ) → is_some (inside_css text) ≡ false → spans_css text ≡ false
+other_spans_none text = by (inside_css text)
   where
-    by : (found : Option (List ℕ)) → is_some found ≡ false → unwrap_or (option_and_then pieces_of found) [] ≡ []
+    by : (found : Option (List ℕ)) → is_some found ≡ false → nat_le 2 (count_decimals (unwrap_or (option_and_then pieces_of found) [])) ≡ false
     by None none = refl
     by (Some inner) none = absurd (true≢false none)
 
-other_spans_none : (levels : ℕ) (text : List ℕ) → is_some (inside_css text) ≡ false → spans_within levels text ≡ false
-other_spans_none levels text other =
-    let none : css_items text ≡ [] = no_items text other in
-    spans_none levels text (ap (λ items. nat_le 2 (count_decimals items)) none) (λ n. ap (λ items. list_any (spans_within n) (flat_map words items)) none)
-
-plain_spans_none : (levels : ℕ) (text : List ℕ) → list_all is_plain text ≡ true → spans_within levels text ≡ false
-plain_spans_none levels text plain = other_spans_none levels text (plain_is_no_css text plain)
+plain_spans_none : (text : List ℕ) → list_all is_plain text ≡ true → spans_css text ≡ false
+plain_spans_none text plain = other_spans_none text (plain_is_no_css text plain)
 
 -- ---- CSS(n)
 
@@ -174,31 +163,19 @@ css_has n small =
     ap (λ found. unwrap_or (option_and_then pieces_of found) []) (before_last (hex1 n) (41 ∷ []))
     ∙ ap (λ found. unwrap_or found []) (pieces_again (hex1 n) [] (whole_plain (hex1 n) (hex1_plain n small), tt))
 
--- what stands inside is a digit, which is no CSS(..)
-digit_spans_none : (levels n : ℕ) → n < 16 → list_any (spans_within levels) (words (hex1 n)) ≡ false
-digit_spans_none levels n small =
-    let plain : list_all is_plain (hex1 n) ≡ true = hex1_plain n small in
-    lacks_any (spans_within levels) (hex1 n)
-    (word_lacks (spans_within levels) (hex1 n) (plain_is_word (hex1 n) plain) (plain_spans_none levels (hex1 n) plain))
-
-css_spans_none : (levels n : ℕ) → n < 16 → spans_within levels (css_text n) ≡ false
-css_spans_none levels n small =
-    let has : css_items (css_text n) ≡ hex1 n ∷ [] = css_has n small in
-    spans_none levels (css_text n) (ap (λ items. nat_le 2 (count_decimals items)) has ∙ no_two (is_number is_decimal_digit (hex1 n)))
-    (λ k. ap (λ items. list_any (spans_within k) (flat_map words items)) has ∙ ap (list_any (spans_within k)) (append-nil (words (hex1 n)))
-    ∙ digit_spans_none k n small)
+css_spans_none : (n : ℕ) → n < 16 → spans_css (css_text n) ≡ false
+css_spans_none n small = ap (λ items. nat_le 2 (count_decimals items)) (css_has n small) ∙ no_two (is_number is_decimal_digit (hex1 n))
 
 -- ---- texts in one
 
 pub plain_in_one : (text : List ℕ) → list_all is_plain text ≡ true → IsInOneCss text
-plain_in_one text plain levels = word_lacks (spans_within levels) text (plain_is_word text plain) (plain_spans_none levels text plain)
+plain_in_one text plain = word_lacks spans_css text (plain_is_word text plain) (plain_spans_none text plain)
 
 pub css_in_one : (n : ℕ) → n < 16 → IsInOneCss (css_text n)
-css_in_one n small levels = word_lacks (spans_within levels) (css_text n) (css_is_word n small) (css_spans_none levels n small)
+css_in_one n small = word_lacks spans_css (css_text n) (css_is_word n small) (css_spans_none n small)
 
 pub list_in_one : (texts : List (List ℕ)) → All IsInOneCss texts → IsInOneCss (list_text texts)
-list_in_one texts all levels =
-    list_lacks (spans_within levels) texts (other_spans_none levels [] refl) (other_spans_none levels (41 ∷ []) refl) (λ k d within. all k d within levels)
+list_in_one texts all = list_lacks spans_css texts (other_spans_none [] refl) (other_spans_none (41 ∷ []) refl) all
 
 pub names_one_css : (text : List ℕ) → IsInOneCss text → names_several_css text ≡ false
-names_one_css text lacks = lacks_any (spans_within (length text)) text (lacks (length text))
+names_one_css text lacks = none_in_items spans_css text (lacks_any spans_css text lacks)

@@ -7,6 +7,7 @@ use Rattle.std.specs.List.{find, flat_map, range_with_len}
 use Rattle.std.specs.Option.{option_map_or}
 use Rattle.std.specs.Str.{bytes_eq}
 use Rattle.std.proofs.lemmas.Bool.{and_left, and_right}
+use Rattle.std.proofs.lemmas.Bool.Decides.{nat_tests}
 use Rattle.std.proofs.lemmas.List.Elements.{All-nil, All-cons, All-head, All-tail, All-append, All-map, All-filter, All-weaker}
 use Rattle.iocm_types.specs.declared.css_path.CssPath.{CssPath}
 use Rattle.iocm_types.specs.declared.link.CssLink.{CssLink}
@@ -22,7 +23,9 @@ use Rattle.iocm_values.specs.declared.texts.CssText.{CssText}
 use Rattle.iocm_values.specs.Digits.{is_number, is_hex_digit}
 use Rattle.iocm_values.specs.NameSet.{names_text}
 use Rattle.iocm_values.specs.Texts.{list_text, css_text, texts_in, group_texts, by_css_text}
+use Rattle.iocm_values.specs.ItemWords.{item_words}
 use Rattle.iocm_values.specs.Words.{ended, words_from, words}
+use Rattle.iocm_values.proofs.ItemWordsAmong.{fewer_in_items}
 use Rattle.iocm_keywords.specs.LeftOut.{is_path_word, names_several_paths}
 use Rattle.iocm_operands.specs.declared.device.Devices.{Devices}
 use Rattle.iocm_operands.specs.Again.{IsPath, IsRange, IsNameSet, AreDevices, IsWithinDigits, IsLink, IsImage, IsLimit}
@@ -196,8 +199,14 @@ one_counts kind a b other = by (bytes_eq a (codes ")")) (bytes_eq b (codes ")"))
 css_is_no_path : (n : ℕ) → is_path_word (css_text n) ≡ false
 css_is_no_path n = and_left (is_number is_hex_digit (css_text n)) (nat_le (length (css_text n)) 2) (and_right (not (length (css_text n) == 0)) false refl)
 
+-- no more than fewer than two
+no_more : (few many : ℕ) → few ≤ many → nat_le 2 many ≡ false → nat_le 2 few ≡ false
+no_more few many fewer none = grind (arith, nat_tests)
+
 pub names_one_path : (p : CssPath) → IsPath p → names_several_paths (path_text p) ≡ false
 names_one_path p is =
-    ap (λ ws. nat_le 2 (count_by is_path_word ws))
+    no_more (count_by is_path_word (item_words (path_text p))) (count_by is_path_word (words (path_text p)))
+    (fewer_in_items is_path_word (path_text p))
+    (ap (λ ws. nat_le 2 (count_by is_path_word ws))
     (two_words (css_text p.css) (hex2 p.path) (css_is_word p.css (let small = is.css in omega arith)) (plain_is_word (hex2 p.path) (hex2_plain p.path is.path)))
-    ∙ one_counts is_path_word (css_text p.css) (hex2 p.path) (css_is_no_path p.css)
+    ∙ one_counts is_path_word (css_text p.css) (hex2 p.path) (css_is_no_path p.css))

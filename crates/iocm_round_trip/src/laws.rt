@@ -33,6 +33,8 @@ pub fn statements_are_read_as_records()
 /// are such as decks give; each record that is read from a deck is such; and a configuration that
 /// was read from a deck is that of its deck. So what is written of it is read as the same
 /// configuration.
+///
+/// Promise: what `write` prints of a deck is read again as the same configuration.
 pub fn decks_are_read_again()
     ensures given { GivesRecords }
     ensures deck { ReadsDeckAgain }

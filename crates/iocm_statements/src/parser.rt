@@ -56,6 +56,8 @@ fn make_statement(alloc: Global, joined: &Joined) -> Result<Statement, Fault>
 /// operand or a bad keyword; S2, a keyword twice. A bare text may be repeated. M1 without memory.
 /// (IOCP User's Guide, coding of control statements; the numbers and the order of the faults are
 /// own.)
+///
+/// Promise: operands are cut exactly, or the first of S1, S6, S4 and S2 is answered.
 #[tactic(auto, using(iocm_types::proofs::Each::each_steps))]
 pub fn parse(alloc: Global, joined: &[Joined]) -> Result<Vec<Statement>, Fault>
     ensures { Gives (λ v. v.items) result (parsed joined.now) }

@@ -1,4 +1,6 @@
 pub mod Filtering
+pub mod ItemPassing
+pub mod ItemWordsAmong
 pub mod Joined
 pub mod Levels
 pub mod Looking

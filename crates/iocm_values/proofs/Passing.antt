@@ -18,7 +18,7 @@ ended_in_front text rest = by (bytes_eq text (41 ∷ []))
     by false = refl
 
 -- where the next word begins, what is at hand of it is the parenthesis or nothing
-next_begins : (text : List ℕ) (i next : ℕ) → i < length text → next ≡ cond (get_or text i 0 == 41) i (i + 1)
+pub next_begins : (text : List ℕ) (i next : ℕ) → i < length text → next ≡ cond (get_or text i 0 == 41) i (i + 1)
     → slice_range text next (i + 1) ≡ begun_by (get_or text i 0)
 next_begins text i next within is = by (get_or text i 0 == 41) refl
   where
@@ -48,10 +48,10 @@ unfolding words_from
 list_opens found p text from next i within out opens here begins =
     rw (drop_more text i 0 within, out, opens, here, begins, run_begins text i, run_begins text (i + 1)) refl
 
-run_length : (text : List ℕ) (from i : ℕ) → i ≤ length text → length (slice_range text from i) ≡ i - from
+pub run_length : (text : List ℕ) (from i : ℕ) → i ≤ length text → length (slice_range text from i) ≡ i - from
 run_length text from i within = length-take (i - from) (drop from text) ∙ ap (min (i - from)) (length-drop from text) ∙ omega arith
 
-same_place : (from i : ℕ) → from ≤ i → (i - from == 0) ≡ (from == i)
+pub same_place : (from i : ℕ) → from ≤ i → (i - from == 0) ≡ (from == i)
 same_place from i begun = grind (arith, nat_tests)
 
 -- another byte goes to the word at hand

@@ -1,5 +1,6 @@
 pub mod CssLists
 pub mod Digits
+pub mod ItemWords
 pub mod NameSet
 pub mod Numbers
 pub mod Reading

@@ -18,14 +18,14 @@ fn end<'a>(words: &mut Vec<&'a [u8]>, text: &'a [u8]) -> Result<(), AllocError>
 }
 
 // Whether a byte ends a word outside quotes and parentheses of its own.
-fn ends_word(byte: u8) -> bool
+pub(crate) fn ends_word(byte: u8) -> bool
     ensures { result ≡ meaning.ends_word byte }
 {
     byte == b',' || byte == b')'
 }
 
 // Where the next word begins behind a byte that ends one: a parenthesis belongs to it.
-fn next_from(index: usize, byte: u8) -> usize
+pub(crate) fn next_from(index: usize, byte: u8) -> usize
     requires { index + 1 < 2 ^ 64 }
     ensures { result ≡ (if byte == 41 then index else index + 1) }
 {
@@ -33,7 +33,7 @@ fn next_from(index: usize, byte: u8) -> usize
 }
 
 // The nesting behind a byte that doesn't end a word.
-fn after(nesting: Nesting, byte: u8) -> Nesting
+pub(crate) fn after(nesting: Nesting, byte: u8) -> Nesting
     requires { nesting.depth + 1 < 2 ^ 64 }
     ensures next { result ≡ unwrap_or (step nesting byte) nesting }
     ensures depth { result.depth ≤ nesting.depth + 1 }
