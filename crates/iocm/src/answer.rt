@@ -22,6 +22,8 @@ use std::io::{Read, Write};
 /// Each deck is read by at most `limit` reads; a request that has no change deck leaves `change`
 /// alone. L5 (`ConsoleError::Read`): a deck can't be read to its end; L6 (`ConsoleError::Write`): a
 /// write failed. All other faults are refusals, which are printed.
+///
+/// Promise: for each request just the answer of its command is printed.
 pub fn print_answer<R: Read, S: Read, W: Write + Drop>(
     alloc: Global,
     request: &Request<'_>,

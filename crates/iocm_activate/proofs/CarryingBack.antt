@@ -34,16 +34,6 @@ use Rattle.iocm_activate.proofs.Whole.{walked, all_told, kept_by}
 
 -- ---- the walk along what was done
 
--- one more is turned round, or not
-pub turns_one : (done : List Applied) (i : ℕ) (a : Applied) (left rest : List Touched) (was : Touched) → i < length done → a ≡ get_or done i a
-    → left ≡ rest ++ was ∷ [] → are_turned_back (drop i done) (reverse left) ≡ (is_turned a.touched was && are_turned_back (drop (i + 1) done) (reverse rest))
-turns_one done i a left rest was within item last = λ j. are_turned_back (drop-item done i a within item j) (on_the_last left rest was last j)
-
--- nothing is left with which it could be compared
-pub lacks_one : (done : List Applied) (i : ℕ) (a : Applied) (left : List Touched) → i < length done → a ≡ get_or done i a → left ≡ []
-    → are_turned_back (drop i done) (reverse left) ≡ false
-lacks_one done i a left within item none = λ j. are_turned_back (drop-item done i a within item j) (reverse (none j))
-
 -- ---- a Row of edits that was accepted
 
 -- neither refusal applies where none does

@@ -100,11 +100,6 @@ closed {m} {p} {first} {q} {second} same places still n third answer a done keys
       ∙ ap (λ o. outcome_of o q.state a.ran.edits) (sym is) ∙ ap (outcome_of answer q.state) (sym (append-nil a.ran.edits));
 }
 
--- a node was refused
-pub closed_before : (m : Outcome) (n : ℕ) (p : Operating) (first : Log) (q : Operating) (second : Log) (why : Refused)
-    → Answers m p first q second (Some why) → Answers (if_rules_hold n m) p first q second (Some why)
-closed_before m n p first q second why a = record { ran = a.ran; means = ap (if_rules_hold n) a.means }
-
 -- ---- a Choose
 
 -- at first all parts are left

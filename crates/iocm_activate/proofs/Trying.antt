@@ -196,11 +196,6 @@ abbrev pub parts_in : ChangeTree → Parts
 parts_in (model.row ps) = ps
 parts_in _ = model.none
 
--- whether a tree is a Row
-abbrev pub is_row : ChangeTree → Bool
-is_row (model.row ps) = true
-is_row _ = false
-
 -- parts that take back what was performed, at the end of which the rules are kept, say whether a
 -- change fits
 pub fits_by : (t : CarriedTree) (ps : CarriedParts) (ds : List Touched) (u : State) (is : Bool) → t ≡ row ps
@@ -213,20 +208,6 @@ pub fits_by : (t : CarriedTree) (ps : CarriedParts) (ds : List Touched) (u : Sta
 fits_by t ps ds u is shape kept es s same told = kept
     ∙ ap (λ p. keeps_the_rules (gone_back_along p (reverse ds) u)) (ap parts_in (sym (ap plain_tree shape) ∙ same))
     ∙ ap keeps_the_rules (all_back ds es s u told)
-
--- a tree that isn't a Row takes nothing back
-pub fits_not : (t : CarriedTree) (ds : List Touched) (u : State) (is : Bool) → is_row (plain_tree t) ≡ false
-    → (es : List Edit) (s : State) → plain_tree t ≡ inverse_tree es s → AreToldBy ds (told_of_all es s) → is ≡ fits (record {
-      edits = es;
-      from =
-          s;
-    }) u
-fits_not t ds u is other es s same told = absurd (false≢true (sym other ∙ ap is_row same))
-
--- whether there is no breach
-pub none_broken : {E : Type 0} (r : Result (Unit {0}) E) (found : Option E) → result_err r ≡ found → is_ok r ≡ not (is_some found)
-none_broken (Ok x) found h = ap (λ o. not (is_some o)) h
-none_broken (Err b) found h = ap (λ o. not (is_some o)) h
 
 -- from an empty log on nothing is to be taken back
 pub nothing_to_take_back : (p : Operating) (log : Log) → log.done.items ≡ [] → LeadsTo (way_back log.done.items) p.state p

@@ -28,6 +28,8 @@ use std::alloc::{Allocator, Global};
 /// at its node: E1, E2, E4 or B1 of an edit, E3 of a Choose without parts, V1 to V14 where the
 /// rules are broken at the end of a node. M1, which may stand in place of any other: memory ran
 /// out. A refused change leaves the state as it was.
+///
+/// Promise: a change is made whole, with its inverse, or it is refused and nothing is changed.
 pub fn activate<A: Allocator>(
     alloc: Global,
     plant: &mut Plant,

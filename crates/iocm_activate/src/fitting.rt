@@ -26,6 +26,8 @@ use std::alloc::{AllocError, Allocator, Global};
 /// whether the rules are kept at the end. The state stays as it is.
 ///
 /// `AllocError` (M1): memory ran out.
+///
+/// Promise: it is told exactly whether a change could be taken back now, and nothing is changed.
 pub fn fits<A: Allocator>(
     alloc: Global,
     plant: &mut Plant,

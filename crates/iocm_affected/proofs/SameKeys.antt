@@ -25,12 +25,6 @@ pub same_behind : (front xs ys : List Place) → AreSamePlaces xs ys → AreSame
 same_behind front xs ys same p = list_any-append (eq_by_cmp place_cmp p) front xs ∙ ap (λ b. list_any (eq_by_cmp place_cmp p) front || b) (same p)
     ∙ sym (list_any-append (eq_by_cmp place_cmp p) front ys)
 
--- what was listed in two steps
-pub same_in_two : (start between whole xs ys : List Place) → AreSamePlaces between (start ++ xs) → AreSamePlaces whole (between ++ ys) → AreSamePlaces whole (start ++ (xs ++ ys))
-same_in_two start between whole xs ys first second p = second p ∙ list_any-append (eq_by_cmp place_cmp p) between ys
-    ∙ ap (λ b. b || list_any (eq_by_cmp place_cmp p) ys) (first p) ∙ sym (list_any-append (eq_by_cmp place_cmp p) (start ++ xs) ys)
-    ∙ ap (list_any (eq_by_cmp place_cmp p)) (append_assoc start xs ys)
-
 -- equal lists have the same places
 pub same_lists : (xs ys : List Place) → xs ≡ ys → AreSamePlaces xs ys
 same_lists xs ys is p = ap (list_any (eq_by_cmp place_cmp p)) is

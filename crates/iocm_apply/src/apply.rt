@@ -41,6 +41,8 @@ use std::io::{Read, Write};
 /// written then, and a deck that is refused is refused before the change deck counts. L6
 /// (`ConsoleError::Write`): a write failed; what is written up to there is not said. All other
 /// faults, lack of memory (M1) too, are refusals, which are printed.
+///
+/// Promise: `apply` prints the report of what the change means, or one refusal.
 pub fn apply_change<R: Read, S: Read, W: Write + Drop>(
     alloc: Global,
     heap: usize,

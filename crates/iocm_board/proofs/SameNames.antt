@@ -96,6 +96,3 @@ bears_first b bs = left_true (same b.name b.name) (bears bs b.name) (same_refl b
 
 pub fresh_bears : (n m : Name) → bears (fresh n) m ≡ true → n ≡ m
 fresh_bears n m e = ⊎_elim (λ (h : same n m ≡ true). same_true n m h) (λ (h : false ≡ true). absurd (true≢false (sym h))) (either_true (same n m) false e)
-
-pub bears_fresh : (n : Name) → bears (fresh n) n ≡ true
-bears_fresh n = left_true (same n n) false (same_refl n)

@@ -46,10 +46,3 @@ pub one_more : (rule : Rule) (breaks : Rec → Bool) (r : Rec) (rs : List Rec) (
 one_more rule breaks r rs old new grown = ap (λ bs. bs ++ breaches_of_rule rule breaks rs) grown
     ∙ append_assoc old (breaches_of_rule rule breaks (r ∷ [])) (breaches_of_rule rule breaks rs)
     ∙ ap (λ bs. old ++ bs) (of_more rule breaks r rs)
-
--- a record that breaks the rule, and one that doesn't
-pub one_that_does : (rule : Rule) (breaks : Rec → Bool) (r : Rec) → breaks r ≡ true → breaches_of_rule rule breaks (r ∷ []) ≡ breach_of rule r ∷ []
-one_that_does rule breaks r so = ap (λ b. map (breach_of rule) (cond b (r ∷ []) [])) so
-
-pub one_that_does_not : (rule : Rule) (breaks : Rec → Bool) (r : Rec) → breaks r ≡ false → breaches_of_rule rule breaks (r ∷ []) ≡ []
-one_that_does_not rule breaks r so = ap (λ b. map (breach_of rule) (cond b (r ∷ []) [])) so

@@ -20,6 +20,8 @@ use std::alloc::{AllocError, Allocator};
 /// before it on its paths.
 ///
 /// `AllocError` (M1): memory ran out.
+///
+/// Promise: `check --all` finds exactly all breaches, by rule and then by key.
 pub fn all_breaches<A: Allocator, B: Allocator + Copy>(
     alloc: B,
     config: &Config<A>,

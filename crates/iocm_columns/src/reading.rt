@@ -19,6 +19,8 @@ use std::io::Read;
 ///
 /// Source: a card of 80 columns, as in the IOCP User's Guide, coding macroinstructions; the rest is
 /// own.
+///
+/// Promise: lines are read exactly, or the first of L1 and L2 is answered, or L5.
 #[tactic(auto, using(crate::proofs::Refusing::never_unreadable))]
 pub fn read_cards<R: Read>(
     alloc: Global,

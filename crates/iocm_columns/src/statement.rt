@@ -25,6 +25,8 @@ use std::alloc::{AllocError, Global};
 /// in a comma outside quotes; else the continuations are remark.
 ///
 /// Source: IOCP User's Guide, coding macroinstructions, continuation; where a part goes on is own.
+///
+/// Promise: lines are joined to statements exactly, or the first of L3 and L4 is answered.
 pub fn join(alloc: Global, cards: &[Card]) -> Result<Vec<Joined>, Fault>
     ensures { Gives (λ v. v.items) result (statements_of cards.now) }
 {

@@ -134,6 +134,8 @@ const OTHER_FORM: &str =
 /// `explain`; and with `run`, a deck, a script, change decks, as many as there are and in their
 /// order, and the size of a heap. Where the words name `run` and such files plainly, the command is
 /// `Run` with just these.
+///
+/// Promise: the command that is done is the one that the words state.
 pub fn command_of<'a, S: AsStr>(alloc: Global, words: &'a [S]) -> Result<Understood<'a>, Error>
     ensures command { IfOk result (λ u. StatesCommand (map S.text words.entry.now) u.command) }
     ensures arguments { IfOk result (λ u. StatesArguments (map S.text words.entry.now) u.command) }

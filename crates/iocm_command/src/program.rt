@@ -226,12 +226,10 @@ fn diff_command<'a>(alloc: Global) -> Result<clap::Command<'a>, AllocError>
         "Reads two configuration decks and prints the change deck that leads from one to the other";
     let old_help = "The configuration deck before: its file, or - for standard input";
     let new_help = "The configuration deck afterwards: its file, or - for standard input";
-    let old = file(alloc, "OLD", old_help);
-    let new = file(alloc, "NEW", new_help);
     let before = "Prints what was there before each change, as comments";
     quiet_command(alloc, "diff", about)?
-        .arg(old)?
-        .arg(new)?
+        .arg(file(alloc, "OLD", old_help))?
+        .arg(file(alloc, "NEW", new_help))?
         .arg(flag(alloc, "old", before))
 }
 
@@ -244,10 +242,9 @@ fn apply_command<'a>(alloc: Global) -> Result<clap::Command<'a>, AllocError>
         "Activates a change deck on the machine of a configuration deck and prints the table afterwards, \
          what was altered, or how to take it back";
     let help = "A change deck: the file of the statements of a change, or - for standard input";
-    let change = file(alloc, "CHANGE", help);
     let heap_help = "The heap that the change tree is read in: 16 to 16777216 bytes";
     let command = deck_command(alloc, "apply", about)?
-        .arg(change)?
+        .arg(file(alloc, "CHANGE", help))?
         .arg(heap(alloc, heap_help))?;
     with_filters(alloc, with_reports(alloc, command)?)
 }
@@ -261,14 +258,12 @@ fn run_command<'a>(alloc: Global) -> Result<clap::Command<'a>, AllocError>
         "Runs a script of images and operators on the machine of a configuration deck, and prints the answers \
          and the table afterwards";
     let script_help = "A script: the file of its lines, or - for standard input";
-    let script = file(alloc, "SCRIPT", script_help);
     let help = "A change deck, which the script names by its place, from 1: its file, or - for \
                 standard input";
-    let changes = changes(alloc, "CHANGE", help);
     let heap_help = "The heap that each change tree is read in: 16 to 16777216 bytes";
     deck_command(alloc, "run", about)?
-        .arg(script)?
-        .arg(changes)?
+        .arg(file(alloc, "SCRIPT", script_help))?
+        .arg(changes(alloc, "CHANGE", help))?
         .arg(heap(alloc, heap_help))
 }
 

@@ -40,6 +40,8 @@ pub enum DeckCommand<'f> {
 /// L5 (`ConsoleError::Read`): a read failed, or none of `limit` reads gave the end; nothing is
 /// written then. L6 (`ConsoleError::Write`): a write failed; what is written up to there is not
 /// said. All other faults, lack of memory (M1) too, are refusals, which are printed.
+///
+/// Promise: `check`, `show` and `write` print the text of the definitions, or one refusal.
 pub fn answer_deck<R: Read, W: Write + Drop>(
     alloc: Global,
     command: DeckCommand<'_>,

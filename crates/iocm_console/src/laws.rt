@@ -7,6 +7,8 @@ ghost use Rattle.iocm_console.specs.Examples.{RefusalsOfChanges};
 /// What `write` writes of a deck that it doesn't refuse is read again: `check`, `show` and `write`
 /// print of it what they print of the deck. So the canonical deck is accepted, has the same records
 /// and subchannels, and is its own canonical deck.
+///
+/// Promise: `check`, `show` and `write` print of a written deck what they print of the deck.
 pub fn what_is_written_is_read_again()
     ensures { PrintsTheSame }
 {}

@@ -101,6 +101,8 @@ impl Core {
     ///
     /// `Full`: the trace has as many entries as it has room for; the call is handed back, and
     /// nothing is recorded.
+    ///
+    /// Promise: each call is recorded with its answer, or it is handed back and nothing is changed.
     pub fn call(&mut self, alloc: Global, call: Call) -> Result<Answer, Full>
         ensures recorded { IfOk result (λ answer. IsRecorded self.old (call_in call) answer self.new) }
         ensures entries { IfOk result (λ answer. self.new.entries ≡ self.old.entries

@@ -26,6 +26,8 @@ pub struct Closed {
 impl Core {
     /// Closes the machine, and gives it with its trace. What was advanced of a change in stages is
     /// taken back. Can't run out of memory.
+    ///
+    /// Promise: the machine that is left is the one to which the recorded calls lead.
     pub fn close(self) -> Closed
         ensures state { result.plant.state ≡ state_at self.opening self.history }
         ensures opening { opening_state result.trace.opening.records ≡ self.opening }
@@ -58,6 +60,8 @@ impl Core {
     /// Its history is legal, from an opening state in use: each answer is the one that the
     /// definition of histories gives, or M1 where nothing is staged and memory may be wanted. It
     /// reads nothing, and is there for callers' proofs.
+    ///
+    /// Promise: each answer is the one that the history determines, or lack of memory.
     pub fn is_legal(&self)
         ensures used { IsInUse self.now.opening }
         ensures legal { IsLegal self.now.opening self.now.history }

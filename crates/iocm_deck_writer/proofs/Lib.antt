@@ -2,4 +2,3 @@ pub mod Again
 pub mod Apart
 pub mod Given
 pub mod Rest
-pub mod Runs

@@ -4,12 +4,6 @@ use Rattle.std.specs.List.{list_any, AllByRecursion}
 use Rattle.std.proofs.Math.ListN.{set}
 use Rattle.iocm_model.specs.Machine.Mask.{mask_from}
 
--- what holds of all, and of what is put in the place of one, holds of all then
-pub all_set : {A : Type 0} (P : A → Type 0) (xs : List A) (i : ℕ) (x : A) → P x → AllByRecursion P xs → AllByRecursion P (set xs i x)
-all_set P [] i x here all = all
-all_set P (y ∷ xs) zero x here all = (here, all.1)
-all_set P (y ∷ xs) (suc i) x here all = (all.0, all_set P xs i x here all.1)
-
 -- half of a power of two
 half : (k : ℕ) → 2 ^ suc k / 2 ≡ 2 ^ k
 half k = omega arith

@@ -118,11 +118,6 @@ module _ (first : Key) (key : ℕ → Key) (test : Option Rec → Bool) (none : 
   last true c o is sum = sum
   last false c o is sum = sym none ∙ ap test (sym is) ∙ sum
 
-  -- after the last row
-  pub fill_ends : (right : ℕ → Bool) (table : List Bool) → IsFilling first key test right table []
-      → (n : ℕ) → n < 256 → get_or table n false ≡ right n
-  fill_ends right table before n low = last _ _ None refl (before.sum n low)
-
   -- at a row that is behind all paths
   pub fill_stops : (right : ℕ → Bool) (table : List Bool) (e : Key × Rec) (rows es : List (Key × Rec)) → IsFilling first key test right table rows
       → rows ≡ e ∷ es → ((n : ℕ) → is_le (key_cmp first e.0) ≡ true → key_cmp (key n) e.0 ≡ Less) → (n : ℕ) → n < 256 → get_or table n false ≡ right n

@@ -18,32 +18,6 @@ none_listed : (is_so : List ℕ → Bool) (candidates : Option (List (List ℕ))
 none_listed is_so None is = refl
 none_listed is_so (Some names) is = absurd (false≢true is)
 
-keeps_v12 : (c : Configuration) (r : Rec) → is_without_candidates r ≡ true → breaks_v12 c r ≡ false
-keeps_v12 c (device d) is = none_listed (λ name. not (is_image c name)) d.candidates is
-keeps_v12 c (id x) is = absurd (false≢true is)
-keeps_v12 c (resource x) is = absurd (false≢true is)
-keeps_v12 c (image x) is = absurd (false≢true is)
-keeps_v12 c (limit x) is = absurd (false≢true is)
-keeps_v12 c (path x) is = absurd (false≢true is)
-keeps_v12 c (unit x) is = absurd (false≢true is)
-keeps_v12 c (online x) is = absurd (false≢true is)
-
-first_of_both : (a b : Bool) → (a && b) ≡ true → a ≡ true
-first_of_both true b is = refl
-first_of_both false b is = absurd (false≢true is)
-
-second_of_both : (a b : Bool) → (a && b) ≡ true → b ≡ true
-second_of_both true b is = is
-second_of_both false b is = absurd (false≢true is)
-
--- devices on the same units that list no candidates break the rules alike
-pub break_alike : (c : Configuration) (a b : Rec) → AreOnSameUnits a b → (is_without_candidates a && is_without_candidates b) ≡ true
-    → breaks_any c a ≡ breaks_any c b
-break_alike c a b same without =
-    let v12 = keeps_v12 c a (first_of_both (is_without_candidates a) (is_without_candidates b) without)
-    ∙ sym (keeps_v12 c b (second_of_both (is_without_candidates a) (is_without_candidates b) without)) in
-    (λ i. alike (breaks_v8 c) (λ d. refl) a b same i || (alike (breaks_v11 c) (λ d. refl) a b same i || v12 i))
-
 -- ---- where none breaks any of the rules
 
 module _ (p q : Rec → Bool) (less : (r : Rec) → q r ≡ false → p r ≡ false) where

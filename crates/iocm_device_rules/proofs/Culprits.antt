@@ -86,9 +86,6 @@ number_there test (x ∷ xs) n any passes = by (nat_eq n x) refl any (λ h. numb
 
 -- ---- devices and the units that they name
 
-unit_thing : ℕ → Named
-unit_thing n = thing.Record (key.Unit n)
-
 unit_of_thing : Named → ℕ
 unit_of_thing (thing.Record (key.Unit n)) = n
 unit_of_thing _ = 0

@@ -133,39 +133,6 @@ units_past c css us i past = ap (path_list c css) (drop_of_length-le us past)
 
 -- ---- six lists
 
--- the list of a path's channel subsystem, with the path at its end
-pub path_joined : (lists : List (List ℕ)) (p : CssPath) (list : List ℕ) → p.css < 6 → AreRight lists
-    → list ≡ get_or lists p.css [] ++ p.path ∷ [] → is_wrong_list (get_or lists p.css [] ++ p.path ∷ []) ≡ is_wrong_list (get_or lists p.css [])
-    → AreJoined lists (set lists p.css list) (λ css. paths_in css (p ∷ []))
-path_joined lists p list within h is same = record {
-  are_right = record {
-    six = length-set lists p.css list ∙ h.six;
-    right = λ css low. right_at css low (nat_eq p.css css) refl;
-  };
-  joined = λ css low. joined_at css low (nat_eq p.css css) refl;
-}
-  where
-    here : p.css < length lists
-    here = let six = h.six in omega arith
-
-    right_at : (css : ℕ) → css < 6 → (b : Bool) → nat_eq p.css css ≡ b → is_wrong_list (get_or (set lists p.css list) css []) ≡ false
-    right_at css low true e =
-        let at : css ≡ p.css = grind (arith, nat_tests) in
-        ap (λ c. is_wrong_list (get_or (set lists p.css list) c [])) at
-        ∙ ap is_wrong_list (get_or-set_same lists p.css list [] here ∙ is) ∙ same ∙ h.right p.css within
-    right_at css low false e =
-        let apart : css ≢ p.css = grind (arith, nat_tests) in
-        ap is_wrong_list (get_or-set_other lists p.css css list [] apart) ∙ h.right css low
-
-    joined_at : (css : ℕ) → css < 6 → (b : Bool) → nat_eq p.css css ≡ b → get_or (set lists p.css list) css [] ≡ get_or lists css [] ++ paths_in css (p ∷ [])
-    joined_at css low true e =
-        let at : p.css ≡ css = grind (arith, nat_tests) in
-        subst (λ (c : ℕ). get_or (set lists p.css list) c [] ≡ get_or lists c [] ++ paths_in c (p ∷ [])) at
-        (get_or-set_same lists p.css list [] here ∙ is ∙ ap (λ ps. get_or lists p.css [] ++ ps) (sym (own_path p)))
-    joined_at css low false e =
-        let apart : css ≢ p.css = grind (arith, nat_tests) in
-        get_or-set_other lists p.css css list [] apart ∙ sym (ap (λ ps. get_or lists css [] ++ ps) (other_path css p e) ∙ append-nil _)
-
 -- a path with which its list is wrong
 pub wrong_with_path : (lists : List (List ℕ)) (p : CssPath) → p.css < 6 → is_wrong_list (get_or lists p.css [] ++ p.path ∷ []) ≡ true
     → IsWrongWith lists (λ css. paths_in css (p ∷ []))
@@ -177,10 +144,6 @@ wrong_with_path lists p within wrong = record {
       ∙ ap is_wrong_list (sym (append_assoc (get_or lists p.css []) (p.path ∷ []) rest))
       ∙ still_wrong (get_or lists p.css [] ++ p.path ∷ []) rest wrong;
 }
-
--- what is left is put behind lists that were joined
-pub joined_more : (xs ps qs ys : List ℕ) → ys ≡ xs ++ ps → ys ++ qs ≡ xs ++ (ps ++ qs)
-joined_more xs ps qs ys is = ap (λ zs. zs ++ qs) is ∙ append_assoc xs ps qs
 
 -- lists that are wrong with the first of what is left are wrong with all
 pub wrong_with_all : (old lists : List (List ℕ)) (all more rest : ℕ → List ℕ)
@@ -208,6 +171,3 @@ some_subsystem test (suc (suc (suc (suc zero)))) low h = or_second (test 0) _ (o
 some_subsystem test (suc (suc (suc (suc (suc zero))))) low h =
     or_second (test 0) _ (or_second (test 1) _ (or_second (test 2) _ (or_second (test 3) _ (or_second (test 4) _ (rw h refl)))))
 some_subsystem test (suc (suc (suc (suc (suc (suc n)))))) low h = absurd (omega arith)
-
-pub no_subsystem : (test : ℕ → Bool) → ((css : ℕ) → css < 6 → test css ≡ false) → list_any test subsystems ≡ false
-no_subsystem test none = rw (none 0 (omega arith), none 1 (omega arith), none 2 (omega arith), none 3 (omega arith), none 4 (omega arith), none 5 (omega arith)) refl

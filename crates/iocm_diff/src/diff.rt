@@ -30,6 +30,8 @@ use std::io::{Read, Write};
 /// written then, and an old deck that is refused is refused before the new one counts. L6
 /// (`ConsoleError::Write`): a write failed; what is written up to there is not said. All other
 /// faults, lack of memory (M1) too, are refusals, which are printed.
+///
+/// Promise: `diff` prints the difference of two decks exactly, or one refusal.
 pub fn diff_decks<R: Read, S: Read, W: Write + Drop>(
     alloc: Global,
     with_old: bool,

@@ -32,6 +32,8 @@ pub fn each_difference_is_edited_once()
 
 /// No shorter list of actions leads from one configuration to the other. So a configuration doesn't
 /// differ from itself.
+///
+/// Promise: no shorter list of edits leads from one deck to the other.
 pub fn no_actions_are_fewer()
     ensures least { DifferenceIsLeast }
     ensures itself { NothingDiffers }

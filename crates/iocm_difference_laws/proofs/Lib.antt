@@ -12,3 +12,8 @@ pub mod Rows
 pub mod TwoParts
 pub mod WayBack
 pub mod Worked
+pub mod AcceptedDecks
+pub mod Loop
+pub mod Online
+pub mod Printed
+pub mod LoopRoom

@@ -4,3 +4,7 @@ pub mod Meaning
 pub mod Opened
 pub mod Room
 pub mod WayBack
+pub mod Accepted
+pub mod Loop
+pub mod Online
+pub mod LoopRoom

@@ -16,6 +16,8 @@ ghost use Rattle.iocm_difference_laws.specs.WayBack.{InverseIsTheOtherDifference
 /// On the machine that is opened from the old configuration the change of the difference is refused
 /// with C2, where it has too many edits. Else it is refused with V13, where a device has no room in
 /// the new configuration. Else all its edits are performed, and the new configuration is reached.
+///
+/// Promise: a difference leads to the new deck's configuration, or it is refused C2 or V13.
 pub fn the_difference_means_the_new_configuration()
     ensures means { DifferenceMeans }
     ensures reaches { ReachesTheNew }

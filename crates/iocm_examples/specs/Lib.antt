@@ -17,3 +17,7 @@ pub mod Stages
 pub mod Starts
 pub mod Trees
 pub mod Views
+pub mod Fitting
+pub mod InTheWay
+pub mod WithoutAChange
+pub mod Premises

@@ -5,8 +5,12 @@
 //! Each file in `specs/` states the examples of one subject; begin with `BaseDeck`, which has the
 //! deck. The functions here have empty bodies, and their contracts are the examples. The kit's
 //! finite maps don't compute by themselves, so `proofs/Listed` has each definition on sorted lists,
-//! with the lemma that the two agree, and `proofs/Computed` closes each example on them. Nothing
-//! stands on this crate.
+//! with the lemma that the two agree, and `proofs/Computed` closes each example on them.
+//!
+//! `specs/WithoutAChange.antt` has the same calls with and without a change, where the two lead to
+//! different states; `specs/InTheWay.antt` has what is in the way of an undo, `specs/Fitting.antt`
+//! changes that don't fit, and `specs/Premises.antt` runs that meet the premises of the laws of
+//! `iocm_runs`.
 #![tactic(auto)]
 
 mod effects;
@@ -16,6 +20,7 @@ mod orders;
 mod paths;
 mod refusals;
 mod rules;
+mod runs;
 mod trees;
 mod views;
 
@@ -31,6 +36,10 @@ pub use paths::paths_change_as_worked;
 pub use refusals::{first_refusals_are_as_worked, refusals_are_as_worked};
 pub use rules::{
     clauses_of_rules_are_as_worked, limits_of_sets_are_as_worked, rules_are_as_worked,
+};
+pub use runs::{
+    changes_fit_as_worked, premises_are_met, runs_without_a_change_are_as_worked,
+    what_blocks_is_as_worked,
 };
 pub use trees::trees_are_as_worked;
 pub use views::{long_path_lists_are_as_worked, views_are_as_worked};

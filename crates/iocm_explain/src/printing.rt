@@ -17,6 +17,8 @@ use std::io::Write;
 /// nothing is printed. Can't run out of memory.
 ///
 /// L6 (`ConsoleError::Write`): a write failed; what is written up to there is not said.
+///
+/// Promise: `explain` prints the entry of the refusal that is named, and lists each refusal once.
 pub fn explain<W: Write + Drop>(
     word: Option<&str>,
     output: &mut Output<W>,

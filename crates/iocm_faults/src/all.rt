@@ -15,6 +15,8 @@ use std::alloc::{AllocError, Global};
 /// only where they are the first fault. The time is that of reading the deck twice.
 ///
 /// `AllocError` (M1): memory ran out.
+///
+/// Promise: each further statement with a fault of its own is listed with its first one.
 pub fn all_faults(alloc: Global, joined: &[Joined]) -> Result<Vec<Fault>, AllocError>
     ensures { IfOk result (λ faults. faults.items ≡ model.all_faults joined.now) }
 {

@@ -26,6 +26,8 @@ pub fn rows_are_wanted_as_worked()
 
 /// Where nothing is asked for, each subchannel is wanted; and just those that are wanted pass the
 /// sieve of a configuration.
+///
+/// Promise: just the subchannels that filters ask for are listed; without filters, all.
 pub fn nothing_asked_for_is_all()
     ensures all { NothingIsAll }
     ensures wanted { PassesWanted }

@@ -55,9 +55,6 @@ module _ {X Y : Type 0} (told : List Y → SubId → Option (Option X)) (bare : 
     same_longer x = ap (λ ys. below ys x) longer.items
         ∙ get_longer (λ y. told y x) old longer.more (all_tell_nothing (λ y. told y x) (bare x) longer.more longer.all) (index x)
 
-    pub adds_longer : AddsEmpty (below old) (below new)
-    adds_longer x = inl (same_longer x)
-
     module _ (i : ℕ) (y w : List Y) (at : slice_get new i ≡ Some y) (adds : AddsEmpty (told y) (told w)) where
       at_index : (x : SubId) (b : Bool) → nat_eq (index x) i ≡ b
           → (below (slice_set new i w) x ≡ below old x) ⊎ ((below old x ≡ None) × (below (slice_set new i w) x ≡ Some None))
@@ -86,15 +83,6 @@ module _ {X Y : Type 0} (told : List Y → SubId → Option (Option X)) (bare : 
       is_there x same there = ap is_some (get_set (λ z. told z x) new i y w at (index x)
           ∙ ap (λ b. cond b (told w x) (below new x)) (ap (λ n. nat_eq (index x) n) (sym same) ∙ number_itself (index x))) ∙ there
 
--- slots that come at the end
-slots_come : {X : Type 0} (ys more : List (Option X)) → AllByRecursion is_empty more → (j : ℕ)
-    → (slice_get (ys ++ more) j ≡ slice_get ys j) ⊎ ((slice_get ys j ≡ None) × (slice_get (ys ++ more) j ≡ Some None))
-slots_come [] [] all j = inl refl
-slots_come [] (y ∷ more) all zero = inr (refl, ap Some all.0)
-slots_come [] (y ∷ more) all (suc j) = slots_come [] more all.1 j
-slots_come (y ∷ ys) more all zero = inl refl
-slots_come (y ∷ ys) more all (suc j) = slots_come ys more all j
-
 -- no slot is told of where there are none
 either_way : {A : Type 0} (b : Bool) (a : A) → cond b a a ≡ a
 either_way true a = refl
@@ -102,22 +90,6 @@ either_way false a = refl
 
 pub none_among : {X : Type 0} (x : SubId) → slot_among {X = X} [] x ≡ None
 none_among x = either_way (is_image x.image.mif) None
-
-pub adds_slots : {X : Type 0} {old new : Slots X} → IsLonger is_empty old new → AddsEmpty (slot_among old) (slot_among new)
-adds_slots {X} {old} {new} longer x = by (is_image x.image.mif)
-    (subst (λ ys. (slice_get ys (index_of x) ≡ slice_get old (index_of x)) ⊎ ((slice_get old (index_of x) ≡ None) × (slice_get ys (index_of x) ≡ Some None)))
-    (sym longer.items) (slots_come old longer.more longer.all (index_of x)))
-  where
-    by : (b : Bool) → (slice_get new (index_of x) ≡ slice_get old (index_of x)) ⊎ ((slice_get old (index_of x) ≡ None) × (slice_get new (index_of x) ≡ Some None))
-        → (cond b (slice_get new (index_of x)) None ≡ cond b (slice_get old (index_of x)) None)
-        ⊎ ((cond b (slice_get old (index_of x)) None ≡ None) × (cond b (slice_get new (index_of x)) None ≡ Some None))
-    by true adds = adds
-    by false adds = inl refl
-
--- the slot of a subchannel is there where the slots reach its index
-pub slot_there : {X : Type 0} (slots : Slots X) (x : SubId) → IsInRange x → index_of x < length slots → is_some (slot_among slots x) ≡ true
-slot_there slots x range less = ap (λ b. is_some (cond b (slice_get slots (index_of x)) None)) (is_of_image x.image.mif range.no_zero range.mif)
-    ∙ within slots (index_of x) less
 
 -- empty slots that come leave the rows as they are
 pub rows_stay : {X : Type 0} (old new : Levels X) → AddsEmpty (slot_at old) (slot_at new) → rows_in new ≡ rows_in old
@@ -135,18 +107,6 @@ slots_kept {X} {old} {new} adds x had = by (adds x)
     by : (new x ≡ old x) ⊎ ((old x ≡ None) × (new x ≡ Some None)) → is_some (new x) ≡ true
     by (inl same) = ap is_some same ∙ had
     by (inr came) = ap is_some came.1
-
--- a list that became longer twice became longer
-pub longer_still : {Y : Type 0} {P : Y → Type 0} {old new : List Y} → IsLonger P old new → (y : Y) → P y → IsLonger P old (new ++ y ∷ [])
-longer_still {Y} {P} {old} longer y is = record {
-  more = longer.more ++ y ∷ [];
-  items = ap (λ ys. ys ++ y ∷ []) longer.items ∙ append_assoc old longer.more (y ∷ []);
-  all = all_and longer.more longer.all;
-}
-  where
-    all_and : (ys : List Y) → AllByRecursion P ys → AllByRecursion P (ys ++ y ∷ [])
-    all_and [] all = (is, tt)
-    all_and (z ∷ ys) all = (all.0, all_and ys all.1)
 
 pub no_longer : {Y : Type 0} (P : Y → Type 0) (old : List Y) → IsLonger P old old
 no_longer P old = record { more = []; items = sym (append-nil old); all = tt }

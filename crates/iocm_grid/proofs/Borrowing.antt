@@ -18,9 +18,6 @@ module _ {X : Type 0} (levels : Levels X) (x : SubId) (range : IsInRange x) (css
   none_below : None ≡ slice_get levels css → slot_at levels x ≡ None
   none_below none = ap (option_and_then (λ sets. slot_in sets x)) (ap (slice_get levels) (sym css_is) ∙ sym none)
 
-  pub no_sets : None ≡ slice_get levels css → None ≡ slot_at levels x
-  no_sets none = sym (none_below none)
-
   module _ (sets : Sets X) (at_sets : Some sets ≡ slice_get levels css) where
     sets_there : slice_get levels x.image.css ≡ Some sets
     sets_there = ap (slice_get levels) (sym css_is) ∙ sym at_sets

@@ -1,1 +1,3 @@
 mod Leaving
+pub mod Inverses
+pub mod WayBack

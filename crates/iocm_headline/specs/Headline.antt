@@ -8,13 +8,10 @@ use Rattle.iocm_history.specs.Change as change
 use Rattle.iocm_history.specs.Change.{values_before}
 use Rattle.iocm_history.specs.Entry.{History}
 use Rattle.iocm_history.specs.InUse.{IsInUse}
+use Rattle.iocm_history.specs.Legal.{IsLegal}
 use Rattle.iocm_history.specs.MarkedEntry.{change_at, without_change}
 use Rattle.iocm_history.specs.Store.{store_of, state_of, store_with}
 use Rattle.iocm_history.specs.UndoLaws.{undo_entry}
-use Rattle.iocm_core.specs.Seen as seen
-use Rattle.iocm_core.specs.declared.call.Call.{Call}
-use Rattle.iocm_system.specs.OneRun.{history_of, IsOneRun}
-use Rattle.iocm_system.specs.declared.together.Together.{Together}
 
 -- the undo of change n after a history leaves this state
 pub record LeavesTheRunWithout (opening : State) (h : History) (n : ℕ) (left : State) : Type 0 where
@@ -29,9 +26,8 @@ pub record LeavesTheRunWithout (opening : State) (h : History) (n : ℕ) (left :
   -- and it is what the inverse tree of the change means in the state before the undo
   pub by_its_inverse : state_reached (meaning (inverse_tree undone.edits undone.from) (state_at opening h)) ≡ Some left
 
--- at each place of a trace that two threads made together, an accepted undo left that
-abbrev pub AnUndoAmongThreads : Type 0
-AnUndoAmongThreads = (core : seen.Core) (first second : List Call) (t : Together) → IsInUse core.opening
-    → IsOneRun core first second t
-    → (later h : History) (n : ℕ) → history_of t.closed ≡ later ++ undo_entry n ∷ h
-    → LeavesTheRunWithout core.opening h n (state_at core.opening (undo_entry n ∷ h))
+-- at each place of a legal history, an accepted undo left that
+abbrev pub AnUndoInALegalHistory : Type 0
+AnUndoInALegalHistory = (opening : State) (whole : History) → IsInUse opening → IsLegal opening whole
+    → (later h : History) (n : ℕ) → whole ≡ later ++ undo_entry n ∷ h
+    → LeavesTheRunWithout opening h n (state_at opening (undo_entry n ∷ h))

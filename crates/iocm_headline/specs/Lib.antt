@@ -1,1 +1,4 @@
 pub mod Headline
+pub mod Splitting
+pub mod KeptInverses
+pub mod WayBack

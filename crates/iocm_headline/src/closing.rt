@@ -14,6 +14,8 @@ use iocm_core::{Closed, Core};
 /// Closes a core, after any run of calls: an undo that is accepted leaves what the run without the
 /// change and without the steps on its subchannels leaves; each undo is answered by the first cause
 /// that applies; and the inverse tree of each accepted change takes it back.
+///
+/// Promise: an accepted undo leaves the run without its change; its inverse takes each change back.
 pub fn close_and_tell(core: Core) -> Closed
     ensures state { result.plant.state ≡ state_at core.opening core.history }
     ensures history { history_in result.trace.changes.items result.trace.entries.items ≡ core.history }

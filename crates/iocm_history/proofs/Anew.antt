@@ -239,10 +239,6 @@ step_back m (u ∷ us) x made l ls ns is undone chain =
 
 -- ---- an undo of the latest change
 
-rest_told : (m : Store) (new ls : List MarkedEntry) → AreTold m (new ++ ls) → AreTold m ls
-rest_told m [] ls told = told
-rest_told m (l ∷ new) ls told = rest_told m new ls told.2
-
 none_after : (mark : Mark) (a : Act) (ds : List Numbered) → change_and mark a ds ≡ [] → ds ≡ []
 none_after kept (step x made l) ds none = none
 none_after kept (change n c) ds none = cc

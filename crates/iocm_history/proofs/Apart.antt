@@ -21,10 +21,6 @@ abbrev pub AreApart : Effect → List Numbered → Type 0
 AreApart f [] = Unit {0}
 AreApart f (d ∷ ds) = (share_a_cell f (effect_of_change d.1) ≡ false) × AreApart f ds
 
-pub apart_first : (f : Effect) (ds es : List Numbered) → AreApart f (ds ++ es) → AreApart f ds
-apart_first f [] es all = tt
-apart_first f (d ∷ ds) es all = (all.0, apart_first f ds es all.1)
-
 pub apart_second : (f : Effect) (ds es : List Numbered) → AreApart f (ds ++ es) → AreApart f es
 apart_second f [] es all = all
 apart_second f (d ∷ ds) es all = apart_second f ds es all.1

@@ -111,11 +111,6 @@ read_values s w m q = read_with (values_in s w) m q ∙ ap (λ o. unwrap_or o (r
 
 -- ---- equal stores
 
-module _ {K X : Type 0} {R : K → K → Ordering} where
-  read_same : (m o : FinMap R X) (f : Option X → Value) → ((a b : Option X) → f a ≡ f b → a ≡ b) → ((k : K) → f (get m k) ≡ f (get o k))
-      → (k : K) → get m k ≡ get o k
-  read_same m o f inner same k = inner (get m k) (get o k) (same k)
-
 record_inner : (a b : Option Rec) → of_record a ≡ of_record b → a ≡ b
 record_inner a b e = cc
 

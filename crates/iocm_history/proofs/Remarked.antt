@@ -10,18 +10,6 @@ AreRemarked R [] [] = Unit {0}
 AreRemarked R (l ∷ ls) (m ∷ ms) = (m.act ≡ l.act) × R l.mark m.mark × AreRemarked R ls ms
 AreRemarked R _ _ = ⊥
 
--- one remarking after another
-pub remarked_then : (R S Q : Mark → Mark → Type 0) → ((l m o : Mark) → R l m → S m o → Q l o) → (ls ms os : List MarkedEntry) → AreRemarked R ls ms
-    → AreRemarked S ms os → AreRemarked Q ls os
-unfolding AreRemarked
-remarked_then R S Q both [] [] [] r q = tt
-remarked_then R S Q both [] [] (o ∷ os) r q = absurd q
-remarked_then R S Q both [] (m ∷ ms) os r q = absurd r
-remarked_then R S Q both (l ∷ ls) [] os r q = absurd r
-remarked_then R S Q both (l ∷ ls) (m ∷ ms) [] r q = absurd q
-remarked_then R S Q both (l ∷ ls) (m ∷ ms) (o ∷ os) r q =
-    (q.0 ∙ r.0, both l.mark m.mark o.mark r.1 q.1, remarked_then R S Q both ls ms os r.2 q.2)
-
 module _ (R : Mark → Mark → Type 0) (itself : (m : Mark) → R m m) where
   -- the same lines
   pub remarked_same : (ls : List MarkedEntry) → AreRemarked R ls ls

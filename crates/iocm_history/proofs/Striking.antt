@@ -61,13 +61,6 @@ module _ (m : Store) (q : Cell) where
   by_undo n (undone_with k) f = none_written q
   by_undo n lost f = none_written q
 
--- acts that are no change and no step write nothing
-pub undoing_writes : (q : Cell) (n : ℕ) → written (effect_of_act (undoing n)) q ≡ None
-undoing_writes q n = none_written q
-
-pub nothing_writes : (q : Cell) → written (effect_of_act nothing) q ≡ None
-nothing_writes q = none_written q
-
 -- ---- steps write at their subchannel alone
 
 -- a cell that no step on these subchannels writes; and one that no step elsewhere writes

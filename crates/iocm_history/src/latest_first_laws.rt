@@ -14,6 +14,8 @@ pub fn steps_may_be_decided_anew()
 /// In such a history nothing stands on the latest standing change: its undo is never refused by J2.
 /// It is accepted, or has to wait for a staged change, for a subchannel that is not quiet, or for
 /// memory.
+///
+/// Promise: if each undo was of the latest change in effect, its undo is never refused by J2.
 pub fn latest_is_never_blocked()
     ensures { LatestIsNeverBlocked }
 {}

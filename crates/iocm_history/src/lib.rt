@@ -2,7 +2,7 @@
 //! undo and redo, changes in stages, the state that what is left gives, which changes stand on
 //! which, and which histories are legal.
 //!
-//! Each subject has one file in `specs/`; `docs/DEFINITIONS.md` goes through them, and
+//! Each subject has one file in `specs/`; `docs/INDEX.md` goes through them, and
 //! `docs/UNDO.md` tells a system programmer what undo does. Each entry that is not struck
 //! overwrites cells, and what is left is read as a state. `specs/Reckoning.antt` has what a journal
 //! keeps beside a machine to answer undo and redo as histories say: the changes by their numbers,

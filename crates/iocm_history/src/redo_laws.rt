@@ -7,6 +7,8 @@ ghost use Rattle.iocm_history.specs.RedoLaws.{
 /// The redo of a change, with no undo or redo of it since its undo, goes back to what was before
 /// the undo, and plays what came between them without the steps on the subchannels that the change
 /// altered.
+///
+/// Promise: the first redo after an undo goes back to before it, without steps on its subchannels.
 pub fn redo_takes_undo_back()
     ensures { RedoTakesUndoBack }
 {}

@@ -16,6 +16,8 @@ pub fn undo_leaves_the_run_without()
 
 /// Wherever an undo is accepted, also under later changes that stand, it puts the cells that its
 /// change wrote back as they were before the change, and leaves all others.
+///
+/// Promise: an undo puts back exactly what its change wrote, and leaves all else.
 pub fn undo_puts_the_cells_back()
     ensures { UndoPutsTheCellsBack }
 {}
@@ -46,6 +48,8 @@ pub fn standing_changes_fit()
 /// An undo is refused only while a change is staged, where no such change stands, where a change
 /// stands on it, which the refusal names, where a subchannel that it altered is not quiet, or for
 /// lack of memory.
+///
+/// Promise: an undo is refused for five causes alone.
 pub fn undo_is_refused_only_for()
     ensures { UndoIsRefusedOnlyFor }
 {}

@@ -47,16 +47,6 @@ last_passing_is passes (suc n) = by (passes n) refl (last_passing_is passes n)
     by true is rest = (omega arith, is, λ k more less. absurd (omega (arith, more, less)))
     by false is rest = one_longer passes n (last_passing passes n) is rest
 
-to_suc : (n k : ℕ) → n ≡ k + 1 → n ≡ suc k
-to_suc n k is = omega (arith, is)
-
--- one place less, where the last doesn't pass; and the last, where it does
-pub passing_down : (passes : ℕ → Bool) (n k : ℕ) → n ≡ k + 1 → passes k ≡ false → last_passing passes n ≡ last_passing passes k
-passing_down passes n k is off = ap (last_passing passes) (to_suc n k is) ∙ ap (λ b. cond b (Some k) (last_passing passes k)) off
-
-pub passing_here : (passes : ℕ → Bool) (n k : ℕ) → n ≡ k + 1 → passes k ≡ true → last_passing passes n ≡ Some k
-passing_here passes n k is on = ap (last_passing passes) (to_suc n k is) ∙ ap (λ b. cond b (Some k) (last_passing passes k)) on
-
 -- on a change that fits stands none of the changes up to it; on one that doesn't, none of none
 pub none_left : (ks : List Kept) (fs : List Effect) (place n : ℕ) (fits : Bool) → n ≤ cond fits (place + 1) 0
     → last_passing (is_on ks fs place fits) n ≡ None

@@ -33,6 +33,8 @@ impl Journal {
     /// or the change was undone before a new one was accepted. B1, with the least: a subchannel
     /// that it altered is busy or status pending. M1, only where it would be redone: memory is
     /// missing. A refused redo leaves journal and state as they were.
+    ///
+    /// Promise: a redo leaves what the history says that it leaves, or nothing is changed.
     pub fn redo(
         &mut self,
         alloc: Global,

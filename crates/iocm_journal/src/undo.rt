@@ -34,6 +34,8 @@ impl Journal {
     /// J1: no such change stands. J2, with the greatest: a change stands on it. B1, with the least:
     /// a subchannel that it altered is busy or status pending. M1, which may come in place of J2,
     /// B1 and the undo: memory is missing. A refused undo leaves journal and state as they were.
+    ///
+    /// Promise: an undo leaves what the history says that it leaves, or nothing is changed.
     pub fn undo(
         &mut self,
         alloc: Global,

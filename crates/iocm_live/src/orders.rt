@@ -60,6 +60,8 @@ fn perform(order: &Order, live: &mut Live)
 /// finds no path that is both available and in the mask; 1 where status is in the way; 2 where a
 /// function is; else 0, and then it is performed: TEST answers the status that was pending, STORE
 /// what the subchannel is. With another code nothing changes.
+///
+/// Promise: an order is answered by the table of orders, and only code 0 changes anything.
 pub fn order(live: &mut Live, view: &View, order: Order) -> Io
     ensures answer { result ≡ meaning.answer_of order view.now live.old }
     ensures left { live.new ≡ meaning.live_after order view.now live.old }

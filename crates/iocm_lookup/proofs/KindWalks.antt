@@ -58,12 +58,6 @@ in_order_from first c keyed = record {
 
 -- ---- one entry more
 
-pub in_order_after : (e : Key × Rec) (es : List (Key × Rec)) → AreInOrder (e ∷ es) → AreInOrder es
-in_order_after e es before = record {
-  own = before.own.1;
-  up = second_holds _ _ before.up;
-}
-
 -- one of the kind is the next
 pub next_of : (place : ℕ) (e : Key × Rec) (es : List (Key × Rec)) → AreInOrder (e ∷ es) → (kind_of e.0 == place) ≡ true
     → of_kind place (in_entries (e ∷ es)) ≡ e.1 ∷ of_kind place (in_entries es)

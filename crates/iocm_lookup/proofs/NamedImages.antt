@@ -46,10 +46,6 @@ image_in_subsystem css name (online x ∷ rs) = image_in_subsystem css name rs
 
 -- ---- where the images of a channel subsystem are among the keys
 
--- an image of an earlier channel subsystem is before each
-pub earlier_image : (a b f m : ℕ) → a < b → is_le (key_cmp (key.Image a f) (key.Image b m)) ≡ true
-earlier_image a b f m less = ap (λ r. is_le (ordering_then r (slice_cmp nat_cmp (f ∷ []) (m ∷ [])))) (sym (nat_cmp_is a b Less less))
-
 past_kind : (css : ℕ) (k : Key) → is_past_images css k ≡ true → 2 ≤ kind_of k
 past_kind css key.Id past = absurd (false≢true past)
 past_kind css key.Resource past = absurd (false≢true past)

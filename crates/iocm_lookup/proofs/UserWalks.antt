@@ -10,10 +10,6 @@ module _ (test : Key → Bool) (s t : List Key) (r : Option Key) where
   pub any_more : (k : Key) → r ≡ Some k → TakesFirst (λ (q : Key). q) s r t → test k ≡ false → list_any test t ≡ list_any test s
   any_more k is steps fails = sym (ap (list_any test) (rest_more (λ (q : Key). q) s t r k is steps) ∙ ap (λ b. b || list_any test t) fails)
 
-  -- one that passes is enough
-  pub any_here : (k : Key) → r ≡ Some k → TakesFirst (λ (q : Key). q) s r t → test k ≡ true → list_any test s ≡ true
-  any_here k is steps passes = ap (list_any test) (rest_more (λ (q : Key). q) s t r k is steps) ∙ ap (λ b. b || list_any test t) passes
-
   -- behind the last one none has passed
   pub any_none : r ≡ None → TakesFirst (λ (q : Key). q) s r t → list_any test s ≡ false
   any_none is steps = ap (list_any test) (rest_all (λ (q : Key). q) s t r is steps)

@@ -23,6 +23,8 @@ pub fn reached_places_are_of_devices()
 
 /// In each channel subsystem and set each device that is reached there has a number, and no two
 /// have the same: at opening, and after a change whose carried numbers are free.
+///
+/// Promise: at the opening just the devices that are reached have a number, and each has its own.
 pub fn no_number_comes_twice()
     ensures opening { OpeningAreNumbers }
     ensures change { NumbersAfterAreNumbers }
@@ -33,6 +35,8 @@ pub fn no_number_comes_twice()
 /// ones in order of device number. The numbers at opening are those that come of it where there was
 /// none before. What the rest get, and the numbers at opening, are said of configurations with each
 /// record under its own key.
+///
+/// Promise: devices that stay keep their numbers; a new one gets its carried number or the lowest.
 pub fn numbers_after_a_change()
     ensures exact { NumbersAfterAreExact }
     ensures stay { StayersKeepTheirs }

@@ -9,6 +9,8 @@ pub fn accepted_trees_are_runs()
 /// The Row of the inverses, the last first, is an inverse of an accepted tree: at every state with
 /// the configuration and the numbers after it in which the altered subchannels are quiet, it is
 /// accepted, and means that state with the cells that the tree wrote as these were before.
+///
+/// Promise: the inverse takes a change back from the records and numbers it left, if all is quiet.
 pub fn inverse_trees_take_back()
     ensures { InverseTreesTakeBack }
 {}

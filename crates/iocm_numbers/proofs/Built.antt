@@ -146,30 +146,6 @@ apart_in es apart p q k css set a b = apart p q k css set (get-from_entries plac
 
 -- ---- bits
 
--- the bit of one row
-pub noted_one : (row : Place × ℕ) (old new : List ℕ) → row.0.set < 4 → row.1 < 65536 → IsWritten old new (bit_of row.0.css row.0.set row.1) true → AreNotedToo (row ∷ []) old new
-noted_one row old new s4 most written css set number c6 low small =
-    by (eq_by_cmp cell_cmp (record { css = css; set = set; number = number }) (cell_at row.0 row.1)) refl
-  where
-    q : NumberCell
-    q = record { css = css; set = set; number = number }
-
-    or_true : (b : Bool) → true ≡ (b || true)
-    or_true true = refl
-    or_true false = refl
-
-    or_false : (b : Bool) → b ≡ (b || false)
-    or_false true = refl
-    or_false false = refl
-
-    by : (b : Bool) → eq_by_cmp cell_cmp q (cell_at row.0 row.1) ≡ b
-        → is_bit_set new (bit_of css set number) ≡ (is_bit_set old (bit_of css set number) || is_some (cond b (Some row.0.device) None))
-    by true is = let same : q ≡ cell_at row.0 row.1 = same_key cell_cmp cells_exact q (cell_at row.0 row.1) is in
-        ap (λ (c : NumberCell). is_bit_set new (bit_of c.css c.set c.number)) same ∙ written.here ∙ or_true _
-    by false is = written.others (bit_of css set number) (λ e.
-        let same : q ≡ cell_at row.0 row.1 = one_bit q (cell_at row.0 row.1) low small s4 most e in
-        let no : true ≡ false = sym (ap (λ c. eq_by_cmp cell_cmp c (cell_at row.0 row.1)) same ∙ ties_itself cell_cmp cells_total (cell_at row.0 row.1)) ∙ is in cc) ∙ or_false _
-
 -- what is noted with the rows that are left is noted with all
 pub record IsNoting (es : Rows) (i : ℕ) (start now : List ℕ) : Type 0 where
   pub left : (new : List ℕ) → AreNotedToo (drop i es) now new → AreNotedToo es start new
@@ -191,16 +167,6 @@ notes_one es i start now next row within item before noted small len = record {
     joined true b d o = refl
     joined false true d o = refl
     joined false false d o = refl
-
-pub noted_all : (es : Rows) (i : ℕ) (start now : List ℕ) → length es ≤ i → IsNoting es i start now → AreNotedToo es start now
-noted_all es i start now past is = is.left now (subst (λ (rs : Rows). AreNotedToo rs now now) (sym (drop_of_length-le es past)) (λ css set number c6 low most. same (is_bit_set now (bit_of css set number))))
-  where
-    same : (b : Bool) → b ≡ (b || false)
-    same true = refl
-    same false = refl
-
-pub small_all : (es : Rows) (i : ℕ) (start now : List ℕ) → length es ≤ i → IsNoting es i start now → AllByRecursion (λ row. row.0.device < 65536) es
-small_all es i start now past is = is.small (subst (AllByRecursion (λ (r : Place × ℕ). r.0.device < 65536)) (sym (drop_of_length-le es past)) tt)
 
 -- before the first
 pub notes_none : (es : Rows) (start : List ℕ) → IsNoting es 0 start start

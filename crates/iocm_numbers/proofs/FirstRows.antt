@@ -25,10 +25,6 @@ numbered_here css set ds i d within item is =
     ap (numbered css set) (drop-item ds i d within item)
     ∙ ap (λ b. map (λ (e : DeviceReach). e.number) (cond b (d ∷ filter (is_numbered css set) (drop (i + 1) ds)) (filter (is_numbered css set) (drop (i + 1) ds)))) is
 
--- behind the last device none is left
-pub numbered_end : (css set : ℕ) (ds : List DeviceReach) (i : ℕ) → length ds ≤ i → numbered css set (drop i ds) ≡ []
-numbered_end css set ds i past = ap (numbered css set) (drop_of_length-le ds past)
-
 -- device numbers that rise from one on rise from each lower one on
 pub rise_lower : (m n : ℕ) (ds : List ℕ) → m ≤ n → RiseFrom n ds → RiseFrom m ds
 rise_lower m n [] low rise = tt
@@ -65,10 +61,6 @@ pub record IsSoFar (css set : ℕ) (left : List ℕ) (all rows : List (Place × 
   pub rest : rows ++ numbers_from css set next left ≡ all
 
 module _ (css set n : ℕ) (ds : List DeviceReach) (i : ℕ) (d : DeviceReach) (within : i < length ds) (item : d ≡ get_or ds i d) where
-  -- the next number is no higher than that of a device that is numbered
-  pub next_low : is_numbered css set d ≡ true → RiseFrom n (numbered css set (drop i ds)) → n ≤ d.number
-  next_low is rise = (subst (RiseFrom n) (numbered_here css set ds i d within item is) rise).0
-
   module _ (all old now : List (Place × ℕ)) (next : ℕ) (so_far : IsSoFar css set (numbered css set (drop i ds)) all old n) where
     -- a device that isn't numbered changes nothing
     pub kept_past : is_numbered css set d ≡ false → now ≡ old → next ≡ n → IsSoFar css set (numbered css set (drop (i + 1) ds)) all now next

@@ -148,21 +148,6 @@ rows_have_room start now each (p ∷ ps) = by (rows_have_room start now each ps)
 pub record IsListing (n : Numbering) (ps : List Place) (i : ℕ) (rows : List (Place × ℕ)) : Type 0 where
   pub all : rows ++ numbers_at n (drop i ps) ≡ numbers_at n ps
 
-pub listed_row : (n : Numbering) (ps : List Place) (i : ℕ) (rows : List (Place × ℕ)) (p : Place) (k : ℕ) → i < length ps → p ≡ get_or ps i p
-    → IsListing n ps i rows → get n p ≡ Some k → IsListing n ps (i + 1) (rows ++ (p, k) ∷ [])
-listed_row n ps i rows p k within item before has = record {
-  all = append_assoc rows ((p, k) ∷ []) (numbers_at n (drop (i + 1) ps))
-      ∙ ap (λ (o : Option ℕ). rows ++ cons_option (option_map (λ k. (p, k)) o) (numbers_at n (drop (i + 1) ps))) (sym has)
-      ∙ ap (λ (qs : List Place). rows ++ numbers_at n qs) (sym (drop-item ps i p within item)) ∙ before.all;
-}
-
-pub listed_none : (n : Numbering) (ps : List Place) (i : ℕ) (rows : List (Place × ℕ)) (p : Place) → i < length ps → p ≡ get_or ps i p
-    → IsListing n ps i rows → get n p ≡ None → IsListing n ps (i + 1) rows
-listed_none n ps i rows p within item before none = record {
-  all = ap (λ (o : Option ℕ). rows ++ cons_option (option_map (λ k. (p, k)) o) (numbers_at n (drop (i + 1) ps))) (sym none)
-      ∙ ap (λ (qs : List Place). rows ++ numbers_at n qs) (sym (drop-item ps i p within item)) ∙ before.all;
-}
-
 pub listed_all : (n : Numbering) (ps : List Place) (i : ℕ) (rows : List (Place × ℕ)) → length ps ≤ i → IsListing n ps i rows → rows ≡ numbers_at n ps
 listed_all n ps i rows past is = sym (append-nil rows) ∙ ap (λ (qs : List Place). rows ++ numbers_at n qs) (sym (drop_of_length-le ps past)) ∙ is.all
 

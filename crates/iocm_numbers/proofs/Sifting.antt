@@ -64,16 +64,6 @@ sifted_one c n ps i rows next left more p within item before is also = record {
       ∙ ap (λ (qs : List Place). left ++ unnumbered n qs) (sym (drop-item ps i p within item)) ∙ before.all_unnumbered;
 }
 
-pub sifted_leaving : (c : Configuration) (n : Numbering) (ps : List Place) (i : ℕ) (rows : List (Place × ℕ)) (left : List Place) → length ps ≤ i
-    → AreSifted c n ps i rows left → rows ≡ numbers_at n (unreached c ps)
-sifted_leaving c n ps i rows left past are =
-    sym (append-nil rows) ∙ ap (λ (qs : List Place). rows ++ numbers_at n (unreached c qs)) (sym (drop_of_length-le ps past)) ∙ are.all_leaving
-
-pub sifted_unnumbered : (c : Configuration) (n : Numbering) (ps : List Place) (i : ℕ) (rows : List (Place × ℕ)) (left : List Place) → length ps ≤ i
-    → AreSifted c n ps i rows left → left ≡ unnumbered n ps
-sifted_unnumbered c n ps i rows left past are =
-    sym (append-nil left) ∙ ap (λ (qs : List Place). left ++ unnumbered n qs) (sym (drop_of_length-le ps past)) ∙ are.all_unnumbered
-
 -- ---- by the places that may be touched
 
 not_true : (b : Bool) → not b ≡ true → b ≡ false

@@ -26,10 +26,6 @@ fold_open : {A B : Type 0} (f : B → A → B) (b : B) (xs : List A) (i : ℕ) (
     → fold f (f b x) (drop (i + 1) xs) ≡ fold f b (drop i xs)
 fold_open f b xs i x within item = ap (fold f b) (sym (drop-item xs i x within item))
 
--- no step is left
-fold_done : {A B : Type 0} (f : B → A → B) (b : B) (xs : List A) (i : ℕ) → length xs ≤ i → fold f b (drop i xs) ≡ b
-fold_done f b xs i past = ap (fold f b) (drop_of_length-le xs past)
-
 -- ---- those that come in
 
 -- whether a place comes in
@@ -74,10 +70,6 @@ fills_one c touched i start now next p within item before is room = record {
       (others_more c start.numbers now.numbers p (lowest_free now.numbers p.css p.set) before.others);
   room = λ q k h. room q k (before.room q k h);
 }
-
-pub filled_all : (c : Configuration) (touched : List Place) (i : ℕ) (start now : Numbered) → length touched ≤ i → IsFilling c touched i start now
-    → now.numbers ≡ fold (filled_by c) start.numbers touched
-filled_all c touched i start now past is = sym (fold_done (filled_by c) now.numbers touched i past) ∙ is.left
 
 -- ---- carried numbers
 
@@ -133,7 +125,3 @@ carries_one c carried i start now next x within item before is room = record {
   others = subst (ChangesComersAlone c start.numbers) (sym is) (others_more c start.numbers now.numbers x.0 x.1 before.others);
   room = λ q k h. room q k (before.room q k h);
 }
-
-pub carried_all : (c : Configuration) (carried : List (Place × ℕ)) (i : ℕ) (start now : Numbered) → length carried ≤ i → IsCarrying c carried i start now
-    → now.numbers ≡ fold (with_carried c) start.numbers carried
-carried_all c carried i start now past is = sym (fold_done (with_carried c) now.numbers carried i past) ∙ is.left

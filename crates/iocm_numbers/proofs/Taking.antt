@@ -85,19 +85,6 @@ module _ (comes held : Place × ℕ → Bool) where
   any_at xs i x within item before =
       sym (any_by (comes x) (held x) x (drop (i + 1) xs) refl) ∙ ap (λ ys. list_any held (filter comes ys)) (sym (drop-item xs i x within item)) ∙ before.left
 
-  pub looks_on : (xs : List (Place × ℕ)) (i : ℕ) (x : Place × ℕ) → i < length xs → x ≡ get_or xs i x → IsLooking xs i → (comes x && held x) ≡ false → IsLooking xs (i + 1)
-  looks_on xs i x within item before out = record {
-    left = ap (λ b. b || list_any held (filter comes (drop (i + 1) xs))) (sym out) ∙ any_at xs i x within item before;
-  }
-
-  pub looks_done : (xs : List (Place × ℕ)) (i : ℕ) (x : Place × ℕ) → i < length xs → x ≡ get_or xs i x → IsLooking xs i → (comes x && held x) ≡ true
-      → true ≡ list_any held (filter comes xs)
-  looks_done xs i x within item before is =
-      ap (λ b. b || list_any held (filter comes (drop (i + 1) xs))) (sym is) ∙ any_at xs i x within item before
-
-  pub looked_all : (xs : List (Place × ℕ)) (i : ℕ) → length xs ≤ i → IsLooking xs i → false ≡ list_any held (filter comes xs)
-  looked_all xs i past is = sym (ap (λ ys. list_any held (filter comes ys)) (drop_of_length-le xs past)) ∙ is.left
-
 -- ---- numbers that are carried twice
 
 -- a row with one cell more noted
@@ -181,6 +168,3 @@ module _ (c : Configuration) (n : Numbering) (xs : List (Place × ℕ)) where
   pub notes_again : (i : ℕ) (seen : Cells) (x : Place × ℕ) → i < length xs → x ≡ get_or xs i x → IsNoting i seen
       → (comes_in c n x && is_noted seen x) ≡ true → true ≡ has_cell_twice (arriving xs)
   notes_again i seen x within item before is = sym (again_by seen x (arriving (drop (i + 1) xs)) (comes_in c n x) is) ∙ at_item i seen x within item before
-
-  pub noted_all : (i : ℕ) (seen : Cells) → length xs ≤ i → IsNoting i seen → false ≡ has_cell_twice (arriving xs)
-  noted_all i seen past is = sym (ap (λ ys. is_one_again seen (arriving ys)) (drop_of_length-le xs past)) ∙ is.left

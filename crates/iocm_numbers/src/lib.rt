@@ -45,5 +45,5 @@ pub use looked_at::sort_apart;
 pub use number_change::NumberChange;
 pub use number_laws::numbers_at_places_are_listed;
 pub use numbers::Numbers;
-pub use reached::{is_place_reached, is_reached};
+pub use reached::is_reached;
 pub use renumbered::Renumbered;

@@ -25,7 +25,7 @@ pub fn is_reached<A: Allocator>(config: &Config<A>, css: Css, units: &[UnitNo]) 
 
 /// Whether a place is that of a device that is there and reached. One search for the device, and
 /// one for each of its units until one has a path.
-pub fn is_place_reached<A: Allocator>(config: &Config<A>, place: Place) -> bool
+pub(crate) fn is_place_reached<A: Allocator>(config: &Config<A>, place: Place) -> bool
     ensures { result ≡ is_reached_at config.now.records place }
 {
     PlaceWalk::new(config).is_reached(&place)

@@ -8,7 +8,7 @@ use Rattle.iocm_history.specs.Account.{state_at}
 use Rattle.iocm_history.specs.Legal.{IsLegal}
 use Rattle.iocm_model.specs.Change.Tree.{ChangeTree}
 use Rattle.iocm_script.specs.declared.line.Line.{Line}
-use Rattle.iocm_system.specs.OneRun.{history_of}
+use Rattle.iocm_system.specs.Traces.{history_of}
 use Rattle.iocm_system.specs.Sights.{Sight}
 use Rattle.iocm_core.specs.declared.closing.Closed.{Closed}
 use Rattle.iocm_types.specs.declared.rule.Rule.{Rule}

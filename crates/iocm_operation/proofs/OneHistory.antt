@@ -15,7 +15,7 @@ use Rattle.iocm_model.specs.Change.Refusal.{refusal_at}
 use Rattle.iocm_model.specs.Change.Tree.{ChangeTree}
 use Rattle.iocm_model.specs.Operation.State.{State}
 use Rattle.iocm_script.specs.declared.line.Line.{Line}
-use Rattle.iocm_system.specs.OneRun.{history_of}
+use Rattle.iocm_system.specs.Traces.{history_of}
 use Rattle.iocm_types.specs.declared.answer.Answer.TheVariants.{Refused}
 use Rattle.iocm_types.specs.declared.refused.At.TheVariants.{Nothing}
 use Rattle.iocm_types.specs.declared.rule.Rule.TheVariants.{M1}

@@ -126,10 +126,6 @@ neither None b e = (refl, e)
 neither (Some x) None e = absurd (none-some x (sym e))
 neither (Some x) (Some y) e = absurd (none-some (graver_rule x y) (sym e))
 
-some_name : (ns : List Borne) → is_whole ns ≡ true → BearsSome ns
-some_name [] e = absurd (false≢true e)
-some_name (b ∷ bs) e = (b, bs, refl)
-
 -- two names lent, and back
 whole_of_three : (ns : List Borne) → is_whole ns ≡ true → is_whole ((lend (lend ns) ++ fresh (next_of ns)) ++ fresh (next_of (lend ns))) ≡ true
 whole_of_three [] e = absurd (false≢true e)

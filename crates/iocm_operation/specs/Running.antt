@@ -10,7 +10,7 @@ use Rattle.iocm_history.specs.Legal.{IsLegal}
 use Rattle.iocm_model.specs.Change.Tree.{ChangeTree}
 use Rattle.iocm_rounds.specs.declared.round.Round.{Round}
 use Rattle.iocm_script.specs.declared.line.Line.{Line}
-use Rattle.iocm_system.specs.OneRun.{history_of}
+use Rattle.iocm_system.specs.Traces.{history_of}
 use Rattle.iocm_system.specs.Sights.{Sight}
 use Rattle.iocm_system.specs.Turns.{gained}
 use Rattle.iocm_system.specs.declared.receipt.Receipt.{Receipt}

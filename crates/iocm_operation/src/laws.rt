@@ -5,7 +5,7 @@ ghost use Rattle.iocm_operation.specs.declared.operated.Operated as operated;
 ghost use Rattle.iocm_operation.specs.Running.{IsOperation};
 ghost use Rattle.iocm_operation.specs.OneActor.{AreOfOne, AreTheSame, HadMemory, StandAsInTheScript};
 ghost use Rattle.iocm_script.specs.declared.line.Line as its_line;
-ghost use Rattle.iocm_system.specs.OneRun.{history_of};
+ghost use Rattle.iocm_system.specs.Traces.{history_of};
 
 /// A script in which each round has the lines of one actor makes its calls in the order of its
 /// lines.
@@ -16,6 +16,8 @@ pub fn one_actor_has_one_order()
 
 /// Two runs of such a script on a new machine, in neither of which an answer was M1, have one
 /// history. They give each line the same answer and leave one state, so they print the same.
+///
+/// Promise: if each round has one actor, two runs with memory print the same.
 pub fn one_actor_has_one_history()
     ensures { (core : seen.Core) (ts : List ChangeTree) (rounds : List (List its_line.Line)) (o p : operated.Operated)
         → core.entries ≡ [] → AreOfOne rounds → IsOperation core ts rounds o → IsOperation core ts rounds p

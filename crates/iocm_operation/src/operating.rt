@@ -142,6 +142,8 @@ fn operate_named<B: Identity + Send + Sync, R: Threads + Wait + Sync>(
 /// 1.
 ///
 /// The rule: M1, memory was missing; O3, the trace became full; X1 doesn't come.
+///
+/// Promise: a script makes one legal history, and each line has the answer of its own call.
 pub fn operate<R: Threads + Wait + Sync>(
     rt: &R,
     alloc: Global,

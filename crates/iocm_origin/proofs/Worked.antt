@@ -1,16 +1,15 @@
 -- Origins and remarks of small texts, computed.
 use Rattle.std.proofs.Common.{refl}
 use Rattle.std.specs.Fmt.{char_count, digits, padded_integral}
-use Rattle.iocm_keywords.specs.LeftOut.{spans_within}
-use Rattle.iocm_keywords.specs.Walk.{names_several}
 use Rattle.iocm_statements.specs.Nesting.{is_outside, step, cuts, sets}
 use Rattle.iocm_statements.specs.Pieces.{pieces_from}
 use Rattle.iocm_values.specs.Reading.{every, every_at, gathered}
+use Rattle.iocm_values.specs.ItemWords.{item_words_from}
 use Rattle.iocm_values.specs.Words.{words_from}
 use Rattle.iocm_origin.specs.Examples.{OriginsAsWorked, RemarksAsWorked}
 
 pub origins_as_worked : OriginsAsWorked
-unfolding is_outside step cuts sets pieces_from every every_at gathered words_from spans_within names_several
+unfolding is_outside step cuts sets pieces_from every every_at gathered words_from item_words_from
 origins_as_worked = record {
   of_opening = refl;
   of_node = refl;

@@ -65,12 +65,12 @@ pub record OriginsAsWorked : Type 0 where
 
 pub record RemarksAsWorked : Type 0 where
   pub of_breach : remark_on (Some (codes "grown.deck")) (Line 7) clash (Some (codes "         CNTLUNIT CUNUMBR=1000"))
-      ≡ codes "grown.deck, line 7: unit 1000: two control units at one address (V14)\n  7 |          CNTLUNIT CUNUMBR=1000\n  see: iocm explain V14"
+      ≡ codes "grown.deck, line 7: unit 1000: two control units have the same address (V14)\n  7 |          CNTLUNIT CUNUMBR=1000\n  see: iocm explain V14"
   pub of_node : remark_on (Some (codes "a.change")) (Line 12) missing None
       ≡ codes "a.change, line 12: device 0.2000: what is to be deleted or modified isn't there (E2)\n  see: iocm explain E2"
   pub at_the_end : remark_on (Some (codes "a.change")) End busy None
       ≡ codes "a.change, at the end: subchannel 0.2.0.001F: a subchannel is busy or has status pending (B1)\n  see: iocm explain B1"
   pub of_whole : remark_on (Some (codes "a.change")) Whole too_many None
-      ≡ codes "a.change: a change tree too large (C2)\n  see: iocm explain C2"
+      ≡ codes "a.change: the change has too many edits (C2)\n  see: iocm explain C2"
   -- no file: not even its line is named
   pub of_memory : remark_on None (Line 0) (Fault fault.memory) None ≡ codes "not enough storage (M1)\n  see: iocm explain M1"

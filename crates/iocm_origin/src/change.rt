@@ -17,6 +17,8 @@ use std::alloc::{AllocError, Global};
 /// Where in a change deck of these lines a refusal comes from, and none where it is another text's.
 ///
 /// `AllocError` (M1): memory ran out.
+///
+/// Promise: a refusal of a change is traced to the line of its statement, or to the end.
 pub fn origin_in_change(
     alloc: Global,
     cards: &[Card],

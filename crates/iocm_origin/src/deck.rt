@@ -21,6 +21,8 @@ use std::alloc::{AllocError, Global};
 /// refused so.
 ///
 /// `AllocError` (M1): memory ran out.
+///
+/// Promise: a refusal of a deck is traced to its line exactly if the deck is refused so.
 pub fn origin_in_deck(
     alloc: Global,
     cards: &[Card],

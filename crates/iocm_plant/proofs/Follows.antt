@@ -56,10 +56,6 @@ rise_of [] rise = tt
 rise_of (p ∷ ps) rise = ((λ q among. less_of p q ps (sorted_head place_cmp p ps rise) among), rise_of ps (sorted_tail place_cmp p ps rise))
 
 module _ (d : Configuration) (n : Numbering) (seats : Seats) (at : LookedAt) (changed : WasChanged d n seats at) where
-  -- elsewhere exactly those that are reached have a number
-  pub all_touched : AreAllTouched d n at.affected.places.items
-  all_touched p out = changed.numbered.exact p ∙ changed.affected.reached p out
-
   -- the numbers have followed
   pub was_renumbered : (carried : List (Place × ℕ)) (m : Numbering) → m ≡ numbers_after d carried n → is_number_taken d n carried ≡ false
       → (given : List (Place × ℕ)) → given ≡ freed_numbers m n → WasRenumbered d m seats at given

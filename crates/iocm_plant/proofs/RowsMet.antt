@@ -51,11 +51,6 @@ module _ (lives : Lives) where
       both_hold (below_all sub_id_cmp row.0 (map (met lives) rows)) (is_sorted sub_id_cmp (map (met lives) rows)) (below_met row.0 rows (first_holds _ _ up))
       (met_sorted rows (second_holds _ _ up))
 
-  -- the subchannels are the same
-  met_keys : (rows : List (SubId × Live)) → keys_of (map (met lives) rows) ≡ keys_of rows
-  met_keys [] = refl
-  met_keys (row ∷ rows) = ap (λ xs. row.0 ∷ xs) (met_keys rows)
-
   -- a live record, if it is there, is itself
   own_by : (o : Option Live) → cond (is_some o) o None ≡ o
   own_by None = refl

@@ -43,6 +43,8 @@ impl Plant {
     ///
     /// The first breach of V1 to V14, by rule, then by key; M1, which may stand in its place:
     /// memory ran out.
+    ///
+    /// Promise: a machine is opened only with a configuration that keeps all rules.
     pub fn open(alloc: Global, config: Config) -> Result<Plant, Unopened>
         ensures opened { IfOk result (λ plant. plant.state ≡ opening_state config.records) }
         ensures kept { OnOk result (opening_refusal config.records ≡ None) }

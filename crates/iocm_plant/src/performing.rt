@@ -44,6 +44,8 @@ impl Plant {
     /// isn't), E4 (a number that comes along is taken), B1 (an altered subchannel isn't quiet; the
     /// least is named). M1, which may stand in place of any other: memory ran out. A refused
     /// edit leaves the state as it was.
+    ///
+    /// Promise: an edit is performed exactly, or it is refused and nothing is changed.
     pub fn apply(&mut self, alloc: Global, edit: Edit) -> Result<Applied, Refused>
         ensures accepted { OnOk result (refusal_of edit.edit self.old.state ≡ None) }
         ensures refused { IfErr result (IsDue (refusal_of edit.edit self.old.state)) }

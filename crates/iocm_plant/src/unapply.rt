@@ -13,6 +13,8 @@ impl Plant {
     /// that taking it back gave; its live records as they were given or set anew, and the altered
     /// subchannels quiet or not. The configuration and the numbers are as that call left them. It
     /// gives the edit that takes this back. Can't run out of memory.
+    ///
+    /// Promise: an edit is taken back without memory.
     pub fn unapply(&mut self, inverse: Edit) -> Edit
         requires { CanUnapply inverse self.old }
         ensures state { self.new.state ≡ state_after inverse.edit self.old.state }

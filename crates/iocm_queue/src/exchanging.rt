@@ -19,6 +19,8 @@ use std::thread::{Threads, join};
 ///
 /// Where no thread can be made, the operators send before the worker takes; with more than 14 lines
 /// they then wait for ever.
+///
+/// Promise: what the worker took of an operator is what it sent, in order, each once.
 pub fn exchange<T: Drop + Send, R: Threads + Wait + Sync>(
     rt: &R,
     alloc: Global,

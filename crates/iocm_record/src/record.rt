@@ -143,14 +143,6 @@ impl<A: Allocator> Record<A> {
         &self.body
     }
 
-    /// Its fields with their memory.
-    pub fn into_body(self) -> RecordBody<A>
-        ensures { record_of result ≡ self }
-    {
-        let Record { body: fields } = self;
-        fields
-    }
-
     /// The key that the record stands under. A configuration has at most one record of each key.
     pub fn key(&self) -> Key
         ensures { result ≡ key_of self.now }

@@ -30,10 +30,6 @@ or_both false b c = refl
 
 -- ---- pairs that are added
 
--- no pairs more
-pub gives_nothing : (m : Pairs) → GivesToo m m []
-gives_nothing m pair = or_none (contains_key m pair)
-
 -- some, and then others
 pub gives_then : (a b c : Pairs) (xs ys : List Key) → GivesToo a b xs → GivesToo b c ys → GivesToo a c (xs ++ ys)
 gives_then a b c xs ys some others pair =

@@ -15,6 +15,8 @@ ghost use Rattle.iocm_reports.specs.Examples.{CountsOfTwoImages, LinesOfRows, Re
 /// There is a row for each subchannel of the effect, in order. The table before, without the rows
 /// behind `-` and with those behind `+`, is the table after. The other way round it is the one
 /// before.
+///
+/// Promise: the rows of `--altered` lead from the table before to the one after, and back.
 pub fn rows_lead_to_the_table()
     ensures counted { RowsAreCounted }
     ensures order { RowsStandInOrder }
@@ -23,12 +25,16 @@ pub fn rows_lead_to_the_table()
 {}
 
 /// A row is of one kind alone, so the counts of all images together are the number of rows.
+///
+/// Promise: the counts of `--count` are together the number of altered subchannels.
 pub fn counts_sum_up()
     ensures kinds { RowsAreOfOneKind }
     ensures all { CountsSumUp }
 {}
 
 /// There is no comment exactly where the pairs of the access lists are those that are online.
+///
+/// Promise: `--deck` has no comment if just the paths of the access lists are online.
 pub fn only_a_deck_says_all()
     ensures all { DeckSaysAll }
     ensures only { OnlyADeckSaysAll }

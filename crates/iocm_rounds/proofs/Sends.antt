@@ -20,24 +20,12 @@ use Rattle.iocm_rounds.specs.contracts.office.Operators as Operators
 use Rattle.iocm_rounds.specs.contracts.operators.Sent as Sent
 use Rattle.iocm_rounds.specs.contracts.worker.Work as Work
 
-sent_send : IsSend Sent.the_row
-sent_send = declared_send Sent.the_type (search (finished.the_send, call_send, crosses, sendable) depth 20, (search (call_send, crosses, sendable) depth 20, tt))
-
-pub operators_send : IsSend Operators.the_row
-operators_send = declared_send Operators.the_type (sent_send, (sent_send, tt))
-
 module _ (B : RattleType) (i : Ghosts B.Denot) where
   pub image_send : IsSend (Image.the_row B i)
   image_send = declared_send (Image.the_type B i) (caller_send B i, (search (receipt_send, crosses, sendable) depth 20, (search (rule.the_send, crosses, sendable) depth 20, tt)))
 
-  pub images_send : IsSend (Images.the_row B i)
-  images_send = declared_send (Images.the_type B i) (image_send, (image_send, tt))
-
   pub task_send : IsSend (Task.the_row B i)
   task_send = declared_send (Task.the_type B i) (caller_send B i, (search (call_send, crosses, sendable) depth 20, tt))
-
-  pub tasks_send : IsSend (Tasks.the_row B i)
-  tasks_send = declared_send (Tasks.the_type B i) (task_send, (task_send, tt))
 
   pub work_send : IsSend (Work.the_row B i)
   work_send = declared_send (Work.the_type B i) (

@@ -45,6 +45,8 @@ impl<B: Identity> Driven<B> {
 ///
 /// Calls that were made stay made, whatever stops the round. M1 before all others: there is no
 /// memory for the queue, and nothing is made.
+///
+/// Promise: in a round each actor's calls are made in its order, each with its receipt.
 pub fn drive<B: Identity + Send + Sync, R: Threads + Wait + Sync, G: Gates + Sync>(
     rt: &R,
     alloc: Global,

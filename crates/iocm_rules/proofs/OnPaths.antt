@@ -64,17 +64,6 @@ module _ (c : Configuration) (is_so : Rec → Bool) where
 -- ---- the loop over the users of a path
 
 module _ (c : Configuration) (is_so : Rec → Bool) (s t : List Key) (r : Option Key) where
-  -- a user that is so is the first
-  pub first_here : (k : Key) → r ≡ Some k → TakesFirst (λ (q : Key). q) s r t → is_so_at is_so (lookup_of c) k ≡ true → first_so is_so (lookup_of c) s ≡ Some k
-  first_here k is steps so = ap (first_so is_so (lookup_of c)) (rest_more (λ (q : Key). q) s t r k is steps)
-      ∙ ap (λ b. cond b (Some k) (first_so is_so (lookup_of c) t)) so
-
-  -- one that isn't is passed by
-  pub first_later : (k : Key) → r ≡ Some k → TakesFirst (λ (q : Key). q) s r t → is_so_at is_so (lookup_of c) k ≡ false
-      → first_so is_so (lookup_of c) t ≡ first_so is_so (lookup_of c) s
-  first_later k is steps not_so = sym (ap (first_so is_so (lookup_of c)) (rest_more (λ (q : Key). q) s t r k is steps)
-      ∙ ap (λ b. cond b (Some k) (first_so is_so (lookup_of c) t)) not_so)
-
   -- behind the last one there is none
   pub first_none : r ≡ None → TakesFirst (λ (q : Key). q) s r t → first_so is_so (lookup_of c) s ≡ None
   first_none is steps = ap (first_so is_so (lookup_of c)) (rest_all (λ (q : Key). q) s t r is steps)

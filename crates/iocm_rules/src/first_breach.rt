@@ -30,6 +30,8 @@ use std::alloc::{AllocError, Allocator};
 /// The first breach of the rules V1 to V14: by rule, then by key. The index is that of the
 /// configuration. It takes no memory, and its time is about in proportion to the records and to
 /// what they name.
+///
+/// Promise: the first breach of the fourteen rules is answered, and none exactly if all hold.
 pub fn check<A: Allocator, N: Allocator, I: Allocator>(
     config: &Config<A>,
     numbers: &Numbers<N>,
@@ -58,6 +60,8 @@ pub fn check<A: Allocator, N: Allocator, I: Allocator>(
 /// V14 may be broken.
 ///
 /// `AllocError` (M1): memory ran out.
+///
+/// Promise: a deck is judged by the same rules, with the numbers that its devices get.
 pub fn check_at_opening<A: Allocator, B: Allocator + Copy>(
     alloc: B,
     config: &Config<A>,

@@ -41,6 +41,8 @@ use std::thread::Threads;
 /// L5 (`ConsoleError::Read`): a read failed, or none of `limit` reads gave the end; nothing is
 /// written then. L6 (`ConsoleError::Write`): a write failed; what is written up to there is not
 /// said. All other faults, lack of memory (M1) too, are refusals, which are printed.
+///
+/// Promise: `run` prints the answers of one legal history and its table, or one refusal.
 pub fn run_script<R: Read, C: Read + Drop, S: Read, W: Write + Drop, T: Threads + Wait + Sync>(
     rt: &T,
     alloc: Global,

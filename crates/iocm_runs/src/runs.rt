@@ -8,6 +8,8 @@ ghost use Rattle.iocm_runs.specs.UndoneRun.{UndoneRunsAreRuns};
 /// left without the change, without the undo, and without the steps on its subchannels is legal.
 /// The steps that are left are answered in it as they were, and it leads to the state after the
 /// undo.
+///
+/// Promise: if only steps came since a change, the run without it is a legal run of its own.
 pub fn undone_runs_are_runs()
     ensures { UndoneRunsAreRuns }
 {}
@@ -22,6 +24,8 @@ pub fn staged_runs_are_runs()
 /// Where a change is undone under later changes, the run without it makes these with the numbers
 /// before their own. That run need not be legal: a later change may get other device numbers in it,
 /// and a step another answer. Where it is legal, it leads to the state after the undo.
+///
+/// Promise: under later changes, a legal run without the change leads to what its undo leaves.
 pub fn legal_runs_without_lead_there()
     ensures { LegalRunsWithoutLeadThere }
 {}

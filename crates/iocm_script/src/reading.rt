@@ -33,6 +33,8 @@ pub fn script_of(alloc: Global, cards: &[Card], changes: u64) -> Result<Script, 
 /// L5, where the device can't be read to its end, and L1 and L2 of any line come first, as
 /// `read_cards` answers them; then K1, K2 and K3 as `script_of` does. M1 without memory. Source:
 /// own.
+///
+/// Promise: a script is read exactly, or the first of L1, L2, K1, K2 and K3 is answered, or L5.
 #[tactic(auto, using(crate::proofs::Refusing::never_unreadable))]
 pub fn read_script<R: Read>(
     alloc: Global,

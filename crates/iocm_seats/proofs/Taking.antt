@@ -28,11 +28,6 @@ module _ {K X : Type 0} {R : K → K → Ordering} (total : IsTotalOrder R) (exa
   again true v w o = refl
   again false v w o = refl
 
-  -- what is put where something was put
-  pub insert_again : (m : FinMap R X) (k : K) (v w : X) → insert (insert m k v) k w ≡ insert m k w
-  insert_again m k v w = same_map total exact _ _ (λ q. get-insert total (insert m k v) k w q ∙ ap (cond (eq_by_cmp R q k) (Some w)) (get-insert total m k v q)
-      ∙ again (eq_by_cmp R q k) v w (get m q) ∙ sym (get-insert total m k w q))
-
 -- a row whose subchannel has a seat, or none
 pub met_seat : (seats : Seats) (row : SubId × Live) (seat : Seat) → get seats row.0 ≡ Some seat → met (lives_seated seats) row ≡ (row.0, seat.live)
 met_seat seats row seat is = ap (λ o. (row.0, unwrap_or o row.1)) (live_seated seats row.0 ∙ ap live_in is)

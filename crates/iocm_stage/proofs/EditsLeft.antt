@@ -20,9 +20,6 @@ pub record IsPerforming (before : Operating) (all : List Carried) (now : Operati
 pub next_is : (left new : List Carried) (i : Carried) → left ≡ new ++ i ∷ [] → reverse left ≡ i ∷ reverse new
 next_is left new i is = ap reverse is ∙ reverse_last new i
 
-pub first_can : (i : Carried) (is rest : List Carried) (s : State) (p : Operating) → LeadsTo is s p → is ≡ i ∷ rest → CanUnapply i p
-first_can i is rest s p leads is_first = (subst (λ js. LeadsTo js s p) is_first leads).0
-
 pub next_performed : (p q r : Operating) (all left rest : List Carried) (i : Carried) → IsPerforming p all q left → left ≡ i ∷ rest
     → r.state ≡ state_after i.edit q.state → r.room ≡ q.room → IsPerforming p all r rest
 next_performed p q r all left rest i doing is state room = record {

@@ -25,6 +25,8 @@ use std::alloc::{AllocError, Allocator, Global};
 ///
 /// Refused as the activation of the tree is: by the first refusal that it means, or M1, where
 /// memory ran out.
+///
+/// Promise: a begin tries a change whole, and changes nothing yet.
 pub fn begin<A: Allocator>(
     alloc: Global,
     plant: &mut Plant,

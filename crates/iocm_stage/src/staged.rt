@@ -67,6 +67,8 @@ impl Staged {
     }
 
     /// Performs all edits that are left. It tells of the whole change. Can't run out of memory.
+    ///
+    /// Promise: a commit needs no memory and can't be refused.
     pub fn commit(self, plant: &mut Plant) -> Done
         requires { IsStaged self plant.old }
         ensures state { (t : Stage) (s : State) → IsStageOf self t s plant.old
@@ -85,6 +87,8 @@ impl Staged {
     }
 
     /// Takes back the edits that were advanced. Can't run out of memory.
+    ///
+    /// Promise: an abort needs no memory and can't be refused.
     pub fn abort(self, plant: &mut Plant)
         requires { IsStaged self plant.old }
         ensures state { (t : Stage) (s : State) → IsStageOf self t s plant.old → plant.new.state ≡ s }

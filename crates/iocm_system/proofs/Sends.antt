@@ -30,21 +30,12 @@ asked_send = search (crosses, sendable) depth 60 fits 20000
 pub receipt_send : IsSend Receipt.the_row
 receipt_send = declared_send Receipt.the_type (search sendable depth 20, (asked_send, (answer.the_send, tt)))
 
-back_send : IsSend Back.the_row
-back_send = declared_send Back.the_type (rule.the_send, (call_send, tt))
-
-pub ran_send : IsSend Ran.the_row
-ran_send = declared_send Ran.the_type (search (receipt_send, crosses, sendable) depth 20, (search (back_send, crosses, sendable) depth 20, (search (call_send, crosses, sendable) depth 20, tt)))
-
 module _ (B : RattleType) (i : Ghosts B.Denot) where
   seat_send : IsSend (Seat.the_row B i)
   seat_send = view_send _ _ _ _ _ (declared_send (seat_inside.the_type B i) (search (entry_send, place.the_send, crosses, sendable) depth 20, (search sendable depth 20, (search (crosses, sendable) depth 20, tt))))
 
   pub caller_send : IsSend (Caller.the_row B i)
   caller_send = view_send _ _ _ _ _ (declared_send (caller_inside.the_type B i) (seat_send, tt))
-
-  pub turn_send : IsSend (Turn.the_row B i)
-  turn_send = declared_send (Turn.the_type B i) (caller_send, (ran_send, tt))
 
   desk_send : IsSend (Desk.the_row B i)
   desk_send = view_send _ _ _ _ _ (declared_send (desk_inside.the_type B i) (core_send, (seat_send, tt)))

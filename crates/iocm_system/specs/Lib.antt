@@ -4,4 +4,4 @@ pub mod Backs
 pub mod Calling
 pub mod Codes
 pub mod Turns
-pub mod OneRun
+pub mod Traces

@@ -28,6 +28,8 @@ impl<B: Identity> System<B> {
     /// its number, once, and no others.
     ///
     /// X1: what lies under the lock is not of this system.
+    ///
+    /// Promise: whatever the threads did, it was one run of calls, and each receipt tells its own.
     pub fn close(self, me: Caller<B>) -> Result<Core, Unclosed>
         requires mine { me.tag ≡ self.board.tag }
         requires whole { is_whole me.names ≡ true }

@@ -10,8 +10,7 @@
 //! and the receipts of the callers are all its entries since the opening, each at its number, once.
 //! So whatever the threads did, it was one run of calls, in an order that all receipts agree with.
 //!
-//! Begin with `specs/Sights.antt`, `system.rt` and `desk.rt`; `together.rt` has two threads that
-//! make their calls. What names no source is our own.
+//! Begin with `specs/Sights.antt`, `system.rt` and `desk.rt`. What names no source is our own.
 #![tactic(auto)]
 
 mod asked;
@@ -22,7 +21,6 @@ mod gate;
 mod making;
 mod receipt;
 mod system;
-mod together;
 mod turn;
 
 pub use asked::Asked;
@@ -31,5 +29,4 @@ pub use closing::Unclosed;
 pub use gate::{Gate, Open};
 pub use receipt::{Back, Receipt};
 pub use system::System;
-pub use together::{Together, run_together};
 pub use turn::{Ran, Turn, in_turn};

@@ -55,6 +55,8 @@ impl<B: Identity> System<B> {
 
     /// How many calls are published: at least as many as the caller had seen. It takes no lock and
     /// no memory, and waits for nobody.
+    ///
+    /// Promise: whoever looks beside threads never sees the count of calls fall.
     pub fn seen(&self, me: &mut Caller<B>) -> u64
         requires mine { me.old.tag ≡ self.now.board.tag }
         ensures later { me.old.seen ≤ result }

@@ -3,6 +3,5 @@ pub mod Building
 pub mod Lending
 pub mod Lookups
 pub mod Presence
-pub mod Sweeping
 pub mod Walking
 pub mod Writing

@@ -131,17 +131,6 @@ impl<K: TableKey, V, A: Allocator> Table<K, V, A> {
         self.len -= one_if(before.is_some());
         before
     }
-
-    /// Gives up the places of keys that have no row.
-    pub fn sweep(&mut self)
-    where
-        K: Drop,
-        V: Drop,
-        ensures rows { rows K.order self.new ≡ rows K.order self.old }
-        ensures places { self.new.places ≡ map.keys (rows K.order self.old) }
-    {
-        self.slots.retain(|_, slot| slot.is_some());
-    }
 }
 
 /// Gives a key that isn't there a place, which is empty.

@@ -159,6 +159,8 @@ fn finish<A: Allocator>(reading: Reading<A>) -> Result<Tree<A>, Fault>
 /// S5 and S4, as `records_of` and `keys_of` of `iocm_change_records` say; S9, END where nothing is
 /// open; C1, the tree so far is deeper than 32; C2, it has more than 4,096 leaves. At last S9 has
 /// the line of the innermost node that is still open. M1 comes without memory.
+///
+/// Promise: a change deck is read exactly, or its first fault is answered.
 #[tactic(auto, using(crate::proofs::Statements::read_steps))]
 pub fn read_tree<A: Allocator + Copy>(
     global: Global,

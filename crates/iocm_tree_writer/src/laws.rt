@@ -15,6 +15,8 @@ pub fn leaves_are_read_again()
 /// within the limits and its edits are such as decks and change decks give: nothing comes along
 /// with them, and none modifies an Online record. Each tree that is read from a change deck is
 /// such; so what is written of it is read as the same tree.
+///
+/// Promise: a change such as decks can say is written so that it is read as the same change.
 pub fn trees_are_read_again()
     ensures given { GivesTrees }
     ensures tree { ReadsTreeAgain }

@@ -31,13 +31,6 @@ impl<T, A: Allocator> List<T, A> {
     {
         self.items.as_slice()
     }
-
-    /// The items with their memory.
-    pub fn into_vec(self) -> Vec<T, A>
-        ensures { result.items ≡ self }
-    {
-        self.items
-    }
 }
 
 impl<T: Copy, A: Allocator> List<T, A> {

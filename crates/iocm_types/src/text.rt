@@ -51,13 +51,6 @@ impl<A: Allocator> Text<A> {
         self.bytes.as_slice()
     }
 
-    /// The bytes with their memory.
-    pub fn into_vec(self) -> Vec<u8, A>
-        ensures { result.items ≡ self }
-    {
-        self.bytes
-    }
-
     /// How many bytes there are.
     pub fn len(&self) -> usize
         ensures { result ≡ length self.now }

@@ -171,9 +171,6 @@ nodes_come_from_their_lines ss t is node h at =
 
 -- ---- and back
 
-counted_on : (a b : ℕ) → (a + b) - a ≡ b
-counted_on a b = omega arith
-
 -- a node at a place behind some nodes
 line_on : (first rest : List Placed) (count place : ℕ) → length first ≡ count → line_at (first ++ rest) (count + place) ≡ line_at rest place
 line_on first rest count place is =

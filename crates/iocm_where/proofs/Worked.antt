@@ -1,15 +1,14 @@
 -- Lines of keys and of nodes, computed.
 use Rattle.std.proofs.Common.{refl}
-use Rattle.iocm_keywords.specs.LeftOut.{spans_within}
-use Rattle.iocm_keywords.specs.Walk.{names_several}
 use Rattle.iocm_statements.specs.Nesting.{is_outside, step, cuts, sets}
 use Rattle.iocm_statements.specs.Pieces.{pieces_from}
 use Rattle.iocm_values.specs.Reading.{every, every_at, gathered}
+use Rattle.iocm_values.specs.ItemWords.{item_words_from}
 use Rattle.iocm_values.specs.Words.{words_from}
 use Rattle.iocm_where.specs.Examples.{LinesOfKeys, LinesOfNodes}
 
 pub lines_of_keys : LinesOfKeys
-unfolding is_outside step cuts sets pieces_from every every_at gathered words_from spans_within names_several
+unfolding is_outside step cuts sets pieces_from every every_at gathered words_from item_words_from
 lines_of_keys = record {
   image = refl;
   path = refl;
@@ -25,7 +24,7 @@ lines_of_keys = record {
 }
 
 pub lines_of_nodes : LinesOfNodes
-unfolding is_outside step cuts sets pieces_from every every_at gathered words_from spans_within names_several
+unfolding is_outside step cuts sets pieces_from every every_at gathered words_from item_words_from
 lines_of_nodes = record {
   none = refl;
   alone = refl;

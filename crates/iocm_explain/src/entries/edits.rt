@@ -34,7 +34,7 @@ must be there.
     DELETE   IODEVICE ADDRESS=2000
 refused E2 node 2 device 0.2000";
 
-pub const E3_TITLE: &str = "a CHOOSE without parts";
+pub const E3_TITLE: &str = "a CHOOSE has no parts";
 
 pub const E3_TEXT: &str =
     "Explanation. A CHOOSE performs the first of its parts that is accepted. The one at this node has
@@ -49,24 +49,13 @@ its last part: a ROW and its END. If it isn't needed, delete CHOOSE and END.
              END
 refused E3 node 0";
 
-pub const E4_TITLE: &str = "a subchannel number is taken";
-
-pub const E4_TEXT: &str =
-    "Explanation. A change brings a device back with the subchannel number that it had, and another
-device has that number. Or it brings one number for two devices. No command prints this. A change
-deck has no numbers, and an undo that would meet it is refused with J2.
-
-System action. The whole change is taken back.
-
-Response. Undo the change that gave the number to another device first.";
-
 pub const B1_TITLE: &str = "a subchannel is busy or has status pending";
 
 pub const B1_TEXT: &str =
     "Explanation. The change, the undo or the redo alters the subchannel that is named. There a
 start, halt or clear is in progress, or its status hasn't been taken by TEST SUBCHANNEL. A pending
-start counts too. Where there are several such subchannels, the least is named. An undo or a redo
-looks at all subchannels that its change altered, and names no node. Only scripts cause this, since
+start counts too. If there are several such subchannels, the least is named. An undo or a redo looks
+at all subchannels that its change altered, and names no node. Only scripts cause this, since
 iocm apply opens a machine on which nothing is in progress.
 
 System action. Nothing was changed. The I/O goes on.
@@ -95,3 +84,14 @@ status pending. Then try again: the next B1 may name another subchannel, also on
     sync
     P undo 1
 6 refused B1 subchannel 0.2.0.0000";
+
+pub const E4_TITLE: &str = "a subchannel number is taken";
+
+pub const E4_TEXT: &str =
+    "Explanation. A change brings a device back with the subchannel number that it had, and another
+device has that number. Or it brings one number for two devices. No command prints this. A change
+deck has no numbers, and an undo that would meet it is refused with J2.
+
+System action. The whole change is taken back.
+
+Response. Undo the change that gave the number to another device first.";

@@ -1,6 +1,6 @@
 // Written by tests/messages --write from docs/MESSAGES.md: change the entries there, not here.
 
-pub const L1_TITLE: &str = "a byte that is no printable character";
+pub const L1_TITLE: &str = "a byte isn't a printable character";
 
 pub const L1_TEXT: &str =
     "Explanation. The line has a byte that isn't a printable ASCII character or a blank. Often it is
@@ -24,7 +24,7 @@ refused L1 line 2
     A\tstart 0.1.0.0001
 refused L1 line 1";
 
-pub const L2_TITLE: &str = "a line of more than 80 bytes";
+pub const L2_TITLE: &str = "a line has more than 80 bytes";
 
 pub const L2_TEXT: &str =
     "Explanation. The line is longer than a card, which has 80 columns. A carriage return before the
@@ -47,7 +47,7 @@ a script can't be continued: take blanks out. The example below is accepted so:
              RESOURCE PARTITION=((CSS(0),(LPA,1),(LPB,2),(LPC,3),(LPD,4),(LPE,5),(LPF,6)))
 refused L2 line 1";
 
-pub const L3_TITLE: &str = "a continuation that doesn't begin in column 16";
+pub const L3_TITLE: &str = "a continuation doesn't begin in column 16";
 
 pub const L3_TEXT: &str =
     "Explanation. The line before this one has something in column 72, so this line continues it. But
@@ -63,7 +63,7 @@ of that line ran into column 72 by mistake.
              (LPB,2))
 refused L3 line 2";
 
-pub const L4_TITLE: &str = "a continuation that isn't there";
+pub const L4_TITLE: &str = "a continuation is missing";
 
 pub const L4_TEXT: &str =
     "Explanation. The line that is named is the last one of the file that isn't a comment or blank.
@@ -71,8 +71,9 @@ It has something in column 72, so it is continued, and nothing follows.
 
 System action. No statement was made, of this file or a later one.
 
-Response. Add the rest of the statement from column 16 of the next line, or clear column 72. If
-the end of the file is missing, get the whole file.
+Response. Is the statement complete? Then its text may have run into column 72: end it before
+that column, and clear column 72. Else add the rest from column 16 of the next line. If the end of
+the file is missing, get the whole file.
 
              RESOURCE PARTITION=((LPA,1),                                  X
 refused L4 line 1";
@@ -83,7 +84,8 @@ pub const L5_TEXT: &str =
     "Explanation. The program printed fault L5 on standard error. A file of the command line
 couldn't be opened: it isn't there, or may not be read. Or a read failed, as it does of a folder. Or
 the file didn't end within 1,048,576 reads. Without --quiet the next line on standard error names
-the file, or standard input, but not a pipe.
+the file, or standard input. A named pipe isn't named, nor is a terminal that is given by its name:
+such a text can be read only once.
 
 System action. Nothing was printed on standard output, and the exit status is 3.
 
@@ -94,10 +96,10 @@ pub const L6_TITLE: &str = "the output can't be written";
 
 pub const L6_TEXT: &str =
     "Explanation. The program printed fault L6 on standard error. A write to standard output
-failed. The disk is full, or the program that read from a pipe has ended.
+failed: the disk is full, or the program that read from a pipe has ended.
 
 System action. The program stopped at once, with exit status 3. What was written before may end
-within a line. Where a limit of file sizes (ulimit -f) is reached, the system itself ends the
-program by a signal, without this line.
+within a line. If a limit of file sizes (ulimit -f) is reached, the system itself ends the program
+by a signal, without this line.
 
 Response. Make room, or look why the reader of the pipe ended. Run the command again.";

@@ -6,12 +6,12 @@ pub const M1_TEXT: &str =
     "Explanation. There was not enough storage. Either the heap in which a change deck is read is too
 small: it has 262,144 bytes, or as many as --heap says. Or the process met a limit of its own, or
 of the system. M1 has no line and no node. In a script activate, begin, undo and redo may be
-answered so, after the number of their line. It never comes in place of O1, C1, C2 or J1, nor where
-a redo is refused.
+answered so, after the number of their line. It never comes in place of O1, C1, C2 or J1, nor if a
+redo is refused.
 
 System action. What the call had begun was taken back, and it changed nothing. A script goes on
-after an answer M1. Where iocm run prints refused M1 and nothing else, the script wasn't run to
-its end. Nothing of a table is printed.
+after an answer M1. If iocm run prints refused M1 and nothing else, the script wasn't run to its
+end. Nothing of a table is printed.
 
 Response. With apply and run, first give the change deck a larger heap, at most
 --heap 16777216. With --heap 8388608 it has room for 4,096 edits, and by default for some 128.

@@ -1,10 +1,10 @@
 // Written by tests/messages --write from docs/MESSAGES.md: change the entries there, not here.
 
-pub const V1_TITLE: &str = "an image's name twice";
+pub const V1_TITLE: &str = "two images have the same name";
 
 pub const V1_TEXT: &str =
-    "Explanation. Two images have the same name, in one channel subsystem or in two. Of the two the
-one with the greater key is named: image 1.1 is digit 1 of channel subsystem 1.
+    "Explanation. Two images have the same name, in one channel subsystem or in two. The one with the
+greater key is named: image 1.1 is digit 1 of channel subsystem 1.
 
 System action. A deck isn't opened. A change is taken back as a whole.
 
@@ -17,7 +17,7 @@ named may be the deck's.
              RESOURCE PARTITION=((CSS(0),(LPA,1)),(CSS(1),(LPA,1)))
 refused V1 image 1.1";
 
-pub const V2_TITLE: &str = "a list names no image";
+pub const V2_TITLE: &str = "a path lists a name that is no image";
 
 pub const V2_TEXT: &str =
     "Explanation. A name in the access or candidate list of the path isn't that of an image of the
@@ -34,32 +34,33 @@ image in a list.
              CHPID PATH=(CSS(0),50),SHARED,PARTITION=((LPA),(LPA,LPB))
 refused V2 path 0.50";
 
-pub const V3_TITLE: &str = "more images than the path's kind allows";
+pub const V3_TITLE: &str = "a path has more images than its kind allows";
 
 pub const V3_TEXT: &str =
     "Explanation. A path without SHARED and without REC is dedicated: both its lists together have
 one image at most. A REC path may have several candidates, but one image at most in its access list.
+A misspelt SHARED, as SHARD, is kept and has no effect.
 
 System action. A deck isn't opened. A change is taken back as a whole.
 
 Response. Look at PARTITION of the CHPID that is named. If the images use the path at the same
-time, add SHARED. If they use it one at a time, write REC, one image in the access list and all of
-them in the candidate list: REC,PARTITION=((LPA),(LPA,LPB)). Otherwise take out all images but
-one.
+time, add SHARED, or correct its spelling. If they use it one at a time, write REC, one image in the
+access list and all of them in the candidate list: REC,PARTITION=((LPA),(LPA,LPB)). Otherwise take
+out all images but one.
 
              RESOURCE PARTITION=((CSS(0),(LPA,1),(LPB,2)))
              CHPID PATH=(CSS(0),52),PARTITION=(LPA,LPB)
 refused V3 path 0.52";
 
-pub const V4_TITLE: &str = "an image online where it can't be";
+pub const V4_TITLE: &str = "an image is online where it can't be";
 
 pub const V4_TEXT: &str =
     "Explanation. After the change an image would be online at a path where it can't be.
 online 0.52.LPA is image LPA at path 52 of channel subsystem 0. The path isn't there, or doesn't
-list the image, or is dedicated or REC and another image is online there too. Of two such images the
-one whose name comes later in the alphabet is named, so it may be the one that was online before.
-Only a change causes this, since a deck's online records come from its access lists. With
-check --all it also follows a deck's V3 at the same path, and is gone once that is mended.
+list the image, or is dedicated or REC and another image is online there too. The one of the two
+whose name comes later in the alphabet is named, so it may be the one that was online before. Only a
+change causes this, since a deck's online records come from its access lists. With check --all it
+also follows a deck's V3 at the same path, and is gone once that is mended.
 
 System action. The change is taken back as a whole.
 
@@ -79,7 +80,7 @@ refused V4 node 0 online 0.52.LPA
     ADD      ONLINE PATH=(CSS(0),52),PARTITION=(LPA,LPB)
 refused V4 node 0 online 0.52.LPB";
 
-pub const V5_TITLE: &str = "a control unit's paths";
+pub const V5_TITLE: &str = "a control unit's paths are missing, too many or wrong";
 
 pub const V5_TEXT: &str =
     "Explanation. The control unit has no path. Or in one channel subsystem it has more than eight, a
@@ -91,14 +92,14 @@ Response. Look at PATH of the CNTLUNIT with this CUNUMBR, and add it if it is mi
 channel subsystem count its paths, and compare each with the CHPIDs of the same channel subsystem.
 PATH=(50,51) is for channel subsystem 0. Add the CHPID, or correct or take out the path. Does the
 change delete a CHPID? Then add a MODIFY of each CNTLUNIT that has this path in PATH. Does it modify
-the CNTLUNIT? Then it must have PATH, also where the paths stay.
+the CNTLUNIT? Then it must have PATH, also if the paths stay.
 
              RESOURCE PARTITION=((CSS(0),(LPA,1)))
              CHPID PATH=(CSS(0),50),SHARED
              CNTLUNIT CUNUMBR=1000,PATH=((CSS(0),50,51)),UNITADD=((00,16))
 refused V5 unit 1000";
 
-pub const V6_TITLE: &str = "links and paths don't match";
+pub const V6_TITLE: &str = "a control unit's links don't match its paths";
 
 pub const V6_TEXT: &str =
     "Explanation. In a channel subsystem for which LINK has a list, the control unit has more links
@@ -117,7 +118,7 @@ example: LINK=((CSS(0),1A,**)). A channel subsystem that LINK leaves out needs n
              CNTLUNIT CUNUMBR=1000,PATH=((CSS(0),50,51)),LINK=((CSS(0),1A))
 refused V6 unit 1000";
 
-pub const V7_TITLE: &str = "ranges of unit addresses";
+pub const V7_TITLE: &str = "a control unit's unit addresses overlap or pass FF";
 
 pub const V7_TEXT: &str =
     "Explanation. A range of unit addresses of the control unit passes FF, or two of its ranges have
@@ -134,7 +135,7 @@ ranges begin after one another. In the example: UNITADD=((F8,8)).
              CNTLUNIT CUNUMBR=1000,PATH=((CSS(0),50)),UNITADD=((F8,16))
 refused V7 unit 1000";
 
-pub const V8_TITLE: &str = "a device's control units";
+pub const V8_TITLE: &str = "a device's control units are missing, too many or wrong";
 
 pub const V8_TEXT: &str =
     "Explanation. The device has no control unit, more than eight, one of them twice, or one for
@@ -145,14 +146,14 @@ System action. A deck isn't opened. A change is taken back as a whole.
 Response. Look at CUNUMBR of the IODEVICE whose ADDRESS has the device, with SCHSET of that set.
 Add CUNUMBR if it is missing. Compare each of its numbers with CUNUMBR of the CNTLUNITs. Add the
 CNTLUNIT, or correct or take out the number. Does the change delete a CNTLUNIT? Then add a MODIFY or
-a DELETE of each device on it. Does it modify the IODEVICE? Then it must have CUNUMBR, also where
-the control units stay.
+a DELETE of each device on it. Does it modify the IODEVICE? Then it must have CUNUMBR, also if the
+control units stay.
 
              RESOURCE PARTITION=((CSS(0),(LPA,1)))
              IODEVICE ADDRESS=1000,CUNUMBR=1000
 refused V8 device 0.1000";
 
-pub const V9_TITLE: &str = "a unit address that a control unit doesn't have";
+pub const V9_TITLE: &str = "a control unit doesn't have the device's unit address";
 
 pub const V9_TEXT: &str =
     "Explanation. One of the device's control units has no range with the device's unit address. That
@@ -174,12 +175,12 @@ may be a MODIFY of the CNTLUNIT.
              IODEVICE ADDRESS=1010,CUNUMBR=1000
 refused V9 device 0.1010";
 
-pub const V10_TITLE: &str = "two devices at one unit address";
+pub const V10_TITLE: &str = "two devices have the same unit address";
 
 pub const V10_TEXT: &str =
-    "Explanation. Two devices on one control unit have the same unit address. Of the two the one with
-the greater number is named, in the order of sets first. device 0.2000 is device 2000 of
-subchannel set 0.
+    "Explanation. Two devices on one control unit have the same unit address. The one with the
+greater number is named, in the order of sets first. device 0.2000 is device 2000 of subchannel
+set 0.
 
 System action. A deck isn't opened. A change is taken back as a whole.
 
@@ -200,7 +201,7 @@ refused V10 device 0.2000
     ADD      IODEVICE ADDRESS=0FFF,CUNUMBR=1000,UNITADD=00
 refused V10 node 0 device 0.1000";
 
-pub const V11_TITLE: &str = "a path list that is too long";
+pub const V11_TITLE: &str = "a device has too many paths, or one path twice";
 
 pub const V11_TEXT: &str =
     "Explanation. In one channel subsystem the paths of all control units of the device are more than
@@ -210,7 +211,7 @@ subchannel set 0.
 System action. A deck isn't opened. A change is taken back as a whole.
 
 Response. For each control unit in CUNUMBR of the IODEVICE write down PATH of its CNTLUNIT, one
-channel subsystem after the other. Where a path comes twice, or there are more than eight, take the
+channel subsystem after the other. If a path comes twice, or there are more than eight, take the
 path out of a CNTLUNIT. Or take a control unit out of CUNUMBR. In the example both control units
 have path 50. In a change the cause may be a MODIFY of a CNTLUNIT.
 
@@ -221,7 +222,7 @@ have path 50. In a change the cause may be a MODIFY of a CNTLUNIT.
              IODEVICE ADDRESS=1000,CUNUMBR=(1000,2000)
 refused V11 device 0.1000";
 
-pub const V12_TITLE: &str = "a candidate that is no image";
+pub const V12_TITLE: &str = "a device's candidate is no image";
 
 pub const V12_TEXT: &str =
     "Explanation. PARTITION of the IODEVICE has a name that no image of any channel subsystem has.
@@ -239,7 +240,7 @@ delete or rename an image? Then add a MODIFY of each IODEVICE with that name.
              IODEVICE ADDRESS=1000,CUNUMBR=1000,PARTITION=LPB
 refused V12 device 0.1000";
 
-pub const V13_TITLE: &str = "more devices than MAXDEV allows";
+pub const V13_TITLE: &str = "there are more devices than MAXDEV allows";
 
 pub const V13_TEXT: &str =
     "Explanation. In a channel subsystem the subchannel number of the device is at or above the limit
@@ -261,18 +262,20 @@ hexadecimal.
              IODEVICE ADDRESS=(1000,4),CUNUMBR=1000
 refused V13 device 0.1003";
 
-pub const V14_TITLE: &str = "two control units at one address";
+pub const V14_TITLE: &str = "two control units have the same address";
 
 pub const V14_TEXT: &str =
     "Explanation. Two control units answer to the same unit address on the same path. They share a
-path on which both have the same link, or neither has one. They have the same CUADD, where none
-counts as 00. And a range of unit addresses of one overlaps a range of the other. Of the two the one
-with the greater number is named.
+path on which both have the same link, or neither has one. They have the same CUADD; none counts as
+00. And a range of unit addresses of one overlaps a range of the other. The one with the greater
+number is named.
 
 System action. A deck isn't opened. A change is taken back as a whole.
 
-Response. Look at each CNTLUNIT with a lower CUNUMBR that has a path in common with the one that
-is named. A CNTLUNIT without UNITADD has the addresses 00 to FF. Change one of the two:
+Response. The other one has a lower CUNUMBR, and a path in PATH in common with the one that is
+named. To find it, look for that path in PATH of the CNTLUNITs, and compare their CUADD, their LINK
+and then their UNITADD. A CNTLUNIT without UNITADD has the addresses 00 to FF. Change one of the
+two:
 
 - two logical control units of one box: another CUADD, as CUADD=1;
 - two control units on a switch: in LINK, their own link for the path;

@@ -1,6 +1,6 @@
 // Written by tests/messages --write from docs/MESSAGES.md: change the entries there, not here.
 
-pub const K1_TITLE: &str = "a line that is no command";
+pub const K1_TITLE: &str = "the line is no command";
 
 pub const K1_TEXT: &str = "Explanation. The line isn't in one of these forms:
 
@@ -32,7 +32,7 @@ refused K1 line 3
     P start 0.1.0.0001
 refused K1 line 1";
 
-pub const K2_TITLE: &str = "a change deck that isn't there";
+pub const K2_TITLE: &str = "the change deck isn't there";
 
 pub const K2_TEXT: &str =
     "Explanation. A line activate k or begin k is for the k-th change deck of the command line,
@@ -47,7 +47,7 @@ of a change: it doesn't count how often something was activated.
     P activate 2
 refused K2 line 2";
 
-pub const K3_TITLE: &str = "too many operator lines in one round";
+pub const K3_TITLE: &str = "a round has too many operator lines";
 
 pub const K3_TEXT: &str =
     "Explanation. A round goes from one sync to the next. In this one P and Q together have more

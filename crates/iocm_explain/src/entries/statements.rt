@@ -1,19 +1,19 @@
 // Written by tests/messages --write from docs/MESSAGES.md: change the entries there, not here.
 
-pub const S1_TITLE: &str = "an operation that isn't known here";
+pub const S1_TITLE: &str = "an operation isn't known here";
 
 pub const S1_TEXT: &str =
     "Explanation. The operation is the first word of the statement. If column 1 isn't blank, the
 first word is the statement's name, and the operation is the second. It is none of ID, RESOURCE,
 CHPID, CNTLUNIT and IODEVICE, or it is missing. A change deck may also have ONLINE, ROW, GROUP,
-CHOOSE and END; in a configuration deck these are S1. The product leaves out FUNCTION and IOCP's
-other statements.
+CHOOSE and END; in a configuration deck these are S1. FUNCTION and IOCP's other statements aren't
+supported.
 
 System action. No records were made of the deck.
 
 Response. Look which of these it is:
 
-- A statement that the product leaves out, as FUNCTION: delete it. Or make it a comment, with * in
+- A statement that iocm doesn't support, as FUNCTION: delete it. Or make it a comment, with * in
   column 1 of each of its lines.
 - A word that begins in column 1, as in the example: put blanks before it.
 - A word that is misspelt or in lower case: correct it.
@@ -24,7 +24,7 @@ Response. Look which of these it is:
     CHPID PATH=50,SHARED
 refused S1 line 1";
 
-pub const S2_TITLE: &str = "a keyword twice";
+pub const S2_TITLE: &str = "a keyword comes twice";
 
 pub const S2_TEXT: &str =
     "Explanation. A statement has the same keyword twice, with a value each, as PATH=50,PATH=51.
@@ -51,7 +51,7 @@ IODEVICE                                        ADDRESS
 ONLINE                                          PATH and PARTITION
 ADD or MODIFY of a CHPID that is SHARED or REC  both lists in PARTITION
 
-System action. No records were made of the deck. Of a change nothing was done.
+System action. No records were made of the deck, and a change did nothing.
 
 Response. Add the operand. If it seems to be there, the program took it for a remark. Look for
 these causes:
@@ -70,7 +70,7 @@ refused S3 line 1
     ADD      CHPID PATH=(CSS(0),60),SHARED
 refused S3 line 1";
 
-pub const S4_TITLE: &str = "a value that is malformed";
+pub const S4_TITLE: &str = "a value is malformed";
 
 pub const S4_TEXT: &str =
     "Explanation. A value isn't in a form that its operand takes. The line names the statement, not
@@ -86,7 +86,7 @@ the operand. Often it is one of these:
 - SHARED and REC on one path;
 - a continuation mark that is no longer in column 72, and so is text.
 
-System action. No records were made of the deck. Of a change nothing was done.
+System action. No records were made of the deck, and a change did nothing.
 
 Response. Compare each operand of the statement with its forms below, and correct the one that
 differs. Take away an operand of ADD ONLINE other than PATH and PARTITION.
@@ -156,21 +156,21 @@ refused S4 line 1
              CHPID PATH=(CSS(0),5G),SHARED
 refused S4 line 1";
 
-pub const S5_TITLE: &str = "a form that this product leaves out";
+pub const S5_TITLE: &str = "a form of IOCP isn't supported";
 
-pub const S5_TEXT: &str =
-    "Explanation. IOCP reads this form, and this product doesn't. It is one of these:
+pub const S5_TEXT: &str = "Explanation. IOCP takes this form, and iocm doesn't. It is one of these:
 
 - several path numbers on one CHPID, as PATH=(CSS(0),50,51);
-- several channel subsystems in one CSS(..), as CSS(0,1), in any operand of the tables of
-  S4, also inside another CSS(..);
+- several channel subsystems in one CSS(..), as CSS(0,1), in any operand of the tables of S4;
 - NOTPART on CHPID or IODEVICE;
 - a list for SCHSET;
 - in a change deck, MODIFY ONLINE.
 
-An operand that isn't in those tables is never S5: the product keeps its text as it is.
+An operand that isn't in those tables is never S5: its text is kept as it is. A CSS(..) with
+anything else between its parentheses, as CSS(CSS(0,1)), is S4. So is an item that goes on after
+a list, as ((50)51,52).
 
-System action. No records were made of the deck. Of a change nothing was done.
+System action. No records were made of the deck, and a change did nothing.
 
 Response. Write the same in another form.
 
@@ -240,7 +240,7 @@ refused S5 line 1
     MODIFY   ONLINE PATH=(CSS(0),51),PARTITION=(LPB)
 refused S5 line 1";
 
-pub const S6_TITLE: &str = "parentheses or quotes that don't match";
+pub const S6_TITLE: &str = "parentheses or quotes don't match";
 
 pub const S6_TEXT: &str =
     "Explanation. In the operands a parenthesis isn't closed, one is closed that wasn't opened, or a
@@ -254,12 +254,12 @@ text was left out. Look for these causes:
 
 - A blank inside the operands: what follows it is a remark.
 - Text in column 72: that column only says that the statement is continued.
-- A continuation whose text begins after column 16, where the line before doesn't end in a comma.
+- A continuation whose text begins after column 16, if the line before doesn't end in a comma.
 
              RESOURCE PARTITION=((CSS(0),(LPA,1),(LPB,2))
 refused S6 line 1";
 
-pub const S7_TITLE: &str = "a second ID or RESOURCE";
+pub const S7_TITLE: &str = "ID or RESOURCE comes twice";
 
 pub const S7_TEXT: &str =
     "Explanation. A deck has at most one RESOURCE statement, and at most one ID. The line is that of
@@ -274,7 +274,7 @@ RESOURCE PARTITION=((CSS(0),(LPA,1)),(CSS(1),(LPB,1))).
              RESOURCE PARTITION=((CSS(1),(LPB,1)))
 refused S7 line 2";
 
-pub const S8_TITLE: &str = "a record that comes twice";
+pub const S8_TITLE: &str = "a record comes twice";
 
 pub const S8_TEXT: &str =
     "Explanation. The statement brings a record that the deck has already, or brings one twice. That
@@ -294,7 +294,7 @@ own.
              IODEVICE ADDRESS=1003,CUNUMBR=1000,UNITADD=08
 refused S8 line 3";
 
-pub const S9_TITLE: &str = "END without its beginning, or a beginning without END";
+pub const S9_TITLE: &str = "an END has no beginning, or a beginning no END";
 
 pub const S9_TEXT: &str =
     "Explanation. In a change deck an END has no ROW, GROUP or CHOOSE before it that is still open.
@@ -309,7 +309,7 @@ CHOOSE. Add the END that is missing, or delete the one too many.
     DELETE   IODEVICE ADDRESS=1003
 refused S9 line 1";
 
-pub const S10_TITLE: &str = "a change statement without its verb";
+pub const S10_TITLE: &str = "a change statement has no verb";
 
 pub const S10_TEXT: &str =
     "Explanation. In a change deck the name field, from column 1, has the verb: ADD, DELETE or

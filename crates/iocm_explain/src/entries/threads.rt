@@ -11,7 +11,7 @@ System action. The call was handed back, and changed nothing.
 
 Response. Submit the call again after the worker has taken one.";
 
-pub const X1_TITLE: &str = "a seat of another board";
+pub const X1_TITLE: &str = "a seat is of another board";
 
 pub const X1_TEXT: &str =
     "Explanation. A call was made with a seat that isn't of this system's board. No run of the

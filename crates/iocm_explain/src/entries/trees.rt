@@ -1,6 +1,6 @@
 // Written by tests/messages --write from docs/MESSAGES.md: change the entries there, not here.
 
-pub const C1_TITLE: &str = "a change tree too deep";
+pub const C1_TITLE: &str = "the change is nested too deep";
 
 pub const C1_TEXT: &str =
     "Explanation. The change deck is more than 32 levels deep. An edit is one level, and each ROW,
@@ -11,8 +11,8 @@ was passed.
 System action. The change deck was read up to there, and nothing was changed.
 
 Response. Take out levels above that line. Leave out a ROW that is directly in a ROW, or one
-that has one part, with its END. A GROUP can go in the same way where the rules may wait for the end
-of the change.
+that has one part, with its END. A GROUP can go in the same way if the rules may wait for the end of
+the change.
 
              GROUP
              GROUP
@@ -81,7 +81,7 @@ of the change.
              END
 refused C1 line 33";
 
-pub const C2_TITLE: &str = "a change tree too large";
+pub const C2_TITLE: &str = "the change has too many edits";
 
 pub const C2_TEXT: &str =
     "Explanation. The change has more than 4,096 edits. A statement with several devices has one edit

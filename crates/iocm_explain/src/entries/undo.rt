@@ -19,13 +19,13 @@ activated twice has two numbers. If the change is undone already, delete the lin
     P redo 1
 2 refused J1";
 
-pub const J2_TITLE: &str = "a change stands on it";
+pub const J2_TITLE: &str = "another change depends on it";
 
 pub const J2_TEXT: &str =
     "Explanation. Another change depends on the one to be undone. Often it came later and wrote the
 same record, the same subchannel number or the same subchannel. Or the change to be undone doesn't
-fit the machine any more. Then each later change in effect stands on it. So does each earlier change
-that was undone since. The change that is named is the greatest of those that stand on it.
+fit the machine any more. Then each later change in effect blocks it. So does each earlier change
+that was undone since. The blocking change with the highest number is named.
 docs/UNDO.md has examples.
 
 System action. Nothing was changed.

@@ -1,0 +1,6 @@
+-- The law is proved of the definitions.
+use Rattle.iocm_headline.proofs.Inverses as proof
+use Rattle.iocm_headline.proofs.trees.kept_inverses_take_back.Goals as goal
+
+pub returns : goal.returns
+returns c = proof.kept_inverses_take_back

@@ -1,6 +1,0 @@
--- The law is proved of the definitions.
-use Rattle.iocm_inverse_laws.proofs.Inverses as proof
-use Rattle.iocm_inverse_laws.proofs.trees.kept_inverses_take_back.Goals as goal
-
-pub returns : goal.returns
-returns c = proof.kept_inverses_take_back

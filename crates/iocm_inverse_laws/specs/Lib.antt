@@ -1,2 +1,0 @@
-pub mod KeptInverses
-pub mod WayBack

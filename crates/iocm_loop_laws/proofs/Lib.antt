@@ -1,5 +1,0 @@
-pub mod Accepted
-pub mod Loop
-pub mod Online
-pub mod Printed
-pub mod Room

@@ -1,4 +1,0 @@
-pub mod Accepted
-pub mod Loop
-pub mod Online
-pub mod Room

@@ -1,3 +1,0 @@
-pub mod Computed
-pub mod Fitted
-pub mod WhereMet

@@ -1,4 +1,0 @@
-pub mod Fitting
-pub mod InTheWay
-pub mod WithoutAChange
-pub mod Premises

@@ -1,5 +1,0 @@
-use Rattle.iocm_system.proofs.together.run_together.Given as goal
-
--- the tags name the table of the blank board, and the core with which that was made
-abbrev pub ghosts-run_named : goal.ghosts-run_named
-ghosts-run_named g a = record { table = λ tag. a.blank.table.shared.table_id; origin = λ tag. a.blank.keeper.me.0.origin }
