@@ -51,7 +51,7 @@ def built(room, program, stands_on, words, shared=None):
     def left_out(folder, names):
         if os.path.basename(folder) == "out":
             return [name for name in names if name != "rlib"]
-        return [name for name in names if name in ("must-fail", "mutants")]
+        return [name for name in names if name == "edits.txt"]
 
     for crate in below:
         shutil.copytree(os.path.join(TOP, "crates", crate), os.path.join(room, "crates", crate), ignore=left_out)

@@ -7,6 +7,8 @@ import sys
 import tempfile
 import time
 
+from gate.program import program_of
+
 from .cases import Case
 from .kinds import dice_of, play
 from .running import Program
@@ -124,7 +126,7 @@ def main(top, usage, words):
         print(usage)
         return 2
     options, binary, is_self = understood
-    binary = os.path.abspath(binary or os.path.join(top, "iocm"))
+    binary = program_of([binary] if binary else [])
     room = tempfile.mkdtemp(prefix="drawn", dir=MEMORY if os.path.isdir(MEMORY) else None)
     begun = time.monotonic()
     try:

@@ -2,7 +2,7 @@
 
 Right is the answer that is meant, or `refused M1`, in a time that grows in proportion: a text ten times as long takes
 at most GROWTH times as long a byte, and a machine ten times as large a device. A process has 8 GB of address space
-here, so that the machine stays at work. The table of sizes, times and memory is printed for docs/CONTRIBUTING.md.
+here, so that the machine stays at work. The table of sizes, times and memory is printed.
 """
 import os
 import re

@@ -4,7 +4,7 @@ from typing import NamedTuple, Optional
 from .cards import Fault, statements_of
 from .operands import parsed
 from .values import Malformed, by_css, css_of, cut, decimal, has_several_css, has_several_paths, hexadecimal
-from .values import inside_css, is_group, is_list, items_of, items_or_one, name_of, names_of, need
+from .values import inside_css, is_group, is_list, items_of, items_or_one, name_of, names_of, need, opened
 
 ID, RESOURCE, IMAGE, LIMIT, PATH, UNIT, DEVICE, ONLINE = range(8)
 KNOWN = {
@@ -109,7 +109,7 @@ def has_left_out_form(statement, looked_at):
         is_one_path = keyword == "PATH" and statement.operation in ("CHPID", "ONLINE")
         if has_several_css(text) or (is_one_path and has_several_paths(text)):
             return True
-        if keyword == "SCHSET" and text.startswith("(") and text.endswith(")"):
+        if keyword == "SCHSET" and opened(text) is not None:
             return True
     return False
 

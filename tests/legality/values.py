@@ -105,37 +105,22 @@ def by_css(text, may_be_empty=False):
     return sorted(joined.items())
 
 
+def opened(text):
+    """The items of a list, quotes and all, or None of another text: `(A)X` and `(A)(B)` are none."""
+    return cut(text[1:-1]) if len(text) > 1 and text.startswith("(") and text.endswith(")") else None
+
+
 def words_of(text):
-    """The words of a value at every depth; what is inside quotes is in none of them. What stands behind a list, as `)X`
-    in `(A)X`, is a word that begins with its parenthesis."""
-    words, word, depth, in_quotes, has_quote = [], "", 0, False, False
-    for letter in text + ",":
-        if letter == "'":
-            in_quotes, has_quote = not in_quotes, True
-        elif in_quotes:
-            continue
-        elif depth == 0 and (letter == "," or letter == ")" or (letter == "(" and not word)):
-            if word not in ("", ")") and not has_quote:
-                words.append(word)
-            word, has_quote = letter if letter == ")" else "", False
-        else:
-            depth += (letter == "(") - (letter == ")")
-            word += letter
-    return words
+    """The words of a value at every depth: a list is opened, and another piece is one word. So nothing between the
+    parentheses of CSS(..) is a word by itself, and nothing in a piece that goes on after a list."""
+    items = opened(text)
+    return [text] if items is None else [word for item in items for word in words_of(item)]
 
 
 def has_several_css(text):
-    """S5: a word CSS(..) with two or more decimal items, also inside another's parentheses."""
-    for word in words_of(text):
-        inner = inside_css(word)
-        if inner is None:
-            continue
-        items = cut(inner)
-        if len(items) > 1 and all(DECIMAL.fullmatch(item) for item in items):
-            return True
-        if has_several_css(inner):
-            return True
-    return False
+    """S5: a word CSS(..) with two or more decimal items."""
+    inner = [inside_css(word) for word in words_of(text)]
+    return any(sum(bool(DECIMAL.fullmatch(item)) for item in cut(it) or []) > 1 for it in inner if it is not None)
 
 
 def has_several_paths(text):

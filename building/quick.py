@@ -1,0 +1,123 @@
+"""Builds the program without proofs, with the checks at run time that `rt try` puts in.
+
+`rt try` reads all crates and the kit's libraries as source, makes one module of LLVM of them, has clang compile it slowly with a
+sanitizer, and keeps nothing. So it runs here in a stand-in for the kit whose clang keeps the module and ends it there. The module is
+then compiled whole, by the kit's clang, with the words that `rt try` had for it but for the level and the sanitizer.
+"""
+import os
+import shlex
+import shutil
+import stat
+
+from .answers import Refused, say
+from .commands import Steps, run
+
+TARGET = "x86_64-unknown-linux-gnu"
+LIBRARIES = ("c/libos_c.a", "c/liblibc_c.a")
+KILLED = "a command was killed, most likely for lack of memory: some 3 GB have to be free"
+NOTHING_PROVED = "NOTHING IS PROVED HERE of this program: ./iocm --prove proves it, in some two hours of processor time"
+NOTHING_SAID = "run=none proved=no"
+
+CLANG = """#!/bin/sh
+PATH=/usr/bin:/bin
+for word; do
+    case $word in
+    *.bc) module=$word ;;
+    -fsanitize=*) is_last=yes ;;
+    esac
+done
+[ "$is_last" ] || exec {clang} "$@"
+cp "$module" {room}/module.bc && printf '%s\\n' "$@" >{room}/words.new && mv {room}/words.new {room}/words
+exit 1
+"""
+
+
+def script(path, text):
+    with open(path, "w", encoding="utf-8") as file:
+        file.write(text)
+    os.chmod(path, stat.S_IRWXU)
+
+
+def links(source, target, but):
+    """A folder with links to all of another, but for those names."""
+    os.makedirs(target)
+    for name in os.listdir(source):
+        if name not in but:
+            os.symlink(os.path.join(source, name), os.path.join(target, name))
+
+
+def stand_in(kit, room):
+    """A kit that is the other but for three commands, and its `rt`.
+
+    Of `rt` and its library it has copies, since they find their kit by their real path. `rattle` does nothing: `rt try` starts it
+    beside, for a hint on names alone. clang is the one that keeps the module.
+    """
+    to = os.path.join(room, "kit")
+    links(kit.folder, to, ("bin", "toolchain"))
+    links(kit.path("bin"), f"{to}/bin", ("rt", "rtlib.py", "rattle"))
+    links(kit.path("toolchain"), f"{to}/toolchain", ("bin",))
+    links(kit.path("toolchain/bin"), f"{to}/toolchain/bin", ("clang",))
+    for name in ("rt", "rtlib.py"):
+        if os.path.exists(kit.path(f"bin/{name}")):
+            shutil.copy(kit.path(f"bin/{name}"), f"{to}/bin/{name}")
+    script(f"{to}/bin/rattle", "#!/bin/sh\nexit 0\n")
+    names = {"clang": shlex.quote(kit.path("toolchain/bin/clang")), "room": shlex.quote(room)}
+    script(f"{to}/toolchain/bin/clang", CLANG.format(**names))
+    return f"{to}/bin/rt"
+
+
+def text_of(path):
+    with open(path, encoding="utf-8", errors="replace") as file:
+        return file.read()
+
+
+def failed(log, status):
+    """Why a build ended: what the command said."""
+    said = text_of(log).strip()
+    if status < 0 or said in ("", NOTHING_SAID):
+        said = f"{said}\n{KILLED}".strip()
+    return Refused(said)
+
+
+def module_words(top, kit, room, steps):
+    """The words with which clang was to compile the module, which is then in the room."""
+    log, temporary = f"{room}/log", f"{room}/tmp"
+    os.mkdir(temporary)
+    where = {"cwd": f"{top}/crates/iocm", "env": {**os.environ, "TMPDIR": temporary, "PYTHONDONTWRITEBYTECODE": "1"}}
+    status = run([stand_in(kit, room), "try", "--steps", "1", "--", "--help"], log, steps.tick, **where)
+    if not os.path.exists(f"{room}/words"):
+        raise failed(log, status)
+    return text_of(f"{room}/words").splitlines()
+
+
+def compiler_words(kit, words):
+    """The words for the kit's own clang, at a level that serves tests, and without the sanitizer."""
+    kept = [word for word in words if not word.startswith(("-fsanitize=", "--sysroot=", "-O"))]
+    return [kit.path("toolchain/bin/clang"), f"--sysroot={kit.path('toolchain')}", "-O1", *kept]
+
+
+def do(words, room, steps, **how):
+    """Runs a command of the build in its room; what it says is why nothing was built, if it fails."""
+    log = f"{room}/log-{steps.done}"
+    status = run(words, log, steps.tick, cwd=room, **how)
+    if status:
+        raise failed(log, status)
+
+
+def build(top, kit, sources, room):
+    """The path of a program that was built from the sources in this room."""
+    steps = Steps(3)
+    say("no program of these sources is here yet: building one, once, in three to six minutes if a processor is free")
+    try:
+        steps.begin(f"reading {len(sources.crates)} crates and the kit's libraries")
+        words = module_words(top, kit, room, steps)
+        steps.begin("compiling them")
+        do(compiler_words(kit, words), room, steps)
+        steps.begin("linking them, and trying the program")
+        where = ["--target", TARGET, "--toolchain", kit.path("toolchain")]
+        do([kit.path("bin/rattle-link"), *where, "-o", "iocm", "module.o", *map(kit.path, LIBRARIES)], room, steps)
+        do([f"{room}/iocm", "--help"], room, steps)
+    finally:
+        steps.end()
+    say(f"built in {steps.seconds():.0f} s. {NOTHING_PROVED}")
+    return f"{room}/iocm"

@@ -1,0 +1,49 @@
+# bash completion for iocm: commands, the options of each, numbers of refusals, and files where one more is due
+_iocm() {
+    local word=${COMP_WORDS[COMP_CWORD]} before=${COMP_WORDS[COMP_CWORD - 1]}
+    local commands="check show write diff apply run explain help"
+    local filters="--image --device --unit --path --paths-online"
+    local reports="--altered --count --deck --test --undo"
+    local command="" files=0 most=1 options="--help" place is_value=""
+    COMPREPLY=()
+    for ((place = 1; place < COMP_CWORD; place++)); do
+        if [[ $is_value ]]; then
+            is_value=""
+            continue
+        fi
+        case ${COMP_WORDS[place]} in
+            --heap | --image | --device | --unit | --path | --paths-online) is_value=yes ;;
+            -) ((files++)) ;;
+            -*) ;;
+            *) if [[ $command ]]; then ((files++)); else command=${COMP_WORDS[place]}; fi ;;
+        esac
+    done
+    case $before in
+        --heap) options="262144 1048576 16777216" command=value ;;
+        --paths-online) options="0 1 2 3 4 5 6 7 8" command=value ;;
+        --image | --device | --unit | --path) return ;;
+    esac
+    case $command in
+        "") options="$commands --help --version" ;;
+        check) options+=" --quiet --all" ;;
+        show) options+=" --quiet $filters" ;;
+        write) options+=" --quiet" ;;
+        diff) options+=" --quiet --old" most=2 ;;
+        apply) options+=" --quiet --heap $reports $filters" most=2 ;;
+        run) options+=" --quiet --heap" most=9999 ;;
+        explain)
+            most=0
+            ((files)) || options+=" $(iocm explain 2>/dev/null | cut -d: -f1)"
+            ;;
+        help) options=$commands most=0 ;;
+        value) most=0 ;;
+        *) return ;;
+    esac
+    if [[ -z $command || $most == 0 || $word == -?* ]]; then
+        mapfile -t COMPREPLY < <(compgen -W "$options" -- "$word")
+    elif ((files < most)); then
+        compopt -o filenames 2>/dev/null
+        mapfile -t COMPREPLY < <(compgen -f -- "$word")
+    fi
+}
+complete -F _iocm iocm

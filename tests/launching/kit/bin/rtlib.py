@@ -1,0 +1,1 @@
+# The stand-in for rt needs no library.

@@ -1,0 +1,1 @@
+"""What pages say of the sources: tests/pages begins here."""
