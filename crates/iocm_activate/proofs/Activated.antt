@@ -41,7 +41,8 @@ way_back_is [] (e ∷ es) s h = cc
 way_back_is (a ∷ ds) [] s h = cc
 way_back_is (a ∷ ds) (e ∷ es) s h =
     map-append (λ (i : Carried). i.edit) (way_back ds) (a.inverse ∷ [])
-    ∙ (λ i. way_back_is ds es (state_after e s) (same_tail _ _ _ _ h) i ++ (ap (λ (t : Told). t.inverse) (same_head _ _ _ _ h) i) ∷ [])
+    ∙ (λ i. way_back_is ds es (state_after e s) (same_tail _ _ _ _ h) i
+    ++ (ap (λ (t : Told). t.inverse) (same_head _ _ _ _ h) i) ∷ [])
 
 -- edits as the parts of a node, read plainly
 leaves_plain : (is : List Carried) → plain_parts (leaves_from is) ≡ parts_of (map (λ (i : Carried). i.edit) is)
@@ -61,28 +62,35 @@ keys_are [] s = refl
 keys_are (e ∷ es) s = ap (λ ks. key_of_edit e ∷ ks) (keys_are es (state_after e s))
 
 -- the cells of changes between numbers
-pub cells_are : (n m : Numbering) (cells : List NumberCell) → cells_changed (map (numbers.number_change n m) cells) ≡ cells
+pub cells_are : (n m : Numbering) (cells : List NumberCell)
+    → cells_changed (map (numbers.number_change n m) cells) ≡ cells
 cells_are n m [] = refl
 cells_are n m (c ∷ cs) = ap (λ ds. c ∷ ds) (cells_are n m cs)
 
 -- the subchannels of changes between views
-pub subchannels_are : (v w : SubId → Option View) (xs : List SubId) → subchannels_changed (map (views.view_change v w) xs) ≡ xs
+pub subchannels_are : (v w : SubId → Option View) (xs : List SubId)
+    → subchannels_changed (map (views.view_change v w) xs) ≡ xs
 subchannels_are v w [] = refl
 subchannels_are v w (x ∷ xs) = ap (λ ys. x ∷ ys) (subchannels_are v w xs)
 
 -- the number cells that are told are those that the edits write
 numbers_are : (es : List Edit) (s : State) → numbers_told (told_of_all es s) ≡ (cells_written_by_all es s).numbers
 numbers_are [] s = refl
-numbers_are (e ∷ es) s = λ i. cells_are s.numbers (state_after e s).numbers (cells_written e s).numbers i ++ numbers_are es (state_after e s) i
+numbers_are (e ∷ es) s =
+    λ i. cells_are s.numbers (state_after e s).numbers (cells_written e s).numbers i
+    ++ numbers_are es (state_after e s) i
 
 -- and so are the subchannels
-altered_are : (es : List Edit) (s : State) → subchannels_told (told_of_all es s) ≡ (cells_written_by_all es s).subchannels
+altered_are : (es : List Edit) (s : State)
+    → subchannels_told (told_of_all es s) ≡ (cells_written_by_all es s).subchannels
 altered_are [] s = refl
 altered_are (e ∷ es) s =
-    λ i. subchannels_are (get (views_in s)) (get (views_in (state_after e s))) (cells_written e s).subchannels i ++ altered_are es (state_after e s) i
+    λ i. subchannels_are (get (views_in s)) (get (views_in (state_after e s))) (cells_written e s).subchannels i
+    ++ altered_are es (state_after e s) i
 
 -- the cells that a log tells are those that the edits write
-pub cells_told_are : (log : Log) (es : List Edit) (s : State) → map told_in log.done.items ≡ told_of_all es s → log.keys.items ≡ map key_of_edit es
+pub cells_told_are : (log : Log) (es : List Edit) (s : State) → map told_in log.done.items ≡ told_of_all es s
+    → log.keys.items ≡ map key_of_edit es
     → cells_told log ≡ cells_written_by_all es s
 cells_told_are log es s told keys = λ i. record {
   keys = (keys ∙ keys_are es s) i;
@@ -101,4 +109,5 @@ each_told (d ∷ ds) = ((refl, refl), each_told ds)
 pub are_told : (ds : List Applied) (performed : List Touched) (es : List Edit) (s : State) → performed ≡ touched_in ds
     → map told_in ds ≡ told_of_all es s
     → AreToldBy performed (told_of_all es s)
-are_told ds performed es s is told = subst (λ ts. AreToldBy ts (told_of_all es s)) (sym is) (subst (AreToldBy (touched_in ds)) told (each_told ds))
+are_told ds performed es s is told =
+    subst (λ ts. AreToldBy ts (told_of_all es s)) (sym is) (subst (AreToldBy (touched_in ds)) told (each_told ds))

@@ -1,5 +1,6 @@
 -- Signatures of effects: where two are apart, no cell is in both effects; and those of several effects.
-use Rattle.std.proofs.Common.{◌≡◌, ℕ, zero, suc, false, List, [], ◌∷◌, ◌++◌, length, get_or, Some, bit_and, slice_get, refl, sym, ap, subst}
+use Rattle.std.proofs.Common.{◌≡◌, ℕ, zero, suc, false, List, [], ◌∷◌, ◌++◌, length, get_or, Some, bit_and, slice_get}
+use Rattle.std.proofs.Common.{refl, sym, ap, subst}
 use Rattle.iocm_types.specs.KeyOrder.{keys_exact, cells_exact, sub_ids_exact}
 use Rattle.iocm_types.specs.declared.place.NumberCell.{NumberCell}
 use Rattle.iocm_types.specs.declared.sub_id.SubId.{SubId}
@@ -16,9 +17,12 @@ use Rattle.iocm_activate.proofs.Signed.{none_in_both}
 pub apart : (s t : Signature) (f g : model.Effect) → IsSignatureOf s f → IsSignatureOf t g
     → bit_and s.records t.records ≡ 0 → bit_and s.subchannels t.subchannels ≡ 0 → share_a_cell f g ≡ false
 apart s t f g own other records subchannels =
-    let keys = none_in_both number_in keys_exact f.records g.records s.records t.records own.records other.records records in
-    let cells = none_in_both (λ (c : NumberCell). c.number) cells_exact f.numbers g.numbers s.subchannels t.subchannels own.numbers other.numbers subchannels in
-    let lives = none_in_both (λ (x : SubId). x.number) sub_ids_exact f.lives g.lives s.subchannels t.subchannels own.lives other.lives subchannels in
+    let keys = none_in_both number_in keys_exact f.records g.records s.records t.records own.records other.records
+    records in
+    let cells = none_in_both (λ (c : NumberCell). c.number) cells_exact f.numbers g.numbers s.subchannels t.subchannels
+    own.numbers other.numbers subchannels in
+    let lives = none_in_both (λ (x : SubId). x.number) sub_ids_exact f.lives g.lives s.subchannels t.subchannels
+    own.lives other.lives subchannels in
     rw (keys, cells, lives) refl
 
 -- there are as many signatures as effects
@@ -29,7 +33,8 @@ as_many (s ∷ ss) [] h = absurd h
 as_many (s ∷ ss) (e ∷ es) h = ap suc (as_many ss es h.1)
 
 -- one effect more, with its signature
-pub one_signed : (ss : List Signature) (es : List Effect) (s : Signature) (e : Effect) → AreSignaturesOf ss es → IsSignatureOf s (effect_in e)
+pub one_signed : (ss : List Signature) (es : List Effect) (s : Signature) (e : Effect) → AreSignaturesOf ss es
+    → IsSignatureOf s (effect_in e)
     → AreSignaturesOf (ss ++ s ∷ []) (es ++ e ∷ [])
 one_signed [] [] s e h one = (one, tt)
 one_signed [] (f ∷ es) s e h one = absurd h

@@ -17,12 +17,17 @@ use Rattle.iocm_activate.specs.Told.{way_back, LeadsTo}
 -- a machine in the same state stands as before
 stands : (p q : Operating) → HasLives q.state → q.state ≡ p.state → KeepsRoom p.room q.room → StandsAsBefore p q
 stands p q lived same room = record {
-  state = record { config = ap (λ (t : State). t.config) same; numbers = ap (λ (t : State). t.numbers) same; lived = lived };
+  state = record {
+    config = ap (λ (t : State). t.config) same;
+    numbers = ap (λ (t : State). t.numbers) same;
+    lived = lived;
+  };
   room = room;
 }
 
 -- edits lead to a state still where the machine is in the state from then, and no place is lost
-pub leads_still : CanStillUnapply → (is : List Carried) (s : State) (p q : Operating) → LeadsTo is s p → HasLives q.state → q.state ≡ p.state
+pub leads_still : CanStillUnapply → (is : List Carried) (s : State) (p q : Operating) → LeadsTo is s p
+    → HasLives q.state → q.state ≡ p.state
     → KeepsRoom p.room q.room
     → LeadsTo is s q
 leads_still still [] s p q leads lived same room = same ∙ leads
@@ -35,24 +40,30 @@ leads_still still (i ∷ is) s p q leads lived same room = (
 )
 
 -- edits that lead to where others begin, and those others, lead on to where these lead
-pub leads_on : CanStillUnapply → (js is : List Carried) (s : State) (p q : Operating) → LeadsTo js p.state q → LeadsTo is s p → HasLives q.state
+pub leads_on : CanStillUnapply → (js is : List Carried) (s : State) (p q : Operating) → LeadsTo js p.state q
+    → LeadsTo is s p → HasLives q.state
     → KeepsRoom p.room q.room
     → LeadsTo (js ++ is) s q
 leads_on still [] is s p q later leads lived room = leads_still still is s p q leads lived later room
 leads_on still (j ∷ js) is s p q later leads lived room = (
   later.0,
   λ t after places.
-      leads_on still js is s p t (later.1 t after places) leads (subst HasLives (sym after) (lived_after j.edit q.state lived))
+      leads_on still js is s p t (later.1 t after places) leads
+      (subst HasLives (sym after) (lived_after j.edit q.state lived))
       (subst (KeepsRoom p.room) (sym places) room),
 )
 
 -- the way back of edits and more: that of the later ones first
 pub way_back_append : (ds bs : List Applied) → way_back (ds ++ bs) ≡ way_back bs ++ way_back ds
 way_back_append [] bs = sym (append-nil (way_back bs))
-way_back_append (a ∷ ds) bs = ap (λ is. is ++ (a.inverse ∷ [])) (way_back_append ds bs) ∙ append_assoc (way_back bs) (way_back ds) (a.inverse ∷ [])
+way_back_append (a ∷ ds) bs =
+    ap (λ is. is ++ (a.inverse ∷ [])) (way_back_append ds bs)
+    ∙ append_assoc (way_back bs) (way_back ds) (a.inverse ∷ [])
 
 -- what an edit did is undone by its inverse
-pub undone : (e : Edit) (s : State) → IsSound s → CarryFreeNumbers (e ∷ []) s → state_after (inverse_of e s) (state_after e s) ≡ s
+pub undone : (e : Edit) (s : State) → IsSound s → CarryFreeNumbers (e ∷ []) s
+    → state_after (inverse_of e s) (state_after e s) ≡ s
 undone e s sound free =
-    run_goes_back (e ∷ []) s (state_after e s) sound free (record { config = refl; numbers = refl; lived = lived_after e s sound.lived })
+    run_goes_back (e ∷ []) s (state_after e s) sound free
+    (record { config = refl; numbers = refl; lived = lived_after e s sound.lived })
     ∙ puts_back (e ∷ []) s sound

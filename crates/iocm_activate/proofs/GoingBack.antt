@@ -1,6 +1,7 @@
 -- Changes that are those of an edit turned round are just what it is to go back, cell by cell; and
 -- so along a whole run.
-use Rattle.std.proofs.Common.{◌≡◌, ℕ, Bool, true, false, cond, not, ◌&&◌, ◌||◌, List, [], ◌∷◌, ◌++◌, map, length, reverse}
+use Rattle.std.proofs.Common.{◌≡◌, ℕ, Bool, true, false, cond, not, ◌&&◌, ◌||◌, List, [], ◌∷◌, ◌++◌, map, length}
+use Rattle.std.proofs.Common.{reverse}
 use Rattle.std.proofs.Common.{Option, Some, None, refl, sym, ap, subst, ◌∙◌, arith, eqb-true, eq-eqb}
 use Rattle.std.specs.Prelude.{nat_eq}
 use Rattle.std.specs.List.{list_any, list_all}
@@ -58,11 +59,13 @@ all_hold test each (k ∷ ks) = and_from _ _ (each k) (all_hold test each ks)
 
 -- ---- changes of a map, by key with what was there before and after
 
-module _ {K X C : Type 0} {R : K → K → Ordering} (total : IsTotalOrder R) (exact : IsAntisymmetric R) (same : X → X → Bool)
+module _ {K X C : Type 0} {R : K → K → Ordering} (total : IsTotalOrder R) (exact : IsAntisymmetric R)
+    (same : X → X → Bool)
     (are : (a b : Option X) → option_eq same a b ≡ true → a ≡ b) (own : (a : Option X) → option_eq same a a ≡ true)
     (turned : C → C → Bool) (change : (K → Option X) → (K → Option X) → K → C)
     (turns : (v w p q : K → Option X) (k l : K)
-    → turned (change v w k) (change p q l) ≡ (eq_by_cmp R k l && (option_eq same (v k) (q l) && option_eq same (w k) (p l)))) where
+    → turned (change v w k) (change p q l)
+    ≡ (eq_by_cmp R k l && (option_eq same (v k) (q l) && option_eq same (w k) (p l)))) where
   -- all changes between two maps
   abbrev changes : FinMap R X → FinMap R X → List C
   changes m n = map (change (get m) (get n)) (differing same m n)
@@ -71,7 +74,8 @@ module _ {K X C : Type 0} {R : K → K → Ordering} (total : IsTotalOrder R) (e
   abbrev AreTurned : (v w p q : K → Option X) → K → Type 0
   AreTurned v w p q k = (option_eq same (v k) (q k) ≡ true) × (option_eq same (w k) (p k) ≡ true)
 
-  same_keys : (v w p q : K → Option X) (ks ls : List K) → pointwise turned (map (change v w) ks) (map (change p q) ls) ≡ true → ks ≡ ls
+  same_keys : (v w p q : K → Option X) (ks ls : List K)
+      → pointwise turned (map (change v w) ks) (map (change p q) ls) ≡ true → ks ≡ ls
   same_keys v w p q [] [] h = refl
   same_keys v w p q [] (l ∷ ls) h = absurd (false≢true h)
   same_keys v w p q (k ∷ ks) [] h = absurd (false≢true h)
@@ -81,7 +85,8 @@ module _ {K X C : Type 0} {R : K → K → Ordering} (total : IsTotalOrder R) (e
       let more = same_keys v w p q ks ls both.1 in
       λ i. first i ∷ more i
 
-  values_at : (v w p q : K → Option X) (ks : List K) → pointwise turned (map (change v w) ks) (map (change p q) ks) ≡ true
+  values_at : (v w p q : K → Option X) (ks : List K)
+      → pointwise turned (map (change v w) ks) (map (change p q) ks) ≡ true
       → (x : K) → list_any (eq_by_cmp R x) ks ≡ true → AreTurned v w p q x
   values_at v w p q [] h x there = absurd (false≢true there)
   values_at v w p q (k ∷ ks) h x there = by (eq_by_cmp R x k) refl there (values_at v w p q ks (and_parts _ _ h).1 x)
@@ -94,7 +99,8 @@ module _ {K X C : Type 0} {R : K → K → Ordering} (total : IsTotalOrder R) (e
           subst (AreTurned v w p q) (sym (same_key R exact x k e)) (and_parts _ _ here.1)
       by false e found further = further found
 
-  turned_along : (v w p q : K → Option X) (ks : List K) → ((x : K) → list_any (eq_by_cmp R x) ks ≡ true → AreTurned v w p q x)
+  turned_along : (v w p q : K → Option X) (ks : List K)
+      → ((x : K) → list_any (eq_by_cmp R x) ks ≡ true → AreTurned v w p q x)
       → pointwise turned (map (change v w) ks) (map (change p q) ks) ≡ true
   turned_along v w p q [] each = refl
   turned_along v w p q (k ∷ ks) each =
@@ -109,15 +115,19 @@ module _ {K X C : Type 0} {R : K → K → Ordering} (total : IsTotalOrder R) (e
     back_at h x = by (option_eq same (get old x) (get new x)) refl
       where
         keys_are : differing same here there ≡ differing same old new
-        keys_are = same_keys (get here) (get there) (get old) (get new) (differing same here there) (differing same old new) h
+        keys_are = same_keys (get here) (get there) (get old) (get new) (differing same here there)
+            (differing same old new) h
 
         along : pointwise turned (map (change (get here) (get there)) (differing same old new)) (changes old new) ≡ true
-        along = ap (λ ks. pointwise turned (map (change (get here) (get there)) ks) (changes old new)) (sym keys_are) ∙ h
+        along = ap (λ ks. pointwise turned (map (change (get here) (get there)) ks) (changes old new)) (sym keys_are)
+            ∙ h
 
         differ : not (option_eq same (get here x) (get there x)) ≡ not (option_eq same (get old x) (get new x))
-        differ = sym (in_differing total exact same here there x) ∙ ap (list_any (eq_by_cmp R x)) keys_are ∙ in_differing total exact same old new x
+        differ = sym (in_differing total exact same here there x) ∙ ap (list_any (eq_by_cmp R x)) keys_are
+            ∙ in_differing total exact same old new x
 
-        by : (b : Bool) → option_eq same (get old x) (get new x) ≡ b → goes_back_at same (get old x) (get new x) (get here x) (get there x) ≡ true
+        by : (b : Bool) → option_eq same (get old x) (get new x) ≡ b
+            → goes_back_at same (get old x) (get new x) (get here x) (get there x) ≡ true
         by true e = ap (λ b. cond b (option_eq same (get here x) (get there x))
             (option_eq same (get here x) (get new x) && option_eq same (get there x) (get old x))) e
             ∙ holds_since _ (differ ∙ ap not e)
@@ -135,23 +145,29 @@ module _ {K X C : Type 0} {R : K → K → Ordering} (total : IsTotalOrder R) (e
       where
         by : (b : Bool) → option_eq same (get old x) (get new x) ≡ b
             → option_eq same (get here x) (get there x) ≡ option_eq same (get old x) (get new x)
-        by true e = stays_at same (get old x) (get new x) (get here x) (get there x) e (goes_back_here exact same old new here there h x) ∙ sym e
+        by true e = stays_at same (get old x) (get new x) (get here x) (get there x) e
+            (goes_back_here exact same old new here there h x) ∙ sym e
         by false e =
-            let both = turns_at same (get old x) (get new x) (get here x) (get there x) e (goes_back_here exact same old new here there h x) in
+            let both = turns_at same (get old x) (get new x) (get here x) (get there x) e
+            (goes_back_here exact same old new here there h x) in
             false_from_ne_true _ (λ alike.
             let one : get old x ≡ get new x = sym (are _ _ both.1) ∙ sym (are _ _ alike) ∙ are _ _ both.0 in
             false≢true (sym e ∙ ap (option_eq same (get old x)) (sym one) ∙ own (get old x)))
             ∙ sym e
 
     keys_alike : goes_back same old new here there ≡ true → differing same here there ≡ differing same old new
-    keys_alike h = same_members R total exact (differing same here there) (differing same old new) (differing_rise R same here there)
+    keys_alike h = same_members R total exact (differing same here there) (differing same old new)
+        (differing_rise R same here there)
         (differing_rise R same old new)
-        (λ x. in_differing total exact same here there x ∙ ap not (differ_alike h x) ∙ sym (in_differing total exact same old new x))
+        (λ x. in_differing total exact same here there x ∙ ap not (differ_alike h x)
+        ∙ sym (in_differing total exact same old new x))
 
-    back_turns : goes_back same old new here there ≡ true → pointwise turned (changes here there) (changes old new) ≡ true
+    back_turns : goes_back same old new here there ≡ true
+        → pointwise turned (changes here there) (changes old new) ≡ true
     back_turns h = ap (λ ks. pointwise turned (map (change (get here) (get there)) ks) (changes old new)) (keys_alike h)
         ∙ turned_along (get here) (get there) (get old) (get new) (differing same old new) (λ x among.
-        turns_at same (get old x) (get new x) (get here x) (get there x) (fails_since _ (sym (in_differing total exact same old new x) ∙ among))
+        turns_at same (get old x) (get new x) (get here x) (get there x)
+        (fails_since _ (sym (in_differing total exact same old new x) ∙ among))
         (goes_back_here exact same old new here there h x))
 
     -- changes are those of an edit turned round exactly where each cell goes back
@@ -187,10 +203,12 @@ module _ (e : Edit) (s u : State) (d : Touched) (told : IsToldBy d (told_of e s)
   pub one_back : gone_back (inverse_of e s) d u ≡ state_before e s u
   one_back =
       let cells = ap (pointwise is_turned_number _) told.0
-      ∙ turned_is_back cells_total cells_exact nat_eq device_is own_device is_turned_number number_change (λ f g p q k l. refl)
+      ∙ turned_is_back cells_total cells_exact nat_eq device_is own_device is_turned_number number_change
+      (λ f g p q k l. refl)
       (cells_of s.numbers) (cells_of t.numbers) (cells_of u.numbers) (cells_of v.numbers) in
       let seen = ap (pointwise is_turned_view _) told.1
-      ∙ turned_is_back sub_ids_total sub_ids_exact same_view sight_is own_sight is_turned_view view_change (λ f g p q k l. refl)
+      ∙ turned_is_back sub_ids_total sub_ids_exact same_view sight_is own_sight is_turned_view view_change
+      (λ f g p q k l. refl)
       (views_in s) (views_in t) (views_in u) (views_in v) in
       λ i. cond (not (is_barred (inverse_of e s) u) && cells i && seen i) (Some v) None
 
@@ -201,7 +219,8 @@ some_again None = refl
 some_again (Some x) = refl
 
 back_append : (xs ys : List Edit) (cs bs : List Touched) (u : State) → length xs ≡ length cs
-    → gone_back_along (parts_of (xs ++ ys)) (cs ++ bs) u ≡ option_and_then (gone_back_along (parts_of ys) bs) (gone_back_along (parts_of xs) cs u)
+    → gone_back_along (parts_of (xs ++ ys)) (cs ++ bs) u
+    ≡ option_and_then (gone_back_along (parts_of ys) bs) (gone_back_along (parts_of xs) cs u)
 back_append [] ys [] bs u long = refl
 back_append [] ys (a ∷ cs) bs u long = absurd (omega (arith, long))
 back_append (x ∷ xs) ys [] bs u long = absurd (omega (arith, long))
@@ -227,12 +246,15 @@ all_back [] [] s u told = refl
 all_back [] (e ∷ es) s u told = absurd told
 all_back (d ∷ ds) [] s u told = absurd told
 all_back (d ∷ ds) (e ∷ es) s u told =
-    ap (λ cs. gone_back_along (parts_of (inverses es (state_after e s) ++ (inverse_of e s ∷ []))) cs u) (reverse-append (d ∷ []) ds)
+    ap (λ cs. gone_back_along (parts_of (inverses es (state_after e s) ++ (inverse_of e s ∷ []))) cs u)
+    (reverse-append (d ∷ []) ds)
     ∙ back_append (inverses es (state_after e s)) (inverse_of e s ∷ []) (reverse ds) (d ∷ []) u
     (inverses_length es (state_after e s) ∙ sym (told_long ds es (state_after e s) told.1) ∙ sym (length-reverse ds))
-    ∙ ap (option_and_then (gone_back_along (parts_of (inverse_of e s ∷ [])) (d ∷ []))) (all_back ds es (state_after e s) u told.1)
+    ∙ ap (option_and_then (gone_back_along (parts_of (inverse_of e s ∷ [])) (d ∷ [])))
+    (all_back ds es (state_after e s) u told.1)
     ∙ on (state_before_all es (state_after e s) u)
   where
-    on : (o : Option State) → option_and_then (gone_back_along (parts_of (inverse_of e s ∷ [])) (d ∷ [])) o ≡ option_and_then (state_before e s) o
+    on : (o : Option State) → option_and_then (gone_back_along (parts_of (inverse_of e s ∷ [])) (d ∷ [])) o
+        ≡ option_and_then (state_before e s) o
     on None = refl
     on (Some w) = some_again (gone_back (inverse_of e s) d w) ∙ one_back e s w d told.0

@@ -15,7 +15,8 @@ both false false there back = refl
 
 module _ {K : Type 0} {R : K → K → Ordering} (total : IsTotalOrder R) (exact : IsAntisymmetric R) where
   -- what holds of a key holds of one of those among which it is
-  holds_among : (p : K → Bool) (q : K) (ks : List K) → list_any (eq_by_cmp R q) ks ≡ true → p q ≡ true → list_any p ks ≡ true
+  holds_among : (p : K → Bool) (q : K) (ks : List K) → list_any (eq_by_cmp R q) ks ≡ true → p q ≡ true
+      → list_any p ks ≡ true
   holds_among p q [] among holds = cc
   holds_among p q (k ∷ ks) among holds = by (eq_by_cmp R q k) refl among (λ later. holds_among p q ks later holds)
     where
@@ -32,7 +33,8 @@ module _ {K : Type 0} {R : K → K → Ordering} (total : IsTotalOrder R) (exact
         (from_keys ks (λ j among. inside j (or_right (eq_by_cmp R j k) (list_any (eq_by_cmp R j) ks) among)))
       where
         by : (b : Bool) → contains_key m k ≡ b → (b || list_any (contains_key m) ks) ≡ true
-            → (list_any (contains_key m) ks ≡ true → list_any (contains_key n) (keys m) ≡ true) → list_any (contains_key n) (keys m) ≡ true
+            → (list_any (contains_key m) ks ≡ true → list_any (contains_key n) (keys m) ≡ true)
+            → list_any (contains_key n) (keys m) ≡ true
         by true is some more = holds_among (contains_key n) k (keys m) (sym (contains_key-keys m k) ∙ is)
             (inside k (ap (λ b. b || list_any (eq_by_cmp R k) ks) (ties_itself R total k)))
         by false is some more = more some
@@ -41,5 +43,6 @@ module _ {K : Type 0} {R : K → K → Ordering} (total : IsTotalOrder R) (exact
     from_other = from_keys (keys n) (λ k among. contains_key-keys n k ∙ among)
 
   -- a map has one of another's keys where that has one of its own
-  pub common_both : {X Y : Type 0} (m : FinMap R X) (n : FinMap R Y) → list_any (contains_key m) (keys n) ≡ list_any (contains_key n) (keys m)
+  pub common_both : {X Y : Type 0} (m : FinMap R X) (n : FinMap R Y)
+      → list_any (contains_key m) (keys n) ≡ list_any (contains_key n) (keys m)
   common_both m n = both _ _ (from_other m n) (from_other n m)

@@ -1,5 +1,6 @@
 -- Keys and their bits in a signature: how they get there, and what they tell.
-use Rattle.std.proofs.Common.{◌≡◌, ℕ, suc, zero, ◌<◌, ◌%◌, ◌^◌, ◌*◌, Bool, true, false, List, [], ◌∷◌, min, max, bit_and, bit_or, refl, sym, ap, ◌∙◌, w64, arith}
+use Rattle.std.proofs.Common.{◌≡◌, ℕ, suc, zero, ◌<◌, ◌%◌, ◌^◌, ◌*◌, Bool, true, false, List, [], ◌∷◌, min, max}
+use Rattle.std.proofs.Common.{bit_and, bit_or, refl, sym, ap, ◌∙◌, w64, arith}
 use Rattle.std.proofs.lemmas.List.Elements.{All-nil}
 use Rattle.std.proofs.lemmas.List.Folds.{Any-from_list_any, list_any_none}
 use Rattle.std.proofs.lemmas.Nat.Bits.{bit_at_and, bit_at_or, bit_at-lt, bit_at-zero, bit_at_set_same}
@@ -37,14 +38,16 @@ module _ {K : Type 0} (number : K → ℕ) where
   bit_stays : (signature i : ℕ) (ks : List K) → bit_at signature i ≡ 1 → bit_at (with_bits signature ks) i ≡ 1
   bit_stays signature i [] is = is
   bit_stays signature i (k ∷ ks) is =
-      bit_stays (bit_or signature (1 * 2 ^ (number k % 64) % 2 ^ 64)) i ks (either_set signature (1 * 2 ^ (number k % 64) % 2 ^ 64) i is)
+      bit_stays (bit_or signature (1 * 2 ^ (number k % 64) % 2 ^ 64)) i ks
+      (either_set signature (1 * 2 ^ (number k % 64) % 2 ^ 64) i is)
 
   -- all keys have their bits then
   pub all_signed : (signature : ℕ) (ks : List K) → AreSigned number (with_bits signature ks) ks
   all_signed signature [] i d within = All-nil (λ k. bit_at signature (number k % 64) ≡ 1) i d within
   all_signed signature (k ∷ ks) zero d within =
       bit_stays _ (number k % 64) ks (bit_at_set_same w64 signature (number k % 64) (small_rest (number k)))
-  all_signed signature (k ∷ ks) (suc i) d within = all_signed (bit_or signature (1 * 2 ^ (number k % 64) % 2 ^ 64)) ks i d (omega (arith, within))
+  all_signed signature (k ∷ ks) (suc i) d within =
+      all_signed (bit_or signature (1 * 2 ^ (number k % 64) % 2 ^ 64)) ks i d (omega (arith, within))
 
   -- where no bit is in both signatures, no key is in both maps
   module _ {X Y : Type 0} {R : K → K → Ordering} (exact : IsAntisymmetric R) (m : FinMap R X) (n : FinMap R Y) (s t : ℕ)
@@ -57,7 +60,8 @@ module _ {K : Type 0} (number : K → ℕ) where
         let its : bit_at t (number k % 64) ≡ 1 =
         ap (λ x. bit_at t (number x % 64)) (same ∙ sym found.3) ∙ others found.0 found.1 found.2 in
         let both : bit_at 0 (number k % 64) ≡ 1 =
-        ap (λ w. bit_at w (number k % 64)) (sym apart) ∙ bit_at_and s t (number k % 64) ∙ ap (λ b. min b (bit_at t (number k % 64))) signed ∙ ap (min 1) its in
+        ap (λ w. bit_at w (number k % 64)) (sym apart) ∙ bit_at_and s t (number k % 64)
+        ∙ ap (λ b. min b (bit_at t (number k % 64))) signed ∙ ap (min 1) its in
         let none = sym (bit_at-zero (number k % 64)) ∙ both in
         cc
 

@@ -23,22 +23,28 @@ module _ {K X : Type 0} {R : K → K → Ordering} where
   keys_with_values m (k ∷ ks) = ap (λ xs. k ∷ xs) (keys_with_values m ks)
 
   -- so it is in order where they are
-  pub values_rise : (m : FinMap R X) (ks once : List K) (cells : List (K × Option X)) → cells ≡ with_values m ks → ks ≡ once
+  pub values_rise : (m : FinMap R X) (ks once : List K) (cells : List (K × Option X)) → cells ≡ with_values m ks
+      → ks ≡ once
       → IsStrictlySortedBy R once → IsStrictlySortedBy R (keys_of cells)
-  values_rise m ks once cells are same rise = subst (IsStrictlySortedBy R) (sym (ap keys_of are ∙ keys_with_values m ks ∙ same)) rise
+  values_rise m ks once cells are same rise =
+      subst (IsStrictlySortedBy R) (sym (ap keys_of are ∙ keys_with_values m ks ∙ same)) rise
 
 module _ {K X : Type 0} {R : K → K → Ordering} (total : IsTotalOrder R) (exact : IsAntisymmetric R) where
   -- the cells of a map at the same keys, in another order or more than once
-  pub same_cells : (m : FinMap R X) (ks js : List K) → ((q : K) → list_any (eq_by_cmp R q) ks ≡ list_any (eq_by_cmp R q) js)
+  pub same_cells : (m : FinMap R X) (ks js : List K)
+      → ((q : K) → list_any (eq_by_cmp R q) ks ≡ list_any (eq_by_cmp R q) js)
       → cells_at m ks ≡ cells_at m js
   same_cells m ks js same = same_map total exact (cells_at m ks) (cells_at m js) (λ q. get_cells_at total exact m ks q
       ∙ ap (λ b. cond b (Some (get m q)) None) (same q) ∙ sym (get_cells_at total exact m js q))
 
   -- the cells of a map at keys in order, listed, are its cells at these keys however they are given
-  pub listed_cells : (m : FinMap R X) (ks js : List K) (cells : List (K × Option X)) → cells ≡ map (λ key. (key, get m key)) js
-      → IsStrictlySortedBy R js → ((q : K) → list_any (eq_by_cmp R q) js ≡ list_any (eq_by_cmp R q) ks) → cells_in R cells ≡ cells_at m ks
+  pub listed_cells : (m : FinMap R X) (ks js : List K) (cells : List (K × Option X))
+      → cells ≡ map (λ key. (key, get m key)) js
+      → IsStrictlySortedBy R js → ((q : K) → list_any (eq_by_cmp R q) js ≡ list_any (eq_by_cmp R q) ks)
+      → cells_in R cells ≡ cells_at m ks
   listed_cells m ks js cells are rise same = ap (λ (es : List (K × Option X)). cells_in R es) are
-      ∙ same_map total exact (cells_in R (with_values m js)) (cells_at m js) (λ q. get-from_sorted R (with_values m js) q sorted
+      ∙ same_map total exact (cells_in R (with_values m js)) (cells_at m js)
+      (λ q. get-from_sorted R (with_values m js) q sorted
       ∙ sym (get-from_entries total (with_values m js) q)) ∙ same_cells m js ks same
     where
       sorted : T (is_sorted R (with_values m js))

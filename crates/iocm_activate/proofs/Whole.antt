@@ -71,40 +71,49 @@ module _ {t : ChangeTree} {p q : Operating} {log : Log} (w : WasAccepted t p q l
   meant_by s es = Ok (record { state = s; edits = es })
 
   pub means_now : (r : Operating) → r ≡ q → meaning t p.state ≡ meant_by r.state (edits_meant t p.state)
-  means_now r same = w.answers.means ∙ ap (meant_by q.state) edits_are ∙ ap (λ (o : Operating). meant_by o.state (edits_meant t p.state)) (sym same)
+  means_now r same = w.answers.means ∙ ap (meant_by q.state) edits_are
+      ∙ ap (λ (o : Operating). meant_by o.state (edits_meant t p.state)) (sym same)
 
   -- the row of what takes each of them back is the inverse tree
-  pub inverse_now : (r : CarriedTree) → r ≡ row (leaves_from (way_back log.done.items)) → plain_tree r ≡ inverse_tree (edits_meant t p.state) p.state
+  pub inverse_now : (r : CarriedTree) → r ≡ row (leaves_from (way_back log.done.items))
+      → plain_tree r ≡ inverse_tree (edits_meant t p.state) p.state
   inverse_now r shape = ap plain_tree shape ∙ inverse_is log.done.items w.answers.ran.edits p.state (all_told walked)
       ∙ ap (λ es. inverse_tree es p.state) edits_are
 
   -- and takes them back by its meaning
-  pub takes_back_now : (r : CarriedTree) → IsSound p.state → KeepsTheRules p.state → r ≡ row (leaves_from (way_back log.done.items))
+  pub takes_back_now : (r : CarriedTree) → IsSound p.state → KeepsTheRules p.state
+      → r ≡ row (leaves_from (way_back log.done.items))
       → TakesBack (plain_tree r) (edits_meant t p.state) p.state
-  takes_back_now r sound kept shape = subst (λ x. TakesBack x (edits_meant t p.state) p.state) (sym (inverse_now r shape))
+  takes_back_now r sound kept shape = subst (λ x. TakesBack x (edits_meant t p.state) p.state)
+      (sym (inverse_now r shape))
       (subst (λ es. TakesBack (inverse_tree es p.state) es p.state) edits_are
-      (inverse_trees_take_back t p.state (record { state = q.state; edits = w.answers.ran.edits }) sound kept w.answers.means))
+      (inverse_trees_take_back t p.state (record { state = q.state; edits = w.answers.ran.edits }) sound kept
+      w.answers.means))
 
   -- the rules are kept
   pub kept_by : KeepsTheRules q.state
-  kept_by = (accepted_trees_are_runs t p.state (record { state = q.state; edits = w.answers.ran.edits }) w.answers.means).rules
+  kept_by = (accepted_trees_are_runs t p.state (record { state = q.state; edits = w.answers.ran.edits })
+      w.answers.means).rules
 
   -- the effect is that of the edits
   pub effect_now : (f : Effect) → f ≡ values_in q.state (cells_told log) → f ≡ effect_of (edits_meant t p.state) p.state
   effect_now f is = is
       ∙ ap (values_in q.state) (cells_told_are log w.answers.ran.edits p.state (all_told walked)
       (w.answers.ran.keys ∙ ap (λ ks. ks ++ map key_of_edit w.answers.ran.edits) w.no_keys))
-      ∙ ap (λ s. values_in s (cells_written_by_all w.answers.ran.edits p.state)) w.answers.ran.state ∙ ap (λ es. effect_of es p.state) edits_are
+      ∙ ap (λ s. values_in s (cells_written_by_all w.answers.ran.edits p.state)) w.answers.ran.state
+      ∙ ap (λ es. effect_of es p.state) edits_are
 
   -- and so is what is told of each
-  pub told_now : (performed : List Touched) → performed ≡ touched_in log.done.items → AreToldBy performed (told_of_all (edits_meant t p.state) p.state)
+  pub told_now : (performed : List Touched) → performed ≡ touched_in log.done.items
+      → AreToldBy performed (told_of_all (edits_meant t p.state) p.state)
   told_now performed is = subst (λ es. AreToldBy performed (told_of_all es p.state)) edits_are
       (are_told log.done.items performed w.answers.ran.edits p.state is (all_told walked))
 
 -- ---- the answer of a whole tree
 
 -- within the limits a tree means what its walk means
-pub whole : {answer field : Option Refused} {p : Operating} {first : Log} {q : Operating} {log : Log} → (t : ChangeTree) (over : Option Refused)
+pub whole : {answer field : Option Refused} {p : Operating} {first : Log} {q : Operating} {log : Log}
+    → (t : ChangeTree) (over : Option Refused)
     → over ≡ None
     → ((s : State) → meaning t s ≡ meaning_unless over t s) → field ≡ answer
     → Answers (if_rules_hold 0 (node_meaning t 0 p.state)) p first q log field

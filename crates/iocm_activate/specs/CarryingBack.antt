@@ -21,7 +21,8 @@ are_turned_back (a ∷ done) (d ∷ ds) = is_turned a.touched d && are_turned_ba
 
 -- an inverse tree was carried out. Each change of which it is the inverse tree, and of whose edits
 -- this was told, fitted before. The tree that is given takes the edits back
-pub record WentBack (t : ChangeTree) (performed : List Touched) (before after : State) (redo : ChangeTree) : Type 0 where
+pub record WentBack (t : ChangeTree) (performed : List Touched) (before after : State) (redo : ChangeTree) : Type
+    0 where
   pub means : meaning t before ≡ Ok (record { state = after; edits = edits_meant t before })
   pub inverse : redo ≡ inverse_tree (edits_meant t before) before
   pub takes_back : TakesBack redo (edits_meant t before) before

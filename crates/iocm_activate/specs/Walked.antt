@@ -1,6 +1,7 @@
 -- A walk through a part of a change tree: what it did to the machine, what it kept of that, and
 -- what it answered.
-use Rattle.std.specs.Prelude.{◌≡◌, ◌≤◌, ℕ, ◌==◌, if◌then◌else◌, List, [], ◌++◌, map, drop, length, Option, None, Some, Ok, Err}
+use Rattle.std.specs.Prelude.{◌≡◌, ◌≤◌, ℕ, ◌==◌, if◌then◌else◌, List, [], ◌++◌, map, drop, length, Option, None, Some}
+use Rattle.std.specs.Prelude.{Ok, Err}
 use Rattle.iocm_types.specs.declared.refused.Refused.{Refused}
 use Rattle.iocm_model.specs.Operation.State.{State, IsSound}
 use Rattle.iocm_model.specs.Change.Edit.{Edit}

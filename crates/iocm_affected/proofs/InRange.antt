@@ -1,5 +1,6 @@
 -- Only places in the six channel subsystems and the four sets are reached.
-use Rattle.std.proofs.Common.{◌≡◌, ℕ, ◌<◌, Bool, true, false, ◌||◌, nat_eq, nat_lt, eqb-true, List, [], ◌∷◌, map, refl, sym, ap, subst, ◌∙◌, arith}
+use Rattle.std.proofs.Common.{◌≡◌, ℕ, ◌<◌, Bool, true, false, ◌||◌, nat_eq, nat_lt, eqb-true, List, [], ◌∷◌, map, refl}
+use Rattle.std.proofs.Common.{sym, ap, subst, ◌∙◌, arith}
 use Rattle.std.proofs.lemmas.Bool.{false≢true, ltb-true, lt-ltb}
 use Rattle.std.specs.List.{AllByRecursion, flat_map, list_any}
 use Rattle.std.specs.Ordering.{eq_by_cmp}
@@ -25,13 +26,17 @@ abbrev at : ℕ → ℕ → ℕ → Place
 at css set device = record { css = css; set = set; device = device }
 
 -- a place of a channel subsystem and a set
-of_set : (p : Place) (css set : ℕ) (ds : List ℕ) → list_any (eq_by_cmp place_cmp p) (map (at css set) ds) ≡ true → (p.css ≡ css) × (p.set ≡ set)
+of_set : (p : Place) (css set : ℕ) (ds : List ℕ) → list_any (eq_by_cmp place_cmp p) (map (at css set) ds) ≡ true
+    → (p.css ≡ css) × (p.set ≡ set)
 of_set p css set [] h = cc
 of_set p css set (d ∷ ds) h = by (eq_by_cmp place_cmp p (at css set d)) refl h (of_set p css set ds)
   where
-    by : (b : Bool) → eq_by_cmp place_cmp p (at css set d) ≡ b → (b || list_any (eq_by_cmp place_cmp p) (map (at css set) ds)) ≡ true
-        → (list_any (eq_by_cmp place_cmp p) (map (at css set) ds) ≡ true → (p.css ≡ css) × (p.set ≡ set)) → (p.css ≡ css) × (p.set ≡ set)
-    by true is k more = let same = same_key place_cmp places_exact p (at css set d) is in (ap (λ (q : Place). q.css) same, ap (λ (q : Place). q.set) same)
+    by : (b : Bool) → eq_by_cmp place_cmp p (at css set d) ≡ b
+        → (b || list_any (eq_by_cmp place_cmp p) (map (at css set) ds)) ≡ true
+        → (list_any (eq_by_cmp place_cmp p) (map (at css set) ds) ≡ true → (p.css ≡ css) × (p.set ≡ set))
+        → (p.css ≡ css) × (p.set ≡ set)
+    by true is k more = let same = same_key place_cmp places_exact p (at css set d) is in
+        (ap (λ (q : Place). q.css) same, ap (λ (q : Place). q.set) same)
     by false is k more = more k
 
 module _ (c : Configuration) (p : Place) where
@@ -41,20 +46,27 @@ module _ (c : Configuration) (p : Place) where
   reached_in : is_reached_at c p ≡ true → (p.css < 6) × (p.set < 4)
   reached_in h =
       any_number (λ css. list_any (eq_by_cmp place_cmp p) (flat_map (places_of_set css) sets)) subsystems
-      (sym (any_of_parts (eq_by_cmp place_cmp p) (λ css. flat_map (places_of_set css) sets) subsystems) ∙ h) (λ css one there.
-      any_number (λ set. list_any (eq_by_cmp place_cmp p) (places_of_set css set)) sets (sym (any_of_parts (eq_by_cmp place_cmp p) (places_of_set css) sets) ∙ there) (λ set other here.
+      (sym (any_of_parts (eq_by_cmp place_cmp p) (λ css. flat_map (places_of_set css) sets) subsystems) ∙ h)
+      (λ css one there.
+      any_number (λ set. list_any (eq_by_cmp place_cmp p) (places_of_set css set)) sets
+      (sym (any_of_parts (eq_by_cmp place_cmp p) (places_of_set css) sets) ∙ there) (λ set other here.
       let same = of_set p css set (reached_devices c css set) here in (
-        below 6 p.css subsystems (omega arith, (omega arith, (omega arith, (omega arith, (omega arith, (omega arith, tt)))))) (subst (λ k. IsIn k subsystems) (sym same.0) one),
-        below 4 p.set sets (omega arith, (omega arith, (omega arith, (omega arith, tt)))) (subst (λ k. IsIn k sets) (sym same.1) other),
+        below 6 p.css subsystems
+            (omega arith, (omega arith, (omega arith, (omega arith, (omega arith, (omega arith, tt))))))
+            (subst (λ k. IsIn k subsystems) (sym same.0) one),
+        below 4 p.set sets (omega arith, (omega arith, (omega arith, (omega arith, tt))))
+            (subst (λ k. IsIn k sets) (sym same.1) other),
       )))
 
   -- a place of no channel subsystem, or of no set, isn't reached
-  none_in : (nat_lt p.css 6 ≡ true → nat_lt p.set 4 ≡ true → ⊥) → (b : Bool) → is_reached_at c p ≡ b → is_reached_at c p ≡ false
+  none_in : (nat_lt p.css 6 ≡ true → nat_lt p.set 4 ≡ true → ⊥) → (b : Bool) → is_reached_at c p ≡ b
+      → is_reached_at c p ≡ false
   none_in far true is = let near = reached_in is in absurd (far (lt-ltb p.css 6 near.0) (lt-ltb p.set 4 near.1))
   none_in far false is = is
 
 -- whether a place is reached is the same where it is so in all channel subsystems and sets
-pub same_in_range : (c d : Configuration) (p : Place) → (p.css < 6 → p.set < 4 → is_reached_at c p ≡ is_reached_at d p) → is_reached_at c p ≡ is_reached_at d p
+pub same_in_range : (c d : Configuration) (p : Place) → (p.css < 6 → p.set < 4 → is_reached_at c p ≡ is_reached_at d p)
+    → is_reached_at c p ≡ is_reached_at d p
 same_in_range c d p same = by (nat_lt p.css 6) refl (nat_lt p.set 4) refl
   where
     far : (nat_lt p.css 6 ≡ true → nat_lt p.set 4 ≡ true → ⊥) → is_reached_at c p ≡ is_reached_at d p

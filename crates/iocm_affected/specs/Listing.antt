@@ -1,5 +1,6 @@
 -- The places that a key leads to by who names whom, and the images that look at its record.
-use Rattle.std.specs.Prelude.{◌≡◌, ℕ, ◌==◌, ◌&&◌, Bool, true, false, not, List, [], ◌∷◌, ◌++◌, map, Option, Some, if◌then◌else◌}
+use Rattle.std.specs.Prelude.{◌≡◌, ℕ, ◌==◌, ◌&&◌, Bool, true, false, not, List, [], ◌∷◌, ◌++◌, map, Option, Some}
+use Rattle.std.specs.Prelude.{if◌then◌else◌}
 use Rattle.std.specs.List.{flat_map, list_any}
 use Rattle.std.specs.Ordering.{eq_by_cmp}
 use Rattle.iocm_types.specs.declared.image.Image as images
@@ -99,7 +100,8 @@ is_one_alone false other = other
 
 -- those in a channel subsystem that one of two records of a path lists, and the other doesn't
 abbrev pub listed_otherwise : ℕ → Option Rec → Option Rec → Choice
-listed_otherwise within before after css name = css == within && is_one_alone (record_lists name before) (record_lists name after)
+listed_otherwise within before after css name =
+    css == within && is_one_alone (record_lists name before) (record_lists name after)
 
 -- the image of a record, if it is that of one of a choice
 abbrev pub images_at : Choice → Rec → List images.Image

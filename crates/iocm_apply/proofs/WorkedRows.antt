@@ -14,7 +14,9 @@ use Rattle.iocm_filter.specs.Wanted.{is_image_at, wants_device, wants_view}
 use Rattle.iocm_apply.specs.Examples.{AlteredAsWorked, named_before, named_afterwards}
 
 in_order : (rs : List Rec) → T (is_sorted key_cmp (with_keys rs)) → entries (configuration_of rs) ≡ with_keys rs
-in_order rs up = ap entries (same_map keys_total keys_exact _ _ (λ q. get-from_entries keys_total (with_keys rs) q ∙ sym (get-from_sorted key_cmp (with_keys rs) q up)))
+in_order rs up = ap entries
+    (same_map keys_total keys_exact _ _
+    (λ q. get-from_entries keys_total (with_keys rs) q ∙ sym (get-from_sorted key_cmp (with_keys rs) q up)))
     ∙ entries-from_sorted key_cmp (with_keys rs) up
 
 records_are : (rs : List Rec) → T (is_sorted key_cmp (with_keys rs)) → records_of (configuration_of rs) ≡ rs
@@ -22,7 +24,8 @@ records_are rs up = ap (map (λ (e : Key × Rec). e.1)) (in_order rs up) ∙ val
 
 -- a side is wanted by the name of image 0.2 among these records
 abbrev side : List Rec → View → Bool
-side rs v = (list_any (is_image_at (image_at 0 2) (codes "LPB")) (filter_map as_image rs) || false) && wants_device by_lpb named_before 0 0x1003 && wants_view by_lpb 0 v
+side rs v = (list_any (is_image_at (image_at 0 2) (codes "LPB")) (filter_map as_image rs) || false)
+    && wants_device by_lpb named_before 0 0x1003 && wants_view by_lpb 0 v
 
 before_is : records_of named_before ≡ image_record 0 2 (codes "LPB") ∷ []
 before_is = records_are (image_record 0 2 (codes "LPB") ∷ []) tt

@@ -15,7 +15,8 @@ use Rattle.iocm_board.proofs.Receipts.{below_more}
 pub word_again : (words : List ℕ) (n : ℕ) → words ≡ n ∷ [] → slice_set words 0 (slice_index words 0) ≡ words
 word_again words n is = ap (λ (ws : List ℕ). slice_set ws 0 (slice_index ws 0)) is ∙ sym is
 
-pub looks : (run : seen.Core) (slots id : ℕ) (me : Me Entry View) → Allows (Holds run) slots id me 0 (λ n. n) (Alone Looks me)
+pub looks : (run : seen.Core) (slots id : ℕ) (me : Me Entry View)
+    → Allows (Holds run) slots id me 0 (λ n. n) (Alone Looks me)
 looks run slots id me s kept homes here bound =
     let v = me.0 in
     let fits = kept.fits id v here in
@@ -32,6 +33,7 @@ looks run slots id me s kept homes here bound =
       sees v n,
       keeps,
       tt,
-      subst (λ ws. Kept run ws (set s.views id (sees v n))) (sym (word_again s.words (length run.entries + length kept.since) kept.word)) still,
+      subst (λ ws. Kept run ws (set s.views id (sees v n)))
+          (sym (word_again s.words (length run.entries + length kept.since) kept.word)) still,
       ((below, refl, λ k. found ∙ sym (list_length run kept.since v.list (fits.list k).1)), refl),
     )

@@ -1,5 +1,6 @@
 -- Which seats bear which names, where a seat comes that bears none, and where a call is published.
-use Rattle.std.proofs.Common.{◌≡◌, ℕ, List, [], ◌∷◌, ◌++◌, length, true, false, true≢false, inl, inr, sym, ap, ◌∙◌, subst, ⊎_elim, arith}
+use Rattle.std.proofs.Common.{◌≡◌, ℕ, List, [], ◌∷◌, ◌++◌, length, true, false, true≢false, inl, inr, sym, ap, ◌∙◌}
+use Rattle.std.proofs.Common.{subst, ⊎_elim, arith}
 use mathlib.Core.Option.{some}
 use lib.ListN.{get_elem?}
 use Rattle.atomic_table.proofs.Lists.{at_longer}
@@ -12,7 +13,8 @@ off : false ≡ true → ⊥
 off e = true≢false (sym e)
 
 -- a name lent next is new
-pub next_is_new : (all : List (List Borne)) (used : List Name) (id : ℕ) (b : Borne) (bs : List Borne) → NamesKept all used → get_elem? all id ≡ some (b ∷ bs)
+pub next_is_new : (all : List (List Borne)) (used : List Name) (id : ℕ) (b : Borne) (bs : List Borne)
+    → NamesKept all used → get_elem? all id ≡ some (b ∷ bs)
     → (i : ℕ) → BearsAt all i (child b.name b.lent) → ⊥
 next_is_new all used id b bs kept here i at = ⊎_elim
     (λ (nil : child b.name b.lent ≡ []). child_not_nil b.name b.lent nil)
@@ -21,8 +23,10 @@ next_is_new all used id b bs kept here i at = ⊎_elim
     let mine : BearsAt all id w.2 = (b ∷ bs, here, subst (λ p. bears (b ∷ bs) p ≡ true) parts.0 (bears_first b bs)) in
     let theirs : BearsAt all w.0 w.2 = (w.1, w.4, w.5) in
     let one = kept.apart id w.0 w.2 mine theirs in
-    let is : w.1 ≡ b ∷ bs = one_there all id w.1 (b ∷ bs) (subst (λ k. get_elem? all k ≡ some w.1) (sym one) w.4) here in
-    let many : lent w.1 w.2 ≡ b.lent = ap (λ x. lent x w.2) is ∙ ap (λ p. lent (b ∷ bs) p) (sym parts.0) ∙ lent_first b bs in
+    let is : w.1 ≡ b ∷ bs = one_there all id w.1 (b ∷ bs) (subst (λ k. get_elem? all k ≡ some w.1) (sym one) w.4)
+    here in
+    let many : lent w.1 w.2 ≡ b.lent =
+    ap (λ x. lent x w.2) is ∙ ap (λ p. lent (b ∷ bs) p) (sym parts.0) ∙ lent_first b bs in
     let low = w.7 in
     let k = parts.1 in
     omega (arith, many, low, k))
@@ -50,7 +54,8 @@ names_idle all used kept =
         (at_end all [] at.0 i at.1)
 
 -- a call was published under a name that is borne
-pub names_publish : (all : List (List Borne)) (used : List Name) (i : ℕ) (n : Name) → NamesKept all used → BearsAt all i n → NamesKept all (used ++ n ∷ [])
+pub names_publish : (all : List (List Borne)) (used : List Name) (i : ℕ) (n : Name) → NamesKept all used
+    → BearsAt all i n → NamesKept all (used ++ n ∷ [])
 names_publish all used i n kept at =
     record {
       apart = kept.apart;

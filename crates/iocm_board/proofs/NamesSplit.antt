@@ -1,5 +1,6 @@
 -- A name is lent to a new seat.
-use Rattle.std.proofs.Common.{◌≡◌, ◌≢◌, ◌⊎◌, ◌<◌, ℕ, suc, List, [], ◌∷◌, ◌++◌, length, set, true, inl, inr, sym, ◌∙◌, subst, ⊎_elim, arith}
+use Rattle.std.proofs.Common.{◌≡◌, ◌≢◌, ◌⊎◌, ◌<◌, ℕ, suc, List, [], ◌∷◌, ◌++◌, length, set, true, inl, inr, sym, ◌∙◌}
+use Rattle.std.proofs.Common.{subst, ⊎_elim, arith}
 use mathlib.Core.Option.{some}
 use lib.ListN.{get_elem?}
 use native.Mathlib.Decide.{ℕ_discrete}
@@ -10,7 +11,8 @@ use Rattle.iocm_board.proofs.Lists.{at_end, at_below, one_there, length_set}
 use Rattle.iocm_board.proofs.SameNames.{fresh_bears, bears_first, lent_first, lent_lend}
 use Rattle.iocm_board.proofs.Names.{next_is_new}
 
-module _ (all : List (List Borne)) (used : List Name) (id : ℕ) (b : Borne) (bs : List Borne) (kept : NamesKept all used) (here : get_elem? all id ≡ some (b ∷ bs)) where
+module _ (all : List (List Borne)) (used : List Name) (id : ℕ) (b : Borne) (bs : List Borne) (kept : NamesKept all used)
+    (here : get_elem? all id ≡ some (b ∷ bs)) where
   abbrev new : Name
   new = child b.name b.lent
 
@@ -18,15 +20,20 @@ module _ (all : List (List Borne)) (used : List Name) (id : ℕ) (b : Borne) (bs
   then = set all id (lend (b ∷ bs)) ++ fresh new ∷ []
 
   there : get_elem? then id ≡ some (lend (b ∷ bs))
-  there = at_longer (set all id (lend (b ∷ bs))) (fresh new ∷ []) id (lend (b ∷ bs)) (set_here all id (lend (b ∷ bs)) (at_below all id (b ∷ bs) here))
+  there = at_longer (set all id (lend (b ∷ bs))) (fresh new ∷ []) id (lend (b ∷ bs))
+      (set_here all id (lend (b ∷ bs)) (at_below all id (b ∷ bs) here))
 
   elsewhere : (i : ℕ) (cs : List Borne) → i ≢ id → get_elem? all i ≡ some cs → get_elem? then i ≡ some cs
-  elsewhere i cs ne e = at_longer (set all id (lend (b ∷ bs))) (fresh new ∷ []) i cs (set_else all id i (lend (b ∷ bs)) ne ∙ e)
+  elsewhere i cs ne e = at_longer (set all id (lend (b ∷ bs))) (fresh new ∷ []) i cs
+      (set_else all id i (lend (b ∷ bs)) ne ∙ e)
 
   forth_if : (i : ℕ) (n : Name) → BearsAt all i n → Dec (i ≡ id) → BearsAt then i n
   forth_if i n at (yes e) =
-      let is : at.0 ≡ b ∷ bs = one_there all id at.0 (b ∷ bs) (subst (λ k. get_elem? all k ≡ some at.0) e at.1) here in
-      (lend (b ∷ bs), subst (λ k. get_elem? then k ≡ some (lend (b ∷ bs))) (sym e) there, subst (λ cs. bears cs n ≡ true) is at.2)
+      let is : at.0 ≡ b ∷ bs = one_there all id at.0 (b ∷ bs) (subst (λ k. get_elem? all k ≡ some at.0) e at.1) here in (
+        lend (b ∷ bs),
+        subst (λ k. get_elem? then k ≡ some (lend (b ∷ bs))) (sym e) there,
+        subst (λ cs. bears cs n ≡ true) is at.2,
+      )
   forth_if i n at (no ne) = (at.0, elsewhere i at.0 ne at.1, at.2)
 
   forth : (i : ℕ) (n : Name) → BearsAt all i n → BearsAt then i n
@@ -43,7 +50,8 @@ module _ (all : List (List Borne)) (used : List Name) (id : ℕ) (b : Borne) (bs
   back : (i : ℕ) (n : Name) → BearsAt then i n → BearsAt all i n ⊎ ((i ≡ length all) × (new ≡ n))
   back i n at = ⊎_elim
       (λ (old : get_elem? (set all id (lend (b ∷ bs))) i ≡ some at.0). inl (⊎_elim
-      (λ (t : (i ≡ id) × (lend (b ∷ bs) ≡ at.0)). subst (λ k. BearsAt all k n) (sym t.0) (b ∷ bs, here, subst (λ cs. bears cs n ≡ true) (sym t.1) at.2))
+      (λ (t : (i ≡ id) × (lend (b ∷ bs) ≡ at.0)).
+      subst (λ k. BearsAt all k n) (sym t.0) (b ∷ bs, here, subst (λ cs. bears cs n ≡ true) (sym t.1) at.2))
       (λ (t : (i ≢ id) × (get_elem? all i ≡ some at.0)). (at.0, t.1, at.2))
       (at_set all id i (lend (b ∷ bs)) at.0 old)))
       (λ (t : (i ≡ length (set all id (lend (b ∷ bs)))) × (fresh new ≡ at.0)).
@@ -67,9 +75,12 @@ module _ (all : List (List Borne)) (used : List Name) (id : ℕ) (b : Borne) (bs
             (back j n y))
             (back i n x);
         grown = λ i n x. ⊎_elim
-            (λ (a : BearsAt all i n). ⊎_elim (λ (e : n ≡ []). inl e) (λ (w : WasLent all n). inr (lent_if n w (ℕ_discrete w.0 id))) (kept.grown i n a))
+            (λ (a : BearsAt all i n).
+            ⊎_elim (λ (e : n ≡ []). inl e) (λ (w : WasLent all n). inr (lent_if n w (ℕ_discrete w.0 id)))
+            (kept.grown i n a))
             (λ (s : (i ≡ length all) × (new ≡ n)).
-            let one : lent (lend (b ∷ bs)) b.name ≡ suc b.lent = lent_first (record { name = b.name; lent = suc b.lent }) bs in
+            let one : lent (lend (b ∷ bs)) b.name ≡ suc b.lent =
+            lent_first (record { name = b.name; lent = suc b.lent }) bs in
             inr (id, lend (b ∷ bs), b.name, b.lent, there, bears_first b bs, sym s.1, omega (arith, one)))
             (back i n x);
         borne = λ k n e. let at = kept.borne k n e in (at.0, forth at.0 n at.1);

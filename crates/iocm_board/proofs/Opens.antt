@@ -26,7 +26,10 @@ each_first run zero v e = subst (Fits run 0 [] 0) (some-injective (first_view ru
 each_first run (suc at) v e = absurd (some-ne-none v (sym e))
 
 one_seat : (i : ℕ) (n : Name) → BearsAt (fresh [] ∷ []) i n → (i ≡ 0) × (n ≡ [])
-one_seat zero n at = (refl, sym (fresh_bears [] n (subst (λ bs. bears bs n ≡ true) (sym (some-injective (fresh []) at.0 at.1)) at.2)))
+one_seat zero n at = (
+  refl,
+  sym (fresh_bears [] n (subst (λ bs. bears bs n ≡ true) (sym (some-injective (fresh []) at.0 at.1)) at.2)),
+)
 one_seat (suc i) n at = absurd (some-ne-none at.0 (sym at.1))
 
 no_name : (k : ℕ) (n : Name) → get_elem? {A = Name} [] k ≡ some n → ⊥

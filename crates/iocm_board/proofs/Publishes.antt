@@ -1,5 +1,6 @@
 -- A seat publishes an entry.
-use Rattle.std.proofs.Common.{◌≡◌, ◌≢◌, ◌≤◌, ◌+◌, ◌==◌, ℕ, suc, List, [], ◌∷◌, ◌++◌, length, set, true, refl, sym, ap, ◌∙◌, subst, arith}
+use Rattle.std.proofs.Common.{◌≡◌, ◌≢◌, ◌≤◌, ◌+◌, ◌==◌, ℕ, suc, List, [], ◌∷◌, ◌++◌, length, set, true, refl, sym, ap}
+use Rattle.std.proofs.Common.{◌∙◌, subst, arith}
 use Rattle.std.proofs.lemmas.List.{length-append, map-append, append_assoc}
 use mathlib.Core.Option.{some}
 use lib.ListN.{get_elem?}
@@ -22,7 +23,8 @@ use Rattle.iocm_board.proofs.Receipts.{below_last, below_more, made_hit, made_mi
 use Rattle.iocm_board.proofs.SameNames.{bears_first}
 
 module _
-    (run : seen.Core) (words : List ℕ) (views : List View) (id : ℕ) (v : View) (e : Entry) (k : Kept run words views) (here : get_elem? views id ≡ some v)
+    (run : seen.Core) (words : List ℕ) (views : List View) (id : ℕ) (v : View) (e : Entry) (k : Kept run words views)
+    (here : get_elem? views id ≡ some v)
     (mine : v.keeps ≡ true) (named : BearsSome v.names)
   where
     abbrev name : Name
@@ -51,7 +53,9 @@ module _
           list = λ h. absurd (ne ((fits.list h).0 ∙ sym keeper));
           receipts = fits.receipts
               ∙ sym (made_miss u.names (length run.entries) k.since e name
-              (false_from_ne_true (bears u.names name) (λ b. ne (k.names.apart j id name (bears_there views j u name at b) (bears_there views id v name here has)))));
+              (false_from_ne_true (bears u.names name)
+              (λ b. ne (k.names.apart j id name (bears_there views j u name at b)
+              (bears_there views id v name here has)))));
           seen = fits.seen;
         }
 
@@ -67,45 +71,56 @@ module _
             ap (λ l. l ++ e ∷ []) (fits.list mine).1 ∙ append_assoc run.entries (entries_of k.since) (e ∷ [])
                 ∙ ap (λ l. run.entries ++ l) (sym (map-append (λ (s : Entry × Name). s.0) k.since ((e, name) ∷ []))),
           );
-          receipts = (λ i. fits.receipts i ++ made (listed i) e ∷ []) ∙ sym (made_hit v.names (length run.entries) k.since e name has);
+          receipts = (λ i. fits.receipts i ++ made (listed i) e ∷ [])
+              ∙ sym (made_hit v.names (length run.entries) k.since e name has);
           seen = below_last (suc (length v.list)) v.receipts (made (length v.list) e)
-              (below_more v.seen (suc (length v.list)) (omega (arith, below, listed)) v.receipts fits.seen) (omega arith);
+              (below_more v.seen (suc (length v.list)) (omega (arith, below, listed)) v.receipts fits.seen)
+              (omega arith);
         }
 
     names_then : NamesKept (all_names (set views id (adds v e))) (names_of then)
     names_then =
-        let more : names_of then ≡ names_of k.since ++ name ∷ [] = map-append (λ (s : Entry × Name). s.1) k.since ((e, name) ∷ []) in
-        let old = names_publish (all_names views) (names_of k.since) id name k.names (bears_there views id v name here has) in
-        subst (λ ns. NamesKept ns (names_of then)) (sym (names_still views id v (adds v e) here refl)) (subst (NamesKept (all_names views)) (sym more) old)
+        let more : names_of then ≡ names_of k.since ++ name ∷ [] =
+        map-append (λ (s : Entry × Name). s.1) k.since ((e, name) ∷ []) in
+        let old = names_publish (all_names views) (names_of k.since) id name k.names
+        (bears_there views id v name here has) in
+        subst (λ ns. NamesKept ns (names_of then)) (sym (names_still views id v (adds v e) here refl))
+        (subst (NamesKept (all_names views)) (sym more) old)
 
     pub published : (ws : List ℕ) → ws ≡ suc (length v.list) ∷ [] → Kept run ws (set views id (adds v e))
     published ws is =
         record {
           keeper = k.keeper;
           since = then;
-          word = is ∙ ap (λ n. n ∷ []) (let h : suc (length v.list) ≡ length run.entries + length then = omega (arith, longer, listed) in h);
+          word = is ∙ ap (λ n. n ∷ [])
+              (let h : suc (length v.list) ≡ length run.entries + length then = omega (arith, longer, listed) in h);
           fits = each_set (Fits run k.keeper then) views id (adds v e) other_fits own_fits;
           names = names_then;
         }
 
 -- the word becomes one more, where it is as expected
-counted : (words : List ℕ) (n count : ℕ) → words ≡ n ∷ [] → n ≡ count → slice_set words 0 (either (slice_index words 0 == count) (count + 1) (slice_index words 0)) ≡ suc count ∷ []
+counted : (words : List ℕ) (n count : ℕ) → words ≡ n ∷ [] → n ≡ count
+    → slice_set words 0 (either (slice_index words 0 == count) (count + 1) (slice_index words 0)) ≡ suc count ∷ []
 counted words n count is same =
     ap (λ (ws : List ℕ). slice_set ws 0 (either (slice_index ws 0 == count) (count + 1) (slice_index ws 0))) is
     ∙ ap (λ t. either t (count + 1) n ∷ []) (eq-eqb n count same)
     ∙ ap (λ m. m ∷ []) (let h : count + 1 ≡ suc count = omega arith in h)
 
-pub publishes : (run : seen.Core) (slots id count : ℕ) (me : Me Entry View) (e : Entry) → me.0.keeps ≡ true → BearsSome me.0.names → count ≡ length me.0.list
-    → Allows (Holds run) slots id me 0 (λ n. either (n == count) (count + 1) n) (Alone (Publishes (step slots 0 count (count + 1) (some e))) me)
+pub publishes : (run : seen.Core) (slots id count : ℕ) (me : Me Entry View) (e : Entry) → me.0.keeps ≡ true
+    → BearsSome me.0.names → count ≡ length me.0.list
+    → Allows (Holds run) slots id me 0 (λ n. either (n == count) (count + 1) n)
+    (Alone (Publishes (step slots 0 count (count + 1) (some e))) me)
 publishes run slots id count me e mine named is s kept homes here bound =
     let v = me.0 in
     let fits = kept.fits id v here in
     let listed = list_length run kept.since v.list (fits.list mine).1 in
     let found : slice_index s.words 0 ≡ count = ap (λ ws. slice_index ws 0) kept.word ∙ sym listed ∙ sym is in
-    let word = counted s.words (length run.entries + length kept.since) count kept.word (sym listed ∙ sym is) ∙ ap (λ n. suc n ∷ []) is in (
+    let word = counted s.words (length run.entries + length kept.since) count kept.word (sym listed ∙ sym is)
+    ∙ ap (λ n. suc n ∷ []) is in (
       adds v e,
       keeps,
       tt,
-      published run s.words s.views id v e kept here mine named (slice_set s.words 0 (either (slice_index s.words 0 == count) (count + 1) (slice_index s.words 0))) word,
+      published run s.words s.views id v e kept here mine named
+          (slice_set s.words 0 (either (slice_index s.words 0 == count) (count + 1) (slice_index s.words 0))) word,
       ((found, subst (λ m. v.seen ≤ m) (sym (ap (λ ws. slice_index ws 0) kept.word)) fits.below, refl), refl),
     )

@@ -1,5 +1,6 @@
 -- Names, and those that a seat bears.
-use Rattle.std.proofs.Common.{◌≡◌, ◌≤◌, ◌==◌, ℕ, suc, List, [], ◌∷◌, ◌++◌, length, Bool, true, false, true≢false, cond, ◌&&◌, ◌||◌, refl, sym, ap, ◌∙◌, ⊎_elim, arith}
+use Rattle.std.proofs.Common.{◌≡◌, ◌≤◌, ◌==◌, ℕ, suc, List, [], ◌∷◌, ◌++◌, length, Bool, true, false, true≢false, cond}
+use Rattle.std.proofs.Common.{◌&&◌, ◌||◌, refl, sym, ap, ◌∙◌, ⊎_elim, arith}
 use Rattle.std.proofs.lemmas.Bool.{eq-eqb}
 use Rattle.std.proofs.lemmas.Bool.Decides.{nat_tests}
 use Rattle.iocm_board.specs.declared.view.Borne.{Borne}
@@ -58,13 +59,15 @@ or_assoc false b c = refl
 
 pub bears_append : (bs cs : List Borne) (n : Name) → bears (bs ++ cs) n ≡ (bears bs n || bears cs n)
 bears_append [] cs n = refl
-bears_append (b ∷ bs) cs n = ap (λ x. same b.name n || x) (bears_append bs cs n) ∙ or_assoc (same b.name n) (bears bs n) (bears cs n)
+bears_append (b ∷ bs) cs n =
+    ap (λ x. same b.name n || x) (bears_append bs cs n) ∙ or_assoc (same b.name n) (bears bs n) (bears cs n)
 
 pub bears_lend : (bs : List Borne) (n : Name) → bears (lend bs) n ≡ bears bs n
 bears_lend [] n = refl
 bears_lend (b ∷ bs) n = refl
 
-grows : (t : Bool) (bs cs : List Borne) (k : ℕ) (p : Name) → ((t || bears bs p) ≡ true) → (bears bs p ≡ true → lent (bs ++ cs) p ≡ lent bs p) → cond t k (lent (bs ++ cs) p) ≡ cond t k (lent bs p)
+grows : (t : Bool) (bs cs : List Borne) (k : ℕ) (p : Name) → ((t || bears bs p) ≡ true)
+    → (bears bs p ≡ true → lent (bs ++ cs) p ≡ lent bs p) → cond t k (lent (bs ++ cs) p) ≡ cond t k (lent bs p)
 grows true bs cs k p e rec = refl
 grows false bs cs k p e rec = rec e
 
@@ -72,7 +75,8 @@ pub lent_left : (bs cs : List Borne) (p : Name) → bears bs p ≡ true → lent
 lent_left [] cs p e = absurd (true≢false (sym e))
 lent_left (b ∷ bs) cs p e = grows (same b.name p) bs cs b.lent p e (λ h. lent_left bs cs p h)
 
-stays : (t : Bool) (bs cs : List Borne) (k : ℕ) (p : Name) → ((t || bears bs p) ≡ false) → (bears bs p ≡ false → lent (bs ++ cs) p ≡ lent cs p) → cond t k (lent (bs ++ cs) p) ≡ lent cs p
+stays : (t : Bool) (bs cs : List Borne) (k : ℕ) (p : Name) → ((t || bears bs p) ≡ false)
+    → (bears bs p ≡ false → lent (bs ++ cs) p ≡ lent cs p) → cond t k (lent (bs ++ cs) p) ≡ lent cs p
 stays true bs cs k p e rec = absurd (true≢false e)
 stays false bs cs k p e rec = rec e
 
@@ -95,4 +99,5 @@ pub bears_first : (b : Borne) (bs : List Borne) → bears (b ∷ bs) b.name ≡ 
 bears_first b bs = left_true (same b.name b.name) (bears bs b.name) (same_refl b.name)
 
 pub fresh_bears : (n m : Name) → bears (fresh n) m ≡ true → n ≡ m
-fresh_bears n m e = ⊎_elim (λ (h : same n m ≡ true). same_true n m h) (λ (h : false ≡ true). absurd (true≢false (sym h))) (either_true (same n m) false e)
+fresh_bears n m e = ⊎_elim (λ (h : same n m ≡ true). same_true n m h)
+    (λ (h : false ≡ true). absurd (true≢false (sym h))) (either_true (same n m) false e)

@@ -29,12 +29,16 @@ splits run id v named s kept here =
     let bs = named.1 in
     let there : get_elem? (all_names s.views) id ≡ some (b ∷ bs) = names_there s.views id v here ∙ ap some named.2 in
     let next : next_of v.names ≡ child b.name b.lent = ap next_of named.2 in
-    let unused : (i : ℕ) (n : Name) → get_elem? (names_of kept.since) i ≡ some n → bears (fresh (child b.name b.lent)) n ≡ false =
+    let unused : (i : ℕ) (n : Name) → get_elem? (names_of kept.since) i ≡ some n
+    → bears (fresh (child b.name b.lent)) n ≡ false =
     λ i n e. false_from_ne_true (bears (fresh (child b.name b.lent)) n)
-    (λ h. new_is_unused (all_names s.views) (names_of kept.since) id b bs kept.names there i n e (fresh_bears (child b.name b.lent) n h)) in
+    (λ h. new_is_unused (all_names s.views) (names_of kept.since) id b bs kept.names there i n e
+    (fresh_bears (child b.name b.lent) n h)) in
     let nothing : [] ≡ made_by (fresh (next_of v.names)) base kept.since =
-    sym (made_nothing (fresh (child b.name b.lent)) base kept.since unused) ∙ ap (λ n. made_by (fresh n) base kept.since) (sym next) in
-    let all : all_names (set s.views id (lends v) ++ borrows v ∷ []) ≡ set (all_names s.views) id (lend (b ∷ bs)) ++ fresh (child b.name b.lent) ∷ [] =
+    sym (made_nothing (fresh (child b.name b.lent)) base kept.since unused)
+    ∙ ap (λ n. made_by (fresh n) base kept.since) (sym next) in
+    let all : all_names (set s.views id (lends v) ++ borrows v ∷ []) ≡ set (all_names s.views) id (lend (b ∷ bs))
+    ++ fresh (child b.name b.lent) ∷ [] =
     names_end (set s.views id (lends v)) (borrows v)
     ∙ (λ i. names_set s.views id (lends v) i ++ fresh (next i) ∷ [])
     ∙ ap (λ x. set (all_names s.views) id (lend x) ++ fresh (child b.name b.lent) ∷ []) named.2 in
@@ -57,16 +61,19 @@ splits run id v named s kept here =
             receipts = nothing;
             seen = tt;
           });
-      names = subst (λ ns. NamesKept ns (names_of kept.since)) (sym all) (names_split (all_names s.views) (names_of kept.since) id b bs kept.names there);
+      names = subst (λ ns. NamesKept ns (names_of kept.since)) (sym all)
+          (names_split (all_names s.views) (names_of kept.since) id b bs kept.names there);
     }
 
-pub sets_back : (run : seen.Core) (id : ℕ) (v : View) → v.keeps ≡ true → Splits (Holds run) id v (caller_of v) (keeper_of v)
+pub sets_back : (run : seen.Core) (id : ℕ) (v : View) → v.keeps ≡ true
+    → Splits (Holds run) id v (caller_of v) (keeper_of v)
 sets_back run id v mine s kept here =
     let base = length run.entries in
     let fits = kept.fits id v here in
     let keeper = length (set s.views id (caller_of v)) in
     let all : all_names (set s.views id (caller_of v) ++ keeper_of v ∷ []) ≡ all_names s.views ++ [] ∷ [] =
-    names_end (set s.views id (caller_of v)) (keeper_of v) ∙ ap (λ ns. ns ++ [] ∷ []) (names_still s.views id v (caller_of v) here refl) in
+    names_end (set s.views id (caller_of v)) (keeper_of v)
+    ∙ ap (λ ns. ns ++ [] ∷ []) (names_still s.views id v (caller_of v) here refl) in
     record {
       keeper = keeper;
       since = kept.since;
@@ -94,5 +101,6 @@ sets_back run id v mine s kept here =
             receipts = sym (made_none base kept.since);
             seen = tt;
           });
-      names = subst (λ ns. NamesKept ns (names_of kept.since)) (sym all) (names_idle (all_names s.views) (names_of kept.since) kept.names);
+      names = subst (λ ns. NamesKept ns (names_of kept.since)) (sym all)
+          (names_idle (all_names s.views) (names_of kept.since) kept.names);
     }

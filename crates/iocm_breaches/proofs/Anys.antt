@@ -1,5 +1,6 @@
 -- Numbers that are met, of one list and of two.
-use Rattle.std.proofs.Common.{◌≡◌, ℕ, ◌+◌, ◌*◌, ◌<◌, ◌&&◌, ◌||◌, nat_eq, Bool, true, false, List, [], ◌∷◌, map, refl, sym, ap, ◌∙◌, arith}
+use Rattle.std.proofs.Common.{◌≡◌, ℕ, ◌+◌, ◌*◌, ◌<◌, ◌&&◌, ◌||◌, nat_eq, Bool, true, false, List, [], ◌∷◌, map, refl}
+use Rattle.std.proofs.Common.{sym, ap, ◌∙◌, arith}
 use Rattle.std.proofs.lemmas.Bool.Decides.{nat_tests}
 use Rattle.std.specs.List.{list_any}
 use Rattle.iocm_device_rules.specs.OnUnits.{number_on}
@@ -24,7 +25,8 @@ module _ {A : Type 0} where
   -- either of two tests
   pub any_or : (f g : A → Bool) (xs : List A) → list_any (λ x. f x || g x) xs ≡ (list_any f xs || list_any g xs)
   any_or f g [] = refl
-  any_or f g (x ∷ xs) = ap (λ b. (f x || g x) || b) (any_or f g xs) ∙ crossed (f x) (g x) (list_any f xs) (list_any g xs)
+  any_or f g (x ∷ xs) = ap (λ b. (f x || g x) || b) (any_or f g xs)
+      ∙ crossed (f x) (g x) (list_any f xs) (list_any g xs)
 
   -- a test that none passes
   pub any_false : (f : A → Bool) → ((x : A) → f x ≡ false) → (xs : List A) → list_any f xs ≡ false
@@ -36,7 +38,8 @@ module _ {A : Type 0} where
   any_alike f g same xs = λ i. list_any (λ x. same x i) xs
 
   -- a test of what items give
-  pub any_map : {B : Type 0} (f : B → Bool) (g : A → B) (xs : List A) → list_any f (map g xs) ≡ list_any (λ x. f (g x)) xs
+  pub any_map : {B : Type 0} (f : B → Bool) (g : A → B) (xs : List A)
+      → list_any f (map g xs) ≡ list_any (λ x. f (g x)) xs
   any_map f g [] = refl
   any_map f g (x ∷ xs) = ap (λ b. f (g x) || b) (any_map f g xs)
 
@@ -49,7 +52,8 @@ module _ {A : Type 0} where
 pub any_turned : {A B : Type 0} (r : A → B → Bool) (xs : List A) (ys : List B)
     → list_any (λ x. list_any (r x) ys) xs ≡ list_any (λ y. list_any (λ x. r x y) xs) ys
 any_turned r [] ys = sym (any_false (λ y. false) (λ y. refl) ys)
-any_turned r (x ∷ xs) ys = ap (λ b. list_any (r x) ys || b) (any_turned r xs ys) ∙ sym (any_or (r x) (λ y. list_any (λ z. r z y) xs) ys)
+any_turned r (x ∷ xs) ys =
+    ap (λ b. list_any (r x) ys || b) (any_turned r xs ys) ∙ sym (any_or (r x) (λ y. list_any (λ z. r z y) xs) ys)
 
 -- ---- numbers of addresses on units
 
@@ -80,4 +84,5 @@ one_number a b u v few less = same_both (nat_eq (number_on a u) (number_on b v))
     of_unit is = let same = numbers is in tests v u (omega arith)
 
     back : nat_eq b a ≡ true → nat_eq v u ≡ true → nat_eq (number_on a u) (number_on b v) ≡ true
-    back its one = let address = of_tests b a its in let unit = of_tests v u one in tests (u * 256 + a) (v * 256 + b) (omega arith)
+    back its one = let address = of_tests b a its in let unit = of_tests v u one in
+        tests (u * 256 + a) (v * 256 + b) (omega arith)

@@ -14,8 +14,11 @@ pub none_behind : (rs : List Rec) (old : List Breach) → AreBehind rs [] old ol
 none_behind rs old = record { is = sym (append-nil old) }
 
 -- those of one rule, and those of further rules
-pub one_behind : {rs : List Rec} {rule : Rule} {breaks : Rec → Bool} {rules : List (Rule × (Rec → Bool))} {old new all : List Breach}
-    → new ≡ old ++ breaches_of_rule rule breaks rs → AreBehind rs rules new all → AreBehind rs ((rule, breaks) ∷ rules) old all
+pub one_behind : {rs : List Rec} {rule : Rule} {breaks : Rec → Bool} {rules : List (Rule × (Rec → Bool))}
+    {old new all : List Breach}
+    → new ≡ old ++ breaches_of_rule rule breaks rs → AreBehind rs rules new all
+    → AreBehind rs ((rule, breaks) ∷ rules) old all
 one_behind {rs} {rule} {breaks} {rules} {old} {new} {all} one others = record {
-  is = others.is ∙ ap (λ bs. bs ++ breaches_of rules rs) one ∙ append_assoc old (breaches_of_rule rule breaks rs) (breaches_of rules rs);
+  is = others.is ∙ ap (λ bs. bs ++ breaches_of rules rs) one
+      ∙ append_assoc old (breaches_of_rule rule breaks rs) (breaches_of rules rs);
 }

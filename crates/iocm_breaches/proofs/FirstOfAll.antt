@@ -1,5 +1,6 @@
 -- The first of all breaches is the first breach.
-use Rattle.std.proofs.Common.{◌≡◌, Bool, true, false, cond, None, Some, List, [], ◌∷◌, ◌++◌, map, filter, refl, sym, ap, ◌∙◌}
+use Rattle.std.proofs.Common.{◌≡◌, Bool, true, false, cond, None, Some, List, [], ◌∷◌, ◌++◌, map, filter, refl, sym, ap}
+use Rattle.std.proofs.Common.{◌∙◌}
 use Rattle.iocm_types.specs.declared.rule.Rule.{Rule}
 use Rattle.iocm_model.specs.Machine.Record.{Rec}
 use Rattle.iocm_model.specs.Machine.Configuration.{records_of}
@@ -14,16 +15,19 @@ unfolding first_record
 of_rule rule breaks [] others = refl
 of_rule rule breaks (r ∷ rs) others = by (breaks r) (of_rule rule breaks rs others)
   where
-    by : (b : Bool) → first_of (map (breach_of rule) (filter breaks rs) ++ others) ≡ breach_or rule (first_record breaks rs) (first_of others)
+    by : (b : Bool) → first_of (map (breach_of rule) (filter breaks rs) ++ others)
+        ≡ breach_or rule (first_record breaks rs) (first_of others)
         → first_of (map (breach_of rule) (cond b (r ∷ filter breaks rs) (filter breaks rs)) ++ others)
         ≡ breach_or rule (cond b (Some r) (first_record breaks rs)) (first_of others)
     by true more = refl
     by false more = more
 
-of_rules : (rules : List (Rule × (Rec → Bool))) (rs : List Rec) → first_of (breaches_of rules rs) ≡ first_breach_of rules rs
+of_rules : (rules : List (Rule × (Rec → Bool))) (rs : List Rec)
+    → first_of (breaches_of rules rs) ≡ first_breach_of rules rs
 unfolding first_breach_of
 of_rules [] rs = refl
-of_rules (rule ∷ rules) rs = of_rule rule.0 rule.1 rs (breaches_of rules rs) ∙ ap (breach_or rule.0 (first_record rule.1 rs)) (of_rules rules rs)
+of_rules (rule ∷ rules) rs =
+    of_rule rule.0 rule.1 rs (breaches_of rules rs) ∙ ap (breach_or rule.0 (first_record rule.1 rs)) (of_rules rules rs)
 
 pub first_comes_first : FirstComesFirst
 first_comes_first c n = of_rules (rules_of c n) (records_of c)

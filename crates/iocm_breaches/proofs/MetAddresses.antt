@@ -1,5 +1,6 @@
 -- A device breaks V10 exactly where it meets an address of a device before it.
-use Rattle.std.proofs.Common.{◌≡◌, ℕ, ◌<◌, ◌&&◌, ◌||◌, ◌==◌, nat_eq, Bool, true, false, List, [], ◌∷◌, ◌++◌, map, filter, cond, append_assoc, T, refl, sym, ap, subst, ◌∙◌}
+use Rattle.std.proofs.Common.{◌≡◌, ℕ, ◌<◌, ◌&&◌, ◌||◌, nat_eq, Bool, true, false, List, [], ◌∷◌, ◌++◌, map, cond}
+use Rattle.std.proofs.Common.{append_assoc, T, refl, sym, ap, subst, ◌∙◌}
 use Rattle.std.proofs.lemmas.List.{append-nil}
 use Rattle.std.proofs.lemmas.List.Folds.{list_any-append}
 use Rattle.std.specs.BTreeMap.{is_at}
@@ -17,9 +18,10 @@ use Rattle.iocm_types.specs.Key.{key_cmp}
 use Rattle.iocm_types.specs.KeyOrder.{keys_total}
 use Rattle.iocm_types.proofs.Orderings.{less_is}
 use Rattle.iocm_types.proofs.Tests.{first_holds, second_holds}
-use Rattle.iocm_model.specs.Machine.Record.{Rec, DeviceRecord, id, resource, image, limit, path, unit, device, online, key_of}
+use Rattle.iocm_model.specs.Machine.Record.{Rec, DeviceRecord, id, resource, image, limit, path, unit, device, online}
+use Rattle.iocm_model.specs.Machine.Record.{key_of}
 use Rattle.iocm_model.specs.Machine.Configuration.{Configuration, IsKeyed, records_of}
-use Rattle.iocm_model.specs.Rules.EachRule.{breaks_v10, answers_on, some_before, stands_before}
+use Rattle.iocm_model.specs.Rules.EachRule.{breaks_v10, answers_on, stands_before}
 use Rattle.iocm_lookup.specs.Entries.{AreOwn, in_entries}
 use Rattle.iocm_lookup.proofs.Walks.{own_entries}
 use Rattle.iocm_device_rules.specs.OnUnits.{number_on, numbers_of, unit_numbers}
@@ -40,14 +42,19 @@ abbrev Rise : List Rec → Type 0
 Rise [] = Unit {0}
 Rise (r ∷ rs) = Before r rs × Rise rs
 
-before_all : (k : Key) (r : Rec) (es : List (Key × Rec)) → k ≡ key_of r → AreOwn es → T (below_all key_cmp k es) → Before r (in_entries es)
+before_all : (k : Key) (r : Rec) (es : List (Key × Rec)) → k ≡ key_of r → AreOwn es → T (below_all key_cmp k es)
+    → Before r (in_entries es)
 before_all k r [] is own below = tt
-before_all k r (e ∷ es) is own below =
-    ((λ i. key_cmp (sym is i) (sym own.0 i)) ∙ less_is _ (first_holds _ _ below), before_all k r es is own.1 (second_holds _ _ below))
+before_all k r (e ∷ es) is own below = (
+  (λ i. key_cmp (sym is i) (sym own.0 i))
+      ∙ less_is _ (first_holds _ _ below),
+  before_all k r es is own.1 (second_holds _ _ below),
+)
 
 entries_rise : (es : List (Key × Rec)) → AreOwn es → T (is_sorted key_cmp es) → Rise (in_entries es)
 entries_rise [] own up = tt
-entries_rise (e ∷ es) own up = (before_all e.0 e.1 es own.0 own.1 (first_holds _ _ up), entries_rise es own.1 (second_holds _ _ up))
+entries_rise (e ∷ es) own up =
+    (before_all e.0 e.1 es own.0 own.1 (first_holds _ _ up), entries_rise es own.1 (second_holds _ _ up))
 
 records_rise : (c : Configuration) → IsKeyed c → Rise (records_of c)
 records_rise c keyed = entries_rise (entries c) (own_entries c keyed) (entries_sorted c)
@@ -68,7 +75,8 @@ module _ (is_so : Rec → Bool) (r : Rec) where
 
   none_behind : (rs : List Rec) → Before r rs → list_any so_before rs ≡ false
   none_behind [] behind = refl
-  none_behind (o ∷ rs) behind = (λ i. (not_before (key_of r) (key_of o) behind.0 i && is_so o) || none_behind rs behind.1 i)
+  none_behind (o ∷ rs) behind =
+      (λ i. (not_before (key_of r) (key_of o) behind.0 i && is_so o) || none_behind rs behind.1 i)
 
   -- of records in order those that stand before it are those in front of it
   before_it : (done rs : List Rec) → Rise (done ++ r ∷ rs) → list_any so_before (done ++ r ∷ rs) ≡ list_any is_so done
@@ -88,7 +96,8 @@ met_of done n = list_any (nat_eq n) (flat_map unit_numbers done)
 module _ (a : ℕ) (units : List ℕ) (small : a < 256) where
   -- a device with the address on one of the units, by its numbers
   of_device : (e : DeviceRecord) → e.unit_address < 256
-      → list_any (λ n. list_any (nat_eq n) (unit_numbers (device e))) (numbers_of a units) ≡ answers_on a units (device e)
+      → list_any (λ n. list_any (nat_eq n) (unit_numbers (device e))) (numbers_of a units)
+      ≡ answers_on a units (device e)
   of_device e few =
       any_map (λ n. list_any (nat_eq n) (unit_numbers (device e))) (number_on a) units
       ∙ any_alike _ _ (λ u. any_map (nat_eq (number_on a u)) (number_on e.unit_address) e.units
@@ -100,7 +109,8 @@ module _ (a : ℕ) (units : List ℕ) (small : a < 256) where
   of_none : list_any (λ n. list_any (nat_eq n) []) (numbers_of a units) ≡ false
   of_none = any_false (λ n. false) (λ n. refl) (numbers_of a units)
 
-  of_record : (o : Rec) → HasByte o → list_any (λ n. list_any (nat_eq n) (unit_numbers o)) (numbers_of a units) ≡ answers_on a units o
+  of_record : (o : Rec) → HasByte o
+      → list_any (λ n. list_any (nat_eq n) (unit_numbers o)) (numbers_of a units) ≡ answers_on a units o
   of_record (device e) few = of_device e few
   of_record (id x) few = of_none
   of_record (resource x) few = of_none
@@ -110,7 +120,8 @@ module _ (a : ℕ) (units : List ℕ) (small : a < 256) where
   of_record (unit x) few = of_none
   of_record (online x) few = of_none
 
-  of_done : (done : List Rec) → HaveBytes done → list_any (met_of done) (numbers_of a units) ≡ list_any (answers_on a units) done
+  of_done : (done : List Rec) → HaveBytes done
+      → list_any (met_of done) (numbers_of a units) ≡ list_any (answers_on a units) done
   of_done [] all = of_none
   of_done (o ∷ done) all =
       any_alike _ _ (λ n. list_any-append (nat_eq n) (unit_numbers o) (flat_map unit_numbers done)) (numbers_of a units)
@@ -124,7 +135,8 @@ pub nothing_met : (met : BTreeSet ℕ) → IsEmpty met → (n : ℕ) → is_met 
 nothing_met met none n = ap (list_any (is_at (nat_cmp n))) none
 
 -- one record more
-pub listed_more : (met next : ℕ → Bool) (r : Rec) (rs : List Rec) (old new : List Breach) → new ≡ old ++ breaches_of_rule V10 (meets met) (r ∷ [])
+pub listed_more : (met next : ℕ → Bool) (r : Rec) (rs : List Rec) (old new : List Breach)
+    → new ≡ old ++ breaches_of_rule V10 (meets met) (r ∷ [])
     → ((n : ℕ) → next n ≡ met_with r met n) → new ++ listed_from next rs ≡ old ++ listed_from met (r ∷ rs)
 unfolding listed_from
 listed_more met next r rs old new grown are = (λ i. grown i ++ listed_from (λ n. are n i) rs)
@@ -142,7 +154,8 @@ module _ (c : Configuration) (keyed : IsKeyed c) where
   breaks_it : (done : List Rec) (r : Rec) (rs : List Rec) → done ++ r ∷ rs ≡ records_of c → HaveBytes done → HasByte r
       → meets (met_of done) r ≡ breaks_v10 c r
   breaks_it done (device d) rs all bytes byte = of_done d.unit_address d.units byte done bytes
-      ∙ sym (before_it (answers_on d.unit_address d.units) (device d) done rs (subst Rise (sym all) (records_rise c keyed)))
+      ∙ sym (before_it (answers_on d.unit_address d.units) (device d) done rs
+      (subst Rise (sym all) (records_rise c keyed)))
       ∙ ap (list_any (λ o. stands_before o (device d) && answers_on d.unit_address d.units o)) all
   breaks_it done (id x) rs all bytes byte = refl
   breaks_it done (resource x) rs all bytes byte = refl
@@ -153,10 +166,13 @@ module _ (c : Configuration) (keyed : IsKeyed c) where
   breaks_it done (online x) rs all bytes byte = refl
 
   -- what was met, with a record more
-  met_more : (done : List Rec) (r : Rec) (met : ℕ → Bool) → ((n : ℕ) → met n ≡ met_of done n) → (n : ℕ) → met_with r met n ≡ met_of (done ++ r ∷ []) n
+  met_more : (done : List Rec) (r : Rec) (met : ℕ → Bool) → ((n : ℕ) → met n ≡ met_of done n) → (n : ℕ)
+      → met_with r met n ≡ met_of (done ++ r ∷ []) n
   met_more [] r met are n = (λ i. list_any (nat_eq n) (unit_numbers r) || are n i)
       ∙ sym (list_any-append (nat_eq n) (unit_numbers r) [])
-  met_more (o ∷ done) r met are n = (λ i. list_any (nat_eq n) (unit_numbers r) || (are n ∙ list_any-append (nat_eq n) (unit_numbers o) (flat_map unit_numbers done)) i)
+  met_more (o ∷ done) r met are n =
+      (λ i. list_any (nat_eq n) (unit_numbers r)
+      || (are n ∙ list_any-append (nat_eq n) (unit_numbers o) (flat_map unit_numbers done)) i)
       ∙ turned (list_any (nat_eq n) (unit_numbers r)) (list_any (nat_eq n) (unit_numbers o)) (met_of done n)
       ∙ ap (λ b. list_any (nat_eq n) (unit_numbers o) || b) (met_more done r (met_of done) (λ m. refl) n)
       ∙ sym (list_any-append (nat_eq n) (unit_numbers o) (flat_map unit_numbers (done ++ r ∷ [])))
@@ -170,7 +186,8 @@ module _ (c : Configuration) (keyed : IsKeyed c) where
   bytes_more [] r all byte = (byte, tt)
   bytes_more (o ∷ done) r all byte = (all.0, bytes_more done r all.1 byte)
 
-  from_there : (rs done : List Rec) (met : ℕ → Bool) → done ++ rs ≡ records_of c → ((n : ℕ) → met n ≡ met_of done n) → HaveBytes done → HaveBytes rs
+  from_there : (rs done : List Rec) (met : ℕ → Bool) → done ++ rs ≡ records_of c → ((n : ℕ) → met n ≡ met_of done n)
+      → HaveBytes done → HaveBytes rs
       → listed_from met rs ≡ breaches_of_rule V10 (breaks_v10 c) rs
   unfolding listed_from
   from_there [] done met all are bytes more = refl
@@ -182,5 +199,6 @@ module _ (c : Configuration) (keyed : IsKeyed c) where
       same : meets met r ≡ breaks_v10 c r
       same = any_alike met (met_of done) are (unit_numbers r) ∙ breaks_it done r rs all bytes more.0
 
-  pub listed_is : HaveBytes (records_of c) → listed_from (λ n. false) (records_of c) ≡ breaches_of_rule V10 (breaks_v10 c) (records_of c)
+  pub listed_is : HaveBytes (records_of c)
+      → listed_from (λ n. false) (records_of c) ≡ breaches_of_rule V10 (breaks_v10 c) (records_of c)
   listed_is bytes = from_there (records_of c) [] (λ n. false) refl (λ n. refl) tt bytes

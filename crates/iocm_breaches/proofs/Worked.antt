@@ -11,10 +11,12 @@ use Rattle.iocm_model.specs.Rules.FirstBreach.{Breach}
 use Rattle.iocm_examples.specs.BaseDeck.{base}
 use Rattle.iocm_examples.proofs.OnLists.{states_on_lists}
 use Rattle.iocm_examples.proofs.Listed.Maps.{put_all}
-use Rattle.iocm_examples.proofs.Listed.Views.{Records, Numbers, record_in, lookup_seen, entries-configuration_of, opening_listed, opening_seen}
+use Rattle.iocm_examples.proofs.Listed.Views.{Records, Numbers, record_in, lookup_seen, entries-configuration_of}
+use Rattle.iocm_examples.proofs.Listed.Views.{opening_listed, opening_seen}
 use Rattle.iocm_examples.proofs.Listed.Rules.{rules_by, rules_seen}
 use Rattle.iocm_breaches.specs.Breaches.{breaches_of, all_breaches}
-use Rattle.iocm_breaches.specs.Examples.{Breaks, mistakes, with_limit, missing_path, one_address, BreachesOfMany, BreachesOfOthers}
+use Rattle.iocm_breaches.specs.Examples.{Breaks, mistakes, with_limit, missing_path, one_address, BreachesOfMany}
+use Rattle.iocm_breaches.specs.Examples.{BreachesOfOthers}
 
 -- all breaches, from the entries of a configuration and of a numbering as lists
 unfoldable pub all_listed : Records → Numbers → List Breach
@@ -24,12 +26,15 @@ all_listed es n = let rs = map (λ e. e.1) es in
 all_seen : (c : Configuration) (n : Numbering) → all_breaches c n ≡ all_listed (entries c) (entries n)
 unfolding all_listed
 all_seen c n = ap (λ rules. breaches_of rules (records_of c)) (rules_seen c n)
-    ∙ (λ i. breaches_of (rules_by (lookup_seen c i) (records_of c) (filter_map as_image (records_of c)) (λ p. get-entries n p i)) (records_of c))
+    ∙ (λ i. breaches_of (rules_by (lookup_seen c i) (records_of c) (filter_map as_image (records_of c))
+    (λ p. get-entries n p i)) (records_of c))
 
 computed : (rs : List Rec) (breaches : List Breach)
-    → all_listed (put_all key_cmp (with_keys rs)) (opening_listed (put_all key_cmp (with_keys rs))) ≡ breaches → Breaks rs breaches
+    → all_listed (put_all key_cmp (with_keys rs)) (opening_listed (put_all key_cmp (with_keys rs))) ≡ breaches
+    → Breaks rs breaches
 computed rs breaches is = let c = configuration_of rs in all_seen c (opening c)
-    ∙ (λ i. all_listed (entries-configuration_of rs i) ((opening_seen c ∙ ap opening_listed (entries-configuration_of rs)) i))
+    ∙ (λ i. all_listed (entries-configuration_of rs i)
+    ((opening_seen c ∙ ap opening_listed (entries-configuration_of rs)) i))
     ∙ is
 
 pub breaches_of_many : BreachesOfMany

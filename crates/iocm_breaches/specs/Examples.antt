@@ -16,7 +16,8 @@ Breaks records breaches = let c = configuration_of records in all_breaches c (op
 
 -- a device of set 0 with this unit address on these units
 abbrev pub device_on : ℕ → List ℕ → ℕ → Rec
-device_on number units address = device (record (device_record 0) { number = number; units = units; unit_address = address })
+device_on number units address =
+    device (record (device_record 0) { number = number; units = units; unit_address = address })
 
 -- a path lists nobody, a second unit answers to addresses of the first on path 50, an address is out
 -- of the unit's range, and two devices name a unit that isn't there: the first has the address of

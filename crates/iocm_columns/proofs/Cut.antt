@@ -1,9 +1,11 @@
 -- A text that is cut behind column 71, byte by byte.
-use Rattle.std.proofs.Common.{◌≡◌, ◌∙◌, ◌+◌, ◌<◌, ◌≤◌, ◌++◌, ℕ, List, [], ◌∷◌, length, drop, get_or, refl, ap, sym, append_assoc}
+use Rattle.std.proofs.Common.{◌≡◌, ◌∙◌, ◌+◌, ◌<◌, ◌≤◌, ◌++◌, ℕ, List, [], ◌∷◌, length, drop, get_or, refl, ap, sym}
+use Rattle.std.proofs.Common.{append_assoc}
 use Rattle.std.proofs.lemmas.List.{append-nil, drop_all, drop_more}
 use Rattle.iocm_columns.specs.Written.{placed, column_behind, cut_from}
 
-cut_first : (column b : ℕ) (bs : List ℕ) → cut_from column (b ∷ bs) ≡ placed column b ++ cut_from (column_behind column) bs
+cut_first : (column b : ℕ) (bs : List ℕ)
+    → cut_from column (b ∷ bs) ≡ placed column b ++ cut_from (column_behind column) bs
 unfolding cut_from
 cut_first column b bs = refl
 
@@ -12,7 +14,8 @@ unfolding cut_from
 cut_none column = refl
 
 -- one byte more has been put
-pub cut_goes_on : (text new whole : List ℕ) (column next : ℕ) (bytes : List ℕ) (i b d : ℕ) → i < length bytes → b ≡ get_or bytes i d
+pub cut_goes_on : (text new whole : List ℕ) (column next : ℕ) (bytes : List ℕ) (i b d : ℕ) → i < length bytes
+    → b ≡ get_or bytes i d
     → text ++ cut_from column (drop i bytes) ≡ whole → new ≡ text ++ placed column b → next ≡ column_behind column
     → new ++ cut_from next (drop (i + 1) bytes) ≡ whole
 cut_goes_on text new whole column next bytes i b d within is before put behind =
@@ -29,4 +32,5 @@ cut_goes_on text new whole column next bytes i b d within is before put behind =
 pub cut_ends : (text whole : List ℕ) (column : ℕ) (bytes : List ℕ) (i : ℕ) → length bytes ≤ i
     → text ++ cut_from column (drop i bytes) ≡ whole → text ≡ whole
 cut_ends text whole column bytes i past all =
-    sym (append-nil text) ∙ ap (λ r. text ++ r) (sym (cut_none column) ∙ ap (λ r. cut_from column r) (sym (drop_all i bytes past))) ∙ all
+    sym (append-nil text) ∙ ap (λ r. text ++ r)
+    (sym (cut_none column) ∙ ap (λ r. cut_from column r) (sym (drop_all i bytes past))) ∙ all

@@ -1,5 +1,6 @@
 -- The statement cards of one more card.
-use Rattle.std.proofs.Common.{◌≡◌, ℕ, ◌+◌, ◌<◌, Bool, true, false, not, cond, List, [], ◌∷◌, ◌++◌, length, get_or, take, map, sym, ap, ◌∙◌}
+use Rattle.std.proofs.Common.{◌≡◌, ℕ, ◌+◌, ◌<◌, Bool, true, false, not, cond, List, [], ◌∷◌, ◌++◌, length, get_or, take}
+use Rattle.std.proofs.Common.{map, sym, ap, ◌∙◌}
 use Rattle.std.specs.List.{filter}
 use Rattle.std.proofs.lemmas.List.{take_more, map-append, append-nil}
 use Rattle.std.proofs.lemmas.List.Elements.{filter-append}
@@ -20,16 +21,24 @@ alone : (row : StatementCard) (e : Bool) → is_skipped row.columns ≡ e
 alone row e is = ap (λ (b : Bool). cond (not b) (row ∷ []) []) is
 
 -- a comment or a blank line gives no statement card
-pub card_skipped : (cards : List Card) (i : ℕ) (card : Card) (row : StatementCard) → i < length cards → card ≡ get_or cards i card
-    → row ≡ statement_card card → is_skipped row.columns ≡ true → statement_cards (take (i + 1) cards) ≡ statement_cards (take i cards)
+pub card_skipped : (cards : List Card) (i : ℕ) (card : Card) (row : StatementCard) → i < length cards
+    → card ≡ get_or cards i card
+    → row ≡ statement_card card → is_skipped row.columns ≡ true
+    → statement_cards (take (i + 1) cards) ≡ statement_cards (take i cards)
 card_skipped cards i card row within item made is =
-    one_more cards i card within item ∙ ap (λ rs. statement_cards (take i cards) ++ rs) (ap (λ r. filter (λ r. not (is_skipped r.columns)) (r ∷ [])) (sym made) ∙ alone row true is)
+    one_more cards i card within item
+    ∙ ap (λ rs. statement_cards (take i cards) ++ rs)
+    (ap (λ r. filter (λ r. not (is_skipped r.columns)) (r ∷ [])) (sym made) ∙ alone row true is)
     ∙ append-nil (statement_cards (take i cards))
 
 -- another line gives one
-pub card_kept : (cards : List Card) (i : ℕ) (card : Card) (row : StatementCard) → i < length cards → card ≡ get_or cards i card
-    → row ≡ statement_card card → is_skipped row.columns ≡ false → statement_cards (take (i + 1) cards) ≡ statement_cards (take i cards) ++ row ∷ []
+pub card_kept : (cards : List Card) (i : ℕ) (card : Card) (row : StatementCard) → i < length cards
+    → card ≡ get_or cards i card
+    → row ≡ statement_card card → is_skipped row.columns ≡ false
+    → statement_cards (take (i + 1) cards) ≡ statement_cards (take i cards) ++ row ∷ []
 card_kept cards i card row within item made is =
-    one_more cards i card within item ∙ ap (λ rs. statement_cards (take i cards) ++ rs) (ap (λ r. filter (λ r. not (is_skipped r.columns)) (r ∷ [])) (sym made) ∙ alone row false is)
+    one_more cards i card within item
+    ∙ ap (λ rs. statement_cards (take i cards) ++ rs)
+    (ap (λ r. filter (λ r. not (is_skipped r.columns)) (r ∷ [])) (sym made) ∙ alone row false is)
 
 pub ruleset gathering = (card_skipped, card_kept)

@@ -7,14 +7,16 @@ use Rattle.iocm_types.specs.Each.{each, after_front}
 use Rattle.iocm_types.proofs.Each.{front_grows}
 
 -- the first item is read and goes to what was gathered
-pub first_goes_on : {A B : Type 0} (read : ℕ → A → Result B Fault) (front : List B) (n : ℕ) (items : List A) (x : A) (xs : List A) (y : B)
+pub first_goes_on : {A B : Type 0} (read : ℕ → A → Result B Fault) (front : List B) (n : ℕ) (items : List A) (x : A)
+    (xs : List A) (y : B)
     → items ≡ x ∷ xs → read n x ≡ Ok y
     → after_front front (each read n items) ≡ after_front (front ++ y ∷ []) (each read (n + 1) xs)
 unfolding each
 first_goes_on read front n items x xs y are is = rw (are, is) (front_grows front (y ∷ []) (each read (n + 1) xs))
 
 -- the first item is refused, and that is the answer
-pub first_fails : {A B : Type 0} (read : ℕ → A → Result B Fault) (front : List B) (n : ℕ) (items : List A) (x : A) (xs : List A) (f : Fault)
+pub first_fails : {A B : Type 0} (read : ℕ → A → Result B Fault) (front : List B) (n : ℕ) (items : List A) (x : A)
+    (xs : List A) (f : Fault)
     → items ≡ x ∷ xs → read n x ≡ Err f → after_front front (each read n items) ≡ Err f
 unfolding each
 first_fails read front n items x xs f are is = rw (are, is) refl

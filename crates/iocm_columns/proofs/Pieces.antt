@@ -1,6 +1,7 @@
 -- A text that is cut behind column 71, piece by piece: the first piece from a column on, each other
 -- one from column 16 on.
-use Rattle.std.proofs.Common.{◌≡◌, ◌∙◌, ◌+◌, ◌<◌, ◌≤◌, ◌++◌, ℕ, Bool, true, false, List, [], ◌∷◌, length, refl, ap, sym, arith, eqb}
+use Rattle.std.proofs.Common.{◌≡◌, ◌∙◌, ◌+◌, ◌<◌, ◌≤◌, ◌++◌, ℕ, Bool, true, false, List, [], ◌∷◌, length, refl, ap, sym}
+use Rattle.std.proofs.Common.{arith, eqb}
 use Rattle.std.specs.List.{concat}
 use Rattle.std.proofs.lemmas.Bool.{eqb-true, eqb-false, ne_eqb}
 use Rattle.iocm_columns.specs.Written.{cut, cut_from}
@@ -30,7 +31,8 @@ layout_more : (b : ℕ) (s : List ℕ) (cs : List (List ℕ)) → layout (b ∷ 
 layout_more b s [] = refl
 layout_more b s (c ∷ cs) = refl
 
-pieces_at : (column b : ℕ) (bs : List ℕ) → column ≤ 72 → ((n : ℕ) → n ≤ 72 → Pieces n bs) → (e : Bool) → eqb column 72 ≡ e → Pieces column (b ∷ bs)
+pieces_at : (column b : ℕ) (bs : List ℕ) → column ≤ 72 → ((n : ℕ) → n ≤ 72 → Pieces n bs) → (e : Bool)
+    → eqb column 72 ≡ e → Pieces column (b ∷ bs)
 unfolding cut_from
 pieces_at column b bs within later true is =
     let p = later 17 (omega arith) in
@@ -54,14 +56,17 @@ pieces_at column b bs within later false is =
 -- any text has its pieces
 pub pieces_of : (text : List ℕ) (column : ℕ) → column ≤ 72 → Pieces column text
 unfolding cut_from
-pieces_of [] column within = record { first = []; more = []; fits = omega (arith, within); whole = refl; written = refl }
+pieces_of [] column within =
+    record { first = []; more = []; fits = omega (arith, within); whole = refl; written = refl }
 pieces_of (b ∷ bs) column within = pieces_at column b bs within (pieces_of bs) (eqb column 72) refl
 
 -- what stands before column 72 isn't cut
-pub cut_behind : (head text : List ℕ) (column : ℕ) → length head + column ≤ 72 → cut_from column (head ++ text) ≡ head ++ cut_from (length head + column) text
+pub cut_behind : (head text : List ℕ) (column : ℕ) → length head + column ≤ 72
+    → cut_from column (head ++ text) ≡ head ++ cut_from (length head + column) text
 unfolding cut_from
 cut_behind [] text column within = ap (λ n. cut_from n text) (let same : column ≡ 0 + column = omega arith in same)
 cut_behind (b ∷ bs) text column within =
     let before : eqb column 72 ≡ false = ne_eqb column 72 (λ same. omega (arith, same, within)) in
     let there : length bs + (column + 1) ≡ length (b ∷ bs) + column = omega arith in
-    rw before (ap (λ l. b ∷ l) (cut_behind bs text (column + 1) (omega (arith, within)) ∙ ap (λ n. bs ++ cut_from n text) there))
+    rw before (ap (λ l. b ∷ l)
+    (cut_behind bs text (column + 1) (omega (arith, within)) ∙ ap (λ n. bs ++ cut_from n text) there))

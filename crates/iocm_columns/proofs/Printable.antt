@@ -1,5 +1,5 @@
 -- All items pass a test where each does in its turn.
-use Rattle.std.proofs.Common.{◌≡◌, ℕ, Bool, true, false, ◌&&◌, List, [], ◌∷◌, refl, ◌∙◌, sym}
+use Rattle.std.proofs.Common.{◌≡◌, ℕ, Bool, true, false, ◌&&◌, List, [], ◌∷◌, refl}
 use Rattle.std.specs.List.{fold, list_all}
 use Rattle.iocm_columns.specs.Cards.{is_printable}
 

@@ -1,6 +1,8 @@
 -- The text of each statement of a deck is printable, and each blank in it is inside quotes.
-use Rattle.std.proofs.Common.{◌≡◌, ◌≢◌, ℕ, ◌-◌, not, nat_lt, Bool, true, false, cond, Option, None, Some, List, [], ◌∷◌, ◌++◌, All, map, fold, take, drop, length, replicate, Ok, Err, refl, sym, ap, ◌∙◌, subst}
-use Rattle.std.proofs.lemmas.List.Elements.{All-nil, All-cons, All-head, All-tail, All-append, All-map, All-filter, All-take, All-drop, All-replicate}
+use Rattle.std.proofs.Common.{◌≡◌, ◌≢◌, ℕ, ◌-◌, not, nat_lt, Bool, true, false, cond, Option, None, Some, List, [], ◌∷◌}
+use Rattle.std.proofs.Common.{◌++◌, All, map, fold, take, drop, length, replicate, Ok, Err, refl, sym, ap, ◌∙◌, subst}
+use Rattle.std.proofs.lemmas.List.Elements.{All-nil, All-cons, All-head, All-tail, All-append, All-map, All-filter}
+use Rattle.std.proofs.lemmas.List.Elements.{All-take, All-drop, All-replicate}
 use Rattle.std.proofs.lemmas.List.Sums.{fold-append, AllPass-from_list_all, list_all-from_AllPass}
 use Rattle.std.specs.List.{list_all}
 use Rattle.std.specs.Result.{IfOk}
@@ -15,10 +17,12 @@ use Rattle.iocm_columns.specs.declared.going.Going.TheVariants.{Exactly, AtNext,
 use Rattle.iocm_columns.specs.declared.joined.Joined.{Joined}
 use Rattle.iocm_columns.specs.declared.statement_card.StatementCard.{StatementCard}
 use Rattle.iocm_columns.specs.Cards.{is_printable, card_of, cards_of}
-use Rattle.iocm_columns.specs.Columns.{after_blanks, after_word, behind_name, behind_operation, columns_of, continuation_area, is_continued, is_skipped, statement_area}
+use Rattle.iocm_columns.specs.Columns.{after_blanks, after_word, behind_name, behind_operation, columns_of}
+use Rattle.iocm_columns.specs.Columns.{continuation_area, is_continued, is_skipped, statement_area}
 use Rattle.iocm_columns.specs.Part.{Part, continued, front, is_quoting, part_after, switched}
 use Rattle.iocm_columns.specs.StatementCards.{first_continuation_fault, statement_card, statement_cards}
-use Rattle.iocm_columns.specs.Statements.{groups, joined_of, onto_group, statement_of, statements_of, unless_fault, with_continuation}
+use Rattle.iocm_columns.specs.Statements.{groups, joined_of, onto_group, statement_of, statements_of, unless_fault}
+use Rattle.iocm_columns.specs.Statements.{with_continuation}
 use Rattle.iocm_columns.proofs.Slicing.{front_found}
 use Rattle.iocm_columns.proofs.WrittenLines.{ArePrintable, both_printable, printable_parts}
 use Rattle.iocm_columns.proofs.WrittenTexts.{AreInside}
@@ -35,9 +39,11 @@ no_blank (y ∷ before) after = λ e. cc
 
 -- blanks of a text behind another are inside quotes where they are so behind the quotes of the
 -- first
-pub inside_both : (inside : Bool) (a b : List ℕ) → IsInside inside a → IsInside (fold switched inside a) b → IsInside inside (a ++ b)
+pub inside_both : (inside : Bool) (a b : List ℕ) → IsInside inside a → IsInside (fold switched inside a) b
+    → IsInside inside (a ++ b)
 inside_both inside [] b first second = second
-inside_both inside (x ∷ a) b first second = by (inside_both (switched inside x) a b (λ c d h. first (x ∷ c) d (ap (λ t. x ∷ t) h)) second)
+inside_both inside (x ∷ a) b first second =
+    by (inside_both (switched inside x) a b (λ c d h. first (x ∷ c) d (ap (λ t. x ∷ t) h)) second)
   where
     by : IsInside (switched inside x) (a ++ b) → IsInside inside (x ∷ (a ++ b))
     by rest [] after e =
@@ -69,10 +75,12 @@ shown_more : (text columns : List ℕ) → IsShown text → All IsPrintable colu
 shown_more text columns shown are =
     let part = front_found text columns in
     let slice = front (is_quoting text) columns in
-    let printable : ArePrintable (slice ++ part.rest) = subst ArePrintable part.whole (list_all-from_AllPass is_printable columns are) in
+    let printable : ArePrintable (slice ++ part.rest) =
+    subst ArePrintable part.whole (list_all-from_AllPass is_printable columns are) in
     record {
       printable = both_printable text slice shown.printable (printable_parts slice part.rest printable).0;
-      inside = inside_both false text slice shown.inside (λ before after e. sym (fold-append switched false text before) ∙ part.inside before after e);
+      inside = inside_both false text slice shown.inside
+          (λ before after e. sym (fold-append switched false text before) ∙ part.inside before after e);
     }
 
 -- a part with a continuation
@@ -90,16 +98,19 @@ shown_behind p r shown are = by p.going
     by AtNext = shown_more p.text (after_blanks area) shown (All-drop IsPrintable _ area printable)
     by Ended = shown
 
-shown_behind_all : (p : Part) (rs : List StatementCard) → IsShown p.text → All ShowsAll rs → IsShown (fold with_continuation p rs).text
+shown_behind_all : (p : Part) (rs : List StatementCard) → IsShown p.text → All ShowsAll rs
+    → IsShown (fold with_continuation p rs).text
 shown_behind_all p [] shown are = shown
 shown_behind_all p (r ∷ rs) shown are =
-    shown_behind_all (with_continuation p r) rs (shown_behind p r shown (All-head ShowsAll r rs are)) (All-tail ShowsAll r rs are)
+    shown_behind_all (with_continuation p r) rs (shown_behind p r shown (All-head ShowsAll r rs are))
+    (All-tail ShowsAll r rs are)
 
 -- the columns of a card behind its operation
 behind_printable : (columns : List ℕ) → All IsPrintable columns → All IsPrintable (behind_operation columns)
 behind_printable columns are =
     let area = All-take IsPrintable 71 columns are in
-    let name = All-drop IsPrintable _ (after_word (statement_area columns)) (All-drop IsPrintable _ (statement_area columns) area) in
+    let name = All-drop IsPrintable _ (after_word (statement_area columns))
+    (All-drop IsPrintable _ (statement_area columns) area) in
     All-drop IsPrintable _ (after_word (behind_name columns)) (All-drop IsPrintable _ (behind_name columns) name)
 
 -- the text of the cards of a statement
@@ -129,7 +140,8 @@ card_taken line bytes = by (list_all is_printable bytes) refl (nat_lt 80 (length
     by true all false = AllPass-from_list_all is_printable bytes all
 
 cards_taken : (bytes : List ℕ) → IfOk (cards_of bytes) (All IsTaken)
-cards_taken bytes = each_gives (λ _. Unit {0}) IsTaken card_of (λ line text _. card_taken line text) 1 (lines bytes) (λ k d within. tt)
+cards_taken bytes = each_gives (λ _. Unit {0}) IsTaken card_of (λ line text _. card_taken line text) 1 (lines bytes)
+    (λ k d within. tt)
 
 -- so are its columns
 columns_printable : (bytes : List ℕ) → All IsPrintable bytes → All IsPrintable (columns_of bytes)
@@ -144,10 +156,13 @@ cards_shown cards are =
 
 -- ---- the statements of a deck
 
-onto_group_shown : (r : StatementCard) (gs : List (List StatementCard)) → ShowsAll r → All (All ShowsAll) gs → All (All ShowsAll) (onto_group (r ∷ []) gs)
-onto_group_shown r [] is are = All-cons (All ShowsAll) (r ∷ []) [] (All-cons ShowsAll r [] is (All-nil ShowsAll)) (All-nil (All ShowsAll))
+onto_group_shown : (r : StatementCard) (gs : List (List StatementCard)) → ShowsAll r → All (All ShowsAll) gs
+    → All (All ShowsAll) (onto_group (r ∷ []) gs)
+onto_group_shown r [] is are =
+    All-cons (All ShowsAll) (r ∷ []) [] (All-cons ShowsAll r [] is (All-nil ShowsAll)) (All-nil (All ShowsAll))
 onto_group_shown r (g ∷ gs) is are =
-    All-cons (All ShowsAll) (r ∷ g) gs (All-cons ShowsAll r g is (All-head (All ShowsAll) g gs are)) (All-tail (All ShowsAll) g gs are)
+    All-cons (All ShowsAll) (r ∷ g) gs (All-cons ShowsAll r g is (All-head (All ShowsAll) g gs are))
+    (All-tail (All ShowsAll) g gs are)
 
 groups_shown : (rs : List StatementCard) → All ShowsAll rs → All (All ShowsAll) (groups rs)
 unfolding groups
@@ -180,4 +195,5 @@ statements_shown cards are = by (first_continuation_fault (statement_cards cards
 
 -- whatever bytes say
 pub deck_shown : (bytes : List ℕ) → IfOk (joined_of bytes) (All IsShownStatement)
-deck_shown bytes = in_turn (All IsTaken) (All IsShownStatement) (cards_of bytes) statements_of (cards_taken bytes) statements_shown
+deck_shown bytes = in_turn (All IsTaken) (All IsShownStatement) (cards_of bytes) statements_of (cards_taken bytes)
+    statements_shown

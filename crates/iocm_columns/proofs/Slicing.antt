@@ -1,5 +1,6 @@
 -- The columns that a part takes are the slices of the relation, and no others are.
-use Rattle.std.proofs.Common.{◌≡◌, ◌⊎◌, inl, inr, ℕ, Bool, true, false, not, ◌&&◌, eqb, cond, IsTrue, List, [], ◌∷◌, ◌++◌, refl, sym, ap, subst, ◌∙◌, append_assoc, append-nil}
+use Rattle.std.proofs.Common.{◌≡◌, ◌⊎◌, inl, inr, ℕ, Bool, true, false, not, ◌&&◌, eqb, cond, IsTrue, List, [], ◌∷◌}
+use Rattle.std.proofs.Common.{◌++◌, refl, sym, ap, subst, ◌∙◌, append_assoc, append-nil}
 use Rattle.std.specs.List.{fold, concat}
 use Rattle.std.proofs.lemmas.List.Sums.{fold-append}
 use Rattle.std.proofs.lemmas.Bool.{eqb-true, eq-eqb, and_parts, not-true, both_ways}
@@ -36,7 +37,8 @@ nil_split : (before after : List ℕ) → [] ≡ before ++ 32 ∷ after → ⊥
 nil_split [] after same = cc
 nil_split (x ∷ before) after same = cc
 
-regrouped : (text : List ℕ) (b : ℕ) (slice : List ℕ) → is_quoting ((text ++ b ∷ []) ++ slice) ≡ is_quoting (text ++ b ∷ slice)
+regrouped : (text : List ℕ) (b : ℕ) (slice : List ℕ)
+    → is_quoting ((text ++ b ∷ []) ++ slice) ≡ is_quoting (text ++ b ∷ slice)
 regrouped text b slice = ap is_quoting (append_assoc text (b ∷ []) slice)
 
 front_stops : (text : List ℕ) (b : ℕ) (bs : List ℕ) → ends (is_quoting text) b ≡ true → IsFront text (b ∷ bs) []
@@ -75,8 +77,10 @@ front_grows text b bs slice is part = record {
   stops = grown_stops text b slice part.rest part.stops;
 }
 
-front_found_at : (text : List ℕ) (b : ℕ) (bs : List ℕ) → IsFront (text ++ b ∷ []) bs (front (is_quoting (text ++ b ∷ [])) bs)
-    → (e : Bool) → ends (is_quoting text) b ≡ e → IsFront text (b ∷ bs) (cond e [] (b ∷ front (switched (is_quoting text) b) bs))
+front_found_at : (text : List ℕ) (b : ℕ) (bs : List ℕ)
+    → IsFront (text ++ b ∷ []) bs (front (is_quoting (text ++ b ∷ [])) bs)
+    → (e : Bool) → ends (is_quoting text) b ≡ e
+    → IsFront text (b ∷ bs) (cond e [] (b ∷ front (switched (is_quoting text) b) bs))
 front_found_at text b bs part true is = front_stops text b bs is
 front_found_at text b bs part false is =
     front_grows text b bs (front (switched (is_quoting text) b) bs) is
@@ -101,7 +105,8 @@ only_stops text b bs rest whole (inl none) false is = cc
 only_stops text b bs rest whole (inr stop) false is =
     let same : b ∷ bs ≡ 32 ∷ stop.0 = whole ∙ stop.1 in
     let here : b ≡ 32 = cc in
-    absurd (both_ways (is_quoting text) (sym (ap is_quoting (append-nil text)) ∙ stop.2) (blank_inside (is_quoting text) b is here))
+    absurd (both_ways (is_quoting text) (sym (ap is_quoting (append-nil text)) ∙ stop.2)
+    (blank_inside (is_quoting text) b is here))
 
 shrunk_stops : (text : List ℕ) (b : ℕ) (slice rest : List ℕ)
     → (rest ≡ []) ⊎ ((more : List ℕ) × (rest ≡ 32 ∷ more) × (is_quoting (text ++ b ∷ slice) ≡ false))
@@ -109,7 +114,8 @@ shrunk_stops : (text : List ℕ) (b : ℕ) (slice rest : List ℕ)
 shrunk_stops text b slice rest (inl none) = inl none
 shrunk_stops text b slice rest (inr stop) = inr (stop.0, stop.1, regrouped text b slice ∙ stop.2)
 
-front_shrinks : (text : List ℕ) (b : ℕ) (bs slice : List ℕ) → IsFront text (b ∷ bs) (b ∷ slice) → IsFront (text ++ b ∷ []) bs slice
+front_shrinks : (text : List ℕ) (b : ℕ) (bs slice : List ℕ) → IsFront text (b ∷ bs) (b ∷ slice)
+    → IsFront (text ++ b ∷ []) bs slice
 front_shrinks text b bs slice part =
     let same : b ∷ bs ≡ b ∷ (slice ++ part.rest) = part.whole in
     let tail : bs ≡ slice ++ part.rest = cc in
@@ -120,7 +126,8 @@ front_shrinks text b bs slice part =
       stops = shrunk_stops text b slice part.rest part.stops;
     }
 
-only_grows : (text : List ℕ) (b : ℕ) (bs slice : List ℕ) → IsFront text (b ∷ bs) (b ∷ slice) → slice ≡ front (is_quoting (text ++ b ∷ [])) bs
+only_grows : (text : List ℕ) (b : ℕ) (bs slice : List ℕ) → IsFront text (b ∷ bs) (b ∷ slice)
+    → slice ≡ front (is_quoting (text ++ b ∷ [])) bs
     → (e : Bool) → ends (is_quoting text) b ≡ e → b ∷ slice ≡ cond e [] (b ∷ front (switched (is_quoting text) b) bs)
 only_grows text b bs slice part more true is =
     let at = blank_outside (is_quoting text) b is in
@@ -139,7 +146,8 @@ front_only text (b ∷ bs) (s ∷ slice) part =
     let here : s ≡ b = cc in
     let moved : IsFront text (b ∷ bs) (b ∷ slice) = subst (λ x. IsFront text (b ∷ bs) (x ∷ slice)) here part in
     ap (λ x. x ∷ slice) here
-    ∙ only_grows text b bs slice moved (front_only (text ++ b ∷ []) bs slice (front_shrinks text b bs slice moved)) (ends (is_quoting text) b) refl
+    ∙ only_grows text b bs slice moved (front_only (text ++ b ∷ []) bs slice (front_shrinks text b bs slice moved))
+    (ends (is_quoting text) b) refl
 
 -- ---- all slices of a statement
 
@@ -147,7 +155,9 @@ abbrev part_at : List ℕ → Going → Part
 part_at text going = record { text = text; going = going }
 
 abbrev SlicesOf : List ℕ → Going → List StatementCard → Type 0
-SlicesOf text going rs = (slices : List (List ℕ)) × AreSlices text going rs slices × ((fold with_continuation (part_at text going) rs).text ≡ text ++ concat slices)
+SlicesOf text going rs =
+    (slices : List (List ℕ)) × AreSlices text going rs slices
+    × ((fold with_continuation (part_at text going) rs).text ≡ text ++ concat slices)
 
 slices_found : (text : List ℕ) (going : Going) (rs : List StatementCard) → SlicesOf text going rs
 slices_found text going [] = ([], tt, sym (append-nil text))
@@ -165,7 +175,8 @@ slices_found text Ended (r ∷ rs) =
     let more = slices_found text Ended rs in
     ([] ∷ more.0, (refl, more.1), more.2)
 
-slices_only : (text : List ℕ) (going : Going) (rs : List StatementCard) (slices : List (List ℕ)) → AreSlices text going rs slices
+slices_only : (text : List ℕ) (going : Going) (rs : List StatementCard) (slices : List (List ℕ))
+    → AreSlices text going rs slices
     → (fold with_continuation (part_at text going) rs).text ≡ text ++ concat slices
 slices_only text going [] [] are = sym (append-nil text)
 slices_only text going [] (s ∷ ss) are = absurd are
@@ -184,7 +195,8 @@ slices_only text Ended (r ∷ rs) (s ∷ ss) are =
     slices_only text Ended rs ss are.1 ∙ ap (λ x. text ++ (x ++ concat ss)) (sym are.0)
 
 -- each statement has slices, one for each card
-pub text_found : (r : StatementCard) (rs : List StatementCard) → (slices : List (List ℕ)) × AreSlicesOf r rs slices × ((statement_of (r ∷ rs)).text ≡ concat slices)
+pub text_found : (r : StatementCard) (rs : List StatementCard)
+    → (slices : List (List ℕ)) × AreSlicesOf r rs slices × ((statement_of (r ∷ rs)).text ≡ concat slices)
 text_found r rs =
     let columns = behind_operation r.columns in
     let slice = front false columns in
@@ -192,7 +204,8 @@ text_found r rs =
     (slice ∷ more.0, (front_found [] columns, more.1), more.2)
 
 -- and the text is the concatenation of any such slices
-pub text_only : (r : StatementCard) (rs : List StatementCard) (slices : List (List ℕ)) → AreSlicesOf r rs slices → (statement_of (r ∷ rs)).text ≡ concat slices
+pub text_only : (r : StatementCard) (rs : List StatementCard) (slices : List (List ℕ)) → AreSlicesOf r rs slices
+    → (statement_of (r ∷ rs)).text ≡ concat slices
 text_only r rs [] are = absurd are
 text_only r rs (s ∷ ss) are =
     let columns = behind_operation r.columns in

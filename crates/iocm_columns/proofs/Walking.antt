@@ -5,11 +5,13 @@ use Rattle.iocm_types.specs.declared.fault.Fault.{Fault}
 use Rattle.iocm_columns.specs.declared.statement_card.StatementCard.{StatementCard}
 use Rattle.iocm_columns.specs.StatementCards.{continuation_fault, first_continuation_fault}
 
-pub fault_here : (rows : List StatementCard) (row : StatementCard) (more : List StatementCard) (fault : Fault) → rows ≡ row ∷ more → continuation_fault row more ≡ Some fault → first_continuation_fault rows ≡ Some fault
+pub fault_here : (rows : List StatementCard) (row : StatementCard) (more : List StatementCard) (fault : Fault)
+    → rows ≡ row ∷ more → continuation_fault row more ≡ Some fault → first_continuation_fault rows ≡ Some fault
 unfolding first_continuation_fault
 fault_here rows row more fault are is = rw (are, is) refl
 
-pub fault_later : (rows : List StatementCard) (row : StatementCard) (more : List StatementCard) → rows ≡ row ∷ more → continuation_fault row more ≡ None → first_continuation_fault rows ≡ first_continuation_fault more
+pub fault_later : (rows : List StatementCard) (row : StatementCard) (more : List StatementCard) → rows ≡ row ∷ more
+    → continuation_fault row more ≡ None → first_continuation_fault rows ≡ first_continuation_fault more
 unfolding first_continuation_fault
 fault_later rows row more are is = rw (are, is) refl
 

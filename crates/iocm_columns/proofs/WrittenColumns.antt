@@ -1,11 +1,14 @@
 -- The columns of a line that is written: 71 columns, and X or a blank in column 72.
-use Rattle.std.proofs.Common.{◌≡◌, ◌∙◌, ◌+◌, ◌-◌, ◌++◌, ℕ, zero, suc, Bool, true, false, not, ◌&&◌, List, [], ◌∷◌, length, get_or, take, drop, replicate, refl, ap, sym, arith, append_assoc, append-nil, one-add, take_all}
+use Rattle.std.proofs.Common.{◌≡◌, ◌∙◌, ◌+◌, ◌-◌, ◌++◌, ℕ, zero, suc, Bool, true, false, not, ◌&&◌, List, [], ◌∷◌}
+use Rattle.std.proofs.Common.{length, get_or, take, drop, replicate, refl, ap, sym, arith, append_assoc, append-nil}
+use Rattle.std.proofs.Common.{one-add, take_all}
 use Rattle.std.specs.List.{list_all, position_or_len, slice_index}
 use Rattle.std.proofs.lemmas.Bool.{and_parts, not-true}
 use Rattle.std.proofs.lemmas.List.{length-append, length-replicate}
 use Rattle.std.proofs.lemmas.List.Folds.{list_all-append}
 use Rattle.std.proofs.Math.Seq.{get_or-append_seam, take-append_seam, drop-append_seam}
-use Rattle.iocm_columns.specs.Columns.{after_blanks, after_word, columns_of, continuation_area, is_blank, statement_area, word_of}
+use Rattle.iocm_columns.specs.Columns.{after_blanks, after_word, columns_of, continuation_area, is_blank}
+use Rattle.iocm_columns.specs.Columns.{statement_area, word_of}
 use Rattle.iocm_columns.specs.Written.{is_graphic}
 use Rattle.iocm_columns.specs.Cards.{is_printable}
 use Rattle.iocm_columns.proofs.WrittenLines.{margin}
@@ -34,7 +37,8 @@ pub columns_of_short : (line : List ℕ) (n : ℕ) → length line + n ≡ 71 �
 columns_of_short line n len =
     let left : 72 - length line ≡ suc n = omega (arith, len) in
     ap (λ l. l ++ replicate (72 - length line) 32) (take_all 72 line (omega (arith, len)))
-    ∙ ap (λ m. line ++ replicate m 32) left ∙ ap (λ l. line ++ l) (sym (blanks_end n)) ∙ sym (append_assoc line (blanks n) (32 ∷ []))
+    ∙ ap (λ m. line ++ replicate m 32) left ∙ ap (λ l. line ++ l) (sym (blanks_end n))
+    ∙ sym (append_assoc line (blanks n) (32 ∷ []))
 
 -- column 72
 pub column_72 : (area : List ℕ) (b : ℕ) → length area ≡ 71 → slice_index (area ++ b ∷ []) 71 ≡ b
@@ -53,17 +57,20 @@ columns_from_16 area b len = ap (λ n. take n (area ++ b ∷ [])) (sym len) ∙ 
 pub graphic_is_no_blank : (b : ℕ) → is_graphic b ≡ true → is_blank b ≡ false
 graphic_is_no_blank b is = not-true (is_blank b) (and_parts (is_printable b) (not (is_blank b)) is).1
 
-word_len : (word rest : List ℕ) → list_all is_graphic word ≡ true → position_or_len is_blank (word ++ 32 ∷ rest) ≡ length word
+word_len : (word rest : List ℕ) → list_all is_graphic word ≡ true
+    → position_or_len is_blank (word ++ 32 ∷ rest) ≡ length word
 word_len [] rest are = refl
 word_len (b ∷ bs) rest are =
     let both = and_parts (is_graphic b) (list_all is_graphic bs) are in
     rw (graphic_is_no_blank b both.0) (ap (λ n. 1 + n) (word_len bs rest both.1) ∙ one-add (length bs))
 
 pub word_first : (word rest : List ℕ) → list_all is_graphic word ≡ true → word_of (word ++ 32 ∷ rest) ≡ word
-word_first word rest are = ap (λ n. take n (word ++ 32 ∷ rest)) (word_len word rest are) ∙ take-append_seam word (32 ∷ rest)
+word_first word rest are =
+    ap (λ n. take n (word ++ 32 ∷ rest)) (word_len word rest are) ∙ take-append_seam word (32 ∷ rest)
 
 pub word_behind : (word rest : List ℕ) → list_all is_graphic word ≡ true → after_word (word ++ 32 ∷ rest) ≡ 32 ∷ rest
-word_behind word rest are = ap (λ n. drop n (word ++ 32 ∷ rest)) (word_len word rest are) ∙ drop-append_seam word (32 ∷ rest)
+word_behind word rest are =
+    ap (λ n. drop n (word ++ 32 ∷ rest)) (word_len word rest are) ∙ drop-append_seam word (32 ∷ rest)
 
 pub blank_behind : (rest : List ℕ) → after_blanks (32 ∷ rest) ≡ after_blanks rest
 blank_behind rest = ap (λ n. drop n (32 ∷ rest)) (one-add (position_or_len (λ b. not (is_blank b)) rest))

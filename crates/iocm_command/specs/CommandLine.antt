@@ -227,7 +227,8 @@ IsExplain named = (word : Option Text) × IsExplainOf named word
 
 -- the words have no mistake, and state one of these
 abbrev pub StatesOther : List Text → Type 0
-StatesOther words = (mistakes words ≡ []) × (IsDiff (subcommand_of iocm_app words) ⊎ IsExplain (subcommand_of iocm_app words))
+StatesOther words = (mistakes words ≡ [])
+    × (IsDiff (subcommand_of iocm_app words) ⊎ IsExplain (subcommand_of iocm_app words))
 
 -- they are those of `apply` with a deck, a change deck, a size, a report and filters of their forms
 abbrev pub IsApply : Option (Text × List Row) → Type 0

@@ -1,5 +1,5 @@
 -- The commands of the program and what they take, as `clap` reads them.
-use Rattle.std.specs.Prelude.{ℕ, Bool, true, [], ◌∷◌, Option, Some, codes}
+use Rattle.std.specs.Prelude.{Bool, true, [], ◌∷◌, Some, codes}
 use Rattle.clap.specs.Words.{App, Rule, Text, new_app, new_rule, with_rule, with_subcommand}
 use Rattle.clap.specs.declared.builder.action.ArgAction.TheVariants.{Append, SetTrue}
 use Rattle.clap.specs.declared.builder.command.Command as clap
@@ -108,7 +108,8 @@ bare_app = record (new_app (codes "iocm")) {
 -- the program with the commands that read a deck and nothing else
 abbrev pub decks_app : App
 decks_app =
-    with_subcommand (with_subcommand (with_subcommand bare_app check_app.top) show_app.top) (deck_app (codes "write")).top
+    with_subcommand (with_subcommand (with_subcommand bare_app check_app.top) show_app.top)
+    (deck_app (codes "write")).top
 
 -- the program with the commands that read change decks, too
 abbrev pub changes_app : App

@@ -3,7 +3,8 @@ ghost use Rattle.clap.specs.Words.{HasKind, kind_of};
 ghost use Rattle.iocm_command.specs.CommandLine.{all_asked_of, change_deck_of, request_words, AsksQuiet};
 ghost use Rattle.iocm_command.specs.CommandLine.{mistakes, mistakes_or_others};
 ghost use Rattle.iocm_command.specs.CommandLine.{IsAsNamed, NamesApply, NamesDeck, NamesRun};
-ghost use Rattle.iocm_command.specs.CommandLine.{StatesApply, StatesArguments, StatesCommand, StatesDeck, StatesOther, StatesRun};
+ghost use Rattle.iocm_command.specs.CommandLine.{StatesApply, StatesArguments, StatesCommand, StatesDeck};
+ghost use Rattle.iocm_command.specs.CommandLine.{StatesOther, StatesRun};
 
 use crate::matches::{command_in, has_one_report, is_quiet};
 use crate::program::iocm;

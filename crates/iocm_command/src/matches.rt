@@ -8,7 +8,8 @@ ghost use Rattle.iocm_statements.specs.Unread.{Reads};
 ghost use Rattle.iocm_command.specs.CommandLine.{argument_of, arguments_of, name_of};
 ghost use Rattle.iocm_command.specs.CommandLine.{asks_altered, asks_back, asks_count, asks_deck, asks_test};
 ghost use Rattle.iocm_command.specs.CommandLine.{AsksFor, AsksReport, GivesSize, HasArguments, HasChange};
-ghost use Rattle.iocm_command.specs.CommandLine.{HasCommand, HasFlag, HasQuiet, HasRequest, IsApply, IsApplyOf, IsDiff, IsExplain, IsOnDeck, IsRun, IsSizeText};
+ghost use Rattle.iocm_command.specs.CommandLine.{HasCommand, HasFlag, HasQuiet, HasRequest, IsApply, IsApplyOf};
+ghost use Rattle.iocm_command.specs.CommandLine.{IsDiff, IsExplain, IsOnDeck, IsRun, IsSizeText};
 
 use crate::command::{Command, Request};
 use crate::program::{LARGEST_HEAP, LEAST_HEAP};
@@ -75,7 +76,8 @@ fn heap_size(text: &str) -> Option<u32>
 /// Whether a flag of the command `name` is given, where the words name that command.
 fn flag_in(matches: &ArgMatches<'_>, name: &str, argument: &str) -> Option<bool>
     ensures some { IfSome result (HasFlag (subcommand_rows_of matches.now) name.now argument.now) }
-    ensures only { (given : Bool) → HasFlag (subcommand_rows_of matches.now) name.now argument.now given → IsSome result }
+    ensures only { (given : Bool)
+        → HasFlag (subcommand_rows_of matches.now) name.now argument.now given → IsSome result }
 {
     match value_of(matches, name, argument)? {
         "false" => Some(false),

@@ -33,7 +33,8 @@ keyed_made [] = keyed_none
 keyed_made (r ∷ rs) = keyed_put (configuration_of rs) r (keyed_made rs)
 
 -- a key that no test meets is apart from each
-apart_each : (k : Key) (ks : List Key) → list_any (eq_by_cmp key_cmp k) ks ≡ false → AllByRecursion (λ q. eq_by_cmp key_cmp k q ≡ false) ks
+apart_each : (k : Key) (ks : List Key) → list_any (eq_by_cmp key_cmp k) ks ≡ false
+    → AllByRecursion (λ q. eq_by_cmp key_cmp k q ≡ false) ks
 apart_each k [] none = tt
 apart_each k (q ∷ ks) none = let parts = or_parts _ _ none in (parts.0, apart_each k ks parts.1)
 
@@ -41,5 +42,8 @@ apart_each k (q ∷ ks) none = let parts = or_parts _ _ none in (parts.0, apart_
 pub keys_apart : (rs : List Rec) → HasNoKeyTwice rs → IsDistinct (eq_by_cmp key_cmp) (keys_of (with_keys rs))
 unfolding IsDistinct
 keys_apart [] single = tt
-keys_apart (r ∷ rs) single =
-    (apart_each (key_of r) (keys_of (with_keys rs)) (sym (is_some-find key_cmp (key_of r) (with_keys rs)) ∙ ap is_some single.0), keys_apart rs single.1)
+keys_apart (r ∷ rs) single = (
+  apart_each (key_of r) (keys_of (with_keys rs))
+      (sym (is_some-find key_cmp (key_of r) (with_keys rs)) ∙ ap is_some single.0),
+  keys_apart rs single.1,
+)

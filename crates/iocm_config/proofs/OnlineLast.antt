@@ -1,5 +1,6 @@
 -- Records with the online ones last are the same configuration, and no two have one key.
-use Rattle.std.proofs.Common.{◌≡◌, Bool, true, false, not, cond, List, [], ◌∷◌, ◌++◌, filter, Option, None, Some, refl, sym, ap, ◌∙◌, subst, append-nil}
+use Rattle.std.proofs.Common.{◌≡◌, Bool, true, false, not, cond, List, [], ◌∷◌, ◌++◌, filter, Option, None, Some, refl}
+use Rattle.std.proofs.Common.{sym, ap, ◌∙◌, subst, append-nil}
 use Rattle.std.proofs.lemmas.List.{map-append}
 use Rattle.std.proofs.lemmas.Bool.{false≢true}
 use Rattle.std.proofs.lemmas.List.Elements.{filter-append}
@@ -34,7 +35,8 @@ tied q k same = by (key_cmp q k) refl same
 
 found_first : (p : Key → Bool) (q k : Key) (x : Rec) (es : List Row) (b c : Bool) → eq_by_cmp key_cmp q k ≡ b → p k ≡ c
     → find key_cmp q (filter (λ e. p e.0) es) ≡ cond (p q) (find key_cmp q es) None
-    → find key_cmp q (cond c ((k, x) ∷ filter (λ e. p e.0) es) (filter (λ e. p e.0) es)) ≡ cond (p q) (cond b (Some x) (find key_cmp q es)) None
+    → find key_cmp q (cond c ((k, x) ∷ filter (λ e. p e.0) es) (filter (λ e. p e.0) es))
+    ≡ cond (p q) (cond b (Some x) (find key_cmp q es)) None
 found_first p q k x es true true same passes rest = rw (same, ap p (tied q k same) ∙ passes) refl
 found_first p q k x es false true same passes rest = rw same rest
 found_first p q k x es true false same passes rest = rest ∙ rw (ap p (tied q k same) ∙ passes) refl
@@ -45,7 +47,8 @@ no_row true = refl
 no_row false = refl
 
 -- a key is found among the rows whose keys pass where it passes itself
-found_kept : (p : Key → Bool) (q : Key) (es : List Row) → find key_cmp q (filter (λ e. p e.0) es) ≡ cond (p q) (find key_cmp q es) None
+found_kept : (p : Key → Bool) (q : Key) (es : List Row)
+    → find key_cmp q (filter (λ e. p e.0) es) ≡ cond (p q) (find key_cmp q es) None
 found_kept p q [] = no_row (p q)
 found_kept p q (e ∷ es) = found_first p q e.0 e.1 es (eq_by_cmp key_cmp q e.0) (p e.0) refl refl (found_kept p q es)
 
@@ -64,7 +67,8 @@ pub same_configuration : (es : List Row) → from_entries {R = key_cmp} (online_
 same_configuration es = same_map keys_total keys_exact _ _
     (λ q. get-from_entries keys_total (online_last es) q ∙ found_last q es ∙ sym (get-from_entries keys_total es q))
 
-key_kept : (k : Key) (c : Bool) (es : List Row) (ks : List Key) (x : Rec) → keys_of es ≡ ks → keys_of (cond c ((k, x) ∷ es) es) ≡ cond c (k ∷ ks) ks
+key_kept : (k : Key) (c : Bool) (es : List Row) (ks : List Key) (x : Rec) → keys_of es ≡ ks
+    → keys_of (cond c ((k, x) ∷ es) es) ≡ cond c (k ∷ ks) ks
 key_kept k true es ks x same = ap (λ ks. k ∷ ks) same
 key_kept k false es ks x same = same
 
@@ -72,7 +76,8 @@ keys_kept : (p : Key → Bool) (es : List Row) → keys_of (filter (λ e. p e.0)
 keys_kept p [] = refl
 keys_kept p (e ∷ es) = key_kept e.0 (p e.0) (filter (λ e. p e.0) es) (filter p (keys_of es)) e.1 (keys_kept p es)
 
-keys_last : (es : List Row) → keys_of (online_last es) ≡ filter (λ k. not (is_online k)) (keys_of es) ++ filter is_online (keys_of es)
+keys_last : (es : List Row)
+    → keys_of (online_last es) ≡ filter (λ k. not (is_online k)) (keys_of es) ++ filter is_online (keys_of es)
 keys_last es = map-append (λ (e : Row). e.0) (filter (λ e. not (is_online e.0)) es) (filter (λ e. is_online e.0) es)
     ∙ ap (λ ks. ks ++ keys_of (filter (λ e. is_online e.0) es)) (keys_kept (λ k. not (is_online k)) es)
     ∙ ap (λ ks. filter (λ k. not (is_online k)) (keys_of es) ++ ks) (keys_kept is_online es)
@@ -85,21 +90,26 @@ not_not true = refl
 not_not false = refl
 
 -- no two of them have one key, where no two had
-pub keys_stay_apart : (es : List Row) → IsDistinct (eq_by_cmp key_cmp) (keys_of es) → IsDistinct (eq_by_cmp key_cmp) (keys_of (online_last es))
+pub keys_stay_apart : (es : List Row) → IsDistinct (eq_by_cmp key_cmp) (keys_of es)
+    → IsDistinct (eq_by_cmp key_cmp) (keys_of (online_last es))
 keys_stay_apart es apart = subst (IsDistinct (eq_by_cmp key_cmp)) (sym (keys_last es))
     (IsDistinct-IsPermutation (eq_by_cmp key_cmp) flips (keys_of es) _
     (IsPermutation-filter_both (λ k. not (is_online k)) is_online (λ k. not_not (is_online k)) (keys_of es)) apart)
 
-more_by : (p : Row → Bool) (c : Bool) (es : List Row) (e : Row) → p e ≡ c → filter p (es ++ e ∷ []) ≡ filter p es ++ cond c (e ∷ []) []
+more_by : (p : Row → Bool) (c : Bool) (es : List Row) (e : Row) → p e ≡ c
+    → filter p (es ++ e ∷ []) ≡ filter p es ++ cond c (e ∷ []) []
 more_by p c es e passes = filter-append p es (e ∷ []) ∙ ap (λ b. filter p es ++ cond b (e ∷ []) []) passes
 
 one_more : (p : Row → Bool) (c : Bool) (rs : List Rec) (r : Rec) → p (key_of r, r) ≡ c
     → filter p (with_keys (rs ++ r ∷ [])) ≡ filter p (with_keys rs) ++ cond c ((key_of r, r) ∷ []) []
-one_more p c rs r passes = ap (filter p) (map-append (λ (x : Rec). (key_of x, x)) rs (r ∷ [])) ∙ more_by p c (with_keys rs) (key_of r, r) passes
+one_more p c rs r passes =
+    ap (filter p) (map-append (λ (x : Rec). (key_of x, x)) rs (r ∷ []))
+    ∙ more_by p c (with_keys rs) (key_of r, r) passes
 
 -- one more record goes to the online ones
 pub online_more : (rs : List Rec) (r : Rec) → is_online (key_of r) ≡ true
-    → filter (λ e. is_online e.0) (with_keys (rs ++ r ∷ [])) ≡ filter (λ e. is_online e.0) (with_keys rs) ++ (key_of r, r) ∷ []
+    → filter (λ e. is_online e.0) (with_keys (rs ++ r ∷ [])) ≡ filter (λ e. is_online e.0) (with_keys rs)
+    ++ (key_of r, r) ∷ []
 online_more rs r is = one_more (λ e. is_online e.0) true rs r is
 
 pub others_same : (rs : List Rec) (r : Rec) → is_online (key_of r) ≡ true
@@ -108,7 +118,8 @@ others_same rs r is = one_more (λ e. not (is_online e.0)) false rs r (ap not is
 
 -- or to the others
 pub others_more : (rs : List Rec) (r : Rec) → is_online (key_of r) ≡ false
-    → filter (λ e. not (is_online e.0)) (with_keys (rs ++ r ∷ [])) ≡ filter (λ e. not (is_online e.0)) (with_keys rs) ++ (key_of r, r) ∷ []
+    → filter (λ e. not (is_online e.0)) (with_keys (rs ++ r ∷ [])) ≡ filter (λ e. not (is_online e.0)) (with_keys rs)
+    ++ (key_of r, r) ∷ []
 others_more rs r is = one_more (λ e. not (is_online e.0)) true rs r (ap not is)
 
 pub online_same : (rs : List Rec) (r : Rec) → is_online (key_of r) ≡ false

@@ -18,10 +18,12 @@ found_are_of : (m : Configuration) (es : List (Key × Rec)) → T (is_sorted key
 found_are_of m [] up is = tt
 found_are_of m (e ∷ es) up is = (
   is e.0 e.1 (found_first key_cmp keys_total keys_exact e es),
-  found_are_of m es (second_holds _ _ up) (λ k r h. is k r (found_later key_cmp keys_total keys_exact k e es r (first_holds _ _ up) h)),
+  found_are_of m es (second_holds _ _ up)
+      (λ k r h. is k r (found_later key_cmp keys_total keys_exact k e es r (first_holds _ _ up) h)),
 )
 
-kept : (m : Configuration) (e : Key × Rec) (es : List (Key × Rec)) (b : Bool) → get m e.0 ≡ Some e.1 → AreOf m es → AreOf m (cond b (e ∷ es) es)
+kept : (m : Configuration) (e : Key × Rec) (es : List (Key × Rec)) (b : Bool) → get m e.0 ≡ Some e.1 → AreOf m es
+    → AreOf m (cond b (e ∷ es) es)
 kept m e es true here rest = (here, rest)
 kept m e es false here rest = rest
 
@@ -32,4 +34,5 @@ from_key m k (e ∷ es) of = kept m e (rows_from key_cmp k es) (is_le (key_cmp k
 
 -- the rows of a configuration from a key on
 pub walked_are_of : (m : Configuration) (k : Key) → AreOf m (rows_from key_cmp k (entries m))
-walked_are_of m k = from_key m k (entries m) (found_are_of m (entries m) (entries_sorted m) (λ q r h. get-entries m q ∙ h))
+walked_are_of m k = from_key m k (entries m)
+    (found_are_of m (entries m) (entries_sorted m) (λ q r h. get-entries m q ∙ h))

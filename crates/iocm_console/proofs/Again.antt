@@ -26,23 +26,28 @@ abbrev read_of : List ℕ → Result Configuration Fault
 read_of bytes = cards_of bytes >>= configuration_in
 
 by_records : (cards : Result (List Card) Fault)
-    → ((cards >>= statements_of) >>= parsed >>= deck_records >>= λ records. Ok (configuration_of records)) ≡ (cards >>= configuration_in)
+    → ((cards >>= statements_of) >>= parsed >>= deck_records >>= λ records. Ok (configuration_of records))
+    ≡ (cards >>= configuration_in)
 by_records (Ok cards) = refl
 by_records (Err fault) = refl
 
 read_again : (bytes : List ℕ) (c : Configuration) → read_of bytes ≡ Ok c → read_of (canonical_deck c) ≡ Ok c
-read_again bytes c is = sym (by_records (cards_of (canonical_deck c))) ∙ configuration_is_read_again bytes c (by_records (cards_of bytes) ∙ is)
+read_again bytes c is = sym (by_records (cards_of (canonical_deck c)))
+    ∙ configuration_is_read_again bytes c (by_records (cards_of bytes) ∙ is)
 
 pub prints_the_same : PrintsTheSame
 prints_the_same bytes done command = by (read_of bytes) refl done
   where
     accepted : (c : Configuration) (breach : Option Breach) → read_of bytes ≡ Ok c → first_breach c (opening c) ≡ breach
         → (unless_breached breach (canonical_done c)).status ≡ Done
-        → read_or_refused (opened_by command) (read_of (unless_breached breach (canonical_done c)).text) ≡ read_or_refused (opened_by command) (read_of bytes)
+        → read_or_refused (opened_by command) (read_of (unless_breached breach (canonical_done c)).text)
+        ≡ read_or_refused (opened_by command) (read_of bytes)
     accepted c (Some b) is breached done = cc
     accepted c None is kept done = ap (read_or_refused (opened_by command)) (read_again bytes c is ∙ sym is)
 
-    by : (read : Result Configuration Fault) → read_of bytes ≡ read → (read_or_refused (opened_by Write) read).status ≡ Done
-        → read_or_refused (opened_by command) (read_of (read_or_refused (opened_by Write) read).text) ≡ read_or_refused (opened_by command) (read_of bytes)
+    by : (read : Result Configuration Fault) → read_of bytes ≡ read
+        → (read_or_refused (opened_by Write) read).status ≡ Done
+        → read_or_refused (opened_by command) (read_of (read_or_refused (opened_by Write) read).text)
+        ≡ read_or_refused (opened_by command) (read_of bytes)
     by (Err fault) is done = cc
     by (Ok c) is done = accepted c (first_breach c (opening c)) is refl done

@@ -26,7 +26,8 @@ number_in (Device set number) = number
 number_in _ = 0
 
 -- a device that is found has the number that was asked for
-own_number : (m : Configuration) → IsKeyed m → (set number : ℕ) (d : DeviceRecord) → device_record (lookup_of m) set number ≡ Some d → d.number ≡ number
+own_number : (m : Configuration) → IsKeyed m → (set number : ℕ) (d : DeviceRecord)
+    → device_record (lookup_of m) set number ≡ Some d → d.number ≡ number
 own_number m keyed set number d is = by (get m (Device set number)) refl is
   where
     by : (o : Option Rec) → get m (Device set number) ≡ o → option_and_then as_device o ≡ Some d → d.number ≡ number
@@ -39,7 +40,8 @@ own_number m keyed set number d is = by (get m (Device set number)) refl is
     by (Some (unit x)) at is = cc
     by (Some (device r)) at is =
         let same : r ≡ d = cc in
-        sym (ap (λ (x : DeviceRecord). x.number) same) ∙ ap number_in (keyed_own m keyed (Device set number) (device r) at)
+        sym (ap (λ (x : DeviceRecord). x.number) same)
+        ∙ ap number_in (keyed_own m keyed (Device set number) (device r) at)
     by (Some (online x)) at is = cc
 
 module _ (c : Lookup) (css : ℕ) (name : List ℕ) where
@@ -47,16 +49,24 @@ module _ (c : Lookup) (css : ℕ) (name : List ℕ) where
   abbrev view_by : ℕ → List ℕ × Option (List (List ℕ)) → Option View
   view_by number by =
       cond (is_candidate name by.1 && list_any (reaches c css name) (path_list c css by.0))
-      (Some (record { device = number; paths = view_paths c css by.0; pim = installed c css name (view_paths c css by.0); pam = available c css name (view_paths c css by.0) }))
+      (Some (record {
+        device = number;
+        paths = view_paths c css by.0;
+        pim = installed c css name (view_paths c css by.0);
+        pam = available c css name (view_paths c css by.0);
+      }))
       None
 
-  other_number : (t : Bool) (b : ℕ) (v : View) → cond t (Some (with_device b v)) None ≡ option_map (with_device b) (cond t (Some v) None)
+  other_number : (t : Bool) (b : ℕ) (v : View)
+      → cond t (Some (with_device b v)) None ≡ option_map (with_device b) (cond t (Some v) None)
   other_number true b v = refl
   other_number false b v = refl
 
   -- of two devices that are alike the image sees both or neither, and both in the same way
-  seen_alike : (o p : Option DeviceRecord) (b : ℕ) → option_map seen_by o ≡ option_map seen_by p → ((d : DeviceRecord) → p ≡ Some d → d.number ≡ b)
-      → option_and_then (view_if_seen c css name) p ≡ option_map (with_device b) (option_and_then (view_if_seen c css name) o)
+  seen_alike : (o p : Option DeviceRecord) (b : ℕ) → option_map seen_by o ≡ option_map seen_by p
+      → ((d : DeviceRecord) → p ≡ Some d → d.number ≡ b)
+      → option_and_then (view_if_seen c css name) p
+      ≡ option_map (with_device b) (option_and_then (view_if_seen c css name) o)
   seen_alike None None b same own = refl
   seen_alike None (Some e) b same own = cc
   seen_alike (Some d) None b same own = cc
@@ -68,11 +78,14 @@ module _ (c : Lookup) (css : ℕ) (name : List ℕ) where
 pub alike_view : (m : Configuration) (i : ImageRecord) (set a b : ℕ) → IsKeyed m → AreAlike (lookup_of m) set a b
     → image_view (lookup_of m) i set b ≡ option_map (with_device b) (image_view (lookup_of m) i set a)
 alike_view m i set a b keyed alike =
-    seen_alike (lookup_of m) i.css i.name (device_record (lookup_of m) set a) (device_record (lookup_of m) set b) b alike (own_number m keyed set b)
+    seen_alike (lookup_of m) i.css i.name (device_record (lookup_of m) set a) (device_record (lookup_of m) set b) b
+    alike (own_number m keyed set b)
 
 -- the view of a device that is asked for is of that device
-pub own_view : (m : Configuration) (i : ImageRecord) (set number : ℕ) (v : View) → IsKeyed m → image_view (lookup_of m) i set number ≡ Some v → v.device ≡ number
+pub own_view : (m : Configuration) (i : ImageRecord) (set number : ℕ) (v : View) → IsKeyed m
+    → image_view (lookup_of m) i set number ≡ Some v → v.device ≡ number
 own_view m i set number v keyed is =
-    let twice : Some v ≡ option_map (with_device number) (Some v) = sym is ∙ alike_view m i set number number keyed refl ∙ ap (option_map (with_device number)) is in
+    let twice : Some v ≡ option_map (with_device number) (Some v) =
+    sym is ∙ alike_view m i set number number keyed refl ∙ ap (option_map (with_device number)) is in
     let same : v ≡ with_device number v = cc in
     ap (λ (w : View). w.device) same

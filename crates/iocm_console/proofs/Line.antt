@@ -18,10 +18,13 @@ hex4_pairs n small =
     hex4_digits n small ∙ (λ i. glyph (first i) ∷ glyph (n / 256 % 16) ∷ glyph (third i) ∷ glyph (fourth i) ∷ [])
 
 -- the numbers of a line in their places, and then the paths
-pub line_by_places : (s : SubId) (v : View) → s.image.css < 16 → s.image.mif < 16 → s.set < 16 → s.number < 65536 → v.device < 65536 → v.pim < 256 → v.pam < 256
+pub line_by_places : (s : SubId) (v : View) → s.image.css < 16 → s.image.mif < 16 → s.set < 16 → s.number < 65536
+    → v.device < 65536 → v.pim < 256 → v.pam < 256
     → glyph s.image.css ∷ 32 ∷ 32 ∷ 32 ∷ glyph s.image.mif ∷ 32 ∷ 32 ∷ glyph s.set ∷ 32 ∷ 32 ∷ 32
-    ∷ glyph (s.number / 256 / 16) ∷ glyph (s.number / 256 % 16) ∷ glyph (s.number % 256 / 16) ∷ glyph (s.number % 256 % 16) ∷ 32
-    ∷ glyph (v.device / 256 / 16) ∷ glyph (v.device / 256 % 16) ∷ glyph (v.device % 256 / 16) ∷ glyph (v.device % 256 % 16) ∷ 32
+    ∷ glyph (s.number / 256 / 16) ∷ glyph (s.number / 256 % 16) ∷ glyph (s.number % 256 / 16)
+    ∷ glyph (s.number % 256 % 16) ∷ 32
+    ∷ glyph (v.device / 256 / 16) ∷ glyph (v.device / 256 % 16) ∷ glyph (v.device % 256 / 16)
+    ∷ glyph (v.device % 256 % 16) ∷ 32
     ∷ glyph (v.pim / 16) ∷ glyph (v.pim % 16) ∷ 32 ∷ 32 ∷ glyph (v.pam / 16) ∷ glyph (v.pam % 16) ∷ 32 ∷ chpids v.paths
     ≡ line_of (s, v)
 line_by_places s v css mif set number device pim pam =
@@ -36,10 +39,14 @@ line_by_places s v css mif set number device pim pam =
     ) refl
 
 -- a line with another subchannel number and another device number
-pub other_numbers : (s : SubId) (v : View) (number device : ℕ) → s.image.css < 16 → s.image.mif < 16 → s.set < 16 → s.number < 65536 → v.device < 65536
+pub other_numbers : (s : SubId) (v : View) (number device : ℕ) → s.image.css < 16 → s.image.mif < 16 → s.set < 16
+    → s.number < 65536 → v.device < 65536
     → number < 65536 → device < 65536
     → with_numbers number device (line_of (s, v) ++ 10 ∷ [])
-    ≡ line_of (record { image = s.image; set = s.set; number = number }, record { device = device; paths = v.paths; pim = v.pim; pam = v.pam }) ++ 10 ∷ []
+    ≡ line_of (
+      record { image = s.image; set = s.set; number = number },
+      record { device = device; paths = v.paths; pim = v.pim; pam = v.pam },
+    ) ++ 10 ∷ []
 other_numbers s v number device css mif set old_number old_device new_number new_device =
     rw (
       left3_digits s.image.css css,
@@ -52,7 +59,8 @@ other_numbers s v number device css mif set old_number old_device new_number new
     ) refl
 
 -- a line reaches beyond its numbers
-pub line_is_long : (s : SubId) (v : View) → s.image.css < 16 → s.image.mif < 16 → s.set < 16 → s.number < 65536 → v.device < 65536
+pub line_is_long : (s : SubId) (v : View) → s.image.css < 16 → s.image.mif < 16 → s.set < 16 → s.number < 65536
+    → v.device < 65536
     → 20 ≤ length (line_of (s, v) ++ 10 ∷ [])
 line_is_long s v css mif set number device =
     rw (
@@ -73,4 +81,6 @@ two_by_places number device small low = rw (hex4_pairs number small, hex4_pairs 
 -- a blank and the two digits of a path, put at the end one after the other
 pub path_by_places : (xs : List ℕ) (path : ℕ) → path < 256
     → ((xs ++ 32 ∷ []) ++ glyph (path / 16) ∷ []) ++ glyph (path % 16) ∷ [] ≡ xs ++ chpids (path ∷ [])
-path_by_places xs path small = rw (hex2_digits path small) (append_assoc (xs ++ 32 ∷ []) (glyph (path / 16) ∷ []) (glyph (path % 16) ∷ []) ∙ append_assoc xs (32 ∷ []) _)
+path_by_places xs path small =
+    rw (hex2_digits path small)
+    (append_assoc (xs ++ 32 ∷ []) (glyph (path / 16) ∷ []) (glyph (path % 16) ∷ []) ∙ append_assoc xs (32 ∷ []) _)

@@ -17,7 +17,8 @@ module _ {W : Type 0} (contents : W → Option (List ℕ)) (old new : Output W) 
   -- what was said, or that memory is wanted, under another name
   pub says_named : (result : Result Status ConsoleError) (said named : Shown) → named ≡ said
       → IfOk result (SaysIfMemory contents old new said) → IfOk result (SaysIfMemory contents old new named)
-  says_named (Ok status) said named same says = subst (λ what. SaysIfMemory contents old new what status) (sym same) says
+  says_named (Ok status) said named same says =
+      subst (λ what. SaysIfMemory contents old new what status) (sym same) says
   says_named (Err e) said named same says = tt
 
   -- what was said alone

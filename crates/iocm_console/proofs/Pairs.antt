@@ -14,7 +14,8 @@ first_digit (suc k) n zero within = ap (λ m. glyph (m / 16)) (omega arith)
 first_digit (suc k) n (suc i) within =
     let place : 2 * suc i ≡ suc (suc (2 * i)) = omega arith in
     let number : n + 1 + i ≡ n + suc i = omega arith in
-    ap (λ j. get_or (pairs_from (suc k) n) j 0) place ∙ first_digit k (n + 1) i (omega arith) ∙ ap (λ m. glyph (m / 16)) number
+    ap (λ j. get_or (pairs_from (suc k) n) j 0) place ∙ first_digit k (n + 1) i (omega arith)
+    ∙ ap (λ m. glyph (m / 16)) number
 
 second_digit : (k n i : ℕ) → i < k → get_or (pairs_from k n) (2 * i + 1) 0 ≡ glyph ((n + i) % 16)
 second_digit zero n i within = absurd (omega arith)
@@ -22,7 +23,8 @@ second_digit (suc k) n zero within = ap (λ m. glyph (m % 16)) (omega arith)
 second_digit (suc k) n (suc i) within =
     let place : 2 * suc i + 1 ≡ suc (suc (2 * i + 1)) = omega arith in
     let number : n + 1 + i ≡ n + suc i = omega arith in
-    ap (λ j. get_or (pairs_from (suc k) n) j 0) place ∙ second_digit k (n + 1) i (omega arith) ∙ ap (λ m. glyph (m % 16)) number
+    ap (λ j. get_or (pairs_from (suc k) n) j 0) place ∙ second_digit k (n + 1) i (omega arith)
+    ∙ ap (λ m. glyph (m % 16)) number
 
 pairs_are : PAIRS ≡ pairs_from 256 0
 pairs_are = refl

@@ -4,7 +4,8 @@ use Rattle.std.proofs.lemmas.List.{append-nil, append_assoc}
 use Rattle.std.specs.Io.KnownBytes.{Appends}
 
 -- two texts, one after the other, are one
-pub appends_then : (old mid new : Option (List ℕ)) (a b : List ℕ) → Appends old mid a → Appends mid new b → Appends old new (a ++ b)
+pub appends_then : (old mid new : Option (List ℕ)) (a b : List ℕ) → Appends old mid a → Appends mid new b
+    → Appends old new (a ++ b)
 appends_then None mid new a b h k = tt
 appends_then (Some xs) None new a b h k = elim h [ ]
 appends_then (Some xs) (Some ys) None a b h k = elim k [ ]

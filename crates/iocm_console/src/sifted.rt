@@ -46,7 +46,8 @@ fn write_sifted_rows<A: Allocator, W: Write + Drop>(
     cells: &[CellDevice],
 ) -> Result<(), ConsoleError>
     ensures text { OnOk result (Prints W.contents output.old output.new
-        (sifted_record_lines sieve.now (lookup_of config.now.records) (celled cells.now) (records_of config.now.records))) }
+        (sifted_record_lines sieve.now (lookup_of config.now.records) (celled cells.now)
+        (records_of config.now.records))) }
     ensures works { OnOk result (has_failed output.new ≡ has_failed output.old) }
     ensures fault { IfErr result (FailedToWrite output.new) }
 {

@@ -1,5 +1,6 @@
 -- A change that is accepted.
-use Rattle.std.proofs.Common.{◌≡◌, ℕ, ◌+◌, ◌-◌, length, Some, None, List, [], ◌∷◌, ◌++◌, refl, sym, ap, subst, ◌∙◌, arith}
+use Rattle.std.proofs.Common.{◌≡◌, ℕ, ◌+◌, ◌-◌, length, Some, None, List, [], ◌∷◌, ◌++◌, refl, sym, ap, subst, ◌∙◌}
+use Rattle.std.proofs.Common.{arith}
 use Rattle.std.specs.Option.{option_map_or}
 use Rattle.std.specs.List.{slice_get}
 use Rattle.iocm_types.specs.declared.answer.Answer.TheVariants as answers
@@ -53,8 +54,10 @@ module _ (opening : State) (h : History) (m n : Installation) (it : IsInstallati
       ∙ told_newest m.changes.items done.effect number (ap (λ k. k + 1) (sym it.journal.effects)) ∙ told.effect in
       λ z. record { call = call; answer = answers.Changed (number_is z); effect = effect z }
 
-  pub accepted_now : IsRight opening h e → change_at ((journal_of h).count + 1) (marked_entries opening (e ∷ h)) ≡ Some c → n.stage ≡ None
-      → stage_of opening (e ∷ h) ≡ None → n.plant.state ≡ state_at opening (e ∷ h) → IsAnswered opening h call (answers.Changed number) n
+  pub accepted_now : IsRight opening h e
+      → change_at ((journal_of h).count + 1) (marked_entries opening (e ∷ h)) ≡ Some c → n.stage ≡ None
+      → stage_of opening (e ∷ h) ≡ None → n.plant.state ≡ state_at opening (e ∷ h)
+      → IsAnswered opening h call (answers.Changed number) n
   accepted_now right there none idle state = record {
     right = subst (IsRight opening h) (sym entry_is) right;
     is = subst (λ z. IsInstallationOf opening (z ∷ h) n) (sym entry_is) (record {

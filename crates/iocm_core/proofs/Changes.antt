@@ -71,7 +71,8 @@ activation_answered opening h m n t k it none a =
     let e = activation t number c in
     let means : meaning t (state_at opening h) ≡ Ok a.performed = sym (ap (meaning t) i.state) ∙ a.means in
     let e_is : e ≡ activated t number (state_at opening h) (meaning t (state_at opening h))
-    = (λ z. activated t number (i.state z) (Ok a.performed)) ∙ sym (ap (activated t number (state_at opening h)) means) in
+    = (λ z. activated t number (i.state z) (Ok a.performed))
+    ∙ sym (ap (activated t number (state_at opening h)) means) in
     let right = activated_right opening h t e i.none e_is refl in
     let there : change_at number (marked_entries opening (e ∷ h)) ≡ Some c
     = activations_are_there opening h t (effect_of_change c) it.journal.used it.journal.legal
@@ -88,7 +89,8 @@ activation_answered opening h m n t k it none a =
 -- a refused activation or beginning is right
 refused_activation : (opening : State) (h : History) (t : ChangeTree) (why : Refused) (o : Outcome)
     → stage_of opening h ≡ None → meaning t (state_at opening h) ≡ o
-    → limit_refusal t ≡ None → IsDue (refusal_in o) why → IsRight opening h (plain_entry (activate t) (answers.Refused why))
+    → limit_refusal t ≡ None → IsDue (refusal_in o) why
+    → IsRight opening h (plain_entry (activate t) (answers.Refused why))
 refused_activation opening h t why (Ok r) idle is within (inl due) = cc
 refused_activation opening h t why (Err other) idle is within (inl due) =
     activated_right opening h t (plain_entry (activate t) (answers.Refused why)) idle
@@ -96,7 +98,8 @@ refused_activation opening h t why (Err other) idle is within (inl due) =
     ap (λ w. plain_entry (activate t) (answers.Refused w)) (sym same)
     ∙ sym (ap (activated t ((journal_of h).count + 1) (state_at opening h)) is)) refl
 refused_activation opening h t why o idle is within (inr lack) =
-    subst (λ w. IsRight opening h (plain_entry (activate t) (answers.Refused w))) (sym lack) (activate_lacks opening h t idle within)
+    subst (λ w. IsRight opening h (plain_entry (activate t) (answers.Refused w))) (sym lack)
+    (activate_lacks opening h t idle within)
 
 pub activation_refused : (opening : State) (h : History) (m : Installation) (t : ChangeTree) (why : Refused)
     → IsInstallationOf opening h m → m.stage ≡ None
@@ -109,13 +112,16 @@ activation_refused opening h m t why it none within due =
 
 refused_beginning : (opening : State) (h : History) (t : ChangeTree) (why : Refused) (o : Outcome)
     → stage_of opening h ≡ None → meaning t (state_at opening h) ≡ o
-    → limit_refusal t ≡ None → IsDue (refusal_in o) why → IsRight opening h (plain_entry (begin t) (answers.Refused why))
+    → limit_refusal t ≡ None → IsDue (refusal_in o) why
+    → IsRight opening h (plain_entry (begin t) (answers.Refused why))
 refused_beginning opening h t why (Ok r) idle is within (inl due) = cc
 refused_beginning opening h t why (Err other) idle is within (inl due) =
     begun_right opening h t (plain_entry (begin t) (answers.Refused why)) idle
-    (let same : other ≡ why = cc in ap (λ w. plain_entry (begin t) (answers.Refused w)) (sym same) ∙ sym (ap (begun t) is)) refl
+    (let same : other ≡ why = cc in ap (λ w. plain_entry (begin t) (answers.Refused w)) (sym same)
+    ∙ sym (ap (begun t) is)) refl
 refused_beginning opening h t why o idle is within (inr lack) =
-    subst (λ w. IsRight opening h (plain_entry (begin t) (answers.Refused w))) (sym lack) (begin_lacks opening h t idle within)
+    subst (λ w. IsRight opening h (plain_entry (begin t) (answers.Refused w))) (sym lack)
+    (begin_lacks opening h t idle within)
 
 pub beginning_refused : (opening : State) (h : History) (m : Installation) (t : ChangeTree) (why : Refused)
     → IsInstallationOf opening h m → m.stage ≡ None
@@ -129,7 +135,8 @@ beginning_refused opening h m t why it none within due =
 -- a tree that is over a limit is refused for that
 pub activation_over_a_limit : (opening : State) (h : History) (m : Installation) (t : ChangeTree) (why : Refused)
     → IsInstallationOf opening h m → m.stage ≡ None
-    → ((s : State) → meaning t s ≡ meaning_unless (Some why) t s) → IsRight opening h (plain_entry (activate t) (answers.Refused why))
+    → ((s : State) → meaning t s ≡ meaning_unless (Some why) t s)
+    → IsRight opening h (plain_entry (activate t) (answers.Refused why))
 activation_over_a_limit opening h m t why it none means =
     let i = idle opening h m it none in
     activated_right opening h t (plain_entry (activate t) (answers.Refused why)) i.none
@@ -137,10 +144,12 @@ activation_over_a_limit opening h m t why it none means =
 
 pub beginning_over_a_limit : (opening : State) (h : History) (m : Installation) (t : ChangeTree) (why : Refused)
     → IsInstallationOf opening h m → m.stage ≡ None
-    → ((s : State) → meaning t s ≡ meaning_unless (Some why) t s) → IsRight opening h (plain_entry (begin t) (answers.Refused why))
+    → ((s : State) → meaning t s ≡ meaning_unless (Some why) t s)
+    → IsRight opening h (plain_entry (begin t) (answers.Refused why))
 beginning_over_a_limit opening h m t why it none means =
     let i = idle opening h m it none in
-    begun_right opening h t (plain_entry (begin t) (answers.Refused why)) i.none (sym (ap (begun t) (means (state_at opening h)))) refl
+    begun_right opening h t (plain_entry (begin t) (answers.Refused why)) i.none
+    (sym (ap (begun t) (means (state_at opening h)))) refl
 
 -- ---- a beginning
 
@@ -180,7 +189,8 @@ pub advance_answered : OtherEntriesLeaveIt → (opening : State) (h : History) (
     (k : ℕ) → IsInstallationOf opening h m → m.stage ≡ Some g
     → ((t : Stage) (s : State) → IsStageOf g t s m.plant → IsStageOf new (once_more t) s n.plant)
     → ((t : Stage) (s : State) → IsStageOf g t s m.plant → k ≡ left_of (once_more t))
-    → n.stage ≡ Some new → n.journal ≡ m.journal → n.changes ≡ m.changes → IsAnswered opening h advance (answers.Left k) n
+    → n.stage ≡ Some new → n.journal ≡ m.journal → n.changes ≡ m.changes
+    → IsAnswered opening h advance (answers.Left k) n
 advance_answered others opening h m n g new k it was moves left staged journal changes =
     let s = staging opening h m g it was in
     let e = plain_entry advance (answers.Left k) in
@@ -194,7 +204,8 @@ advance_answered others opening h m n g new k it was moves left staged journal c
         journal = subst (λ j. IsJournalOf opening (e ∷ h) j n.changes.items) (sym journal)
             (subst (λ (fs : _). IsJournalOf opening (e ∷ h) m.journal fs.items) (sym changes)
             (others opening h e m.journal m.changes.items it.journal right tt));
-        stage = subst (λ o. IsStagedAs o n.stage (state_at opening (e ∷ h)) n.plant) (sym (advanced_stage opening h s.stage k s.there))
+        stage = subst (λ o. IsStagedAs o n.stage (state_at opening (e ∷ h)) n.plant)
+            (sym (advanced_stage opening h s.stage k s.there))
             (subst (λ z. IsStagedAs (Some (once_more s.stage)) n.stage z n.plant) (sym state)
             (subst (λ o. IsStagedAs (Some (once_more s.stage)) o (state_at opening h) n.plant) (sym staged)
             (moves s.stage (state_at opening h) s.is)));
@@ -214,11 +225,16 @@ pub commit_answered : (opening : State) (h : History) (m n : Installation) (g : 
     → IsInstallationOf opening h m → m.stage ≡ Some g
     → ((t : Stage) (s : State) → IsStageOf g t s m.plant → n.plant.state ≡ state_after_all t.change.edits s)
     → ((t : Stage) (s : State) → IsStageOf g t s m.plant → Tells done t.change)
-    → AcceptsOne done m n → k ≡ length m.journal.changes + 1 → n.stage ≡ None → IsAnswered opening h commit (answers.Changed k) n
+    → AcceptsOne done m n → k ≡ length m.journal.changes + 1 → n.stage ≡ None
+    → IsAnswered opening h commit (answers.Changed k) n
 commit_answered opening h m n g done k it was state tells accepts number none =
     let s = staging opening h m g it was in
     let c = s.stage.change in
-    let e : Entry = record { call = commit; answer = answers.Changed ((journal_of h).count + 1); effect = effect_of_change c } in
+    let e : Entry = record {
+      call = commit;
+      answer = answers.Changed ((journal_of h).count + 1);
+      effect = effect_of_change c;
+    } in
     let right = commit_right opening h s.stage e s.there refl in
     subst (λ j. IsAnswered opening h commit (answers.Changed j) n) (sym number)
     (accepted_now opening h m n it commit done c (tells s.stage (state_at opening h) s.is) accepts right
@@ -284,7 +300,8 @@ module _ (t : ChangeTree) (m r n : Installation) (plant : r.plant ≡ m.plant) (
           accepts = record {
             changes = accepts.changes ∙ ap (λ fs. fs ++ d.effect ∷ []) known;
             journal = record {
-              changes = accepts.journal.changes ∙ ap (λ ks. ks ++ newly_kept d.inverse d.performed ∷ []) same_journal.changes;
+              changes = accepts.journal.changes
+                  ∙ ap (λ ks. ks ++ newly_kept d.inverse d.performed ∷ []) same_journal.changes;
               standing = accepts.journal.standing ∙ ap (λ s. s + 1) same_journal.standing;
               undone = accepts.journal.undone;
               takes_in = λ opening h fs e f i a. accepts.journal.takes_in opening h fs e f
@@ -316,7 +333,8 @@ module _ (t : ChangeTree) (m r n : Installation) (plant : r.plant ≡ m.plant) (
             ∙ none_less (length (change_of tried r.plant.state).edits) ∙ ap (λ (c : Change). length c.edits) change;
         staged = g;
         stage = stage;
-        is = subst (λ q. IsStageOf g (just_begun (change_from (edits_of tried) m.plant.state)) m.plant.state q) (sym after)
+        is = subst (λ q. IsStageOf g (just_begun (change_from (edits_of tried) m.plant.state)) m.plant.state q)
+            (sym after)
             (subst (λ z. IsStageOf g (just_begun (change_from (edits_of tried) z)) z p) same
             (subst (λ c. IsStageOf g (just_begun c) r.plant.state p) change staged));
         rest = record {

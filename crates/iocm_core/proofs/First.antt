@@ -13,6 +13,7 @@ pub nothing_asked : (s : State) (m : Installation) → IsInUse s → IsJournalOf
 unfolding account
 nothing_asked s m used journal changes none state = record {
   journal = subst (IsJournalOf s [] m.journal) (sym changes) journal;
-  stage = subst (λ g. IsStagedAs (stage_of s []) g (state_at s []) m.plant) (sym none) (state ∙ sym (state_of_store s used.sound));
+  stage = subst (λ g. IsStagedAs (stage_of s []) g (state_at s []) m.plant) (sym none)
+      (state ∙ sym (state_of_store s used.sound));
   room = subst (λ g. HasRoomFor g m) (sym none) tt;
 }

@@ -4,7 +4,8 @@ use Rattle.iocm_types.specs.declared.answer.Answer.TheVariants as answers
 use Rattle.iocm_types.specs.declared.answer.Counts.{Counts}
 use Rattle.iocm_types.specs.declared.refused.Refused.{Refused}
 use Rattle.iocm_model.specs.Operation.State.{State}
-use Rattle.iocm_history.specs.Entry.{Call, at, activate, begin, advance, commit, abort, undo, redo, show, Entry, History, plain_entry}
+use Rattle.iocm_history.specs.Entry.{Call, at, activate, begin, advance, commit, abort, undo, redo, show, Entry}
+use Rattle.iocm_history.specs.Entry.{History, plain_entry}
 use Rattle.iocm_history.specs.Account.{account, state_at, stage_of}
 use Rattle.iocm_history.specs.HistoryLaws.{LeavesTheState}
 use Rattle.iocm_history.specs.Legal.{IsRight}

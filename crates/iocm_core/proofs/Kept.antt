@@ -66,7 +66,8 @@ idle_by : (opening : State) (h : History) (p : Operating) (t : Option Stage) →
 idle_by opening h p None is state = record { none = is; state = state }
 idle_by opening h p (Some t) is state = absurd state
 
-pub idle : (opening : State) (h : History) (m : Installation) → IsInstallationOf opening h m → m.stage ≡ None → Idle opening h m.plant
+pub idle : (opening : State) (h : History) (m : Installation) → IsInstallationOf opening h m → m.stage ≡ None
+    → Idle opening h m.plant
 idle opening h m it is =
     idle_by opening h m.plant (stage_of opening h) refl
     (subst (λ o. IsStagedAs (stage_of opening h) o (state_at opening h) m.plant) is it.stage)
@@ -79,7 +80,8 @@ now_by (Some t) (Some g) s p staged = staged.along.state
 now_by None (Some g) s p staged = absurd staged
 now_by (Some t) None s p staged = absurd staged
 
-pub state_now : (opening : State) (h : History) (m : Installation) → IsInstallationOf opening h m → m.plant.state ≡ machine_at opening h
+pub state_now : (opening : State) (h : History) (m : Installation) → IsInstallationOf opening h m
+    → m.plant.state ≡ machine_at opening h
 state_now opening h m it = now_by (stage_of opening h) m.stage (state_at opening h) m.plant it.stage
 
 -- by whether something is staged
@@ -96,7 +98,8 @@ staged_if_by opening h None (Some g) s p there is some = absurd is
 
 pub staged_if : (opening : State) (h : History) (m : Installation) → IsInstallationOf opening h m
     → true ≡ is_some m.stage → (t : Stage) × (stage_of opening h ≡ Some t)
-staged_if opening h m it some = staged_if_by opening h (stage_of opening h) m.stage (state_at opening h) m.plant refl it.stage some
+staged_if opening h m it some =
+    staged_if_by opening h (stage_of opening h) m.stage (state_at opening h) m.plant refl it.stage some
 
 pub is_staged : (m : Installation) (g : Staged) → IsRunning m → m.stage ≡ Some g → IsStaged g m.plant
 is_staged m g r is = let s = staging r.opening r.history m g r.is is in
@@ -111,7 +114,8 @@ staged_or_none m r (Some g) is = is_staged m g r is
 pub rules_kept : (m : Installation) → IsRunning m → m.stage ≡ None → KeepsTheRules m.plant.state
 rules_kept m r none =
     let i = idle r.opening r.history m r.is none in
-    subst KeepsTheRules (sym i.state) (states_stay_in_use r.opening r.history r.is.journal.used r.is.journal.legal).rules
+    subst KeepsTheRules (sym i.state)
+    (states_stay_in_use r.opening r.history r.is.journal.used r.is.journal.legal).rules
 
 -- as many are undone
 pub undone_count : (opening : State) (h : History) (j : Journaled) (fs : List Effect) → IsJournalOf opening h j fs
@@ -140,7 +144,8 @@ kept_idle as_before opening h m n it was none same rest =
 pub refuses : OtherEntriesLeaveIt → (opening : State) (h : History) (m : Installation) (call : Call) (why : Refused)
     → IsInstallationOf opening h m → IsRight opening h (plain_entry call (answers.Refused why))
     → IsAnswered opening h call (answers.Refused why) m
-refuses others opening h m call why it right = record { right = right; is = refused_now others opening h m call why it right }
+refuses others opening h m call why it right =
+    record { right = right; is = refused_now others opening h m call why it right }
 
 -- ---- what is counted
 
@@ -179,7 +184,8 @@ refuses_taken others opening h m n call why it none plant journal gone changes r
 
 pub now_of : (opening : State) (h : History) (m : Installation) → IsInstallationOf opening h m → m.stage ≡ None
     → IsNow opening h m.journal m.changes.items m.plant
-now_of opening h m it none = let i = idle opening h m it none in record { journal = it.journal; idle = i.none; state = i.state }
+now_of opening h m it none = let i = idle opening h m it none in
+    record { journal = it.journal; idle = i.none; state = i.state }
 
 pub together : (m : Installation) → IsRunning m → m.stage ≡ None → BelongTogether m.journal m.changes.items m.plant
 together m r none = record { opening = r.opening; history = r.history; now = now_of r.opening r.history m r.is none }
@@ -193,16 +199,21 @@ next_answered opening h call answer n next none told =
       right = subst (IsRight opening h) (sym e) next.right;
       is = subst (λ z. IsInstallationOf opening (z ∷ h) n) (sym e) (record {
         journal = next.now.journal;
-        stage = subst (λ g. IsStagedAs g n.stage (state_at opening (plain_entry call answer ∷ h)) n.plant) (sym next.now.idle)
-            (subst (λ g. IsStagedAs None g (state_at opening (plain_entry call answer ∷ h)) n.plant) (sym none) next.now.state);
+        stage = subst (λ g. IsStagedAs g n.stage (state_at opening (plain_entry call answer ∷ h)) n.plant)
+            (sym next.now.idle)
+            (subst (λ g. IsStagedAs None g (state_at opening (plain_entry call answer ∷ h)) n.plant) (sym none)
+            next.now.state);
         room = subst (λ g. HasRoomFor g n) (sym none) tt;
       });
     }
 
 -- an undo or a redo by the journal is answered as the journal goes on
-pub journal_answered : {opening : State} {h : History} {m : Installation} (it : IsInstallationOf opening h m) (none : m.stage ≡ None)
+pub journal_answered : {opening : State} {h : History} {m : Installation} (it : IsInstallationOf opening h m)
+    (none : m.stage ≡ None)
     (call : Call) (answer : Answer) (j : Journaled) (p : Operating)
-    → GoOnBy (plain_entry call answer) m.changes.items m.journal m.plant j p → effect_told m.changes.items answer ≡ no_effect
+    → GoOnBy (plain_entry call answer) m.changes.items m.journal m.plant j p
+    → effect_told m.changes.items answer ≡ no_effect
     → IsAnswered opening h call answer (record m { plant = p; journal = j })
 journal_answered {opening = opening} {h = h} {m = m} it none call answer j p goes told =
-    next_answered opening h call answer (record m { plant = p; journal = j }) (goes opening h (now_of opening h m it none)) none told
+    next_answered opening h call answer (record m { plant = p; journal = j })
+    (goes opening h (now_of opening h m it none)) none told

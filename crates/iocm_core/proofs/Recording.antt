@@ -21,7 +21,8 @@ at_front (x ∷ xs) ys zero low = refl
 at_front (x ∷ xs) ys (suc n) low = at_front xs ys n (omega arith)
 
 -- what an answer tells of stays, where more is known of changes
-told_still : (fs gs : List Effect) (answer : Answer) → IsWithin (length fs) answer → effect_told (fs ++ gs) answer ≡ effect_told fs answer
+told_still : (fs gs : List Effect) (answer : Answer) → IsWithin (length fs) answer
+    → effect_told (fs ++ gs) answer ≡ effect_told fs answer
 told_still fs gs (answers.Changed n) within =
     let low = within.0 in let high = within.1 in
     ap (λ o. option_map_or effect_in o no_effect) (at_front fs gs (n - 1) (omega (arith, low, high)))
@@ -60,7 +61,8 @@ record IsMore (answer : Answer) (old new : List Effect) : Type 0 where
 
 going_on : (answer : Answer) (old new : List Effect) → GoesOnWith answer old new → IsMore answer old new
 going_on (answers.Changed n) old new goes =
-    let number = goes.1.1 in let long : length new ≡ length old + 1 = ap length goes.1.0 ∙ length-append old (goes.0 ∷ []) in
+    let number = goes.1.1 in let long : length new ≡ length old + 1 =
+    ap length goes.1.0 ∙ length-append old (goes.0 ∷ []) in
     record { more = goes.0 ∷ []; is = goes.1.0; within = (omega (arith, number), omega (arith, number, long)) }
 going_on (answers.Io io) old new same = record { more = []; is = same ∙ sym (append-nil old); within = tt }
 going_on (answers.Begun b) old new same = record { more = []; is = same ∙ sym (append-nil old); within = tt }
@@ -83,7 +85,8 @@ entries_still : (fs gs : List Effect) (es : List Entry)
     → map (entry_in (fs ++ gs)) es ≡ map (entry_in fs) es
 entries_still fs gs [] within = refl
 entries_still fs gs (e ∷ es) within =
-    (λ i. entry_with (call_in e.call) e.answer (told_still fs gs e.answer within.0 i) ∷ entries_still fs gs es within.1 i)
+    (λ i. entry_with (call_in e.call) e.answer (told_still fs gs e.answer within.0 i)
+    ∷ entries_still fs gs es within.1 i)
 
 -- the history with one entry more
 pub one_more : (old new : List Effect) (es : List Entry) (e : Entry)
@@ -100,7 +103,8 @@ all_more : (k l : ℕ) → k ≤ l → (es : List Entry) → AllByRecursion (λ 
 all_more k l more [] within = tt
 all_more k l more (e ∷ es) within = (within_more k l more e.answer within.0, all_more k l more es within.1)
 
-one_behind : (k : ℕ) (es : List Entry) (e : Entry) → AllByRecursion (λ (d : Entry). IsWithin k d.answer) es → IsWithin k e.answer
+one_behind : (k : ℕ) (es : List Entry) (e : Entry) → AllByRecursion (λ (d : Entry). IsWithin k d.answer) es
+    → IsWithin k e.answer
     → AllByRecursion (λ (d : Entry). IsWithin k d.answer) (es ++ e ∷ [])
 one_behind k [] e all one = (one, tt)
 one_behind k (d ∷ es) e all one = (all.0, one_behind k es e all.1 one)

@@ -1,5 +1,6 @@
 -- Entries that are right, by what is staged.
-use Rattle.std.proofs.Common.{◌≡◌, inl, inr, ℕ, ◌+◌, nat_lt, Bool, true, false, cond, not, ◌&&◌, is_none, Some, None, refl, sym, ap, ◌∙◌}
+use Rattle.std.proofs.Common.{◌≡◌, inl, inr, ℕ, ◌+◌, nat_lt, Bool, true, false, cond, not, ◌&&◌, is_none, Some, None}
+use Rattle.std.proofs.Common.{refl, sym, ap, ◌∙◌}
 use Rattle.std.proofs.lemmas.Bool.{and_from}
 use Rattle.iocm_types.specs.declared.answer.Answer.{Answer}
 use Rattle.iocm_types.specs.declared.answer.Answer.TheVariants as answers
@@ -14,7 +15,8 @@ use Rattle.iocm_model.specs.Change.Tree.{ChangeTree, depth_of, leaves_of, most_d
 use Rattle.iocm_model.specs.Change.Meaning.{meaning}
 use Rattle.iocm_tree.specs.Limits.{limit_refusal}
 use Rattle.iocm_history.specs.Change.{effect_of_change}
-use Rattle.iocm_history.specs.Entry.{Call, at, activate, begin, advance, commit, abort, undo, redo, show, Entry, History, plain_entry}
+use Rattle.iocm_history.specs.Entry.{Call, at, activate, begin, advance, commit, abort, undo, redo, show, Entry}
+use Rattle.iocm_history.specs.Entry.{History, plain_entry}
 use Rattle.iocm_history.specs.Account.{state_at, stage_of}
 use Rattle.iocm_history.specs.Journal.{journal_of}
 use Rattle.iocm_history.specs.Stage.{Stage, once_more, is_held, left_of}
@@ -51,15 +53,18 @@ activate_o1 opening h t p is = inl (sym (ap (λ g. unless_staged g (activate p) 
 
 pub begin_o1 : (opening : State) (h : History) (t : Stage) (p : ChangeTree) → stage_of opening h ≡ Some t
     → IsRight opening h (refused (begin p) O1)
-begin_o1 opening h t p is = inl (sym (ap (λ g. unless_staged g (begin p) (begun p (meaning p (state_at opening h)))) is))
+begin_o1 opening h t p is =
+    inl (sym (ap (λ g. unless_staged g (begin p) (begun p (meaning p (state_at opening h)))) is))
 
 pub undo_o1 : (opening : State) (h : History) (t : Stage) (n : ℕ) → stage_of opening h ≡ Some t
     → IsRight opening h (refused (undo n) O1)
-undo_o1 opening h t n is = inl (sym (ap (λ g. unless_staged g (undo n) (plain_entry (undo n) (undo_now opening h n))) is))
+undo_o1 opening h t n is =
+    inl (sym (ap (λ g. unless_staged g (undo n) (plain_entry (undo n) (undo_now opening h n))) is))
 
 pub redo_o1 : (opening : State) (h : History) (t : Stage) (n : ℕ) → stage_of opening h ≡ Some t
     → IsRight opening h (refused (redo n) O1)
-redo_o1 opening h t n is = inl (sym (ap (λ g. unless_staged g (redo n) (plain_entry (redo n) (redo_now opening h n))) is))
+redo_o1 opening h t n is =
+    inl (sym (ap (λ g. unless_staged g (redo n) (plain_entry (redo n) (redo_now opening h n))) is))
 
 pub show_o1 : (opening : State) (h : History) (t : Stage) → stage_of opening h ≡ Some t
     → IsRight opening h (refused show O1)
@@ -89,19 +94,22 @@ pub begun_right : (opening : State) (h : History) (p : ChangeTree) (e : Entry) �
     → e ≡ begun p (meaning p (state_at opening h)) → e.call ≡ begin p
     → IsRight opening h e
 begun_right opening h p e idle is call = inl (is
-    ∙ sym (ap (λ g. unless_staged g (begin p) (begun p (meaning p (state_at opening h)))) idle) ∙ sym (ap (entry_of opening h) call))
+    ∙ sym (ap (λ g. unless_staged g (begin p) (begun p (meaning p (state_at opening h)))) idle)
+    ∙ sym (ap (entry_of opening h) call))
 
 -- lack of memory, of a tree that no limit refuses
 within_limits : (t : ChangeTree) → limit_refusal t ≡ None → is_within_limits t ≡ true
 within_limits t none = by (nat_lt most_depth (depth_of t)) (nat_lt most_leaves (leaves_of t)) none
   where
-    by : (deep wide : Bool) → cond deep (Some (refusal_at C1 Nothing)) (cond wide (Some (refusal_at C2 Nothing)) None) ≡ None
+    by : (deep wide : Bool) → cond deep (Some (refusal_at C1 Nothing)) (cond wide (Some (refusal_at C2 Nothing)) None)
+        ≡ None
         → (not deep && not wide) ≡ true
     by true wide none = cc
     by false true none = cc
     by false false none = refl
 
-pub activate_lacks : (opening : State) (h : History) (t : ChangeTree) → stage_of opening h ≡ None → limit_refusal t ≡ None
+pub activate_lacks : (opening : State) (h : History) (t : ChangeTree) → stage_of opening h ≡ None
+    → limit_refusal t ≡ None
     → IsRight opening h (refused (activate t) M1)
 activate_lacks opening h t idle none = inr (and_from _ _ (ap is_none idle) (within_limits t none), refl)
 

@@ -72,7 +72,8 @@ journal_send =
     ))
 
 done_send : IsSend Done.the_row
-done_send = declared_send Done.the_type (tree_send, (effect_send, (search (touched_send, crosses, sendable) depth 20, tt)))
+done_send = declared_send Done.the_type
+    (tree_send, (effect_send, (search (touched_send, crosses, sendable) depth 20, tt)))
 
 staged_send : IsSend Staged.the_row
 staged_send =

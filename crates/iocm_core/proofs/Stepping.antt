@@ -53,13 +53,15 @@ step_stage opening h s x device_begin = refl
 step_stage opening h s x device_end = refl
 
 -- it tells of no change
-nothing_told : (fs : List Effect) (s : State) (x : SubId) (made : Step) → effect_told fs (answer_in s x made) ≡ no_effect
+nothing_told : (fs : List Effect) (s : State) (x : SubId) (made : Step)
+    → effect_told fs (answer_in s x made) ≡ no_effect
 nothing_told fs s x (order o) = refl
 nothing_told fs s x device_begin = refl
 nothing_told fs s x device_end = refl
 
 -- what a step does to a stage, or to the machine where nothing is staged
-record WasStepped (g : Option Stage) (staged : Option Staged) (s : State) (x : SubId) (made : Step) (p q : Operating) : Type 0 where
+record WasStepped (g : Option Stage) (staged : Option Staged) (s : State) (x : SubId) (made : Step)
+    (p q : Operating) : Type 0 where
   stage : IsStagedAs g staged (after_step x made s) q
   answer : answer_in p.state x made ≡ answer_in s x made
 
@@ -93,9 +95,11 @@ module _ (law : StepsElsewherePassAStage) (others : OtherEntriesLeaveIt) (openin
         (subst (λ (fs : _). IsJournalOf opening (e ∷ h) m.journal fs.items) (sym changes)
         (others opening h e m.journal m.changes.items it.journal (step_right opening h x made off)
         (step_journal (state_at opening h) x made)));
-    stage = subst (λ g. IsStagedAs g n.stage (state_at opening (e ∷ h)) n.plant) (sym (step_stage opening h (state_at opening h) x made))
+    stage = subst (λ g. IsStagedAs g n.stage (state_at opening (e ∷ h)) n.plant)
+        (sym (step_stage opening h (state_at opening h) x made))
         (subst (λ s. IsStagedAs (stage_of opening h) n.stage s n.plant) (sym after)
-        (subst (λ g. IsStagedAs (stage_of opening h) g (after_step x made (state_at opening h)) n.plant) (sym staged) was.stage));
+        (subst (λ g. IsStagedAs (stage_of opening h) g (after_step x made (state_at opening h)) n.plant) (sym staged)
+        was.stage));
     room = the_room;
   }
     where
@@ -114,7 +118,8 @@ module _ (law : StepsElsewherePassAStage) (others : OtherEntriesLeaveIt) (openin
       (nothing_told n.changes.items (state_at opening h) x made)
 
   -- the installation is that of the history with the step, as the machine answered it
-  pub step_answered : (answer : Answer) → answer ≡ answer_in m.plant.state x made → IsAnswered opening h (at x made) answer n
+  pub step_answered : (answer : Answer) → answer ≡ answer_in m.plant.state x made
+      → IsAnswered opening h (at x made) answer n
   step_answered answer is = subst (λ a. IsAnswered opening h (at x made) a n) (sym (is ∙ was.answer)) (record {
     right = subst (IsRight opening h) (sym entry_is) (step_right opening h x made off);
     is = subst (λ z. IsInstallationOf opening (z ∷ h) n) (sym entry_is) moved_on;

@@ -1,6 +1,7 @@
 -- The operands of a written statement are read again: their texts are the pieces of the operand
 -- part, and each says its operand.
-use Rattle.std.proofs.Common.{◌≡◌, ◌≢◌, ℕ, ◌+◌, ◌==◌, not, true, false, Option, None, Some, List, [], ◌∷◌, ◌++◌, All, map, length, Ok, refl, sym, ap, ◌∙◌}
+use Rattle.std.proofs.Common.{◌≡◌, ◌≢◌, ℕ, ◌+◌, ◌==◌, not, true, false, Option, None, Some, List, [], ◌∷◌, ◌++◌, All}
+use Rattle.std.proofs.Common.{map, length, Ok, refl, sym, ap, ◌∙◌}
 use Rattle.std.proofs.lemmas.Bool.{false≢true, and_parts}
 use Rattle.std.proofs.lemmas.List.Elements.{All-head, All-tail, All-map}
 use Rattle.std.proofs.Math.Dec.{eqb-suc-zero}
@@ -36,7 +37,8 @@ equals_is_no_comma e = false≢true (sym (ap (λ b. b == 61) e))
 keyword_byte_is_no_comma : (b : ℕ) → is_keyword_byte b ≡ true → b ≢ 44
 keyword_byte_is_no_comma b word = λ e. false≢true (sym (ap is_keyword_byte e) ∙ word)
 
-pub keyword_stays : (keyword text : List ℕ) → list_all is_keyword_byte keyword ≡ true → nesting_behind start (keyword ++ 61 ∷ text) ≡ nesting_behind start text
+pub keyword_stays : (keyword text : List ℕ) → list_all is_keyword_byte keyword ≡ true
+    → nesting_behind start (keyword ++ 61 ∷ text) ≡ nesting_behind start text
 keyword_stays [] text word = rw equals_stays refl
 keyword_stays (b ∷ keyword) text word =
     let parts = and_parts (is_keyword_byte b) (list_all is_keyword_byte keyword) word in
@@ -49,7 +51,8 @@ longer_uncut b text stays other uncut (x ∷ a) c e h =
     let rest : text ≡ a ++ 44 ∷ c = cc in
     uncut a c rest (sym (ap (option_and_then (λ q. nesting_behind q a)) (ap (step start) same ∙ stays)) ∙ h)
 
-keyword_uncut : (keyword text : List ℕ) → list_all is_keyword_byte keyword ≡ true → IsUncut text → IsUncut (keyword ++ 61 ∷ text)
+keyword_uncut : (keyword text : List ℕ) → list_all is_keyword_byte keyword ≡ true → IsUncut text
+    → IsUncut (keyword ++ 61 ∷ text)
 keyword_uncut [] text word uncut = longer_uncut 61 text equals_stays equals_is_no_comma uncut
 keyword_uncut (b ∷ keyword) text word uncut =
     let parts = and_parts (is_keyword_byte b) (list_all is_keyword_byte keyword) word in
@@ -65,11 +68,13 @@ keyword_bytes keyword word = (and_parts (not (length keyword == 0)) (list_all is
 abbrev text_of : Option (List ℕ) → List ℕ → List ℕ
 text_of keyword text = option_map_or (λ word. word ++ 61 ∷ text) keyword text
 
-text_balanced : (keyword : Option (List ℕ)) (text : List ℕ) → IsKeyed keyword text → IsBalanced text → IsBalanced (text_of keyword text)
+text_balanced : (keyword : Option (List ℕ)) (text : List ℕ) → IsKeyed keyword text → IsBalanced text
+    → IsBalanced (text_of keyword text)
 text_balanced (Some keyword) text word balanced = keyword_stays keyword text (keyword_bytes keyword word) ∙ balanced
 text_balanced None text keyed balanced = balanced
 
-text_uncut : (keyword : Option (List ℕ)) (text : List ℕ) → IsKeyed keyword text → IsUncut text → IsUncut (text_of keyword text)
+text_uncut : (keyword : Option (List ℕ)) (text : List ℕ) → IsKeyed keyword text → IsUncut text
+    → IsUncut (text_of keyword text)
 text_uncut (Some keyword) text word uncut = keyword_uncut keyword text (keyword_bytes keyword word) uncut
 text_uncut None text keyed uncut = uncut
 
@@ -90,12 +95,14 @@ texts_are_pieces : (o : CarriedOperand) (os : List CarriedOperand) → All IsPla
 texts_are_pieces o os all = record {
   some = λ e. cc;
   joined = refl;
-  balanced = All-map IsBalanced operand_text (o ∷ os) (λ k d h. let is = all k d h in text_balanced _ _ is.keyed is.balanced);
+  balanced = All-map IsBalanced operand_text (o ∷ os)
+      (λ k d h. let is = all k d h in text_balanced _ _ is.keyed is.balanced);
   uncut = All-map IsUncut operand_text (o ∷ os) (λ k d h. let is = all k d h in text_uncut _ _ is.keyed is.uncut);
 }
 
 -- a part that isn't empty is cut
-some_texts : (fault : Fault) (x : List ℕ) (xs pieces : List (List ℕ)) → x ≢ [] → pieces_of (join_with_byte 44 (x ∷ xs)) ≡ Some pieces
+some_texts : (fault : Fault) (x : List ℕ) (xs pieces : List (List ℕ)) → x ≢ []
+    → pieces_of (join_with_byte 44 (x ∷ xs)) ≡ Some pieces
     → operand_texts fault (join_with_byte 44 (x ∷ xs)) ≡ Ok pieces
 some_texts fault [] xs pieces some cut = absurd (some refl)
 some_texts fault (b ∷ bs) xs pieces some cut =
@@ -109,8 +116,10 @@ texts_again : (fault : Fault) (operands : List CarriedOperand) → All IsPlaceab
 texts_again fault [] all = refl
 texts_again fault (o ∷ os) all =
     let first = All-head IsPlaceable o os all in
-    some_texts fault (operand_text o) (map operand_text os) (map operand_text (o ∷ os)) (text_some o.keyword o.text first.keyed)
-    (finds_no_others (join_with_byte 44 (map operand_text (o ∷ os))) (map operand_text (o ∷ os)) (texts_are_pieces o os all))
+    some_texts fault (operand_text o) (map operand_text os) (map operand_text (o ∷ os))
+    (text_some o.keyword o.text first.keyed)
+    (finds_no_others (join_with_byte 44 (map operand_text (o ∷ os))) (map operand_text (o ∷ os))
+    (texts_are_pieces o os all))
 
 each_again : (fault : Fault) (place : ℕ) (operands : List CarriedOperand) → All IsPlaceable operands
     → each (operand_of fault) place (map operand_text operands) ≡ Ok (placed place operands)
@@ -126,4 +135,8 @@ each_again fault place (o ∷ os) all =
 
 pub operands_again : ReadsOperandsAgain
 operands_again line operands are =
-    rw (texts_again (at S6 line) operands are.each, each_again (at S4 line) 0 operands are.each, apart_brings_no_twins 0 operands are.apart) refl
+    rw (
+      texts_again (at S6 line) operands are.each,
+      each_again (at S4 line) 0 operands are.each,
+      apart_brings_no_twins 0 operands are.apart,
+    ) refl

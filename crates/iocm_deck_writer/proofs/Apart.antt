@@ -1,5 +1,6 @@
 -- Operands of which no keyword stands twice are those whose keys have no twins.
-use Rattle.std.proofs.Common.{◌≡◌, ℕ, suc, ◌+◌, ◌<◌, ◌||◌, Bool, true, false, cond, Option, None, Some, List, [], ◌∷◌, All, map, refl, arith}
+use Rattle.std.proofs.Common.{◌≡◌, ℕ, suc, ◌+◌, ◌<◌, ◌||◌, Bool, true, false, cond, Option, None, Some, List, [], ◌∷◌}
+use Rattle.std.proofs.Common.{All, map, refl, arith}
 use Rattle.std.specs.Prelude.{nat_eq, filter}
 use Rattle.std.proofs.lemmas.Bool.{or_parts}
 use Rattle.std.proofs.lemmas.Bool.Decides.{nat_tests}
@@ -24,31 +25,38 @@ other_place : (i j : ℕ) → i < j → nat_eq j i ≡ false
 other_place i j before = grind (arith, nat_tests, before)
 
 -- no operand behind a place stands at it
-bare_alone : (i j : ℕ) (os : List CarriedOperand) → i < j → list_any (λ (other : Operand). same_key other.0 (Bare i)) (placed j os) ≡ false
+bare_alone : (i j : ℕ) (os : List CarriedOperand) → i < j
+    → list_any (λ (other : Operand). same_key other.0 (Bare i)) (placed j os) ≡ false
 unfolding placed
 bare_alone i j [] before = refl
 bare_alone i j (o ∷ os) before = by o.keyword (bare_alone i (j + 1) os (omega (arith, before)))
   where
-    by : (keyword : Option (List ℕ)) → list_any (λ (other : Operand). same_key other.0 (Bare i)) (placed (j + 1) os) ≡ false
-        → (same_key (key_at j keyword) (Bare i) || list_any (λ (other : Operand). same_key other.0 (Bare i)) (placed (j + 1) os)) ≡ false
+    by : (keyword : Option (List ℕ))
+        → list_any (λ (other : Operand). same_key other.0 (Bare i)) (placed (j + 1) os) ≡ false
+        → (same_key (key_at j keyword) (Bare i)
+        || list_any (λ (other : Operand). same_key other.0 (Bare i)) (placed (j + 1) os)) ≡ false
     by (Some word) rest = rest
     by None rest = rw (other_place i j before, rest) refl
 
-keyword_alone : (word : List ℕ) (j : ℕ) (os : List CarriedOperand) → All (λ (o : CarriedOperand). repeats (Some word) o.keyword ≡ false) os
+keyword_alone : (word : List ℕ) (j : ℕ) (os : List CarriedOperand)
+    → All (λ (o : CarriedOperand). repeats (Some word) o.keyword ≡ false) os
     → list_any (λ (other : Operand). same_key other.0 (Keyword word)) (placed j os) ≡ false
 unfolding placed
 keyword_alone word j [] others = refl
 keyword_alone word j (o ∷ os) others =
     by o.keyword (All-head (λ (x : CarriedOperand). repeats (Some word) x.keyword ≡ false) o os others)
-    (keyword_alone word (j + 1) os (All-tail (λ (x : CarriedOperand). repeats (Some word) x.keyword ≡ false) o os others))
+    (keyword_alone word (j + 1) os
+    (All-tail (λ (x : CarriedOperand). repeats (Some word) x.keyword ≡ false) o os others))
   where
     by : (keyword : Option (List ℕ)) → repeats (Some word) keyword ≡ false
         → list_any (λ (other : Operand). same_key other.0 (Keyword word)) (placed (j + 1) os) ≡ false
-        → (same_key (key_at j keyword) (Keyword word) || list_any (λ (other : Operand). same_key other.0 (Keyword word)) (placed (j + 1) os)) ≡ false
+        → (same_key (key_at j keyword) (Keyword word)
+        || list_any (λ (other : Operand). same_key other.0 (Keyword word)) (placed (j + 1) os)) ≡ false
     by (Some later) other rest = rw (other, rest) refl
     by None other rest = rest
 
-key_alone : (place : ℕ) (keyword : Option (List ℕ)) (os : List CarriedOperand) → All (λ (o : CarriedOperand). repeats keyword o.keyword ≡ false) os
+key_alone : (place : ℕ) (keyword : Option (List ℕ)) (os : List CarriedOperand)
+    → All (λ (o : CarriedOperand). repeats keyword o.keyword ≡ false) os
     → list_any (λ (other : Operand). same_key other.0 (key_at place keyword)) (placed (place + 1) os) ≡ false
 key_alone place (Some word) os others = keyword_alone word (place + 1) os others
 key_alone place None os others = bare_alone place (place + 1) os (omega arith)
@@ -74,7 +82,8 @@ keys_differ : (a : Operand) (es : List Operand) → list_any (λ (other : Operan
 keys_differ a [] none = All-nil (λ (o : CarriedOperand). repeats (as_carried a).keyword o.keyword ≡ false)
 keys_differ a (e ∷ es) none =
     let parts = or_parts (same_key e.0 a.0) (list_any (λ (other : Operand). same_key other.0 a.0) es) none in
-    All-cons (λ (o : CarriedOperand). repeats (as_carried a).keyword o.keyword ≡ false) (as_carried e) (map as_carried es)
+    All-cons (λ (o : CarriedOperand). repeats (as_carried a).keyword o.keyword ≡ false) (as_carried e)
+    (map as_carried es)
     (key_differs a e parts.0) (keys_differ a es parts.1)
 
 pub no_twins_are_apart : (es : List Operand) → has_twins es ≡ false → AreApart (map as_carried es)
@@ -90,17 +99,21 @@ none_kept : {X : Type 0} (p q : X → Bool) (xs : List X) → list_any q xs ≡ 
 none_kept p q [] none = refl
 none_kept p q (x ∷ xs) none = by (p x) (or_parts (q x) (list_any q xs) none) (none_kept p q xs)
   where
-    by : (kept : Bool) → (q x ≡ false) × (list_any q xs ≡ false) → (list_any q xs ≡ false → list_any q (filter p xs) ≡ false)
+    by : (kept : Bool) → (q x ≡ false) × (list_any q xs ≡ false)
+        → (list_any q xs ≡ false → list_any q (filter p xs) ≡ false)
         → list_any q (cond kept (x ∷ filter p xs) (filter p xs)) ≡ false
     by true parts rest = rw (parts.0, rest parts.1) refl
     by false parts rest = rest parts.1
 
-pub some_have_no_twins : (p : Operand → Bool) (es : List Operand) → has_twins es ≡ false → has_twins (filter p es) ≡ false
+pub some_have_no_twins : (p : Operand → Bool) (es : List Operand) → has_twins es ≡ false
+    → has_twins (filter p es) ≡ false
 some_have_no_twins p [] none = refl
 some_have_no_twins p (e ∷ es) none =
-    by (p e) (or_parts (list_any (λ (other : Operand). same_key other.0 e.0) es) (has_twins es) none) (some_have_no_twins p es)
+    by (p e) (or_parts (list_any (λ (other : Operand). same_key other.0 e.0) es) (has_twins es) none)
+    (some_have_no_twins p es)
   where
     by : (kept : Bool) → (list_any (λ (other : Operand). same_key other.0 e.0) es ≡ false) × (has_twins es ≡ false)
-        → (has_twins es ≡ false → has_twins (filter p es) ≡ false) → has_twins (cond kept (e ∷ filter p es) (filter p es)) ≡ false
+        → (has_twins es ≡ false → has_twins (filter p es) ≡ false)
+        → has_twins (cond kept (e ∷ filter p es) (filter p es)) ≡ false
     by true parts rest = rw (none_kept p (λ (other : Operand). same_key other.0 e.0) es parts.0, rest parts.1) refl
     by false parts rest = rest parts.1

@@ -1,5 +1,6 @@
 -- The operands that are read of an operand part can be written, and are written as the part.
-use Rattle.std.proofs.Common.{◌≡◌, ◌≢◌, ℕ, ◌+◌, Bool, true, false, cond, Option, None, Some, List, [], ◌∷◌, ◌++◌, All, map, length, Result, Ok, Err, refl, sym, ap, ◌∙◌, subst, append_assoc}
+use Rattle.std.proofs.Common.{◌≡◌, ◌≢◌, ℕ, ◌+◌, Bool, true, false, cond, Option, None, Some, List, [], ◌∷◌, ◌++◌, All}
+use Rattle.std.proofs.Common.{map, length, Result, Ok, Err, refl, sym, ap, ◌∙◌, subst, append_assoc}
 use Rattle.std.proofs.lemmas.List.Elements.{All-nil, All-cons, All-head, All-tail, All-map, All-filter}
 use Rattle.std.proofs.Math.Dec.{eqb-suc-zero}
 use Rattle.std.specs.Prelude.{filter}
@@ -11,13 +12,15 @@ use Rattle.iocm_types.specs.Each.{each}
 use Rattle.iocm_statements.specs.declared.operands.OperandKey.TheVariants.{Keyword, Bare}
 use Rattle.iocm_statements.specs.Pieces.{pieces_of}
 use Rattle.iocm_statements.specs.Cutting.{IsBalanced, IsUncut}
-use Rattle.iocm_statements.specs.Operands.{Operand, is_keyword_byte, operand_of, operand_texts, has_twins, without_twins}
+use Rattle.iocm_statements.specs.Operands.{Operand, is_keyword_byte, operand_of, operand_texts, has_twins}
+use Rattle.iocm_statements.specs.Operands.{without_twins}
 use Rattle.iocm_statements.specs.Splitting.{HasNoEquals, Says}
 use Rattle.iocm_statements.proofs.Relation.{finds_pieces}
 use Rattle.iocm_statements.proofs.Saying.{finds_operand}
 use Rattle.iocm_record_reader.specs.Values.{as_carried}
 use Rattle.iocm_deck_writer.specs.Canonical.{operand_text}
-use Rattle.iocm_deck_writer.specs.Again.{key_at, placed, IsPlaceable, ArePlaceable, AreGivenBy, WritesOperandsAgain, WritesCarriedAgain}
+use Rattle.iocm_deck_writer.specs.Again.{key_at, placed, IsPlaceable, ArePlaceable, AreGivenBy, WritesOperandsAgain}
+use Rattle.iocm_deck_writer.specs.Again.{WritesCarriedAgain}
 use Rattle.iocm_deck_writer.proofs.Apart.{apart_brings_no_twins, no_twins_are_apart, some_have_no_twins}
 use Rattle.iocm_deck_writer.proofs.Again.{keyword_stays, keyword_bytes}
 
@@ -32,11 +35,14 @@ pub record IsGivenAt (place : ℕ) (text : List ℕ) (operand : Operand) : Type 
   pub in_place : (key_at place (as_carried operand).keyword, (as_carried operand).text) ≡ operand
   pub written : operand_text (as_carried operand) ≡ text
 
-value_uncut : (keyword value : List ℕ) → list_all is_keyword_byte keyword ≡ true → IsUncut (keyword ++ 61 ∷ value) → IsUncut value
+value_uncut : (keyword value : List ℕ) → list_all is_keyword_byte keyword ≡ true → IsUncut (keyword ++ 61 ∷ value)
+    → IsUncut value
 value_uncut keyword value word uncut a b e h =
-    uncut (keyword ++ 61 ∷ a) b (ap (λ v. keyword ++ 61 ∷ v) e ∙ sym (append_assoc keyword (61 ∷ a) (44 ∷ b))) (keyword_stays keyword a word ∙ h)
+    uncut (keyword ++ 61 ∷ a) b (ap (λ v. keyword ++ 61 ∷ v) e ∙ sym (append_assoc keyword (61 ∷ a) (44 ∷ b)))
+    (keyword_stays keyword a word ∙ h)
 
-given_at : (place : ℕ) (text : List ℕ) (operand : Operand) → Says place text operand → IsBalanced text → IsUncut text → IsGivenAt place text operand
+given_at : (place : ℕ) (text : List ℕ) (operand : Operand) → Says place text operand → IsBalanced text → IsUncut text
+    → IsGivenAt place text operand
 given_at place text ((Keyword keyword), value) says balanced uncut =
     let bytes = keyword_bytes keyword says.0 in
     record {
@@ -80,7 +86,8 @@ more_given place x xs y ys first rest = record {
   written = λ i. first.written i ∷ rest.written i;
 }
 
-given_from : (fault : Fault) (place : ℕ) (texts : List (List ℕ)) (operands : List Operand) → All IsBalanced texts → All IsUncut texts
+given_from : (fault : Fault) (place : ℕ) (texts : List (List ℕ)) (operands : List Operand) → All IsBalanced texts
+    → All IsUncut texts
     → each (operand_of fault) place texts ≡ Ok operands → AreGivenFrom place texts operands
 unfolding each
 given_from fault place [] operands balanced uncut is =
@@ -98,7 +105,8 @@ given_from fault place (x ∷ xs) operands balanced uncut is =
     by (Ok y) found (Err e) others further is = absurd (refused e operands is)
     by (Ok y) found (Ok ys) others further is =
         let all : y ∷ ys ≡ operands = cc in
-        let first = given_at place x y (finds_operand fault place x y found) (All-head IsBalanced x xs balanced) (All-head IsUncut x xs uncut) in
+        let first = given_at place x y (finds_operand fault place x y found) (All-head IsBalanced x xs balanced)
+        (All-head IsUncut x xs uncut) in
         subst (AreGivenFrom place (x ∷ xs)) all (more_given place x xs y ys first (further ys others))
 
 -- ---- the operand part
@@ -111,13 +119,15 @@ pub record AreTexts (text : List ℕ) (texts : List (List ℕ)) : Type 0 where
 some_part : (fault : Fault) (b : ℕ) (bs : List ℕ) → operand_texts fault (b ∷ bs) ≡ or_fault fault (pieces_of (b ∷ bs))
 some_part fault b bs = rw (eqb-suc-zero (length bs)) refl
 
-texts_given : (fault : Fault) (text : List ℕ) (texts : List (List ℕ)) → operand_texts fault text ≡ Ok texts → AreTexts text texts
+texts_given : (fault : Fault) (text : List ℕ) (texts : List (List ℕ)) → operand_texts fault text ≡ Ok texts
+    → AreTexts text texts
 texts_given fault [] texts is =
     let none : [] ≡ texts = cc in
     subst (AreTexts []) none (record { joined = refl; balanced = All-nil IsBalanced; uncut = All-nil IsUncut })
 texts_given fault (b ∷ bs) texts is = by (pieces_of (b ∷ bs)) refl (sym (some_part fault b bs) ∙ is)
   where
-    by : (pieces : Option (List (List ℕ))) → pieces_of (b ∷ bs) ≡ pieces → or_fault fault pieces ≡ Ok texts → AreTexts (b ∷ bs) texts
+    by : (pieces : Option (List (List ℕ))) → pieces_of (b ∷ bs) ≡ pieces → or_fault fault pieces ≡ Ok texts
+        → AreTexts (b ∷ bs) texts
     by None cut is = absurd (refused fault texts is)
     by (Some pieces) cut is =
         let same : pieces ≡ texts = cc in
@@ -136,7 +146,8 @@ none_twice fault found operands is = by (has_twins found) refl is
         (same, ap has_twins (sym same) ∙ apart)
 
 given_of_texts : (line : ℕ) (text : List ℕ) (texts : List (List ℕ)) (operands : List Operand) → AreTexts text texts
-    → (each (operand_of (at S4 line)) 0 texts >>= λ found. without_twins (at S2 line) found) ≡ Ok operands → AreGivenBy text operands
+    → (each (operand_of (at S4 line)) 0 texts >>= λ found. without_twins (at S2 line) found) ≡ Ok operands
+    → AreGivenBy text operands
 given_of_texts line text texts operands are is = by (each (operand_of (at S4 line)) 0 texts) refl is
   where
     by : (read : Result (List Operand) Fault) → each (operand_of (at S4 line)) 0 texts ≡ read
@@ -155,28 +166,33 @@ pub operands_given : WritesOperandsAgain
 operands_given line text operands is = by (operand_texts (at S6 line) text) refl is
   where
     by : (read : Result (List (List ℕ)) Fault) → operand_texts (at S6 line) text ≡ read
-        → (read >>= λ texts. each (operand_of (at S4 line)) 0 texts >>= λ found. without_twins (at S2 line) found) ≡ Ok operands
+        → (read >>= λ texts. each (operand_of (at S4 line)) 0 texts >>= λ found. without_twins (at S2 line) found)
+        ≡ Ok operands
         → AreGivenBy text operands
     by (Err e) cut is = absurd (refused e operands is)
     by (Ok texts) cut is = given_of_texts line text texts operands (texts_given (at S6 line) text texts cut) is
 
 -- ---- what is carried of it
 
-all_carried : (es : List Operand) → All IsPlaceable (map as_carried es) → All (λ (e : Operand). IsPlaceable (as_carried e)) es
+all_carried : (es : List Operand) → All IsPlaceable (map as_carried es)
+    → All (λ (e : Operand). IsPlaceable (as_carried e)) es
 all_carried [] all = All-nil (λ (e : Operand). IsPlaceable (as_carried e))
 all_carried (e ∷ es) all =
-    All-cons (λ (x : Operand). IsPlaceable (as_carried x)) e es (All-head IsPlaceable (as_carried e) (map as_carried es) all)
+    All-cons (λ (x : Operand). IsPlaceable (as_carried x)) e es
+    (All-head IsPlaceable (as_carried e) (map as_carried es) all)
     (all_carried es (All-tail IsPlaceable (as_carried e) (map as_carried es) all))
 
 some_placeable : (p : Operand → Bool) (es : List Operand) → All IsPlaceable (map as_carried es) → has_twins es ≡ false
     → ArePlaceable (map as_carried (filter p es))
 some_placeable p es all none = record {
-  each = All-map IsPlaceable as_carried (filter p es) (All-filter p (λ (e : Operand). IsPlaceable (as_carried e)) es (all_carried es all));
+  each = All-map IsPlaceable as_carried (filter p es)
+      (All-filter p (λ (e : Operand). IsPlaceable (as_carried e)) es (all_carried es all));
   apart = no_twins_are_apart (filter p es) (some_have_no_twins p es none);
 }
 
 pub carried_given : WritesCarriedAgain
 carried_given line text operands is operation =
     let given = operands_given line text operands is in
-    let none = ap has_twins (sym given.in_place) ∙ apart_brings_no_twins 0 (map as_carried operands) given.placeable.apart in
+    let none = ap has_twins (sym given.in_place)
+    ∙ apart_brings_no_twins 0 (map as_carried operands) given.placeable.apart in
     some_placeable _ operands given.placeable.each none

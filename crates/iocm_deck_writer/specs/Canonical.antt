@@ -1,11 +1,11 @@
 -- The canonical deck of a configuration: ID, RESOURCE, CHPID, CNTLUNIT, IODEVICE, each in the order
 -- of keys, each known operand in one form and one order, and what a statement carries behind them.
 -- Online records aren't written: they are those of the access lists.
-use Rattle.std.specs.Prelude.{ℕ, Bool, true, false, Option, None, Some, List, [], ◌∷◌, ◌++◌, map, codes}
+use Rattle.std.specs.Prelude.{ℕ, Bool, true, false, Some, List, [], ◌∷◌, ◌++◌, map, codes}
 use Rattle.std.specs.List.{flat_map, join_with_byte}
 use Rattle.std.specs.Option.{option_map, option_map_or}
 use Rattle.iocm_types.specs.declared.path_kind.PathKind.{PathKind}
-use Rattle.iocm_types.specs.declared.path_kind.PathKind.TheVariants.{Dedicated, Shared, Reconfigurable}
+use Rattle.iocm_types.specs.declared.path_kind.PathKind.TheVariants.{Shared, Reconfigurable}
 use Rattle.iocm_types.specs.Print.{hex2, hex4}
 use Rattle.iocm_columns.specs.declared.joined.Joined.{Joined}
 use Rattle.iocm_columns.specs.Written.{deck_bytes}

@@ -1,7 +1,7 @@
 -- What a mask over the first eight paths tells of all paths.
-use Rattle.std.proofs.Common.{◌≡◌, ℕ, zero, suc, ◌+◌, ◌/◌, ◌^◌, ◌<◌, ◌≤◌, Bool, true, false, ◌||◌, cond, List, [], ◌∷◌, length, take, refl, sym, ap, ◌∙◌, arith}
-use Rattle.std.specs.List.{list_any, AllByRecursion}
-use Rattle.std.proofs.Math.ListN.{set}
+use Rattle.std.proofs.Common.{◌≡◌, ℕ, zero, suc, ◌+◌, ◌/◌, ◌^◌, ◌<◌, ◌≤◌, Bool, true, false, ◌||◌, cond, List, [], ◌∷◌}
+use Rattle.std.proofs.Common.{length, take, refl, sym, ap, ◌∙◌, arith}
+use Rattle.std.specs.List.{list_any}
 use Rattle.iocm_model.specs.Machine.Mask.{mask_from}
 
 -- half of a power of two
@@ -18,7 +18,8 @@ module _ (test : ℕ → Bool) where
   one_passes bit [] some = absurd (omega arith)
   one_passes bit (p ∷ ps) some = by (test p) some (one_passes (bit / 2) ps)
     where
-      by : (b : Bool) → 0 < cond b bit 0 + mask_from (bit / 2) test ps → (0 < mask_from (bit / 2) test ps → list_any test ps ≡ true) → (b || list_any test ps) ≡ true
+      by : (b : Bool) → 0 < cond b bit 0 + mask_from (bit / 2) test ps
+          → (0 < mask_from (bit / 2) test ps → list_any test ps ≡ true) → (b || list_any test ps) ≡ true
       by true some rest = refl
       by false some rest = rest (omega arith)
 
@@ -33,9 +34,11 @@ module _ (test : ℕ → Bool) where
   none_passes zero (p ∷ q ∷ ps) short none = absurd (omega arith)
   none_passes (suc k) (p ∷ ps) short none = by (test p) none (none_passes k ps (omega arith))
     where
-      by : (b : Bool) → cond b (2 ^ suc k) 0 + mask_from (2 ^ suc k / 2) test ps ≡ 0 → (mask_from (2 ^ k) test ps ≡ 0 → list_any test ps ≡ false) → (b || list_any test ps) ≡ false
+      by : (b : Bool) → cond b (2 ^ suc k) 0 + mask_from (2 ^ suc k / 2) test ps ≡ 0
+          → (mask_from (2 ^ k) test ps ≡ 0 → list_any test ps ≡ false) → (b || list_any test ps) ≡ false
       by true none rest = let some = some_bit (suc k) in absurd (omega arith)
-      by false none rest = let left : mask_from (2 ^ suc k / 2) test ps ≡ 0 = omega arith in rest (sym (ap (λ bit. mask_from bit test ps) (half k)) ∙ left)
+      by false none rest = let left : mask_from (2 ^ suc k / 2) test ps ≡ 0 = omega arith in
+          rest (sym (ap (λ bit. mask_from bit test ps) (half k)) ∙ left)
 
   -- one of the first few that passes is one of all
   first_passes : (n : ℕ) (xs : List ℕ) → list_any test (take n xs) ≡ true → list_any test xs ≡ true
@@ -43,7 +46,8 @@ module _ (test : ℕ → Bool) where
   first_passes (suc n) [] one = one
   first_passes (suc n) (x ∷ xs) one = by (test x) one (first_passes n xs)
     where
-      by : (b : Bool) → (b || list_any test (take n xs)) ≡ true → (list_any test (take n xs) ≡ true → list_any test xs ≡ true) → (b || list_any test xs) ≡ true
+      by : (b : Bool) → (b || list_any test (take n xs)) ≡ true
+          → (list_any test (take n xs) ≡ true → list_any test xs ≡ true) → (b || list_any test xs) ≡ true
       by true one rest = refl
       by false one rest = rest one
 
@@ -54,12 +58,14 @@ module _ (test : ℕ → Bool) where
   few_are_all (suc n) (x ∷ xs) few = ap (λ ys. x ∷ ys) (few_are_all n xs (omega arith))
 
   -- a mask over the first eight that isn't zero
-  pub reached_by_mask : (all paths : List ℕ) → paths ≡ take 8 all → 0 < mask_from 128 test paths → true ≡ list_any test all
+  pub reached_by_mask : (all paths : List ℕ) → paths ≡ take 8 all → 0 < mask_from 128 test paths
+      → true ≡ list_any test all
   reached_by_mask all paths first some =
       sym (first_passes 8 all (sym (ap (list_any test) first) ∙ one_passes 128 paths some))
 
   -- a mask of zero over all, which are fewer than eight
-  pub reached_by_none : (all paths : List ℕ) → paths ≡ take 8 all → length paths < 8 → mask_from 128 test paths ≡ 0 → false ≡ list_any test all
+  pub reached_by_none : (all paths : List ℕ) → paths ≡ take 8 all → length paths < 8 → mask_from 128 test paths ≡ 0
+      → false ≡ list_any test all
   reached_by_none all paths first few none =
       let whole : paths ≡ all = first ∙ few_are_all 8 all (rw first at few) in
       sym (none_passes 7 paths (omega arith) none) ∙ ap (list_any test) whole

@@ -1,8 +1,9 @@
 -- Path lists, one path and one control unit after the other.
-use Rattle.std.proofs.Common.{◌≡◌, ◌≢◌, ℕ, suc, zero, ◌+◌, ◌<◌, ◌≤◌, Bool, true, false, cond, ◌||◌, nat_eq, nat_lt, List, [], ◌∷◌, ◌++◌, map, filter, length, get_or, set, drop, Option, Some, None, refl, sym, ap, subst, ◌∙◌, append_assoc, arith, length-append, get_or-set_same, get_or-set_other}
+use Rattle.std.proofs.Common.{◌≡◌, ◌≢◌, ℕ, suc, zero, ◌+◌, ◌<◌, ◌≤◌, Bool, true, false, cond, ◌||◌, nat_eq, nat_lt}
+use Rattle.std.proofs.Common.{List, [], ◌∷◌, ◌++◌, map, filter, length, get_or, drop, Option, Some, None, refl, sym, ap}
+use Rattle.std.proofs.Common.{◌∙◌, append_assoc, arith, length-append}
 use Rattle.std.proofs.lemmas.Bool.{ltb-true, lt-ltb}
 use Rattle.std.proofs.lemmas.Bool.Decides.{nat_tests}
-use Rattle.std.proofs.lemmas.List.{append-nil, length-set}
 use Rattle.std.proofs.lemmas.List.Folds.{list_any-append}
 use Rattle.std.proofs.Math.ListN.{drop_of_length-le}
 use Rattle.std.specs.List.{list_any}
@@ -14,7 +15,7 @@ use Rattle.iocm_model.specs.Machine.Configuration.{Lookup}
 use Rattle.iocm_model.specs.Machine.Numbering.{subsystems}
 use Rattle.iocm_model.specs.Machine.PathList.{paths_in, unit_record_paths, path_list}
 use Rattle.iocm_model.specs.Rules.EachRule.{has_twice}
-use Rattle.iocm_device_rules.specs.Joining.{is_wrong_list, all_paths, AreRight, AreJoined, IsWrongWith}
+use Rattle.iocm_device_rules.specs.Joining.{is_wrong_list, all_paths, IsWrongWith}
 
 -- ---- lists that are wrong
 
@@ -23,10 +24,13 @@ still_twice : (xs ys : List ℕ) → has_twice xs ≡ true → has_twice (xs ++ 
 still_twice [] ys h = cc
 still_twice (x ∷ xs) ys h = by (list_any (nat_eq x) xs) refl h (still_twice xs ys)
   where
-    by : (b : Bool) → list_any (nat_eq x) xs ≡ b → (b || has_twice xs) ≡ true → (has_twice xs ≡ true → has_twice (xs ++ ys) ≡ true)
+    by : (b : Bool) → list_any (nat_eq x) xs ≡ b → (b || has_twice xs) ≡ true
+        → (has_twice xs ≡ true → has_twice (xs ++ ys) ≡ true)
         → (list_any (nat_eq x) (xs ++ ys) || has_twice (xs ++ ys)) ≡ true
-    by true is h more = ap (λ b. b || has_twice (xs ++ ys)) (list_any-append (nat_eq x) xs ys ∙ ap (λ b. b || list_any (nat_eq x) ys) is)
-    by false is h more = ap (λ b. list_any (nat_eq x) (xs ++ ys) || b) (more h) ∙ or_true (list_any (nat_eq x) (xs ++ ys))
+    by true is h more = ap (λ b. b || has_twice (xs ++ ys))
+        (list_any-append (nat_eq x) xs ys ∙ ap (λ b. b || list_any (nat_eq x) ys) is)
+    by false is h more = ap (λ b. list_any (nat_eq x) (xs ++ ys) || b) (more h)
+        ∙ or_true (list_any (nat_eq x) (xs ++ ys))
       where
         or_true : (b : Bool) → (b || true) ≡ true
         or_true true = refl
@@ -74,22 +78,29 @@ wrong_full xs x full =
 
 -- a path that is among them
 pub wrong_again : (xs : List ℕ) (x : ℕ) → list_any (nat_eq x) xs ≡ true → is_wrong_list (xs ++ x ∷ []) ≡ true
-wrong_again xs x there = or_second (nat_lt 8 (length (xs ++ x ∷ []))) _ (twice_with xs x ∙ ap (λ b. b || has_twice xs) there)
+wrong_again xs x there =
+    or_second (nat_lt 8 (length (xs ++ x ∷ []))) _ (twice_with xs x ∙ ap (λ b. b || has_twice xs) there)
 
 short_not_over : (n : ℕ) → n ≤ 8 → nat_lt 8 n ≡ false
 short_not_over n short = grind (arith, nat_tests)
 
 -- any other path behind at most seven
-pub right_longer : (xs : List ℕ) (x : ℕ) → length xs ≤ 8 → length xs ≢ 8 → list_any (nat_eq x) xs ≡ false → is_wrong_list (xs ++ x ∷ []) ≡ is_wrong_list xs
+pub right_longer : (xs : List ℕ) (x : ℕ) → length xs ≤ 8 → length xs ≢ 8 → list_any (nat_eq x) xs ≡ false
+    → is_wrong_list (xs ++ x ∷ []) ≡ is_wrong_list xs
 right_longer xs x most not_full apart =
     let longer : length (xs ++ x ∷ []) ≤ 8 = simp length-append (omega arith) in
-    (λ i. (short_not_over (length (xs ++ x ∷ [])) longer ∙ sym (short_not_over (length xs) most)) i || (twice_with xs x ∙ ap (λ b. b || has_twice xs) apart) i)
+    (λ i. (short_not_over (length (xs ++ x ∷ [])) longer ∙ sym (short_not_over (length xs) most)) i
+    || (twice_with xs x ∙ ap (λ b. b || has_twice xs) apart) i)
 
 -- ---- the paths of a channel subsystem
 
-paths_in_cons : (css : ℕ) (p : CssPath) (rest : List CssPath) → paths_in css (p ∷ rest) ≡ paths_in css (p ∷ []) ++ paths_in css rest
+paths_in_cons : (css : ℕ) (p : CssPath) (rest : List CssPath)
+    → paths_in css (p ∷ rest) ≡ paths_in css (p ∷ []) ++ paths_in css rest
 paths_in_cons css p rest =
-    elim (nat_eq p.css css) as (λ b. map (λ (q : CssPath). q.path) (cond b (p ∷ filter (λ (q : CssPath). nat_eq q.css css) rest) (filter (λ (q : CssPath). nat_eq q.css css) rest))
+    elim (nat_eq p.css css) as
+    (λ b. map (λ (q : CssPath). q.path)
+    (cond b (p ∷ filter (λ (q : CssPath). nat_eq q.css css) rest)
+    (filter (λ (q : CssPath). nat_eq q.css css) rest))
     ≡ map (λ (q : CssPath). q.path) (cond b (p ∷ []) []) ++ paths_in css rest) [ true ↦ refl | false ↦ refl ]
 
 own_path : (p : CssPath) → paths_in p.css (p ∷ []) ≡ p.path ∷ []
@@ -104,7 +115,8 @@ other_path css p apart = ap (λ b. map (λ (q : CssPath). q.path) (cond b (p ∷
 -- the paths from one on are it and those after it
 pub paths_opened : (css : ℕ) (ps : List CssPath) (i : ℕ) (p : CssPath) → i < length ps → p ≡ get_or ps i p
     → paths_in css (drop i ps) ≡ paths_in css (p ∷ []) ++ paths_in css (drop (i + 1) ps)
-paths_opened css ps i p within item = ap (paths_in css) (drop-item ps i p within item) ∙ paths_in_cons css p (drop (i + 1) ps)
+paths_opened css ps i p within item =
+    ap (paths_in css) (drop-item ps i p within item) ∙ paths_in_cons css p (drop (i + 1) ps)
 
 pub paths_past : (css : ℕ) (ps : List CssPath) (i : ℕ) → length ps ≤ i → paths_in css (drop i ps) ≡ []
 paths_past css ps i past = ap (paths_in css) (drop_of_length-le ps past)
@@ -122,7 +134,8 @@ of_unit css (Some (device x)) = refl
 of_unit css (Some (online x)) = refl
 
 -- the path list from one unit on is its paths and those of the units after it
-pub units_opened : (c : Lookup) (css : ℕ) (us : List ℕ) (i u : ℕ) (shown : List CssPath) → i < length us → u ≡ get_or us i u → shown ≡ all_paths (c (key.Unit u))
+pub units_opened : (c : Lookup) (css : ℕ) (us : List ℕ) (i u : ℕ) (shown : List CssPath) → i < length us
+    → u ≡ get_or us i u → shown ≡ all_paths (c (key.Unit u))
     → path_list c css (drop i us) ≡ paths_in css shown ++ path_list c css (drop (i + 1) us)
 units_opened c css us i u shown within item is =
     ap (path_list c css) (drop-item us i u within item)
@@ -134,7 +147,8 @@ units_past c css us i past = ap (path_list c css) (drop_of_length-le us past)
 -- ---- six lists
 
 -- a path with which its list is wrong
-pub wrong_with_path : (lists : List (List ℕ)) (p : CssPath) → p.css < 6 → is_wrong_list (get_or lists p.css [] ++ p.path ∷ []) ≡ true
+pub wrong_with_path : (lists : List (List ℕ)) (p : CssPath) → p.css < 6
+    → is_wrong_list (get_or lists p.css [] ++ p.path ∷ []) ≡ true
     → IsWrongWith lists (λ css. paths_in css (p ∷ []))
 wrong_with_path lists p within wrong = record {
   css = p.css;
@@ -166,8 +180,11 @@ pub some_subsystem : (test : ℕ → Bool) (css : ℕ) → css < 6 → test css 
 some_subsystem test zero low h = rw h refl
 some_subsystem test (suc zero) low h = or_second (test 0) _ (rw h refl)
 some_subsystem test (suc (suc zero)) low h = or_second (test 0) _ (or_second (test 1) _ (rw h refl))
-some_subsystem test (suc (suc (suc zero))) low h = or_second (test 0) _ (or_second (test 1) _ (or_second (test 2) _ (rw h refl)))
-some_subsystem test (suc (suc (suc (suc zero)))) low h = or_second (test 0) _ (or_second (test 1) _ (or_second (test 2) _ (or_second (test 3) _ (rw h refl))))
+some_subsystem test (suc (suc (suc zero))) low h =
+    or_second (test 0) _ (or_second (test 1) _ (or_second (test 2) _ (rw h refl)))
+some_subsystem test (suc (suc (suc (suc zero)))) low h =
+    or_second (test 0) _ (or_second (test 1) _ (or_second (test 2) _ (or_second (test 3) _ (rw h refl))))
 some_subsystem test (suc (suc (suc (suc (suc zero))))) low h =
-    or_second (test 0) _ (or_second (test 1) _ (or_second (test 2) _ (or_second (test 3) _ (or_second (test 4) _ (rw h refl)))))
+    or_second (test 0) _ (or_second (test 1) _
+    (or_second (test 2) _ (or_second (test 3) _ (or_second (test 4) _ (rw h refl)))))
 some_subsystem test (suc (suc (suc (suc (suc (suc n)))))) low h = absurd (omega arith)

@@ -5,7 +5,8 @@ use Rattle.iocm_device_rules.specs.SameUnits.{AreOnSameUnits, units_on}
 
 -- some device on these units
 abbrev some_device : List ℕ → Rec
-some_device units = device (record { set = 0; number = 0; units = units; unit_address = 0; candidates = None; carried = [] })
+some_device units = device
+    (record { set = 0; number = 0; units = units; unit_address = 0; candidates = None; carried = [] })
 
 module _ (test : Rec → Bool) (on_units : (d : DeviceRecord) → test (device d) ≡ test (some_device d.units)) where
   of_units : (r : Rec) (units : List ℕ) → units_on r ≡ Some units → test r ≡ test (some_device units)

@@ -19,7 +19,8 @@ module _ (c : Configuration) (p q : Rec → Bool) (less : (r : Rec) → q r ≡ 
   not_there None h = refl
   not_there (Some r) h = less r h
 
-  none_given : (keys : List Key) → list_any (is_so_at q (lookup_of c)) keys ≡ false → None ≡ least_of (key_if p (lookup_of c)) None keys
+  none_given : (keys : List Key) → list_any (is_so_at q (lookup_of c)) keys ≡ false
+      → None ≡ least_of (key_if p (lookup_of c)) None keys
   none_given [] none = refl
   none_given (k ∷ keys) none = by (is_so_at q (lookup_of c) k) refl none (none_given keys)
     where
@@ -28,9 +29,11 @@ module _ (c : Configuration) (p q : Rec → Bool) (less : (r : Rec) → q r ≡ 
           → None ≡ least_of (key_if p (lookup_of c)) (lesser None (key_if p (lookup_of c) k)) keys
       by true is h more = absurd (false≢true (sym h))
       by false is h more = more h
-          ∙ ap (λ b. least_of (key_if p (lookup_of c)) (lesser None (cond b (Some k) None)) keys) (sym (not_there (lookup_of c k) is))
+          ∙ ap (λ b. least_of (key_if p (lookup_of c)) (lesser None (cond b (Some k) None)) keys)
+          (sym (not_there (lookup_of c k) is))
 
-  none_first : IsKeyed c → (keys : List Key) → IsOnlyAt keys c p → list_any (is_so_at q (lookup_of c)) keys ≡ false → None ≡ first_key p c
+  none_first : IsKeyed c → (keys : List Key) → IsOnlyAt keys c p → list_any (is_so_at q (lookup_of c)) keys ≡ false
+      → None ≡ first_key p c
   none_first keyed keys only none = none_given keys none ∙ least_wanted_is_first c p keyed keys only
 
 -- ---- of five tests none passes
@@ -49,7 +52,8 @@ module _ (c : Configuration) (n : Numbering) (keyed : IsKeyed c) (keys : List Ke
   v8_is_kept only = none_first c (breaks_v8 c) (breaks_by_itself c n) (λ r h. first_fails _ _ h) keyed keys only none
 
   pub v9_is_kept : IsOnlyAt keys c (breaks_v9 c) → None ≡ first_key (breaks_v9 c) c
-  v9_is_kept only = none_first c (breaks_v9 c) (breaks_by_itself c n) (λ r h. first_fails _ _ (rest_fails (breaks_v8 c r) _ h)) keyed keys only none
+  v9_is_kept only = none_first c (breaks_v9 c) (breaks_by_itself c n)
+      (λ r h. first_fails _ _ (rest_fails (breaks_v8 c r) _ h)) keyed keys only none
 
   pub v11_is_kept : IsOnlyAt keys c (breaks_v11 c) → None ≡ first_key (breaks_v11 c) c
   v11_is_kept only = none_first c (breaks_v11 c) (breaks_by_itself c n)
@@ -57,8 +61,11 @@ module _ (c : Configuration) (n : Numbering) (keyed : IsKeyed c) (keys : List Ke
 
   pub v12_is_kept : IsOnlyAt keys c (breaks_v12 c) → None ≡ first_key (breaks_v12 c) c
   v12_is_kept only = none_first c (breaks_v12 c) (breaks_by_itself c n)
-      (λ r h. first_fails _ _ (rest_fails (breaks_v11 c r) _ (rest_fails (breaks_v9 c r) _ (rest_fails (breaks_v8 c r) _ h)))) keyed keys only none
+      (λ r h. first_fails _ _ (rest_fails (breaks_v11 c r) _
+      (rest_fails (breaks_v9 c r) _ (rest_fails (breaks_v8 c r) _ h)))) keyed keys only none
 
   pub v13_is_kept : IsOnlyAt keys c (breaks_v13 c n) → None ≡ first_key (breaks_v13 c n) c
   v13_is_kept only = none_first c (breaks_v13 c n) (breaks_by_itself c n)
-      (λ r h. rest_fails (breaks_v12 c r) _ (rest_fails (breaks_v11 c r) _ (rest_fails (breaks_v9 c r) _ (rest_fails (breaks_v8 c r) _ h)))) keyed keys only none
+      (λ r h. rest_fails (breaks_v12 c r) _
+      (rest_fails (breaks_v11 c r) _ (rest_fails (breaks_v9 c r) _ (rest_fails (breaks_v8 c r) _ h)))) keyed keys
+      only none

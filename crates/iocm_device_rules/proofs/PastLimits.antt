@@ -23,12 +23,16 @@ use Rattle.iocm_device_rules.specs.Past.{is_past, is_row_past}
 
 -- no number of this numbering is at or above the limit of its place
 abbrev AreBelow : Configuration → Numbering → Type 0
-AreBelow c n = (p : Place) (o : Option ℕ) → get n p ≡ o → option_map_or (nat_le (limit_or_default p.set (lookup_of c (key.Limit p.css p.set)))) o false ≡ true → ⊥
+AreBelow c n = (p : Place) (o : Option ℕ) → get n p ≡ o
+    → option_map_or (nat_le (limit_or_default p.set (lookup_of c (key.Limit p.css p.set)))) o false ≡ true → ⊥
 
 module _ (c : Configuration) (n : Numbering) (below : AreBelow c n) where
   keeps : (r : Rec) → breaks_v13 c n r ≡ true → ⊥
-  keeps (device d) h = any_implies (λ css. option_map_or (nat_le (limit_or_default d.set (lookup_of c (key.Limit css d.set)))) (get n (record { css = css; set = d.set; device = d.number })) false)
-      subsystems (λ css past. below (record { css = css; set = d.set; device = d.number }) (get n (record { css = css; set = d.set; device = d.number })) refl past) h
+  keeps (device d) h = any_implies
+      (λ css. option_map_or (nat_le (limit_or_default d.set (lookup_of c (key.Limit css d.set))))
+      (get n (record { css = css; set = d.set; device = d.number })) false)
+      subsystems (λ css past. below (record { css = css; set = d.set; device = d.number })
+      (get n (record { css = css; set = d.set; device = d.number })) refl past) h
   keeps (id x) h = false≢true h
   keeps (resource x) h = false≢true h
   keeps (image x) h = false≢true h
@@ -41,22 +45,27 @@ module _ (c : Configuration) (n : Numbering) (below : AreBelow c n) where
   none_breaks = none_so (breaks_v13 c n) keeps (records_of c)
 
 -- by the number cells
-below_in_cells : (c : Configuration) (n : Numbering) → list_any (is_past (lookup_of c)) (entries (cells_of n)) ≡ false → AreBelow c n
+below_in_cells : (c : Configuration) (n : Numbering) → list_any (is_past (lookup_of c)) (entries (cells_of n)) ≡ false
+    → AreBelow c n
 below_in_cells c n none p None is h = false≢true h
 below_in_cells c n none p (Some number) is h =
     let at = present (get (cells_of n) (cell p number)) (has_cell n p number is) in
-    false≢true (sym (found_fails cell_cmp cells_total cells_exact (is_past (lookup_of c)) (entries (cells_of n)) (cell p number) at.0 none
+    false≢true (sym (found_fails cell_cmp cells_total cells_exact (is_past (lookup_of c)) (entries (cells_of n))
+    (cell p number) at.0 none
     (sym (get-entries (cells_of n) (cell p number)) ∙ at.1)) ∙ h)
 
-pub none_past_limit : (c : Configuration) (n : Numbering) → list_any (is_past (lookup_of c)) (entries (cells_of n)) ≡ false
+pub none_past_limit : (c : Configuration) (n : Numbering)
+    → list_any (is_past (lookup_of c)) (entries (cells_of n)) ≡ false
     → None ≡ option_map key_of (first_record (breaks_v13 c n) (records_of c))
 none_past_limit c n none = none_breaks c n (below_in_cells c n none)
 
 -- by the list of the numbers at opening
-below_in_rows : (c : Configuration) → list_any (is_row_past (lookup_of c)) (rows_at_opening c) ≡ false → AreBelow c (opening c)
+below_in_rows : (c : Configuration) → list_any (is_row_past (lookup_of c)) (rows_at_opening c) ≡ false
+    → AreBelow c (opening c)
 below_in_rows c none p None is h = false≢true h
 below_in_rows c none p (Some number) is h =
-    false≢true (sym (found_fails place_cmp places_total places_exact (is_row_past (lookup_of c)) (rows_at_opening c) p number none
+    false≢true (sym (found_fails place_cmp places_total places_exact (is_row_past (lookup_of c)) (rows_at_opening c) p
+    number none
     (sym (get-from_entries places_total (rows_at_opening c) p) ∙ is)) ∙ h)
 
 pub none_past_limit_at_opening : (c : Configuration) → list_any (is_row_past (lookup_of c)) (rows_at_opening c) ≡ false

@@ -5,12 +5,16 @@ use Rattle.std.specs.List.{list_any}
 use Rattle.iocm_types.proofs.Lists.{drop-item}
 use Rattle.iocm_model.specs.Rules.EachRule.{has_twice}
 
-pub not_twice : (us : List ℕ) (i u : ℕ) → i < length us → u ≡ get_or us i u → list_any (nat_eq u) (drop (i + 1) us) ≡ false
+pub not_twice : (us : List ℕ) (i u : ℕ) → i < length us → u ≡ get_or us i u
+    → list_any (nat_eq u) (drop (i + 1) us) ≡ false
     → has_twice (drop i us) ≡ has_twice (drop (i + 1) us)
-not_twice us i u within item apart = ap has_twice (drop-item us i u within item) ∙ ap (λ b. b || has_twice (drop (i + 1) us)) apart
+not_twice us i u within item apart =
+    ap has_twice (drop-item us i u within item) ∙ ap (λ b. b || has_twice (drop (i + 1) us)) apart
 
-pub is_twice : (us : List ℕ) (i u : ℕ) → i < length us → u ≡ get_or us i u → list_any (nat_eq u) (drop (i + 1) us) ≡ true → has_twice (drop i us) ≡ true
-is_twice us i u within item there = ap has_twice (drop-item us i u within item) ∙ ap (λ b. b || has_twice (drop (i + 1) us)) there
+pub is_twice : (us : List ℕ) (i u : ℕ) → i < length us → u ≡ get_or us i u
+    → list_any (nat_eq u) (drop (i + 1) us) ≡ true → has_twice (drop i us) ≡ true
+is_twice us i u within item there =
+    ap has_twice (drop-item us i u within item) ∙ ap (λ b. b || has_twice (drop (i + 1) us)) there
 
 pub none_twice : (us : List ℕ) (i : ℕ) → length us ≤ i → has_twice (drop i us) ≡ false
 none_twice us i past = ap has_twice (drop_of_length-le us past)

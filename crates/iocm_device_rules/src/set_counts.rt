@@ -80,7 +80,8 @@ fn count_devices<A: Allocator>(config: &Config<A>) -> [usize; 4]
 /// Counts one record more: a device in its set, others nowhere.
 fn count_record<A: Allocator>(in_sets: &mut [usize; 4], entry: &Record<A>)
     requires { (s : ℕ) → s < 4 → get_or in_sets.old s 0 + 1 < 2 ^ 64 }
-    ensures { (s : ℕ) → s < 4 → get_or in_sets.new s 0 ≡ get_or in_sets.old s 0 + counts.count_among s (entry.now ∷ []) }
+    ensures { (s : ℕ) → s < 4
+        → get_or in_sets.new s 0 ≡ get_or in_sets.old s 0 + counts.count_among s (entry.now ∷ []) }
 {
     if let RecordBody::Device(fields) = entry.body() {
         in_sets[usize::from(fields.set.number())] += 1;

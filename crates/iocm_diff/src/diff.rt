@@ -8,7 +8,8 @@ ghost use Rattle.iocm_columns.specs.Device.{IsOpen, IsWhole, StopsShort};
 ghost use Rattle.iocm_console.specs.declared.status.Status.TheVariants.{Done};
 ghost use Rattle.iocm_console.specs.Opening.{configuration_in, opened, opened_or_refused, refused, Says, SaysIfMemory};
 ghost use Rattle.iocm_console.specs.Output.{has_failed, IsHandedOn, FailedToWrite};
-ghost use Rattle.iocm_diff.specs.Diff.{differed, told, told_of_lines, told_or_refused, IsCount, IsCountOfDecks, IsCountToLines, IsRefused, IsRefusedDeck};
+ghost use Rattle.iocm_diff.specs.Diff.{differed, told, told_of_lines, told_or_refused};
+ghost use Rattle.iocm_diff.specs.Diff.{IsCount, IsCountOfDecks, IsCountToLines, IsRefused, IsRefusedDeck};
 
 use crate::printing::print_opened;
 use iocm_columns::{Card, Device, read_cards};

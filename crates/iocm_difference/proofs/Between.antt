@@ -1,6 +1,7 @@
 -- The actions between two configurations: one for each key at which they differ, which leaves there
 -- what the second has.
-use Rattle.std.proofs.Common.{◌≡◌, ℕ, ◌+◌, ◌≤◌, Bool, true, false, not, cond, List, [], ◌∷◌, map, filter, length, Option, Some, None, refl, sym, ap, ◌∙◌, arith}
+use Rattle.std.proofs.Common.{◌≡◌, ℕ, ◌+◌, ◌≤◌, Bool, true, false, not, cond, List, [], ◌∷◌, map, filter, length}
+use Rattle.std.proofs.Common.{Option, Some, None, refl, sym, ap, ◌∙◌, arith}
 use Rattle.std.specs.List.{All, filter_map, cons_option, list_any}
 use Rattle.std.specs.Option.{option_eq, option_map}
 use Rattle.std.specs.Ordering.{eq_by_cmp}
@@ -32,8 +33,10 @@ module _ (P : Action → Type 0) (h : Key → Option Action) (each : (k : Key) (
   all_made [] = All-nil P
   all_made (k ∷ ks) = made_by k (h k) (filter_map h ks) refl (all_made ks)
 
-module _ (p : Key → Bool) (h : Key → Option Action) (each : (k : Key) → p k ≡ true → option_map action_key (h k) ≡ Some k) where
-  one_key : (k : Key) (o : Option Action) (rest : List Action) (ks : List Key) → option_map action_key o ≡ Some k → map action_key rest ≡ ks
+module _ (p : Key → Bool) (h : Key → Option Action)
+    (each : (k : Key) → p k ≡ true → option_map action_key (h k) ≡ Some k) where
+  one_key : (k : Key) (o : Option Action) (rest : List Action) (ks : List Key) → option_map action_key o ≡ Some k
+      → map action_key rest ≡ ks
       → map action_key (cons_option o rest) ≡ k ∷ ks
   one_key k None rest ks is more = cc
   one_key k (Some x) rest ks is more = let own : action_key x ≡ k = cc in λ i. own i ∷ more i
@@ -53,22 +56,28 @@ module _ (p : Key → Bool) (h : Key → Option Action) (each : (k : Key) → p 
 modified : (t : Bool) (k : Key) (new : Rec) (x : Action) → key_of new ≡ k → cond t None (Some (modify new)) ≡ Some x
     → (action_key x ≡ k) × (record_after x ≡ Some new)
 modified true k new x own is = cc
-modified false k new x own is = let same : modify new ≡ x = cc in (ap action_key (sym same) ∙ own, ap record_after (sym same))
+modified false k new x own is = let same : modify new ≡ x = cc in
+    (ap action_key (sym same) ∙ own, ap record_after (sym same))
 
 -- an action between two records is one of the key, and leaves the second
-pub leads_there : (k : Key) (a b : Option Rec) (x : Action) → ((r : Rec) → b ≡ Some r → key_of r ≡ k) → action_between k a b ≡ Some x
+pub leads_there : (k : Key) (a b : Option Rec) (x : Action) → ((r : Rec) → b ≡ Some r → key_of r ≡ k)
+    → action_between k a b ≡ Some x
     → (action_key x ≡ k) × (record_after x ≡ b)
 leads_there k None None x own is = cc
-leads_there k None (Some new) x own is = let same : add new ≡ x = cc in (ap action_key (sym same) ∙ own new refl, ap record_after (sym same))
-leads_there k (Some old) None x own is = let same : delete k ≡ x = cc in (ap action_key (sym same), ap record_after (sym same))
+leads_there k None (Some new) x own is = let same : add new ≡ x = cc in
+    (ap action_key (sym same) ∙ own new refl, ap record_after (sym same))
+leads_there k (Some old) None x own is = let same : delete k ≡ x = cc in
+    (ap action_key (sym same), ap record_after (sym same))
 leads_there k (Some old) (Some new) x own is = modified (same_record old new) k new x (own new refl) is
 
-modified_key : (t : Bool) (k : Key) (new : Rec) → key_of new ≡ k → not t ≡ true → option_map action_key (cond t None (Some (modify new))) ≡ Some k
+modified_key : (t : Bool) (k : Key) (new : Rec) → key_of new ≡ k → not t ≡ true
+    → option_map action_key (cond t None (Some (modify new))) ≡ Some k
 modified_key true k new own differs = cc
 modified_key false k new own differs = ap Some own
 
 -- where they differ there is one
-pub something_between : (k : Key) (a b : Option Rec) → ((r : Rec) → b ≡ Some r → key_of r ≡ k) → not (option_eq same_record a b) ≡ true
+pub something_between : (k : Key) (a b : Option Rec) → ((r : Rec) → b ≡ Some r → key_of r ≡ k)
+    → not (option_eq same_record a b) ≡ true
     → option_map action_key (action_between k a b) ≡ Some k
 something_between k None None own differs = cc
 something_between k None (Some new) own differs = ap Some (own new refl)
@@ -78,18 +87,24 @@ something_between k (Some old) (Some new) own differs = modified_key (same_recor
 -- ---- of two configurations
 
 -- each leaves at its key what the second has there
-pub each_leaves : (c d : Configuration) → IsKeyed d → All (λ a. record_after a ≡ get d (action_key a)) (actions_between c d)
-each_leaves c d keyed = all_made (λ a. record_after a ≡ get d (action_key a)) (λ key. action_between key (get c key) (get d key))
-    (λ k x is. let leads = leads_there k (get c k) (get d k) x (λ r h. keyed_own d keyed k r h) is in leads.1 ∙ ap (get d) (sym leads.0))
+pub each_leaves : (c d : Configuration) → IsKeyed d
+    → All (λ a. record_after a ≡ get d (action_key a)) (actions_between c d)
+each_leaves c d keyed = all_made (λ a. record_after a ≡ get d (action_key a))
+    (λ key. action_between key (get c key) (get d key))
+    (λ k x is. let leads = leads_there k (get c k) (get d k) x (λ r h. keyed_own d keyed k r h) is in leads.1
+    ∙ ap (get d) (sym leads.0))
     (differing same_record c d)
 
 -- their keys are those at which the two differ
 pub keys_between : (c d : Configuration) → IsKeyed d → map action_key (actions_between c d) ≡ differing same_record c d
-keys_between c d keyed = keys_made (λ key. not (option_eq same_record (get c key) (get d key))) (λ key. action_between key (get c key) (get d key))
+keys_between c d keyed = keys_made (λ key. not (option_eq same_record (get c key) (get d key)))
+    (λ key. action_between key (get c key) (get d key))
     (λ k differs. something_between k (get c k) (get d k) (λ r h. keyed_own d keyed k r h) differs) (keys_of_both c d)
 
-pub edited_between : (c d : Configuration) (q : Key) → IsKeyed d → is_edited q (actions_between c d) ≡ not (option_eq same_record (get c q) (get d q))
-edited_between c d q keyed = ap (list_any (eq_by_cmp key_cmp q)) (keys_between c d keyed) ∙ in_differing keys_total keys_exact same_record c d q
+pub edited_between : (c d : Configuration) (q : Key) → IsKeyed d
+    → is_edited q (actions_between c d) ≡ not (option_eq same_record (get c q) (get d q))
+edited_between c d q keyed =
+    ap (list_any (eq_by_cmp key_cmp q)) (keys_between c d keyed) ∙ in_differing keys_total keys_exact same_record c d q
 
 no_longer : (o : Option Action) (xs : List Action) (n : ℕ) → length xs ≤ n → length (cons_option o xs) ≤ n + 1
 no_longer None xs n h = omega arith

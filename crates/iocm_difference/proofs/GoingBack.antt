@@ -1,5 +1,6 @@
 -- The difference the other way round takes the actions of the difference back.
-use Rattle.std.proofs.Common.{◌≡◌, Bool, true, false, not, cond, List, [], ◌∷◌, map, Option, Some, None, refl, sym, ap, subst, ◌∙◌}
+use Rattle.std.proofs.Common.{◌≡◌, Bool, true, false, not, cond, List, [], ◌∷◌, map, Option, Some, None, refl, sym, ap}
+use Rattle.std.proofs.Common.{subst, ◌∙◌}
 use Rattle.std.specs.List.{filter_map, cons_option}
 use Rattle.std.specs.List.Sorted.{IsPermutation}
 use Rattle.std.specs.Option.{option_eq, option_map}
@@ -33,8 +34,10 @@ turned a b = both_ways (not (option_eq same_record a b)) (not (option_eq same_re
 
 -- so are the keys at which two configurations differ
 differing_turned : (c d : Configuration) → differing same_record c d ≡ differing same_record d c
-differing_turned c d = same_members (differing same_record c d) (differing same_record d c) (differing_rise c d) (differing_rise d c)
-    (λ q. in_differing keys_total keys_exact same_record c d q ∙ turned (get c q) (get d q) ∙ sym (in_differing keys_total keys_exact same_record d c q))
+differing_turned c d = same_members (differing same_record c d) (differing same_record d c) (differing_rise c d)
+    (differing_rise d c)
+    (λ q. in_differing keys_total keys_exact same_record c d q ∙ turned (get c q) (get d q)
+    ∙ sym (in_differing keys_total keys_exact same_record d c q))
 
 undo_not : (t u : Bool) → not t ≡ not u → t ≡ u
 undo_not true true h = refl
@@ -45,7 +48,8 @@ undo_not false false h = refl
 modified_back : (t : Bool) (c : Configuration) (k : Key) (old new : Rec) → get c k ≡ Some old → key_of new ≡ k
     → option_map (back_in c) (cond t None (Some (modify new))) ≡ cond t None (Some (modify old))
 modified_back true c k old new was own = refl
-modified_back false c k old new was own = ap Some (ap (λ q. action_back q (get c q) (Some new)) own ∙ ap (λ o. action_back k o (Some new)) was)
+modified_back false c k old new was own =
+    ap Some (ap (λ q. action_back q (get c q) (Some new)) own ∙ ap (λ o. action_back k o (Some new)) was)
 
 -- what takes back what leads from one record to another leads from the other to the one
 back_at : (c : Configuration) (k : Key) (a b : Option Rec) → get c k ≡ a → ((r : Rec) → b ≡ Some r → key_of r ≡ k)
@@ -55,24 +59,30 @@ back_at c k None (Some new) was own =
     ap Some (ap (λ q. action_back q (get c q) (Some new)) (own new refl) ∙ ap (λ o. action_back k o (Some new)) was)
 back_at c k (Some old) None was own = ap Some (ap (λ o. action_back k o None) was)
 back_at c k (Some old) (Some new) was own = modified_back (same_record old new) c k old new was (own new refl)
-    ∙ ap (λ t. cond t None (Some (modify old))) (undo_not (same_record old new) (same_record new old) (turned (Some old) (Some new)))
+    ∙ ap (λ t. cond t None (Some (modify old)))
+    (undo_not (same_record old new) (same_record new old) (turned (Some old) (Some new)))
 
-each_back : (f : Action → Action) (o : Option Action) (rest : List Action) → map f (cons_option o rest) ≡ cons_option (option_map f o) (map f rest)
+each_back : (f : Action → Action) (o : Option Action) (rest : List Action)
+    → map f (cons_option o rest) ≡ cons_option (option_map f o) (map f rest)
 each_back f None rest = refl
 each_back f (Some x) rest = refl
 
-all_back : (f : Action → Action) (h j : Key → Option Action) → ((k : Key) → option_map f (h k) ≡ j k) → (ks : List Key) → map f (filter_map h ks) ≡ filter_map j ks
+all_back : (f : Action → Action) (h j : Key → Option Action) → ((k : Key) → option_map f (h k) ≡ j k) → (ks : List Key)
+    → map f (filter_map h ks) ≡ filter_map j ks
 all_back f h j each [] = refl
-all_back f h j each (k ∷ ks) = each_back f (h k) (filter_map h ks) ∙ (λ i. cons_option (each k i) (all_back f h j each ks i))
+all_back f h j each (k ∷ ks) =
+    each_back f (h k) (filter_map h ks) ∙ (λ i. cons_option (each k i) (all_back f h j each ks i))
 
 actions_back : (c d : Configuration) → IsKeyed d → map (back_in c) (actions_between c d) ≡ actions_between d c
 actions_back c d keyed =
-    all_back (back_in c) (λ key. action_between key (get c key) (get d key)) (λ key. action_between key (get d key) (get c key))
+    all_back (back_in c) (λ key. action_between key (get c key) (get d key))
+    (λ key. action_between key (get d key) (get c key))
     (λ k. back_at c k (get c k) (get d k) refl (λ r h. keyed_own d keyed k r h)) (differing same_record c d)
     ∙ ap (filter_map (λ key. action_between key (get d key) (get c key))) (differing_turned c d)
 
 pub difference_goes_back : DifferenceGoesBack
-difference_goes_back c d keyed = IsPermutation-trans (map (back_in c) (difference c d)) (actions_between d c) (difference d c)
+difference_goes_back c d keyed = IsPermutation-trans (map (back_in c) (difference c d)) (actions_between d c)
+    (difference d c)
     (subst (IsPermutation (map (back_in c) (difference c d))) (actions_back c d keyed)
     (IsPermutation-sym (map (back_in c) (actions_between c d)) (map (back_in c) (difference c d))
     (IsPermutation-map (back_in c) (actions_between c d) (difference c d) (passes_permute (actions_between c d)))))

@@ -21,14 +21,17 @@ one_edit false r v x y same = refl
 
 -- after such actions an edited key has what that configuration has there, and any other key what it
 -- had
-pub get_after_all : (actions : List Action) (c d : Configuration) → All (λ a. record_after a ≡ get d (action_key a)) actions
+pub get_after_all : (actions : List Action) (c d : Configuration)
+    → All (λ a. record_after a ≡ get d (action_key a)) actions
     → (q : Key) → get (config_after_all actions c) q ≡ cond (is_edited q actions) (get d q) (get c q)
 get_after_all [] c d leave q = refl
 get_after_all (a ∷ actions) c d leave q =
     get_after_all actions (config_after a c) d (All-tail (λ a. record_after a ≡ get d (action_key a)) a actions leave) q
-    ∙ ap (cond (is_edited q actions) (get d q)) (get_with_value keys_total keys_exact c (action_key a) (record_after a) q)
+    ∙ ap (cond (is_edited q actions) (get d q))
+    (get_with_value keys_total keys_exact c (action_key a) (record_after a) q)
     ∙ one_edit (eq_by_cmp key_cmp q (action_key a)) (is_edited q actions) (record_after a) (get d q) (get c q)
-    (λ tie. All-head (λ a. record_after a ≡ get d (action_key a)) a actions leave ∙ ap (get d) (sym (same_key key_cmp keys_exact q (action_key a) tie)))
+    (λ tie. All-head (λ a. record_after a ≡ get d (action_key a)) a actions leave
+    ∙ ap (get d) (sym (same_key key_cmp keys_exact q (action_key a) tie)))
 
 elsewhere : (b : Bool) (x y : Option Rec) → (b ≡ false → y ≡ x) → cond b x y ≡ x
 elsewhere true x y same = refl
@@ -36,7 +39,8 @@ elsewhere false x y same = same refl
 
 pub any_order_leads : AnyOrderLeads
 any_order_leads actions c d bring = same_map keys_total keys_exact _ _
-    (λ q. get_after_all actions c d bring.leave q ∙ elsewhere (is_edited q actions) (get d q) (get c q) (bring.others q))
+    (λ q. get_after_all actions c d bring.leave q
+    ∙ elsewhere (is_edited q actions) (get d q) (get c q) (bring.others q))
 
 unedited_by : (b r : Bool) (v x y : Option Rec) → (b || r) ≡ false → x ≡ cond b v y → x ≡ y
 unedited_by true r v x y none is = cc
@@ -47,9 +51,12 @@ rest_unedited true r none = cc
 rest_unedited false r none = none
 
 -- a key that no action edits keeps what it has
-pub get_unedited : (actions : List Action) (c : Configuration) (q : Key) → is_edited q actions ≡ false → get (config_after_all actions c) q ≡ get c q
+pub get_unedited : (actions : List Action) (c : Configuration) (q : Key) → is_edited q actions ≡ false
+    → get (config_after_all actions c) q ≡ get c q
 get_unedited [] c q none = refl
 get_unedited (a ∷ actions) c q none =
-    get_unedited actions (config_after a c) q (rest_unedited (eq_by_cmp key_cmp q (action_key a)) (is_edited q actions) none)
-    ∙ unedited_by (eq_by_cmp key_cmp q (action_key a)) (is_edited q actions) (record_after a) (get (config_after a c) q) (get c q) none
+    get_unedited actions (config_after a c) q
+    (rest_unedited (eq_by_cmp key_cmp q (action_key a)) (is_edited q actions) none)
+    ∙ unedited_by (eq_by_cmp key_cmp q (action_key a)) (is_edited q actions) (record_after a) (get (config_after a c) q)
+    (get c q) none
     (get_with_value keys_total keys_exact c (action_key a) (record_after a) q)

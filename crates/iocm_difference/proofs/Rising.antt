@@ -1,6 +1,7 @@
 -- Keys at which two configurations differ stand in order, and lists in order with the same members
 -- are one.
-use Rattle.std.proofs.Common.{◌≡◌, not, List, [], ◌∷◌, ◌++◌, map, Option, Some, None, is_some, T, refl, sym, ap, subst, ◌∙◌}
+use Rattle.std.proofs.Common.{◌≡◌, not, List, [], ◌∷◌, ◌++◌, map, Option, Some, None, is_some, T, refl, sym, ap, subst}
+use Rattle.std.proofs.Common.{◌∙◌}
 use Rattle.std.specs.List.{list_any}
 use Rattle.std.specs.List.Sorted.{IsStrictlySortedBy}
 use Rattle.std.specs.Option.{option_eq}
@@ -21,7 +22,8 @@ use Rattle.iocm_difference.proofs.Paired.{keys_of_both}
 
 -- they stand in order
 pub differing_rise : (c d : Configuration) → IsStrictlySortedBy key_cmp (differing same_record c d)
-differing_rise c d = IsStrictlySortedBy-filter key_cmp (λ key. not (option_eq same_record (get c key) (get d key))) (keys_of_both c d)
+differing_rise c d = IsStrictlySortedBy-filter key_cmp (λ key. not (option_eq same_record (get c key) (get d key)))
+    (keys_of_both c d)
     (keys_rise key_cmp (entries both) (entries_sorted both))
   where
     both : Configuration
@@ -38,7 +40,8 @@ keys_again [] = refl
 keys_again (k ∷ ks) = ap (λ xs. k ∷ xs) (keys_again ks)
 
 marked_sorted : (ks : List Key) → IsStrictlySortedBy key_cmp ks → T (is_sorted key_cmp (map as_row ks))
-marked_sorted ks rise = rows_sorted key_cmp (map as_row ks) (subst (λ xs. IsStrictlySortedBy key_cmp xs) (sym (keys_again ks)) rise)
+marked_sorted ks rise = rows_sorted key_cmp (map as_row ks)
+    (subst (λ xs. IsStrictlySortedBy key_cmp xs) (sym (keys_again ks)) rise)
 
 nothing_more : (a b : Option (Unit {0})) → is_some a ≡ is_some b → a ≡ b
 nothing_more None None h = refl
@@ -53,5 +56,7 @@ found_row q ks = is_some-find key_cmp q (map as_row ks) ∙ ap (list_any (eq_by_
 pub same_members : (xs ys : List Key) → IsStrictlySortedBy key_cmp xs → IsStrictlySortedBy key_cmp ys
     → ((q : Key) → list_any (eq_by_cmp key_cmp q) xs ≡ list_any (eq_by_cmp key_cmp q) ys) → xs ≡ ys
 same_members xs ys rise rises same =
-    sym (keys_again xs) ∙ ap (map (λ (e : Key × Unit {0}). e.0)) (same_entries key_cmp keys_total keys_exact (map as_row xs) (map as_row ys) (marked_sorted xs rise) (marked_sorted ys rises)
+    sym (keys_again xs) ∙ ap (map (λ (e : Key × Unit {0}). e.0))
+    (same_entries key_cmp keys_total keys_exact (map as_row xs) (map as_row ys) (marked_sorted xs rise)
+    (marked_sorted ys rises)
     (λ q. nothing_more _ _ (found_row q xs ∙ same q ∙ sym (found_row q ys)))) ∙ keys_again ys

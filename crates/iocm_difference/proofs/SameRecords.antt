@@ -1,5 +1,6 @@
 -- Records are the same by the test exactly where they are equal.
-use Rattle.std.proofs.Common.{◌≡◌, ℕ, nat_eq, eqb-true, eq-eqb, Bool, true, false, not, List, [], ◌∷◌, Option, Some, None, refl, sym, ap, ◌∙◌}
+use Rattle.std.proofs.Common.{◌≡◌, ℕ, nat_eq, eqb-true, eq-eqb, Bool, true, false, not, List, [], ◌∷◌, Option, Some}
+use Rattle.std.proofs.Common.{None, refl, sym, ap, ◌∙◌}
 use Rattle.std.specs.Option.{option_eq}
 use Rattle.std.specs.Cmp.Lexicographic.{pointwise}
 use Rattle.std.specs.Cmp.Derive.{both_true}
@@ -12,10 +13,13 @@ use Rattle.iocm_types.specs.declared.path_kind.PathKind.{PathKind}
 use Rattle.iocm_types.specs.declared.path_kind.PathKind.TheVariants.{Dedicated, Shared, Reconfigurable}
 use Rattle.iocm_types.specs.declared.unit_range.UnitRange.{UnitRange}
 use Rattle.iocm_model.specs.Machine.Record.{CarriedOperand, Rec, id, resource, image, limit, path, unit, device, online}
-use Rattle.iocm_model.specs.Machine.Record.{ImageRecord, LimitRecord, PathRecord, UnitRecord, DeviceRecord, OnlineRecord}
+use Rattle.iocm_model.specs.Machine.Record.{ImageRecord, LimitRecord, PathRecord, UnitRecord, DeviceRecord}
+use Rattle.iocm_model.specs.Machine.Record.{OnlineRecord}
 use Rattle.iocm_model.specs.Rules.EachRule.{same_link}
-use Rattle.iocm_difference.specs.Same.{same_name, same_names, same_operand, same_operands, same_kind, same_css_path, same_range, same_css_link}
-use Rattle.iocm_difference.specs.Same.{same_image, same_limit, same_path, same_unit, same_device, same_online, same_record}
+use Rattle.iocm_difference.specs.Same.{same_name, same_names, same_operand, same_operands, same_kind, same_css_path}
+use Rattle.iocm_difference.specs.Same.{same_range, same_css_link}
+use Rattle.iocm_difference.specs.Same.{same_image, same_limit, same_path, same_unit, same_device, same_online}
+use Rattle.iocm_difference.specs.Same.{same_record}
 
 -- ---- lists and options
 
@@ -98,19 +102,22 @@ own_link (link.Short a) = own_number a
 own_link (link.Long a) = own_number a
 
 css_path_is : (a b : CssPath) → same_css_path a b ≡ true → a ≡ b
-css_path_is a b h = let p = and_parts _ _ h in λ i. record { css = number_is a.css b.css p.0 i; path = number_is a.path b.path p.1 i }
+css_path_is a b h = let p = and_parts _ _ h in
+    λ i. record { css = number_is a.css b.css p.0 i; path = number_is a.path b.path p.1 i }
 
 own_css_path : (a : CssPath) → same_css_path a a ≡ true
 own_css_path a = both_true (own_number a.css) (own_number a.path)
 
 range_is : (a b : UnitRange) → same_range a b ≡ true → a ≡ b
-range_is a b h = let p = and_parts _ _ h in λ i. record { start = number_is a.start b.start p.0 i; count = number_is a.count b.count p.1 i }
+range_is a b h = let p = and_parts _ _ h in
+    λ i. record { start = number_is a.start b.start p.0 i; count = number_is a.count b.count p.1 i }
 
 own_range : (a : UnitRange) → same_range a a ≡ true
 own_range a = both_true (own_number a.start) (own_number a.count)
 
 css_link_is : (a b : CssLink) → same_css_link a b ≡ true → a ≡ b
-css_link_is a b h = let p = and_parts _ _ h in λ i. record { css = number_is a.css b.css p.0 i; link = link_is a.link b.link p.1 i }
+css_link_is a b h = let p = and_parts _ _ h in
+    λ i. record { css = number_is a.css b.css p.0 i; link = link_is a.link b.link p.1 i }
 
 own_css_link : (a : CssLink) → same_css_link a a ≡ true
 own_css_link a = both_true (own_number a.css) (own_link a.link)
@@ -120,16 +127,25 @@ own_css_link a = both_true (own_number a.css) (own_link a.link)
 image_is : (a b : ImageRecord) → same_image a b ≡ true → a ≡ b
 image_is a b h =
     let p = and_parts _ _ h in let q = and_parts _ _ p.0 in
-    λ i. record { css = number_is a.css b.css q.0 i; mif = number_is a.mif b.mif q.1 i; name = name_is a.name b.name p.1 i }
+    λ i. record {
+      css = number_is a.css b.css q.0 i;
+      mif = number_is a.mif b.mif q.1 i;
+      name = name_is a.name b.name p.1 i;
+    }
 
 limit_is : (a b : LimitRecord) → same_limit a b ≡ true → a ≡ b
 limit_is a b h =
     let p = and_parts _ _ h in let q = and_parts _ _ p.0 in
-    λ i. record { css = number_is a.css b.css q.0 i; set = number_is a.set b.set q.1 i; limit = number_is a.limit b.limit p.1 i }
+    λ i. record {
+      css = number_is a.css b.css q.0 i;
+      set = number_is a.set b.set q.1 i;
+      limit = number_is a.limit b.limit p.1 i;
+    }
 
 path_is : (a b : PathRecord) → same_path a b ≡ true → a ≡ b
 path_is a b h =
-    let p = and_parts _ _ h in let q = and_parts _ _ p.0 in let r = and_parts _ _ q.0 in let s = and_parts _ _ r.0 in let t = and_parts _ _ s.0 in
+    let p = and_parts _ _ h in let q = and_parts _ _ p.0 in let r = and_parts _ _ q.0 in let s = and_parts _ _ r.0 in
+    let t = and_parts _ _ s.0 in
     λ i. record {
       css = number_is a.css b.css t.0 i;
       number = number_is a.number b.number t.1 i;
@@ -141,7 +157,8 @@ path_is a b h =
 
 unit_is : (a b : UnitRecord) → same_unit a b ≡ true → a ≡ b
 unit_is a b h =
-    let p = and_parts _ _ h in let q = and_parts _ _ p.0 in let r = and_parts _ _ q.0 in let s = and_parts _ _ r.0 in let t = and_parts _ _ s.0 in
+    let p = and_parts _ _ h in let q = and_parts _ _ p.0 in let r = and_parts _ _ q.0 in let s = and_parts _ _ r.0 in
+    let t = and_parts _ _ s.0 in
     λ i. record {
       number = number_is a.number b.number t.0 i;
       paths = list_is same_css_path css_path_is a.paths b.paths t.1 i;
@@ -153,7 +170,8 @@ unit_is a b h =
 
 device_is : (a b : DeviceRecord) → same_device a b ≡ true → a ≡ b
 device_is a b h =
-    let p = and_parts _ _ h in let q = and_parts _ _ p.0 in let r = and_parts _ _ q.0 in let s = and_parts _ _ r.0 in let t = and_parts _ _ s.0 in
+    let p = and_parts _ _ h in let q = and_parts _ _ p.0 in let r = and_parts _ _ q.0 in let s = and_parts _ _ r.0 in
+    let t = and_parts _ _ s.0 in
     λ i. record {
       set = number_is a.set b.set t.0 i;
       number = number_is a.number b.number t.1 i;
@@ -166,18 +184,27 @@ device_is a b h =
 online_is : (a b : OnlineRecord) → same_online a b ≡ true → a ≡ b
 online_is a b h =
     let p = and_parts _ _ h in let q = and_parts _ _ p.0 in
-    λ i. record { css = number_is a.css b.css q.0 i; path = number_is a.path b.path q.1 i; name = name_is a.name b.name p.1 i }
+    λ i. record {
+      css = number_is a.css b.css q.0 i;
+      path = number_is a.path b.path q.1 i;
+      name = name_is a.name b.name p.1 i;
+    }
 
 own_path : (a : PathRecord) → same_path a a ≡ true
-own_path a = both_true (both_true (both_true (both_true (both_true (own_number a.css) (own_number a.number)) (own_kind a.kind)) (own_names a.access))
+own_path a = both_true (both_true
+    (both_true (both_true (both_true (own_number a.css) (own_number a.number)) (own_kind a.kind)) (own_names a.access))
     (own_names a.candidates)) (own_operands a.carried)
 
 own_unit : (a : UnitRecord) → same_unit a a ≡ true
-own_unit a = both_true (both_true (both_true (both_true (both_true (own_number a.number) (own_list same_css_path own_css_path a.paths))
-    (own_list same_range own_range a.ranges)) (own_list same_css_link own_css_link a.links)) (own_option nat_eq own_number a.cuadd)) (own_operands a.carried)
+own_unit a = both_true (both_true
+    (both_true (both_true (both_true (own_number a.number) (own_list same_css_path own_css_path a.paths))
+    (own_list same_range own_range a.ranges)) (own_list same_css_link own_css_link a.links))
+    (own_option nat_eq own_number a.cuadd)) (own_operands a.carried)
 
 own_device : (a : DeviceRecord) → same_device a a ≡ true
-own_device a = both_true (both_true (both_true (both_true (both_true (own_number a.set) (own_number a.number)) (own_list nat_eq own_number a.units))
+own_device a = both_true
+    (both_true (both_true (both_true (both_true (own_number a.set) (own_number a.number))
+    (own_list nat_eq own_number a.units))
     (own_number a.unit_address)) (own_option same_names own_names a.candidates)) (own_operands a.carried)
 
 -- ---- records

@@ -15,11 +15,14 @@ use Rattle.iocm_difference.proofs.Paired.{actions_listed}
 
 -- records in the order of keys are the entries of their configuration
 in_order : (rs : List Rec) → T (is_sorted key_cmp (with_keys rs)) → entries (configuration_of rs) ≡ with_keys rs
-in_order rs up = ap entries (same_map keys_total keys_exact _ _ (λ q. get-from_entries keys_total (with_keys rs) q ∙ sym (get-from_sorted key_cmp (with_keys rs) q up)))
+in_order rs up = ap entries
+    (same_map keys_total keys_exact _ _
+    (λ q. get-from_entries keys_total (with_keys rs) q ∙ sym (get-from_sorted key_cmp (with_keys rs) q up)))
     ∙ entries-from_sorted key_cmp (with_keys rs) up
 
 -- so the difference is found by a walk over them
-found : (old : List Rec) (actions : List Action) (new : List Rec) → T (is_sorted key_cmp (with_keys old)) → T (is_sorted key_cmp (with_keys new))
+found : (old : List Rec) (actions : List Action) (new : List Rec) → T (is_sorted key_cmp (with_keys old))
+    → T (is_sorted key_cmp (with_keys new))
     → by_passes (filter_map action_at (pairs_of (with_keys old) (with_keys new))) ≡ actions → Leads old actions new
 found old actions new up rise is = record {
   are = ap by_passes (sym (actions_listed (configuration_of old) (configuration_of new))

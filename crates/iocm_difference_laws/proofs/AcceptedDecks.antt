@@ -1,5 +1,6 @@
 -- A configuration that is read of an accepted deck is one that a deck gives.
-use Rattle.std.proofs.Common.{◌≡◌, ℕ, Bool, true, false, cond, List, [], ◌∷◌, Option, Some, Result, Ok, Err, refl, sym, subst, ◌∙◌}
+use Rattle.std.proofs.Common.{◌≡◌, ℕ, Bool, true, false, cond, List, [], ◌∷◌, Option, Some, Result, Ok, Err, refl, sym}
+use Rattle.std.proofs.Common.{subst, ◌∙◌}
 use Rattle.std.specs.FinMap.{find, get-from_entries}
 use Rattle.std.specs.List.{All}
 use Rattle.std.specs.Ordering.{eq_by_cmp}
@@ -34,30 +35,36 @@ pub record IsReadOf (bytes : List ℕ) (c : Configuration) : Type 0 where
 
 -- the configuration from the lines, as the commands take it, is that of the records
 by_records : (cards : Result (List Card) Fault)
-    → ((cards >>= statements_of) >>= parsed >>= deck_records >>= λ records. Ok (configuration_of records)) ≡ (cards >>= configuration_in)
+    → ((cards >>= statements_of) >>= parsed >>= deck_records >>= λ records. Ok (configuration_of records))
+    ≡ (cards >>= configuration_in)
 by_records (Ok cards) = refl
 by_records (Err fault) = refl
 
 pub read_of : (bytes : List ℕ) (c : Configuration) → IsAcceptedDeck bytes c → IsReadOf bytes c
 read_of bytes c is = by (records_in bytes) refl (by_records (cards_of bytes) ∙ is.read)
   where
-    by : (read : Result (List Rec) Fault) → records_in bytes ≡ read → (read >>= λ records. Ok (configuration_of records)) ≡ Ok c → IsReadOf bytes c
+    by : (read : Result (List Rec) Fault) → records_in bytes ≡ read
+        → (read >>= λ records. Ok (configuration_of records)) ≡ Ok c → IsReadOf bytes c
     by (Err fault) same none = cc
     by (Ok records) same some = record { records = records; are_read = same; own = cc }
 
 -- ---- each is such as decks give
 
-found_by : (P : Rec → Type 0) (b : Bool) (first r : Rec) (rest : Option Rec) → P first → (rest ≡ Some r → P r) → cond b (Some first) rest ≡ Some r → P r
+found_by : (P : Rec → Type 0) (b : Bool) (first r : Rec) (rest : Option Rec) → P first → (rest ≡ Some r → P r)
+    → cond b (Some first) rest ≡ Some r → P r
 found_by P true first r rest own later is = let same : first ≡ r = cc in subst P same own
 found_by P false first r rest own later is = later is
 
-found : (P : Rec → Type 0) (records : List Rec) (k : Key) (r : Rec) → All P records → find key_cmp k (with_keys records) ≡ Some r → P r
+found : (P : Rec → Type 0) (records : List Rec) (k : Key) (r : Rec) → All P records
+    → find key_cmp k (with_keys records) ≡ Some r → P r
 found P [] k r all is = cc
 found P (x ∷ records) k r all is =
-    found_by P (eq_by_cmp key_cmp k (key_of x)) x r (find key_cmp k (with_keys records)) (All-head P x records all) (found P records k r (All-tail P x records all)) is
+    found_by P (eq_by_cmp key_cmp k (key_of x)) x r (find key_cmp k (with_keys records)) (All-head P x records all)
+    (found P records k r (All-tail P x records all)) is
 
 has_given : (records : List Rec) → All IsGiven records → HasGiven (configuration_of records)
-has_given records all k r there = found IsGiven records k r all (sym (get-from_entries keys_total (with_keys records) k) ∙ there)
+has_given records all k r there =
+    found IsGiven records k r all (sym (get-from_entries keys_total (with_keys records) k) ∙ there)
 
 pub accepted_decks_are_configurations_of_decks : AcceptedDecksAreConfigurationsOfDecks
 accepted_decks_are_configurations_of_decks bytes c is =

@@ -23,7 +23,8 @@ same_tree x y h = cc
 
 pub text_means_the_difference : TextMeansTheDifference
 text_means_the_difference old c d t of first second few is =
-    let again : IsReadAsActions (difference_text old (difference c d)) (difference c d) = difference_is_read_again_as_one old c d of first second few in
+    let again : IsReadAsActions (difference_text old (difference c d)) (difference c d) =
+    difference_is_read_again_as_one old c d of first second few in
     let same : again.tree ≡ t = same_tree again.tree t (sym again.is_read ∙ is) in
     let within = gives_trees (difference_text old (difference c d)) t is in
     difference_means c d t second.keyed second.rules (record {

@@ -1,5 +1,6 @@
 -- Each action of the difference of configurations of decks is one that decks give.
-use Rattle.std.proofs.Common.{◌≡◌, ℕ, nat_eq, Bool, true, false, not, cond, ◌||◌, ◌⊎◌, inl, inr, List, [], ◌∷◌, Option, Some, None, refl, sym, ap, subst, ◌∙◌}
+use Rattle.std.proofs.Common.{◌≡◌, ℕ, nat_eq, Bool, true, false, not, cond, ◌||◌, ◌⊎◌, inl, inr, List, [], ◌∷◌, Option}
+use Rattle.std.proofs.Common.{Some, None, refl, sym, ap, subst, ◌∙◌}
 use Rattle.std.proofs.lemmas.Bool.{or_parts, or_cases, and_parts, eqb-true}
 use Rattle.std.proofs.lemmas.List.Elements.{All-head, All-tail, All-cons, All-nil}
 use Rattle.std.proofs.lemmas.List.Sorted.{All-permutation}
@@ -10,7 +11,8 @@ use Rattle.iocm_types.specs.declared.key.Key.{Key}
 use Rattle.iocm_types.specs.declared.key.Key.TheVariants as key
 use Rattle.iocm_types.specs.Name.{is_name}
 use Rattle.iocm_model.specs.Machine.Configuration.{Configuration, lookup_of}
-use Rattle.iocm_model.specs.Machine.Record.{Rec, PathRecord, OnlineRecord, key_of, id, resource, image, limit, path, unit, device, online}
+use Rattle.iocm_model.specs.Machine.Record.{Rec, PathRecord, OnlineRecord, key_of, id, resource, image, limit, path}
+use Rattle.iocm_model.specs.Machine.Record.{unit, device, online}
 use Rattle.iocm_model.specs.Machine.Sight.{has_name, record_lists}
 use Rattle.iocm_model.specs.Operation.State.{opening_state}
 use Rattle.iocm_model.specs.Rules.EachRule.{breaks_v4}
@@ -40,12 +42,14 @@ same_names (a ∷ x) (b ∷ y) is =
     λ i. eqb-true a b both.0 i ∷ same_names x y both.1 i
 
 -- a name in a list of names is one
-named_among : (name : List ℕ) (names : List (List ℕ)) → has_name name names ≡ true → All (λ n. is_name n ≡ true) names → is_name name ≡ true
+named_among : (name : List ℕ) (names : List (List ℕ)) → has_name name names ≡ true → All (λ n. is_name n ≡ true) names
+    → is_name name ≡ true
 named_among name [] among all = cc
 named_among name (x ∷ names) among all =
     by (or_cases _ _ among) (λ more. named_among name names more (All-tail (λ n. is_name n ≡ true) x names all))
   where
-    by : ((pointwise nat_eq name x ≡ true) ⊎ (has_name name names ≡ true)) → (has_name name names ≡ true → is_name name ≡ true) → is_name name ≡ true
+    by : ((pointwise nat_eq name x ≡ true) ⊎ (has_name name names ≡ true))
+        → (has_name name names ≡ true → is_name name ≡ true) → is_name name ≡ true
     by (inl same) later = ap is_name (same_names name x same) ∙ All-head (λ n. is_name n ≡ true) x names all
     by (inr more) later = later more
 
@@ -86,10 +90,12 @@ pair_of_path css number name p given own lists =
     by (inr among) = named_among name p.candidates among given.candidates.each
 
 -- by V4 an online pair is one of a path of the deck
-pair_given : (c : Configuration) → IsConfigurationOfDeck c → (k : Key) (o : OnlineRecord) → get c k ≡ Some (online o) → IsPair o.css o.path o.name
+pair_given : (c : Configuration) → IsConfigurationOfDeck c → (k : Key) (o : OnlineRecord) → get c k ≡ Some (online o)
+    → IsPair o.css o.path o.name
 pair_given c is k o there =
     let kept = (answers_none c (opening_state c).numbers).0 is.rules in
-    let keeps : breaks_v4 c (online o) ≡ false = listed_keeps (breaks_v4 c) c is.keyed kept.1.1.1.0 k (online o) there in
+    let keeps : breaks_v4 c (online o) ≡ false =
+    listed_keeps (breaks_v4 c) c is.keyed kept.1.1.1.0 k (online o) there in
     let at = lookup_of c (key.Path o.css o.path) in
     let lists = is_listing o.name at (not_not (record_lists o.name at)
     (or_parts (not (record_lists o.name at)) _ keeps).0) in
@@ -108,20 +114,24 @@ added c is k (path x) there = is.given k (path x) there
 added c is k (unit x) there = is.given k (unit x) there
 added c is k (device x) there = is.given k (device x) there
 
-own_given : (c : Configuration) → IsConfigurationOfDeck c → (k : Key) (r : Rec) → get c k ≡ Some r → IsGivenKey (key_of r)
+own_given : (c : Configuration) → IsConfigurationOfDeck c → (k : Key) (r : Rec) → get c k ≡ Some r
+    → IsGivenKey (key_of r)
 own_given c is k (online o) there = pair_given c is k o there
 own_given c is k (id x) there = tt
 own_given c is k (resource x) there = tt
-own_given c is k (image x) there = let g = is.given k (image x) there in record { subsystem = g.css; some = g.some; most = g.most }
+own_given c is k (image x) there = let g = is.given k (image x) there in
+    record { subsystem = g.css; some = g.some; most = g.most }
 own_given c is k (limit x) there = let g = is.given k (limit x) there in record { subsystem = g.css; within = g.set }
 own_given c is k (path x) there = (is.given k (path x) there).path
 own_given c is k (unit x) there = (is.given k (unit x) there).number
 own_given c is k (device x) there = let g = is.given k (device x) there in record { within = g.set; last = g.number }
 
-deleted : (c : Configuration) → IsConfigurationOfDeck c → (k : Key) (r : Rec) → get c k ≡ Some r → IsGivenAction (delete k)
+deleted : (c : Configuration) → IsConfigurationOfDeck c → (k : Key) (r : Rec) → get c k ≡ Some r
+    → IsGivenAction (delete k)
 deleted c is k r there = subst IsGivenKey (keyed_own c is.keyed k r there) (own_given c is k r there)
 
-modified : (c : Configuration) → IsConfigurationOfDeck c → (k : Key) (r : Rec) → get c k ≡ Some r → ((o : OnlineRecord) → modify r ≡ modify (online o) → ⊥)
+modified : (c : Configuration) → IsConfigurationOfDeck c → (k : Key) (r : Rec) → get c k ≡ Some r
+    → ((o : OnlineRecord) → modify r ≡ modify (online o) → ⊥)
     → IsGivenAction (modify r)
 modified c is k (online o) there no_pair = no_pair o refl
 modified c is k (id x) there no_pair = is.given k (id x) there
@@ -137,7 +147,8 @@ modified c is k (device x) there no_pair = is.given k (device x) there
 NoPair : Action → Type 0
 NoPair a = (o : OnlineRecord) → a ≡ modify (online o) → ⊥
 
-by_modified : (t : Bool) (d : Configuration) → IsConfigurationOfDeck d → (k : Key) (new : Rec) (x : Action) → get d k ≡ Some new → NoPair x
+by_modified : (t : Bool) (d : Configuration) → IsConfigurationOfDeck d → (k : Key) (new : Rec) (x : Action)
+    → get d k ≡ Some new → NoPair x
     → cond t None (Some (modify new)) ≡ Some x → IsGivenAction x
 unfolding NoPair
 by_modified true d is k new x there no_pair made = cc
@@ -145,14 +156,16 @@ by_modified false d is k new x there no_pair made =
     let same : modify new ≡ x = cc in
     subst IsGivenAction same (modified d is k new there (λ o h. no_pair o (sym same ∙ h)))
 
-by_action : (c d : Configuration) → IsConfigurationOfDeck c → IsConfigurationOfDeck d → (k : Key) (a b : Option Rec) (x : Action) → get c k ≡ a → get d k ≡ b
+by_action : (c d : Configuration) → IsConfigurationOfDeck c → IsConfigurationOfDeck d
+    → (k : Key) (a b : Option Rec) (x : Action) → get c k ≡ a → get d k ≡ b
     → NoPair x → action_between k a b ≡ Some x → IsGivenAction x
 by_action c d old new k None None x was will no_pair made = cc
 by_action c d old new k None (Some r) x was will no_pair made =
     let same : add r ≡ x = cc in subst IsGivenAction same (added d new k r will)
 by_action c d old new k (Some r) None x was will no_pair made =
     let same : delete k ≡ x = cc in subst IsGivenAction same (deleted c old k r was)
-by_action c d old new k (Some r) (Some s) x was will no_pair made = by_modified (same_record r s) d new k s x will no_pair made
+by_action c d old new k (Some r) (Some s) x was will no_pair made =
+    by_modified (same_record r s) d new k s x will no_pair made
 
 -- what holds where another thing holds too
 joined : (P Q : Action → Type 0) → (xs : List Action) → All (λ x. P x → Q x) xs → All P xs → All Q xs
@@ -164,7 +177,9 @@ pub differences_are_given : DifferencesAreGiven
 unfolding NoPair
 differences_are_given c d old new =
     joined NoPair IsGivenAction (difference c d)
-    (All-permutation (λ x. NoPair x → IsGivenAction x) (actions_between c d) (difference c d) (passes_permute (actions_between c d))
+    (All-permutation (λ x. NoPair x → IsGivenAction x) (actions_between c d) (difference c d)
+    (passes_permute (actions_between c d))
     (all_made (λ x. NoPair x → IsGivenAction x) (λ k. action_between k (get c k) (get d k))
-    (λ k x made no_pair. by_action c d old new k (get c k) (get d k) x refl refl no_pair made) (differing same_record c d)))
+    (λ k x made no_pair. by_action c d old new k (get c k) (get d k) x refl refl no_pair made)
+    (differing same_record c d)))
     (modifies_no_pair c d old.keyed new.keyed)

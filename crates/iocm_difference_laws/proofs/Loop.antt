@@ -1,5 +1,6 @@
 -- What `apply` prints of what `diff` prints.
-use Rattle.std.proofs.Common.{◌≡◌, ℕ, nat_lt, Bool, true, false, cond, List, length, Option, Some, None, Err, refl, sym, ap, ◌∙◌}
+use Rattle.std.proofs.Common.{◌≡◌, ℕ, nat_lt, Bool, true, false, cond, List, length, Option, Some, None, Err, refl, sym}
+use Rattle.std.proofs.Common.{ap, ◌∙◌}
 use Rattle.iocm_types.specs.declared.refused.At.TheVariants.{Nothing}
 use Rattle.iocm_types.specs.declared.rule.Rule.TheVariants.{C2}
 use Rattle.iocm_model.specs.Machine.Configuration.{Configuration}
@@ -35,13 +36,16 @@ abbrev deck_asked : Wanted → Question
 deck_asked w = record { report = Deck; wanted = w }
 
 -- what was there is that of a deck
-old_of_deck : (with_old : Bool) (c : Configuration) → IsConfigurationOfDeck c → IsOldOfDecks (cond with_old (Some c) None)
+old_of_deck : (with_old : Bool) (c : Configuration) → IsConfigurationOfDeck c
+    → IsOldOfDecks (cond with_old (Some c) None)
 old_of_deck true c is = (is.keyed, is.given)
 old_of_deck false c is = tt
 
 -- where the configuration that is reached has this deck, it is printed, or the refusal is
-module _ (w : Wanted) (s : State) (d : Configuration) (p : Performed) (same : deck_text p.state.config ≡ (canonical_done d).text) where
-  printed_over : (o : Option Rec) → made (deck_asked w) s (unless_over_limit o p) ≡ deck_or_refusal (unless_over_limit o p) (canonical_done d)
+module _ (w : Wanted) (s : State) (d : Configuration) (p : Performed)
+    (same : deck_text p.state.config ≡ (canonical_done d).text) where
+  printed_over : (o : Option Rec)
+      → made (deck_asked w) s (unless_over_limit o p) ≡ deck_or_refusal (unless_over_limit o p) (canonical_done d)
   printed_over None = ap (λ text. record { text = text; status = Done }) same
   printed_over (Some r) = refl
 
@@ -53,11 +57,13 @@ module _ (w : Wanted) (s : State) (d : Configuration) (p : Performed) (same : de
 
 -- what is printed of the outcome of the difference
 printed_between : (w : Wanted) (bytes : List ℕ) (c d : Configuration) → IsAcceptedDeck bytes d
-    → made (deck_asked w) (opening_state c) (outcome_between c d) ≡ deck_or_refusal (outcome_between c d) (canonical_done d)
+    → made (deck_asked w) (opening_state c) (outcome_between c d)
+    ≡ deck_or_refusal (outcome_between c d) (canonical_done d)
 printed_between w bytes c d is =
     let p = performed_between c d in
     printed_by w (opening_state c) d p
-    (ap deck_text (reaches_the_new c d (accepted_decks_are_configurations_of_decks bytes d is).keyed) ∙ deck_of_a_deck_says_all bytes d is)
+    (ap deck_text (reaches_the_new c d (accepted_decks_are_configurations_of_decks bytes d is).keyed)
+    ∙ deck_of_a_deck_says_all bytes d is)
     (nat_lt most_leaves (length (difference c d))) (first_over_limit d p.state.numbers)
 
 pub the_loop_closes : TheLoopCloses
@@ -67,8 +73,10 @@ the_loop_closes with_old w old new c d first second few =
     let was = cond with_old (Some c) None in
     let of = old_of_deck with_old c before in
     let again = difference_is_read_again_as_one was c d of before after few in
-    ap (λ (shown : Shown). applied (deck_asked w) old shown.text) (diff_prints_the_difference with_old old new c d first second)
+    ap (λ (shown : Shown). applied (deck_asked w) old shown.text)
+    (diff_prints_the_difference with_old old new c d first second)
     ∙ apply_prints (deck_asked w) old (text_between with_old c d) c again.tree first again.is_read
-    ∙ ap (made (deck_asked w) (opening_state c)) (text_means_the_difference was c d again.tree of before after few again.is_read)
+    ∙ ap (made (deck_asked w) (opening_state c))
+    (text_means_the_difference was c d again.tree of before after few again.is_read)
     ∙ printed_between w new c d second
     ∙ ap (deck_or_refusal (outcome_between c d)) (sym (write_prints new d second))

@@ -25,13 +25,15 @@ use Rattle.iocm_difference_laws.proofs.AcceptedDecks.{accepted_decks_are_configu
 use Rattle.iocm_difference_laws.proofs.Loop.{the_loop_closes}
 
 -- few edits are refused with V13 alone
-outcome_of_few : (c d : Configuration) → count_between c d ≤ most_leaves → outcome_between c d ≡ unless_over_limit (without_room c d) (performed_between c d)
+outcome_of_few : (c d : Configuration) → count_between c d ≤ most_leaves
+    → outcome_between c d ≡ unless_over_limit (without_room c d) (performed_between c d)
 outcome_of_few c d few =
     ap (λ b. cond b (Err (refusal_at C2 Nothing)) (unless_over_limit (without_room c d) (performed_between c d)))
     (not_over most_leaves (length (difference c d)) few)
 
 -- what is printed, by the first device without room
-printed_of : (with_old : Bool) (w : Wanted) (old new : List ℕ) (c d : Configuration) (o : Option Rec) → IsAcceptedDeck old c → IsAcceptedDeck new d
+printed_of : (with_old : Bool) (w : Wanted) (old new : List ℕ) (c d : Configuration) (o : Option Rec)
+    → IsAcceptedDeck old c → IsAcceptedDeck new d
     → count_between c d ≤ most_leaves → without_room c d ≡ o
     → applied (record { report = Deck; wanted = w }) old (differed with_old old new).text
     ≡ deck_or_refusal (unless_over_limit o (performed_between c d)) (answered Write new)
@@ -41,11 +43,13 @@ printed_of with_old w old new c d o first second few is =
     (outcome_of_few c d few ∙ ap (λ (one : Option Rec). unless_over_limit one (performed_between c d)) is)
 
 pub no_room_is_refused : NoRoomIsRefused
-no_room_is_refused with_old w old new c d r first second few is = printed_of with_old w old new c d (Some r) first second few is
+no_room_is_refused with_old w old new c d r first second few is =
+    printed_of with_old w old new c d (Some r) first second few is
 
 pub room_closes_the_loop : RoomClosesTheLoop
 room_closes_the_loop with_old w old new c d first second few for_old for_new =
     let before = (accepted_decks_are_configurations_of_decks old c first).keyed in
     let after = (accepted_decks_are_configurations_of_decks new d second).keyed in
     printed_of with_old w old new c d None first second few
-    ((names_none_with_room d (performed_between c d).state.numbers after).1 (difference_has_room c d before after for_old for_new))
+    ((names_none_with_room d (performed_between c d).state.numbers after).1
+    (difference_has_room c d before after for_old for_new))

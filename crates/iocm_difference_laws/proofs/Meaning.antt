@@ -1,5 +1,6 @@
 -- What the change of a difference means, proved of the definitions.
-use Rattle.std.proofs.Common.{◌≡◌, ℕ, ◌≤◌, nat_lt, Bool, true, false, cond, List, [], ◌∷◌, map, length, refl, sym, ap, subst, ◌∙◌, arith}
+use Rattle.std.proofs.Common.{◌≡◌, ℕ, ◌≤◌, nat_lt, Bool, true, false, cond, List, [], ◌∷◌, map, length, refl, sym, ap}
+use Rattle.std.proofs.Common.{subst, ◌∙◌, arith}
 use Rattle.std.specs.Prelude.{Ok, Err}
 use Rattle.std.proofs.lemmas.Bool.Decides.{nat_tests}
 use Rattle.std.proofs.lemmas.List.Sorted.{IsPermutation-refl}
@@ -21,14 +22,16 @@ use Rattle.iocm_difference.specs.Laws.{config_after_all}
 use Rattle.iocm_difference.proofs.Differences.{difference_leads}
 use Rattle.iocm_difference_writer.specs.Again.{edits_in}
 use Rattle.iocm_difference_laws.specs.Opened.{edits_of, performed_between}
-use Rattle.iocm_difference_laws.specs.Meaning.{IsTreeOfActions, first_over_limit, unless_over_limit, DifferenceMeans, ReachesTheNew}
+use Rattle.iocm_difference_laws.specs.Meaning.{IsTreeOfActions, first_over_limit, unless_over_limit, DifferenceMeans}
+use Rattle.iocm_difference_laws.specs.Meaning.{ReachesTheNew}
 use Rattle.iocm_difference_laws.proofs.Accepted.{difference_accepted}
 use Rattle.iocm_difference_laws.proofs.Limits.{only_limits, checked_limits}
 use Rattle.iocm_difference_laws.proofs.Rows.{plain_edits, performed, rows_mean, edits_few}
 
 -- ---- the configuration that is reached
 
-pub config_of_all : (actions : List Action) (s : State) → (state_after_all (edits_of actions) s).config ≡ config_after_all actions s.config
+pub config_of_all : (actions : List Action) (s : State)
+    → (state_after_all (edits_of actions) s).config ≡ config_after_all actions s.config
 config_of_all [] s = refl
 config_of_all (a ∷ actions) s = config_of_all actions (state_after (bare a).edit s)
 
@@ -56,7 +59,8 @@ same_length [] = refl
 same_length (a ∷ actions) = omega (arith, same_length actions)
 
 -- a tree has too many leaves exactly where there are too many actions
-same_limit : (actions : List Action) (t : CarriedTree) → IsTreeOfActions actions t → nat_lt most_leaves (leaves_of (plain_tree t)) ≡ nat_lt most_leaves (length actions)
+same_limit : (actions : List Action) (t : CarriedTree) → IsTreeOfActions actions t
+    → nat_lt most_leaves (leaves_of (plain_tree t)) ≡ nat_lt most_leaves (length actions)
 same_limit actions t is =
     let listed : length (edits_in t) ≡ length actions = ap length is.edits ∙ same_length actions in
     same_limit_by most_leaves (length actions) (leaves_of (plain_tree t)) (nat_lt most_leaves (length actions)) refl
@@ -68,11 +72,13 @@ plain_bare : (actions : List Action) → plain_edits (map bare actions) ≡ edit
 plain_bare [] = refl
 plain_bare (a ∷ actions) = ap (λ es. (bare a).edit ∷ es) (plain_bare actions)
 
-tree_means : (actions : List Action) (t : CarriedTree) (s : State) → IsTreeOfActions actions t → AreAccepted (edits_of actions) s
+tree_means : (actions : List Action) (t : CarriedTree) (s : State) → IsTreeOfActions actions t
+    → AreAccepted (edits_of actions) s
     → node_meaning (plain_tree t) 0 s ≡ Ok (performed (edits_of actions) s)
 tree_means actions t s is accepted =
     let same : plain_edits (edits_in t) ≡ edits_of actions = ap plain_edits is.edits ∙ plain_bare actions in
-    rows_mean t 0 s is.in_rows (subst (λ es. AreAccepted es s) (sym same) accepted) ∙ ap (λ es. Ok (performed es s)) same
+    rows_mean t 0 s is.in_rows (subst (λ es. AreAccepted es s) (sym same) accepted)
+    ∙ ap (λ es. Ok (performed es s)) same
 
 -- ---- the whole
 
@@ -89,7 +95,9 @@ difference_means c d t keyed kept is =
     let r = performed_between c d in
     let whole = if_rules_hold 0 (node_meaning (plain_tree t) 0 s) in
     let many = nat_lt most_leaves (leaves_of (plain_tree t)) in
-    ap (λ deep. cond deep (Err (refusal_at C1 Nothing)) (cond many (Err (refusal_at C2 Nothing)) whole)) (not_over most_depth (depth_of (plain_tree t)) is.depth)
+    ap (λ deep. cond deep (Err (refusal_at C1 Nothing)) (cond many (Err (refusal_at C2 Nothing)) whole))
+    (not_over most_depth (depth_of (plain_tree t)) is.depth)
     ∙ ap (λ over_leaves. cond over_leaves (Err (refusal_at C2 Nothing)) whole) (same_limit (difference c d) t is)
     ∙ ap (λ o. cond (nat_lt most_leaves (length (difference c d))) (Err (refusal_at C2 Nothing)) o)
-    (ap (if_rules_hold 0) (tree_means (difference c d) t s is (difference_accepted c d keyed)) ∙ checked d r (reaches_the_new c d keyed) kept)
+    (ap (if_rules_hold 0) (tree_means (difference c d) t s is (difference_accepted c d keyed))
+    ∙ checked d r (reaches_the_new c d keyed) kept)

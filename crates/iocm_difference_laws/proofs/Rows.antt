@@ -1,5 +1,6 @@
 -- A tree of Rows alone performs its edits one after the other, and has a leaf for each.
-use Rattle.std.proofs.Common.{◌≡◌, ℕ, ◌+◌, ◌≤◌, nat_eq, eqb-true, cond, Bool, true, false, List, [], ◌∷◌, ◌++◌, map, length, refl, sym, ap, subst, ◌∙◌, length-append, arith}
+use Rattle.std.proofs.Common.{◌≡◌, ℕ, ◌+◌, ◌≤◌, nat_eq, eqb-true, cond, Bool, true, false, List, [], ◌∷◌, ◌++◌, map}
+use Rattle.std.proofs.Common.{length, refl, sym, ap, subst, ◌∙◌, length-append, arith}
 use Rattle.std.specs.Prelude.{Ok}
 use Rattle.std.proofs.lemmas.List.{map-append}
 use Rattle.iocm_model.specs.Operation.State.{State}
@@ -9,7 +10,8 @@ use Rattle.iocm_model.specs.Change.Tree.{or_one, leaves_of, leaves_in, depth_in,
 use Rattle.iocm_model.specs.Change.Meaning.{Performed, unless_refused, after_run, and_then, node_meaning, parts_meaning}
 use Rattle.iocm_model.proofs.Change.RunsGoBack.{all_append}
 use Rattle.iocm_tree.specs.Carried.{Carried, bare}
-use Rattle.iocm_tree.specs.Trees.{CarriedTree, CarriedParts, leaf, row, group, choose, none, part, parts_from, plain_tree, plain_parts}
+use Rattle.iocm_tree.specs.Trees.{CarriedTree, CarriedParts, leaf, row, group, choose, none, part, parts_from}
+use Rattle.iocm_tree.specs.Trees.{plain_tree, plain_parts}
 use Rattle.iocm_difference_writer.specs.Again.{edits_in, edits_among, IsOfRows, AreOfRows}
 use Rattle.iocm_difference_laws.specs.Meaning.{OneRowIsATree}
 
@@ -29,7 +31,8 @@ accepted_behind : (xs ys : List Edit) (s : State) → AreAccepted (xs ++ ys) s �
 accepted_behind [] ys s accepted = accepted
 accepted_behind (x ∷ xs) ys s accepted = accepted_behind xs ys (state_after x s) accepted.1
 
-performed_both : (xs ys : List Edit) (s : State) → after_run (performed xs s) (Ok (performed ys (state_after_all xs s))) ≡ Ok (performed (xs ++ ys) s)
+performed_both : (xs ys : List Edit) (s : State)
+    → after_run (performed xs s) (Ok (performed ys (state_after_all xs s))) ≡ Ok (performed (xs ++ ys) s)
 performed_both xs ys s = λ i. Ok (record { state = sym (all_append xs ys s) i; edits = xs ++ ys })
 
 mutual
@@ -48,10 +51,12 @@ mutual
       let xs = plain_edits (edits_in p) in
       let ys = plain_edits (edits_among ps) in
       let next = n + nodes_of (plain_tree p) in
-      let split : plain_edits (edits_in p ++ edits_among ps) ≡ xs ++ ys = map-append (λ (c : Carried). c.edit) (edits_in p) (edits_among ps) in
+      let split : plain_edits (edits_in p ++ edits_among ps) ≡ xs ++ ys =
+      map-append (λ (c : Carried). c.edit) (edits_in p) (edits_among ps) in
       let both : AreAccepted (xs ++ ys) s = subst (λ es. AreAccepted es s) split accepted in
       ap (λ o. and_then o (parts_meaning (plain_parts ps) next)) (rows_mean p n s rows.0 (accepted_front xs ys s both))
-      ∙ ap (after_run (performed xs s)) (parts_mean ps next (state_after_all xs s) rows.1 (accepted_behind xs ys s both))
+      ∙ ap (after_run (performed xs s))
+      (parts_mean ps next (state_after_all xs s) rows.1 (accepted_behind xs ys s both))
       ∙ performed_both xs ys s
       ∙ ap (λ es. Ok (performed es s)) (sym split)
 
@@ -72,7 +77,8 @@ mutual
 
   edits_few_among : (ps : CarriedParts) → length (edits_among ps) ≤ leaves_in (plain_parts ps)
   edits_few_among none = omega arith
-  edits_few_among (part p ps) = omega (arith, length-append (edits_in p) (edits_among ps), edits_few p, edits_few_among ps)
+  edits_few_among (part p ps) =
+      omega (arith, length-append (edits_in p) (edits_among ps), edits_few p, edits_few_among ps)
 
 -- ---- one Row with a leaf for each action
 
@@ -88,7 +94,8 @@ depth_beside : (actions : List Action) → depth_in (plain_parts (parts_from (ma
 depth_beside [] = omega arith
 depth_beside (a ∷ actions) = omega (arith, depth_beside actions)
 
-leaves_beside : (actions : List Action) → leaves_in (plain_parts (parts_from (map (λ a. leaf (bare a)) actions))) ≡ length actions
+leaves_beside : (actions : List Action)
+    → leaves_in (plain_parts (parts_from (map (λ a. leaf (bare a)) actions))) ≡ length actions
 leaves_beside [] = refl
 leaves_beside (a ∷ actions) = omega (arith, leaves_beside actions)
 

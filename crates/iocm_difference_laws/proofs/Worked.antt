@@ -47,26 +47,31 @@ keyed : (rs : List Rec) → T (is_sorted key_cmp (with_keys rs)) → IsKeyed (co
 keyed rs up = in_order rs up ∙ ap with_keys (sym (values_of rs (entries (configuration_of rs)) (in_order rs up)))
 
 found : (old new : List Rec) → T (is_sorted key_cmp (with_keys old)) → T (is_sorted key_cmp (with_keys new))
-    → difference (configuration_of old) (configuration_of new) ≡ by_passes (filter_map action_at (pairs_of (with_keys old) (with_keys new)))
+    → difference (configuration_of old) (configuration_of new)
+    ≡ by_passes (filter_map action_at (pairs_of (with_keys old) (with_keys new)))
 found old new up rise = ap by_passes (sym (actions_listed (configuration_of old) (configuration_of new))
     ∙ (λ i. filter_map action_at (pairs_of (in_order old up i) (in_order new rise i))))
 
 abbrev the_actions : List Action
-the_actions = delete (device_key 0x1000) ∷ delete (device_key 0x1001) ∷ delete (device_key 0x1002) ∷ add limit_of_one ∷ []
+the_actions = delete (device_key 0x1000) ∷ delete (device_key 0x1001) ∷ delete (device_key 0x1002) ∷ add limit_of_one
+    ∷ []
 
 the_difference : difference four_there one_there ≡ the_actions
 the_difference = found base one_device tt tt ∙ refl
 
-refused_listed : meaning (plain_tree (row_of the_actions)) base_opened ≡ Err (record { rule = V13; node = Some 0; at = at.Key (device_key 0x1003) })
+refused_listed : meaning (plain_tree (row_of the_actions)) base_opened
+    ≡ Err (record { rule = V13; node = Some 0; at = at.Key (device_key 0x1003) })
 unfolding on_lists base_listing
 refused_listed = meaning_refused
-    (in_row (parts_listed (plain_delete (device_key 0x1000) ∷ plain_delete (device_key 0x1001) ∷ plain_delete (device_key 0x1002) ∷ plain_add limit_of_one ∷ [])))
+    (in_row (parts_listed (plain_delete (device_key 0x1000) ∷ plain_delete (device_key 0x1001)
+    ∷ plain_delete (device_key 0x1002) ∷ plain_add limit_of_one ∷ [])))
     _ base_opened base_listing base_is refl
 
 its_refusal : meaning (plain_tree (row_of (difference four_there one_there))) (opening_state four_there)
     ≡ Err (record { rule = V13; node = Some 0; at = at.Key (device_key 0x1003) })
 unfolding base_opened
-its_refusal = ap (λ actions. meaning (plain_tree (row_of actions)) (opening_state four_there)) the_difference ∙ refused_listed
+its_refusal = ap (λ actions. meaning (plain_tree (row_of actions)) (opening_state four_there)) the_difference
+    ∙ refused_listed
 
 new_keeps : first_breach_at_opening one_device ≡ None
 unfolding states_on_lists
@@ -78,6 +83,7 @@ a_device_keeps_its_number = record {
   new = new_keeps;
   actions = the_difference;
   refused = its_refusal;
-  outcome = sym (difference_means four_there one_there (row_of (difference four_there one_there)) (keyed one_device tt) new_keeps
+  outcome = sym (difference_means four_there one_there (row_of (difference four_there one_there)) (keyed one_device tt)
+      new_keeps
       (one_row_is_a_tree (difference four_there one_there))) ∙ its_refusal;
 }

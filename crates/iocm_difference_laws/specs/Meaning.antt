@@ -1,5 +1,6 @@
 -- What the change of a difference means on the machine that is opened from the old configuration.
-use Rattle.std.specs.Prelude.{◌≡◌, ◌≤◌, ◌↔◌, nat_lt, true, false, if◌then◌else◌, Option, None, Some, Ok, Err, List, map, length}
+use Rattle.std.specs.Prelude.{◌≡◌, ◌≤◌, ◌↔◌, nat_lt, true, false, if◌then◌else◌, Option, None, Some, Ok, Err, List, map}
+use Rattle.std.specs.Prelude.{length}
 use Rattle.std.specs.FinMap.{get}
 use Rattle.std.specs.declared.cmp.Ordering.TheVariants.{Less}
 use Rattle.iocm_types.specs.declared.key.Key.{Key}

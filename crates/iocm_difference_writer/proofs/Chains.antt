@@ -1,6 +1,7 @@
 -- Runs are chains: each action of a run goes with those before it. Together they are the actions, in
 -- their order.
-use Rattle.std.proofs.Common.{◌≡◌, ◌∙◌, ◌+◌, ℕ, Bool, true, false, if◌then◌else◌, List, [], ◌∷◌, ◌++◌, length, refl, sym, ap, append_assoc, arith}
+use Rattle.std.proofs.Common.{◌≡◌, ◌∙◌, ◌+◌, ℕ, Bool, true, false, if◌then◌else◌, List, [], ◌∷◌, ◌++◌, length, refl}
+use Rattle.std.proofs.Common.{sym, ap, append_assoc, arith}
 use Rattle.std.specs.List.{AllByRecursion, flat_map}
 use Rattle.iocm_model.specs.Change.Edit.{Action}
 use Rattle.iocm_difference_writer.specs.Runs.{goes_with, runs, runs_from}
@@ -36,19 +37,24 @@ last_longer a [] b = refl
 last_longer a (c ∷ actions) b = last_longer c actions b
 
 -- a run so far, its last action, and what follows it
-are_runs_from : (a : Action) (others : List Action) (last : Action) (rest : List Action) → IsChain 1 a others → last_of a others ≡ last
+are_runs_from : (a : Action) (others : List Action) (last : Action) (rest : List Action) → IsChain 1 a others
+    → last_of a others ≡ last
     → AreRuns (runs_from (a ∷ others) last rest)
 are_runs_from a others last [] chain ends = (chain, tt)
 are_runs_from a others last (b ∷ rest) chain ends =
     by (goes_with (length (a ∷ others)) last b) refl
-    (λ longer. are_runs_from a (others ++ b ∷ []) b rest longer (last_longer a others b)) (are_runs_from b [] b rest tt refl)
+    (λ longer. are_runs_from a (others ++ b ∷ []) b rest longer (last_longer a others b))
+    (are_runs_from b [] b rest tt refl)
   where
     by : (test : Bool) → goes_with (length (a ∷ others)) last b ≡ test
-        → (IsChain 1 a (others ++ b ∷ []) → AreRuns (runs_from (a ∷ others ++ b ∷ []) b rest)) → AreRuns (runs_from (b ∷ []) b rest)
+        → (IsChain 1 a (others ++ b ∷ []) → AreRuns (runs_from (a ∷ others ++ b ∷ []) b rest))
+        → AreRuns (runs_from (b ∷ []) b rest)
         → AreRuns (if test then runs_from ((a ∷ others) ++ b ∷ []) b rest else (a ∷ others) ∷ runs_from (b ∷ []) b rest)
     by true goes_on more next =
         let same : 1 + length others ≡ length (a ∷ others) = omega arith in
-        more (chain_longer 1 a others b chain (ap (λ n. goes_with n (last_of a others) b) same ∙ ap (λ x. goes_with (length (a ∷ others)) x b) ends ∙ goes_on))
+        more (chain_longer 1 a others b chain
+        (ap (λ n. goes_with n (last_of a others) b) same ∙ ap (λ x. goes_with (length (a ∷ others)) x b) ends
+        ∙ goes_on))
     by false other more next = (chain, next)
 
 pub are_runs : (actions : List Action) → AreRuns (runs actions)
@@ -61,9 +67,11 @@ joined rs = flat_map (λ run. run) rs
 
 joined_from : (run : List Action) (last : Action) (rest : List Action) → joined (runs_from run last rest) ≡ run ++ rest
 joined_from run last [] = refl
-joined_from run last (b ∷ rest) = by (goes_with (length run) last b) (joined_from (run ++ b ∷ []) b rest) (joined_from (b ∷ []) b rest)
+joined_from run last (b ∷ rest) =
+    by (goes_with (length run) last b) (joined_from (run ++ b ∷ []) b rest) (joined_from (b ∷ []) b rest)
   where
-    by : (test : Bool) → joined (runs_from (run ++ b ∷ []) b rest) ≡ (run ++ b ∷ []) ++ rest → joined (runs_from (b ∷ []) b rest) ≡ b ∷ rest
+    by : (test : Bool) → joined (runs_from (run ++ b ∷ []) b rest) ≡ (run ++ b ∷ []) ++ rest
+        → joined (runs_from (b ∷ []) b rest) ≡ b ∷ rest
         → joined (if test then runs_from (run ++ b ∷ []) b rest else run ∷ runs_from (b ∷ []) b rest) ≡ run ++ b ∷ rest
     by true more next = more ∙ append_assoc run (b ∷ []) rest
     by false more next = ap (λ x. run ++ x) next

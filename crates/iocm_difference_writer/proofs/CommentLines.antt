@@ -1,12 +1,15 @@
 -- The cards of a comment: each is a line that is printable, short, and begins with *.
-use Rattle.std.proofs.Common.{◌≡◌, ◌≢◌, ◌∙◌, ℕ, ◌≤◌, ◌+◌, ◌==◌, Bool, true, false, cond, List, [], ◌∷◌, ◌++◌, All, length, map, replicate, refl, sym, ap, subst, append_assoc, length-append, arith, eqb-true}
+use Rattle.std.proofs.Common.{◌≡◌, ◌≢◌, ◌∙◌, ℕ, ◌≤◌, ◌+◌, ◌==◌, Bool, true, false, cond, List, [], ◌∷◌, ◌++◌, All}
+use Rattle.std.proofs.Common.{length, map, replicate, refl, sym, ap, subst, append_assoc, length-append, arith}
+use Rattle.std.proofs.Common.{eqb-true}
 use Rattle.std.proofs.lemmas.Bool.{false≢true, and_parts}
 use Rattle.std.proofs.lemmas.Grind.{flat_map-append}
 use Rattle.std.proofs.lemmas.List.Elements.{All-head, All-tail}
 use Rattle.std.specs.List.{AllByRecursion, flat_map, list_all}
 use Rattle.iocm_columns.specs.declared.joined.Joined.{Joined}
 use Rattle.iocm_columns.specs.Cards.{is_printable}
-use Rattle.iocm_columns.specs.Written.{cut, cut_from, deck_bytes, name_columns, part_columns, statement_columns, statement_lines}
+use Rattle.iocm_columns.specs.Written.{cut, cut_from, deck_bytes, name_columns, part_columns, statement_columns}
+use Rattle.iocm_columns.specs.Written.{statement_lines}
 use Rattle.iocm_columns.proofs.WrittenLines.{ArePrintable, both_printable}
 use Rattle.iocm_columns.proofs.WrittenWords.{words_are_printable}
 use Rattle.iocm_deck_writer.specs.Canonical.{to_write}
@@ -50,7 +53,8 @@ next_line b bytes is rest = record {
   first = 88 ∷ [];
   more = (32 ∷ (margin_tail ++ b ∷ rest.first)) ∷ rest.more;
   is = ap (λ x. 88 ∷ 10 ∷ 32 ∷ x)
-      (ap (λ x. x ++ 10 ∷ []) (append_assoc margin_tail (b ∷ []) (cut_from 17 bytes)) ∙ append_assoc margin_tail (b ∷ cut_from 17 bytes) (10 ∷ [])
+      (ap (λ x. x ++ 10 ∷ []) (append_assoc margin_tail (b ∷ []) (cut_from 17 bytes))
+      ∙ append_assoc margin_tail (b ∷ cut_from 17 bytes) (10 ∷ [])
       ∙ ap (λ x. margin_tail ++ b ∷ x) rest.is
       ∙ sym (append_assoc margin_tail (b ∷ rest.first) (10 ∷ with_ends rest.more))
       ∙ sym (append_assoc (margin_tail ++ b ∷ rest.first) (10 ∷ []) (with_ends rest.more)));
@@ -60,19 +64,22 @@ next_line b bytes is rest = record {
     record {
       tail = margin_tail ++ b ∷ rest.first;
       is = refl;
-      printable = both_printable margin_tail (b ∷ rest.first) refl (both_printable (b ∷ []) rest.first (rw is refl) rest.printable);
+      printable = both_printable margin_tail (b ∷ rest.first) refl
+          (both_printable (b ∷ []) rest.first (rw is refl) rest.printable);
       short = let room = rest.short in omega (arith, room, length-append margin_tail (b ∷ rest.first));
     },
     rest.others,
   );
 }
 
-same_line : (column b : ℕ) (bytes : List ℕ) → (column == 72) ≡ false → is_printable b ≡ true → IsCut (column + 1) bytes → IsCut column (b ∷ bytes)
+same_line : (column b : ℕ) (bytes : List ℕ) → (column == 72) ≡ false → is_printable b ≡ true → IsCut (column + 1) bytes
+    → IsCut column (b ∷ bytes)
 unfolding cut_from
 same_line column b bytes other is rest = record {
   first = b ∷ rest.first;
   more = rest.more;
-  is = ap (λ t. (cond t (cut ++ b ∷ []) (b ∷ []) ++ cut_from (cond t 17 (column + 1)) bytes) ++ 10 ∷ []) other ∙ ap (λ x. b ∷ x) rest.is;
+  is = ap (λ t. (cond t (cut ++ b ∷ []) (b ∷ []) ++ cut_from (cond t 17 (column + 1)) bytes) ++ 10 ∷ []) other
+      ∙ ap (λ x. b ∷ x) rest.is;
   printable = both_printable (b ∷ []) rest.first (rw is refl) rest.printable;
   short = let room = rest.short in omega (arith, room);
   others = rest.others;
@@ -80,13 +87,17 @@ same_line column b bytes other is rest = record {
 
 cut_lines : (column : ℕ) (bytes : List ℕ) → column ≤ 72 → ArePrintable bytes → IsCut column bytes
 unfolding cut_from
-cut_lines column [] within are = record { first = []; more = []; is = refl; printable = refl; short = omega arith; others = tt }
+cut_lines column [] within are =
+    record { first = []; more = []; is = refl; printable = refl; short = omega arith; others = tt }
 cut_lines column (b ∷ bytes) within are =
     let both = and_parts (is_printable b) (list_all is_printable bytes) are in
-    by (column == 72) refl both.0 (cut_lines 17 bytes (omega arith) both.1) (λ less. cut_lines (column + 1) bytes less both.1)
+    by (column == 72) refl both.0 (cut_lines 17 bytes (omega arith) both.1)
+    (λ less. cut_lines (column + 1) bytes less both.1)
   where
-    by : (last : Bool) → (column == 72) ≡ last → is_printable b ≡ true → IsCut 17 bytes → (column + 1 ≤ 72 → IsCut (column + 1) bytes) → IsCut column (b ∷ bytes)
-    by true last is next here = subst (λ c. IsCut c (b ∷ bytes)) (sym (eqb-true column 72 last)) (next_line b bytes is next)
+    by : (last : Bool) → (column == 72) ≡ last → is_printable b ≡ true → IsCut 17 bytes
+        → (column + 1 ≤ 72 → IsCut (column + 1) bytes) → IsCut column (b ∷ bytes)
+    by true last is next here =
+        subst (λ c. IsCut c (b ∷ bytes)) (sym (eqb-true column 72 last)) (next_line b bytes is next)
     by false last is next here =
         let other : column ≢ 72 = λ e. false≢true (sym last ∙ ap (λ c. c == 72) e) in
         same_line column b bytes last is (here (omega (arith, other)))
@@ -102,7 +113,8 @@ columns_printable s can =
     let w = statement_is_writable s can in
     let joined : Joined = to_write s in
     subst ArePrintable (append_assoc (name_columns joined.name) joined.operation (part_columns joined.text))
-    (both_printable (name_columns joined.name ++ joined.operation) (part_columns joined.text) (words_are_printable joined w) (part_printable joined.text w.text))
+    (both_printable (name_columns joined.name ++ joined.operation) (part_columns joined.text)
+    (words_are_printable joined w) (part_printable joined.text w.text))
 
 -- lines that make a text
 record IsInLines (text : List ℕ) : Type 0 where
@@ -117,7 +129,15 @@ blank_first tail are =
     record {
       all = (32 ∷ rest.first) ∷ rest.more;
       is = ap (λ x. 32 ∷ x) (rest.is ∙ sym (append_assoc rest.first (10 ∷ []) (with_ends rest.more)));
-      blank = (record { tail = rest.first; is = refl; printable = rest.printable; short = let room = rest.short in omega (arith, room) }, rest.others);
+      blank = (
+        record {
+          tail = rest.first;
+          is = refl;
+          printable = rest.printable;
+          short = let room = rest.short in omega (arith, room);
+        },
+        rest.others,
+      );
     }
 
 -- the columns behind the first one, which is blank
@@ -127,12 +147,14 @@ columns_behind s = replicate 8 32 ++ ((to_write s).operation ++ part_columns (to
 statement_in_lines : (s : Statement) → CanBeWritten s → IsInLines (statement_lines (to_write s))
 unfolding columns_behind
 statement_in_lines s can =
-    blank_first (columns_behind s) (and_parts (is_printable 32) (list_all is_printable (columns_behind s)) (columns_printable s can)).1
+    blank_first (columns_behind s)
+    (and_parts (is_printable 32) (list_all is_printable (columns_behind s)) (columns_printable s can)).1
 
 both_in_lines : (a b : List ℕ) → IsInLines a → IsInLines b → IsInLines (a ++ b)
 both_in_lines a b first second = record {
   all = first.all ++ second.all;
-  is = ap (λ x. x ++ b) first.is ∙ ap (λ x. with_ends first.all ++ x) second.is ∙ sym (flat_map-append (λ (l : List ℕ). l ++ 10 ∷ []) first.all second.all);
+  is = ap (λ x. x ++ b) first.is ∙ ap (λ x. with_ends first.all ++ x) second.is
+      ∙ sym (flat_map-append (λ (l : List ℕ). l ++ 10 ∷ []) first.all second.all);
   blank = blank_both first.all second.all first.blank second.blank;
 }
   where
@@ -143,7 +165,8 @@ both_in_lines a b first second = record {
 deck_in_lines : (ss : List Statement) → All CanBeWritten ss → IsInLines (deck_bytes (map to_write ss))
 deck_in_lines [] can = record { all = []; is = refl; blank = tt }
 deck_in_lines (s ∷ ss) can =
-    both_in_lines (statement_lines (to_write s)) (deck_bytes (map to_write ss)) (statement_in_lines s (All-head CanBeWritten s ss can))
+    both_in_lines (statement_lines (to_write s)) (deck_bytes (map to_write ss))
+    (statement_in_lines s (All-head CanBeWritten s ss can))
     (deck_in_lines ss (All-tail CanBeWritten s ss can))
 
 -- ---- with * in column 1
@@ -170,7 +193,8 @@ within_line : (before : ℕ) (line rest : List ℕ) → (before == 10) ≡ false
 within_line before [] rest other are = ap (λ end. cond end 42 10 ∷ starred_behind 10 rest) other
 within_line before (b ∷ line) rest other are =
     let both = and_parts (is_printable b) (list_all is_printable line) are in
-    ap (λ end. cond end 42 b ∷ starred_behind b (line ++ 10 ∷ rest)) other ∙ ap (λ x. b ∷ x) (within_line b line rest (not_end b both.0) both.1)
+    ap (λ end. cond end 42 b ∷ starred_behind b (line ++ 10 ∷ rest)) other
+    ∙ ap (λ x. b ∷ x) (within_line b line rest (not_end b both.0) both.1)
 
 -- lines that make a comment
 pub record IsInStars (text : List ℕ) : Type 0 where

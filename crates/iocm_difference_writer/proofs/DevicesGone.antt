@@ -1,5 +1,6 @@
 -- Devices that are deleted by number: one statement is read as all of them.
-use Rattle.std.proofs.Common.{◌≡◌, ◌∙◌, ℕ, zero, suc, ◌≤◌, ◌<◌, ◌+◌, ◌==◌, nat_lt, ◌&&◌, Bool, true, false, None, List, [], ◌∷◌, All, length, map, Ok, codes, refl, sym, ap, subst, arith, eqb-true}
+use Rattle.std.proofs.Common.{◌≡◌, ◌∙◌, ℕ, zero, suc, ◌≤◌, ◌<◌, ◌+◌, ◌==◌, nat_lt, ◌&&◌, Bool, true, false, None, List}
+use Rattle.std.proofs.Common.{[], ◌∷◌, All, length, map, Ok, codes, refl, sym, ap, subst, arith, eqb-true}
 use Rattle.std.proofs.lemmas.Bool.{false≢true}
 use Rattle.std.proofs.lemmas.Bool.Decides.{nat_tests}
 use Rattle.std.proofs.lemmas.List.Elements.{All-head, All-tail}
@@ -53,7 +54,8 @@ abbrev gone : ℕ → ℕ → Action
 gone set number = delete (key.Device set number)
 
 -- the next device of the set, in a statement that may name it too
-next_gone : (count set number : ℕ) (b : Action) → goes_with count (gone set number) b ≡ true → (b ≡ gone set (number + 1)) × (count < 4096)
+next_gone : (count set number : ℕ) (b : Action) → goes_with count (gone set number) b ≡ true
+    → (b ≡ gone set (number + 1)) × (count < 4096)
 next_gone count set number (add r) goes = absurd (false≢true goes)
 next_gone count set number (modify r) goes = absurd (false≢true goes)
 next_gone count set number (delete key.Id) goes = absurd (false≢true goes)
@@ -74,24 +76,30 @@ gone_in_chain : (count set number : ℕ) (actions : List Action) → IsChain cou
 gone_in_chain count set number [] chain = refl
 gone_in_chain count set number (b ∷ actions) chain =
     let next = (next_gone count set number b chain.0).0 in
-    let rest = gone_in_chain (count + 1) set (number + 1) actions (subst (λ x. IsChain (count + 1) x actions) next chain.1) in
+    let rest = gone_in_chain (count + 1) set (number + 1) actions
+    (subst (λ x. IsChain (count + 1) x actions) next chain.1) in
     λ i. next i ∷ rest i
 
-gone_are_few : (count set number : ℕ) (actions : List Action) → count ≤ 4096 → IsChain count (gone set number) actions → count + length actions ≤ 4096
+gone_are_few : (count set number : ℕ) (actions : List Action) → count ≤ 4096 → IsChain count (gone set number) actions
+    → count + length actions ≤ 4096
 gone_are_few count set number [] few chain = omega arith
 gone_are_few count set number (b ∷ actions) few chain =
     let next = next_gone count set number b chain.0 in
     let less = next.1 in
-    let rest = gone_are_few (count + 1) set (number + 1) actions (omega (arith, less)) (subst (λ x. IsChain (count + 1) x actions) next.0 chain.1) in
+    let rest = gone_are_few (count + 1) set (number + 1) actions (omega (arith, less))
+    (subst (λ x. IsChain (count + 1) x actions) next.0 chain.1) in
     omega (arith, rest)
 
-gone_are_within : (count set number : ℕ) (actions : List Action) → IsChain count (gone set number) actions → All IsGivenAction (gone set number ∷ actions)
+gone_are_within : (count set number : ℕ) (actions : List Action) → IsChain count (gone set number) actions
+    → All IsGivenAction (gone set number ∷ actions)
     → number + length actions < 65536
-gone_are_within count set number [] chain given = let last = (All-head IsGivenAction (gone set number) [] given).last in omega (arith, last)
+gone_are_within count set number [] chain given = let last = (All-head IsGivenAction (gone set number) [] given).last in
+    omega (arith, last)
 gone_are_within count set number (b ∷ actions) chain given =
     let next = (next_gone count set number b chain.0).0 in
     let others = All-tail IsGivenAction (gone set number) (b ∷ actions) given in
-    let rest = gone_are_within (count + 1) set (number + 1) actions (subst (λ x. IsChain (count + 1) x actions) next chain.1)
+    let rest = gone_are_within (count + 1) set (number + 1) actions
+    (subst (λ x. IsChain (count + 1) x actions) next chain.1)
     (subst (λ x. All IsGivenAction (x ∷ actions)) next others) in
     omega (arith, rest)
 
@@ -100,7 +108,8 @@ gone_are_within count set number (b ∷ actions) chain given =
 -- a statement without a fault before its values are read, whose values give these keys
 record GivesKeys (set : ℕ) (d : Devices) : Type 0 where
   pub no_fault : key_fault Iodevice (placed 0 (devices_statement set d.first d.count).operands) ≡ None
-  pub gives : (f : Fault) → keys_given f Iodevice (placed 0 (devices_statement set d.first d.count).operands) ≡ Ok (device_keys set d)
+  pub gives : (f : Fault) → keys_given f Iodevice (placed 0 (devices_statement set d.first d.count).operands)
+      ≡ Ok (device_keys set d)
 
 set_is_word : (set : ℕ) → set ≤ 3 → value (hex1 set) ≡ word (hex1 set)
 set_is_word set small = plain_again (hex1 set) (hex1_plain set (omega arith))
@@ -118,32 +127,43 @@ devices_given set d small are = by (set == 0) refl
       gives = λ f. rw (zero_set, devices_again d are) (ap (λ s. Ok (device_keys s d)) (sym (eqb-true set 0 zero_set)));
     }
     by false other = record {
-      no_fault = rw (other, names_one_css (devices_text d) one_css, names_one_css (hex1 set) (hex1_in_one set (omega arith)), set_is_word set small) refl;
+      no_fault = rw (
+        other,
+        names_one_css (devices_text d) one_css,
+        names_one_css (hex1 set) (hex1_in_one set (omega arith)),
+        set_is_word set small,
+      ) refl;
       gives = λ f. rw (other, devices_again d are, set_again set small) refl;
     }
 
-keys_again : (line set : ℕ) (d : Devices) → set ≤ 3 → AreDevices d → keys_of (as_read line (line_with Delete (devices_statement set d.first d.count))) ≡ Ok (device_keys set d)
+keys_again : (line set : ℕ) (d : Devices) → set ≤ 3 → AreDevices d
+    → keys_of (as_read line (line_with Delete (devices_statement set d.first d.count))) ≡ Ok (device_keys set d)
 keys_again line set d small are =
     let given = devices_given set d small are in
-    ap (λ found. keys_unless found (as_read line (line_with Delete (devices_statement set d.first d.count)))) given.no_fault ∙ given.gives (fault.at S4 line)
+    ap (λ found. keys_unless found (as_read line (line_with Delete (devices_statement set d.first d.count))))
+    given.no_fault ∙ given.gives (fault.at S4 line)
 
 -- ---- its line
 
 -- numbers from one on, and places behind it
 places_are : (set first from count : ℕ)
-    → map (λ k. bare (delete k)) (map (λ place. key.Device set (first + place)) (range_with_len from count)) ≡ map bare (map (gone set) (range_with_len (first + from) count))
+    → map (λ k. bare (delete k)) (map (λ place. key.Device set (first + place)) (range_with_len from count))
+    ≡ map bare (map (gone set) (range_with_len (first + from) count))
 places_are set first from zero = refl
 places_are set first from (suc count) =
     let next : first + (from + 1) ≡ first + from + 1 = omega arith in
-    ap (λ rest. bare (gone set (first + from)) ∷ rest) (places_are set first (from + 1) count ∙ ap (λ n. map bare (map (gone set) (range_with_len n count))) next)
+    ap (λ rest. bare (gone set (first + from)) ∷ rest)
+    (places_are set first (from + 1) count ∙ ap (λ n. map bare (map (gone set) (range_with_len n count))) next)
 
 line_of_devices : (set : ℕ) (d : Devices) → set ≤ 3 → AreDevices d
-    → IsLineOf (line_with Delete (devices_statement set d.first d.count)) (map (gone set) (range_with_len d.first d.count))
+    → IsLineOf (line_with Delete (devices_statement set d.first d.count))
+    (map (gone set) (range_with_len d.first d.count))
 line_of_devices set d small are = record {
   can = record {
     field = verb_is_field Delete;
     statement = two_can Iodevice (codes "ADDRESS") (devices_text d) (codes "SCHSET") (set_operand set) refl refl refl
-        (let some = are.some in let last = are.last in devices_clean d.first d.count (omega (arith, some, last)) (omega (arith, last))) (set_clean set small);
+        (let some = are.some in let last = are.last in devices_clean d.first d.count (omega (arith, some, last))
+        (omega (arith, last))) (set_clean set small);
   };
   of_records = tt;
   is_read = λ line.
@@ -157,8 +177,10 @@ line_of_devices set d small are = record {
 }
 
 -- a run that begins with a device that is deleted
-pub gone_run_read : (set number : ℕ) (actions : List Action) → IsChain 1 (gone set number) actions → All IsGivenAction (gone set number ∷ actions)
-    → AreRead (line_with Delete (devices_statement set number (length (gone set number ∷ actions))) ∷ []) (gone set number ∷ actions)
+pub gone_run_read : (set number : ℕ) (actions : List Action) → IsChain 1 (gone set number) actions
+    → All IsGivenAction (gone set number ∷ actions)
+    → AreRead (line_with Delete (devices_statement set number (length (gone set number ∷ actions))) ∷ [])
+    (gone set number ∷ actions)
 gone_run_read set number actions chain given =
     let d : Devices = record { first = number; count = length (gone set number ∷ actions) } in
     let few = gone_are_few 1 set number actions (omega arith) chain in
@@ -167,5 +189,7 @@ gone_run_read set number actions chain given =
     let small = (All-head IsGivenAction (gone set number) actions given).within in
     let same : gone set number ∷ actions ≡ map (gone set) (range_with_len number (length (gone set number ∷ actions))) =
     ap (λ rest. gone set number ∷ rest) (gone_in_chain 1 set number actions chain) in
-    one_read (line_with Delete (devices_statement set number (length (gone set number ∷ actions)))) (gone set number ∷ actions)
-    (subst (IsLineOf (line_with Delete (devices_statement set number (length (gone set number ∷ actions))))) (sym same) (line_of_devices set d small are))
+    one_read (line_with Delete (devices_statement set number (length (gone set number ∷ actions))))
+    (gone set number ∷ actions)
+    (subst (IsLineOf (line_with Delete (devices_statement set number (length (gone set number ∷ actions))))) (sym same)
+    (line_of_devices set d small are))

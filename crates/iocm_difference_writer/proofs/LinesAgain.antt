@@ -7,7 +7,8 @@ use Rattle.iocm_columns.specs.declared.joined.Joined.{Joined}
 use Rattle.iocm_columns.specs.Statements.{joined_of}
 use Rattle.iocm_columns.specs.Written.{IsWritable, without_line}
 use Rattle.iocm_statements.specs.declared.operation.Operation.{Operation}
-use Rattle.iocm_statements.specs.declared.operation.Operation.TheVariants.{Id, Resource, Chpid, Cntlunit, Iodevice, Online, Row, Group, Choose, End}
+use Rattle.iocm_statements.specs.declared.operation.Operation.TheVariants.{Id, Resource, Chpid, Cntlunit, Iodevice}
+use Rattle.iocm_statements.specs.declared.operation.Operation.TheVariants.{Online, Row, Group, Choose, End}
 use Rattle.iocm_statements.specs.declared.statement.Statement as read
 use Rattle.iocm_statements.specs.Operation.{operation_name, operation_named}
 use Rattle.iocm_statements.specs.Statement.{statement_of, parsed}
@@ -51,7 +52,8 @@ line_again : (l : Line) → CanBeLine l → (joined : Joined) → without_line j
 line_again l can joined same =
     let is = named l.statement.operation in
     let operands = operands_again joined.line l.statement.operands can.statement.operands in
-    ap (λ (j : Joined). statement_of (record { line = joined.line; name = j.name; operation = j.operation; text = j.text })) same
+    ap (λ (j : Joined). statement_of
+    (record { line = joined.line; name = j.name; operation = j.operation; text = j.text })) same
     ∙ rw (is, operands) refl
 
 -- joined statements from this place of the deck on are read as lines
@@ -65,7 +67,8 @@ unfolding each
 none_read place = record { read = []; is_read = refl; same = tt }
 
 one_more_read : (place : ℕ) (l : Line) (ls : List Line) (joined : Joined) (deck : List Joined)
-    → statement_of joined ≡ Ok (as_read joined.line l) → AreReadFrom (place + 1) ls deck → AreReadFrom place (l ∷ ls) (joined ∷ deck)
+    → statement_of joined ≡ Ok (as_read joined.line l) → AreReadFrom (place + 1) ls deck
+    → AreReadFrom place (l ∷ ls) (joined ∷ deck)
 unfolding each
 one_more_read place l ls joined deck first rest = record {
   read = as_read joined.line l ∷ rest.read;
@@ -90,8 +93,13 @@ pub record IsReadAsLines (text : List ℕ) (ls : List Line) : Type 0 where
   pub is_read : (joined_of text >>= parsed) ≡ Ok read
   pub same : AreReadOf ls read
 
-pub told_lines_are_read : (text : List ℕ) (ls : List Line) → All CanBeLine ls → IsTold text (map line_to_write ls) → IsReadAsLines text ls
+pub told_lines_are_read : (text : List ℕ) (ls : List Line) → All CanBeLine ls → IsTold text (map line_to_write ls)
+    → IsReadAsLines text ls
 told_lines_are_read text ls can told =
     let found = told_is_read text (map line_to_write ls) told in
     let statements = lines_again 0 ls found.read can found.same in
-    record { read = statements.read; is_read = ap (λ f. f >>= parsed) found.is_read ∙ statements.is_read; same = statements.same }
+    record {
+      read = statements.read;
+      is_read = ap (λ f. f >>= parsed) found.is_read ∙ statements.is_read;
+      same = statements.same;
+    }

@@ -1,5 +1,6 @@
 -- The tree of groups of actions: a leaf or a Row for each group, beside each other.
-use Rattle.std.proofs.Common.{◌≡◌, ◌∙◌, ℕ, ◌≤◌, ◌<◌, ◌+◌, ◌==◌, nat_lt, Bool, true, false, cond, None, List, [], ◌∷◌, ◌++◌, length, map, refl, sym, ap, subst, append-nil, length-append, suc, ne_eqb, arith}
+use Rattle.std.proofs.Common.{◌≡◌, ◌∙◌, ℕ, ◌≤◌, ◌<◌, ◌+◌, ◌==◌, nat_lt, Bool, true, false, cond, None, List, [], ◌∷◌}
+use Rattle.std.proofs.Common.{◌++◌, length, map, refl, sym, ap, subst, append-nil, length-append, suc, ne_eqb, arith}
 use Rattle.std.proofs.lemmas.List.{map-append}
 use Rattle.std.proofs.lemmas.Bool.Decides.{nat_tests}
 use Rattle.std.specs.List.{AllByRecursion}
@@ -85,12 +86,14 @@ depth_among (g ∷ groups) are = omega (arith, (node_holds g are.0).depth, depth
 count_both : (xs ys : List Action) → length (xs ++ ys) ≡ length xs + length ys
 count_both xs ys = length-append xs ys
 
-leaves_among : (groups : List (List Action)) → AreGroups groups → leaves_in (plain_parts (parts_from (nodes groups))) ≡ length (joined groups)
+leaves_among : (groups : List (List Action)) → AreGroups groups
+    → leaves_in (plain_parts (parts_from (nodes groups))) ≡ length (joined groups)
 leaves_among [] are = refl
 leaves_among (g ∷ groups) are =
     omega (arith, (node_holds g are.0).leaves, same_count g, leaves_among groups are.1, count_both g (joined groups))
 
-edits_joined : (groups : List (List Action)) → AreGroups groups → edits_among (parts_from (nodes groups)) ≡ map bare (joined groups)
+edits_joined : (groups : List (List Action)) → AreGroups groups
+    → edits_among (parts_from (nodes groups)) ≡ map bare (joined groups)
 edits_joined [] are = refl
 edits_joined (g ∷ groups) are =
     ap (λ x. x ++ edits_among (parts_from (nodes groups))) (node_holds g are.0).edits
@@ -107,7 +110,8 @@ not_over : (most n : ℕ) → n ≤ most → nat_lt most n ≡ false
 not_over most n within = grind (arith, nat_tests)
 
 within : (t : CarriedTree) → depth_of (plain_tree t) ≤ 32 → leaves_of (plain_tree t) ≤ 4096 → over_limit t ≡ None
-within t depth leaves = rw (not_over 32 (depth_of (plain_tree t)) depth, not_over 4096 (leaves_of (plain_tree t)) leaves) refl
+within t depth leaves = rw
+    (not_over 32 (depth_of (plain_tree t)) depth, not_over 4096 (leaves_of (plain_tree t)) leaves) refl
 
 few_leaves : (n : ℕ) → n ≤ 4096 → or_one n ≤ 4096
 few_leaves n few = by (n == 0)
@@ -117,17 +121,21 @@ few_leaves n few = by (n == 0)
     by false = few
 
 -- the tree of so many actions at most is within the limits
-pub whole_within : (groups : List (List Action)) → AreGroups groups → length (joined groups) ≤ most_leaves → over_limit (whole (nodes groups)) ≡ None
+pub whole_within : (groups : List (List Action)) → AreGroups groups → length (joined groups) ≤ most_leaves
+    → over_limit (whole (nodes groups)) ≡ None
 whole_within [] are few = refl
 whole_within (g ∷ []) are few =
     let holds = node_holds g are.0 in
-    within (node g) (omega (arith, holds.depth)) (omega (arith, holds.leaves, same_count g, few, ap length (append-nil g)))
+    within (node g) (omega (arith, holds.depth))
+    (omega (arith, holds.leaves, same_count g, few, ap length (append-nil g)))
 whole_within (g ∷ h ∷ groups) are few =
     let all = g ∷ h ∷ groups in
-    within (row (parts_from (nodes all))) (omega (arith, depth_among all are)) (few_leaves (leaves_in (plain_parts (parts_from (nodes all)))) (omega (arith, leaves_among all are, few)))
+    within (row (parts_from (nodes all))) (omega (arith, depth_among all are))
+    (few_leaves (leaves_in (plain_parts (parts_from (nodes all)))) (omega (arith, leaves_among all are, few)))
 
 -- it has the actions in their order
-pub whole_has : (groups : List (List Action)) → AreGroups groups → edits_in (whole (nodes groups)) ≡ map bare (joined groups)
+pub whole_has : (groups : List (List Action)) → AreGroups groups
+    → edits_in (whole (nodes groups)) ≡ map bare (joined groups)
 whole_has [] are = refl
 whole_has (g ∷ []) are = (node_holds g are.0).edits ∙ ap (map bare) (sym (append-nil g))
 whole_has (g ∷ h ∷ groups) are = edits_joined (g ∷ h ∷ groups) are

@@ -1,5 +1,6 @@
 -- Edits whose keys rise stand in the order of keys already.
-use Rattle.std.proofs.Common.{◌≡◌, ◌∙◌, false, if◌then◌else◌, List, [], ◌∷◌, ◌++◌, map, fold, refl, sym, ap, append_assoc, append-nil}
+use Rattle.std.proofs.Common.{◌≡◌, ◌∙◌, false, if◌then◌else◌, List, [], ◌∷◌, ◌++◌, map, fold, refl, sym, ap}
+use Rattle.std.proofs.Common.{append_assoc, append-nil}
 use Rattle.std.specs.List.{AllByRecursion}
 use Rattle.std.specs.Ordering.{is_lt, ordering_reverse}
 use Rattle.std.specs.declared.cmp.Ordering.TheVariants.{Less}
@@ -28,22 +29,27 @@ AllPrecedeAll done rest = AllByRecursion (λ a. AllByRecursion (Precedes a) rest
 later : (a b : Action) → Precedes a b → comes_before (bare b) (bare a) ≡ false
 later a b less = ap is_lt (keys_total.antisymm (action_key b) (action_key a) ∙ ap ordering_reverse less)
 
-put_behind : (done : List Action) (b : Action) → AllPrecede done b → with_edit (map bare done) (bare b) ≡ map bare (done ++ b ∷ [])
+put_behind : (done : List Action) (b : Action) → AllPrecede done b
+    → with_edit (map bare done) (bare b) ≡ map bare (done ++ b ∷ [])
 put_behind [] b less = refl
 put_behind (a ∷ done) b less =
-    ap (λ before. if before then bare b ∷ bare a ∷ map bare done else bare a ∷ with_edit (map bare done) (bare b)) (later a b less.0)
+    ap (λ before. if before then bare b ∷ bare a ∷ map bare done else bare a ∷ with_edit (map bare done) (bare b))
+    (later a b less.0)
     ∙ ap (λ rest. bare a ∷ rest) (put_behind done b less.1)
 
-first_behind : (done : List Action) (b : Action) (rest : List Action) → AllPrecedeAll done (b ∷ rest) → AllPrecede done b
+first_behind : (done : List Action) (b : Action) (rest : List Action) → AllPrecedeAll done (b ∷ rest)
+    → AllPrecede done b
 first_behind [] b rest less = tt
 first_behind (a ∷ done) b rest less = (less.0.0, first_behind done b rest less.1)
 
-others_behind : (done : List Action) (b : Action) (rest : List Action) → AllPrecedeAll done (b ∷ rest) → AllByRecursion (Precedes b) rest
+others_behind : (done : List Action) (b : Action) (rest : List Action) → AllPrecedeAll done (b ∷ rest)
+    → AllByRecursion (Precedes b) rest
     → AllPrecedeAll (done ++ b ∷ []) rest
 others_behind [] b rest less next = (next, tt)
 others_behind (a ∷ done) b rest less next = (less.0.1, others_behind done b rest less.1 next)
 
-put_in_turn : (done rest : List Action) → AllPrecedeAll done rest → AreRising rest → fold with_edit (map bare done) (map bare rest) ≡ map bare (done ++ rest)
+put_in_turn : (done rest : List Action) → AllPrecedeAll done rest → AreRising rest
+    → fold with_edit (map bare done) (map bare rest) ≡ map bare (done ++ rest)
 put_in_turn done [] less rising = ap (map bare) (sym (append-nil done))
 put_in_turn done (b ∷ rest) less rising =
     ap (λ xs. fold with_edit xs (map bare rest)) (put_behind done b (first_behind done b rest less))
@@ -58,7 +64,8 @@ abbrev pub AreInTurn : Action → List Action → Type 0
 AreInTurn a [] = Unit {0}
 AreInTurn a (b ∷ actions) = Precedes a b × AreInTurn b actions
 
-precedes_all : (a b : Action) (actions : List Action) → Precedes a b → AllByRecursion (Precedes b) actions → AllByRecursion (Precedes a) actions
+precedes_all : (a b : Action) (actions : List Action) → Precedes a b → AllByRecursion (Precedes b) actions
+    → AllByRecursion (Precedes a) actions
 precedes_all a b [] less all = tt
 precedes_all a b (c ∷ actions) less all =
     (keys_total.trans (action_key a) (action_key b) (action_key c) less all.0, precedes_all a b actions less all.1)

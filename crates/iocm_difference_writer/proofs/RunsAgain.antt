@@ -70,9 +70,11 @@ line_of_action a is = record {
   group = record { some = omega arith; rising = (tt, tt) };
 }
 
-alone_read : (a : Action) (actions : List Action) → IsAlone (action_key a) → IsChain 1 a actions → All IsGivenAction (a ∷ actions)
+alone_read : (a : Action) (actions : List Action) → IsAlone (action_key a) → IsChain 1 a actions
+    → All IsGivenAction (a ∷ actions)
     → AreRead (map action_line (a ∷ actions)) (a ∷ actions)
-alone_read a [] is chain given = one_read (action_line a) (a ∷ []) (line_of_action a (All-head IsGivenAction a [] given))
+alone_read a [] is chain given =
+    one_read (action_line a) (a ∷ []) (line_of_action a (All-head IsGivenAction a [] given))
 alone_read a (b ∷ actions) is chain given = absurd (none_goes 1 a b is chain.0)
 
 -- ---- any run
@@ -89,12 +91,17 @@ run_is_read (add (device d) ∷ actions) chain given = devices_run_read Add tt d
 run_is_read (add (online o) ∷ actions) chain given = pairs_run_read Add tt o.css o.path o.name actions chain given
 run_is_read (delete key.Id ∷ actions) chain given = alone_read (delete key.Id) actions tt chain given
 run_is_read (delete key.Resource ∷ actions) chain given = alone_read (delete key.Resource) actions tt chain given
-run_is_read (delete (key.Image css mif) ∷ actions) chain given = alone_read (delete (key.Image css mif)) actions tt chain given
-run_is_read (delete (key.Limit css set) ∷ actions) chain given = alone_read (delete (key.Limit css set)) actions tt chain given
-run_is_read (delete (key.Path css number) ∷ actions) chain given = alone_read (delete (key.Path css number)) actions tt chain given
-run_is_read (delete (key.Unit number) ∷ actions) chain given = alone_read (delete (key.Unit number)) actions tt chain given
+run_is_read (delete (key.Image css mif) ∷ actions) chain given =
+    alone_read (delete (key.Image css mif)) actions tt chain given
+run_is_read (delete (key.Limit css set) ∷ actions) chain given =
+    alone_read (delete (key.Limit css set)) actions tt chain given
+run_is_read (delete (key.Path css number) ∷ actions) chain given =
+    alone_read (delete (key.Path css number)) actions tt chain given
+run_is_read (delete (key.Unit number) ∷ actions) chain given =
+    alone_read (delete (key.Unit number)) actions tt chain given
 run_is_read (delete (key.Device set number) ∷ actions) chain given = gone_run_read set number actions chain given
-run_is_read (delete (key.Online css number name) ∷ actions) chain given = pairs_run_read Delete tt css number name actions chain given
+run_is_read (delete (key.Online css number name) ∷ actions) chain given =
+    pairs_run_read Delete tt css number name actions chain given
 run_is_read (modify (id c) ∷ actions) chain given = alone_read (modify (id c)) actions tt chain given
 run_is_read (modify (resource c) ∷ actions) chain given = alone_read (modify (resource c)) actions tt chain given
 run_is_read (modify (image i) ∷ actions) chain given = alone_read (modify (image i)) actions tt chain given
@@ -102,4 +109,5 @@ run_is_read (modify (limit l) ∷ actions) chain given = alone_read (modify (lim
 run_is_read (modify (path p) ∷ actions) chain given = alone_read (modify (path p)) actions tt chain given
 run_is_read (modify (unit u) ∷ actions) chain given = alone_read (modify (unit u)) actions tt chain given
 run_is_read (modify (device d) ∷ actions) chain given = devices_run_read Modify tt d actions chain given
-run_is_read (modify (online o) ∷ actions) chain given = absurd (All-head IsGivenAction (modify (online o)) actions given)
+run_is_read (modify (online o) ∷ actions) chain given =
+    absurd (All-head IsGivenAction (modify (online o)) actions given)

@@ -1,6 +1,7 @@
 -- Texts of statements and comments: which cards their lines are, wherever they are counted from, and
 -- the statements of these cards.
-use Rattle.std.proofs.Common.{◌≡◌, ◌∙◌, ℕ, ◌≤◌, ◌+◌, not, cond, Bool, true, false, List, [], ◌∷◌, ◌++◌, All, length, map, Ok, refl, sym, ap, subst, append_assoc, append-nil, arith}
+use Rattle.std.proofs.Common.{◌≡◌, ◌∙◌, ℕ, ◌≤◌, ◌+◌, not, cond, Bool, true, false, List, [], ◌∷◌, ◌++◌, All, length}
+use Rattle.std.proofs.Common.{map, Ok, refl, sym, ap, subst, append_assoc, append-nil, arith}
 use Rattle.std.proofs.lemmas.Bool.{le-ltb}
 use Rattle.std.proofs.lemmas.List.{map-append}
 use Rattle.std.proofs.lemmas.List.Elements.{All-head, All-tail}
@@ -45,11 +46,13 @@ cards_both : (xs ys : List (List ℕ)) → AreCards xs → AreCards ys → AreCa
 cards_both [] ys one other = other
 cards_both (x ∷ xs) ys one other = (one.0, cards_both xs ys one.1 other)
 
-cards_together : (n : ℕ) (one other : List (List ℕ)) → cards_from n (one ++ other) ≡ cards_from n one ++ cards_from (n + length one) other
+cards_together : (n : ℕ) (one other : List (List ℕ))
+    → cards_from n (one ++ other) ≡ cards_from n one ++ cards_from (n + length one) other
 cards_together n [] other = ap (λ m. cards_from m other) (let same : n ≡ n + 0 = omega arith in same)
 cards_together n (line ∷ one) other =
     let same : (n + 1) + length one ≡ n + length (line ∷ one) = omega arith in
-    ap (λ l. record { line = n; bytes = line } ∷ l) (cards_together (n + 1) one other ∙ ap (λ m. cards_from (n + 1) one ++ cards_from m other) same)
+    ap (λ l. record { line = n; bytes = line } ∷ l)
+    (cards_together (n + 1) one other ∙ ap (λ m. cards_from (n + 1) one ++ cards_from m other) same)
 
 kept_both : (xs ys : List Card) → statement_cards (xs ++ ys) ≡ statement_cards xs ++ statement_cards ys
 kept_both [] ys = refl
@@ -61,7 +64,8 @@ kept_both (x ∷ xs) ys = by (is_skipped (columns_of x.bytes)) (kept_both xs ys)
     by true rest = rest
     by false rest = ap (λ x'. statement_card x ∷ x') rest
 
-statements_both : (rs ss : List _) (js ks : List Joined) → AreStatementsOf rs js → AreStatementsOf ss ks → AreStatementsOf (rs ++ ss) (js ++ ks)
+statements_both : (rs ss : List _) (js ks : List Joined) → AreStatementsOf rs js → AreStatementsOf ss ks
+    → AreStatementsOf (rs ++ ss) (js ++ ks)
 statements_both rs ss [] ks first second = subst (λ x. AreStatementsOf (x ++ ss) ks) (sym first) second
 statements_both rs ss (j ∷ js) ks first second = (
   first.0,
@@ -87,14 +91,17 @@ pub both_told : (a b : List ℕ) (xs ys : List Joined) → IsTold a xs → IsTol
 both_told a b xs ys first second = record {
   all = first.all ++ second.all;
   written = λ rest.
-      ap lines (append_assoc a b rest) ∙ first.written (b ++ rest) ∙ ap (λ x. first.all ++ x) (second.written rest) ∙ sym (append_assoc first.all second.all (lines rest));
+      ap lines (append_assoc a b rest) ∙ first.written (b ++ rest) ∙ ap (λ x. first.all ++ x) (second.written rest)
+      ∙ sym (append_assoc first.all second.all (lines rest));
   are = cards_both first.all second.all first.are second.are;
   read = λ n. first.read n ++ second.read (n + length first.all);
   statements = λ n.
       let later = n + length first.all in
       subst (λ rs. AreStatementsOf rs (first.read n ++ second.read later))
-      (sym (ap statement_cards (cards_together n first.all second.all) ∙ kept_both (cards_from n first.all) (cards_from later second.all)))
-      (statements_both (statement_cards (cards_from n first.all)) (statement_cards (cards_from later second.all)) (first.read n) (second.read later)
+      (sym (ap statement_cards (cards_together n first.all second.all)
+      ∙ kept_both (cards_from n first.all) (cards_from later second.all)))
+      (statements_both (statement_cards (cards_from n first.all)) (statement_cards (cards_from later second.all))
+      (first.read n) (second.read later)
       (first.statements n) (second.statements later));
   same = λ n.
       map-append without_line (first.read n) (second.read (n + length first.all))
@@ -121,9 +128,17 @@ statement_told joined writable =
         row n c.first,
         rows_from (n + 1) c.more,
         [],
-        lines_are_kept n (c.first ∷ c.more) c.are_lines ∙ ap (λ x. row n c.first ∷ x) (sym (append-nil (rows_from (n + 1) c.more))),
+        lines_are_kept n (c.first ∷ c.more) c.are_lines
+            ∙ ap (λ x. row n c.first ∷ x) (sym (append-nil (rows_from (n + 1) c.more))),
         c.continued n,
-        record { line = refl; name = sym c.name; operation = sym c.operation; slices = c.slices; in_columns = c.in_columns n; text = c.text },
+        record {
+          line = refl;
+          name = sym c.name;
+          operation = sym c.operation;
+          slices = c.slices;
+          in_columns = c.in_columns n;
+          text = c.text;
+        },
         refl,
       );
       same = λ n. refl;
@@ -132,7 +147,8 @@ statement_told joined writable =
 pub deck_told : (deck : List Joined) → All IsWritable deck → IsTold (deck_bytes deck) deck
 deck_told [] writable = none_told
 deck_told (joined ∷ more) writable =
-    both_told (statement_lines joined) (deck_bytes more) (joined ∷ []) more (statement_told joined (All-head IsWritable joined more writable))
+    both_told (statement_lines joined) (deck_bytes more) (joined ∷ []) more
+    (statement_told joined (All-head IsWritable joined more writable))
     (deck_told more (All-tail IsWritable joined more writable))
 
 -- ---- comments
@@ -156,7 +172,8 @@ pub stars_told : (all : List (List ℕ)) → AreStarLines all → IsTold (with_e
 stars_told [] are = none_told
 stars_told (line ∷ all) are =
     both_told (line ++ 10 ∷ []) (with_ends all) [] []
-    (subst (λ l. IsTold (l ++ 10 ∷ []) []) (sym are.0.is) (star_told are.0.tail are.0.printable are.0.short)) (stars_told all are.1)
+    (subst (λ l. IsTold (l ++ 10 ∷ []) []) (sym are.0.is) (star_told are.0.tail are.0.printable are.0.short))
+    (stars_told all are.1)
 
 -- ---- how they are read
 
@@ -165,7 +182,8 @@ unfolding each
 cards_are_read n [] are = refl
 cards_are_read n (line ∷ more) are =
     let short = are.0.short in
-    let first : card_of n line ≡ Ok (record { line = n; bytes = line }) = rw (are.0.printable, le-ltb 80 (length line) (omega (arith, short))) refl in
+    let first : card_of n line ≡ Ok (record { line = n; bytes = line }) =
+    rw (are.0.printable, le-ltb 80 (length line) (omega (arith, short))) refl in
     rw (first, cards_are_read (n + 1) more are.1) refl
 
 -- the statements that are read of a text, but for the numbers of their lines
@@ -180,7 +198,8 @@ told_is_read text deck told =
     record {
       read = told.read 1;
       is_read =
-          ap (λ l. each card_of 1 l >>= statements_of) in_lines ∙ ap (λ r. r >>= statements_of) (cards_are_read 1 told.all told.are)
+          ap (λ l. each card_of 1 l >>= statements_of) in_lines
+          ∙ ap (λ r. r >>= statements_of) (cards_are_read 1 told.all told.are)
           ∙ deck_only (cards_from 1 told.all) (told.read 1) (told.statements 1);
       same = told.same 1;
     }

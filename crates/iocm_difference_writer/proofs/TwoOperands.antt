@@ -1,5 +1,6 @@
 -- Statements of one or two operands can be written.
-use Rattle.std.proofs.Common.{◌≡◌, ℕ, ◌≤◌, ◌==◌, Bool, true, false, cond, Option, Some, None, List, [], ◌∷◌, ◌++◌, IfSome, All, refl, subst, append-nil, arith}
+use Rattle.std.proofs.Common.{◌≡◌, ℕ, ◌≤◌, ◌==◌, Bool, true, false, cond, Option, Some, None, List, [], ◌∷◌, ◌++◌}
+use Rattle.std.proofs.Common.{IfSome, All, refl, subst, append-nil, arith}
 use Rattle.std.proofs.lemmas.List.Elements.{All-nil}
 use Rattle.std.specs.List.{list_any}
 use Rattle.std.specs.Str.{bytes_eq}
@@ -23,12 +24,16 @@ nothing_follows taken = record {
   others = λ k d within. All-nil (IsOther _);
 }
 
-pub two_can : (operation : Operation) (a x b : List ℕ) (y : Option (List ℕ)) → is_keyword a ≡ true → is_keyword b ≡ true → list_any (bytes_eq b) (a ∷ []) ≡ false
-    → IsClean x → IfSome y IsClean → CanBeWritten (record { operation = operation; operands = valued a (Some x) ++ valued b y })
+pub two_can : (operation : Operation) (a x b : List ℕ) (y : Option (List ℕ)) → is_keyword a ≡ true → is_keyword b ≡ true
+    → list_any (bytes_eq b) (a ∷ []) ≡ false
+    → IsClean x → IfSome y IsClean
+    → CanBeWritten (record { operation = operation; operands = valued a (Some x) ++ valued b y })
 two_can operation a x b y first second apart clean_x clean_y =
-    let last : CanFollow (a ∷ []) (valued b y ++ []) = value_follows (a ∷ []) b y [] second apart clean_y (nothing_follows (b ∷ a ∷ [])) in
+    let last : CanFollow (a ∷ []) (valued b y ++ []) =
+    value_follows (a ∷ []) b y [] second apart clean_y (nothing_follows (b ∷ a ∷ [])) in
     can_be_written operation (valued a (Some x) ++ valued b y)
-    (value_follows [] a (Some x) (valued b y) first refl clean_x (subst (CanFollow (a ∷ [])) (append-nil (valued b y)) last))
+    (value_follows [] a (Some x) (valued b y) first refl clean_x
+    (subst (CanFollow (a ∷ [])) (append-nil (valued b y)) last))
 
 pub set_clean : (set : ℕ) → set ≤ 3 → IfSome (set_operand set) IsClean
 set_clean set small = by (set == 0)
@@ -37,5 +42,6 @@ set_clean set small = by (set == 0)
     by true = tt
     by false = clean_hex1 set (omega arith)
 
-pub names_clean : (name : List ℕ) (names : List (List ℕ)) → All (λ n. is_name n ≡ true) (name ∷ names) → IsClean (names_text (name ∷ names))
+pub names_clean : (name : List ℕ) (names : List (List ℕ)) → All (λ n. is_name n ≡ true) (name ∷ names)
+    → IsClean (names_text (name ∷ names))
 names_clean name names are = clean_list (name ∷ names) (λ k d within. clean_name _ (are k d within))

@@ -21,9 +21,11 @@ use Rattle.iocm_difference_writer.specs.Written.{run_lines}
 -- the text, by what is found under each key
 abbrev text_by : (Key → Option Rec) → List Action → List ℕ
 text_by found actions =
-    flat_map (λ run. starred (cards_of (flat_map (λ a. there_by (verb_of a) (found (action_key a))) run)) ++ deck_bytes (map line_to_write (run_lines run))) (runs actions)
+    flat_map (λ run. starred (cards_of (flat_map (λ a. there_by (verb_of a) (found (action_key a))) run))
+    ++ deck_bytes (map line_to_write (run_lines run))) (runs actions)
 
-text_listed : (rs : List Rec) (actions : List Action) → difference_text (Some (configuration_of rs)) actions ≡ text_by (λ q. find key_cmp q (with_keys rs)) actions
+text_listed : (rs : List Rec) (actions : List Action)
+    → difference_text (Some (configuration_of rs)) actions ≡ text_by (λ q. find key_cmp q (with_keys rs)) actions
 text_listed rs actions = λ i. text_by (λ q. get-from_entries keys_total (with_keys rs) q i) actions
 
 pub text_with_old : TextWithOld

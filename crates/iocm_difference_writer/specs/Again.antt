@@ -56,5 +56,6 @@ IsOldOfDecks (Some c) = IsKeyed c × HasGiven c
 -- the text of actions such as decks give, no more than a tree may have, is read as these actions,
 -- whether or not it says what was there
 abbrev pub DifferenceIsReadAgain : Type 0
-DifferenceIsReadAgain = (old : Option Configuration) (actions : List Action) → IsOldOfDecks old → All IsGivenAction actions
+DifferenceIsReadAgain = (old : Option Configuration) (actions : List Action) → IsOldOfDecks old
+    → All IsGivenAction actions
     → length actions ≤ most_leaves → IsReadAsActions (difference_text old actions) actions

@@ -47,7 +47,8 @@ online_of number name = online (record { css = 0; path = number; name = name })
 -- which actions go together
 pub record GoTogether : Type 0 where
   pub devices : goes_with 1 (add (device_of 0 0x1000 0x1000 0)) (add (device_of 1 0x2000 0x2000 0)) ≡ true
-  pub devices_modified : goes_with 1 (modify (device_of 0 0x1000 0x1000 0)) (modify (device_of 0 0x1001 0x1000 1)) ≡ true
+  pub devices_modified : goes_with 1 (modify (device_of 0 0x1000 0x1000 0)) (modify (device_of 0 0x1001 0x1000 1))
+      ≡ true
   pub other_verbs : goes_with 1 (add (device_of 0 0x1000 0x1000 0)) (modify (device_of 0 0x1001 0x1000 1)) ≡ false
   pub deleted : goes_with 1 (delete (key.Device 0 0x1000)) (delete (key.Device 0 0x1001)) ≡ true
   pub with_a_gap : goes_with 1 (delete (key.Device 0 0x1000)) (delete (key.Device 0 0x1002)) ≡ false
@@ -123,4 +124,5 @@ TextWithOld =
 
 -- each line of a comment has its own *
 abbrev pub EachLineStarred : Type 0
-EachLineStarred = starred (printed (codes " A      X" ∷ codes "   B" ∷ [])) ≡ printed (codes "*A      X" ∷ codes "*  B" ∷ [])
+EachLineStarred = starred (printed (codes " A      X" ∷ codes "   B" ∷ []))
+    ≡ printed (codes "*A      X" ∷ codes "*  B" ∷ [])

@@ -1,4 +1,5 @@
-ghost use Rattle.iocm_difference_writer.specs.Examples.{EachLineStarred, GoTogether, RunsOfThree, TextOfRuns, TextWithOld};
+ghost use Rattle.iocm_difference_writer.specs.Examples.{EachLineStarred, GoTogether, RunsOfThree};
+ghost use Rattle.iocm_difference_writer.specs.Examples.{TextOfRuns, TextWithOld};
 
 /// Which edits are written together, and what is printed of them.
 pub fn texts_are_as_worked()

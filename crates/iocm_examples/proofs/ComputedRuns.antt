@@ -30,7 +30,8 @@ unfolding made_by
 put_back_answers = answers_are put_back_calls (refl, (refl, tt))
 
 abbrev from_one_calls : List ListedCall
-from_one_calls = redoes 0 ∷ undoes 0 ∷ activating (in_group no_parts) [] ∷ undoes 0 ∷ undoes 1 ∷ redoes 0 ∷ redoes 1 ∷ []
+from_one_calls = redoes 0 ∷ undoes 0 ∷ activating (in_group no_parts) [] ∷ undoes 0 ∷ undoes 1 ∷ redoes 0 ∷ redoes 1
+    ∷ []
 
 pub from_one_answers : GivesItsAnswers numbers_from_one
 unfolding made_by

@@ -7,7 +7,8 @@ use Rattle.iocm_explain.specs.Named.{rule_named}
 
 pub record AsWorked : Type 0 where
   pub heading : heading_of M1 ≡ codes "M1: not enough storage"
-  pub entry : whole S10 (codes "no verb") (codes "Explanation.\nResponse.") ≡ codes "S10: no verb\n\nExplanation.\nResponse."
+  pub entry : whole S10 (codes "no verb") (codes "Explanation.\nResponse.")
+      ≡ codes "S10: no verb\n\nExplanation.\nResponse."
   pub listed : flat_map heading_line (E1 ∷ E2 ∷ [])
       ≡ codes "E1: what is to be added is there\nE2: what is to be deleted or modified isn't there\n"
   pub two_digits : rule_named (codes "S10") ≡ Some S10

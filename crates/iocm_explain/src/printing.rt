@@ -23,7 +23,8 @@ pub fn explain<W: Write + Drop>(
     word: Option<&str>,
     output: &mut Output<W>,
 ) -> Result<Option<Status>, ConsoleError>
-    ensures text { IfOk result (Answers W.contents output.old output.new (explained (option_map (λ w. w.now) word.entry))) }
+    ensures text { IfOk result (Answers W.contents output.old output.new
+        (explained (option_map (λ w. w.now) word.entry))) }
     ensures works { OnOk result (has_failed output.new ≡ has_failed output.old) }
     ensures handed_on { IfOk result (IsHandedOnIfAny output.new) }
     ensures fault { IfErr result (FailedToWrite output.new) }

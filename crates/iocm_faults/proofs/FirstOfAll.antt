@@ -13,12 +13,14 @@ use Rattle.iocm_faults.specs.Faults.{fault_of, faults_by, faults_if_parsed, all_
 use Rattle.iocm_faults.specs.Laws.{first_of, FirstComesFirst, NoneWhereNoFirst}
 
 -- an item in front has no fault
-no_fault_in_front : {Y : Type 0} (y : Y) (rest : Result (List Y) Fault) → fault_of rest ≡ fault_of (rest >>= λ ys. Ok (y ∷ ys))
+no_fault_in_front : {Y : Type 0} (y : Y) (rest : Result (List Y) Fault)
+    → fault_of rest ≡ fault_of (rest >>= λ ys. Ok (y ∷ ys))
 no_fault_in_front y (Ok ys) = refl
 no_fault_in_front y (Err f) = refl
 
 -- of an item and of those behind it
-of_item : {Y : Type 0} (given : Result Y Fault) (faults : List Fault) (rest : Result (List Y) Fault) → first_of faults ≡ fault_of rest
+of_item : {Y : Type 0} (given : Result Y Fault) (faults : List Fault) (rest : Result (List Y) Fault)
+    → first_of faults ≡ fault_of rest
     → first_of (cons_option (fault_of given) faults) ≡ fault_of (given >>= λ y. rest >>= λ ys. Ok (y ∷ ys))
 of_item (Ok y) faults rest same = same ∙ no_fault_in_front y rest
 of_item (Err f) faults rest same = refl
@@ -29,7 +31,8 @@ of_each : {X Y : Type 0} (read : X → Result Y Fault) (i : ℕ) (xs : List X)
 unfolding each
 of_each read i [] = refl
 of_each read i (x ∷ xs) =
-    of_item (read x) (filter_map (λ x. fault_of (read x)) xs) (each (λ _ x. read x) (i + 1) xs) (of_each read (i + 1) xs)
+    of_item (read x) (filter_map (λ x. fault_of (read x)) xs) (each (λ _ x. read x) (i + 1) xs)
+    (of_each read (i + 1) xs)
 
 -- a statement that is parsed alone
 of_one : (given : Result Statement Fault) → fault_of (given >>= λ s. Ok [] >>= λ ss. Ok (s ∷ ss)) ≡ fault_of given

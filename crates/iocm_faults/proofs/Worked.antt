@@ -11,7 +11,8 @@ use Rattle.iocm_record_reader.specs.Deck.{read_from, with_records}
 use Rattle.iocm_faults.specs.Examples.{AllFaults}
 
 pub faults_worked : AllFaults
-unfolding each equals_from is_outside step cuts sets pieces_from every every_at gathered words_from item_words_from read_from with_records
+unfolding each equals_from is_outside step cuts sets pieces_from every every_at gathered words_from item_words_from
+    read_from with_records
 faults_worked = record {
   none = refl;
   texts = refl;

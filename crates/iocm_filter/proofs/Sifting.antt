@@ -1,5 +1,6 @@
 -- A sieve for a configuration: what was looked up once says what the configuration says.
-use Rattle.std.proofs.Common.{◌≡◌, ◌==◌, ◌&&◌, ◌||◌, ℕ, Bool, true, false, cond, List, [], ◌∷◌, ◌++◌, fold, refl, ap, ◌∙◌, arith, sym, length}
+use Rattle.std.proofs.Common.{◌≡◌, ◌==◌, ◌&&◌, ◌||◌, ℕ, Bool, true, false, cond, List, [], ◌∷◌, ◌++◌, fold, refl, ap}
+use Rattle.std.proofs.Common.{◌∙◌, arith, sym, length}
 use Rattle.std.proofs.Math.Bool.{or-false}
 use Rattle.std.proofs.lemmas.Bool.{eqb-true}
 use Rattle.std.proofs.lemmas.Bool.Decides.{nat_tests}
@@ -14,7 +15,8 @@ use Rattle.iocm_types.proofs.Found.{same_key, ties_itself}
 use Rattle.iocm_types.specs.declared.image.Image.{Image}
 use Rattle.iocm_types.specs.declared.key.Key.{Key}
 use Rattle.iocm_types.specs.declared.key.Key.TheVariants.{Device}
-use Rattle.iocm_model.specs.Machine.Record.{Rec, DeviceRecord, id, resource, image, limit, path, unit, device, online, key_of}
+use Rattle.iocm_model.specs.Machine.Record.{Rec, DeviceRecord, id, resource, image, limit, path, unit, device, online}
+use Rattle.iocm_model.specs.Machine.Record.{key_of}
 use Rattle.iocm_model.specs.Machine.Configuration.{Configuration, as_image, records_of}
 use Rattle.iocm_model.specs.Rules.EachRule.{same_name}
 use Rattle.iocm_lookup.specs.Kinds.{of_kind}
@@ -22,13 +24,15 @@ use Rattle.iocm_lookup.proofs.Members.{same_tests}
 use Rattle.iocm_filter.specs.declared.meant.ImageWord.{ImageWord}
 use Rattle.iocm_filter.specs.declared.meant.ImageWord.TheVariants.{Place, Named}
 use Rattle.iocm_filter.specs.Wanted.{is_image_at, is_meant, is_device_on, is_on_one}
-use Rattle.iocm_filter.specs.Sieves.{Devices, is_same, is_user, image_named, images_meant, have_common, with_user, users_of}
+use Rattle.iocm_filter.specs.Sieves.{Devices, is_same, is_user, image_named, images_meant, have_common, with_user}
+use Rattle.iocm_filter.specs.Sieves.{users_of}
 
 -- ---- images
 
 -- what an image record gives behind others
 one_named : (i : Image) (name : List ℕ) (r : Image) (rest : List Image) (b : Bool)
-    → list_any (is_same i) (cond b (r ∷ []) [] ++ rest) ≡ ((r.css == i.css && r.mif == i.mif && b) || list_any (is_same i) rest)
+    → list_any (is_same i) (cond b (r ∷ []) [] ++ rest)
+    ≡ ((r.css == i.css && r.mif == i.mif && b) || list_any (is_same i) rest)
 one_named i name r rest true = by (r.css == i.css) (r.mif == i.mif) (list_any (is_same i) rest)
   where
     by : (a b c : Bool) → ((a && b) || c) ≡ ((a && b && true) || c)
@@ -44,12 +48,14 @@ one_named i name r rest false = by (r.css == i.css) (r.mif == i.mif) (list_any (
 
 -- of the images of a name one is this one where an image at its place has the name
 any_named : (i : Image) (name : List ℕ) (rs : List Rec)
-    → list_any (is_same i) (flat_map (image_named name) (of_kind 2 rs)) ≡ list_any (is_image_at i name) (filter_map as_image rs)
+    → list_any (is_same i) (flat_map (image_named name) (of_kind 2 rs))
+    ≡ list_any (is_image_at i name) (filter_map as_image rs)
 any_named i name [] = refl
 any_named i name (id x ∷ rs) = any_named i name rs
 any_named i name (resource x ∷ rs) = any_named i name rs
 any_named i name (image x ∷ rs) =
-    one_named i name (record { css = x.css; mif = x.mif }) (flat_map (image_named name) (of_kind 2 rs)) (same_name name x.name)
+    one_named i name (record { css = x.css; mif = x.mif }) (flat_map (image_named name) (of_kind 2 rs))
+    (same_name name x.name)
     ∙ ap (λ b. is_image_at i name x || b) (any_named i name rs)
 any_named i name (limit x ∷ rs) = any_named i name rs
 any_named i name (path x ∷ rs) = any_named i name rs
@@ -63,7 +69,8 @@ word_means c i (Place at) = or-false (is_same i at)
 word_means c i (Named name) = any_named i name (records_of c)
 
 -- so it is of all words
-pub any_meant : (c : Configuration) (i : Image) (ws : List ImageWord) → list_any (is_same i) (flat_map (images_meant c) ws) ≡ list_any (is_meant c i) ws
+pub any_meant : (c : Configuration) (i : Image) (ws : List ImageWord)
+    → list_any (is_same i) (flat_map (images_meant c) ws) ≡ list_any (is_meant c i) ws
 any_meant c i [] = refl
 any_meant c i (w ∷ ws) =
     list_any-append (is_same i) (images_meant c w) (flat_map (images_meant c) ws)
@@ -81,18 +88,21 @@ number_of (Device set number) = number
 number_of _ = 0
 
 -- the keys of two devices are one where their sets and numbers are
-same_device : (set number : ℕ) (d : DeviceRecord) → eq_by_cmp key_cmp (Device set number) (Device d.set d.number) ≡ (d.set == set && d.number == number)
+same_device : (set number : ℕ) (d : DeviceRecord)
+    → eq_by_cmp key_cmp (Device set number) (Device d.set d.number) ≡ (d.set == set && d.number == number)
 unfolding set_of number_of
 same_device set number d = same_tests _ _ there back
   where
-    there : eq_by_cmp key_cmp (Device set number) (Device d.set d.number) ≡ true → (d.set == set && d.number == number) ≡ true
+    there : eq_by_cmp key_cmp (Device set number) (Device d.set d.number) ≡ true
+        → (d.set == set && d.number == number) ≡ true
     there ties =
         let one : Device set number ≡ Device d.set d.number = same_key key_cmp keys_exact _ _ ties in
         let sets : set ≡ d.set = ap set_of one in
         let numbers : number ≡ d.number = ap number_of one in
         rw (sets, numbers) (grind (arith, nat_tests))
 
-    back : (d.set == set && d.number == number) ≡ true → eq_by_cmp key_cmp (Device set number) (Device d.set d.number) ≡ true
+    back : (d.set == set && d.number == number) ≡ true
+        → eq_by_cmp key_cmp (Device set number) (Device d.set d.number) ≡ true
     back same =
         let sets : d.set ≡ set = grind (arith, nat_tests) in
         let numbers : d.number ≡ number = grind (arith, nat_tests) in
@@ -131,7 +141,8 @@ any_user units set number m (unit x ∷ rs) = any_user units set number m rs
 any_user units set number m (device d ∷ rs) =
     any_user units set number (with_user units m (device d)) rs
     ∙ ap (λ b. list_any (is_device_on units set number) rs || b) (with_one m set number d (have_common units d.units))
-    ∙ turned (list_any (is_device_on units set number) rs) (is_device_on units set number (device d)) (contains_key m (Device set number))
+    ∙ turned (list_any (is_device_on units set number) rs) (is_device_on units set number (device d))
+    (contains_key m (Device set number))
   where
     turned : (a b c : Bool) → (a || (b || c)) ≡ ((b || a) || c)
     turned true true c = refl
@@ -163,7 +174,8 @@ pub no_users : (units : List ℕ) (rs : List Rec) (m : Devices) → units ≡ []
 no_users units [] m none = refl
 no_users units (r ∷ rs) m none =
     no_users units rs m none
-    ∙ ap (λ k. fold (with_user units) k rs) (sym (ap (λ b. cond b (insert m (key_of r) tt) m) (ap (λ us. is_user us r) none ∙ no_user r)))
+    ∙ ap (λ k. fold (with_user units) k rs)
+    (sym (ap (λ b. cond b (insert m (key_of r) tt) m) (ap (λ us. is_user us r) none ∙ no_user r)))
 
 pub is_empty_list : (xs : List ℕ) → (length xs == 0) ≡ true → xs ≡ []
 is_empty_list [] h = refl

@@ -13,13 +13,19 @@ use Rattle.iocm_model.specs.Machine.Configuration.{as_image, records_of, with_ke
 use Rattle.iocm_model.specs.Machine.Record.{Rec, key_of}
 use Rattle.iocm_filter.specs.declared.meant.ImageWord.{ImageWord}
 use Rattle.iocm_filter.specs.declared.meant.ImageWord.TheVariants.{Place, Named}
-use Rattle.iocm_filter.specs.RowExamples.{ImagesAsWorked, DevicesAsWorked, ViewsAsWorked, RowsAsWorked, some_records, some_configuration, image_at, one_number, by_units, by_devices, by_device_on, by_path, row_of, by_lpb, by_no_name, by_place, by_two_images, by_image_and_device, by_two_devices, by_all_kinds}
-use Rattle.iocm_filter.specs.Wanted.{Wanted, nothing, asks, one_if_asked, is_image_at, is_meant, is_within, is_device_on, wants_image, wants_device, wants_view, wanted}
+use Rattle.iocm_filter.specs.RowExamples.{ImagesAsWorked, DevicesAsWorked, ViewsAsWorked, RowsAsWorked, some_records}
+use Rattle.iocm_filter.specs.RowExamples.{some_configuration, image_at, one_number, by_units, by_devices, by_device_on}
+use Rattle.iocm_filter.specs.RowExamples.{by_path, row_of, by_lpb, by_no_name, by_place, by_two_images}
+use Rattle.iocm_filter.specs.RowExamples.{by_image_and_device, by_two_devices, by_all_kinds}
+use Rattle.iocm_filter.specs.Wanted.{Wanted, nothing, asks, one_if_asked, is_image_at, is_meant, is_within}
+use Rattle.iocm_filter.specs.Wanted.{is_device_on, wants_image, wants_device, wants_view, wanted}
 
 -- ---- of listed records
 
 in_order : entries some_configuration ≡ with_keys some_records
-in_order = ap entries (same_map keys_total keys_exact _ _ (λ q. get-from_entries keys_total (with_keys some_records) q ∙ sym (get-from_sorted key_cmp (with_keys some_records) q tt)))
+in_order = ap entries (same_map keys_total keys_exact _ _
+    (λ q. get-from_entries keys_total (with_keys some_records) q
+    ∙ sym (get-from_sorted key_cmp (with_keys some_records) q tt)))
     ∙ entries-from_sorted key_cmp (with_keys some_records) tt
 
 records_are : records_of some_configuration ≡ some_records
@@ -34,24 +40,31 @@ abbrev image_among : Wanted → List Rec → Image → Bool
 image_among w rs i = one_if_asked (meant_among rs i) w.images
 
 abbrev device_among : Wanted → List Rec → ℕ → ℕ → Bool
-device_among w rs set number = one_if_asked (is_within set number) w.devices && (not (asks w.units) || list_any (is_device_on w.units set number) rs)
+device_among w rs set number =
+    one_if_asked (is_within set number) w.devices
+    && (not (asks w.units) || list_any (is_device_on w.units set number) rs)
 
 abbrev row_among : Wanted → List Rec → SubId × View → Bool
-row_among w rs row = image_among w rs row.0.image && device_among w rs row.0.set row.1.device && wants_view w row.0.image.css row.1
+row_among w rs row = image_among w rs row.0.image && device_among w rs row.0.set row.1.device
+    && wants_view w row.0.image.css row.1
 
-meant_is : (i : Image) (words : List ImageWord) → list_any (is_meant some_configuration i) words ≡ list_any (meant_among some_records i) words
+meant_is : (i : Image) (words : List ImageWord)
+    → list_any (is_meant some_configuration i) words ≡ list_any (meant_among some_records i) words
 meant_is i [] = refl
 meant_is i (Place at ∷ words) = ap (λ b. (at.css == i.css && at.mif == i.mif) || b) (meant_is i words)
-meant_is i (Named name ∷ words) = λ j. list_any (is_image_at i name) (filter_map as_image (records_are j)) || meant_is i words j
+meant_is i (Named name ∷ words) =
+    λ j. list_any (is_image_at i name) (filter_map as_image (records_are j)) || meant_is i words j
 
 image_is : (w : Wanted) (i : Image) → wants_image w some_configuration i ≡ image_among w some_records i
 image_is w i = ap (λ b. not (asks w.images) || b) (meant_is i w.images)
 
-device_is : (w : Wanted) (set number : ℕ) → wants_device w some_configuration set number ≡ device_among w some_records set number
+device_is : (w : Wanted) (set number : ℕ)
+    → wants_device w some_configuration set number ≡ device_among w some_records set number
 device_is w set number = ap (λ rs. device_among w rs set number) records_are
 
 row_is : (w : Wanted) (row : SubId × View) → wanted w some_configuration row ≡ row_among w some_records row
-row_is w row = λ j. image_is w row.0.image j && device_is w row.0.set row.1.device j && wants_view w row.0.image.css row.1
+row_is w row = λ j. image_is w row.0.image j && device_is w row.0.set row.1.device j
+    && wants_view w row.0.image.css row.1
 
 -- ---- the examples
 

@@ -189,5 +189,6 @@ pub record RowsAsWorked : Type 0 where
   pub other_image : wanted by_all_kinds some_configuration (row_of 0 1 0 0x1003) ≡ false
   pub other_device : wanted by_all_kinds some_configuration (row_of 0 2 0 0x2003) ≡ false
   pub other_unit : wanted (record by_all_kinds { units = 0x2000 ∷ [] }) some_configuration (row_of 0 2 0 0x1003) ≡ false
-  pub other_path : wanted (record by_all_kinds { paths = record { css = 0; path = 0x52 } ∷ [] }) some_configuration (row_of 0 2 0 0x1003) ≡ false
+  pub other_path : wanted (record by_all_kinds { paths = record { css = 0; path = 0x52 } ∷ [] }) some_configuration
+      (row_of 0 2 0 0x1003) ≡ false
   pub fewer_online : wanted (record by_all_kinds { online = 0 ∷ [] }) some_configuration (row_of 0 2 0 0x1003) ≡ false

@@ -13,7 +13,8 @@ use Rattle.iocm_model.specs.Rules.EachRule.{same_name}
 use Rattle.iocm_lookup.specs.Kinds.{of_kind}
 use Rattle.iocm_filter.specs.declared.meant.ImageWord.{ImageWord}
 use Rattle.iocm_filter.specs.declared.meant.ImageWord.TheVariants.{Place, Named}
-use Rattle.iocm_filter.specs.Wanted.{Wanted, asks, one_if_asked, is_within, wants_image, wants_device, wants_view, wanted}
+use Rattle.iocm_filter.specs.Wanted.{Wanted, asks, one_if_asked, is_within, wants_image, wants_device, wants_view}
+use Rattle.iocm_filter.specs.Wanted.{wanted}
 
 -- keys of devices
 abbrev pub Devices : Type 0

@@ -33,8 +33,10 @@ impl<'f> Model for Sieve<'f> {
     ghost Value = { Sieve };
 
     ghost coded = { code_by (Wanted × (List Image × Devices))
-        (coded× (Prim.hlevel codes) (coded× (coded_list (Prim.hlevel codes)) (map.code (Prim.hlevel codes) (Prim.hlevel codes))))
-        (λ s. (s.asked, (s.images, s.users))) (λ p. record { asked = p.0; images = p.1.0; users = p.1.1 }) (λ _. refl) };
+        (coded× (Prim.hlevel codes)
+        (coded× (coded_list (Prim.hlevel codes)) (map.code (Prim.hlevel codes) (Prim.hlevel codes))))
+        (λ s. (s.asked, (s.images, s.users))) (λ p. record { asked = p.0; images = p.1.0; users = p.1.1 })
+        (λ _. refl) };
 
     ghost view = { λ s. record { asked = s.filters.now; images = s.images.items; users = rows key_cmp s.users } };
 }

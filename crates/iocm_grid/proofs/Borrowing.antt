@@ -1,5 +1,6 @@
 -- A slot that is lent out of its lists, level by level.
-use Rattle.std.proofs.Common.{◌≡◌, ℕ, zero, suc, cond, List, [], ◌∷◌, Option, None, Some, MutBor, slice_get, slice_set, option_and_then, OnSome, refl, sym, ap, ◌∙◌}
+use Rattle.std.proofs.Common.{◌≡◌, ℕ, zero, suc, cond, List, [], ◌∷◌, Option, None, Some, MutBor, slice_get, slice_set}
+use Rattle.std.proofs.Common.{option_and_then, OnSome, refl, sym, ap, ◌∙◌}
 use Rattle.std.specs.Option.{option_copied_mut, unwrap_or}
 use Rattle.iocm_types.specs.declared.sub_id.SubId.{SubId}
 use Rattle.iocm_grid.specs.Levels.{Slots, Sets, Levels, index_of, slot_among, slot_in, slot_at, changed_at, written}
@@ -33,7 +34,8 @@ module _ {X : Type 0} (levels : Levels X) (x : SubId) (range : IsInRange x) (css
       pub slot_is : slice_get slots index ≡ slot_at levels x
       slot_is = ap (slice_get slots) index_is
           ∙ sym (ap (λ b. cond b (slice_get slots (index_of x)) None) (is_of_image x.image.mif range.no_zero range.mif))
-          ∙ sym (ap (option_and_then (λ s. slot_in s x)) sets_there ∙ ap (option_and_then (λ s. slot_among s x)) slots_there)
+          ∙ sym (ap (option_and_then (λ s. slot_in s x)) sets_there
+          ∙ ap (option_and_then (λ s. slot_among s x)) slots_there)
 
       -- a slot that is there is written
       slot_written : (old w : Option X) → Some old ≡ slice_get slots index
@@ -41,11 +43,15 @@ module _ {X : Type 0} (levels : Levels X) (x : SubId) (range : IsInRange x) (css
       slot_written old w at_slot =
           let f : Slots X → Slots X = changed_at (λ o. w) (index_of x) in
           let inner : slice_set slots index w ≡ f slots =
-          ap (λ i. slice_set slots i w) index_is ∙ set_changed (λ o. w) slots (index_of x) old w (ap (slice_get slots) (sym index_is) ∙ sym at_slot) refl in
+          ap (λ i. slice_set slots i w) index_is
+          ∙ set_changed (λ o. w) slots (index_of x) old w (ap (slice_get slots) (sym index_is) ∙ sym at_slot)
+          refl in
           let middle : slice_set sets set (slice_set slots index w) ≡ changed_at f x.set sets =
-          ap (λ i. slice_set sets i (slice_set slots index w)) set_is ∙ set_changed f sets x.set slots (slice_set slots index w) slots_there (sym inner) in
+          ap (λ i. slice_set sets i (slice_set slots index w)) set_is
+          ∙ set_changed f sets x.set slots (slice_set slots index w) slots_there (sym inner) in
           ap (λ i. slice_set levels i (slice_set sets set (slice_set slots index w))) css_is
-          ∙ set_changed (changed_at f x.set) levels x.image.css sets (slice_set sets set (slice_set slots index w)) sets_there (sym middle)
+          ∙ set_changed (changed_at f x.set) levels x.image.css sets (slice_set sets set (slice_set slots index w))
+          sets_there (sym middle)
 
       pub lent_written : (r : Option (MutBor (Option X))) → option_copied_mut r ≡ slice_get slots index → (w : Option X)
           → OnSome r (slice_set levels css (slice_set sets set (slice_set slots index w)) ≡ written levels x w)

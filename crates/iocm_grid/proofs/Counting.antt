@@ -1,12 +1,14 @@
 -- How many rows there are: no more than there can be subchannels, and one more or less after a
 -- change.
-use Rattle.std.proofs.Common.{◌≡◌, ℕ, zero, suc, ◌+◌, ◌-◌, ◌*◌, ◌<◌, ◌≤◌, Bool, true, false, cond, not, T, List, [], ◌∷◌, Option, None, Some, is_some, length, refl, sym, ap, ◌∙◌, arith}
+use Rattle.std.proofs.Common.{◌≡◌, ℕ, zero, suc, ◌+◌, ◌-◌, ◌*◌, ◌<◌, ◌≤◌, Bool, true, false, cond, not, T, List, []}
+use Rattle.std.proofs.Common.{◌∷◌, Option, None, Some, is_some, length, refl, sym, ap, ◌∙◌, arith}
 use Rattle.std.specs.List.{AllByRecursion}
 use Rattle.std.specs.Ordering.{eq_by_cmp, nat_cmp, ordering_then, MatchOrdering}
 use Rattle.std.specs.Cmp.{ranks}
 use Rattle.std.specs.declared.cmp.Ordering.{Ordering}
 use Rattle.std.specs.declared.cmp.Ordering.TheVariants.{Less, Equal, Greater}
-use Rattle.std.specs.FinMap.{get, len, entries, insert, remove, contains_key, find, is_sorted, entries_sorted, get-entries, get-empty, len-entries, len-insert, len-remove, empty_of_len}
+use Rattle.std.specs.FinMap.{get, len, entries, insert, remove, contains_key, find, is_sorted, entries_sorted}
+use Rattle.std.specs.FinMap.{get-entries, get-empty, len-entries, len-insert, len-remove, empty_of_len}
 use Rattle.std.specs.FinMap.Entries.{below_all}
 use Rattle.iocm_types.specs.declared.sub_id.SubId.{SubId}
 use Rattle.iocm_types.specs.SubId.{sub_id_cmp}
@@ -40,7 +42,8 @@ rises_by a b in_a in_b Equal Equal Equal Equal by_css by_mif by_set by_number is
 rises_by a b in_a in_b Equal Equal Equal Greater by_css by_mif by_set by_number is = cc
 
 rises : (a b : SubId) → IsInRange a → IsInRange b → sub_id_cmp a b ≡ Less → rank a + 1 ≤ rank b
-rises a b in_a in_b less = rises_by a b in_a in_b (nat_cmp a.image.css b.image.css) (nat_cmp a.image.mif b.image.mif) (nat_cmp a.set b.set) (nat_cmp a.number b.number)
+rises a b in_a in_b less = rises_by a b in_a in_b (nat_cmp a.image.css b.image.css) (nat_cmp a.image.mif b.image.mif)
+    (nat_cmp a.set b.set) (nat_cmp a.number b.number)
     (ranks a.image.css b.image.css) (ranks a.image.mif b.image.mif) (ranks a.set b.set) (ranks a.number b.number) less
 
 highest : (x : SubId) → IsInRange x → rank x + 1 ≤ 25165824
@@ -59,7 +62,8 @@ module _ {X : Type 0} where
   abbrev InRange : SubId × X → Type 0
   InRange e = IsInRange e.0
 
-  above_all : (x : SubId) → IsInRange x → (es : List (SubId × X)) → T (below_all sub_id_cmp x es) → AllByRecursion InRange es
+  above_all : (x : SubId) → IsInRange x → (es : List (SubId × X)) → T (below_all sub_id_cmp x es)
+      → AllByRecursion InRange es
       → AllByRecursion (λ e. rank x + 1 ≤ rank e.0) es
   above_all x is [] below all = tt
   above_all x is (e ∷ es) below all =
@@ -70,7 +74,8 @@ module _ {X : Type 0} where
       → AllByRecursion (λ e. low ≤ rank e.0) es → low ≤ 25165824 → length es + low ≤ 25165824
   few_from low [] sorted all above most = omega arith
   few_from low (e ∷ es) sorted all above most =
-      let next = few_from (rank e.0 + 1) es (second_holds _ _ sorted) all.1 (above_all e.0 all.0 es (first_holds _ _ sorted) all.1) (highest e.0 all.0) in
+      let next = few_from (rank e.0 + 1) es (second_holds _ _ sorted) all.1
+      (above_all e.0 all.0 es (first_holds _ _ sorted) all.1) (highest e.0 all.0) in
       let here = above.0 in omega arith
 
   from_zero : (es : List (SubId × X)) → AllByRecursion (λ e. 0 ≤ rank e.0) es
@@ -97,10 +102,13 @@ module _ {X : Type 0} where
       let counted = len-entries rows in omega arith
 
   -- a row more, and a row less
-  module _ (rows : Rows X) (x : SubId) (before : Option X) (is : before ≡ get rows x) (c : ℕ) (counted : c ≡ len rows) where
-    pub counted_in : (row : X) (is_new : Bool) → is_some before ≡ not is_new → c + cond is_new 1 0 ≡ len (insert rows x row)
+  module _ (rows : Rows X) (x : SubId) (before : Option X) (is : before ≡ get rows x) (c : ℕ)
+      (counted : c ≡ len rows) where
+    pub counted_in : (row : X) (is_new : Bool) → is_some before ≡ not is_new
+        → c + cond is_new 1 0 ≡ len (insert rows x row)
     counted_in row is_new new = more_by is_new c _
-        (ap (λ d. cond (not is_new) d (d + 1)) counted ∙ ap (λ b. cond b (len rows) (len rows + 1)) (sym new ∙ ap is_some is)
+        (ap (λ d. cond (not is_new) d (d + 1)) counted
+        ∙ ap (λ b. cond b (len rows) (len rows + 1)) (sym new ∙ ap is_some is)
         ∙ sym (len-insert sub_ids_total rows x row))
 
     pub counted_out : (was : Bool) → was ≡ is_some before → c - cond was 1 0 ≡ len (remove rows x)

@@ -1,5 +1,6 @@
 -- When indices are the same, and when they aren't.
-use Rattle.std.proofs.Common.{◌≡◌, ℕ, zero, suc, Bool, true, false, nat_eq, eqb-true, eq-eqb, ne_eqb, refl, sym, ap, ◌∙◌, arith}
+use Rattle.std.proofs.Common.{◌≡◌, ℕ, zero, suc, Bool, true, false, nat_eq, eqb-true, eq-eqb, ne_eqb, refl, sym, ap}
+use Rattle.std.proofs.Common.{◌∙◌, arith}
 
 pub number_itself : (n : ℕ) → nat_eq n n ≡ true
 number_itself n = eq-eqb n n refl

@@ -1,5 +1,6 @@
 -- What is written through the loan of a slot, as a change of the rows.
-use Rattle.std.proofs.Common.{◌≡◌, ℕ, ◌+◌, ◌-◌, Bool, true, false, cond, not, Option, None, Some, OnSome, is_some, refl, sym, ap, subst, ◌∙◌}
+use Rattle.std.proofs.Common.{◌≡◌, ℕ, ◌+◌, ◌-◌, Bool, true, false, cond, not, Option, None, Some, OnSome, is_some, refl}
+use Rattle.std.proofs.Common.{sym, ap, subst, ◌∙◌}
 use Rattle.std.specs.Option.{option_flatten}
 use Rattle.std.specs.Ordering.{eq_by_cmp}
 use Rattle.std.specs.FinMap.{get, len, insert, remove, contains_key, get-insert, get-remove}
@@ -19,23 +20,28 @@ given None b is holds = cc
 given (Some x) b is holds = holds
 
 -- rows stay rows of subchannels
-module _ {X : Type 0} (rows : Rows X) (x : SubId) (in_range : (q : SubId) → contains_key rows q ≡ true → IsInRange q) where
+module _ {X : Type 0} (rows : Rows X) (x : SubId)
+    (in_range : (q : SubId) → contains_key rows q ≡ true → IsInRange q) where
   range_in : IsInRange x → (row : X) (q : SubId) → contains_key (insert rows x row) q ≡ true → IsInRange q
   range_in in_x row q has = by (eq_by_cmp sub_id_cmp q x) refl
     where
       by : (b : Bool) → eq_by_cmp sub_id_cmp q x ≡ b → IsInRange q
       by true is = subst IsInRange (sym (sub_ids_exact q x (equal_is _ is))) in_x
-      by false is = in_range q (sym (ap is_some (get-insert sub_ids_total rows x row q ∙ ap (λ b. cond b (Some row) (get rows q)) is)) ∙ has)
+      by false is = in_range q
+          (sym (ap is_some (get-insert sub_ids_total rows x row q ∙ ap (λ b. cond b (Some row) (get rows q)) is)) ∙ has)
 
   range_out : (q : SubId) → contains_key (remove rows x) q ≡ true → IsInRange q
   range_out q has = by (eq_by_cmp sub_id_cmp q x) refl
     where
       by : (b : Bool) → eq_by_cmp sub_id_cmp q x ≡ b → IsInRange q
       by true is =
-          let bad : false ≡ true = sym (ap is_some (get-remove sub_ids_total rows x q ∙ ap (λ b. cond b None (get rows q)) is)) ∙ has in cc
-      by false is = in_range q (sym (ap is_some (get-remove sub_ids_total rows x q ∙ ap (λ b. cond b None (get rows q)) is)) ∙ has)
+          let bad : false ≡ true =
+          sym (ap is_some (get-remove sub_ids_total rows x q ∙ ap (λ b. cond b None (get rows q)) is)) ∙ has in cc
+      by false is = in_range q
+          (sym (ap is_some (get-remove sub_ids_total rows x q ∙ ap (λ b. cond b None (get rows q)) is)) ∙ has)
 
-module _ {X : Type 0} (levels now : Levels X) (x : SubId) (in_x : IsInRange x) (old : Option X) (found : slot_at levels x ≡ Some old) (count : ℕ) (is : IsCounted levels count) where
+module _ {X : Type 0} (levels now : Levels X) (x : SubId) (in_x : IsInRange x) (old : Option X)
+    (found : slot_at levels x ≡ Some old) (count : ℕ) (is : IsCounted levels count) where
   there : is_some (slot_at levels x) ≡ true
   there = ap is_some found
 
@@ -49,18 +55,22 @@ module _ {X : Type 0} (levels now : Levels X) (x : SubId) (in_x : IsInRange x) (
   pub row_counted : (w : X) (is_new : Bool) → is_some old ≡ not is_new → now ≡ written levels x (Some w)
       → IsCounted now (count + cond is_new 1 0)
   row_counted w is_new new is_now = record {
-    counted = counted_in (rows_in levels) x old had_row count is.counted w is_new new ∙ ap len (sym (row_written w is_now));
-    in_range = λ q has. range_in (rows_in levels) x is.in_range in_x w q (ap (λ rows. contains_key rows q) (sym (row_written w is_now)) ∙ has);
+    counted = counted_in (rows_in levels) x old had_row count is.counted w is_new new
+        ∙ ap len (sym (row_written w is_now));
+    in_range = λ q has. range_in (rows_in levels) x is.in_range in_x w q
+        (ap (λ rows. contains_key rows q) (sym (row_written w is_now)) ∙ has);
   }
 
   -- a slot is emptied
   pub row_taken : now ≡ written levels x None → rows_in now ≡ remove (rows_in levels) x
   row_taken is_now = ap rows_in is_now ∙ taken_out levels x in_x there
 
-  pub taken_counted : (was : Bool) → was ≡ is_some old → now ≡ written levels x None → IsCounted now (count - cond was 1 0)
+  pub taken_counted : (was : Bool) → was ≡ is_some old → now ≡ written levels x None
+      → IsCounted now (count - cond was 1 0)
   taken_counted was had is_now = record {
     counted = counted_out (rows_in levels) x old had_row count is.counted was had ∙ ap len (sym (row_taken is_now));
-    in_range = λ q has. range_out (rows_in levels) x is.in_range q (ap (λ rows. contains_key rows q) (sym (row_taken is_now)) ∙ has);
+    in_range = λ q has. range_out (rows_in levels) x is.in_range q
+        (ap (λ rows. contains_key rows q) (sym (row_taken is_now)) ∙ has);
   }
 
   -- places stay
@@ -68,21 +78,27 @@ module _ {X : Type 0} (levels now : Levels X) (x : SubId) (in_x : IsInRange x) (
   places_stay w is_now = ap places_in is_now ∙ places_after levels x w
 
 -- a row that is lent is written over; an empty slot stays empty
-module _ {X : Type 0} (levels now : Levels X) (x : SubId) (in_x : IsInRange x) (g : Gridded X) (seen : gridded levels ≡ g) (count : ℕ) (is : IsCounted levels count) where
-  pub lent_changed : (row w : X) → slot_at levels x ≡ Some (Some row) → now ≡ written levels x (Some w) → IsChangedAt g x (gridded now) w
+module _ {X : Type 0} (levels now : Levels X) (x : SubId) (in_x : IsInRange x) (g : Gridded X)
+    (seen : gridded levels ≡ g) (count : ℕ) (is : IsCounted levels count) where
+  pub lent_changed : (row w : X) → slot_at levels x ≡ Some (Some row) → now ≡ written levels x (Some w)
+      → IsChangedAt g x (gridded now) w
   lent_changed row w found is_now = record {
-    rows = row_written levels now x in_x (Some row) found count is w is_now ∙ ap (λ (h : Gridded X). insert h.rows x w) seen;
-    places = places_stay levels now x in_x (Some row) found count is (Some w) is_now ∙ ap (λ (h : Gridded X). h.places) seen;
+    rows = row_written levels now x in_x (Some row) found count is w is_now
+        ∙ ap (λ (h : Gridded X). insert h.rows x w) seen;
+    places = places_stay levels now x in_x (Some row) found count is (Some w) is_now
+        ∙ ap (λ (h : Gridded X). h.places) seen;
   }
 
-  pub lent_counted : (row w : X) → slot_at levels x ≡ Some (Some row) → now ≡ written levels x (Some w) → IsCounted now count
+  pub lent_counted : (row w : X) → slot_at levels x ≡ Some (Some row) → now ≡ written levels x (Some w)
+      → IsCounted now count
   lent_counted row w found is_now =
       let more = row_counted levels now x in_x (Some row) found count is w false refl is_now in
       record { counted = same_with count _ more.counted; in_range = more.in_range }
 
   pub none_changed : slot_at levels x ≡ Some None → now ≡ written levels x None → IsUnchanged g (gridded now)
   none_changed found is_now = record {
-    rows = row_taken levels now x in_x None found count is is_now ∙ sym (untaken levels x (ap option_flatten found)) ∙ ap (λ (h : Gridded X). h.rows) seen;
+    rows = row_taken levels now x in_x None found count is is_now ∙ sym (untaken levels x (ap option_flatten found))
+        ∙ ap (λ (h : Gridded X). h.rows) seen;
     places = places_stay levels now x in_x None found count is None is_now ∙ ap (λ (h : Gridded X). h.places) seen;
   }
 

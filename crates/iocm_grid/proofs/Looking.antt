@@ -1,5 +1,7 @@
 -- The rows and the places of a grid, as its slots tell them.
-use Rattle.std.proofs.Common.{◌≡◌, ℕ, ◌+◌, ◌/◌, ◌%◌, ◌<◌, Bool, true, false, cond, ◌||◌, ◌&&◌, T, List, [], ◌∷◌, Option, None, Some, is_some, slice_get, option_and_then, refl, sym, ap, subst, ◌∙◌, arith, ltb-true, lt-ltb}
+use Rattle.std.proofs.Common.{◌≡◌, ℕ, ◌+◌, ◌/◌, ◌%◌, ◌<◌, Bool, true, false, cond, ◌||◌, ◌&&◌, T, List, [], ◌∷◌, Option}
+use Rattle.std.proofs.Common.{None, Some, is_some, slice_get, option_and_then, refl, sym, ap, subst, ◌∙◌, arith}
+use Rattle.std.proofs.Common.{ltb-true, lt-ltb}
 use Rattle.std.specs.List.{list_any}
 use Rattle.std.specs.Option.{option_flatten}
 use Rattle.std.specs.Ordering.{eq_by_cmp, is_eq}
@@ -31,12 +33,14 @@ untied x c apart = by (eq_by_cmp sub_id_cmp x c) refl
 pub tied : (x : SubId) → eq_by_cmp sub_id_cmp x x ≡ true
 tied x = (eq_by_cmp_equiv sub_ids_total).refl x
 
-pub then_same : {A B : Type 0} (f g : A → Option B) → ((a : A) → f a ≡ g a) → (o : Option A) → option_and_then f o ≡ option_and_then g o
+pub then_same : {A B : Type 0} (f g : A → Option B) → ((a : A) → f a ≡ g a) → (o : Option A)
+    → option_and_then f o ≡ option_and_then g o
 then_same f g same None = refl
 then_same f g same (Some a) = same a
 
 module _ {A B C : Type 0} where
-  then_then : (k : B → Option C) (g : A → Option B) (o : Option A) → option_and_then (λ a. option_and_then k (g a)) o ≡ option_and_then k (option_and_then g o)
+  then_then : (k : B → Option C) (g : A → Option B) (o : Option A)
+      → option_and_then (λ a. option_and_then k (g a)) o ≡ option_and_then k (option_and_then g o)
   then_then k g None = refl
   then_then k g (Some a) = refl
 
@@ -76,22 +80,26 @@ module _ {W U X : Type 0} {ask : List W → Option U} (s : IsSearch ask) (f : Su
   abbrev told : Option X → Option U
   told slot = ask (f x slot)
 
-  none_in_slots : (css set : ℕ) → ((i : ℕ) → subchannel css set i ≡ x → T false) → (slots : Slots X) → ask (of_slots css set slots) ≡ None
+  none_in_slots : (css set : ℕ) → ((i : ℕ) → subchannel css set i ≡ x → T false) → (slots : Slots X)
+      → ask (of_slots css set slots) ≡ None
   none_in_slots css set other slots = none_from s _ 0 slots (λ i slot more. apart (subchannel css set i) slot (other i))
 
-  none_in_sets : (css : ℕ) → ((set i : ℕ) → subchannel css set i ≡ x → T false) → (sets : Sets X) → ask (of_sets css sets) ≡ None
+  none_in_sets : (css : ℕ) → ((set i : ℕ) → subchannel css set i ≡ x → T false) → (sets : Sets X)
+      → ask (of_sets css sets) ≡ None
   none_in_sets css other sets = none_from s _ 0 sets (λ set slots more. none_in_slots css set (other set) slots)
 
   in_slots : (slots : Slots X) → ask (of_slots x.image.css x.set slots) ≡ option_and_then told (slot_among slots x)
   in_slots slots = by (is_image x.image.mif) refl
     where
       by : (b : Bool) → is_image x.image.mif ≡ b
-          → ask (of_slots x.image.css x.set slots) ≡ option_and_then told (cond (is_image x.image.mif) (slice_get slots (index_of x)) None)
+          → ask (of_slots x.image.css x.set slots)
+          ≡ option_and_then told (cond (is_image x.image.mif) (slice_get slots (index_of x)) None)
       by true is =
           let range = image_is x.image.mif is in
           found_from s _ (index_of x) (index_of x) 0 slots (omega arith)
           (λ i slot ne. apart (subchannel x.image.css x.set i) slot (λ e. ne (index_is x.image.css x.set i x e)))
-          ∙ ap (λ c. option_and_then (λ slot. ask (f c slot)) (slice_get slots (index_of x))) (index_back x range.0 range.1)
+          ∙ ap (λ c. option_and_then (λ slot. ask (f c slot)) (slice_get slots (index_of x)))
+          (index_back x range.0 range.1)
           ∙ ap (λ b. option_and_then told (cond b (slice_get slots (index_of x)) None)) (sym is)
       by false none = none_in_slots x.image.css x.set (λ i e. no_image x.image.css x.set i x none e) slots
           ∙ ap (λ b. option_and_then told (cond b (slice_get slots (index_of x)) None)) (sym none)
@@ -143,7 +151,8 @@ so_or_none : (b : Bool) → is_some (cond b so None) ≡ b
 so_or_none true = refl
 so_or_none false = refl
 
-some_kept : {A : Type 0} (b : Bool) → b ≡ true → (o : Option A) → is_some (option_and_then (λ a. cond b so None) o) ≡ is_some o
+some_kept : {A : Type 0} (b : Bool) → b ≡ true → (o : Option A)
+    → is_some (option_and_then (λ a. cond b so None) o) ≡ is_some o
 some_kept b is None = refl
 some_kept b is (Some a) = so_or_none b ∙ is
 
@@ -152,18 +161,22 @@ truth true h = refl
 truth false h = absurd h
 
 module _ {X : Type 0} where
-  place_apart : (x c : SubId) (slot : Option X) → (c ≡ x → T false) → if_any (eq_by_cmp sub_id_cmp x) (at_place c slot) ≡ None
+  place_apart : (x c : SubId) (slot : Option X) → (c ≡ x → T false)
+      → if_any (eq_by_cmp sub_id_cmp x) (at_place c slot) ≡ None
   place_apart x c slot other = ap (λ b. cond (b || false) (Some tt) None) (untied x c other)
 
-  pub place_at : (levels : Levels X) (x : SubId) → list_any (eq_by_cmp sub_id_cmp x) (places_in levels) ≡ is_some (slot_at levels x)
+  pub place_at : (levels : Levels X) (x : SubId)
+      → list_any (eq_by_cmp sub_id_cmp x) (places_in levels) ≡ is_some (slot_at levels x)
   place_at levels x = sym (so_or_none _)
       ∙ ap is_some (found (asking (eq_by_cmp sub_id_cmp x)) at_place x (place_apart x) levels)
       ∙ some_kept (eq_by_cmp sub_id_cmp x x || false) (or_false _ ∙ tied x) (slot_at levels x)
 
-  pub has_slot : (levels : Levels X) (x : SubId) → HasPlace (record { rows = rows_in levels; places = places_in levels }) x → is_some (slot_at levels x) ≡ true
+  pub has_slot : (levels : Levels X) (x : SubId)
+      → HasPlace (record { rows = rows_in levels; places = places_in levels }) x → is_some (slot_at levels x) ≡ true
   has_slot levels x has = sym (place_at levels x) ∙ truth _ has
 
-  pub has_place : (levels : Levels X) (x : SubId) → is_some (slot_at levels x) ≡ true → HasPlace (record { rows = rows_in levels; places = places_in levels }) x
+  pub has_place : (levels : Levels X) (x : SubId) → is_some (slot_at levels x) ≡ true
+      → HasPlace (record { rows = rows_in levels; places = places_in levels }) x
   has_place levels x is = subst T (sym (place_at levels x ∙ is)) tt
 
 -- a slot with a row is a slot

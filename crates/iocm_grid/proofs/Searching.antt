@@ -1,5 +1,6 @@
 -- What is found first in what is made of the items of a list, one after the other.
-use Rattle.std.proofs.Common.{◌≡◌, ℕ, zero, suc, ◌+◌, ◌≤◌, Bool, true, false, cond, ◌||◌, T, List, [], ◌∷◌, ◌++◌, Option, None, Some, slice_get, option_and_then, refl, ap, ◌∙◌, arith}
+use Rattle.std.proofs.Common.{◌≡◌, ℕ, zero, suc, ◌+◌, ◌≤◌, Bool, true, false, cond, ◌||◌, T, List, [], ◌∷◌, ◌++◌}
+use Rattle.std.proofs.Common.{Option, None, Some, slice_get, option_and_then, refl, ap, ◌∙◌, arith}
 use Rattle.std.specs.List.{list_any}
 use Rattle.std.specs.Option.{option_or}
 use Rattle.std.specs.Ordering.{eq_by_cmp}
@@ -41,7 +42,8 @@ module _ {W U Y : Type 0} {ask : List W → Option U} (s : IsSearch ask) (f : �
 either_first : {X : Type 0} (b : Bool) (v : X) (r s : Option X) → r ≡ s → cond b (Some v) r ≡ cond b (Some v) s
 either_first b v r s e = ap (cond b (Some v)) e
 
-or_of : {X : Type 0} (b : Bool) (v : X) (r s : Option X) → cond b (Some v) (option_or r s) ≡ option_or (cond b (Some v) r) s
+or_of : {X : Type 0} (b : Bool) (v : X) (r s : Option X)
+    → cond b (Some v) (option_or r s) ≡ option_or (cond b (Some v) r) s
 or_of true v r s = refl
 or_of false v r s = refl
 
@@ -60,7 +62,8 @@ if_any p ws = cond (list_any p ws) (Some tt) None
 
 module _ {W : Type 0} (p : W → Bool) where
   any_at : (b : Bool) (vs ws : List W) → if_any p (vs ++ ws) ≡ option_or (if_any p vs) (if_any p ws)
-      → cond (b || list_any p (vs ++ ws)) (Some tt) None ≡ option_or (cond (b || list_any p vs) (Some tt) None) (if_any p ws)
+      → cond (b || list_any p (vs ++ ws)) (Some tt) None
+      ≡ option_or (cond (b || list_any p vs) (Some tt) None) (if_any p ws)
   any_at true vs ws e = refl
   any_at false vs ws e = e
 

@@ -6,7 +6,8 @@ use Rattle.std.specs.declared.alloc.Allocator as alloc
 use Rattle.iocm_grid.specs.contracts.level.Level.{the_row}
 
 -- the item at an index is what was written last through r; at `None` the list stays as it is
-abbrev pub lends_item : (T A : RattleType) → alloc.Ghosts A.Denot → MutBor (List T.Denot) → ℕ → Option (MutBor T.Denot) → Fml
+abbrev pub lends_item : (T A : RattleType) → alloc.Ghosts A.Denot → MutBor (List T.Denot) → ℕ → Option (MutBor T.Denot)
+    → Fml
 lends_item T A heap l i r = LendsIf (the_row T A heap) T l r (slice_set l.now i) l.now
 
 -- items were added, all of one kind

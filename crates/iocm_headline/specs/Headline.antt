@@ -1,5 +1,5 @@
 -- The headline: what an accepted undo leaves.
-use Rattle.std.specs.Prelude.{◌≡◌, ℕ, List, ◌∷◌, ◌++◌, Some}
+use Rattle.std.specs.Prelude.{◌≡◌, ℕ, ◌∷◌, ◌++◌, Some}
 use Rattle.iocm_model.specs.Operation.State.{State}
 use Rattle.iocm_model.specs.Change.InverseTree.{inverse_tree}
 use Rattle.iocm_model.specs.Change.Meaning.{meaning, state_reached}

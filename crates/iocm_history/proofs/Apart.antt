@@ -1,6 +1,7 @@
 -- Changes that share no cell with an undone one: its undo gives its cells back what they had before
 -- it, and leaves all others.
-use Rattle.std.proofs.Common.{◌≡◌, ℕ, Bool, true, false, cond, List, [], ◌∷◌, ◌++◌, Some, None, is_some, refl, sym, ap, ◌∙◌}
+use Rattle.std.proofs.Common.{◌≡◌, ℕ, Bool, true, false, cond, List, [], ◌∷◌, ◌++◌, Some, None, is_some, refl, sym, ap}
+use Rattle.std.proofs.Common.{◌∙◌}
 use Rattle.std.specs.Option.{option_map}
 use Rattle.std.specs.FinMap.{get-empty}
 use Rattle.iocm_types.specs.Key.{key_cmp}
@@ -12,8 +13,10 @@ use Rattle.iocm_history.specs.Change.{Change, effect_of_change, cells_of_change,
 use Rattle.iocm_history.specs.MarkedEntry.{MarkedEntry, is_change, change_at, strike}
 use Rattle.iocm_history.specs.Account.{replay}
 use Rattle.iocm_history.specs.StandsOn.{Numbered, changes_in}
-use Rattle.iocm_history.proofs.OneCell.{Cell, at_key, at_number, at_subchannel, of_record, of_device, read, written, is_one_of, read_values, same_store, altered_cells, change_writes, not_shared}
-use Rattle.iocm_history.proofs.Striking.{has, made, IsOffSteps, IsOnSteps, off_steps, on_steps, unwritten, NoneWrites, written_before}
+use Rattle.iocm_history.proofs.OneCell.{Cell, at_key, at_number, at_subchannel, of_record, of_device, read, written}
+use Rattle.iocm_history.proofs.OneCell.{is_one_of, read_values, same_store, altered_cells, change_writes, not_shared}
+use Rattle.iocm_history.proofs.Striking.{has, made, IsOffSteps, IsOnSteps, off_steps, on_steps, unwritten, NoneWrites}
+use Rattle.iocm_history.proofs.Striking.{written_before}
 use Rattle.iocm_history.proofs.Passing.{change_past, change_here}
 
 -- none of these changes wrote a cell that this effect wrote
@@ -26,7 +29,8 @@ apart_second f [] es all = all
 apart_second f (d ∷ ds) es all = apart_second f ds es all.1
 
 -- so none writes at a cell that it wrote
-pub none_writes : (f : Effect) (ds : List Numbered) (q : Cell) → AreApart f ds → is_some (written f q) ≡ true → NoneWrites q ds
+pub none_writes : (f : Effect) (ds : List Numbered) (q : Cell) → AreApart f ds → is_some (written f q) ≡ true
+    → NoneWrites q ds
 none_writes f [] q all has = tt
 none_writes f (d ∷ ds) q all has = (not_shared f (effect_of_change d.1) all.0 q has, none_writes f ds q all.1 has)
 
@@ -45,7 +49,8 @@ on_altered c (at_number n) on x done l off = ap (option_map of_device) (get-empt
 on_altered c (at_subchannel y) on x done l off = on_steps (altered c) y (altered_cells c y ∙ on) x done l off
 
 -- a change writes nothing off its cells
-pub writes_not : (c : Change) (q : Cell) → is_one_of (cells_of_change c) q ≡ false → written (effect_of_change c) q ≡ None
+pub writes_not : (c : Change) (q : Cell) → is_one_of (cells_of_change c) q ≡ false
+    → written (effect_of_change c) q ≡ None
 writes_not c q off = absent (written (effect_of_change c) q) (change_writes c q ∙ off)
 
 pub same_some : (a b : Change) → Some a ≡ Some b → a ≡ b
@@ -59,13 +64,16 @@ HasCellsBefore m c = (q : Cell) → is_one_of (cells_of_change c) q ≡ true →
 
 module _ (m : Store) (n : ℕ) (c : Change) where
   -- with the change struck out, a cell that it didn't write stays
-  pub stays_without : (ls : List MarkedEntry) → change_at n ls ≡ Some c → (q : Cell) → is_one_of (cells_of_change c) q ≡ false
+  pub stays_without : (ls : List MarkedEntry) → change_at n ls ≡ Some c → (q : Cell)
+      → is_one_of (cells_of_change c) q ≡ false
       → read (replay m (strike (altered c) n ls)) q ≡ read (replay m ls) q
   stays_without ls at q off =
-      unwritten m q (altered c) n (off_altered c q off) ls (λ d found. let same : c ≡ d = same_some c d (sym at ∙ found) in
+      unwritten m q (altered c) n (off_altered c q off) ls
+      (λ d found. let same : c ≡ d = same_some c d (sym at ∙ found) in
       ap (λ (z : Change). written (effect_of_change z) q) (sym same) ∙ writes_not c q off)
 
-  module _ (newer older : List MarkedEntry) (others : has (is_change n) newer ≡ false) (apart : AreApart (effect_of_change c) (changes_in newer))
+  module _ (newer older : List MarkedEntry) (others : has (is_change n) newer ≡ false)
+      (apart : AreApart (effect_of_change c) (changes_in newer))
       (before : HasCellsBefore (replay m older) c) where
     abbrev all : List MarkedEntry
     all = newer ++ made n c ∷ older
@@ -82,4 +90,6 @@ module _ (m : Store) (n : ℕ) (c : Change) where
 
     -- the undo puts the cells of the change back
     pub undone_store : replay m (strike (altered c) n all) ≡ store_with (values_before c) (replay m all)
-    undone_store = same_store _ _ (λ q. cell_undone (is_one_of (cells_of_change c) q) q refl ∙ sym (read_values c.from (cells_of_change c) (replay m all) q))
+    undone_store = same_store _ _
+        (λ q. cell_undone (is_one_of (cells_of_change c) q) q refl
+        ∙ sym (read_values c.from (cells_of_change c) (replay m all) q))

@@ -42,9 +42,11 @@ altered_like e s u like =
     let after = after_like e s u like in
     λ i. differing same_view (views_of (like.config i) (like.numbers i)) (views_of (after.config i) (after.numbers i))
 
-cells_like : (es : List Edit) (s u : State) → IsLike s u → (cells_written_by_all es s).subchannels ≡ (cells_written_by_all es u).subchannels
+cells_like : (es : List Edit) (s u : State) → IsLike s u
+    → (cells_written_by_all es s).subchannels ≡ (cells_written_by_all es u).subchannels
 cells_like [] s u like = refl
-cells_like (e ∷ es) s u like = λ i. altered_like e s u like i ++ cells_like es (state_after e s) (state_after e u) (after_like e s u like) i
+cells_like (e ∷ es) s u like =
+    λ i. altered_like e s u like i ++ cells_like es (state_after e s) (state_after e u) (after_like e s u like) i
 
 -- and leave the same live record where it was the same
 lives_like : (es : List Edit) (s u : State) (x : SubId) → IsLike s u → get s.lives x ≡ get u.lives x
@@ -54,7 +56,8 @@ lives_like (e ∷ es) s u x like same =
     let after = after_like e s u like in
     lives_like es (state_after e s) (state_after e u) x after
     (lives_after_edit_at (views_in s) (views_in (state_after e s)) e.lives s.lives x
-    ∙ (λ i. left_at (sees_like s u x like i) (sees_like (state_after e s) (state_after e u) x after i) (get e.lives x) (same i))
+    ∙ (λ i. left_at (sees_like s u x like i) (sees_like (state_after e s) (state_after e u) x after i) (get e.lives x)
+    (same i))
     ∙ sym (lives_after_edit_at (views_in u) (views_in (state_after e u)) e.lives u.lives x))
 
 -- a change that is ready leaves what its edits do
@@ -68,11 +71,14 @@ edits_do c s ready used = λ i. record { config = sym after.config i; numbers = 
     after = all_like c.edits s c.from like
 
     by : (x : SubId) (b : Bool) → is_among x (cells_of_change c).subchannels ≡ b
-        → cond b (get (state_after_all c.edits c.from).lives x) (get s.lives x) ≡ get (state_after_all c.edits s).lives x
+        → cond b (get (state_after_all c.edits c.from).lives x) (get s.lives x)
+        ≡ get (state_after_all c.edits s).lives x
     by x true is = sym (lives_like c.edits s c.from x like (ready.lives x (altered_cells c x ∙ is)))
-    by x false is = sym (off_lives c.edits s x used.sound.lived (ap (is_among x) (cells_like c.edits s c.from like) ∙ is))
+    by x false is = sym (off_lives c.edits s x used.sound.lived
+        (ap (is_among x) (cells_like c.edits s c.from like) ∙ is))
 
     lives : (state_changed c s).lives ≡ (state_after_all c.edits s).lives
     lives = same_map sub_ids_total sub_ids_exact _ _ (λ x.
-        get_with_cells_as sub_ids_total sub_ids_exact (state_after_all c.edits c.from).lives (cells_of_change c).subchannels s.lives x
+        get_with_cells_as sub_ids_total sub_ids_exact (state_after_all c.edits c.from).lives
+        (cells_of_change c).subchannels s.lives x
         ∙ by x (is_among x (cells_of_change c).subchannels) refl)

@@ -32,7 +32,12 @@ record HasState (o : Option State) : Type 0 where
 
 has_state : (o : Option State) → keeps_the_rules o ≡ true → HasState o
 has_state None h = cc
-has_state (Some v) h = record { state = v; is = refl; rules = absent (first_breach v.config v.numbers) (not_there (is_some (first_breach v.config v.numbers)) h) }
+has_state (Some v) h = record {
+  state = v;
+  is = refl;
+  rules = absent (first_breach v.config v.numbers)
+      (not_there (is_some (first_breach v.config v.numbers)) h);
+}
   where
     not_there : (b : Bool) → not b ≡ true → b ≡ false
     not_there true h = sym h
@@ -42,12 +47,14 @@ pub taken_back_where_it_fits : (c : Change) (u : State) → WasMade c → IsInUs
 taken_back_where_it_fits c u was used h =
     let there = has_state (state_before_all c.edits c.from u) h in
     let v = there.state in
-    let back : AreBack c.edits c.from u v = all_back c.edits c.from u v was.used.sound (carried_free c was) used.sound there.is in
+    let back : AreBack c.edits c.from u v =
+    all_back c.edits c.from u v was.used.sound (carried_free c was) used.sound there.is in
     record {
       state = v;
       is = back.is;
       used = record { sound = back.sound; rules = there.rules };
-      store = same_store (store_of v) (store_with (values_before c) (store_of u)) (λ q. back.cells q ∙ sym (read_values c.from (cells_of_change c) (store_of u) q));
+      store = same_store (store_of v) (store_with (values_before c) (store_of u))
+          (λ q. back.cells q ∙ sym (read_values c.from (cells_of_change c) (store_of u) q));
       seen = λ x off. back.seen x (sym (altered_cells c x) ∙ off);
       accepted = λ quiet. back.accepted was.accepted (λ x on. quiet x (altered_cells c x ∙ on));
     }

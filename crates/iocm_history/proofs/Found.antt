@@ -13,13 +13,15 @@ use Rattle.iocm_history.proofs.Along.{IsEvent, idles, steps, changes, undoes, re
 use Rattle.iocm_history.proofs.Passing.{change_here}
 use Rattle.iocm_history.proofs.Remarked.{change_strike, change_restore}
 use Rattle.iocm_history.proofs.Settled.{state_now}
-use Rattle.iocm_history.specs.JournalLaws.{EachChangeIsThere, OnlyTheseAreThere, ChangesStayThere, ActivationsAreThere, CommitsAreThere}
+use Rattle.iocm_history.specs.JournalLaws.{EachChangeIsThere, OnlyTheseAreThere, ChangesStayThere, ActivationsAreThere}
+use Rattle.iocm_history.specs.JournalLaws.{CommitsAreThere}
 use Rattle.iocm_history.proofs.Numbered.{numbers_in, there_by_number, within, among, numbered}
 
 pub each_change_is_there : EachChangeIsThere
 each_change_is_there opening h n used legal low high =
     let ls = marked_entries opening h in let o = numbered opening h used legal in
-    present (change_at n ls) (there_by_number n ls ∙ among n (numbers_in ls) o.down low (let long = o.long in omega arith))
+    present (change_at n ls)
+    (there_by_number n ls ∙ among n (numbers_in ls) o.down low (let long = o.long in omega arith))
 
 pub only_these_are_there : OnlyTheseAreThere
 only_these_are_there opening h n c used legal at =
@@ -30,10 +32,12 @@ only_these_are_there opening h n c used legal at =
 -- ---- an entry more
 
 module _ (m : Store) (b : Journal) (a : Account) (n : ℕ) (low : n ≤ b.count) where
-  entries_as : (d c : Account) → d ≡ c → change_at n c.entries ≡ change_at n a.entries → change_at n d.entries ≡ change_at n a.entries
+  entries_as : (d c : Account) → d ≡ c → change_at n c.entries ≡ change_at n a.entries
+      → change_at n d.entries ≡ change_at n a.entries
   entries_as d c is same = ap (λ (z : Account). change_at n z.entries) is ∙ same
 
-  stays : (e : Entry) → IsEvent m b a e → change_at n (account_after e.call e.answer (state_now m a) a).entries ≡ change_at n a.entries
+  stays : (e : Entry) → IsEvent m b a e
+      → change_at n (account_after e.call e.answer (state_now m a) a).entries ≡ change_at n a.entries
   stays e (idles g staged account_is journal_is) = entries_as _ _ account_is refl
   stays e (steps x done off account_is journal_is) = entries_as _ _ account_is refl
   stays e (changes c g ready idle account_is journal_is) =
@@ -62,4 +66,5 @@ pub commits_are_there : CommitsAreThere
 unfolding account
 commits_are_there opening h g f used legal staged =
     let n = (journal_of h).count + 1 in
-    ap (λ o. change_or n (committed n o) (change_at n (marked_entries opening h))) staged ∙ change_here n g.change (marked_entries opening h)
+    ap (λ o. change_or n (committed n o) (change_at n (marked_entries opening h))) staged
+    ∙ change_here n g.change (marked_entries opening h)

@@ -1,5 +1,6 @@
 -- Where a change fits, its inverses write the cells that it wrote.
-use Rattle.std.proofs.Common.{◌≡◌, ℕ, Bool, true, false, cond, not, ◌||◌, nat_eq, eqb-true, eq-eqb, List, [], ◌∷◌, ◌++◌, Option, Some, None, refl, sym, ap, ◌∙◌}
+use Rattle.std.proofs.Common.{◌≡◌, ℕ, Bool, true, false, cond, not, ◌||◌, nat_eq, eqb-true, eq-eqb, List, [], ◌∷◌, ◌++◌}
+use Rattle.std.proofs.Common.{Option, Some, None, refl, sym, ap, ◌∙◌}
 use Rattle.std.specs.List.{list_any}
 use Rattle.std.specs.Option.{option_eq, option_and_then}
 use Rattle.std.specs.Ordering.{eq_by_cmp}
@@ -53,23 +54,27 @@ module _ (e : Edit) (s u : State) (sound_s : IsSound s) (sound_u : IsSound u) (b
   abbrev device : State → NumberCell → Option ℕ
   device z c = get (cells_of z.numbers) c
 
-  device_by : (b : Bool) (c : NumberCell) → option_eq nat_eq (device s c) (device t c) ≡ b → option_eq nat_eq (device u c) (device v c) ≡ b
+  device_by : (b : Bool) (c : NumberCell) → option_eq nat_eq (device s c) (device t c) ≡ b
+      → option_eq nat_eq (device u c) (device v c) ≡ b
   device_by true c is = stays_at nat_eq (device s c) (device t c) (device u c) (device v c) is (back.numbers c)
   device_by false c is =
       let turn = turns_at nat_eq (device s c) (device t c) (device u c) (device v c) is (back.numbers c) in
-      (λ i. option_eq nat_eq (same_device (device u c) (device t c) turn.0 i) (same_device (device v c) (device s c) turn.1 i))
+      (λ i. option_eq nat_eq (same_device (device u c) (device t c) turn.0 i)
+      (same_device (device v c) (device s c) turn.1 i))
       ∙ devices_turned (device s c) (device t c) is
 
   -- the inverse of an edit that goes back writes what the edit wrote
   inverse_writes : (q : Cell) → is_one_of (cells_written (inverse_of e s) u) q ≡ is_one_of (cells_written e s) q
   inverse_writes (at_key k) =
-      let same = back_key (action_key e.action) (get s.config (action_key e.action)) (record_after e.action) (keyed_own s.config sound_s.keyed (action_key e.action)) in
+      let same = back_key (action_key e.action) (get s.config (action_key e.action)) (record_after e.action)
+      (keyed_own s.config sound_s.keyed (action_key e.action)) in
       λ i. list_any (eq_by_cmp key_cmp k) (same i ∷ [])
   inverse_writes (at_number c) =
       in_differing cells_total cells_exact nat_eq (cells_of u.numbers) (cells_of v.numbers) c
       ∙ ap not (device_by (option_eq nat_eq (device s c) (device t c)) c refl)
       ∙ sym (in_differing cells_total cells_exact nat_eq (cells_of s.numbers) (cells_of t.numbers) c)
-  inverse_writes (at_subchannel x) = among_altered u v x ∙ alters_the_same e s u sound_s sound_u back x ∙ sym (among_altered s t x)
+  inverse_writes (at_subchannel x) =
+      among_altered u v x ∙ alters_the_same e s u sound_s sound_u back x ∙ sym (among_altered s t x)
 
 -- ---- a run
 
@@ -86,25 +91,30 @@ none_of (at_subchannel x) = refl
 
 -- the cells of a run and then an edit
 last_cells : (es : List Edit) (f : Edit) (u : State) (q : Cell)
-    → is_one_of (cells_written_by_all (es ++ (f ∷ [])) u) q ≡ (is_one_of (cells_written_by_all es u) q || is_one_of (cells_written f (state_after_all es u)) q)
+    → is_one_of (cells_written_by_all (es ++ (f ∷ [])) u) q
+    ≡ (is_one_of (cells_written_by_all es u) q || is_one_of (cells_written f (state_after_all es u)) q)
 last_cells [] f u q =
     one_of_both (cells_written f u) no_cells q ∙ or_turned (is_one_of (cells_written f u) q) (is_one_of no_cells q)
 last_cells (e ∷ es) f u q =
     let first = cells_written e u in let middle = cells_written_by_all es (state_after e u) in
     let last = cells_written f (state_after_all es (state_after e u)) in
-    one_of_both first (cells_written_by_all (es ++ (f ∷ [])) (state_after e u)) q ∙ ap (λ b. is_one_of first q || b) (last_cells es f (state_after e u) q)
-    ∙ sym (or_assoc (is_one_of first q) (is_one_of middle q) (is_one_of last q)) ∙ ap (λ b. b || is_one_of last q) (sym (one_of_both first middle q))
+    one_of_both first (cells_written_by_all (es ++ (f ∷ [])) (state_after e u)) q
+    ∙ ap (λ b. is_one_of first q || b) (last_cells es f (state_after e u) q)
+    ∙ sym (or_assoc (is_one_of first q) (is_one_of middle q) (is_one_of last q))
+    ∙ ap (λ b. b || is_one_of last q) (sym (one_of_both first middle q))
 
 there : (b : Bool) (v w : State) → cond b (Some v) None ≡ Some w → b ≡ true
 there true v w h = refl
 there false v w h = cc
 
-step_from : (o : Option State) (f : State → Option State) (v : State) → option_and_then f o ≡ Some v → (w : State) × (o ≡ Some w) × (f w ≡ Some v)
+step_from : (o : Option State) (f : State → Option State) (v : State) → option_and_then f o ≡ Some v
+    → (w : State) × (o ≡ Some w) × (f w ≡ Some v)
 step_from None f v h = cc
 step_from (Some w) f v h = (w, refl, h)
 
 -- where edits go back, their inverses write what they wrote
-inverses_write : (es : List Edit) (s u v : State) → IsSound s → CarryFreeNumbers es s → IsSound u → state_before_all es s u ≡ Some v
+inverses_write : (es : List Edit) (s u v : State) → IsSound s → CarryFreeNumbers es s → IsSound u
+    → state_before_all es s u ≡ Some v
     → (q : Cell) → is_one_of (cells_written_by_all (inverses es s) u) q ≡ is_one_of (cells_written_by_all es s) q
 inverses_write [] s u v sound free sound_u h q = refl
 inverses_write (e ∷ es) s u v sound free sound_u h q =
@@ -115,7 +125,8 @@ inverses_write (e ∷ es) s u v sound free sound_u h q =
     let later = all_back es t u w sound_t free.1 sound_u parts.1 in
     let back = is_back e s w (there (goes_back_in e s w) (state_after (inverse_of e s) w) v parts.2) in
     last_cells (inverses es t) (inverse_of e s) u q
-    ∙ (λ i. inverses_write es t u w sound_t free.1 sound_u parts.1 q i || is_one_of (cells_written (inverse_of e s) (sym later.is i)) q)
+    ∙ (λ i. inverses_write es t u w sound_t free.1 sound_u parts.1 q i
+    || is_one_of (cells_written (inverse_of e s) (sym later.is i)) q)
     ∙ ap (λ b. is_one_of (cells_written_by_all es t) q || b) (inverse_writes e s w sound later.sound back q)
     ∙ or_turned (is_one_of (cells_written_by_all es t) q) (is_one_of (cells_written e s) q)
     ∙ sym (one_of_both (cells_written e s) (cells_written_by_all es t) q)

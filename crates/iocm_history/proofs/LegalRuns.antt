@@ -4,11 +4,13 @@ use Rattle.std.specs.List.{fold}
 use Rattle.iocm_model.specs.Operation.State.{State}
 use Rattle.iocm_model.specs.Change.Meaning.{Outcome, meaning}
 use Rattle.iocm_model.specs.Change.Tree.{ChangeTree}
-use Rattle.iocm_history.specs.Entry.{Call, at, activate, begin, advance, commit, abort, undo, redo, show, Entry, History}
+use Rattle.iocm_history.specs.Entry.{Call, at, activate, begin, advance, commit, abort, undo, redo, show, Entry}
+use Rattle.iocm_history.specs.Entry.{History}
 use Rattle.iocm_history.specs.Stage.{Stage}
 use Rattle.iocm_history.specs.Account.{Account, state_in, account}
 use Rattle.iocm_history.specs.Journal.{Journal, journal_of}
-use Rattle.iocm_history.specs.Legal.{unless_staged, activated, begun, commit_entry, entry_in, entry_of, IsRight, IsLegal}
+use Rattle.iocm_history.specs.Legal.{unless_staged, activated, begun, commit_entry, entry_in, entry_of, IsRight}
+use Rattle.iocm_history.specs.Legal.{IsLegal}
 use Rattle.iocm_history.specs.HistoryLaws.{RunsAreLegal}
 
 -- an entry is that of its call
@@ -42,13 +44,15 @@ entry_call s b a show = staged_call a.stage show _ refl
 -- the entry that a call makes is right
 made_right : (opening : State) (h : History) (call : Call) → IsRight opening h (entry_of opening h call)
 made_right opening h call =
-    inl (ap (entry_of opening h) (sym (entry_call (state_in opening (account opening h)) (journal_of h) (account opening h) call)))
+    inl (ap (entry_of opening h)
+    (sym (entry_call (state_in opening (account opening h)) (journal_of h) (account opening h) call)))
 
 -- calls go on from a legal history to a legal one
 legal_from : (opening : State) (h : History) (calls : List Call) → IsLegal opening h
     → IsLegal opening (fold (λ g call. entry_of opening g call ∷ g) h calls)
 legal_from opening h [] legal = legal
-legal_from opening h (call ∷ calls) legal = legal_from opening (entry_of opening h call ∷ h) calls (made_right opening h call, legal)
+legal_from opening h (call ∷ calls) legal =
+    legal_from opening (entry_of opening h call ∷ h) calls (made_right opening h call, legal)
 
 pub runs_are_legal : RunsAreLegal
 runs_are_legal opening calls = legal_from opening [] calls tt

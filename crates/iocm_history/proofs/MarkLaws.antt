@@ -28,7 +28,9 @@ stands_among m n ls s =
 pub changes_count_while_they_stand : ChangesCountWhileTheyStand
 changes_count_while_they_stand opening h n used legal =
     let i = settled opening h used legal in
-    by (is_in n (journal_of h).standing) refl (λ here. stands_among (store_of opening) n (marked_entries opening h) (i.level.standing n here)) (i.level.only n)
+    by (is_in n (journal_of h).standing) refl
+    (λ here. stands_among (store_of opening) n (marked_entries opening h) (i.level.standing n here))
+    (i.level.only n)
   where
     counted : Bool
     counted = is_in n (numbers_of (changes_in (marked_entries opening h)))

@@ -1,5 +1,6 @@
 -- Lists of numbers of changes.
-use Rattle.std.proofs.Common.{◌≡◌, ◌≢◌, ◌⊎◌, inl, inr, ℕ, Bool, true, false, cond, not, ◌&&◌, ◌||◌, eqb, List, [], ◌∷◌, refl, sym, ap, ◌∙◌}
+use Rattle.std.proofs.Common.{◌≡◌, ◌≢◌, ◌⊎◌, inl, inr, ℕ, Bool, true, false, cond, not, ◌&&◌, ◌||◌, eqb, List, [], ◌∷◌}
+use Rattle.std.proofs.Common.{refl, sym, ap, ◌∙◌}
 use Rattle.std.proofs.lemmas.Bool.{and_from, and_parts, eq-eqb, ne_eqb, eqb-true}
 use Rattle.iocm_history.specs.Journal.{is_in, without}
 
@@ -37,8 +38,11 @@ is_in_without n k (m ∷ ns) = by (eqb n m) (eqb k m) refl refl (is_in_without n
 
 pub in_without : (n k : ℕ) (ns : List ℕ) → is_in k (without n ns) ≡ true → (is_in k ns ≡ true) × (n ≢ k)
 in_without n k ns among =
-    let both = and_parts _ _ (sym (is_in_without n k ns) ∙ among) in
-    (both.0, λ same. let here : eqb n k ≡ true = eq-eqb n k same in let no : true ≡ false = sym both.1 ∙ ap not here in cc)
+    let both = and_parts _ _ (sym (is_in_without n k ns) ∙ among) in (
+      both.0,
+      λ same. let here : eqb n k ≡ true = eq-eqb n k same in let no : true ≡ false = sym both.1
+          ∙ ap not here in cc,
+    )
 
 pub among_without : (n k : ℕ) (ns : List ℕ) → is_in k ns ≡ true → n ≢ k → is_in k (without n ns) ≡ true
 among_without n k ns among other = is_in_without n k ns ∙ and_from _ _ among (ap not (ne_eqb n k other))
@@ -58,7 +62,9 @@ in_front_again n k ns here = by (eqb k n) refl
     by : (b : Bool) → eqb k n ≡ b → (b || is_in k (without n ns)) ≡ is_in k ns
     by true e = sym (ap (λ j. is_in j ns) (eqb-true k n e) ∙ here)
     by false e =
-        let other : eqb n k ≡ false = ne_eqb n k (λ same. let is : eqb k n ≡ true = eq-eqb k n (sym same) in let no : true ≡ false = sym is ∙ e in cc) in
+        let other : eqb n k ≡ false =
+        ne_eqb n k (λ same. let is : eqb k n ≡ true = eq-eqb k n (sym same) in let no : true ≡ false = sym is
+        ∙ e in cc) in
         is_in_without n k ns ∙ ap (λ b. is_in k ns && not b) other ∙ whole (is_in k ns)
       where
         whole : (b : Bool) → (b && true) ≡ b

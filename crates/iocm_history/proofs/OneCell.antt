@@ -1,12 +1,14 @@
 -- One cell of a store, whichever kind it is of: what it has, what effects write to it, and that
 -- stores that agree at each cell are equal.
-use Rattle.std.proofs.Common.{◌≡◌, Bool, true, false, cond, ◌||◌, List, [], ◌∷◌, ℕ, Option, Some, None, is_some, refl, sym, ap, ◌∙◌}
+use Rattle.std.proofs.Common.{◌≡◌, Bool, true, false, cond, ◌||◌, List, [], ◌∷◌, ℕ, Option, Some, None, is_some, refl}
+use Rattle.std.proofs.Common.{sym, ap, ◌∙◌}
 use Rattle.std.proofs.lemmas.Bool.{or_parts}
 use Rattle.std.specs.List.{list_any}
 use Rattle.std.specs.Option.{option_map, unwrap_or}
 use Rattle.std.specs.Ordering.{eq_by_cmp}
 use Rattle.std.specs.declared.cmp.Ordering.{Ordering}
-use Rattle.std.specs.FinMap.{FinMap, IsAntisymmetric, get, entries, keys, empty, contains_key, contains_key-keys, get-empty, get-entries, get-insert, same_map}
+use Rattle.std.specs.FinMap.{FinMap, IsAntisymmetric, get, entries, keys, empty, contains_key, contains_key-keys}
+use Rattle.std.specs.FinMap.{get-empty, get-entries, get-insert, same_map}
 use Rattle.iocm_types.specs.declared.key.Key.{Key}
 use Rattle.iocm_types.specs.declared.live.Live.{Live}
 use Rattle.iocm_types.specs.declared.place.NumberCell.{NumberCell}
@@ -67,26 +69,35 @@ unwrap_map f (Some x) d = refl
 -- a store with an effect has at a cell what was written, and else what it had
 pub read_with : (f : Effect) (m : Store) (q : Cell) → read (store_with f m) q ≡ unwrap_or (written f q) (read m q)
 read_with f m (at_key k) =
-    ap of_record (get_with_cells keys_total keys_exact (entries f.records) m.records k ∙ ap (λ o. unwrap_or o (get m.records k)) (sym (get-entries f.records k)))
+    ap of_record (get_with_cells keys_total keys_exact (entries f.records) m.records k
+    ∙ ap (λ o. unwrap_or o (get m.records k)) (sym (get-entries f.records k)))
     ∙ unwrap_map of_record (get f.records k) (get m.records k)
 read_with f m (at_number c) =
-    ap of_device (get_with_cells cells_total cells_exact (entries f.numbers) m.numbers c ∙ ap (λ o. unwrap_or o (get m.numbers c)) (sym (get-entries f.numbers c)))
+    ap of_device (get_with_cells cells_total cells_exact (entries f.numbers) m.numbers c
+    ∙ ap (λ o. unwrap_or o (get m.numbers c)) (sym (get-entries f.numbers c)))
     ∙ unwrap_map of_device (get f.numbers c) (get m.numbers c)
 read_with f m (at_subchannel x) =
-    ap of_live (get_with_cells sub_ids_total sub_ids_exact (entries f.lives) m.lives x ∙ ap (λ o. unwrap_or o (get m.lives x)) (sym (get-entries f.lives x)))
+    ap of_live (get_with_cells sub_ids_total sub_ids_exact (entries f.lives) m.lives x
+    ∙ ap (λ o. unwrap_or o (get m.lives x)) (sym (get-entries f.lives x)))
     ∙ unwrap_map of_live (get f.lives x) (get m.lives x)
 
-map_cond : {A B : Type 0} (f : A → B) (b : Bool) (x : A) → option_map f (cond b (Some x) None) ≡ cond b (Some (f x)) None
+map_cond : {A B : Type 0} (f : A → B) (b : Bool) (x : A)
+    → option_map f (cond b (Some x) None) ≡ cond b (Some (f x)) None
 map_cond f true x = refl
 map_cond f false x = refl
 
 -- the values of a state at some cells are what it has there
-pub written_values : (s : State) (w : Cells) (q : Cell) → written (values_in s w) q ≡ cond (is_one_of w q) (Some (read (store_of s) q)) None
-written_values s w (at_key k) = ap (option_map of_record) (get_cells_at keys_total keys_exact s.config w.keys k) ∙ map_cond of_record _ (get s.config k)
+pub written_values : (s : State) (w : Cells) (q : Cell)
+    → written (values_in s w) q ≡ cond (is_one_of w q) (Some (read (store_of s) q)) None
+written_values s w (at_key k) =
+    ap (option_map of_record) (get_cells_at keys_total keys_exact s.config w.keys k)
+    ∙ map_cond of_record _ (get s.config k)
 written_values s w (at_number c) =
-    ap (option_map of_device) (get_cells_at cells_total cells_exact (cells_of s.numbers) w.numbers c) ∙ map_cond of_device _ (get (cells_of s.numbers) c)
+    ap (option_map of_device) (get_cells_at cells_total cells_exact (cells_of s.numbers) w.numbers c)
+    ∙ map_cond of_device _ (get (cells_of s.numbers) c)
 written_values s w (at_subchannel x) =
-    ap (option_map of_live) (get_cells_at sub_ids_total sub_ids_exact s.lives w.subchannels x) ∙ map_cond of_live _ (get s.lives x)
+    ap (option_map of_live) (get_cells_at sub_ids_total sub_ids_exact s.lives w.subchannels x)
+    ∙ map_cond of_live _ (get s.lives x)
 
 -- nothing is written by no effect
 pub none_written : (q : Cell) → written no_effect q ≡ None
@@ -95,9 +106,12 @@ none_written (at_number c) = ap (option_map of_device) (get-empty cell_cmp c)
 none_written (at_subchannel x) = ap (option_map of_live) (get-empty sub_id_cmp x)
 
 -- a step writes at its subchannel alone
-pub step_writes : (x y : SubId) (made : Step) (l : Option Live) → written (effect_of_act (step x made l)) (at_subchannel y) ≡ cond (eq_by_cmp sub_id_cmp y x) (Some (of_live l)) None
+pub step_writes : (x y : SubId) (made : Step) (l : Option Live)
+    → written (effect_of_act (step x made l)) (at_subchannel y)
+    ≡ cond (eq_by_cmp sub_id_cmp y x) (Some (of_live l)) None
 step_writes x y made l =
-    ap (option_map of_live) (get-insert sub_ids_total empty x l y ∙ ap (cond (eq_by_cmp sub_id_cmp y x) (Some l)) (get-empty sub_id_cmp y))
+    ap (option_map of_live) (get-insert sub_ids_total empty x l y
+    ∙ ap (cond (eq_by_cmp sub_id_cmp y x) (Some l)) (get-empty sub_id_cmp y))
     ∙ map_cond of_live (eq_by_cmp sub_id_cmp y x) l
 
 unwrap_by : {A : Type 0} (b : Bool) (x d : A) → unwrap_or (cond b (Some x) None) d ≡ cond b x d
@@ -105,7 +119,8 @@ unwrap_by true x d = refl
 unwrap_by false x d = refl
 
 -- cells overwritten as a state has them
-pub read_values : (s : State) (w : Cells) (m : Store) (q : Cell) → read (store_with (values_in s w) m) q ≡ cond (is_one_of w q) (read (store_of s) q) (read m q)
+pub read_values : (s : State) (w : Cells) (m : Store) (q : Cell)
+    → read (store_with (values_in s w) m) q ≡ cond (is_one_of w q) (read (store_of s) q) (read m q)
 read_values s w m q = read_with (values_in s w) m q ∙ ap (λ o. unwrap_or o (read m q)) (written_values s w q)
     ∙ unwrap_by (is_one_of w q) (read (store_of s) q) (read m q)
 
@@ -124,10 +139,12 @@ live_inner a b e = cc
 pub records_read : (m o : Store) → ((k : Key) → read m (at_key k) ≡ read o (at_key k)) → m.records ≡ o.records
 records_read m o same = same_map keys_total keys_exact m.records o.records (λ k. record_inner _ _ (same k))
 
-pub numbers_read : (m o : Store) → ((c : NumberCell) → read m (at_number c) ≡ read o (at_number c)) → m.numbers ≡ o.numbers
+pub numbers_read : (m o : Store) → ((c : NumberCell) → read m (at_number c) ≡ read o (at_number c))
+    → m.numbers ≡ o.numbers
 numbers_read m o same = same_map cells_total cells_exact m.numbers o.numbers (λ c. device_inner _ _ (same c))
 
-pub live_read : (m o : Store) (x : SubId) → read m (at_subchannel x) ≡ read o (at_subchannel x) → get m.lives x ≡ get o.lives x
+pub live_read : (m o : Store) (x : SubId) → read m (at_subchannel x) ≡ read o (at_subchannel x)
+    → get m.lives x ≡ get o.lives x
 live_read m o x same = live_inner _ _ same
 
 -- stores that agree at each cell are equal
@@ -140,7 +157,8 @@ same_store m o same =
 
 -- the cells of a sound state are the state
 pub state_of_store : (s : State) → IsSound s → state_of (store_of s) ≡ s
-state_of_store s sound = let numbers = cells_give_numbers s.config s.numbers sound.numbered in λ i. record { config = s.config; numbers = numbers i; lives = s.lives }
+state_of_store s sound = let numbers = cells_give_numbers s.config s.numbers sound.numbered in
+    λ i. record { config = s.config; numbers = numbers i; lives = s.lives }
 
 -- ---- the cells of a change
 
@@ -162,7 +180,8 @@ change_writes c q = ap is_some (written_values _ (cells_of_change c) q) ∙ ther
 
 module _ {K : Type 0} {R : K → K → Ordering} (exact : IsAntisymmetric R) where
   -- a test that fails at each of some keys fails at a key that is among them
-  fails_among : (test : K → Bool) (ks : List K) (q : K) → list_any test ks ≡ false → list_any (eq_by_cmp R q) ks ≡ true → test q ≡ false
+  fails_among : (test : K → Bool) (ks : List K) (q : K) → list_any test ks ≡ false → list_any (eq_by_cmp R q) ks ≡ true
+      → test q ≡ false
   fails_among test [] q none is = cc
   fails_among test (k ∷ ks) q none is =
       let both = or_parts _ _ none in
@@ -175,7 +194,8 @@ module _ {K : Type 0} {R : K → K → Ordering} (exact : IsAntisymmetric R) whe
 
 module _ {K X Y : Type 0} {R : K → K → Ordering} (exact : IsAntisymmetric R) where
   -- of two maps that share no key, one has none where the other has one
-  not_both : (f : FinMap R X) (g : FinMap R Y) → list_any (contains_key g) (keys f) ≡ false → (q : K) → contains_key f q ≡ true → contains_key g q ≡ false
+  not_both : (f : FinMap R X) (g : FinMap R Y) → list_any (contains_key g) (keys f) ≡ false → (q : K)
+      → contains_key f q ≡ true → contains_key g q ≡ false
   not_both f g none q has = fails_among exact (contains_key g) (keys f) q none (sym (contains_key-keys f q) ∙ has)
 
 map_some : {A B : Type 0} (f : A → B) (o : Option A) → is_some (option_map f o) ≡ is_some o
@@ -187,13 +207,19 @@ map_none f None none = refl
 map_none f (Some x) none = cc
 
 -- of two effects that share no cell, one writes nothing where the other writes
-pub not_shared : (f g : Effect) → share_a_cell f g ≡ false → (q : Cell) → is_some (written f q) ≡ true → written g q ≡ None
+pub not_shared : (f g : Effect) → share_a_cell f g ≡ false → (q : Cell) → is_some (written f q) ≡ true
+    → written g q ≡ None
 not_shared f g none (at_key k) has =
-    let first = or_parts _ _ none in let parts = or_parts (list_any (contains_key g.records) (keys f.records)) _ first.0 in
-    map_none of_record (get g.records k) (not_both keys_exact f.records g.records parts.0 k (sym (map_some of_record (get f.records k)) ∙ has))
+    let first = or_parts _ _ none in let parts =
+    or_parts (list_any (contains_key g.records) (keys f.records)) _ first.0 in
+    map_none of_record (get g.records k)
+    (not_both keys_exact f.records g.records parts.0 k (sym (map_some of_record (get f.records k)) ∙ has))
 not_shared f g none (at_number c) has =
-    let first = or_parts _ _ none in let parts = or_parts (list_any (contains_key g.records) (keys f.records)) _ first.0 in
-    map_none of_device (get g.numbers c) (not_both cells_exact f.numbers g.numbers parts.1 c (sym (map_some of_device (get f.numbers c)) ∙ has))
+    let first = or_parts _ _ none in let parts =
+    or_parts (list_any (contains_key g.records) (keys f.records)) _ first.0 in
+    map_none of_device (get g.numbers c)
+    (not_both cells_exact f.numbers g.numbers parts.1 c (sym (map_some of_device (get f.numbers c)) ∙ has))
 not_shared f g none (at_subchannel x) has =
     let first = or_parts _ _ none in
-    map_none of_live (get g.lives x) (not_both sub_ids_exact f.lives g.lives first.1 x (sym (map_some of_live (get f.lives x)) ∙ has))
+    map_none of_live (get g.lives x)
+    (not_both sub_ids_exact f.lives g.lives first.1 x (sym (map_some of_live (get f.lives x)) ∙ has))

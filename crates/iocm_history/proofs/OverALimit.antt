@@ -1,5 +1,6 @@
 -- A change tree over a limit is refused for that, and not for lack of memory.
-use Rattle.std.proofs.Common.{◌≡◌, ◌⊎◌, inl, inr, ℕ, ◌+◌, nat_lt, Bool, true, false, cond, not, ◌&&◌, is_none, Option, Some, None, Err, refl, sym, ap, ◌∙◌}
+use Rattle.std.proofs.Common.{◌≡◌, ◌⊎◌, inl, inr, ◌+◌, nat_lt, Bool, true, false, cond, not, ◌&&◌, is_none, Option}
+use Rattle.std.proofs.Common.{Some, None, Err, refl, sym, ap, ◌∙◌}
 use Rattle.std.proofs.lemmas.Bool.{and_parts}
 use Rattle.iocm_types.specs.declared.answer.Answer.TheVariants as answers
 use Rattle.iocm_types.specs.declared.refused.At.TheVariants.{Nothing}
@@ -14,7 +15,8 @@ use Rattle.iocm_model.specs.Change.Meaning.{Outcome, meaning}
 use Rattle.iocm_history.specs.Entry.{activate, begin, Entry, History}
 use Rattle.iocm_history.specs.Account.{Account, account, state_at}
 use Rattle.iocm_history.specs.Journal.{journal_of}
-use Rattle.iocm_history.specs.Legal.{unless_staged, activated, begun, entry_of, is_within_limits, may_lack_memory_after, IsRight, IsLegal}
+use Rattle.iocm_history.specs.Legal.{unless_staged, activated, begun, entry_of, is_within_limits, may_lack_memory_after}
+use Rattle.iocm_history.specs.Legal.{IsRight}
 use Rattle.iocm_history.specs.Stage.{Stage}
 use Rattle.iocm_history.specs.HistoryLaws.{TreesOverALimitWantNoMemory}
 
@@ -52,25 +54,32 @@ module _ (opening : State) (h : History) (p : ChangeTree) (e : Entry) (is_over :
       → e.answer ≡ (unless_staged g (activate p) (activated p ((journal_of h).count + 1) s o)).answer → ⊥
   no_activation (Some g) o of answer = apart (refusal_at O1 Nothing) (λ same. cc) answer
   no_activation None o (inl is) answer =
-      apart (refusal_at C1 Nothing) (λ same. cc) (answer ∙ ap (λ z. (activated p ((journal_of h).count + 1) s z).answer) is)
+      apart (refusal_at C1 Nothing) (λ same. cc)
+      (answer ∙ ap (λ z. (activated p ((journal_of h).count + 1) s z).answer) is)
   no_activation None o (inr is) answer =
-      apart (refusal_at C2 Nothing) (λ same. cc) (answer ∙ ap (λ z. (activated p ((journal_of h).count + 1) s z).answer) is)
+      apart (refusal_at C2 Nothing) (λ same. cc)
+      (answer ∙ ap (λ z. (activated p ((journal_of h).count + 1) s z).answer) is)
 
   no_begin : (g : Option Stage) (o : Outcome) → IsOver o → e.answer ≡ (unless_staged g (begin p) (begun p o)).answer → ⊥
   no_begin (Some g) o of answer = apart (refusal_at O1 Nothing) (λ same. cc) answer
-  no_begin None o (inl is) answer = apart (refusal_at C1 Nothing) (λ same. cc) (answer ∙ ap (λ z. (begun p z).answer) is)
-  no_begin None o (inr is) answer = apart (refusal_at C2 Nothing) (λ same. cc) (answer ∙ ap (λ z. (begun p z).answer) is)
+  no_begin None o (inl is) answer =
+      apart (refusal_at C1 Nothing) (λ same. cc) (answer ∙ ap (λ z. (begun p z).answer) is)
+  no_begin None o (inr is) answer =
+      apart (refusal_at C2 Nothing) (λ same. cc) (answer ∙ ap (λ z. (begun p z).answer) is)
 
   within : (is_none a.stage && is_within_limits p) ≡ true → ⊥
   within may = let no : false ≡ true = sym is_over ∙ (and_parts (is_none a.stage) (is_within_limits p) may).1 in cc
 
   never : IsRight opening h e → (e.call ≡ activate p) ⊎ (e.call ≡ begin p) → ⊥
   never (inl same) (inl call) =
-      no_activation a.stage (meaning p s) (over p s is_over) (ap (λ (z : Entry). z.answer) same ∙ ap (λ c. (entry_of opening h c).answer) call)
+      no_activation a.stage (meaning p s) (over p s is_over)
+      (ap (λ (z : Entry). z.answer) same ∙ ap (λ c. (entry_of opening h c).answer) call)
   never (inl same) (inr call) =
-      no_begin a.stage (meaning p s) (over p s is_over) (ap (λ (z : Entry). z.answer) same ∙ ap (λ c. (entry_of opening h c).answer) call)
+      no_begin a.stage (meaning p s) (over p s is_over)
+      (ap (λ (z : Entry). z.answer) same ∙ ap (λ c. (entry_of opening h c).answer) call)
   never (inr lack) (inl call) = within (sym (ap (may_lack_memory_after opening h) call) ∙ lack.0)
   never (inr lack) (inr call) = within (sym (ap (may_lack_memory_after opening h) call) ∙ lack.0)
 
 pub trees_over_a_limit_want_no_memory : TreesOverALimitWantNoMemory
-trees_over_a_limit_want_no_memory opening h p e legal call is_over lacks = never opening h p e is_over lacks legal.0 call
+trees_over_a_limit_want_no_memory opening h p e legal call is_over lacks =
+    never opening h p e is_over lacks legal.0 call

@@ -1,5 +1,6 @@
 -- Why an undo is refused.
-use Rattle.std.proofs.Common.{◌≡◌, ◌⊎◌, inl, inr, ⊎_elim, ℕ, max, Bool, true, false, cond, eqb, List, [], ◌∷◌, Option, Some, None, is_none, refl, sym, ap, subst, ◌∙◌, arith, map, filter}
+use Rattle.std.proofs.Common.{◌≡◌, ◌⊎◌, inl, inr, ⊎_elim, ℕ, max, Bool, true, false, cond, eqb, List, [], ◌∷◌, Option}
+use Rattle.std.proofs.Common.{Some, None, is_none, refl, sym, ap, subst, ◌∙◌, arith, map, filter}
 use Rattle.std.proofs.lemmas.Bool.{eq-eqb, or_left, or_right, and_parts, cases_lt}
 use Rattle.std.specs.List.{fold, find}
 use Rattle.std.specs.declared.cmp.Ordering.TheVariants.{Less}
@@ -22,8 +23,10 @@ use Rattle.iocm_history.specs.Stage.{Stage}
 use Rattle.iocm_history.specs.Account.{Account, account, state_at}
 use Rattle.iocm_history.specs.StandsOn.{standing_on, greatest, greatest_on, stands_on}
 use Rattle.iocm_history.specs.Journal.{is_in, journal_of}
-use Rattle.iocm_history.specs.Legal.{unless_staged, unless_not_quiet, unless_stood_on, not_quiet_of, entry_of, may_lack_memory_after, IsRight}
-use Rattle.iocm_history.specs.UndoLaws.{IsGreatestOf, IsRefusedFor, staged, not_standing, stood_on, waits, lacks_memory, UndoIsRefusedOnlyFor}
+use Rattle.iocm_history.specs.Legal.{unless_staged, unless_not_quiet, unless_stood_on, not_quiet_of, entry_of}
+use Rattle.iocm_history.specs.Legal.{may_lack_memory_after, IsRight}
+use Rattle.iocm_history.specs.UndoLaws.{IsGreatestOf, IsRefusedFor, staged, not_standing, stood_on, waits, lacks_memory}
+use Rattle.iocm_history.specs.UndoLaws.{UndoIsRefusedOnlyFor}
 use Rattle.iocm_history.proofs.Latest.{greatest_bounds}
 use Rattle.iocm_history.proofs.Numbers.{first_or_rest}
 
@@ -70,13 +73,15 @@ filter_all (x ∷ xs) = ap (λ ys. x ∷ ys) (filter_all xs)
 
 -- of the subchannels that a change altered, one that is less than the first that isn't quiet is
 -- quiet
-least_of : (o : Option Change) (lives : Lives) (x y : SubId) → first_not_quiet lives (altered_if o) ≡ Some x → is_among y (altered_if o) ≡ true → sub_id_cmp y x ≡ Less
+least_of : (o : Option Change) (lives : Lives) (x y : SubId) → first_not_quiet lives (altered_if o) ≡ Some x
+    → is_among y (altered_if o) ≡ true → sub_id_cmp y x ≡ Less
     → is_not_quiet (get lives y) ≡ false
 least_of None lives x y found among less = cc
 least_of (Some c) lives x y found among less =
     let es = entries (effect_of_change c).lives in
     let same = filter_all (map (λ e. e.0) es) in
-    least_found sub_id_cmp sub_ids_total sub_ids_exact (λ z. true) (λ z. is_not_quiet (get lives z)) es (entries_sorted (effect_of_change c).lives) x y
+    least_found sub_id_cmp sub_ids_total sub_ids_exact (λ z. true) (λ z. is_not_quiet (get lives z)) es
+    (entries_sorted (effect_of_change c).lives) x y
     (ap (find (λ z. is_not_quiet (get lives z))) same ∙ found) (ap (is_among y) same ∙ among) less
 
 -- ---- an undo
@@ -94,29 +99,41 @@ module _ (opening : State) (h : History) (n : ℕ) (e : Entry) where
   by_stand : (o : Option Change) (k : ℕ) → change_at n a.entries ≡ o → greatest_on n o a.entries s ≡ Some k
       → e.answer ≡ unless_stood_on (Some k) (Undone n) → Verdict
   by_stand None k at is answer = cc
-  by_stand (Some c) k at is answer = inr (stood_on k c at (greatest_is (standing_on n c a.entries (fits c s)) k is) answer)
+  by_stand (Some c) k at is answer =
+      inr (stood_on k c at (greatest_is (standing_on n c a.entries (fits c s)) k is) answer)
 
   by_wait : (x : SubId) → not_quiet_of n s a ≡ Some x → e.answer ≡ unless_not_quiet (Some x) (Undone n) → Verdict
   by_wait x is answer =
-      let found = found_passes sub_id_cmp sub_ids_total sub_ids_exact (λ y. is_not_quiet (get s.lives y)) (altered_by_change n a.entries) x is in
-      inr (waits x (record { altered = found.0; not_quiet = found.1; least = λ y among less. least_of (change_at n a.entries) s.lives x y is among less }) answer)
+      let found = found_passes sub_id_cmp sub_ids_total sub_ids_exact (λ y. is_not_quiet (get s.lives y))
+      (altered_by_change n a.entries) x is in
+      inr (waits x (record {
+        altered = found.0;
+        not_quiet = found.1;
+        least = λ y among less. least_of (change_at n a.entries) s.lives x y is among less;
+      }) answer)
 
-  verdict : (g : Option Stage) (here : Bool) (on : Option ℕ) (quiet : Option SubId) → a.stage ≡ g → is_in n (journal_of h).standing ≡ here
+  verdict : (g : Option Stage) (here : Bool) (on : Option ℕ) (quiet : Option SubId) → a.stage ≡ g
+      → is_in n (journal_of h).standing ≡ here
       → stands_on n a.entries s ≡ on → not_quiet_of n s a ≡ quiet
-      → e.answer ≡ (unless_staged g (undo n) (plain_entry (undo n) (cond here (unless_stood_on on (unless_not_quiet quiet (Undone n)))
+      → e.answer ≡ (unless_staged g (undo n)
+      (plain_entry (undo n) (cond here (unless_stood_on on (unless_not_quiet quiet (Undone n)))
       (answers.Refused (refusal_at J1 Nothing))))).answer → Verdict
-  verdict (Some g) here on quiet stage there stands wait answer = inr (staged (λ none. let no : Some g ≡ None = sym stage ∙ none in cc) answer)
+  verdict (Some g) here on quiet stage there stands wait answer =
+      inr (staged (λ none. let no : Some g ≡ None = sym stage ∙ none in cc) answer)
   verdict None false on quiet stage there stands wait answer = inr (not_standing there answer)
-  verdict None true (Some k) quiet stage there stands wait answer = by_stand (change_at n a.entries) k refl stands answer
+  verdict None true (Some k) quiet stage there stands wait answer =
+      by_stand (change_at n a.entries) k refl stands answer
   verdict None true None (Some x) stage there stands wait answer = by_wait x wait answer
   verdict None true None None stage there stands wait answer = inl answer
 
   judged : IsRight opening h e → e.call ≡ undo n → Verdict
   judged (inl same) call =
-      verdict a.stage (is_in n (journal_of h).standing) (stands_on n a.entries s) (not_quiet_of n s a) refl refl refl refl
+      verdict a.stage (is_in n (journal_of h).standing) (stands_on n a.entries s) (not_quiet_of n s a) refl refl refl
+      refl
       (ap (λ (z : Entry). z.answer) same ∙ ap (λ c. (entry_of opening h c).answer) call)
   judged (inr lack) call =
-      let may = and_parts (is_none a.stage) (is_in n (journal_of h).standing) (sym (ap (may_lack_memory_after opening h) call) ∙ lack.0) in
+      let may = and_parts (is_none a.stage) (is_in n (journal_of h).standing)
+      (sym (ap (may_lack_memory_after opening h) call) ∙ lack.0) in
       inr (lacks_memory (none_is a.stage may.0) may.1 (ap (λ (z : Entry). z.answer) lack.1))
 
 pub undo_is_refused_only_for : UndoIsRefusedOnlyFor

@@ -21,7 +21,8 @@ greatest_is (m ∷ ms) k is =
 -- where none is among some, there is none
 pub greatest_of_none : (ns : List ℕ) → ((k : ℕ) → is_in k ns ≡ false) → greatest ns ≡ None
 greatest_of_none [] none = refl
-greatest_of_none (m ∷ ms) none = let here : is_in m (m ∷ ms) ≡ true = or_left (eqb m m) _ (eq-eqb m m refl) in let no : true ≡ false = sym here ∙ none m in cc
+greatest_of_none (m ∷ ms) none = let here : is_in m (m ∷ ms) ≡ true = or_left (eqb m m) _ (eq-eqb m m refl) in
+    let no : true ≡ false = sym here ∙ none m in cc
 
 pub the_greatest_is_found : TheGreatestIsFound
 the_greatest_is_found ns = (greatest_is ns, greatest_of_none ns)

@@ -17,14 +17,17 @@ use Rattle.iocm_history.specs.JournalLaws.{UndoMeansTheUndo}
 
 -- an undo is accepted where nothing is staged, its change stands, nothing stands on it, and its
 -- subchannels are quiet
-pub undo_right : (opening : State) (h : History) (n : ℕ) → stage_of opening h ≡ None → is_in n (journal_of h).standing ≡ true
-    → stands_on n (marked_entries opening h) (state_at opening h) ≡ None → not_quiet_of n (state_at opening h) (account opening h) ≡ None
+pub undo_right : (opening : State) (h : History) (n : ℕ) → stage_of opening h ≡ None
+    → is_in n (journal_of h).standing ≡ true
+    → stands_on n (marked_entries opening h) (state_at opening h) ≡ None
+    → not_quiet_of n (state_at opening h) (account opening h) ≡ None
     → IsRight opening h (undo_entry n)
 undo_right opening h n idle here none quiet = inl (sym is)
   where
     is : entry_of opening h (undo n) ≡ undo_entry n
     is = (λ i. unless_staged (idle i) (undo n) (plain_entry (undo n)
-        (undo_answer n (journal_of h).standing (stands_on n (marked_entries opening h) (state_at opening h)) (not_quiet_of n (state_at opening h) (account opening h)))))
+        (undo_answer n (journal_of h).standing (stands_on n (marked_entries opening h) (state_at opening h))
+        (not_quiet_of n (state_at opening h) (account opening h)))))
         ∙ (λ i. plain_entry (undo n) (undo_answer n (journal_of h).standing (none i) (quiet i)))
         ∙ (λ i. plain_entry (undo n) (cond (here i) (Undone n) (answers.Refused (refusal_at J1 Nothing))))
 

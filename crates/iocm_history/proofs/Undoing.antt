@@ -1,5 +1,6 @@
 -- What an accepted undo leaves.
-use Rattle.std.proofs.Common.{◌≡◌, inl, inr, ℕ, ◌≤◌, length, Bool, true, false, cond, ◌∷◌, Option, Some, None, refl, sym, ap, subst, ◌∙◌}
+use Rattle.std.proofs.Common.{◌≡◌, inl, inr, ℕ, ◌≤◌, length, Bool, true, false, cond, ◌∷◌, Option, Some, None, refl}
+use Rattle.std.proofs.Common.{sym, ap, subst, ◌∙◌}
 use Rattle.iocm_types.specs.declared.answer.Answer.TheVariants.{Undone}
 use Rattle.iocm_types.specs.declared.answer.Answer.TheVariants as answers
 use Rattle.iocm_types.specs.declared.refused.Refused.{Refused}
@@ -24,7 +25,8 @@ use Rattle.iocm_history.specs.StandsOn.{stands_on}
 use Rattle.iocm_history.specs.Journal.{Journal, is_in, journal_of}
 use Rattle.iocm_history.specs.Legal.{unless_staged, unless_not_quiet, unless_stood_on, not_quiet_of, IsRight, IsLegal}
 use Rattle.iocm_history.specs.InUse.{IsInUse}
-use Rattle.iocm_history.specs.UndoLaws.{undo_entry, UndoPutsTheCellsBack, UndoDoesWhatTheInversesDo, UndoDoesWhatTheInverseTreeDoes, StandingChangesAreThere, StandingChangesFit}
+use Rattle.iocm_history.specs.UndoLaws.{undo_entry, UndoPutsTheCellsBack, UndoDoesWhatTheInversesDo}
+use Rattle.iocm_history.specs.UndoLaws.{UndoDoesWhatTheInverseTreeDoes, StandingChangesAreThere, StandingChangesFit}
 use Rattle.iocm_history.proofs.OneCell.{state_of_store}
 use Rattle.iocm_history.proofs.Apart.{same_some}
 use Rattle.iocm_history.proofs.Standing.{standing_change}
@@ -42,7 +44,9 @@ pub record MayBeUndone (s : State) (b : Journal) (a : Account) (n : ℕ) : Type 
   pub quiet : not_quiet_of n s a ≡ None
 
 accepted_by : (n : ℕ) (g : Option Stage) (here : Bool) (on : Option ℕ) (quiet : Option SubId) (why : Refused)
-    → Undone n ≡ (unless_staged g (undo n) (plain_entry (undo n) (cond here (unless_stood_on on (unless_not_quiet quiet (Undone n))) (answers.Refused why)))).answer
+    → Undone n ≡ (unless_staged g (undo n)
+    (plain_entry (undo n) (cond here (unless_stood_on on (unless_not_quiet quiet (Undone n)))
+    (answers.Refused why)))).answer
     → (g ≡ None) × (here ≡ true) × (on ≡ None) × (quiet ≡ None)
 accepted_by n (Some g) here on quiet why is = cc
 accepted_by n None false on quiet why is = cc
@@ -50,16 +54,19 @@ accepted_by n None true (Some k) quiet why is = cc
 accepted_by n None true None (Some x) why is = cc
 accepted_by n None true None None why is = (refl, refl, refl, refl)
 
-pub may_be_undone : (opening : State) (h : History) (n : ℕ) → IsRight opening h (undo_entry n) → MayBeUndone (state_at opening h) (journal_of h) (account opening h) n
+pub may_be_undone : (opening : State) (h : History) (n : ℕ) → IsRight opening h (undo_entry n)
+    → MayBeUndone (state_at opening h) (journal_of h) (account opening h) n
 may_be_undone opening h n (inl same) =
     let s = state_at opening h in let a = account opening h in
-    let parts = accepted_by n a.stage (is_in n (journal_of h).standing) (stands_on n a.entries s) (not_quiet_of n s a) _ (ap (λ (e : Entry). e.answer) same) in
+    let parts = accepted_by n a.stage (is_in n (journal_of h).standing) (stands_on n a.entries s) (not_quiet_of n s a) _
+    (ap (λ (e : Entry). e.answer) same) in
     record { idle = parts.0; here = parts.1; none = parts.2; quiet = parts.3 }
 may_be_undone opening h n (inr lack) = let other = ap (λ (e : Entry). e.answer) lack.1 in cc
 
 -- ---- what it leaves
 
-module _ (opening : State) (h : History) (n : ℕ) (c : Change) (used : IsInUse opening) (legal : IsLegal opening (undo_entry n ∷ h))
+module _ (opening : State) (h : History) (n : ℕ) (c : Change) (used : IsInUse opening)
+    (legal : IsLegal opening (undo_entry n ∷ h))
     (at : change_at n (marked_entries opening h) ≡ Some c) where
   abbrev a : Account
   a = account opening h
@@ -82,19 +89,23 @@ module _ (opening : State) (h : History) (n : ℕ) (c : Change) (used : IsInUse 
 
   -- it is taken back
   taken : IsTakenBack c (state_at opening h)
-  taken = subst (IsTakenBack c) (sym now_is) (subst (λ d. IsTakenBack d i.level.state) change_is (back m (journal_of h) a i n may.here may.none))
+  taken = subst (IsTakenBack c) (sym now_is)
+      (subst (λ d. IsTakenBack d i.level.state) change_is (back m (journal_of h) a i n may.here may.none))
 
   quiet : AreQuiet (state_at opening h).lives (altered c)
-  quiet = quiet_at (state_at opening h).lives (altered c) (ap (λ o. first_not_quiet (state_at opening h).lives (altered_if o)) (sym at) ∙ may.quiet)
+  quiet = quiet_at (state_at opening h).lives (altered c)
+      (ap (λ o. first_not_quiet (state_at opening h).lives (altered_if o)) (sym at) ∙ may.quiet)
 
   after_is : state_at opening (undo_entry n ∷ h) ≡ taken.state
   unfolding account
   after_is =
       let stood = back m (journal_of h) a i n may.here may.none in
       ap state_of (undo_leaves m (journal_of h) a i n may.here may.none) ∙ state_of_store stood.state stood.used.sound
-      ∙ stood.is ∙ (λ j. state_after_all (inverses (change_is j).edits (change_is j).from) (sym now_is j)) ∙ sym taken.is
+      ∙ stood.is ∙ (λ j. state_after_all (inverses (change_is j).edits (change_is j).from) (sym now_is j))
+      ∙ sym taken.is
 
-  pub cells_back : store_of (state_at opening (undo_entry n ∷ h)) ≡ store_with (values_before c) (store_of (state_at opening h))
+  pub cells_back : store_of (state_at opening (undo_entry n ∷ h))
+      ≡ store_with (values_before c) (store_of (state_at opening h))
   cells_back = ap store_of after_is ∙ taken.store
 
   pub inverses_done : AreAccepted (inverses c.edits c.from) (state_at opening h)
@@ -104,8 +115,10 @@ module _ (opening : State) (h : History) (n : ℕ) (c : Change) (used : IsInUse 
   few : length c.edits ≤ most_leaves
   few = subst (λ (d : Change). length d.edits ≤ most_leaves) change_is (i.level.standing n may.here).was_made.few
 
-  pub inverse_tree_done : state_reached (meaning (inverse_tree c.edits c.from) (state_at opening h)) ≡ Some (state_at opening (undo_entry n ∷ h))
-  inverse_tree_done = inverse_tree_means c.edits c.from (state_at opening h) few (taken.accepted quiet) (subst KeepsTheRules taken.is taken.used.rules)
+  pub inverse_tree_done : state_reached (meaning (inverse_tree c.edits c.from) (state_at opening h))
+      ≡ Some (state_at opening (undo_entry n ∷ h))
+  inverse_tree_done = inverse_tree_means c.edits c.from (state_at opening h) few (taken.accepted quiet)
+      (subst KeepsTheRules taken.is taken.used.rules)
       ∙ ap Some (sym taken.is ∙ sym after_is)
 
 pub undo_puts_the_cells_back : UndoPutsTheCellsBack
@@ -127,6 +140,7 @@ standing_changes_are_there opening h n used legal here =
 pub standing_changes_fit : StandingChangesFit
 standing_changes_fit opening h n c used legal here at none =
     let i = settled opening h used legal in let stood = i.level.standing n here in
-    let same : stood.change ≡ c = same_some stood.change c (sym (standing_change (store_of opening) n (marked_entries opening h) stood) ∙ at) in
+    let same : stood.change ≡ c =
+    same_some stood.change c (sym (standing_change (store_of opening) n (marked_entries opening h) stood) ∙ at) in
     (λ j. fits (sym same j) (level_is (store_of opening) (journal_of h) (account opening h) i j))
     ∙ (free (store_of opening) (journal_of h) (account opening h) i n here none).fit

@@ -26,7 +26,8 @@ pub left_in_use : (c : Change) → WasMade c → IsInUse (state_after_all c.edit
 left_in_use c was = record { sound = stays_sound c.edits c.from was.used.sound (carried_free c was); rules = was.rules }
 
 -- the change that an accepted tree means was made so
-pub was_meant : (p : ChangeTree) (s : State) (done : Performed) → IsInUse s → meaning p s ≡ Ok done → WasMade (change_of (meaning p s) s)
+pub was_meant : (p : ChangeTree) (s : State) (done : Performed) → IsInUse s → meaning p s ≡ Ok done
+    → WasMade (change_of (meaning p s) s)
 was_meant p s done used is =
     let run : IsRunFrom s done = accepted_trees_are_runs p s done is in
     subst (λ o. WasMade (change_of o s)) (sym is) (record {

@@ -1,5 +1,7 @@
 -- Namings of a record, one after the other: what is left to do, and what is done.
-use Rattle.std.proofs.Common.{◌≡◌, ◌⊎◌, ℕ, zero, suc, ◌+◌, ◌<◌, length, [], arith, below_more, Bool, true, false, ◌||◌, ◌&&◌, not, cond, Option, None, Some, is_some, List, ◌∷◌, drop, slice_get, inr, ⊎_elim, refl, sym, ap, subst, ◌∙◌}
+use Rattle.std.proofs.Common.{◌≡◌, ◌⊎◌, ℕ, zero, suc, ◌+◌, ◌<◌, length, [], arith, below_more, Bool, true, false, ◌||◌}
+use Rattle.std.proofs.Common.{◌&&◌, not, cond, Option, None, Some, is_some, List, ◌∷◌, drop, slice_get, inr, ⊎_elim}
+use Rattle.std.proofs.Common.{refl, sym, ap, subst, ◌∙◌}
 use Rattle.std.specs.Prelude.{IsTrue}
 use Rattle.std.specs.List.{list_any, AllByRecursion}
 use Rattle.std.specs.Ordering.{is_eq, eq_by_cmp}
@@ -29,7 +31,8 @@ pub record IsLinking (ns : List Naming) (place : ℕ) (start now : Places) : Typ
 
 -- the namings from a place on are still to be taken out
 pub record IsUnlinking (ns : List Naming) (place : ℕ) (start now : Places) : Type 0 where
-  pub linked : (n : Naming) → (not (is_one_of (drop place ns) n) && is_linked now n) ≡ (not (is_one_of ns n) && is_linked start n)
+  pub linked : (n : Naming)
+      → (not (is_one_of (drop place ns) n) && is_linked now n) ≡ (not (is_one_of ns n) && is_linked start n)
   pub places : now.places ≡ start.places
 
 -- the namings before a place have places now, none is lost, and no other naming has got one
@@ -44,20 +47,24 @@ from_place : (ns : List Naming) (i : ℕ) (n : Naming) → slice_get ns i ≡ So
 from_place ns i n there = drop-item ns i n (slice_get_within ns i n there) (sym (get_or_from_slice_get ns i n n there))
 
 -- what is put in is one of these, and no longer to be put in
-put_or_left : {X : Type 0} (is left : Bool) (x : X) (before : Option X) → (left || is_some (cond is (Some x) before)) ≡ ((is || left) || is_some before)
+put_or_left : {X : Type 0} (is left : Bool) (x : X) (before : Option X)
+    → (left || is_some (cond is (Some x) before)) ≡ ((is || left) || is_some before)
 put_or_left true true x before = refl
 put_or_left true false x before = refl
 put_or_left false left x before = refl
 
 -- what is taken out is one of these, and no longer to be taken out
-taken_or_left : {X : Type 0} (is left : Bool) (before : Option X) → (not left && is_some (cond is None before)) ≡ (not (is || left) && is_some before)
+taken_or_left : {X : Type 0} (is left : Bool) (before : Option X)
+    → (not left && is_some (cond is None before)) ≡ (not (is || left) && is_some before)
 taken_or_left true true before = refl
 taken_or_left true false before = refl
 taken_or_left false left before = refl
 
 -- one more is put in
-pub linked : (ns : List Naming) (i : ℕ) (start now next : Places) (n : Naming) → IsLinking ns i start now → slice_get ns i ≡ Some n
-    → rows naming_cmp next ≡ insert (rows naming_cmp now) n tt → next.places ≡ now.places → IsLinking ns (i + 1) start next
+pub linked : (ns : List Naming) (i : ℕ) (start now next : Places) (n : Naming) → IsLinking ns i start now
+    → slice_get ns i ≡ Some n
+    → rows naming_cmp next ≡ insert (rows naming_cmp now) n tt → next.places ≡ now.places
+    → IsLinking ns (i + 1) start next
 linked ns i start now next n before there put same =
     let e = from_place ns i n there in
     let ready : HavePlaces now (n ∷ drop (i + 1) ns) = subst (HavePlaces now) e before.ready in
@@ -67,12 +74,15 @@ linked ns i start now next n before there put same =
           ∙ put_or_left (eq_by_cmp naming_cmp q n) (is_one_of (drop (i + 1) ns) q) tt (get (rows naming_cmp now) q)
           ∙ sym (ap (λ left. is_one_of left q || is_linked now q) e) ∙ before.linked q;
       places = same ∙ before.places;
-      ready = subst (λ (places : List Naming). HavePlaces (record { listed = next.listed; places = places }) (drop (i + 1) ns)) (sym same) ready.1;
+      ready = subst (λ (places : List Naming).
+          HavePlaces (record { listed = next.listed; places = places }) (drop (i + 1) ns)) (sym same) ready.1;
     }
 
 -- one more is taken out
-pub unlinked : (ns : List Naming) (i : ℕ) (start now next : Places) (n : Naming) → IsUnlinking ns i start now → slice_get ns i ≡ Some n
-    → rows naming_cmp next ≡ remove (rows naming_cmp now) n → next.places ≡ now.places → IsUnlinking ns (i + 1) start next
+pub unlinked : (ns : List Naming) (i : ℕ) (start now next : Places) (n : Naming) → IsUnlinking ns i start now
+    → slice_get ns i ≡ Some n
+    → rows naming_cmp next ≡ remove (rows naming_cmp now) n → next.places ≡ now.places
+    → IsUnlinking ns (i + 1) start next
 unlinked ns i start now next n before there taken same = record {
   linked = λ q. ap (λ m. not (is_one_of (drop (i + 1) ns) q) && contains_key m q) taken
       ∙ ap (λ r. not (is_one_of (drop (i + 1) ns) q) && is_some r) (get-remove namings_total (rows naming_cmp now) n q)
@@ -83,9 +93,11 @@ unlinked ns i start now next n before there taken same = record {
 
 module _ {A : Type 0} (P : A → Type 0) where
   -- what holds of the item at each place holds of all, and the other way round
-  pub all_of_places : (xs : List A) → ((k : ℕ) (x : A) → k < length xs → slice_get xs k ≡ Some x → P x) → AllByRecursion P xs
+  pub all_of_places : (xs : List A) → ((k : ℕ) (x : A) → k < length xs → slice_get xs k ≡ Some x → P x)
+      → AllByRecursion P xs
   all_of_places [] each = tt
-  all_of_places (x ∷ xs) each = (each 0 x (omega arith) refl, all_of_places xs (λ k y within is. each (suc k) y (omega arith) is))
+  all_of_places (x ∷ xs) each =
+      (each 0 x (omega arith) refl, all_of_places xs (λ k y within is. each (suc k) y (omega arith) is))
 
   at_place : (xs : List A) (i : ℕ) (x : A) → AllByRecursion P xs → slice_get xs i ≡ Some x → P x
   at_place [] i x all is = cc
@@ -96,24 +108,29 @@ module _ {A : Type 0} (P : A → Type 0) where
   at_place (y ∷ ys) (suc i) x all is = at_place ys i x all.1 is
 
 -- what has a place after one more has got one had it before, or is one of these
-pub none_more : (ns : List Naming) (i : ℕ) (start now next : Places) (n : Naming) → IsMakingRoom ns i start now → slice_get ns i ≡ Some n
+pub none_more : (ns : List Naming) (i : ℕ) (start now next : Places) (n : Naming) → IsMakingRoom ns i start now
+    → slice_get ns i ≡ Some n
     → ((q : Naming) → HasPlace naming_cmp next q → HasPlace naming_cmp now q ⊎ (q ≡ n))
     → (q : Naming) → HasPlace naming_cmp next q → HasPlace naming_cmp start q ⊎ IsTrue (is_one_of ns q)
 none_more ns i start now next n before there one q has = ⊎_elim (before.no_more q) (λ is. inr (among is)) (one q has)
   where
     among : q ≡ n → is_one_of ns q ≡ true
-    among is = any_passes_from_place (eq_by_cmp naming_cmp q) ns i n there (ap is_eq (ap (naming_cmp q) (sym is) ∙ tied_itself namings_total q))
+    among is = any_passes_from_place (eq_by_cmp naming_cmp q) ns i n there
+        (ap is_eq (ap (naming_cmp q) (sym is) ∙ tied_itself namings_total q))
 
 -- one more gets a place
-pub roomier : (ns : List Naming) (i : ℕ) (start now next : Places) (n : Naming) → IsMakingRoom ns i start now → slice_get ns i ≡ Some n
+pub roomier : (ns : List Naming) (i : ℕ) (start now next : Places) (n : Naming) → IsMakingRoom ns i start now
+    → slice_get ns i ≡ Some n
     → rows naming_cmp next ≡ rows naming_cmp now → HasPlace naming_cmp next n
     → ((q : Naming) → HasPlace naming_cmp now q → HasPlace naming_cmp next q)
-    → ((q : Naming) → HasPlace naming_cmp next q → HasPlace naming_cmp now q ⊎ (q ≡ n)) → IsMakingRoom ns (i + 1) start next
+    → ((q : Naming) → HasPlace naming_cmp next q → HasPlace naming_cmp now q ⊎ (q ≡ n))
+    → IsMakingRoom ns (i + 1) start next
 roomier ns i start now next n before there same here kept one = record {
   same = same ∙ before.same;
   kept = λ q had. kept q (before.kept q had);
   done = λ k q within. below_more (λ j. slice_get ns j ≡ Some q → HasPlace naming_cmp next q) i
-      (λ j below is. kept q (before.done j q below is)) (λ is. subst (HasPlace naming_cmp next) (same_item q is) here) k within;
+      (λ j below is. kept q (before.done j q below is)) (λ is. subst (HasPlace naming_cmp next) (same_item q is) here) k
+      within;
   no_more = none_more ns i start now next n before there one;
 }
   where
@@ -121,6 +138,7 @@ roomier ns i start now next n before there same here kept one = record {
     same_item q is = let e : Some n ≡ Some q = sym there ∙ is in cc
 
 -- where all of some namings had places at the start, each has one still
-pub none_wanted : (ns : List Naming) (i : ℕ) (start now : Places) (n : Naming) → IsMakingRoom ns i start now → slice_get ns i ≡ Some n
+pub none_wanted : (ns : List Naming) (i : ℕ) (start now : Places) (n : Naming) → IsMakingRoom ns i start now
+    → slice_get ns i ≡ Some n
     → HavePlaces start ns → HasPlace naming_cmp now n
 none_wanted ns i start now n before there had = before.kept n (at_place (HasPlace naming_cmp start) ns i n had there)

@@ -22,25 +22,33 @@ use Rattle.iocm_index.proofs.Front.{Listed, named_total, namings_total, is_of, u
 module _ (named : Named) where
   -- one more naming, by whether it is of the thing
   user_at : (k : Key) (e : Naming × Unit {0}) (us es : Listed) (r : Ordering)
-      → list_any (eq_by_cmp key_cmp k) (map (λ f. f.0.user) us) ≡ list_any (eq_by_cmp naming_cmp (naming k named)) (map (λ f. f.0) es)
+      → list_any (eq_by_cmp key_cmp k) (map (λ f. f.0.user) us)
+      ≡ list_any (eq_by_cmp naming_cmp (naming k named)) (map (λ f. f.0) es)
       → list_any (eq_by_cmp key_cmp k) (map (λ f. f.0.user) (cond (is_eq r) (e ∷ us) us))
-      ≡ (is_eq (ordering_then r (key_cmp k e.0.user)) || list_any (eq_by_cmp naming_cmp (naming k named)) (map (λ f. f.0) es))
+      ≡ (is_eq (ordering_then r (key_cmp k e.0.user))
+      || list_any (eq_by_cmp naming_cmp (naming k named)) (map (λ f. f.0) es))
   user_at k e us es Less same = same
   user_at k e us es Equal same = ap (λ b. eq_by_cmp key_cmp k e.0.user || b) same
   user_at k e us es Greater same = same
 
   -- a key is among the users exactly where it names the thing
-  user_of : (k : Key) (es : Listed) → list_any (eq_by_cmp key_cmp k) (users named es) ≡ list_any (eq_by_cmp naming_cmp (naming k named)) (map (λ f. f.0) es)
+  user_of : (k : Key) (es : Listed)
+      → list_any (eq_by_cmp key_cmp k) (users named es)
+      ≡ list_any (eq_by_cmp naming_cmp (naming k named)) (map (λ f. f.0) es)
   user_of k [] = refl
   user_of k (e ∷ es) = user_at k e (filter (is_of named) es) es (named_cmp named e.0.named) (user_of k es)
 
   -- the users after a naming of the thing are after its user
-  later_at : (n : Naming) (e : Naming × Unit {0}) (us : Listed) (r : Ordering) → named_cmp named e.0.named ≡ r → named_cmp named n.named ≡ Equal
+  later_at : (n : Naming) (e : Naming × Unit {0}) (us : Listed) (r : Ordering) → named_cmp named e.0.named ≡ r
+      → named_cmp named n.named ≡ Equal
       → naming_cmp n e.0 ≡ Less → AllByRecursion (λ k. key_cmp n.user k ≡ Less) (map (λ f. f.0.user) us)
       → AllByRecursion (λ k. key_cmp n.user k ≡ Less) (map (λ f. f.0.user) (cond (is_eq r) (e ∷ us) us))
   later_at n e us Less is tie less rest = rest
-  later_at n e us Equal is tie less rest =
-      (ap (λ r. ordering_then r (key_cmp n.user e.0.user)) (sym (sym (named_total.congr named n.named e.0.named tie) ∙ is)) ∙ less, rest)
+  later_at n e us Equal is tie less rest = (
+    ap (λ r. ordering_then r (key_cmp n.user e.0.user))
+        (sym (sym (named_total.congr named n.named e.0.named tie) ∙ is)) ∙ less,
+    rest,
+  )
   later_at n e us Greater is tie less rest = rest
 
   later_users : (n : Naming) (es : Listed) → named_cmp named n.named ≡ Equal → T (below_all naming_cmp n es)
@@ -49,8 +57,10 @@ module _ (named : Named) where
   later_users n (e ∷ es) tie below = later_at n e (filter (is_of named) es) (named_cmp named e.0.named) refl tie
       (less_is _ (first_holds _ _ below)) (later_users n es tie (second_holds _ _ below))
 
-  rise_at : (e : Naming × Unit {0}) (us : Listed) (r : Ordering) → (r ≡ Equal → AllByRecursion (λ k. key_cmp e.0.user k ≡ Less) (map (λ f. f.0.user) us))
-      → IsStrictlySortedBy key_cmp (map (λ f. f.0.user) us) → IsStrictlySortedBy key_cmp (map (λ f. f.0.user) (cond (is_eq r) (e ∷ us) us))
+  rise_at : (e : Naming × Unit {0}) (us : Listed) (r : Ordering)
+      → (r ≡ Equal → AllByRecursion (λ k. key_cmp e.0.user k ≡ Less) (map (λ f. f.0.user) us))
+      → IsStrictlySortedBy key_cmp (map (λ f. f.0.user) us)
+      → IsStrictlySortedBy key_cmp (map (λ f. f.0.user) (cond (is_eq r) (e ∷ us) us))
   unfolding IsStrictlySortedBy
   rise_at e us Less later rest = rest
   rise_at e us Equal later rest = (later refl, rest)
@@ -64,7 +74,8 @@ module _ (named : Named) where
       (λ tie. later_users e.0 es tie (first_holds _ _ sorted)) (users_rise es (second_holds _ _ sorted))
 
   -- the users of a thing in a set of namings are the keys that name it there, and they rise
-  pub users_name_it : (m : Namings) (k : Key) → list_any (eq_by_cmp key_cmp k) (users_in named m) ≡ contains_key m (naming k named)
+  pub users_name_it : (m : Namings) (k : Key)
+      → list_any (eq_by_cmp key_cmp k) (users_in named m) ≡ contains_key m (naming k named)
   users_name_it m k = user_of k (entries m) ∙ sym (contains_key-keys m (naming k named))
 
   pub users_in_order : (m : Namings) → IsStrictlySortedBy key_cmp (users_in named m)

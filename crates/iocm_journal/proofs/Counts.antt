@@ -37,7 +37,8 @@ count_again ks place k at_k off =
     let changed = count_set ks place k (again k) at_k in let none : counted k ≡ 0 = ap (λ b. cond b 1 0) off in
     omega (arith, changed, none)
 
-pub count_accepted : (ks : List Kept) (k : Kept) → k.stands ≡ true → count_standing (ks ++ k ∷ []) ≡ count_standing ks + 1
+pub count_accepted : (ks : List Kept) (k : Kept) → k.stands ≡ true
+    → count_standing (ks ++ k ∷ []) ≡ count_standing ks + 1
 count_accepted ks k on = sum_by_push counted ks k ∙ ap (λ b. count_standing ks + cond b 1 0) on
 
 -- where one stands, some do

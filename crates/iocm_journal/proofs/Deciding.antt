@@ -73,7 +73,8 @@ module _ {opening : State} {h : History} {j : Journaled} {fs : List Effect} (i :
           → is_in (at + 1) (journal_of h).standing ≡ option_map_or (λ (k : Kept). k.stands) o false
       by (Some k) (Some f) at_k at_f = sym (i.kept at k f at_k at_f).stands
       by (Some k) None at_k at_f = let within = slice_get_within ks at k at_k in let same = i.effects in
-          let there = item_there fs at (omega (arith, within, same)) in let no : Some there.0 ≡ None = sym there.1 ∙ at_f in cc
+          let there = item_there fs at (omega (arith, within, same)) in let no : Some there.0 ≡ None =
+          sym there.1 ∙ at_f in cc
       by None g at_k at_f = past_end at (past at_k)
         where
           past : slice_get ks at ≡ None → length ks ≤ at
@@ -101,14 +102,16 @@ module _ {opening : State} {h : History} {j : Journaled} {fs : List Effect} (i :
 
   -- ---- what stands on the change at a place
 
-  module _ (place : ℕ) (k : Kept) (f : Effect) (at_k : slice_get ks place ≡ Some k) (at_f : slice_get fs place ≡ Some f) where
+  module _ (place : ℕ) (k : Kept) (f : Effect) (at_k : slice_get ks place ≡ Some k)
+      (at_f : slice_get fs place ≡ Some f) where
     abbrev it : IsKept opening h (place + 1) k f
     it = i.kept place k f at_k at_f
 
     abbrev c : Change
     c = it.change
 
-    shares_is : (at : ℕ) → stands_at ks at ≡ true → shares c (change_at (at + 1) (marked_entries opening h)) ≡ share_at fs place at
+    shares_is : (at : ℕ) → stands_at ks at ≡ true
+        → shares c (change_at (at + 1) (marked_entries opening h)) ≡ share_at fs place at
     shares_is at passed =
         let l = stands_within at passed in let g = effect_there at l.0 l.1 in let other = i.kept at l.0 g.0 l.1 g.1 in
         ap (shares c) other.there ∙ (λ z. share_a_cell (sym it.effect z) (sym other.effect z))
@@ -122,7 +125,8 @@ module _ {opening : State} {h : History} {j : Journaled} {fs : List Effect} (i :
         sym (ap (nat_le (place + 1)) (i.kept at l.0 g.0 l.1 g.1).undone)
         ∙ sym (ap (λ o. option_map_or (λ (z : Kept). nat_le (place + 1) z.undone_after) o false) l.1)
 
-    pub member : (b : Bool) (at : ℕ) → is_in (at + 1) (standing_on (place + 1) c (marked_entries opening h) b) ≡ is_on ks fs place b at
+    pub member : (b : Bool) (at : ℕ)
+        → is_in (at + 1) (standing_on (place + 1) c (marked_entries opening h) b) ≡ is_on ks fs place b at
     member true at =
         later_stand_on_it opening h (place + 1) (at + 1) c i.used i.legal it.there
         ∙ (λ z. lt_both place at z && (stands_is at z && shares c (change_at (at + 1) (marked_entries opening h))))
@@ -155,7 +159,8 @@ module _ {opening : State} {h : History} {j : Journaled} {fs : List Effect} (i :
         last_false false b = refl
 
     on_within : (b : Bool) (at : ℕ) → is_on ks fs place b at ≡ true → at < length ks
-    on_within true at passed = let parts = and_parts (nat_lt place at) _ passed in let more = and_parts (stands_at ks at) _ parts.1 in
+    on_within true at passed = let parts = and_parts (nat_lt place at) _ passed in let more =
+        and_parts (stands_at ks at) _ parts.1 in
         let l = stands_within at more.0 in slice_get_within ks at l.0 l.1
     on_within false at passed = by (nat_lt place at) refl passed
       where
@@ -167,7 +172,8 @@ module _ {opening : State} {h : History} {j : Journaled} {fs : List Effect} (i :
             let within = slice_get_within ks place k at_k in omega (arith, low, within)
 
     -- the same, by a number that isn't 0
-    member_suc : (b : Bool) (at : ℕ) → is_in (suc at) (standing_on (place + 1) c (marked_entries opening h) b) ≡ is_on ks fs place b at
+    member_suc : (b : Bool) (at : ℕ)
+        → is_in (suc at) (standing_on (place + 1) c (marked_entries opening h) b) ≡ is_on ks fs place b at
     member_suc b at =
         subst (λ m. is_in m (standing_on (place + 1) c (marked_entries opening h) b) ≡ is_on ks fs place b at)
         (one_more at) (member b at)
@@ -180,7 +186,8 @@ module _ {opening : State} {h : History} {j : Journaled} {fs : List Effect} (i :
     pub greatest_is : (b : Bool)
         → greatest (standing_on (place + 1) c (marked_entries opening h) b) ≡ option_map (λ at. at + 1)
         (last_passing (is_on ks fs place b) (length ks))
-    greatest_is b = by (last_passing (is_on ks fs place b) (length ks)) (last_passing_is (is_on ks fs place b) (length ks))
+    greatest_is b = by (last_passing (is_on ks fs place b) (length ks))
+        (last_passing_is (is_on ks fs place b) (length ks))
       where
         bounded : (at : ℕ) → ((m : ℕ) → at < m → m < length ks → is_on ks fs place b m ≡ false) → (m : ℕ)
             → is_in m (on_it b) ≡ true → m ≤ at + 1
@@ -204,6 +211,8 @@ module _ {opening : State} {h : History} {j : Journaled} {fs : List Effect} (i :
             off true is = sym is ∙ none m (on_within b m is)
             off false is = refl
 
-        by : (o : Option ℕ) → IsLastPassing (is_on ks fs place b) (length ks) o → greatest (on_it b) ≡ option_map (λ at. at + 1) o
-        by (Some at) last = the_greatest (on_it b) (at + 1) (record { among = member b at ∙ last.1; bounds = bounded at last.2 })
+        by : (o : Option ℕ) → IsLastPassing (is_on ks fs place b) (length ks) o
+            → greatest (on_it b) ≡ option_map (λ at. at + 1) o
+        by (Some at) last = the_greatest (on_it b) (at + 1)
+            (record { among = member b at ∙ last.1; bounds = bounded at last.2 })
         by None none = greatest_of_none (on_it b) (nobody none)

@@ -46,7 +46,8 @@ of_pushed [] x (suc n) y is = cc
 of_pushed (z ∷ xs) x zero y is = inl is
 of_pushed (z ∷ xs) x (suc n) y is = by (of_pushed xs x n y is)
   where
-    by : (slice_get xs n ≡ Some y) ⊎ ((n ≡ length xs) × (x ≡ y)) → (slice_get xs n ≡ Some y) ⊎ ((suc n ≡ suc (length xs)) × (x ≡ y))
+    by : (slice_get xs n ≡ Some y) ⊎ ((n ≡ length xs) × (x ≡ y))
+        → (slice_get xs n ≡ Some y) ⊎ ((suc n ≡ suc (length xs)) × (x ≡ y))
     by (inl it) = inl it
     by (inr it) = inr (ap suc it.0, it.1)
 
@@ -61,7 +62,8 @@ MeansWith opening h e t =
 -- ---- a change that is undone stays so
 
 module _ (opening : State) (h : History) (e : Entry) where
-  pub redoable_still : (u : Undone) → undoes_or_redoes u.number e.answer ≡ false → IsRedoable opening h u → IsRedoable opening (e ∷ h) u
+  pub redoable_still : (u : Undone) → undoes_or_redoes u.number e.answer ≡ false → IsRedoable opening h u
+      → IsRedoable opening (e ∷ h) u
   redoable_still u none r = record {
     between = e ∷ r.between;
     before = r.before;
@@ -72,7 +74,8 @@ module _ (opening : State) (h : History) (e : Entry) where
     takes_back = r.takes_back;
   }
 
-  pub all_redoable_still : (us : List Undone) → AllByRecursion (λ (u : Undone). undoes_or_redoes u.number e.answer ≡ false) us
+  pub all_redoable_still : (us : List Undone)
+      → AllByRecursion (λ (u : Undone). undoes_or_redoes u.number e.answer ≡ false) us
       → AllByRecursion (IsRedoable opening h) us → AllByRecursion (IsRedoable opening (e ∷ h)) us
   all_redoable_still [] none all = tt
   all_redoable_still (u ∷ us) none all = (redoable_still u none.0 all.0, all_redoable_still us none.1 all.1)
@@ -85,7 +88,8 @@ module _ (opening : State) (h : History) (e : Entry) (j : Journaled) (fs : List 
   journal_same : journal_of (e ∷ h) ≡ journal_of h
   journal_same = same_journal e.answer (journal_of h) stays
 
-  kept_still : (n : ℕ) (k : Kept) (f : Effect) → n ≤ (journal_of h).count → IsKept opening h n k f → IsKept opening (e ∷ h) n k f
+  kept_still : (n : ℕ) (k : Kept) (f : Effect) → n ≤ (journal_of h).count → IsKept opening h n k f
+      → IsKept opening (e ∷ h) n k f
   kept_still n k f within it = record {
     change = it.change;
     there = changes_stay_there opening h e n i.used (right, i.legal) within ∙ it.there;
@@ -122,7 +126,8 @@ module _ (opening : State) (h : History) (e : Entry) (j : Journaled) (fs : List 
   abbrev count : ℕ
   count = (journal_of h).count
 
-  journal_then : journal_of (e ∷ h) ≡ record { count = count + 1; standing = (count + 1) ∷ (journal_of h).standing; undone = [] }
+  journal_then : journal_of (e ∷ h)
+      ≡ record { count = count + 1; standing = (count + 1) ∷ (journal_of h).standing; undone = [] }
   journal_then = ap (λ a. journal_after a (journal_of h)) answer
 
   undone_stays : (n : ℕ) → last_undone n (e ∷ h) ≡ last_undone n h
@@ -142,7 +147,8 @@ module _ (opening : State) (h : History) (e : Entry) (j : Journaled) (fs : List 
       in_rest : is_in n ((count + 1) ∷ (journal_of h).standing) ≡ is_in n (journal_of h).standing
       in_rest = rw (ne_eqb n (count + 1) (λ same. omega arith)) refl
 
-  newest : (k : Kept) (f : Effect) → k.stands ≡ true → k.undone_after ≡ 0 → plain_tree (tree_of k.inverse) ≡ inverse_tree c.edits c.from
+  newest : (k : Kept) (f : Effect) → k.stands ≡ true → k.undone_after ≡ 0
+      → plain_tree (tree_of k.inverse) ≡ inverse_tree c.edits c.from
       → AreToldBy k.performed.items (told_of_all c.edits c.from) → effect_in f ≡ effect_of_change c
       → IsKept opening (e ∷ h) (count + 1) k f
   newest k f stands never inverse performed effect = record {
@@ -151,11 +157,14 @@ module _ (opening : State) (h : History) (e : Entry) (j : Journaled) (fs : List 
     inverse = inverse;
     performed = performed;
     effect = effect;
-    stands = stands ∙ sym (ap (λ b. is_in (count + 1) b.standing) journal_then ∙ rw (eq-eqb (count + 1) (count + 1) refl) refl);
-    undone = never ∙ sym (undone_stays (count + 1) ∙ never_undone opening h (count + 1) i.used i.legal (inr (omega arith)));
+    stands = stands ∙ sym (ap (λ b. is_in (count + 1) b.standing) journal_then
+        ∙ rw (eq-eqb (count + 1) (count + 1) refl) refl);
+    undone = never ∙ sym (undone_stays (count + 1)
+        ∙ never_undone opening h (count + 1) i.used i.legal (inr (omega arith)));
   }
 
-  accepted : (j' : Journaled) (k : Kept) (f : Effect) → j'.changes ≡ j.changes ++ k ∷ [] → j'.standing ≡ j.standing + 1 → j'.undone ≡ []
+  accepted : (j' : Journaled) (k : Kept) (f : Effect) → j'.changes ≡ j.changes ++ k ∷ [] → j'.standing ≡ j.standing + 1
+      → j'.undone ≡ []
       → k.stands ≡ true → k.undone_after ≡ 0 → plain_tree (tree_of k.inverse) ≡ inverse_tree c.edits c.from
       → AreToldBy k.performed.items (told_of_all c.edits c.from)
       → effect_in f ≡ effect_of_change c → IsJournalOf opening (e ∷ h) j' (fs ++ f ∷ [])
@@ -179,7 +188,8 @@ module _ (opening : State) (h : History) (e : Entry) (j : Journaled) (fs : List 
       old_kept n l g at_l at_g = older (n + 1) l g (let within = slice_get_within j.changes n l at_l in
           let all = i.count in omega arith) (i.kept n l g at_l at_g)
 
-      new_kept : (n : ℕ) (l : Kept) (g : Effect) → n ≡ length j.changes → k ≡ l → f ≡ g → IsKept opening (e ∷ h) (n + 1) l g
+      new_kept : (n : ℕ) (l : Kept) (g : Effect) → n ≡ length j.changes → k ≡ l → f ≡ g
+          → IsKept opening (e ∷ h) (n + 1) l g
       new_kept n l g at is_k is_f = subst (λ z. IsKept opening (e ∷ h) (z + 1) l g) (i.count ∙ sym at)
           (subst (λ z. IsKept opening (e ∷ h) (count + 1) z g) is_k
           (subst (λ z. IsKept opening (e ∷ h) (count + 1) k z) is_f

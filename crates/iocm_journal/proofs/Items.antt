@@ -17,7 +17,8 @@ of_append (z ∷ xs) x (suc n) y is = by (of_append xs x n y is)
     by (inr it) = inr (ap suc it.0, it.1)
 
 -- an item of a list is there in a longer one
-pub before_others : {A : Type 0} (xs ys : List A) (n : ℕ) (x : A) → slice_get xs n ≡ Some x → slice_get (xs ++ ys) n ≡ Some x
+pub before_others : {A : Type 0} (xs ys : List A) (n : ℕ) (x : A) → slice_get xs n ≡ Some x
+    → slice_get (xs ++ ys) n ≡ Some x
 before_others [] ys n x is = cc
 before_others (z ∷ xs) ys zero x is = is
 before_others (z ∷ xs) ys (suc n) x is = before_others xs ys n x is
@@ -37,20 +38,23 @@ beside_set (z ∷ xs) (suc m) x zero y other is = is
 beside_set (z ∷ xs) (suc m) x (suc n) y other is = beside_set xs m x n y (λ e. other (ap suc e)) is
 
 -- an item of a list's first ones is one of the list; and one of the list is there, if it is early enough
-pub of_take : {A : Type 0} (m : ℕ) (xs : List A) (n : ℕ) (x : A) → slice_get (take m xs) n ≡ Some x → slice_get xs n ≡ Some x
+pub of_take : {A : Type 0} (m : ℕ) (xs : List A) (n : ℕ) (x : A) → slice_get (take m xs) n ≡ Some x
+    → slice_get xs n ≡ Some x
 of_take zero xs n x is = cc
 of_take (suc m) [] n x is = cc
 of_take (suc m) (y ∷ xs) zero x is = is
 of_take (suc m) (y ∷ xs) (suc n) x is = of_take m xs n x is
 
-pub in_take : {A : Type 0} (m : ℕ) (xs : List A) (n : ℕ) (x : A) → n < m → slice_get xs n ≡ Some x → slice_get (take m xs) n ≡ Some x
+pub in_take : {A : Type 0} (m : ℕ) (xs : List A) (n : ℕ) (x : A) → n < m → slice_get xs n ≡ Some x
+    → slice_get (take m xs) n ≡ Some x
 in_take zero xs n x early is = absurd (omega (arith, early))
 in_take (suc m) [] n x early is = cc
 in_take (suc m) (y ∷ xs) zero x early is = is
 in_take (suc m) (y ∷ xs) (suc n) x early is = in_take m xs n x (omega (arith, early)) is
 
 -- an item of a list is there in what is left behind the first ones, if it is late enough
-pub in_drop : {A : Type 0} (m : ℕ) (xs : List A) (n : ℕ) (x : A) → m ≤ n → slice_get xs n ≡ Some x → slice_get (drop m xs) (n - m) ≡ Some x
+pub in_drop : {A : Type 0} (m : ℕ) (xs : List A) (n : ℕ) (x : A) → m ≤ n → slice_get xs n ≡ Some x
+    → slice_get (drop m xs) (n - m) ≡ Some x
 in_drop zero xs n x late is = let same : n - zero ≡ n = omega arith in ap (slice_get xs) same ∙ is
 in_drop (suc m) [] n x late is = cc
 in_drop (suc m) (y ∷ xs) zero x late is = absurd (omega (arith, late))
@@ -59,10 +63,12 @@ in_drop (suc m) (y ∷ xs) (suc n) x late is =
     ap (slice_get (drop m xs)) same ∙ in_drop m xs n x (omega (arith, late)) is
 
 -- and an item of what is left is one of the list
-pub of_drop : {A : Type 0} (m : ℕ) (xs : List A) (n : ℕ) (x : A) → slice_get (drop m xs) n ≡ Some x → slice_get xs (m + n) ≡ Some x
+pub of_drop : {A : Type 0} (m : ℕ) (xs : List A) (n : ℕ) (x : A) → slice_get (drop m xs) n ≡ Some x
+    → slice_get xs (m + n) ≡ Some x
 of_drop zero xs n x is = let same : zero + n ≡ n = omega arith in ap (slice_get xs) same ∙ is
 of_drop (suc m) [] n x is = cc
-of_drop (suc m) (y ∷ xs) n x is = let same : suc m + n ≡ suc (m + n) = omega arith in ap (slice_get (y ∷ xs)) same ∙ of_drop m xs n x is
+of_drop (suc m) (y ∷ xs) n x is = let same : suc m + n ≡ suc (m + n) = omega arith in
+    ap (slice_get (y ∷ xs)) same ∙ of_drop m xs n x is
 
 -- none passes where each doesn't; and each doesn't where none passes
 pub none_among : {A : Type 0} (p : A → Bool) (xs : List A) → ((n : ℕ) (x : A) → slice_get xs n ≡ Some x → p x ≡ false)
@@ -71,7 +77,8 @@ none_among p [] each = refl
 none_among p (x ∷ xs) each =
     ap (λ b. b || list_any p xs) (each zero x refl) ∙ none_among p xs (λ n y is. each (suc n) y is)
 
-pub not_among : {A : Type 0} (p : A → Bool) (xs : List A) (n : ℕ) (x : A) → list_any p xs ≡ false → slice_get xs n ≡ Some x
+pub not_among : {A : Type 0} (p : A → Bool) (xs : List A) (n : ℕ) (x : A) → list_any p xs ≡ false
+    → slice_get xs n ≡ Some x
     → p x ≡ false
 not_among p [] n x none is = cc
 not_among p (y ∷ xs) zero x none is = let same : x ≡ y = cc in ap p same ∙ first (p y) (list_any p xs) none

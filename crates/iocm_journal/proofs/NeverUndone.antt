@@ -19,7 +19,8 @@ longer : (m : ℕ) (ms : List ℕ) → m ∷ ms ≡ ms → ⊥
 longer m ms same = let more : length (m ∷ ms) ≡ length ms = ap length same in omega (arith, more)
 
 -- an accepted undo is of a standing change
-undo_of_standing : (opening : State) (h : History) (e : Entry) (m : ℕ) → IsEvent (store_of opening) (journal_of h) (account opening h) e
+undo_of_standing : (opening : State) (h : History) (e : Entry) (m : ℕ)
+    → IsEvent (store_of opening) (journal_of h) (account opening h) e
     → e.answer ≡ answers.Undone m → is_in m (journal_of h).standing ≡ true
 undo_of_standing opening h e m (IsEvent.idles g staged account_is journal_is) is =
     absurd (longer m (journal_of h).undone
@@ -32,11 +33,13 @@ undo_of_standing opening h e m (IsEvent.changes c g ready idle account_is journa
     absurd (omega (arith, more))
 undo_of_standing opening h e m (IsEvent.undoes n here none idle answer account_is journal_is) is =
     let same : n ≡ m = let both = sym answer ∙ is in cc in subst (λ k. is_in k (journal_of h).standing ≡ true) same here
-undo_of_standing opening h e m (IsEvent.redoes n us undone idle answer account_is journal_is) is = let both = sym answer ∙ is in cc
+undo_of_standing opening h e m (IsEvent.redoes n us undone idle answer account_is journal_is) is = let both =
+    sym answer ∙ is in cc
 
 -- ---- the count only grows
 
-count_grows : (e : Entry) (opening : State) (h : History) → IsEvent (store_of opening) (journal_of h) (account opening h) e
+count_grows : (e : Entry) (opening : State) (h : History)
+    → IsEvent (store_of opening) (journal_of h) (account opening h) e
     → (journal_of h).count ≤ (journal_of (e ∷ h)).count
 count_grows e opening h (IsEvent.idles g staged account_is journal_is) = let same =
     ap (λ (b : Journal). b.count) journal_is in omega (arith, same)
@@ -66,7 +69,8 @@ pub never_undone : (opening : State) (h : History) (n : ℕ) → IsInUse opening
     → IsNoChange n (journal_of h).count → last_undone n h ≡ 0
 never_undone opening [] n used legal none = refl
 never_undone opening (e ∷ h) n used legal none =
-    let event = is_event (store_of opening) (journal_of h) (account opening h) (settled opening h used legal.1) e legal.0 in
+    let event = is_event (store_of opening) (journal_of h) (account opening h) (settled opening h used legal.1) e
+    legal.0 in
     let out = still_none n (journal_of h).count (journal_of (e ∷ h)).count (count_grows e opening h event) none in
     let before = never_undone opening h n used legal.1 out in
     let apart = (λ (m : ℕ) (is : e.answer ≡ answers.Undone m). let here = undo_of_standing opening h e m event is in
@@ -84,7 +88,8 @@ never_undone opening (e ∷ h) n used legal none =
     by (answers.Staged k) is before apart = before
     by (answers.Left k) is before apart = before
     by answers.Aborted is before apart = before
-    by (answers.Undone m) is before apart = ap (λ b. cond b (journal_of h).count (last_undone n h)) (apart m is) ∙ before
+    by (answers.Undone m) is before apart =
+        ap (λ b. cond b (journal_of h).count (last_undone n h)) (apart m is) ∙ before
     by (answers.Redone m) is before apart = before
     by (answers.Shown counts) is before apart = before
     by (answers.Refused why) is before apart = before

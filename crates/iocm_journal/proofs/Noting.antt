@@ -1,6 +1,7 @@
 -- The undos that a journal notes: what they tell of who stands on a change, and that they are kept.
 use Rattle.std.proofs.Common.{◌≡◌, ◌⊎◌, inl, inr, ℕ, ◌+◌, ◌-◌, ◌<◌, ◌≤◌, ◌≢◌, Bool, true, false, not, ◌&&◌}
-use Rattle.std.proofs.Common.{cond, eqb, nat_lt, nat_le, is_some, Option, Some, None, List, [], ◌∷◌, ◌++◌, length, take, set, refl}
+use Rattle.std.proofs.Common.{cond, eqb, nat_lt, nat_le, is_some, Option, Some, None, List, [], ◌∷◌, ◌++◌, length, take}
+use Rattle.std.proofs.Common.{set, refl}
 use Rattle.std.proofs.Common.{sym, ap, ◌∙◌, arith}
 use Rattle.std.proofs.lemmas.Bool.{cases_order, eqb-true, le-leb, le-ltb, lt-ltb, lt-leb, ltb-false, ltb-true}
 use Rattle.std.proofs.lemmas.List.{length-append, length-set}
@@ -14,7 +15,8 @@ use Rattle.iocm_journal.specs.Noted.{is_of_earlier_since, stands_later, undone_s
 use Rattle.iocm_journal.specs.Standing.{is_on, last_passing, stands_at, undone_since_at}
 use Rattle.iocm_journal.specs.declared.kept.Kept.{Kept}
 use Rattle.iocm_journal.specs.declared.undos.Undo.{Undo}
-use Rattle.iocm_journal.proofs.Items.{at_set, before_others, beside_set, in_drop, in_take, none_among, not_among, of_append}
+use Rattle.iocm_journal.proofs.Items.{at_set, before_others, beside_set, in_drop, in_take, none_among, not_among}
+use Rattle.iocm_journal.proofs.Items.{of_append}
 use Rattle.iocm_journal.proofs.Items.{of_drop, of_take, one_among}
 use Rattle.iocm_journal.proofs.Passing.{IsLastPassing, last_passing_is}
 use Rattle.iocm_journal.proofs.Places.{stands_item}
@@ -36,12 +38,14 @@ none_before ks us place left u order last early rest = none_among (is_of_earlier
     same : (v : Undo) → Some v ≡ Some u → v.after ≡ u.after
     same v e = cc
 
-    by : (i : ℕ) (v : Undo) → slice_get us i ≡ Some v → (left ≡ i) ⊎ ((left < i) ⊎ (i < left)) → (i ≡ left - 1) ⊎ ((i < left - 1) ⊎ (left - 1 < i))
+    by : (i : ℕ) (v : Undo) → slice_get us i ≡ Some v → (left ≡ i) ⊎ ((left < i) ⊎ (i < left))
+        → (i ≡ left - 1) ⊎ ((i < left - 1) ⊎ (left - 1 < i))
         → is_of_earlier_since ks place v ≡ false
     by i v is (inl at) other = rest i v (omega (arith, at)) is
     by i v is (inr (inl more)) other = rest i v (omega (arith, more)) is
     by i v is (inr (inr less)) (inl at) =
-        let one : v.after ≡ u.after = same v (sym is ∙ ap (slice_get us) at ∙ last) in not_since ks place v (omega (arith, one, early))
+        let one : v.after ≡ u.after = same v (sym is ∙ ap (slice_get us) at ∙ last) in
+        not_since ks place v (omega (arith, one, early))
     by i v is (inr (inr less)) (inr (inl low)) =
         let under = order i (left - 1) v u low is last in not_since ks place v (omega (arith, under, early))
     by i v is (inr (inr less)) (inr (inr high)) = absurd (omega (arith, less, high))
@@ -52,7 +56,8 @@ none_before ks us place left u order last early rest = none_among (is_of_earlier
 pub none_at_all : (ks : List Kept) (us : List Undo) (place left : ℕ) → left ≤ 0
     → ((i : ℕ) (v : Undo) → left ≤ i → slice_get us i ≡ Some v → is_of_earlier_since ks place v ≡ false)
     → undone_since ks us place ≡ false
-none_at_all ks us place left low rest = none_among (is_of_earlier_since ks place) us (λ i v is. rest i v (omega (arith, low)) is)
+none_at_all ks us place left low rest =
+    none_among (is_of_earlier_since ks place) us (λ i v is. rest i v (omega (arith, low)) is)
 
 -- ---- none stands on a change that doesn't fit, where no later one stands, and no earlier one was
 -- undone since and doesn't stand
@@ -63,7 +68,8 @@ none_later ks place at none later = by (slice_get ks at) refl
     by : (o : Option Kept) → slice_get ks at ≡ o → option_map_or (λ (k : Kept). k.stands) o false ≡ false
     by None is = refl
     by (Some k) is =
-        not_among (λ (k : Kept). k.stands) _ (at - (place + 1)) k none (in_drop (place + 1) ks at k (omega (arith, later)) is)
+        not_among (λ (k : Kept). k.stands) _ (at - (place + 1)) k none
+        (in_drop (place + 1) ks at k (omega (arith, later)) is)
 
 since_off : (a b c : Bool) → b ≡ true → c ≡ false → (a && (b && not c)) ≡ false → a ≡ false
 since_off true true true b c is = cc
@@ -71,7 +77,8 @@ since_off true true false b c is = cc
 since_off true false c b d is = cc
 since_off false b c d e is = refl
 
-none_earlier : (ks : List Kept) (us : List Undo) (place at : ℕ) → TellEachUndone ks us → undone_since ks us place ≡ false
+none_earlier : (ks : List Kept) (us : List Undo) (place at : ℕ) → TellEachUndone ks us
+    → undone_since ks us place ≡ false
     → at < place → (not (stands_at ks at) && undone_since_at ks (place + 1) at) ≡ false
 none_earlier ks us place at each none earlier = by (slice_get ks at) refl
   where
@@ -79,7 +86,8 @@ none_earlier ks us place at each none earlier = by (slice_get ks at) refl
     undone k is off =
         let told = each at k is off in
         let u : Undo = record { place = at; after = k.undone_after } in
-        let early = since_off (nat_lt place k.undone_after) (nat_lt at place) (stands_at ks at) (lt-ltb at place earlier)
+        let early = since_off (nat_lt place k.undone_after) (nat_lt at place) (stands_at ks at)
+        (lt-ltb at place earlier)
         (stands_item ks at k is ∙ off) (not_among (is_of_earlier_since ks place) us told.0 u none told.1) in
         let low = ltb-false place k.undone_after early in
         lt-leb (place + 1) k.undone_after (omega (arith, low))
@@ -90,7 +98,8 @@ none_earlier ks us place at each none earlier = by (slice_get ks at) refl
     by_stands k is false stands = undone k is stands
 
     by : (o : Option Kept) → slice_get ks at ≡ o
-        → (not (option_map_or (λ (k : Kept). k.stands) o false) && option_map_or (λ (k : Kept). nat_le (place + 1) k.undone_after) o false) ≡ false
+        → (not (option_map_or (λ (k : Kept). k.stands) o false)
+        && option_map_or (λ (k : Kept). nat_le (place + 1) k.undone_after) o false) ≡ false
     by None is = refl
     by (Some k) is = by_stands k is k.stands refl
 
@@ -134,7 +143,8 @@ later_on ks place later fs =
     let at = place + 1 + it.place in
     let there = of_drop (place + 1) ks it.place it.item it.there in
     one_passes_of (is_on ks fs place false) (length ks) at (slice_get_within ks at it.item there)
-    (ap (λ b. cond b (stands_at ks at) (nat_lt at place && (not (stands_at ks at) && undone_since_at ks (place + 1) at)))
+    (ap (λ b. cond b (stands_at ks at)
+    (nat_lt at place && (not (stands_at ks at) && undone_since_at ks (place + 1) at)))
     (lt-ltb place at (omega arith)) ∙ stands_item ks at it.item there ∙ it.passes)
 
 first_part : (a b : Bool) → (a && b) ≡ true → a ≡ true
@@ -160,7 +170,8 @@ earlier_on ks us place within noted earlier fs =
     ap (λ o. option_map_or (λ (k : Kept). nat_le (place + 1) k.undone_after) o false) of.there
     ∙ le-leb (place + 1) of.kept.undone_after (omega (arith, after, early)) in
     one_passes_of (is_on ks fs place false) (length ks) u.place (omega (arith, low, within))
-    (all (nat_lt place u.place) (nat_lt u.place place) (stands_at ks u.place) _ (le-ltb place u.place (omega (arith, low)))
+    (all (nat_lt place u.place) (nat_lt u.place place) (stands_at ks u.place) _
+    (le-ltb place u.place (omega (arith, low)))
     (lt-ltb u.place place low) off since)
   where
     all : (a b c d : Bool) → a ≡ false → b ≡ true → not c ≡ true → d ≡ true → cond a c (b && (not c && d)) ≡ true
@@ -170,7 +181,8 @@ earlier_on ks us place within noted earlier fs =
     all false true true d e f g h = cc
     all false true false false e f g h = cc
 
-pub stands_by_undos : (ks : List Kept) (us : List Undo) (place : ℕ) → place < length ks → AreNoted ks us → stands_later ks place ≡ false
+pub stands_by_undos : (ks : List Kept) (us : List Undo) (place : ℕ) → place < length ks → AreNoted ks us
+    → stands_later ks place ≡ false
     → (fs : List Effect) → undone_since ks us place ≡ some_pass (is_on ks fs place false) (length ks)
 stands_by_undos ks us place within noted later fs = by (undone_since ks us place) refl
   where
@@ -181,7 +193,8 @@ stands_by_undos ks us place within noted later fs = by (undone_since ks us place
 -- ---- the undos stay noted
 
 -- where one change was changed, which was last undone as late or later
-of_changed : (ks : List Kept) (place : ℕ) (x : Kept) (u : Undo) → IsOfOne ks u → (u.place ≡ place → u.after ≤ x.undone_after)
+of_changed : (ks : List Kept) (place : ℕ) (x : Kept) (u : Undo) → IsOfOne ks u
+    → (u.place ≡ place → u.after ≤ x.undone_after)
     → IsOfOne (set ks place x) u
 of_changed ks place x u of late = by (cases_order u.place place)
   where
@@ -192,19 +205,25 @@ of_changed ks place x u of late = by (cases_order u.place place)
     above a b low e = absurd (omega (arith, low, e))
 
     other : u.place ≢ place → IsOfOne (set ks place x) u
-    other away = record { kept = of.kept; there = beside_set ks place x u.place of.kept away of.there; early = of.early }
+    other away = record {
+      kept = of.kept;
+      there = beside_set ks place x u.place of.kept away of.there;
+      early = of.early;
+    }
 
     by : (u.place ≡ place) ⊎ ((u.place < place) ⊎ (place < u.place)) → IsOfOne (set ks place x) u
     by (inl same) = record {
       kept = x;
-      there = ap (λ p. slice_get (set ks p x) u.place) (sym same) ∙ at_set ks u.place x (slice_get_within ks u.place of.kept of.there);
+      there = ap (λ p. slice_get (set ks p x) u.place) (sym same)
+          ∙ at_set ks u.place x (slice_get_within ks u.place of.kept of.there);
       early = late same;
     }
     by (inr (inl low)) = other (apart u.place place low)
     by (inr (inr high)) = other (above u.place place high)
 
 -- when a change that stands is accepted
-pub noted_accepted : (ks : List Kept) (us : List Undo) (x : Kept) → x.stands ≡ true → AreNoted ks us → AreNoted (ks ++ x ∷ []) us
+pub noted_accepted : (ks : List Kept) (us : List Undo) (x : Kept) → x.stands ≡ true → AreNoted ks us
+    → AreNoted (ks ++ x ∷ []) us
 noted_accepted ks us x stands noted = record {
   order = noted.order;
   within = λ i u is. let low = noted.within i u is in let long = length-append ks (x ∷ []) in omega (arith, low, long);
@@ -222,12 +241,14 @@ noted_accepted ks us x stands noted = record {
     by at k off (inr new) = absurd (bad k new.1 off)
 
 -- when one is undone, and that is noted
-pub noted_undone : (ks : List Kept) (us : List Undo) (place count : ℕ) (k : Kept) → count ≡ length ks → place < length ks
+pub noted_undone : (ks : List Kept) (us : List Undo) (place count : ℕ) (k : Kept) → count ≡ length ks
+    → place < length ks
     → AreNoted ks us
     → AreNoted (set ks place (no_more count k)) (us ++ record { place = place; after = count } ∷ [])
 noted_undone ks us place count k is_count there noted = record {
   order = λ i j u v low at_i at_j. ordered i j u v low (of_append us new i u at_i) (of_append us new j v at_j);
-  within = λ i u at_i. let low = under i u (of_append us new i u at_i) in let long = length-set ks place (no_more count k) in
+  within = λ i u at_i. let low = under i u (of_append us new i u at_i) in let long =
+      length-set ks place (no_more count k) in
       omega (arith, low, long);
   of = λ i u at_i. of_it i u (of_append us new i u at_i);
   each = λ at x is off. by at x off (of_set ks place (no_more count k) at x is);
@@ -240,12 +261,14 @@ noted_undone ks us place count k is_count there noted = record {
     under i u (inl old) = noted.within i u old
     under i u (inr it) = let same : count ≡ u.after = ap (λ (z : Undo). z.after) it.1 in omega (arith, same, is_count)
 
-    of_it : (i : ℕ) (u : Undo) → (slice_get us i ≡ Some u) ⊎ ((i ≡ length us) × (new ≡ u)) → IsOfOne (set ks place (no_more count k)) u
+    of_it : (i : ℕ) (u : Undo) → (slice_get us i ≡ Some u) ⊎ ((i ≡ length us) × (new ≡ u))
+        → IsOfOne (set ks place (no_more count k)) u
     of_it i u (inl old) = of_changed ks place (no_more count k) u (noted.of i u old)
         (λ same. let low = noted.within i u old in omega (arith, low, is_count))
     of_it i u (inr it) = record {
       kept = no_more count k;
-      there = ap (λ (z : Undo). slice_get (set ks place (no_more count k)) z.place) (sym it.1) ∙ at_set ks place (no_more count k) there;
+      there = ap (λ (z : Undo). slice_get (set ks place (no_more count k)) z.place) (sym it.1)
+          ∙ at_set ks place (no_more count k) there;
       early = let same : count ≡ u.after = ap (λ (z : Undo). z.after) it.1 in omega (arith, same);
     }
 
@@ -262,15 +285,21 @@ noted_undone ks us place count k is_count there noted = record {
     by : (at : ℕ) (x : Kept) → x.stands ≡ false
         → ((at ≢ place) × (slice_get ks at ≡ Some x)) ⊎ ((at ≡ place) × (no_more count k ≡ x))
         → (i : ℕ) × (slice_get (us ++ new ∷ []) i ≡ Some (record { place = at; after = x.undone_after }))
-    by at x off (inl old) = let told = noted.each at x old.1 off in (told.0, before_others us (new ∷ []) told.0 _ told.1)
-    by at x off (inr it) = (length us, at_end us new ∙ (λ z. Some (record { place = sym it.0 z; after = (it.1 z).undone_after })))
+    by at x off (inl old) = let told = noted.each at x old.1 off in
+        (told.0, before_others us (new ∷ []) told.0 _ told.1)
+    by at x off (inr it) = (
+      length us,
+      at_end us new
+          ∙ (λ z. Some (record { place = sym it.0 z; after = (it.1 z).undone_after })),
+    )
 
 -- when one stands again
 noted_redone : (ks : List Kept) (us : List Undo) (place : ℕ) (k : Kept) → slice_get ks place ≡ Some k → AreNoted ks us
     → AreNoted (set ks place (again k)) us
 noted_redone ks us place k there noted = record {
   order = noted.order;
-  within = λ i u is. let low = noted.within i u is in let long = length-set ks place (again k) in omega (arith, low, long);
+  within = λ i u is. let low = noted.within i u is in let long = length-set ks place (again k) in
+      omega (arith, low, long);
   of = λ i u is. let it = noted.of i u is in of_changed ks place (again k) u it (late u it);
   each = λ at x is off. by at x off (of_set ks place (again k) at x is);
 }
@@ -286,7 +315,8 @@ noted_redone ks us place k there noted = record {
     bad : (x : Kept) → again k ≡ x → x.stands ≡ false → ⊥
     bad x same off = let no : true ≡ false = ap (λ (z : Kept). z.stands) same ∙ off in cc
 
-    by : (at : ℕ) (x : Kept) → x.stands ≡ false → ((at ≢ place) × (slice_get ks at ≡ Some x)) ⊎ ((at ≡ place) × (again k ≡ x))
+    by : (at : ℕ) (x : Kept) → x.stands ≡ false
+        → ((at ≢ place) × (slice_get ks at ≡ Some x)) ⊎ ((at ≡ place) × (again k ≡ x))
         → (i : ℕ) × (slice_get us i ≡ Some (record { place = at; after = x.undone_after }))
     by at x off (inl old) = noted.each at x old.1 off
     by at x off (inr it) = absurd (bad x it.1 off)
@@ -327,8 +357,10 @@ noted_without ks us place stands noted = by (is_last_of place us) refl
     }
 
 -- both
-pub noted_again : (ks : List Kept) (us : List Undo) (place : ℕ) (k : Kept) → slice_get ks place ≡ Some k → AreNoted ks us
+pub noted_again : (ks : List Kept) (us : List Undo) (place : ℕ) (k : Kept) → slice_get ks place ≡ Some k
+    → AreNoted ks us
     → AreNoted (set ks place (again k)) (without_last_of place us)
 noted_again ks us place k there noted =
-    let stands = stands_item (set ks place (again k)) place (again k) (at_set ks place (again k) (slice_get_within ks place k there)) in
+    let stands = stands_item (set ks place (again k)) place (again k)
+    (at_set ks place (again k) (slice_get_within ks place k there)) in
     noted_without (set ks place (again k)) us place stands (noted_redone ks us place k there noted)

@@ -1,5 +1,6 @@
 -- The last place that passes a test.
-use Rattle.std.proofs.Common.{◌≡◌, ◌⊎◌, inl, inr, ℕ, zero, suc, ◌+◌, ◌<◌, ◌≤◌, Bool, true, false, ◌&&◌, cond, eqb, nat_lt}
+use Rattle.std.proofs.Common.{◌≡◌, ◌⊎◌, inl, inr, ℕ, zero, suc, ◌+◌, ◌<◌, ◌≤◌, Bool, true, false, ◌&&◌, cond, eqb}
+use Rattle.std.proofs.Common.{nat_lt}
 use Rattle.std.proofs.Common.{List, Option, Some, None, length, refl, sym, ap, ◌∙◌, arith}
 use Rattle.std.proofs.lemmas.Bool.{eqb-true, eq-eqb, le-ltb}
 use Rattle.iocm_activate.specs.declared.effect.Effect.{Effect}
@@ -26,8 +27,10 @@ below_or_last k n low = by (eqb k n) refl
         less : (k n : ℕ) → k < suc n → (k ≡ n → ⊥) → k < n
         less k n low apart = omega (arith, apart)
 
-one_longer : (passes : ℕ → Bool) (n : ℕ) (o : Option ℕ) → passes n ≡ false → IsLastPassing passes n o → IsLastPassing passes (suc n) o
-one_longer passes n (Some at) is rest = (omega (arith, rest.0), rest.1, λ k more less. by k more (below_or_last k n less))
+one_longer : (passes : ℕ → Bool) (n : ℕ) (o : Option ℕ) → passes n ≡ false → IsLastPassing passes n o
+    → IsLastPassing passes (suc n) o
+one_longer passes n (Some at) is rest =
+    (omega (arith, rest.0), rest.1, λ k more less. by k more (below_or_last k n less))
   where
     by : (k : ℕ) → at < k → (k < n) ⊎ (k ≡ n) → passes k ≡ false
     by k more (inl low) = rest.2 k more low
@@ -64,19 +67,23 @@ found_same fs place fits same = sym (ap (λ xs. last_passing (is_on xs fs place 
 
 -- ---- what stands on a change that fits would stand on it if it didn't
 
-on_either_by : (later stands shares undone : Bool) → (later && (stands && shares)) ≡ true → cond later stands undone ≡ true
+on_either_by : (later stands shares undone : Bool) → (later && (stands && shares)) ≡ true
+    → cond later stands undone ≡ true
 on_either_by true true shares undone on = refl
 on_either_by true false shares undone on = cc
 on_either_by false stands shares undone on = cc
 
-on_either : (ks : List Kept) (fs : List Effect) (place at : ℕ) → is_on ks fs place true at ≡ true → is_on ks fs place false at ≡ true
+on_either : (ks : List Kept) (fs : List Effect) (place at : ℕ) → is_on ks fs place true at ≡ true
+    → is_on ks fs place false at ≡ true
 on_either ks fs place at on = on_either_by (nat_lt place at) (stands_at ks at) (share_at fs place at) _ on
 
-none_passes : (p q : ℕ → Bool) → ((k : ℕ) → p k ≡ true → q k ≡ true) → (n : ℕ) → last_passing q n ≡ None → last_passing p n ≡ None
+none_passes : (p q : ℕ → Bool) → ((k : ℕ) → p k ≡ true → q k ≡ true) → (n : ℕ) → last_passing q n ≡ None
+    → last_passing p n ≡ None
 none_passes p q more zero none = refl
 none_passes p q more (suc n) none = by (q n) (p n) refl refl none (none_passes p q more n)
   where
-    by : (b d : Bool) → q n ≡ b → p n ≡ d → cond b (Some n) (last_passing q n) ≡ None → (last_passing q n ≡ None → last_passing p n ≡ None)
+    by : (b d : Bool) → q n ≡ b → p n ≡ d → cond b (Some n) (last_passing q n) ≡ None
+        → (last_passing q n ≡ None → last_passing p n ≡ None)
         → cond d (Some n) (last_passing p n) ≡ None
     by true d is are none rest = cc
     by false true is are none rest = let bad : false ≡ true = sym is ∙ more n are in cc
@@ -84,5 +91,6 @@ none_passes p q more (suc n) none = by (q n) (p n) refl refl none (none_passes p
 
 pub none_on_either : (ks : List Kept) (fs : List Effect) (place n : ℕ) → last_passing (is_on ks fs place false) n ≡ None
     → (fits : Bool) → last_passing (is_on ks fs place fits) n ≡ None
-none_on_either ks fs place n none true = none_passes (is_on ks fs place true) (is_on ks fs place false) (on_either ks fs place) n none
+none_on_either ks fs place n none true =
+    none_passes (is_on ks fs place true) (is_on ks fs place false) (on_either ks fs place) n none
 none_on_either ks fs place n none false = none

@@ -27,14 +27,17 @@ stands_past ks at past = ap (λ o. option_map_or (λ (k : Kept). k.stands) o fal
 pub stands_item : (ks : List Kept) (at : ℕ) (k : Kept) → slice_get ks at ≡ Some k → stands_at ks at ≡ k.stands
 stands_item ks at k is = ap (λ o. option_map_or (λ (k : Kept). k.stands) o false) is
 
-pub inverse_item : (ks : List Kept) (at : ℕ) (k : Kept) → slice_get ks at ≡ Some k → inverse_at ks at ≡ plain_tree (tree_of k.inverse)
+pub inverse_item : (ks : List Kept) (at : ℕ) (k : Kept) → slice_get ks at ≡ Some k
+    → inverse_at ks at ≡ plain_tree (tree_of k.inverse)
 inverse_item ks at k is = ap (λ o. option_map_or (λ (k : Kept). plain_tree (tree_of k.inverse)) o (row none)) is
 
-pub redo_item : (us : List Undone) (u : Undone) → slice_get us (length us - 1) ≡ Some u → redo_at_end us ≡ plain_tree (tree_of u.redo)
+pub redo_item : (us : List Undone) (u : Undone) → slice_get us (length us - 1) ≡ Some u
+    → redo_at_end us ≡ plain_tree (tree_of u.redo)
 redo_item us u is = ap (λ o. option_map_or (λ (u : Undone). plain_tree (tree_of u.redo)) o (row none)) is
 
 -- one that stands is within
-pub stands_low : (ks : List Kept) (at : ℕ) → stands_at ks at ≡ true → (k : Kept) × (slice_get ks at ≡ Some k) × (k.stands ≡ true)
+pub stands_low : (ks : List Kept) (at : ℕ) → stands_at ks at ≡ true
+    → (k : Kept) × (slice_get ks at ≡ Some k) × (k.stands ≡ true)
 stands_low ks at is = by (slice_get ks at) refl is
   where
     by : (o : Option Kept) → slice_get ks at ≡ o → option_map_or (λ (k : Kept). k.stands) o false ≡ true
@@ -60,7 +63,8 @@ set_there f same place i k at_i at_k =
 -- ---- what was done to a journal
 
 last_there : {A : Type 0} (xs : List A) (x : A) → slice_get (xs ++ x ∷ []) (length (xs ++ x ∷ []) - 1) ≡ Some x
-last_there xs x = ap (slice_get (xs ++ x ∷ [])) (let long = length-append xs (x ∷ []) in omega (arith, long)) ∙ at_end xs x
+last_there xs x = ap (slice_get (xs ++ x ∷ [])) (let long = length-append xs (x ∷ []) in omega (arith, long))
+    ∙ at_end xs x
 
 pub was_redone : (old new : Journaled) (place : ℕ) (before after : State) (last : Undone) (popped : Option Undone)
     (es : List Edit) → place < length old.changes
@@ -68,7 +72,8 @@ pub was_redone : (old new : Journaled) (place : ℕ) (before after : State) (las
     → meaning (plain_tree (tree_of last.redo)) before ≡ Ok (record { state = after; edits = es })
     → ((z : Kept) → slice_get old.changes place ≡ Some z → new.changes ≡ set old.changes place (again z))
     → new.standing ≡ old.standing + 1
-    → MatchOption popped (old.undone ≡ []) (λ u. old.undone ≡ new.undone ++ u ∷ []) → WasRedone old place before after new
+    → MatchOption popped (old.undone ≡ []) (λ u. old.undone ≡ new.undone ++ u ∷ [])
+    → WasRedone old place before after new
 was_redone old new place before after last popped es within is_it at_last means changes standing undone =
     let k = item_there old.changes place within in record {
       kept = k.0;
@@ -86,7 +91,8 @@ was_redone old new place before after last popped es within is_it at_last means 
     same a b e = cc
 
     none_at : (us : List Undone) → us ≡ [] → slice_get us (length us - 1) ≡ Some last → ⊥
-    none_at us empty is = let no : None ≡ Some last = sym (ap (λ vs. slice_get vs (length vs - 1)) empty) ∙ is in absurd_none last no
+    none_at us empty is = let no : None ≡ Some last = sym (ap (λ vs. slice_get vs (length vs - 1)) empty) ∙ is in
+        absurd_none last no
       where
         absurd_none : (u : Undone) → None ≡ Some u → ⊥
         absurd_none u e = cc
@@ -112,7 +118,8 @@ record Parted (us : List Undone) : Type 0 where
 
 parted : (u : Undone) (us : List Undone) → Parted (u ∷ us)
 parted u [] = record { rest = []; last = u; split = refl }
-parted u (v ∷ us) = let r = parted v us in record { rest = u ∷ r.rest; last = r.last; split = ap (λ vs. u ∷ vs) r.split }
+parted u (v ∷ us) = let r = parted v us in
+    record { rest = u ∷ r.rest; last = r.last; split = ap (λ vs. u ∷ vs) r.split }
 
 pub ends_with : (us : List Undone) (n : ℕ) → is_last us n ≡ true → EndsWith us n
 ends_with [] n is = cc
@@ -124,6 +131,7 @@ ends_with (u ∷ us) n is =
       rest = r.rest;
       last = r.last;
       split = r.split;
-      number = eqb-true r.last.number n (sym (ap (λ o. option_map_or (λ (u : Undone). eqb u.number n) o false) at_last) ∙ is);
+      number = eqb-true r.last.number n
+          (sym (ap (λ o. option_map_or (λ (u : Undone). eqb u.number n) o false) at_last) ∙ is);
       at_last = at_last;
     }

@@ -47,26 +47,31 @@ module _ {opening : State} {h : History} {j : Journaled} {fs : List Effect} {p :
   -- J1: no change of that number was accepted
   pub no_such : (why : Refused) → ((at : ℕ) → n ≡ at + 1 → length j.changes ≤ at) → why ≡ refusal_at J1 Nothing
       → IsRedoDecided opening h n (Some why)
-  no_such why past is = ap answers.Refused is ∙ not_accepted opening h now.journal.used now.journal.legal n quiet (beyond n past)
+  no_such why past is = ap answers.Refused is
+      ∙ not_accepted opening h now.journal.used now.journal.legal n quiet (beyond n past)
     where
       beyond : (m : ℕ) → ((at : ℕ) → m ≡ at + 1 → length j.changes ≤ at) → 1 ≤ m → m ≤ (journal_of h).count → ⊥
       beyond zero past low high = omega (arith, low)
-      beyond (suc at) past low high = let all = now.journal.count in let end = past at (one_more at) in omega (arith, all, end, high)
+      beyond (suc at) past low high = let all = now.journal.count in let end = past at (one_more at) in
+          omega (arith, all, end, high)
         where
           one_more : (k : ℕ) → suc k ≡ k + 1
           one_more k = omega arith
 
   module _ (place : ℕ) (k : Kept) (number : n ≡ place + 1) (at_k : slice_get j.changes place ≡ Some k) where
     stands_here : is_in n (journal_of h).standing ≡ k.stands
-    stands_here = ap (λ m. is_in m (journal_of h).standing) number ∙ stands_is now.journal place ∙ stands_item j.changes place k at_k
+    stands_here = ap (λ m. is_in m (journal_of h).standing) number ∙ stands_is now.journal place
+        ∙ stands_item j.changes place k at_k
 
     within : (1 ≤ n) × (n ≤ (journal_of h).count)
     within = let all = now.journal.count in let low = slice_get_within j.changes place k at_k in
         (omega (arith, number), omega (arith, number, all, low))
 
     -- J1: it stands
-    pub standing : (why : Refused) → k.stands ≡ true → why ≡ refusal_at J1 Nothing → IsRedoDecided opening h n (Some why)
-    standing why on is = ap answers.Refused is ∙ it_stands opening h now.journal.used now.journal.legal n quiet (stands_here ∙ on)
+    pub standing : (why : Refused) → k.stands ≡ true → why ≡ refusal_at J1 Nothing
+        → IsRedoDecided opening h n (Some why)
+    standing why on is = ap answers.Refused is
+        ∙ it_stands opening h now.journal.used now.journal.legal n quiet (stands_here ∙ on)
 
     -- J3: it isn't the last one undone
     pub another_last : (why : Refused) → k.stands ≡ false → is_last j.undone n ≡ false → why ≡ refusal_at J3 Nothing
@@ -78,7 +83,8 @@ module _ {opening : State} {h : History} {j : Journaled} {fs : List Effect} {p :
 
     -- B1, or nothing
     pub is_the_last : (f : Effect) (came : Option Refused) → slice_get fs place ≡ Some f → is_last j.undone n ≡ true
-        → came ≡ option_map not_quiet (first_not_quiet p.state.lives (keys (effect_in f).lives)) → IsRedoDecided opening h n came
+        → came ≡ option_map not_quiet (first_not_quiet p.state.lives (keys (effect_in f).lives))
+        → IsRedoDecided opening h n came
     is_the_last f came at_f last is =
         let it : IsKept opening h n k f
         = subst (λ m. IsKept opening h m k f) (sym number) (now.journal.kept place k f at_k at_f) in
@@ -111,7 +117,8 @@ module _ {opening : State} {h : History} {i : Journaled} {fs : List Effect} {p :
     (now : IsNow opening h i fs p) (n place : ℕ) (number : n ≡ place + 1)
     (decided : IsRedoDecided opening h n None) where
   now_quiet : not_quiet_now opening h n ≡ None
-  now_quiet = quiet_then n (is_last_undone n (journal_of h).undone) (is_in n (journal_of h).undone) (is_past n (journal_of h))
+  now_quiet = quiet_then n (is_last_undone n (journal_of h).undone) (is_in n (journal_of h).undone)
+      (is_past n (journal_of h))
       (not_quiet_now opening h n) (refusal_at J3 Nothing) (refusal_at J3 Nothing)
       (refusal_at J1 Nothing) decided
 
@@ -119,7 +126,8 @@ module _ {opening : State} {h : History} {i : Journaled} {fs : List Effect} {p :
   is_quiet = sym (ap (λ m. not_quiet_now opening h m) number) ∙ now_quiet
 
   now_last : is_last_undone n (journal_of h).undone ≡ true
-  now_last = last_then n (is_last_undone n (journal_of h).undone) (is_in n (journal_of h).undone) (is_past n (journal_of h))
+  now_last = last_then n (is_last_undone n (journal_of h).undone) (is_in n (journal_of h).undone)
+      (is_past n (journal_of h))
       (not_quiet_now opening h n) (refusal_at J3 Nothing) (refusal_at J3 Nothing)
       (refusal_at J1 Nothing) decided
 
@@ -137,7 +145,8 @@ module _ {opening : State} {h : History} {i : Journaled} {fs : List Effect} {p :
       (subst (λ w. IsRight opening h (plain_entry (redo n) (answers.Refused w))) (sym lack)
       (lacking_redo opening h n now.idle now_last now_quiet))
 
-pub redo_stopped : {opening : State} {h : History} {i : Journaled} {fs : List Effect} {p : Operating} (now : IsNow opening h i fs p)
+pub redo_stopped : {opening : State} {h : History} {i : Journaled} {fs : List Effect} {p : Operating}
+    (now : IsNow opening h i fs p)
     (n : ℕ) (why : Refused) → IsRedoDecided opening h n (Some why) → IsNext opening h (redo_made n (Err why)) i fs p
 redo_stopped {opening = opening} {h = h} {i = i} {p = p} now n why decided =
     redo_refused now i p (same_journal i) refl n why (right_redo opening h n (answers.Refused why) now.idle decided)

@@ -61,7 +61,8 @@ last_is us (m ∷ ms) n is =
     ∙ ap length whole ∙ length-append (reverse ms) (m ∷ []) in
     let end : length us - 1 ≡ length (reverse ms) = omega (arith, long) in
     read_end (slice_get us (length us - 1)) m n
-    (sym (get_mapped (λ (u : Undone). u.number) us (length us - 1)) ∙ (λ z. slice_get (whole z) (end z)) ∙ at_end (reverse ms) m)
+    (sym (get_mapped (λ (u : Undone). u.number) us (length us - 1)) ∙ (λ z. slice_get (whole z) (end z))
+    ∙ at_end (reverse ms) m)
 
 last_among : (n : ℕ) (ns : List ℕ) → is_last_undone n ns ≡ true → is_in n ns ≡ true
 last_among n [] is = cc
@@ -76,7 +77,8 @@ not_among n ns off = by (is_last_undone n ns) refl
 
 -- ---- the answers
 
-module _ (opening : State) (h : History) (used : IsInUse opening) (legal : IsLegal opening h) (n : ℕ) (quiet : Option SubId) where
+module _ (opening : State) (h : History) (used : IsInUse opening) (legal : IsLegal opening h) (n : ℕ)
+    (quiet : Option SubId) where
   abbrev b : Journal
   b = journal_of h
 
@@ -87,7 +89,8 @@ module _ (opening : State) (h : History) (used : IsInUse opening) (legal : IsLeg
       (cond past (answers.Refused (refusal_at J3 Nothing)) (answers.Refused (refusal_at J1 Nothing))))
 
   -- what is no change that was accepted isn't undone, nor past
-  undone_off : is_in n b.undone ≡ false → is_past n b ≡ false → answers.Refused (refusal_at J1 Nothing) ≡ redo_answer n b quiet
+  undone_off : is_in n b.undone ≡ false → is_past n b ≡ false
+      → answers.Refused (refusal_at J1 Nothing) ≡ redo_answer n b quiet
   undone_off off never = sym (λ z. answer_by (not_among n b.undone off z) (off z) (never z))
 
   pub not_accepted : (1 ≤ n → n ≤ b.count → ⊥) → answers.Refused (refusal_at J1 Nothing) ≡ redo_answer n b quiet
@@ -97,7 +100,8 @@ module _ (opening : State) (h : History) (used : IsInUse opening) (legal : IsLeg
       off true is = let bounds = undone_were_accepted opening h n used legal is in absurd (none bounds.0 bounds.1)
       off false is = refl
 
-      past : (c d : Bool) → nat_le 1 n ≡ c → nat_le n b.count ≡ d → (c && d && not (is_in n b.standing) && not (is_in n b.undone)) ≡ false
+      past : (c d : Bool) → nat_le 1 n ≡ c → nat_le n b.count ≡ d
+          → (c && d && not (is_in n b.standing) && not (is_in n b.undone)) ≡ false
       past true true low high = absurd (none (leb-true 1 n low) (leb-true n b.count high))
       past true false low high = refl
       past false d low high = refl

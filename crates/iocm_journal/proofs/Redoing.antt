@@ -48,7 +48,8 @@ same_some : {A : Type 0} (a b : A) → Some a ≡ Some b → a ≡ b
 same_some a b e = cc
 
 -- nothing is staged after a redo where nothing was
-still_idle : (opening : State) (h : History) (n : ℕ) → stage_of opening h ≡ None → stage_of opening (redo_entry n ∷ h) ≡ None
+still_idle : (opening : State) (h : History) (n : ℕ) → stage_of opening h ≡ None
+    → stage_of opening (redo_entry n ∷ h) ≡ None
 unfolding account
 still_idle opening h n idle = idle
 
@@ -79,7 +80,8 @@ redo_means opening now h between n c t parts used legal last first idle quiet th
     redo_means_the_redo opening h between n c t used lawful last first_one none is_quiet there back)
     legal first idle quiet
 
-module _ {opening : State} {h : History} {i : Journaled} {fs : List Effect} {p : Operating} (now : IsNow opening h i fs p) (place : ℕ)
+module _ {opening : State} {h : History} {i : Journaled} {fs : List Effect} {p : Operating}
+    (now : IsNow opening h i fs p) (place : ℕ)
     (rest : List Undone) (last : Undone) (split : i.undone ≡ rest ++ last ∷ []) (is_number : last.number ≡ place + 1)
     (quiet : not_quiet_now opening h (place + 1) ≡ None) where
   abbrev top : ℕ
@@ -112,10 +114,12 @@ module _ {opening : State} {h : History} {i : Journaled} {fs : List Effect} {p :
 
   meant : MeansWith opening h (redo_entry top) (plain_tree (tree_of last.redo))
   meant = redo_means opening h last_one.before last_one.between top last_one.change (plain_tree (tree_of last.redo))
-      (last_one.parts ∙ ap (λ m. last_one.between ++ undo_entry m ∷ last_one.before) is_number) now.journal.used now.journal.legal
+      (last_one.parts ∙ ap (λ m. last_one.between ++ undo_entry m ∷ last_one.before) is_number) now.journal.used
+      now.journal.legal
       (sym (ap (λ m. list_any (λ (e : Entry). undoes_or_redoes m e.answer) last_one.between) is_number)
       ∙ last_one.last) first_is now.idle quiet
-      (sym (ap (λ m. change_at m (marked_entries opening last_one.before)) is_number) ∙ last_one.there) last_one.takes_back
+      (sym (ap (λ m. change_at m (marked_entries opening last_one.before)) is_number) ∙ last_one.there)
+      last_one.takes_back
 
 -- what the tree means that is kept for the last one undone
 pub last_means : {opening : State} {h : History} {i : Journaled} {fs : List Effect} {p : Operating}
@@ -128,7 +132,8 @@ last_means {i = i} now place is_it quiet =
     (λ z. state_reached (meaning ((redo_item i.undone e.last e.at_last) z) (now.state z)))
     ∙ (meant now place e.rest e.last e.split e.number quiet).1
 
-module _ {opening : State} {h : History} {i : Journaled} {fs : List Effect} {p : Operating} (now : IsNow opening h i fs p) (place : ℕ)
+module _ {opening : State} {h : History} {i : Journaled} {fs : List Effect} {p : Operating}
+    (now : IsNow opening h i fs p) (place : ℕ)
     (j : Journaled) (q : Operating) (w : WasRedone i place p.state q.state j)
     (quiet : not_quiet_now opening h (place + 1) ≡ None) where
   abbrev n : ℕ
@@ -180,14 +185,17 @@ module _ {opening : State} {h : History} {i : Journaled} {fs : List Effect} {p :
 
   each : (m : ℕ) (k : Kept) (g : Effect) → slice_get j.changes m ≡ Some k → slice_get fs m ≡ Some g
       → IsKept opening (redo_entry n ∷ h) (m + 1) k g
-  each m k g at_k at_g = by (of_set i.changes place (again w.kept) m k (sym (ap (λ xs. slice_get xs m) w.changes) ∙ at_k))
+  each m k g at_k at_g = by
+      (of_set i.changes place (again w.kept) m k (sym (ap (λ xs. slice_get xs m) w.changes) ∙ at_k))
     where
       by : ((m ≢ place) × (slice_get i.changes m ≡ Some k)) ⊎ ((m ≡ place) × (again w.kept ≡ k))
           → IsKept opening (redo_entry n ∷ h) (m + 1) k g
-      by (inl old) = another (m + 1) k g (let low = slice_get_within i.changes m k old.1 in let all = place_is in omega arith)
+      by (inl old) = another (m + 1) k g
+          (let low = slice_get_within i.changes m k old.1 in let all = place_is in omega arith)
           (λ e. old.0 (omega (arith, e))) (now.journal.kept m k g old.1 at_g)
       by (inr new) = subst (λ z. IsKept opening (redo_entry n ∷ h) (z + 1) k g) (sym new.0)
-          (subst (λ z. IsKept opening (redo_entry n ∷ h) n z g) new.1 (the_one g (sym (ap (slice_get fs) new.0) ∙ at_g)))
+          (subst (λ z. IsKept opening (redo_entry n ∷ h) n z g) new.1
+          (the_one g (sym (ap (slice_get fs) new.0) ∙ at_g)))
 
   -- ---- those that are undone still
 

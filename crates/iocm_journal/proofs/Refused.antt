@@ -46,7 +46,8 @@ pub lacking_redo : (opening : State) (h : History) (n : ℕ) → stage_of openin
     → is_last_undone n (journal_of h).undone ≡ true
     → not_quiet_now opening h n ≡ None
     → IsRight opening h (plain_entry (redo n) (answers.Refused (refusal_at M1 Nothing)))
-lacking_redo opening h n idle last quiet = inr (and_from _ _ (ap is_none idle) (and_from _ _ last (ap is_none quiet)), refl)
+lacking_redo opening h n idle last quiet =
+    inr (and_from _ _ (ap is_none idle) (and_from _ _ last (ap is_none quiet)), refl)
 
 -- nothing is staged after a refusal where nothing was
 still_idle_undo : (opening : State) (h : History) (n : ℕ) (why : Refused) → stage_of opening h ≡ None

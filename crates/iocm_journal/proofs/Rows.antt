@@ -35,7 +35,8 @@ parts_perform [] n s = refl
 parts_perform (e ∷ es) n s = leaf_performs (refusal_of e s) n e es s (parts_meaning (parts_of es) (n + 1))
     (parts_perform es (n + 1) (state_after e s))
 
-unbroken : (b : Option Breach) (n : ℕ) (r : Performed) (es : List Edit) → r.edits ≡ es → Performs (unless_broken b n r) es
+unbroken : (b : Option Breach) (n : ℕ) (r : Performed) (es : List Edit) → r.edits ≡ es
+    → Performs (unless_broken b n r) es
 unbroken None n r es is = is
 unbroken (Some b) n r es is = tt
 
@@ -43,7 +44,8 @@ held : (n : ℕ) (o : Outcome) (es : List Edit) → Performs o es → Performs (
 held n (Ok r) es is = unbroken (first_breach r.state.config r.state.numbers) n r es is
 held n (Err why) es is = tt
 
-within : (a b : Bool) (x y : Refused) (o : Outcome) (es : List Edit) → Performs o es → Performs (cond a (Err x) (cond b (Err y) o)) es
+within : (a b : Bool) (x y : Refused) (o : Outcome) (es : List Edit) → Performs o es
+    → Performs (cond a (Err x) (cond b (Err y) o)) es
 within true b x y o es is = tt
 within false true x y o es is = tt
 within false false x y o es is = is

@@ -37,7 +37,8 @@ pub in_append : (k : ℕ) (ms ns : List ℕ) → is_in k (ms ++ ns) ≡ (is_in k
 in_append k [] ns = refl
 in_append k (m ∷ ms) ns = by (eqb k m) (in_append k ms ns)
   where
-    by : (b : Bool) → is_in k (ms ++ ns) ≡ (is_in k ms || is_in k ns) → (b || is_in k (ms ++ ns)) ≡ ((b || is_in k ms) || is_in k ns)
+    by : (b : Bool) → is_in k (ms ++ ns) ≡ (is_in k ms || is_in k ns)
+        → (b || is_in k (ms ++ ns)) ≡ ((b || is_in k ms) || is_in k ns)
     by true rest = refl
     by false rest = rest
 
@@ -59,7 +60,8 @@ in_reverse k (n ∷ ns) =
 
 -- what holds of each number among a list holds of each item by its number
 module _ {A : Type 0} (number : A → ℕ) (P : ℕ → Type 0) where
-  pub all_by_number : (us : List A) → ((m : ℕ) → is_in m (map number us) ≡ true → P m) → AllByRecursion (λ u. P (number u)) us
+  pub all_by_number : (us : List A) → ((m : ℕ) → is_in m (map number us) ≡ true → P m)
+      → AllByRecursion (λ u. P (number u)) us
   all_by_number [] each = tt
   all_by_number (u ∷ us) each = (
     each (number u) (first (number u) (map number us)),
@@ -78,7 +80,8 @@ module _ {A : Type 0} (number : A → ℕ) (P : ℕ → Type 0) where
           by false = among
 
 -- of two lists joined both, and one more
-pub all_append : {A : Type 0} (P : A → Type 0) (xs ys : List A) → AllByRecursion P xs → AllByRecursion P ys → AllByRecursion P (xs ++ ys)
+pub all_append : {A : Type 0} (P : A → Type 0) (xs ys : List A) → AllByRecursion P xs → AllByRecursion P ys
+    → AllByRecursion P (xs ++ ys)
 all_append P [] ys p q = q
 all_append P (x ∷ xs) ys p q = (p.0, all_append P xs ys p.1 q)
 

@@ -47,13 +47,15 @@ use Rattle.iocm_journal.proofs.Undoing.{undone_now}
 
 -- the machine keeps the rules
 pub rules_now : {j : Journaled} {fs : List Effect} {p : Operating} → BelongTogether j fs p → KeepsTheRules p.state
-rules_now b = subst KeepsTheRules (sym b.now.state) (states_stay_in_use b.opening b.history b.now.journal.used b.now.journal.legal).rules
+rules_now b = subst KeepsTheRules (sym b.now.state)
+    (states_stay_in_use b.opening b.history b.now.journal.used b.now.journal.legal).rules
 
 pub same_journal : (j : Journaled) → KeepsTheSame j j
 same_journal j = record { changes = refl; standing = refl; undone = refl }
 
 -- a journal that keeps the same, and a machine in the same state, are of the same history
-module _ {j i : Journaled} {fs : List Effect} {p q : Operating} (same : KeepsTheSame j i) (stays : q.state ≡ p.state) where
+module _ {j i : Journaled} {fs : List Effect} {p q : Operating} (same : KeepsTheSame j i)
+    (stays : q.state ≡ p.state) where
   pub still_now : {opening : State} {h : History} → IsNow opening h j fs p → IsNow opening h i fs q
   still_now {opening} {h} now = record {
     journal = kept_the_same opening h j i fs same now.journal;
@@ -69,7 +71,8 @@ differ e = cc
 
 -- an undo of a number is one of the number of its place
 pub by_number : {opening : State} {h : History} {j : Journaled} {fs : List Effect} {q : Operating} {n : ℕ}
-    (place : ℕ) (came : Result (Unit {0}) Refused) → n ≡ place + 1 → IsNext opening h (undo_made (place + 1) came) j fs q
+    (place : ℕ) (came : Result (Unit {0}) Refused) → n ≡ place + 1
+    → IsNext opening h (undo_made (place + 1) came) j fs q
     → IsNext opening h (undo_made n came) j fs q
 by_number {opening = opening} {h = h} {j = j} {fs = fs} {q = q} place came number next =
     subst (λ n. IsNext opening h (undo_made n came) j fs q) (sym number) next
@@ -83,17 +86,20 @@ off {opening = opening} {h = h} i zero none = by (is_in 0 (journal_of h).standin
     by : (b : Bool) → is_in 0 (journal_of h).standing ≡ b → b ≡ false
     by true is = let low = (standing_were_accepted opening h 0 i.used i.legal is).0 in absurd (omega (arith, low))
     by false is = refl
-off {h = h} i (suc at) none = subst (λ m. is_in m (journal_of h).standing ≡ false) (plus at) (stands_is i at ∙ none at (sym (plus at)))
+off {h = h} i (suc at) none =
+    subst (λ m. is_in m (journal_of h).standing ≡ false) (plus at) (stands_is i at ∙ none at (sym (plus at)))
   where
     plus : (m : ℕ) → m + 1 ≡ suc m
     plus m = omega arith
 
-pub undo_of_none : {opening : State} {h : History} {j : Journaled} {fs : List Effect} {p : Operating} (now : IsNow opening h j fs p)
+pub undo_of_none : {opening : State} {h : History} {j : Journaled} {fs : List Effect} {p : Operating}
+    (now : IsNow opening h j fs p)
     (n : ℕ) (why : Refused) → ((at : ℕ) → n ≡ at + 1 → stands_at j.changes at ≡ false) → why ≡ refusal_at J1 Nothing
     → IsNext opening h (undo_made n (Err why)) j fs p
 undo_of_none {opening = opening} {h = h} {j = j} {p = p} now n why none is =
     undo_refused now j p (same_journal j) refl n why
-    (right_undo opening h n (answers.Refused why) now.idle (ap answers.Refused is ∙ not_standing opening h n (off now.journal n none)))
+    (right_undo opening h n (answers.Refused why) now.idle
+    (ap answers.Refused is ∙ not_standing opening h n (off now.journal n none)))
 
 -- ---- what decides an undo
 
@@ -126,7 +132,8 @@ module _ {opening : State} {h : History} {j : Journaled} {fs : List Effect} {p :
 
   -- B1, or nothing
   pub waits_for : (f : Effect) (why : Option Refused) → slice_get fs place ≡ Some f → on ≡ None
-      → why ≡ option_map not_quiet (first_not_quiet p.state.lives (keys (effect_in f).lives)) → IsUndoDecided opening h (place + 1) why
+      → why ≡ option_map not_quiet (first_not_quiet p.state.lives (keys (effect_in f).lives))
+      → IsUndoDecided opening h (place + 1) why
   waits_for f why at_f none is =
       ap (unless_refused (answers.Undone (place + 1))) is ∙ unless_busy (answers.Undone (place + 1)) _
       ∙ undo_decided now place k f there at_f it_stands None _ (on_is f at_f ∙ ap (option_map (λ at. at + 1)) none)
@@ -134,16 +141,19 @@ module _ {opening : State} {h : History} {j : Journaled} {fs : List Effect} {p :
 
 -- ---- an undo that is performed
 
-pub none_due : (o : Outcome) (t : State) (why : Refused) → state_reached o ≡ Some t → IsDue (refusal_in o) why → why ≡ no_memory
+pub none_due : (o : Outcome) (t : State) (why : Refused) → state_reached o ≡ Some t → IsDue (refusal_in o) why
+    → why ≡ no_memory
 none_due (Ok r) t why reached (inl due) = cc
 none_due (Ok r) t why reached (inr lack) = lack
 none_due (Err other) t why reached due = cc
 
-module _ {opening : State} {h : History} {i : Journaled} {fs : List Effect} {p : Operating} (now : IsNow opening h i fs p) (place : ℕ)
+module _ {opening : State} {h : History} {i : Journaled} {fs : List Effect} {p : Operating}
+    (now : IsNow opening h i fs p) (place : ℕ)
     (decided : IsUndoDecided opening h (place + 1) None) (stands : stands_at i.changes place ≡ true) (mid : State)
     (mid_is : mid ≡ p.state) where
   may : MayBeUndone (state_at opening h) (journal_of h) (account opening h) (place + 1)
-  may = may_be_undone opening h (place + 1) (right_undo opening h (place + 1) (answers.Undone (place + 1)) now.idle decided)
+  may = may_be_undone opening h (place + 1)
+      (right_undo opening h (place + 1) (answers.Undone (place + 1)) now.idle decided)
 
   pub undo_performed : (result : Result (Unit {0}) Refused) (j : Journaled) (q : Operating)
       → OnOk result (WasUndone i place mid q.state j)
@@ -169,7 +179,8 @@ module _ {opening : State} {h : History} {i : Journaled} {fs : List Effect} {p :
       may.none may.quiet it.there).1 in
       let tree : inverse_at i.changes place ≡ inverse_tree it.change.edits it.change.from =
       inverse_item i.changes place l.0 l.1 ∙ it.inverse in
-      let reached : state_reached (meaning (inverse_at i.changes place) mid) ≡ Some (state_at opening (undo_entry (place + 1) ∷ h))
+      let reached : state_reached (meaning (inverse_at i.changes place) mid)
+      ≡ Some (state_at opening (undo_entry (place + 1) ∷ h))
       = (λ z. state_reached (meaning (tree z) ((mid_is ∙ now.state) z))) ∙ meant in
       let lack = none_due (meaning (inverse_at i.changes place) mid) _ why reached due in
       undo_refused now j q kept (same ∙ mid_is) (place + 1) why
@@ -178,13 +189,16 @@ module _ {opening : State} {h : History} {i : Journaled} {fs : List Effect} {p :
 
 -- ---- an undo that is refused
 
-module _ {opening : State} {h : History} {i : Journaled} {fs : List Effect} {p : Operating} (now : IsNow opening h i fs p)
+module _ {opening : State} {h : History} {i : Journaled} {fs : List Effect} {p : Operating}
+    (now : IsNow opening h i fs p)
     (q : Operating) (same : q.state ≡ p.state) where
-  pub undo_stopped : (n : ℕ) (why : Refused) → IsUndoDecided opening h n (Some why) → IsNext opening h (undo_made n (Err why)) i fs q
+  pub undo_stopped : (n : ℕ) (why : Refused) → IsUndoDecided opening h n (Some why)
+      → IsNext opening h (undo_made n (Err why)) i fs q
   undo_stopped n why decided =
       undo_refused now i q (same_journal i) same n why (right_undo opening h n (answers.Refused why) now.idle decided)
 
-  pub undo_lacks : (place : ℕ) → stands_at i.changes place ≡ true → IsNext opening h (undo_made (place + 1) (Err no_memory)) i fs q
+  pub undo_lacks : (place : ℕ) → stands_at i.changes place ≡ true
+      → IsNext opening h (undo_made (place + 1) (Err no_memory)) i fs q
   undo_lacks place stands =
       undo_refused now i q (same_journal i) same (place + 1) no_memory
       (lacking_undo opening h (place + 1) now.idle (stands_is now.journal place ∙ stands))

@@ -31,7 +31,8 @@ use Rattle.iocm_journal.specs.Deciding.{greatest_now, not_quiet_now, undo_now}
 -- the answer to an undo, by whether its change stands
 abbrev answer_if : State → History → ℕ → Bool → Answer
 answer_if opening h n stands =
-    cond stands (unless_stood_on (greatest_now opening h n) (unless_not_quiet (not_quiet_now opening h n) (answers.Undone n)))
+    cond stands (unless_stood_on (greatest_now opening h n)
+    (unless_not_quiet (not_quiet_now opening h n) (answers.Undone n)))
     (answers.Refused (refusal_at J1 Nothing))
 
 -- the first that isn't quiet of the subchannels of a change, by what it wrote

@@ -43,7 +43,8 @@ and_true true = refl
 and_true false = refl
 
 -- nothing is staged after an undo where nothing was
-still_idle : (opening : State) (h : History) (n : ℕ) → stage_of opening h ≡ None → stage_of opening (undo_entry n ∷ h) ≡ None
+still_idle : (opening : State) (h : History) (n : ℕ) → stage_of opening h ≡ None
+    → stage_of opening (undo_entry n ∷ h) ≡ None
 unfolding account
 still_idle opening h n idle = idle
 
@@ -87,7 +88,8 @@ module _ {opening : State} {h : History} {i : Journaled} {fs : List Effect} {p :
     undone = was.undone ∙ sym (ap (λ b. cond b (journal_of h).count (last_undone m h)) (ne_eqb m n other));
   }
 
-  the_one : (g : Effect) → slice_get fs place ≡ Some g → IsKept opening (undo_entry n ∷ h) n (no_more (length i.changes) w.kept) g
+  the_one : (g : Effect) → slice_get fs place ≡ Some g
+      → IsKept opening (undo_entry n ∷ h) n (no_more (length i.changes) w.kept) g
   the_one g at_g = let was = now.journal.kept place w.kept g w.there at_g in record {
     change = was.change;
     there = changes_stay_there opening h (undo_entry n) n now.journal.used meant.0 (let all = place_is in
@@ -107,10 +109,12 @@ module _ {opening : State} {h : History} {i : Journaled} {fs : List Effect} {p :
     where
       by : ((m ≢ place) × (slice_get i.changes m ≡ Some k)) ⊎ ((m ≡ place) × (no_more (length i.changes) w.kept ≡ k))
           → IsKept opening (undo_entry n ∷ h) (m + 1) k g
-      by (inl old) = another (m + 1) k g (let low = slice_get_within i.changes m k old.1 in let all = place_is in omega arith)
+      by (inl old) = another (m + 1) k g
+          (let low = slice_get_within i.changes m k old.1 in let all = place_is in omega arith)
           (λ e. old.0 (omega (arith, e))) (now.journal.kept m k g old.1 at_g)
       by (inr new) = subst (λ z. IsKept opening (undo_entry n ∷ h) (z + 1) k g) (sym new.0)
-          (subst (λ z. IsKept opening (undo_entry n ∷ h) n z g) new.1 (the_one g (sym (ap (slice_get fs) new.0) ∙ at_g)))
+          (subst (λ z. IsKept opening (undo_entry n ∷ h) n z g) new.1
+          (the_one g (sym (ap (slice_get fs) new.0) ∙ at_g)))
 
   -- ---- those that are undone
 
@@ -129,9 +133,11 @@ module _ {opening : State} {h : History} {i : Journaled} {fs : List Effect} {p :
   reached : state_reached (meaning (inverse_tree it.change.edits it.change.from) p.state) ≡ Some q.state
   reached = sym (ap (λ t. state_reached (meaning t p.state)) it.inverse) ∙ w.means
 
-  redo_takes_back : TakesBack (plain_tree (tree_of w.last.redo)) (inverses it.change.edits it.change.from) (state_at opening h)
+  redo_takes_back : TakesBack (plain_tree (tree_of w.last.redo)) (inverses it.change.edits it.change.from)
+      (state_at opening h)
   redo_takes_back =
-      let edits : edits_of (meaning (plain_tree (tree_of w.kept.inverse)) p.state) ≡ inverses it.change.edits it.change.from
+      let edits : edits_of (meaning (plain_tree (tree_of w.kept.inverse)) p.state)
+      ≡ inverses it.change.edits it.change.from
       = ap (λ t. edits_of (meaning t p.state)) it.inverse
       ∙ inverse_tree_performs it.change.edits it.change.from p.state q.state reached in
       subst (TakesBack (plain_tree (tree_of w.last.redo)) (inverses it.change.edits it.change.from)) now.state
@@ -164,11 +170,13 @@ module _ {opening : State} {h : History} {i : Journaled} {fs : List Effect} {p :
         used = now.journal.used;
         legal = meant.0;
         count = place_is ∙ sym (ap length w.changes ∙ length-set i.changes place (no_more (length i.changes) w.kept));
-        effects = now.journal.effects ∙ sym (ap length w.changes ∙ length-set i.changes place (no_more (length i.changes) w.kept));
+        effects = now.journal.effects
+            ∙ sym (ap length w.changes ∙ length-set i.changes place (no_more (length i.changes) w.kept));
         kept = each;
         standing = (let less = one_less_stands opening h n now.journal.used now.journal.legal here in
             let was = now.journal.standing in let is = w.standing in omega arith);
-        undone = ap (map (λ (u : Undone). u.number)) w.undone ∙ map-append (λ (u : Undone). u.number) i.undone (w.last ∷ [])
+        undone = ap (map (λ (u : Undone). u.number)) w.undone
+            ∙ map-append (λ (u : Undone). u.number) i.undone (w.last ∷ [])
             ∙ (λ z. now.journal.undone z ++ w.number z ∷ []) ∙ sym (reverse-append (n ∷ []) (journal_of h).undone);
         redoable = subst (AllByRecursion (IsRedoable opening (undo_entry n ∷ h))) (sym w.undone)
             (all_append (IsRedoable opening (undo_entry n ∷ h)) i.undone (w.last ∷ []) before_still (the_last, tt));

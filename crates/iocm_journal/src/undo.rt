@@ -1,5 +1,6 @@
 ghost use Rattle.std.specs.Prelude.{◌≡◌, ◌<◌, ◌+◌, ℕ, length, MatchOption};
-ghost use Rattle.std.specs.Prelude.{IfOk, IfErr, IfSome, IsFalse, IsTrue, OnOk, OnErr, Ok, Some, true, false, slice_get};
+ghost use Rattle.std.specs.Prelude.{IfOk, IfErr, IfSome, IsFalse, IsTrue, OnOk, OnErr, Ok, Some, true, false};
+ghost use Rattle.std.specs.Prelude.{slice_get};
 ghost use Rattle.iocm_model.specs.Change.Meaning.{meaning};
 ghost use Rattle.iocm_model.specs.Laws.Trees.{KeepsTheRules};
 ghost use Rattle.iocm_model.specs.Operation.State.{State};

@@ -1,5 +1,6 @@
 -- A text without an S names no channel subsystems, since no word of it is CSS(..).
-use Rattle.std.proofs.Common.{◌≡◌, ℕ, ◌==◌, ◌&&◌, ◌||◌, nat_le, Bool, true, false, cond, Some, None, List, [], ◌∷◌, ◌++◌, length, drop, refl, ap, ◌∙◌}
+use Rattle.std.proofs.Common.{◌≡◌, ℕ, ◌==◌, ◌&&◌, ◌||◌, nat_le, Bool, true, false, cond, Some, None, List, [], ◌∷◌}
+use Rattle.std.proofs.Common.{◌++◌, length, drop, refl, ap, ◌∙◌}
 use Rattle.std.proofs.lemmas.Bool.{true≢false}
 use Rattle.std.proofs.lemmas.List.Folds.{list_any-append}
 use Rattle.std.specs.Prelude.{codes, take, unwrap_or}
@@ -28,7 +29,9 @@ nor_with false y = refl
 -- a word that doesn't begin as CSS(..) does
 other_spans_none : (word : List ℕ) → bytes_eq (take 4 word) (codes "CSS(") ≡ false → spans_css word ≡ false
 other_spans_none word other =
-    ap (λ c. nat_le 2 (count_decimals (unwrap_or (option_and_then pieces_of (option_and_then (before (codes ")")) (cond c (Some (drop 4 word)) None))) []))) other
+    ap (λ c. nat_le 2 (count_decimals
+    (unwrap_or (option_and_then pieces_of (option_and_then (before (codes ")")) (cond c (Some (drop 4 word)) None)))
+    []))) other
 
 ended_spans : (word : List ℕ) (others : List (List ℕ)) → spans_css word ≡ false → list_any spans_css others ≡ false
     → list_any spans_css (ended word others) ≡ false
@@ -76,7 +79,8 @@ words_span_none p word [] none none_left = ended_spans word [] (word_spans_none 
 words_span_none p word (b ∷ rest) none none_left =
     let both = neither (b == 83) (has_s rest) none_left in
     one_of (is_outside p && ends_word b) (is_outside p && (b == 40) && (length word == 0)) word
-    (words_from start (begun_by b) rest) (words_from p [] rest) (words_from (unwrap_or (step p b) p) (word ++ b ∷ []) rest)
+    (words_from start (begun_by b) rest) (words_from p [] rest)
+    (words_from (unwrap_or (step p b) p) (word ++ b ∷ []) rest)
     (word_spans_none word none)
     (words_span_none start (begun_by b) rest (begun_without b) both.1)
     (words_span_none p [] rest refl both.1)

@@ -61,7 +61,25 @@ unfolding is_outside step cuts pieces_from item_words_from
 subsystems_in_an_item_beside = refl
 
 pub subsystems : SubsystemsNamed
-subsystems = record { plain = subsystems_plain; in_a_list = subsystems_in_a_list; inside = subsystems_inside; before_a_number = subsystems_before_a_number; behind_a_number = subsystems_behind_a_number; between_numbers = subsystems_between_numbers; list_inside = subsystems_list_inside; list_of_one = subsystems_list_of_one; beside_another = subsystems_beside_another; one_each = subsystems_one_each; another_word = subsystems_another_word; in_no_item = subsystems_in_no_item; in_an_item_beside = subsystems_in_an_item_beside }
+subsystems = record {
+  plain = subsystems_plain;
+  in_a_list = subsystems_in_a_list;
+  inside = subsystems_inside;
+  before_a_number = subsystems_before_a_number;
+  behind_a_number = subsystems_behind_a_number;
+  between_numbers =
+      subsystems_between_numbers;
+  list_inside = subsystems_list_inside;
+  list_of_one =
+      subsystems_list_of_one;
+  beside_another = subsystems_beside_another;
+  one_each =
+      subsystems_one_each;
+  another_word = subsystems_another_word;
+  in_no_item =
+      subsystems_in_no_item;
+  in_an_item_beside = subsystems_in_an_item_beside;
+}
 
 paths_two : names_several_paths (codes "(50,51)") ≡ true
 unfolding is_outside step cuts pieces_from item_words_from
@@ -84,7 +102,13 @@ unfolding is_outside step cuts pieces_from item_words_from
 paths_beside_no_item = refl
 
 pub paths : PathsNamed
-paths = record { two = paths_two; in_a_list = paths_in_a_list; one = paths_one; in_no_item = paths_in_no_item; beside_no_item = paths_beside_no_item }
+paths = record {
+  two = paths_two;
+  in_a_list = paths_in_a_list;
+  one = paths_one;
+  in_no_item = paths_in_no_item;
+  beside_no_item = paths_beside_no_item;
+}
 
 lists_plain : is_list (value (codes "(0,1)")) ≡ true
 unfolding is_outside step cuts pieces_from

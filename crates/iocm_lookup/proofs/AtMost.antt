@@ -1,5 +1,6 @@
 -- Keys that are not behind another, and the least of what some give.
-use Rattle.std.proofs.Common.{◌≡◌, ◌⊎◌, inl, inr, Bool, true, false, cond, ◌||◌, Option, None, Some, List, [], ◌∷◌, refl, sym, ap, subst, ◌∙◌}
+use Rattle.std.proofs.Common.{◌≡◌, ◌⊎◌, inl, inr, Bool, true, false, cond, ◌||◌, Option, None, Some, List, [], ◌∷◌}
+use Rattle.std.proofs.Common.{refl, sym, ap, subst, ◌∙◌}
 use Rattle.std.proofs.lemmas.Bool.{false≢true}
 use Rattle.std.specs.List.{list_any, AllByRecursion}
 use Rattle.std.specs.Ordering.{is_lt, eq_by_cmp, ordering_reverse}
@@ -17,20 +18,25 @@ abbrev pub IsNotBehind : Key → Key → Type 0
 IsNotBehind f k = is_lt (key_cmp k f) ≡ false
 
 -- what is less than all of some keys is less than each
-pub less_than_each : (k : Key) (qs : List Key) → AllByRecursion (λ q. key_cmp k q ≡ Less) qs → (q : Key) → list_any (eq_by_cmp key_cmp q) qs ≡ true → key_cmp k q ≡ Less
+pub less_than_each : (k : Key) (qs : List Key) → AllByRecursion (λ q. key_cmp k q ≡ Less) qs → (q : Key)
+    → list_any (eq_by_cmp key_cmp q) qs ≡ true → key_cmp k q ≡ Less
 less_than_each k [] all q there = cc
 less_than_each k (p ∷ qs) all q there = by (eq_by_cmp key_cmp q p) refl there (less_than_each k qs all.1 q)
   where
-    by : (b : Bool) → eq_by_cmp key_cmp q p ≡ b → (b || list_any (eq_by_cmp key_cmp q) qs) ≡ true → (list_any (eq_by_cmp key_cmp q) qs ≡ true → key_cmp k q ≡ Less) → key_cmp k q ≡ Less
+    by : (b : Bool) → eq_by_cmp key_cmp q p ≡ b → (b || list_any (eq_by_cmp key_cmp q) qs) ≡ true
+        → (list_any (eq_by_cmp key_cmp q) qs ≡ true → key_cmp k q ≡ Less) → key_cmp k q ≡ Less
     by true is h more = ap (key_cmp k) (same_key key_cmp keys_exact q p is) ∙ all.0
     by false is h more = more h
 
 -- of keys in order the first is not behind another
-pub first_not_behind : (q k : Key) (qs : List Key) → AllByRecursion (λ p. key_cmp q p ≡ Less) qs → list_any (eq_by_cmp key_cmp k) (q ∷ qs) ≡ true → IsNotBehind q k
+pub first_not_behind : (q k : Key) (qs : List Key) → AllByRecursion (λ p. key_cmp q p ≡ Less) qs
+    → list_any (eq_by_cmp key_cmp k) (q ∷ qs) ≡ true → IsNotBehind q k
 first_not_behind q k qs all there = by (eq_by_cmp key_cmp k q) refl there
   where
-    by : (b : Bool) → eq_by_cmp key_cmp k q ≡ b → (b || list_any (eq_by_cmp key_cmp k) qs) ≡ true → is_lt (key_cmp k q) ≡ false
-    by true e h = ap (λ (p : Key). is_lt (key_cmp k p)) (sym (same_key key_cmp keys_exact k q e)) ∙ ap is_lt (tied_itself keys_total k)
+    by : (b : Bool) → eq_by_cmp key_cmp k q ≡ b → (b || list_any (eq_by_cmp key_cmp k) qs) ≡ true
+        → is_lt (key_cmp k q) ≡ false
+    by true e h = ap (λ (p : Key). is_lt (key_cmp k p)) (sym (same_key key_cmp keys_exact k q e))
+        ∙ ap is_lt (tied_itself keys_total k)
     by false e h = ap is_lt (keys_total.antisymm k q ∙ ap ordering_reverse (less_than_each q qs all k h))
 
 -- ---- the least
@@ -47,7 +53,8 @@ not_behind_either f g k h i = by (key_cmp k f) refl
     at : (r : Ordering) → key_cmp f g ≡ r → key_cmp k f ≡ Less → is_lt (key_cmp k g) ≡ true
     at Less e less = ap is_lt (keys_total.trans k f g less e)
     at Equal e less = ap (λ (p : Key). is_lt (key_cmp k p)) (sym (keys_exact f g e)) ∙ ap is_lt less
-    at Greater e less = let turned : is_lt (key_cmp g f) ≡ true = ap is_lt (keys_total.antisymm g f ∙ ap ordering_reverse e) in absurd (false≢true (sym h ∙ turned))
+    at Greater e less = let turned : is_lt (key_cmp g f) ≡ true =
+        ap is_lt (keys_total.antisymm g f ∙ ap ordering_reverse e) in absurd (false≢true (sym h ∙ turned))
 
     by : (r : Ordering) → key_cmp k f ≡ r → is_lt (key_cmp k f) ≡ false
     by Less e = absurd (false≢true (sym i ∙ at (key_cmp f g) refl e))
@@ -55,8 +62,10 @@ not_behind_either f g k h i = by (key_cmp k f) refl
     by Greater e = ap is_lt e
 
 -- of two keys the lesser is not behind either
-lesser_of_two : (a b : Key) (t : Bool) → is_lt (key_cmp b a) ≡ t → (k : Key) → (IsNotBehind a k ⊎ IsNotBehind b k) → IsAtMost (cond t (Some b) (Some a)) k
-lesser_of_two a b true e k (inl h) = record { found = b; is = refl; not_behind = not_behind_either b a k (turned (key_cmp b a) refl e) h }
+lesser_of_two : (a b : Key) (t : Bool) → is_lt (key_cmp b a) ≡ t → (k : Key) → (IsNotBehind a k ⊎ IsNotBehind b k)
+    → IsAtMost (cond t (Some b) (Some a)) k
+lesser_of_two a b true e k (inl h) =
+    record { found = b; is = refl; not_behind = not_behind_either b a k (turned (key_cmp b a) refl e) h }
   where
     turned : (r : Ordering) → key_cmp b a ≡ r → is_lt r ≡ true → is_lt (key_cmp a b) ≡ false
     turned Less is l = ap is_lt (keys_total.antisymm a b ∙ ap ordering_reverse is)
@@ -86,12 +95,14 @@ module _ {A : Type 0} (gives : A → Option Key) where
   least_kept (r ∷ rs) o k m = least_kept rs (lesser o (gives r)) k (first_kept o (gives r) k m)
 
   -- where one gives a key that is not behind another, the least is there and not behind it
-  pub least_at_most : (test : A → Bool) (k : Key) → ((r : A) → test r ≡ true → IsAtMost (gives r) k) → (rs : List A) (o : Option Key)
+  pub least_at_most : (test : A → Bool) (k : Key) → ((r : A) → test r ≡ true → IsAtMost (gives r) k)
+      → (rs : List A) (o : Option Key)
       → list_any test rs ≡ true → IsAtMost (least_of gives o rs) k
   least_at_most test k given [] o any = cc
   least_at_most test k given (r ∷ rs) o any = by (test r) refl any (least_at_most test k given rs (lesser o (gives r)))
     where
-      by : (b : Bool) → test r ≡ b → (b || list_any test rs) ≡ true → (list_any test rs ≡ true → IsAtMost (least_of gives (lesser o (gives r)) rs) k)
+      by : (b : Bool) → test r ≡ b → (b || list_any test rs) ≡ true
+          → (list_any test rs ≡ true → IsAtMost (least_of gives (lesser o (gives r)) rs) k)
           → IsAtMost (least_of gives (lesser o (gives r)) rs) k
       by true is h more = least_kept rs (lesser o (gives r)) k (second_kept o (gives r) k (given r is))
       by false is h more = more h
@@ -112,7 +123,8 @@ module _ {A : Type 0} (gives : A → Option Key) where
       by false is = inl is
 
   -- the least is what was there first, or what one gives
-  pub least_is_given : (P : A → Type 0) (rs : List A) → AllByRecursion P rs → (o : Option Key) (k : Key) → least_of gives o rs ≡ Some k → (o ≡ Some k) ⊎ IsGiver P k
+  pub least_is_given : (P : A → Type 0) (rs : List A) → AllByRecursion P rs → (o : Option Key) (k : Key)
+      → least_of gives o rs ≡ Some k → (o ≡ Some k) ⊎ IsGiver P k
   least_is_given P [] all o k is = inl is
   least_is_given P (r ∷ rs) all o k is = by (least_is_given P rs all.1 (lesser o (gives r)) k is)
     where

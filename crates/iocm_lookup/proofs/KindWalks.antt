@@ -1,5 +1,6 @@
 -- A walk over the records of one kind: from its first key on, past it, and what they give.
-use Rattle.std.proofs.Common.{◌≡◌, ◌==◌, ◌<◌, ◌≤◌, ◌^◌, ℕ, suc, Bool, true, false, cond, nat_lt, None, Some, List, [], ◌∷◌, ◌++◌, filter, length, refl, sym, ap, ◌∙◌, arith}
+use Rattle.std.proofs.Common.{◌≡◌, ◌==◌, ◌<◌, ◌≤◌, ◌^◌, ℕ, suc, Bool, true, false, cond, nat_lt, None, Some, List, []}
+use Rattle.std.proofs.Common.{◌∷◌, ◌++◌, filter, length, refl, sym, ap, ◌∙◌, arith}
 use Rattle.std.proofs.lemmas.Bool.{false≢true}
 use Rattle.std.proofs.lemmas.Bool.Decides.{nat_tests}
 use Rattle.std.specs.FinMap.{entries, entries_sorted}
@@ -9,7 +10,6 @@ use Rattle.std.specs.Option.{option_map}
 use Rattle.std.specs.Ordering.{is_le}
 use Rattle.iocm_types.specs.declared.key.Key.{Key}
 use Rattle.iocm_types.specs.Key.{key_cmp}
-use Rattle.iocm_types.proofs.Tests.{second_holds}
 use Rattle.iocm_table.specs.Slots.{rows_from}
 use Rattle.iocm_model.specs.Machine.Record.{Rec, key_of}
 use Rattle.iocm_model.specs.Machine.Configuration.{Configuration, IsKeyed, records_of}
@@ -29,24 +29,30 @@ kind_is place r is = grind (arith, nat_tests)
 
 module _ (place : ℕ) (first : Key) (before : IsBeforeKind first place) where
   -- a record that stands before it is of another kind
-  not_of : (e : Key × Rec) → e.0 ≡ key_of e.1 → is_le (key_cmp first e.0) ≡ false → (b : Bool) → is_of place e.1 ≡ b → is_of place e.1 ≡ false
+  not_of : (e : Key × Rec) → e.0 ≡ key_of e.1 → is_le (key_cmp first e.0) ≡ false → (b : Bool) → is_of place e.1 ≡ b
+      → is_of place e.1 ≡ false
   not_of e own behind true so =
-      let no : is_le (key_cmp first e.0) ≡ true = ap (λ (k : Key). is_le (key_cmp first k)) own ∙ before (key_of e.1) (kind_is place e.1 so) in
+      let no : is_le (key_cmp first e.0) ≡ true =
+      ap (λ (k : Key). is_le (key_cmp first k)) own ∙ before (key_of e.1) (kind_is place e.1 so) in
       absurd (false≢true (sym behind ∙ no))
   not_of e own behind false so = so
 
-  same_from : (es : List (Key × Rec)) → AreOwn es → of_kind place (in_entries (rows_from key_cmp first es)) ≡ of_kind place (in_entries es)
+  same_from : (es : List (Key × Rec)) → AreOwn es
+      → of_kind place (in_entries (rows_from key_cmp first es)) ≡ of_kind place (in_entries es)
   same_from [] own = refl
   same_from (e ∷ es) own = by (is_le (key_cmp first e.0)) refl (same_from es own.1)
     where
-      by : (b : Bool) → is_le (key_cmp first e.0) ≡ b → of_kind place (in_entries (rows_from key_cmp first es)) ≡ of_kind place (in_entries es)
+      by : (b : Bool) → is_le (key_cmp first e.0) ≡ b
+          → of_kind place (in_entries (rows_from key_cmp first es)) ≡ of_kind place (in_entries es)
           → of_kind place (in_entries (cond b (e ∷ rows_from key_cmp first es) (rows_from key_cmp first es)))
           ≡ cond (is_of place e.1) (e.1 ∷ of_kind place (in_entries es)) (of_kind place (in_entries es))
       by true is same = ap (λ rs. cond (is_of place e.1) (e.1 ∷ rs) rs) same
-      by false is same = same ∙ ap (λ b. cond b (e.1 ∷ of_kind place (in_entries es)) (of_kind place (in_entries es))) (sym (not_of e own.0 is (is_of place e.1) refl))
+      by false is same = same ∙ ap (λ b. cond b (e.1 ∷ of_kind place (in_entries es)) (of_kind place (in_entries es)))
+          (sym (not_of e own.0 is (is_of place e.1) refl))
 
   -- nothing is missed
-  pub all_from : (c : Configuration) → IsKeyed c → of_kind place (in_entries (rows_from key_cmp first (entries c))) ≡ of_kind place (records_of c)
+  pub all_from : (c : Configuration) → IsKeyed c
+      → of_kind place (in_entries (rows_from key_cmp first (entries c))) ≡ of_kind place (records_of c)
   all_from c keyed = same_from (entries c) (own_entries c keyed)
 
 -- and what is walked over is in order
@@ -77,19 +83,23 @@ unfolding first_record
 none_kept p [] none = refl
 none_kept p (r ∷ rs) none = by (p r) none (none_kept p rs)
   where
-    by : (b : Bool) → None ≡ option_map key_of (cond b (Some r) (first_record p rs)) → (None ≡ option_map key_of (first_record p rs) → filter p rs ≡ [])
+    by : (b : Bool) → None ≡ option_map key_of (cond b (Some r) (first_record p rs))
+        → (None ≡ option_map key_of (first_record p rs) → filter p rs ≡ [])
         → cond b (r ∷ filter p rs) (filter p rs) ≡ []
     by true is more = cc
     by false is more = more is
 
 -- where the walk is past the kind, none of it is left
-pub none_is_left : (place : ℕ) (e : Key × Rec) (es : List (Key × Rec)) → AreInOrder (e ∷ es) → nat_lt place (kind_of e.0) ≡ true
+pub none_is_left : (place : ℕ) (e : Key × Rec) (es : List (Key × Rec)) → AreInOrder (e ∷ es)
+    → nat_lt place (kind_of e.0) ≡ true
     → of_kind place (in_entries (e ∷ es)) ≡ []
 none_is_left place e es up past = none_kept (is_of place) (in_entries (e ∷ es))
-    (none_past (is_of place) place (kind_is place) (in_entries (e ∷ es)) e es past (record { own = up.own; up = up.up; same = refl }))
+    (none_past (is_of place) place (kind_is place) (in_entries (e ∷ es)) e es past
+    (record { own = up.own; up = up.up; same = refl }))
 
 -- nor behind it
-pub none_behind_it : (place : ℕ) (e : Key × Rec) (es : List (Key × Rec)) → AreInOrder (e ∷ es) → nat_lt place (kind_of e.0) ≡ true
+pub none_behind_it : (place : ℕ) (e : Key × Rec) (es : List (Key × Rec)) → AreInOrder (e ∷ es)
+    → nat_lt place (kind_of e.0) ≡ true
     → of_kind place (in_entries es) ≡ []
 none_behind_it place e es up past = sym (passed place e es up not) ∙ none_is_left place e es up past
   where
@@ -107,7 +117,8 @@ at_most_all place (e ∷ es) = by (is_of place e.1) (at_most_all place es)
     by true more = omega arith
     by false more = omega arith
 
-pub kind_fits : (place : ℕ) (es : List (Key × Rec)) → length es < 2 ^ 63 → length (of_kind place (in_entries es)) < 2 ^ 63
+pub kind_fits : (place : ℕ) (es : List (Key × Rec)) → length es < 2 ^ 63
+    → length (of_kind place (in_entries es)) < 2 ^ 63
 kind_fits place es fits = let most = at_most_all place es in omega arith
 
 -- ---- what records give, of which those of other kinds give nothing

@@ -1,6 +1,7 @@
 -- Where only records at some keys can be so, the least of these keys whose record is so is the
 -- first of all.
-use Rattle.std.proofs.Common.{◌≡◌, ◌⊎◌, inl, inr, Bool, true, false, cond, Option, None, Some, List, [], ◌∷◌, refl, sym, ap, subst, ◌∙◌}
+use Rattle.std.proofs.Common.{◌≡◌, ◌⊎◌, inl, inr, Bool, true, false, cond, Option, None, Some, List, [], ◌∷◌, refl, sym}
+use Rattle.std.proofs.Common.{ap, subst, ◌∙◌}
 use Rattle.std.proofs.lemmas.Bool.{false≢true}
 use Rattle.std.specs.List.{AllByRecursion}
 use Rattle.std.specs.Option.{option_map, option_map_or}
@@ -25,18 +26,22 @@ no_condition [] = tt
 no_condition (x ∷ xs) = (tt, no_condition xs)
 
 -- what each of some gives holds of the least
-pub each_given_holds : {A : Type 0} (gives : A → Option Key) (P : Key → Type 0) → ((x : A) (k : Key) → gives x ≡ Some k → P k)
+pub each_given_holds : {A : Type 0} (gives : A → Option Key) (P : Key → Type 0)
+    → ((x : A) (k : Key) → gives x ≡ Some k → P k)
     → (xs : List A) (k : Key) → least_of gives None xs ≡ Some k → P k
-each_given_holds {A} gives P each xs k is = by (least_is_given gives (λ (x : A). Unit {0}) xs (no_condition xs) None k is)
+each_given_holds {A} gives P each xs k is =
+    by (least_is_given gives (λ (x : A). Unit {0}) xs (no_condition xs) None k is)
   where
     by : (None ≡ Some k) ⊎ IsGiver gives (λ (x : A). Unit {0}) k → P k
     by (inl h) = cc
     by (inr g) = each g.giver k g.given
 
 -- a key that one of these gives, not behind another: so is the least
-pub least_among : (gives : Key → Option Key) (q k : Key) → IsAtMost (gives q) k → (keys : List Key) → is_one_of q keys ≡ true → IsAtMost (least_of gives None keys) k
+pub least_among : (gives : Key → Option Key) (q k : Key) → IsAtMost (gives q) k → (keys : List Key)
+    → is_one_of q keys ≡ true → IsAtMost (least_of gives None keys) k
 least_among gives q k given keys there = least_at_most gives (eq_by_cmp key_cmp q) k
-    (λ other same. subst (λ (p : Key). IsAtMost (gives p) k) (same_key key_cmp keys_exact q other same) given) keys None there
+    (λ other same. subst (λ (p : Key). IsAtMost (gives p) k) (same_key key_cmp keys_exact q other same) given) keys None
+    there
 
 -- a key is not behind itself
 pub at_itself : (k : Key) → IsAtMost (Some k) k
@@ -64,7 +69,9 @@ module _ (c : Configuration) (is_so : Rec → Bool) where
 
   pub least_wanted_is_first : IsKeyed c → (keys : List Key) → IsOnlyAt keys c is_so
       → least_of (key_if is_so (lookup_of c)) None keys ≡ option_map key_of (first_record is_so (records_of c))
-  least_wanted_is_first keyed keys only = least_so_is_first is_so c keyed (least_of (key_if is_so (lookup_of c)) None keys)
+  least_wanted_is_first keyed keys only = least_so_is_first is_so c keyed
+      (least_of (key_if is_so (lookup_of c)) None keys)
       (each_given_holds (key_if is_so (lookup_of c)) (IsSoAt is_so (get c)) given_so keys)
       (λ k r here so. least_among (key_if is_so (lookup_of c)) k k
-      (subst (λ (o : Option Key). IsAtMost o k) (sym (ap (λ b. cond b (Some k) None) (at_so k r here so))) (at_itself k)) keys (only k r here so))
+      (subst (λ (o : Option Key). IsAtMost o k) (sym (ap (λ b. cond b (Some k) None) (at_so k r here so)))
+      (at_itself k)) keys (only k r here so))

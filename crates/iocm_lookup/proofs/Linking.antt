@@ -1,5 +1,6 @@
 -- The namings of all records are those that are in an index of the configuration.
-use Rattle.std.proofs.Common.{◌≡◌, Bool, true, false, ◌||◌, ◌&&◌, Option, None, Some, List, [], ◌∷◌, map, refl, sym, ap, ◌∙◌}
+use Rattle.std.proofs.Common.{◌≡◌, Bool, true, false, ◌||◌, ◌&&◌, Option, None, Some, List, [], ◌∷◌, map, refl, sym, ap}
+use Rattle.std.proofs.Common.{◌∙◌}
 use Rattle.std.proofs.lemmas.Bool.{false≢true}
 use Rattle.std.specs.List.{list_any}
 use Rattle.std.specs.Ordering.{is_eq, eq_by_cmp, ordering_then}
@@ -57,22 +58,26 @@ second_part true b h = h
 second_part false b h = cc
 
 module _ (c : Configuration) (keyed : IsKeyed c) (n : Naming) where
-  named_there : (o : Option Rec) → get c n.user ≡ o → names n.named o ≡ true → list_any (λ r. is_naming_of r n) (records_of c) ≡ true
+  named_there : (o : Option Rec) → get c n.user ≡ o → names n.named o ≡ true
+      → list_any (λ r. is_naming_of r n) (records_of c) ≡ true
   named_there None is h = absurd (false≢true h)
   named_there (Some r) is h = record_there c (λ s. is_naming_of s n) n.user r is
       (of_record_by n (key_of r) (named_by r)
-      ∙ ap (λ b. b && list_any (eq_by_cmp named_cmp n.named) (named_by r)) (ap (eq_by_cmp key_cmp n.user) (keyed_own c keyed n.user r is) ∙ ties_itself key_cmp keys_total n.user)
+      ∙ ap (λ b. b && list_any (eq_by_cmp named_cmp n.named) (named_by r))
+      (ap (eq_by_cmp key_cmp n.user) (keyed_own c keyed n.user r is) ∙ ties_itself key_cmp keys_total n.user)
       ∙ h)
 
   of_member : IsMember c (λ r. is_naming_of r n) → names n.named (get c n.user) ≡ true
   of_member m =
       let both = sym (of_record_by n (key_of m.member) (named_by m.member)) ∙ m.passes in
-      let user = same_key key_cmp keys_exact n.user (key_of m.member) (first_part (eq_by_cmp key_cmp n.user (key_of m.member)) _ both) in
+      let user = same_key key_cmp keys_exact n.user (key_of m.member)
+      (first_part (eq_by_cmp key_cmp n.user (key_of m.member)) _ both) in
       ap (names n.named) (ap (get c) user ∙ m.there) ∙ second_part (eq_by_cmp key_cmp n.user (key_of m.member)) _ both
 
   -- a naming of some record is that of its user's
   pub of_some_record : list_any (λ r. is_naming_of r n) (records_of c) ≡ names n.named (lookup_of c n.user)
-  of_some_record = same_tests _ _ (λ any. of_member (record_found c (λ r. is_naming_of r n) keyed any)) (λ h. named_there (get c n.user) refl h)
+  of_some_record = same_tests _ _ (λ any. of_member (record_found c (λ r. is_naming_of r n) keyed any))
+      (λ h. named_there (get c n.user) refl h)
 
 -- one record more
 pub more_listed : (is rest was now all : Bool) → now ≡ (was || is) → ((is || rest) || was) ≡ all → (rest || now) ≡ all

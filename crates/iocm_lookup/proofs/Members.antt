@@ -1,6 +1,7 @@
 -- Records of a configuration that pass a test, and users of a thing that do, where the index is
 -- that of the configuration.
-use Rattle.std.proofs.Common.{◌≡◌, ℕ, Bool, true, false, ◌&&◌, ◌||◌, nat_eq, List, [], ◌∷◌, map, Option, Some, None, refl, sym, ap, ◌∙◌, arith}
+use Rattle.std.proofs.Common.{◌≡◌, ℕ, Bool, true, false, ◌&&◌, ◌||◌, nat_eq, List, [], ◌∷◌, map, Option, Some, None}
+use Rattle.std.proofs.Common.{refl, sym, ap, ◌∙◌, arith}
 use Rattle.std.proofs.lemmas.Bool.{false≢true}
 use Rattle.std.proofs.lemmas.Bool.Decides.{nat_tests}
 use Rattle.std.specs.List.{list_any}
@@ -42,14 +43,17 @@ pub record IsMember (c : Configuration) (test : Rec → Bool) : Type 0 where
   pub there : get c (key_of member) ≡ Some member
   pub passes : test member ≡ true
 
-of_entries : (test : Rec → Bool) (es : List (Key × Rec)) → list_any test (map (λ (e : Key × Rec). e.1) es) ≡ list_any (λ (e : Key × Rec). test e.1) es
+of_entries : (test : Rec → Bool) (es : List (Key × Rec))
+    → list_any test (map (λ (e : Key × Rec). e.1) es) ≡ list_any (λ (e : Key × Rec). test e.1) es
 of_entries test [] = refl
 of_entries test (e ∷ es) = ap (λ b. test e.1 || b) (of_entries test es)
 
 -- where some record passes a test, there is one
-pub record_found : (c : Configuration) (test : Rec → Bool) → IsKeyed c → list_any test (records_of c) ≡ true → IsMember c test
+pub record_found : (c : Configuration) (test : Rec → Bool) → IsKeyed c → list_any test (records_of c) ≡ true
+    → IsMember c test
 record_found c test keyed any =
-    let found = passing key_cmp keys_total keys_exact (λ (e : Key × Rec). test e.1) (entries c) (entries_sorted c) (sym (of_entries test (entries c)) ∙ any) in
+    let found = passing key_cmp keys_total keys_exact (λ (e : Key × Rec). test e.1) (entries c) (entries_sorted c)
+    (sym (of_entries test (entries c)) ∙ any) in
     let here : get c found.key ≡ Some found.value = get-entries c found.key ∙ found.found in
     record {
       member = found.value;
@@ -58,9 +62,11 @@ record_found c test keyed any =
     }
 
 -- where a record that is there passes a test, some record does
-pub record_there : (c : Configuration) (test : Rec → Bool) (k : Key) (r : Rec) → get c k ≡ Some r → test r ≡ true → list_any test (records_of c) ≡ true
+pub record_there : (c : Configuration) (test : Rec → Bool) (k : Key) (r : Rec) → get c k ≡ Some r → test r ≡ true
+    → list_any test (records_of c) ≡ true
 record_there c test k r here passes = not_false _ (λ none. false≢true
-    (sym (found_fails key_cmp keys_total keys_exact (λ (e : Key × Rec). test e.1) (entries c) k r (sym (of_entries test (entries c)) ∙ none) (sym (get-entries c k) ∙ here))
+    (sym (found_fails key_cmp keys_total keys_exact (λ (e : Key × Rec). test e.1) (entries c) k r
+    (sym (of_entries test (entries c)) ∙ none) (sym (get-entries c k) ∙ here))
     ∙ passes))
 
 -- ---- keys in a list
@@ -79,17 +85,24 @@ pub key_found : (test : Key → Bool) (ks : List Key) → list_any test ks ≡ t
 key_found test [] any = cc
 key_found test (k ∷ ks) any = by (test k) refl any (key_found test ks)
   where
-    by : (b : Bool) → test k ≡ b → (b || list_any test ks) ≡ true → (list_any test ks ≡ true → IsKeyAmong test ks) → IsKeyAmong test (k ∷ ks)
-    by true is any more = record { key = k; among = ap (λ b. b || list_any (eq_by_cmp key_cmp k) ks) (ties_itself key_cmp keys_total k); passes = is }
+    by : (b : Bool) → test k ≡ b → (b || list_any test ks) ≡ true → (list_any test ks ≡ true → IsKeyAmong test ks)
+        → IsKeyAmong test (k ∷ ks)
+    by true is any more = record {
+      key = k;
+      among = ap (λ b. b || list_any (eq_by_cmp key_cmp k) ks) (ties_itself key_cmp keys_total k);
+      passes = is;
+    }
     by false is any more = let later = more any in record {
       key = later.key;
       among = or_later (eq_by_cmp key_cmp later.key k) _ later.among;
       passes = later.passes;
     }
 
-pub key_there : (test : Key → Bool) (ks : List Key) (k : Key) → list_any (eq_by_cmp key_cmp k) ks ≡ true → test k ≡ true → list_any test ks ≡ true
+pub key_there : (test : Key → Bool) (ks : List Key) (k : Key) → list_any (eq_by_cmp key_cmp k) ks ≡ true → test k ≡ true
+    → list_any test ks ≡ true
 key_there test [] k among passes = cc
-key_there test (q ∷ ks) k among passes = by (eq_by_cmp key_cmp k q) refl among (λ later. key_there test ks k later passes)
+key_there test (q ∷ ks) k among passes =
+    by (eq_by_cmp key_cmp k q) refl among (λ later. key_there test ks k later passes)
   where
     by : (b : Bool) → eq_by_cmp key_cmp k q ≡ b → (b || list_any (eq_by_cmp key_cmp k) ks) ≡ true
         → (list_any (eq_by_cmp key_cmp k) ks ≡ true → list_any test ks ≡ true) → (test q || list_any test ks) ≡ true
@@ -99,11 +112,13 @@ key_there test (q ∷ ks) k among passes = by (eq_by_cmp key_cmp k q) refl among
 -- ---- users of a thing
 
 -- paths with the same numbers are one
-pub own_path : (a b c d : ℕ) → (nat_eq c a && nat_eq d b) ≡ true → eq_by_cmp named_cmp (Record (Path a b)) (Record (Path c d)) ≡ true
+pub own_path : (a b c d : ℕ) → (nat_eq c a && nat_eq d b) ≡ true
+    → eq_by_cmp named_cmp (Record (Path a b)) (Record (Path c d)) ≡ true
 own_path a b c d e =
     let css : c ≡ a = grind (arith, nat_tests) in
     let number : d ≡ b = grind (arith, nat_tests) in
-    (λ i. eq_by_cmp named_cmp (Record (Path a b)) (Record (Path (css i) (number i)))) ∙ ties_itself named_cmp named_total (Record (Path a b))
+    (λ i. eq_by_cmp named_cmp (Record (Path a b)) (Record (Path (css i) (number i))))
+    ∙ ties_itself named_cmp named_total (Record (Path a b))
 
 -- the users of a thing, as an index answers them
 abbrev pub AreUsersOf : Stored Naming (Unit {0}) → Named → List Key → Type 0
@@ -116,7 +131,8 @@ pub record IsUser (c : Configuration) (thing : Named) (test : Key → Bool) : Ty
   pub named : names thing (Some user) ≡ true
   pub passes : test (key_of user) ≡ true
 
-user_by : (c : Configuration) (thing : Named) (test : Key → Bool) (k : Key) (o : Option Rec) → IsKeyed c → get c k ≡ o → names thing o ≡ true → test k ≡ true → IsUser c thing test
+user_by : (c : Configuration) (thing : Named) (test : Key → Bool) (k : Key) (o : Option Rec) → IsKeyed c → get c k ≡ o
+    → names thing o ≡ true → test k ≡ true → IsUser c thing test
 user_by c thing test k None keyed is named passes = cc
 user_by c thing test k (Some r) keyed is named passes =
     let own : key_of r ≡ k = keyed_own c keyed k r is in
@@ -124,14 +140,17 @@ user_by c thing test k (Some r) keyed is named passes =
 
 -- where the key of some user passes a test, there is a record that names the thing and whose key
 -- does
-pub user_found : (c : Configuration) (t : Stored Naming (Unit {0})) (thing : Named) (ks : List Key) (test : Key → Bool) → IsKeyed c → IsIndexOf c t → AreUsersOf t thing ks
+pub user_found : (c : Configuration) (t : Stored Naming (Unit {0})) (thing : Named) (ks : List Key) (test : Key → Bool)
+    → IsKeyed c → IsIndexOf c t → AreUsersOf t thing ks
     → list_any test ks ≡ true → IsUser c thing test
 user_found c t thing ks test keyed of users any =
     let found = key_found test ks any in
-    user_by c thing test found.key (get c found.key) keyed refl (sym (of (naming found.key thing)) ∙ sym (users found.key) ∙ found.among) found.passes
+    user_by c thing test found.key (get c found.key) keyed refl
+    (sym (of (naming found.key thing)) ∙ sym (users found.key) ∙ found.among) found.passes
 
 -- where a record names the thing and its key passes a test, the key of some user does
-pub user_there : (c : Configuration) (t : Stored Naming (Unit {0})) (thing : Named) (ks : List Key) (test : Key → Bool) → IsIndexOf c t → AreUsersOf t thing ks
+pub user_there : (c : Configuration) (t : Stored Naming (Unit {0})) (thing : Named) (ks : List Key) (test : Key → Bool)
+    → IsIndexOf c t → AreUsersOf t thing ks
     → (k : Key) (r : Rec) → get c k ≡ Some r → names thing (Some r) ≡ true → test k ≡ true → list_any test ks ≡ true
 user_there c t thing ks test of users k r here named passes =
     key_there test ks k (users k ∙ of (naming k thing) ∙ ap (names thing) here ∙ named) passes

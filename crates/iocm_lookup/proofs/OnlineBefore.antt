@@ -1,5 +1,6 @@
 -- The online records of a path before one of them.
-use Rattle.std.proofs.Common.{◌≡◌, ℕ, Bool, true, false, not, nat_eq, ◌&&◌, is_some, Option, List, refl, sym, ap, ◌∙◌, arith}
+use Rattle.std.proofs.Common.{◌≡◌, ℕ, Bool, true, false, not, nat_eq, ◌&&◌, is_some, Option, List, refl, sym, ap, ◌∙◌}
+use Rattle.std.proofs.Common.{arith}
 use Rattle.std.proofs.lemmas.Bool.{false≢true}
 use Rattle.std.proofs.lemmas.Bool.Decides.{nat_tests}
 use Rattle.std.specs.Option.{option_map}
@@ -10,7 +11,8 @@ use Rattle.iocm_types.specs.declared.key.Key.{Key}
 use Rattle.iocm_types.specs.declared.key.Key.TheVariants as key
 use Rattle.iocm_types.specs.Key.{key_cmp}
 use Rattle.iocm_types.specs.KeyOrder.{keys_total}
-use Rattle.iocm_model.specs.Machine.Record.{Rec, OnlineRecord, id, resource, image, limit, path, unit, device, online, key_of}
+use Rattle.iocm_model.specs.Machine.Record.{Rec, OnlineRecord, id, resource, image, limit, path, unit, device, online}
+use Rattle.iocm_model.specs.Machine.Record.{key_of}
 use Rattle.iocm_model.specs.Machine.Configuration.{Configuration, records_of}
 use Rattle.iocm_model.specs.Rules.EachRule.{stands_before, some_before, is_online_at}
 use Rattle.iocm_model.specs.Rules.FirstBreach.{first_record}
@@ -54,8 +56,10 @@ module _ (css number : ℕ) (name : List ℕ) where
   behind_rises : (a b : Key) → key_cmp a b ≡ Less → is_behind a ≡ true → is_behind b ≡ true
   behind_rises a b less past = by (key_cmp b (key.Online css number name)) refl
     where
-      by : (r : Ordering) → key_cmp b (key.Online css number name) ≡ r → not (is_lt (key_cmp b (key.Online css number name))) ≡ true
-      by Less is = absurd (false≢true (sym (ap (λ r. not (is_lt r)) (keys_total.trans a b (key.Online css number name) less is)) ∙ past))
+      by : (r : Ordering) → key_cmp b (key.Online css number name) ≡ r
+          → not (is_lt (key_cmp b (key.Online css number name))) ≡ true
+      by Less is = absurd (false≢true
+          (sym (ap (λ r. not (is_lt r)) (keys_total.trans a b (key.Online css number name) less is)) ∙ past))
       by Equal is = ap (λ r. not (is_lt r)) is
       by Greater is = ap (λ r. not (is_lt r)) is
 
@@ -67,8 +71,10 @@ module _ (css number : ℕ) (name : List ℕ) where
   }
 
   -- one before it that is of the path
-  pub is_one : (k : Key) (r : Rec) → k ≡ key_of r → is_lt (key_cmp k (key.Online css number name)) ≡ true → is_online_at css number r ≡ true → is_so r ≡ true
-  is_one k r same less on = let there = ap (λ (q : Key). is_lt (key_cmp q (key.Online css number name))) (sym same) ∙ less in (λ i. there i && on i)
+  pub is_one : (k : Key) (r : Rec) → k ≡ key_of r → is_lt (key_cmp k (key.Online css number name)) ≡ true
+      → is_online_at css number r ≡ true → is_so r ≡ true
+  is_one k r same less on = let there =
+      ap (λ (q : Key). is_lt (key_cmp q (key.Online css number name))) (sym same) ∙ less in (λ i. there i && on i)
 
   pub is_none : (r : Rec) → is_online_at css number r ≡ false → is_so r ≡ false
   is_none r off = by (stands_before r (online own))
@@ -78,6 +84,7 @@ module _ (css number : ℕ) (name : List ℕ) where
       by false = refl
 
   -- what the walk tells
-  pub told_of_online : (c : Configuration) (found : Option Key) → found ≡ option_map key_of (first_record is_so (records_of c))
+  pub told_of_online : (c : Configuration) (found : Option Key)
+      → found ≡ option_map key_of (first_record is_so (records_of c))
       → is_some found ≡ some_before c (online own) (is_online_at css number)
   told_of_online c found is = ap is_some is ∙ first_of_any is_so (records_of c)

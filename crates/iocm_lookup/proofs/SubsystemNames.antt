@@ -1,5 +1,6 @@
 -- The names of the images of a channel subsystem, gathered by a walk over the records.
-use Rattle.std.proofs.Common.{◌≡◌, ℕ, Bool, true, false, ◌||◌, is_some, Option, List, [], ◌∷◌, T, refl, sym, ap, subst, ◌∙◌}
+use Rattle.std.proofs.Common.{◌≡◌, ℕ, Bool, true, false, ◌||◌, is_some, Option, List, [], ◌∷◌, T, refl, sym, ap, subst}
+use Rattle.std.proofs.Common.{◌∙◌}
 use Rattle.std.specs.FinMap.{entries, is_sorted}
 use Rattle.std.specs.List.{list_any}
 use Rattle.std.specs.Option.{option_map}
@@ -17,23 +18,30 @@ use Rattle.iocm_lookup.specs.Entries.{AreOwn, in_entries}
 use Rattle.iocm_lookup.proofs.Walks.{IsLeft, left_from, none_from, first_of_any}
 
 -- the names so far, and those of the entries that are left, are those of all records
-pub record IsGathering (css : ℕ) (records : List Rec) (names : List (Option (List ℕ))) (es : List (Key × Rec)) : Type 0 where
+pub record IsGathering (css : ℕ) (records : List Rec) (names : List (Option (List ℕ))) (es : List (Key × Rec)) : Type
+    0 where
   pub own : AreOwn es
   pub up : T (is_sorted key_cmp es)
-  pub sum : (name : List ℕ) → (has_name name names || list_any (is_named_in css name) (in_entries es)) ≡ list_any (is_named_in css name) records
+  pub sum : (name : List ℕ)
+      → (has_name name names || list_any (is_named_in css name) (in_entries es))
+      ≡ list_any (is_named_in css name) records
 
 module _ (css : ℕ) where
   any_left : (name : List ℕ) (records : List Rec) (es : List (Key × Rec)) → IsLeft (is_named_in css name) records es
       → list_any (is_named_in css name) (in_entries es) ≡ list_any (is_named_in css name) records
   any_left name records es left = let so = is_named_in css name in
-      sym (first_of_any so (in_entries es)) ∙ ap (λ r. is_some (option_map key_of r)) left.same ∙ first_of_any so records
+      sym (first_of_any so (in_entries es)) ∙ ap (λ r. is_some (option_map key_of r)) left.same
+      ∙ first_of_any so records
 
   -- from the first key on
-  pub gathering_begins : (c : Configuration) (first : Key) → IsKeyed c → ((mif : ℕ) → is_le (key_cmp first (key.Image css mif)) ≡ true)
-      → (names : List (Option (List ℕ))) (rows : List (Key × Rec)) → names ≡ [] → rows ≡ rows_from key_cmp first (entries c)
+  pub gathering_begins : (c : Configuration) (first : Key) → IsKeyed c
+      → ((mif : ℕ) → is_le (key_cmp first (key.Image css mif)) ≡ true)
+      → (names : List (Option (List ℕ))) (rows : List (Key × Rec)) → names ≡ []
+      → rows ≡ rows_from key_cmp first (entries c)
       → IsGathering css (records_of c) names rows
   gathering_begins c first keyed before names rows none walked =
-      subst (λ ns. IsGathering css (records_of c) ns rows) (sym none) (subst (IsGathering css (records_of c) []) (sym walked) (record {
+      subst (λ ns. IsGathering css (records_of c) ns rows) (sym none)
+      (subst (IsGathering css (records_of c) []) (sym walked) (record {
         own = (left []).own;
         up = (left []).up;
         sum = λ name. any_left name (records_of c) _ (left name);
@@ -47,7 +55,8 @@ module _ (css : ℕ) where
   shift false y z = refl
 
   -- one record more
-  pub gathering_more : (records : List Rec) (names next : List (Option (List ℕ))) (e : Key × Rec) (es : List (Key × Rec))
+  pub gathering_more : (records : List Rec) (names next : List (Option (List ℕ))) (e : Key × Rec)
+      (es : List (Key × Rec))
       → ((name : List ℕ) → has_name name next ≡ (has_name name names || is_named_in css name e.1))
       → IsGathering css records names (e ∷ es) → IsGathering css records next es
   gathering_more records names next e es with_it before = record {
@@ -62,7 +71,8 @@ module _ (css : ℕ) where
   last false c d is sum = sym is ∙ sum
 
   -- after the last record
-  pub gathering_ends : (c : Configuration) (names : List (Option (List ℕ))) → IsGathering css (records_of c) names [] → AreNamesIn c css names
+  pub gathering_ends : (c : Configuration) (names : List (Option (List ℕ))) → IsGathering css (records_of c) names []
+      → AreNamesIn c css names
   gathering_ends c names before name =
       last _ _ false refl (before.sum name) ∙ image_in_subsystem css name (records_of c)
 

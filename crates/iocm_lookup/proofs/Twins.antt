@@ -1,10 +1,12 @@
 -- Numbers that rise are apart, also in another order.
-use Rattle.std.proofs.Common.{◌≡◌, ℕ, ◌+◌, ◌<◌, ◌≤◌, Bool, true, false, not, ◌&&◌, ◌||◌, nat_eq, nat_lt, nat_le, List, [], ◌∷◌, length, get_or, drop, T, refl, sym, ap, subst, ◌∙◌, arith}
+use Rattle.std.proofs.Common.{◌≡◌, ℕ, ◌+◌, ◌<◌, ◌≤◌, Bool, true, false, not, ◌&&◌, ◌||◌, nat_eq, nat_lt, nat_le, List}
+use Rattle.std.proofs.Common.{[], ◌∷◌, length, get_or, drop, T, refl, sym, ap, subst, ◌∙◌, arith}
 use Rattle.std.proofs.Math.ListN.{drop_of_length-le}
 use Rattle.std.proofs.lemmas.Bool.{false≢true}
 use Rattle.std.proofs.lemmas.Bool.Decides.{nat_tests}
 use Rattle.std.proofs.lemmas.List.Sorted.{IsPermutation-sym, IsNonDecreasingBy-from_sort}
-use Rattle.std.proofs.lemmas.Map.Keys.{IsDistinct-IsPermutation, IsStrictlyIncreasing-from_distinct, sorted_from_strictly_increasing}
+use Rattle.std.proofs.lemmas.Map.Keys.{IsDistinct-IsPermutation, IsStrictlyIncreasing-from_distinct}
+use Rattle.std.proofs.lemmas.Map.Keys.{sorted_from_strictly_increasing}
 use Rattle.std.specs.List.{list_any, AllByRecursion, IsDistinct}
 use Rattle.std.specs.List.Sorted.{IsPermutation, IsSorted, IsStrictlySortedBy}
 use Rattle.std.specs.Ordering.{nat_cmp, is_lt}
@@ -21,7 +23,8 @@ pub rises_on : (n x : ℕ) (xs : List ℕ) (i : ℕ) → i < length xs → x ≡
 rises_on n x xs i within item above = ap (do_rise_above n) (drop-item xs i x within item)
     ∙ (let up : nat_lt n x ≡ true = grind (arith, nat_tests) in ap (λ b. b && do_rise_above x (drop (i + 1) xs)) up)
 
-pub rises_no_more : (n x : ℕ) (xs : List ℕ) (i : ℕ) → i < length xs → x ≡ get_or xs i x → nat_le x n ≡ true → do_rise_above n (drop i xs) ≡ false
+pub rises_no_more : (n x : ℕ) (xs : List ℕ) (i : ℕ) → i < length xs → x ≡ get_or xs i x → nat_le x n ≡ true
+    → do_rise_above n (drop i xs) ≡ false
 rises_no_more n x xs i within item below = ap (do_rise_above n) (drop-item xs i x within item)
     ∙ (let up : nat_lt n x ≡ false = grind (arith, nat_tests) in ap (λ b. b && do_rise_above x (drop (i + 1) xs)) up)
 
@@ -36,7 +39,8 @@ above_all : (m n : ℕ) (xs : List ℕ) → m ≤ n → do_rise_above n xs ≡ t
 above_all m n [] le up = refl
 above_all m n (x ∷ xs) le up = by (nat_lt n x) refl up (above_all m x xs)
   where
-    by : (b : Bool) → nat_lt n x ≡ b → (b && do_rise_above x xs) ≡ true → (m ≤ x → do_rise_above x xs ≡ true → list_any (nat_eq m) xs ≡ false)
+    by : (b : Bool) → nat_lt n x ≡ b → (b && do_rise_above x xs) ≡ true
+        → (m ≤ x → do_rise_above x xs ≡ true → list_any (nat_eq m) xs ≡ false)
         → (nat_eq m x || list_any (nat_eq m) xs) ≡ false
     by true is up more =
         let apart : nat_eq m x ≡ false = grind (arith, nat_tests) in
@@ -63,7 +67,8 @@ all_apart x [] none = tt
 all_apart x (y ∷ ys) none = by (nat_eq x y) refl none (all_apart x ys)
   where
     by : (b : Bool) → nat_eq x y ≡ b → (b || list_any (nat_eq x) ys) ≡ false
-        → (list_any (nat_eq x) ys ≡ false → AllByRecursion (λ z. nat_eq x z ≡ false) ys) → AllByRecursion (λ z. nat_eq x z ≡ false) (y ∷ ys)
+        → (list_any (nat_eq x) ys ≡ false → AllByRecursion (λ z. nat_eq x z ≡ false) ys)
+        → AllByRecursion (λ z. nat_eq x z ≡ false) (y ∷ ys)
     by true is h more = cc
     by false is h more = (is, more h)
 
@@ -76,7 +81,8 @@ unfolding IsDistinct
 distinct_from [] none = tt
 distinct_from (x ∷ xs) none = by (list_any (nat_eq x) xs) refl none (distinct_from xs)
   where
-    by : (b : Bool) → list_any (nat_eq x) xs ≡ b → (b || has_twice xs) ≡ false → (has_twice xs ≡ false → IsDistinct nat_eq xs)
+    by : (b : Bool) → list_any (nat_eq x) xs ≡ b → (b || has_twice xs) ≡ false
+        → (has_twice xs ≡ false → IsDistinct nat_eq xs)
         → AllByRecursion (λ y. nat_eq x y ≡ false) xs × IsDistinct nat_eq xs
     by true is h more = cc
     by false is h more = (all_apart x xs is, more h)
@@ -86,7 +92,8 @@ unfolding IsDistinct
 apart_from [] distinct = refl
 apart_from (x ∷ xs) distinct = (λ i. none_equal x xs distinct.0 i || apart_from xs distinct.1 i)
 
-rise_above_from : (x : ℕ) (xs : List ℕ) → AllByRecursion (λ y. nat_cmp x y ≡ Less) xs → IsStrictlySortedBy nat_cmp xs → do_rise_above x xs ≡ true
+rise_above_from : (x : ℕ) (xs : List ℕ) → AllByRecursion (λ y. nat_cmp x y ≡ Less) xs → IsStrictlySortedBy nat_cmp xs
+    → do_rise_above x xs ≡ true
 unfolding IsStrictlySortedBy
 rise_above_from x [] all sorted = refl
 rise_above_from x (y ∷ ys) all sorted =
@@ -107,10 +114,13 @@ pub sorted_apart : (xs ys : List ℕ) → IsPermutation xs ys → IsSorted nat_c
 sorted_apart xs ys permutation sorted = by (do_rise ys) refl (has_twice xs) refl
   where
     back : do_rise ys ≡ true → has_twice xs ≡ false
-    back up = apart_from xs (IsDistinct-IsPermutation nat_eq flips ys xs (IsPermutation-sym xs ys permutation) (distinct_from ys (rising_apart ys up)))
+    back up = apart_from xs (IsDistinct-IsPermutation nat_eq flips ys xs (IsPermutation-sym xs ys permutation)
+        (distinct_from ys (rising_apart ys up)))
 
     there : has_twice xs ≡ false → do_rise ys ≡ true
-    there none = rise_from ys (sorted_from_strictly_increasing ys (IsStrictlyIncreasing-from_distinct ys (IsNonDecreasingBy-from_sort (λ x. x) ys sorted)
+    there none = rise_from ys
+        (sorted_from_strictly_increasing ys
+        (IsStrictlyIncreasing-from_distinct ys (IsNonDecreasingBy-from_sort (λ x. x) ys sorted)
         (IsDistinct-IsPermutation nat_eq flips xs ys permutation (distinct_from xs none))))
 
     by : (a : Bool) → do_rise ys ≡ a → (b : Bool) → has_twice xs ≡ b → not a ≡ b

@@ -1,5 +1,6 @@
 -- A walk over the records of one kind finds the first of all records that is so.
-use Rattle.std.proofs.Common.{◌≡◌, ℕ, ◌≤◌, Bool, true, false, cond, nat_lt, ◌||◌, is_some, None, Some, List, [], ◌∷◌, T, refl, sym, ap, subst, ◌∙◌, arith}
+use Rattle.std.proofs.Common.{◌≡◌, ℕ, ◌≤◌, Bool, true, false, cond, nat_lt, ◌||◌, is_some, None, Some, List, [], ◌∷◌, T}
+use Rattle.std.proofs.Common.{refl, sym, ap, subst, ◌∙◌, arith}
 use Rattle.std.proofs.lemmas.Bool.{false≢true}
 use Rattle.std.proofs.lemmas.Bool.Decides.{nat_tests}
 use Rattle.std.proofs.lemmas.Map.Keys.{ge_from_not_lt}
@@ -49,18 +50,22 @@ pub own_from : (first : Key) (es : List (Key × Rec)) → AreOwn es → AreOwn (
 own_from first [] own = tt
 own_from first (e ∷ es) own = by (is_le (key_cmp first e.0)) (own_from first es own.1)
   where
-    by : (b : Bool) → AreOwn (rows_from key_cmp first es) → AreOwn (cond b (e ∷ rows_from key_cmp first es) (rows_from key_cmp first es))
+    by : (b : Bool) → AreOwn (rows_from key_cmp first es)
+        → AreOwn (cond b (e ∷ rows_from key_cmp first es) (rows_from key_cmp first es))
     by true rest = (own.0, rest)
     by false rest = rest
 
-module _ (is_so : Rec → Bool) (first : Key) (from : (r : Rec) → is_so r ≡ true → is_le (key_cmp first (key_of r)) ≡ true) where
+module _ (is_so : Rec → Bool) (first : Key)
+    (from : (r : Rec) → is_so r ≡ true → is_le (key_cmp first (key_of r)) ≡ true) where
   -- a record that stands before the first key is not so
-  not_so : (e : Key × Rec) → e.0 ≡ key_of e.1 → is_le (key_cmp first e.0) ≡ false → (b : Bool) → is_so e.1 ≡ b → is_so e.1 ≡ false
+  not_so : (e : Key × Rec) → e.0 ≡ key_of e.1 → is_le (key_cmp first e.0) ≡ false → (b : Bool) → is_so e.1 ≡ b
+      → is_so e.1 ≡ false
   not_so e own behind true so =
       let no : is_le (key_cmp first e.0) ≡ true = ap (λ (k : Key). is_le (key_cmp first k)) own ∙ from e.1 so in cc
   not_so e own behind false so = so
 
-  same_from : (es : List (Key × Rec)) → AreOwn es → first_record is_so (in_entries (rows_from key_cmp first es)) ≡ first_record is_so (in_entries es)
+  same_from : (es : List (Key × Rec)) → AreOwn es
+      → first_record is_so (in_entries (rows_from key_cmp first es)) ≡ first_record is_so (in_entries es)
   unfolding first_record
   same_from [] own = refl
   same_from (e ∷ es) own = by (is_le (key_cmp first e.0)) refl (same_from es own.1)
@@ -70,7 +75,8 @@ module _ (is_so : Rec → Bool) (first : Key) (from : (r : Rec) → is_so r ≡ 
           → first_record is_so (in_entries (cond b (e ∷ rows_from key_cmp first es) (rows_from key_cmp first es)))
           ≡ cond (is_so e.1) (Some e.1) (first_record is_so (in_entries es))
       by true is same = ap (cond (is_so e.1) (Some e.1)) same
-      by false is same = same ∙ ap (λ b. cond b (Some e.1) (first_record is_so (in_entries es))) (sym (not_so e own.0 is (is_so e.1) refl))
+      by false is same = same ∙ ap (λ b. cond b (Some e.1) (first_record is_so (in_entries es)))
+          (sym (not_so e own.0 is (is_so e.1) refl))
 
   -- from a key on that none that is so stands before nothing is missed
   pub left_from : (c : Configuration) → IsKeyed c → IsLeft is_so (records_of c) (rows_from key_cmp first (entries c))
@@ -99,10 +105,12 @@ module _ (is_so : Rec → Bool) (records : List Rec) (e : Key × Rec) (es : List
   }
 
   -- one that is so is the first
-  pub found_here : is_so e.1 ≡ true → IsLeft is_so records (e ∷ es) → Some e.0 ≡ option_map key_of (first_record is_so records)
+  pub found_here : is_so e.1 ≡ true → IsLeft is_so records (e ∷ es)
+      → Some e.0 ≡ option_map key_of (first_record is_so records)
   unfolding first_record
   found_here so left =
-      ap Some left.own.0 ∙ ap (λ b. option_map key_of (cond b (Some e.1) (first_record is_so (in_entries es)))) (sym so) ∙ ap (option_map key_of) left.same
+      ap Some left.own.0 ∙ ap (λ b. option_map key_of (cond b (Some e.1) (first_record is_so (in_entries es)))) (sym so)
+      ∙ ap (option_map key_of) left.same
 
 -- ---- past the kind
 
@@ -134,7 +142,8 @@ not_behind a b Greater s is less = cc
 
 -- a key that stands behind another is not of a kind before it
 pub kinds_rise : (a b : Key) → key_cmp a b ≡ Less → kind_of a ≤ kind_of b
-kinds_rise a b less = not_behind (kind_of a) (kind_of b) (nat_cmp (kind_of a) (kind_of b)) (slice_cmp nat_cmp (rest_of a) (rest_of b)) refl
+kinds_rise a b less = not_behind (kind_of a) (kind_of b) (nat_cmp (kind_of a) (kind_of b))
+    (slice_cmp nat_cmp (rest_of a) (rest_of b)) refl
     (sym (λ i. slice_cmp nat_cmp (begins_with_kind a i) (begins_with_kind b i)) ∙ less)
 
 -- keys behind all records that are so; what is behind such a key is one
@@ -148,7 +157,8 @@ module _ (is_so : Rec → Bool) (past : Key → Bool) (behind : AreBehind is_so 
   not_past e own is true so = absurd (false≢true (sym (ap past own ∙ behind.none e.1 so) ∙ is))
   not_past e own is false so = so
 
-  none_behind : (k : Key) (es : List (Key × Rec)) → past k ≡ true → AreOwn es → T (below_all key_cmp k es) → first_record is_so (in_entries es) ≡ None
+  none_behind : (k : Key) (es : List (Key × Rec)) → past k ≡ true → AreOwn es → T (below_all key_cmp k es)
+      → first_record is_so (in_entries es) ≡ None
   unfolding first_record
   none_behind k [] is own below = refl
   none_behind k (e ∷ es) is own below =
@@ -157,7 +167,8 @@ module _ (is_so : Rec → Bool) (past : Key → Bool) (behind : AreBehind is_so 
       ∙ none_behind k es is own.1 (second_holds _ _ below)
 
   -- where the walk is behind them, no record is so
-  pub none_from : (records : List Rec) (e : Key × Rec) (es : List (Key × Rec)) → past e.0 ≡ true → IsLeft is_so records (e ∷ es)
+  pub none_from : (records : List Rec) (e : Key × Rec) (es : List (Key × Rec)) → past e.0 ≡ true
+      → IsLeft is_so records (e ∷ es)
       → None ≡ option_map key_of (first_record is_so records)
   unfolding first_record
   none_from records e es is left =
@@ -172,17 +183,21 @@ later_kind is_so place of_kind = record {
 }
 
 -- where the walk is past the kind, no record is so
-pub none_past : (is_so : Rec → Bool) (place : ℕ) → AreOfKind is_so place → (records : List Rec) (e : Key × Rec) (es : List (Key × Rec))
-    → nat_lt place (kind_of e.0) ≡ true → IsLeft is_so records (e ∷ es) → None ≡ option_map key_of (first_record is_so records)
+pub none_past : (is_so : Rec → Bool) (place : ℕ) → AreOfKind is_so place
+    → (records : List Rec) (e : Key × Rec) (es : List (Key × Rec))
+    → nat_lt place (kind_of e.0) ≡ true → IsLeft is_so records (e ∷ es)
+    → None ≡ option_map key_of (first_record is_so records)
 none_past is_so place of_kind = none_from is_so (λ k. nat_lt place (kind_of k)) (later_kind is_so place of_kind)
 
 -- where nothing is left, no record is so
-pub none_left : (is_so : Rec → Bool) (records : List Rec) → IsLeft is_so records [] → None ≡ option_map key_of (first_record is_so records)
+pub none_left : (is_so : Rec → Bool) (records : List Rec) → IsLeft is_so records []
+    → None ≡ option_map key_of (first_record is_so records)
 unfolding first_record
 none_left is_so records left = ap (option_map key_of) left.same
 
 -- the first is there where any is
-pub first_of_any : (is_so : Rec → Bool) (rs : List Rec) → is_some (option_map key_of (first_record is_so rs)) ≡ list_any is_so rs
+pub first_of_any : (is_so : Rec → Bool) (rs : List Rec)
+    → is_some (option_map key_of (first_record is_so rs)) ≡ list_any is_so rs
 unfolding first_record
 first_of_any is_so [] = refl
 first_of_any is_so (r ∷ rs) = by (is_so r) (first_of_any is_so rs)
@@ -193,11 +208,13 @@ first_of_any is_so (r ∷ rs) = by (is_so r) (first_of_any is_so rs)
     by false more = more
 
 -- where none is so, there is no first
-pub none_so : (is_so : Rec → Bool) → ((r : Rec) → is_so r ≡ true → ⊥) → (rs : List Rec) → None ≡ option_map key_of (first_record is_so rs)
+pub none_so : (is_so : Rec → Bool) → ((r : Rec) → is_so r ≡ true → ⊥) → (rs : List Rec)
+    → None ≡ option_map key_of (first_record is_so rs)
 unfolding first_record
 none_so is_so never [] = refl
 none_so is_so never (r ∷ rs) = by (is_so r) refl (none_so is_so never rs)
   where
-    by : (b : Bool) → is_so r ≡ b → None ≡ option_map key_of (first_record is_so rs) → None ≡ option_map key_of (cond b (Some r) (first_record is_so rs))
+    by : (b : Bool) → is_so r ≡ b → None ≡ option_map key_of (first_record is_so rs)
+        → None ≡ option_map key_of (cond b (Some r) (first_record is_so rs))
     by true is more = absurd (never r is)
     by false is more = more

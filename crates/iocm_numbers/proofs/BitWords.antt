@@ -1,5 +1,7 @@
 -- One word of bits in place of another, and the first word that isn't full.
-use Rattle.std.proofs.Common.{◌≡◌, ◌≢◌, ℕ, ◌+◌, ◌*◌, ◌/◌, ◌%◌, ◌<◌, ◌^◌, Bool, true, false, nat_eq, nat_lt, eqb-true, eq-eqb, ◌-◌, ◌≤◌, w64, List, length, refl, sym, ap, ◌∙◌, subst, arith, slice_index_or, slice_set}
+use Rattle.std.proofs.Common.{◌≡◌, ◌≢◌, ℕ, ◌+◌, ◌*◌, ◌/◌, ◌%◌, ◌<◌, ◌^◌, Bool, true, false, nat_eq, nat_lt, eqb-true}
+use Rattle.std.proofs.Common.{eq-eqb, ◌-◌, ◌≤◌, w64, List, length, refl, sym, ap, ◌∙◌, subst, arith, slice_index_or}
+use Rattle.std.proofs.Common.{slice_set}
 use Rattle.std.specs.Int.{bit_at, trailing_ones}
 use Rattle.std.proofs.lemmas.Nat.Bits.{bit_at_ones, bit_at-trailing_ones}
 use Rattle.std.proofs.lemmas.Bool.{ltb-true, ltb-false}
@@ -39,7 +41,8 @@ module _ (words : List ℕ) (bit word : ℕ) (within : bit / 64 < length words) 
   bit_elsewhere kept other = other_by other (nat_eq (other / 64) (bit / 64)) refl kept
 
 -- a bit of the words from one on, by the word that it is in
-in_word : (words : List ℕ) (first place k : ℕ) → k < 64 → is_bit_set words (64 * first + (place * 64 + k)) ≡ nat_eq (bit_at (slice_index_or words (first + place) 0) k) 1
+in_word : (words : List ℕ) (first place k : ℕ) → k < 64
+    → is_bit_set words (64 * first + (place * 64 + k)) ≡ nat_eq (bit_at (slice_index_or words (first + place) 0) k) 1
 in_word words first place k small =
     let word : (64 * first + (place * 64 + k)) / 64 ≡ first + place = omega (arith, small) in
     let rest : (64 * first + (place * 64 + k)) % 64 ≡ k = omega (arith, small) in
@@ -51,7 +54,8 @@ module _ (words : List ℕ) (first place : ℕ) (before : AreAllSet words (64 * 
   word = slice_index_or words (first + place) 0
 
   -- all bits below one of this word are set, if those of the word are
-  set_below : (many : ℕ) → ((i : ℕ) → i < many → i < 64 → bit_at word i ≡ 1) → many < 65 → AreAllSet words (64 * first) (place * 64 + many)
+  set_below : (many : ℕ) → ((i : ℕ) → i < many → i < 64 → bit_at word i ≡ 1) → many < 65
+      → AreAllSet words (64 * first) (place * 64 + many)
   set_below many ones most k below = by (nat_lt k (64 * place)) refl
     where
       by : (b : Bool) → nat_lt k (64 * place) ≡ b → is_bit_set words (64 * first + k) ≡ true
@@ -66,10 +70,12 @@ module _ (words : List ℕ) (first place : ℕ) (before : AreAllSet words (64 * 
   -- a full word more
   pub one_more_full : word ≡ 2 ^ 64 - 1 → AreAllSet words (64 * first) (64 * (place + 1))
   one_more_full full k below =
-      set_below 64 (λ i _ small. ap (λ w. bit_at w i) full ∙ bit_at_ones 64 i small) (omega arith) k (omega (arith, below))
+      set_below 64 (λ i _ small. ap (λ w. bit_at w i) full ∙ bit_at_ones 64 i small) (omega arith) k
+      (omega (arith, below))
 
   -- the lowest bit of a word that isn't full
-  pub first_clear : (ones : ℕ) → word < 2 ^ 64 → (word ≡ 2 ^ 64 - 1 → ⊥) → ones ≡ trailing_ones w64 word → IsLowestClear words (64 * first) (place * 64 + ones)
+  pub first_clear : (ones : ℕ) → word < 2 ^ 64 → (word ≡ 2 ^ 64 - 1 → ⊥) → ones ≡ trailing_ones w64 word
+      → IsLowestClear words (64 * first) (place * 64 + ones)
   first_clear ones fits not_full is =
       let most : word + 1 < 2 ^ 64 = omega (arith, fits, not_full) in
       let lowest = bit_at-trailing_ones w64 word most in

@@ -22,7 +22,8 @@ zero_first_then zero s le = le
 zero_first_then (suc n) s le = ap (λ r. is_le (ordering_then r s)) (sym (nat_cmp_is 0 (suc n) Less (omega arith)))
 
 -- before the first cell of a channel subsystem are those of the channel subsystems before it
-first_of : (css : ℕ) (c : NumberCell) → is_le (cell_cmp (record { css = css; set = 0; number = 0 }) c) ≡ nat_le css c.css
+first_of : (css : ℕ) (c : NumberCell)
+    → is_le (cell_cmp (record { css = css; set = 0; number = 0 }) c) ≡ nat_le css c.css
 first_of css c = by (nat_cmp css c.css) (ranks css c.css)
   where
     rest : Ordering
@@ -31,10 +32,12 @@ first_of css c = by (nat_cmp css c.css) (ranks css c.css)
     within : is_le rest ≡ true
     within = zero_first_then c.set (nat_cmp 0 c.number) (zero_first c.number)
 
-    by : (o : Ordering) → MatchOrdering o (css < c.css) (css ≡ c.css) (c.css < css) → is_le (ordering_then o rest) ≡ nat_le css c.css
+    by : (o : Ordering) → MatchOrdering o (css < c.css) (css ≡ c.css) (c.css < css)
+        → is_le (ordering_then o rest) ≡ nat_le css c.css
     by Less less = grind (arith, nat_tests)
     by Equal same = rw within (grind (arith, nat_tests))
     by Greater more = grind (arith, nat_tests)
 
-pub rows_are_cells : (css : ℕ) (es : List (NumberCell × ℕ)) → rows_from cell_cmp (record { css = css; set = 0; number = 0 }) es ≡ cells_from css es
+pub rows_are_cells : (css : ℕ) (es : List (NumberCell × ℕ))
+    → rows_from cell_cmp (record { css = css; set = 0; number = 0 }) es ≡ cells_from css es
 rows_are_cells css es = filter_agree _ _ (λ (e : NumberCell × ℕ). first_of css e.0) es

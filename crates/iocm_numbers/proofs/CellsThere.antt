@@ -1,5 +1,6 @@
 -- The number cells at some places: which are there, and how they are listed one by one.
-use Rattle.std.proofs.Common.{◌≡◌, ℕ, Bool, true, false, ◌||◌, List, [], ◌∷◌, ◌++◌, drop, Option, Some, None, refl, sym, ap, ◌∙◌}
+use Rattle.std.proofs.Common.{◌≡◌, ℕ, Bool, true, false, ◌||◌, List, [], ◌∷◌, ◌++◌, drop, Option, Some, None, refl, sym}
+use Rattle.std.proofs.Common.{ap, ◌∙◌}
 use Rattle.std.proofs.lemmas.Bool.{or_right}
 use Rattle.std.specs.List.{cons_option, list_any}
 use Rattle.std.specs.Option.{option_map}
@@ -25,7 +26,8 @@ abbrev cells_with : Place → Option ℕ → List NumberCell → List NumberCell
 cells_with p o cs = cons_option (option_map (cell_at p) o) cs
 
 -- a cell that is there is there behind that of another place
-there_behind : (c : NumberCell) (p : Place) (o : Option ℕ) (cs : List NumberCell) → is_one_of c cs ≡ true → is_one_of c (cells_with p o cs) ≡ true
+there_behind : (c : NumberCell) (p : Place) (o : Option ℕ) (cs : List NumberCell) → is_one_of c cs ≡ true
+    → is_one_of c (cells_with p o cs) ≡ true
 there_behind c p None cs is = is
 there_behind c p (Some k) cs is = or_right (eq_by_cmp cell_cmp c (cell_at p k)) _ is
 
@@ -33,17 +35,21 @@ there_behind c p (Some k) cs is = or_right (eq_by_cmp cell_cmp c (cell_at p k)) 
 there_first : (p : Place) (k : ℕ) (cs : List NumberCell) → is_one_of (cell_at p k) (cells_with p (Some k) cs) ≡ true
 there_first p k cs = ap (λ b. b || is_one_of (cell_at p k) cs) (ties_itself cell_cmp cells_total (cell_at p k))
 
-there_by : (n : Numbering) (q p : Place) (k : ℕ) (ps : List Place) (b : Bool) → eq_by_cmp place_cmp p q ≡ b → (b || list_any (eq_by_cmp place_cmp p) ps) ≡ true → get n p ≡ Some k
-    → (list_any (eq_by_cmp place_cmp p) ps ≡ true → is_one_of (cell_at p k) (cells_at n ps) ≡ true) → is_one_of (cell_at p k) (cells_with q (get n q) (cells_at n ps)) ≡ true
+there_by : (n : Numbering) (q p : Place) (k : ℕ) (ps : List Place) (b : Bool) → eq_by_cmp place_cmp p q ≡ b
+    → (b || list_any (eq_by_cmp place_cmp p) ps) ≡ true → get n p ≡ Some k
+    → (list_any (eq_by_cmp place_cmp p) ps ≡ true → is_one_of (cell_at p k) (cells_at n ps) ≡ true)
+    → is_one_of (cell_at p k) (cells_with q (get n q) (cells_at n ps)) ≡ true
 there_by n q p k ps true same among has more =
-    ap (λ x. is_one_of (cell_at p k) (cells_with x (get n x) (cells_at n ps))) (sym (same_key place_cmp places_exact p q same))
+    ap (λ x. is_one_of (cell_at p k) (cells_with x (get n x) (cells_at n ps)))
+    (sym (same_key place_cmp places_exact p q same))
     ∙ ap (λ o. is_one_of (cell_at p k) (cells_with p o (cells_at n ps))) has ∙ there_first p k (cells_at n ps)
 there_by n q p k ps false same among has more = there_behind (cell_at p k) q (get n q) (cells_at n ps) (more among)
 
 -- the cell of each place that has a number is there
 pub cells_are_listed : CellsAreListed
 cells_are_listed n [] p k among has = cc
-cells_are_listed n (q ∷ ps) p k among has = there_by n q p k ps (eq_by_cmp place_cmp p q) refl among has (λ more. cells_are_listed n ps p k more has)
+cells_are_listed n (q ∷ ps) p k among has =
+    there_by n q p k ps (eq_by_cmp place_cmp p q) refl among has (λ more. cells_are_listed n ps p k more has)
 
 -- ---- one by one
 

@@ -1,5 +1,6 @@
 -- What the one of two numberings has alone, exchanged for what the other has alone.
-use Rattle.std.proofs.Common.{◌≡◌, ℕ, Bool, true, false, cond, not, List, [], ◌∷◌, map, drop, Option, Some, None, is_some, T, refl, sym, ap, ◌∙◌}
+use Rattle.std.proofs.Common.{◌≡◌, ℕ, Bool, true, false, cond, not, List, [], ◌∷◌, map, drop, Option, Some, None}
+use Rattle.std.proofs.Common.{is_some, T, refl, sym, ap, ◌∙◌}
 use Rattle.std.specs.List.{fold}
 use Rattle.std.specs.Option.{option_or}
 use Rattle.std.specs.Ordering.{eq_by_cmp}
@@ -16,7 +17,8 @@ use Rattle.iocm_model.specs.Change.Inverse.{freed_numbers}
 use Rattle.iocm_model.proofs.Numbers.Back as back
 use Rattle.iocm_model.proofs.Numbers.Cells.{IsApart, place, has_number}
 use Rattle.iocm_model.proofs.Numbers.Changed.{numbers_after_are_exact, stayers_keep_theirs}
-use Rattle.iocm_numbers.specs.Exchange.{without_rows, Agree, ExchangeLeads, RowsFitIn, RowsHaveRoom, ChangesAgree, AgreeBothWays}
+use Rattle.iocm_numbers.specs.Exchange.{without_rows, Agree, ExchangeLeads, RowsFitIn, RowsHaveRoom, ChangesAgree}
+use Rattle.iocm_numbers.specs.Exchange.{AgreeBothWays}
 use Rattle.iocm_numbers.specs.Numbered.{Numbered, cell_at, HasRoom, HasSameRoom}
 use Rattle.iocm_numbers.specs.PutBack.{put_in, FitIn, HaveRoom}
 use Rattle.iocm_numbers.proofs.Restored.{get_freed}
@@ -24,19 +26,29 @@ use Rattle.iocm_numbers.proofs.Restored.{get_freed}
 -- ---- what a place has
 
 -- what a place has once the numbers of these rows are taken back
-pub get_without_rows : (n : Numbering) (rows : List (Place × ℕ)) (q : Place) → get (without_rows n rows) q ≡ cond (is_some (find place_cmp q rows)) None (get n q)
-get_without_rows n rows q = get_freed n (map (λ (row : Place × ℕ). row.0) rows) q ∙ ap (λ b. cond b None (get n q)) (sym (is_some-find place_cmp q rows))
+pub get_without_rows : (n : Numbering) (rows : List (Place × ℕ)) (q : Place)
+    → get (without_rows n rows) q ≡ cond (is_some (find place_cmp q rows)) None (get n q)
+get_without_rows n rows q =
+    get_freed n (map (λ (row : Place × ℕ). row.0) rows) q
+    ∙ ap (λ b. cond b None (get n q)) (sym (is_some-find place_cmp q rows))
 
-given_by : (n : Numbering) (e : Place × ℕ) (es : List (Place × ℕ)) (q : Place) (b : Bool) → eq_by_cmp place_cmp q e.0 ≡ b → T (is_sorted place_cmp (e ∷ es))
-    → option_or (find place_cmp q es) (cond b (Some e.1) (get n q)) ≡ option_or (cond b (Some e.1) (find place_cmp q es)) (get n q)
+given_by : (n : Numbering) (e : Place × ℕ) (es : List (Place × ℕ)) (q : Place) (b : Bool)
+    → eq_by_cmp place_cmp q e.0 ≡ b → T (is_sorted place_cmp (e ∷ es))
+    → option_or (find place_cmp q es) (cond b (Some e.1) (get n q))
+    ≡ option_or (cond b (Some e.1) (find place_cmp q es)) (get n q)
 given_by n e es q true is up =
-    ap (λ o. option_or o (Some e.1)) (ap (λ k. find place_cmp k es) (same_key place_cmp places_exact q e.0 is) ∙ not_found place_cmp e.0 es (first_holds _ _ up))
+    ap (λ o. option_or o (Some e.1))
+    (ap (λ k. find place_cmp k es) (same_key place_cmp places_exact q e.0 is)
+    ∙ not_found place_cmp e.0 es (first_holds _ _ up))
 given_by n e es q false is up = refl
 
 -- what a place has once these rows, in order, are put in
-pub get_put_in : (n : Numbering) (rows : List (Place × ℕ)) → T (is_sorted place_cmp rows) → (q : Place) → get (fold put_in n rows) q ≡ option_or (find place_cmp q rows) (get n q)
+pub get_put_in : (n : Numbering) (rows : List (Place × ℕ)) → T (is_sorted place_cmp rows) → (q : Place)
+    → get (fold put_in n rows) q ≡ option_or (find place_cmp q rows) (get n q)
 get_put_in n [] up q = refl
-get_put_in n (e ∷ es) up q = get_put_in (insert n e.0 e.1) es (second_holds _ _ up) q ∙ ap (option_or (find place_cmp q es)) (get-insert places_total n e.0 e.1 q)
+get_put_in n (e ∷ es) up q =
+    get_put_in (insert n e.0 e.1) es (second_holds _ _ up) q
+    ∙ ap (option_or (find place_cmp q es)) (get-insert places_total n e.0 e.1 q)
     ∙ given_by n e es q (eq_by_cmp place_cmp q e.0) refl up
 
 -- ---- from one to the other
@@ -64,24 +76,28 @@ module _ (n m : Numbering) (agree : Agree n m) where
   leads_at : (q : Place) → get (fold put_in (without_rows n out) new) q ≡ get m q
   leads_at q = get_put_in (without_rows n out) new in_order q
       ∙ (λ i. option_or (back.get_freed m n q i) (get_without_rows n out q i))
-      ∙ ap (λ o. option_or (cond (not (contains_key n q)) (get m q) None) (cond (is_some o) None (get n q))) (back.get_freed n m q)
+      ∙ ap (λ o. option_or (cond (not (contains_key n q)) (get m q) None) (cond (is_some o) None (get n q)))
+      (back.get_freed n m q)
       ∙ leads_by (get n q) (get m q) (agree q)
 
   leads : fold put_in (without_rows n out) new ≡ m
   leads = same_map places_total places_exact _ _ leads_at
 
   -- what is left is of the other too, by what a place has in each
-  left_by_both : (a b : Option ℕ) (k : ℕ) → ((j k : ℕ) → a ≡ Some j → b ≡ Some k → j ≡ k) → cond (is_some (cond (not (is_some b)) a None)) None a ≡ Some k → b ≡ Some k
+  left_by_both : (a b : Option ℕ) (k : ℕ) → ((j k : ℕ) → a ≡ Some j → b ≡ Some k → j ≡ k)
+      → cond (is_some (cond (not (is_some b)) a None)) None a ≡ Some k → b ≡ Some k
   left_by_both None None k same is = cc
   left_by_both None (Some y) k same is = cc
   left_by_both (Some x) None k same is = cc
   left_by_both (Some x) (Some y) k same is = ap Some (sym (same x y refl refl)) ∙ is
 
-  left_at : (q : Place) → get (without_rows n out) q ≡ cond (is_some (cond (not (contains_key m q)) (get n q) None)) None (get n q)
+  left_at : (q : Place) → get (without_rows n out) q
+      ≡ cond (is_some (cond (not (contains_key m q)) (get n q) None)) None (get n q)
   left_at q = get_without_rows n out q ∙ ap (λ o. cond (is_some o) None (get n q)) (back.get_freed n m q)
 
   -- what is given is of the other, and its place has no number
-  new_by : (a b : Option ℕ) (k : ℕ) → cond (not (is_some a)) b None ≡ Some k → (b ≡ Some k) × (cond (is_some (cond (not (is_some b)) a None)) None a ≡ None)
+  new_by : (a b : Option ℕ) (k : ℕ) → cond (not (is_some a)) b None ≡ Some k
+      → (b ≡ Some k) × (cond (is_some (cond (not (is_some b)) a None)) None a ≡ None)
   new_by None None k is = (is, refl)
   new_by None (Some y) k is = (is, refl)
   new_by (Some x) b k is = cc
@@ -96,7 +112,8 @@ record AreOf (m now : Numbering) (rows : List (Place × ℕ)) : Type 0 where
 
 module _ (m : Numbering) (apart : IsApart m) where
   -- no device has the number of a row
-  no_device : (now : Numbering) (p : Place) (number : ℕ) → ((q : Place) (k : ℕ) → get now q ≡ Some k → get m q ≡ Some k) → get m p ≡ Some number → get now p ≡ None
+  no_device : (now : Numbering) (p : Place) (number : ℕ) → ((q : Place) (k : ℕ) → get now q ≡ Some k → get m q ≡ Some k)
+      → get m p ≡ Some number → get now p ≡ None
       → (o : Option ℕ) → device_at now (cell_at p number) ≡ o → o ≡ None
   no_device now p number here has none None is = refl
   no_device now p number here has none (Some d) is =
@@ -106,29 +123,38 @@ module _ (m : Numbering) (apart : IsApart m) where
       let no : None ≡ Some number = sym none ∙ ap (get now) (sym same) ∙ now_has in
       cc
 
-  put_by : (now : Numbering) (e : Place × ℕ) (q : Place) (k : ℕ) (b : Bool) → eq_by_cmp place_cmp q e.0 ≡ b → get m e.0 ≡ Some e.1
+  put_by : (now : Numbering) (e : Place × ℕ) (q : Place) (k : ℕ) (b : Bool) → eq_by_cmp place_cmp q e.0 ≡ b
+      → get m e.0 ≡ Some e.1
       → (get now q ≡ Some k → get m q ≡ Some k) → cond b (Some e.1) (get now q) ≡ Some k → get m q ≡ Some k
   put_by now e q k true t has here is = ap (get m) (same_key place_cmp places_exact q e.0 t) ∙ has ∙ is
   put_by now e q k false t has here is = here is
 
-  behind_by : (now : Numbering) (e : Place × ℕ) (es : List (Place × ℕ)) (q : Place) (k : ℕ) (b : Bool) → eq_by_cmp place_cmp q e.0 ≡ b
-      → find place_cmp e.0 es ≡ None → find place_cmp q es ≡ Some k → get now q ≡ None → cond b (Some e.1) (get now q) ≡ None
+  behind_by : (now : Numbering) (e : Place × ℕ) (es : List (Place × ℕ)) (q : Place) (k : ℕ) (b : Bool)
+      → eq_by_cmp place_cmp q e.0 ≡ b
+      → find place_cmp e.0 es ≡ None → find place_cmp q es ≡ Some k → get now q ≡ None
+      → cond b (Some e.1) (get now q) ≡ None
   behind_by now e es q k true t gone is none =
-      let no : None ≡ Some k = sym gone ∙ ap (λ x. find place_cmp x es) (sym (same_key place_cmp places_exact q e.0 t)) ∙ is in cc
+      let no : None ≡ Some k =
+      sym gone ∙ ap (λ x. find place_cmp x es) (sym (same_key place_cmp places_exact q e.0 t)) ∙ is in cc
   behind_by now e es q k false t gone is none = none
 
   -- with the first of the rows put in, the rest are so too
-  rest_of : (now : Numbering) (e : Place × ℕ) (es : List (Place × ℕ)) → T (is_sorted place_cmp (e ∷ es)) → AreOf m now (e ∷ es) → AreOf m (insert now e.0 e.1) es
+  rest_of : (now : Numbering) (e : Place × ℕ) (es : List (Place × ℕ)) → T (is_sorted place_cmp (e ∷ es))
+      → AreOf m now (e ∷ es) → AreOf m (insert now e.0 e.1) es
   rest_of now e es up h =
       let has = h.rows_too e.0 e.1 (found_first place_cmp places_total places_exact e es) in
       let gone = not_found place_cmp e.0 es (first_holds _ _ up) in record {
-        here = λ q k is. put_by now e q k (eq_by_cmp place_cmp q e.0) refl has (h.here q k) (sym (get-insert places_total now e.0 e.1 q) ∙ is);
-        rows_too = λ q k is. h.rows_too q k (found_later place_cmp places_total places_exact q e es k (first_holds _ _ up) is);
-        none = λ q k is. get-insert places_total now e.0 e.1 q ∙ behind_by now e es q k (eq_by_cmp place_cmp q e.0) refl gone is
+        here = λ q k is. put_by now e q k (eq_by_cmp place_cmp q e.0) refl has (h.here q k)
+            (sym (get-insert places_total now e.0 e.1 q) ∙ is);
+        rows_too = λ q k is. h.rows_too q k
+            (found_later place_cmp places_total places_exact q e es k (first_holds _ _ up) is);
+        none = λ q k is. get-insert places_total now e.0 e.1 q
+            ∙ behind_by now e es q k (eq_by_cmp place_cmp q e.0) refl gone is
             (h.none q k (found_later place_cmp places_total places_exact q e es k (first_holds _ _ up) is));
       }
 
-  fit_in : (now : Numbering) (rows : List (Place × ℕ)) → T (is_sorted place_cmp rows) → AreOf m now rows → FitIn now rows
+  fit_in : (now : Numbering) (rows : List (Place × ℕ)) → T (is_sorted place_cmp rows) → AreOf m now rows
+      → FitIn now rows
   fit_in now [] up h = tt
   fit_in now (e ∷ es) up h =
       let first = found_first place_cmp places_total places_exact e es in
@@ -146,11 +172,13 @@ have_room : (now : Numbered) (rows : List (Place × ℕ)) → T (is_sorted place
 have_room now [] up each = tt
 have_room now (e ∷ es) up each = (
   each e.0 e.1 (found_first place_cmp places_total places_exact e es),
-  have_room now es (second_holds _ _ up) (λ p k is. each p k (found_later place_cmp places_total places_exact p e es k (first_holds _ _ up) is)),
+  have_room now es (second_holds _ _ up)
+      (λ p k is. each p k (found_later place_cmp places_total places_exact p e es k (first_holds _ _ up) is)),
 )
 
 pub rows_have_room : RowsHaveRoom
-rows_have_room now n m each = have_room now (freed_numbers m n) (is_sorted-where_key place_cmp (λ p. not (contains_key n p)) (entries m) (entries_sorted m))
+rows_have_room now n m each = have_room now (freed_numbers m n)
+    (is_sorted-where_key place_cmp (λ p. not (contains_key n p)) (entries m) (entries_sorted m))
     (λ p k is. each p k (had (contains_key n p) (get m p) k (sym (back.get_freed m n p) ∙ is)))
   where
     had : (b : Bool) (o : Option ℕ) (k : ℕ) → cond (not b) o None ≡ Some k → o ≡ Some k
@@ -163,11 +191,12 @@ pub exchange_leads : ExchangeLeads
 exchange_leads = leads
 
 pub rows_fit_in : RowsFitIn
-rows_fit_in n m agree apart = fit_in m apart (without_rows n (freed_numbers n m)) (freed_numbers m n) (in_order n m agree) (record {
-  here = λ q k is. left_by_both n m agree (get n q) (get m q) k (agree q) (sym (left_at n m agree q) ∙ is);
-  rows_too = λ q k is. (new_by n m agree (get n q) (get m q) k (sym (back.get_freed m n q) ∙ is)).0;
-  none = λ q k is. left_at n m agree q ∙ (new_by n m agree (get n q) (get m q) k (sym (back.get_freed m n q) ∙ is)).1;
-})
+rows_fit_in n m agree apart =
+    fit_in m apart (without_rows n (freed_numbers n m)) (freed_numbers m n) (in_order n m agree) (record {
+      here = λ q k is. left_by_both n m agree (get n q) (get m q) k (agree q) (sym (left_at n m agree q) ∙ is);
+      rows_too = λ q k is. (new_by n m agree (get n q) (get m q) k (sym (back.get_freed m n q) ∙ is)).0;
+      none = λ q k is. left_at n m agree q ∙ (new_by n m agree (get n q) (get m q) k (sym (back.get_freed m n q) ∙ is)).1;
+    })
 
 pub changes_agree : ChangesAgree
 changes_agree c carried n p j k was is =

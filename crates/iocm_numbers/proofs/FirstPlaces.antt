@@ -1,6 +1,7 @@
 -- The rows of numbers at opening are those of the devices that are reached; no two of them have one
 -- place, and no two devices of a set one number.
-use Rattle.std.proofs.Common.{◌≡◌, ℕ, suc, zero, ◌+◌, ◌<◌, ◌≤◌, Bool, true, false, cond, ◌&&◌, ◌||◌, nat_eq, List, [], ◌∷◌, ◌++◌, map, Some, slice_index_or, refl, sym, ap, subst, ◌∙◌, arith, eq-eqb}
+use Rattle.std.proofs.Common.{◌≡◌, ℕ, suc, zero, ◌+◌, ◌<◌, ◌≤◌, Bool, true, false, cond, ◌&&◌, ◌||◌, nat_eq, List, []}
+use Rattle.std.proofs.Common.{◌∷◌, ◌++◌, map, Some, slice_index_or, refl, sym, ap, subst, ◌∙◌, arith, eq-eqb}
 use Rattle.std.proofs.lemmas.Bool.{or_right}
 use Rattle.std.specs.List.{filter, flat_map, list_any, IsDistinct, AllByRecursion}
 use Rattle.std.specs.Map.{keys_of}
@@ -13,7 +14,8 @@ use Rattle.iocm_types.proofs.Found.{ties_itself}
 use Rattle.iocm_types.proofs.Parts.{untied}
 use Rattle.iocm_model.specs.Machine.Record.{DeviceRecord}
 use Rattle.iocm_model.specs.Machine.Configuration.{Configuration, Lookup, lookup_of, IsKeyed, devices_of}
-use Rattle.iocm_model.specs.Machine.Numbering.{subsystems, sets, is_reached, reached_devices, reached_places, numbers_from}
+use Rattle.iocm_model.specs.Machine.Numbering.{subsystems, sets, is_reached, reached_devices, reached_places}
+use Rattle.iocm_model.specs.Machine.Numbering.{numbers_from}
 use Rattle.iocm_model.proofs.Numbers.First.{opening_apart}
 use Rattle.iocm_model.proofs.Numbers.InOrder.{Rises, InOrder, is_one_of, reached_rise, reached_in_order}
 use Rattle.iocm_model.proofs.Numbers.Opening.{places_at_opening}
@@ -39,16 +41,22 @@ module _ (c : Lookup) (css set : ℕ) where
 
   numbered_by : (b : Bool) (d : DeviceRecord) (ds : List DeviceReach) (es : List DeviceRecord)
       → map (λ (e : DeviceReach). e.number) ds ≡ map (λ (e : DeviceRecord). e.number) es
-      → map (λ (e : DeviceReach). e.number) (cond b (reach_of c d ∷ ds) ds) ≡ map (λ (e : DeviceRecord). e.number) (cond b (d ∷ es) es)
+      → map (λ (e : DeviceReach). e.number) (cond b (reach_of c d ∷ ds) ds)
+      ≡ map (λ (e : DeviceRecord). e.number) (cond b (d ∷ es) es)
   numbered_by true d ds es is = ap (λ ns. d.number ∷ ns) is
   numbered_by false d ds es is = is
 
   -- the devices that are numbered are those of the set that are reached
-  pub numbered_is : css < 6 → (ds : List DeviceRecord) → numbered css set (map (reach_of c) ds) ≡ map (λ (d : DeviceRecord). d.number) (filter wanted ds)
+  pub numbered_is : css < 6 → (ds : List DeviceRecord)
+      → numbered css set (map (reach_of c) ds) ≡ map (λ (d : DeviceRecord). d.number) (filter wanted ds)
   numbered_is low [] = refl
   numbered_is low (d ∷ ds) =
-      ap (λ b. map (λ (e : DeviceReach). e.number) (cond (nat_eq d.set set && b) (reach_of c d ∷ filter (λ (e : DeviceReach). nat_eq e.set set && slice_index_or e.reached css false) (map (reach_of c) ds))
-      (filter (λ (e : DeviceReach). nat_eq e.set set && slice_index_or e.reached css false) (map (reach_of c) ds)))) (said_of (λ k. is_reached c k d) css low)
+      ap (λ b. map (λ (e : DeviceReach). e.number)
+      (cond (nat_eq d.set set && b)
+      (reach_of c d ∷ filter (λ (e : DeviceReach). nat_eq e.set set && slice_index_or e.reached css false)
+      (map (reach_of c) ds))
+      (filter (λ (e : DeviceReach). nat_eq e.set set && slice_index_or e.reached css false) (map (reach_of c) ds))))
+      (said_of (λ k. is_reached c k d) css low)
       ∙ numbered_by (wanted d) d _ (filter wanted ds) (numbered_is low ds)
 
 -- device numbers that rise, each of them no lower than one number, rise from that on
@@ -76,7 +84,8 @@ module _ (c : Configuration) where
 
   -- they are those of its devices that are numbered
   rows_in_is : (css : ℕ) → css < 6 → rows_of css gathered ≡ rows_in css
-  rows_in_is css low = λ i. flat_map (λ set. numbers_from css set 0 (numbered_is (lookup_of c) css set low (devices_of c) i)) sets
+  rows_in_is css low = λ i.
+      flat_map (λ set. numbers_from css set 0 (numbered_is (lookup_of c) css set low (devices_of c) i)) sets
 
   -- so are those of all channel subsystems
   pub all_rows : flat_map (λ css. rows_of css gathered) subsystems ≡ rows_at_opening c
@@ -107,9 +116,12 @@ distinct_in_order (p ∷ ps) order = (
 
 -- no two rows at opening have one place
 pub places_distinct : (c : Configuration) → IsKeyed c → IsDistinct (eq_by_cmp place_cmp) (keys_of (rows_at_opening c))
-places_distinct c keyed = subst (IsDistinct (eq_by_cmp place_cmp)) (sym (places_at_opening c)) (distinct_in_order (reached_places c) (reached_in_order c keyed))
+places_distinct c keyed =
+    subst (IsDistinct (eq_by_cmp place_cmp)) (sym (places_at_opening c))
+    (distinct_in_order (reached_places c) (reached_in_order c keyed))
 
 -- no number comes twice in one channel subsystem and set
 pub numbers_apart : (c : Configuration) (p q : Place) (number : ℕ) → p.css ≡ q.css → p.set ≡ q.set
-    → get (from_entries {R = place_cmp} (rows_at_opening c)) p ≡ Some number → get (from_entries {R = place_cmp} (rows_at_opening c)) q ≡ Some number → p ≡ q
+    → get (from_entries {R = place_cmp} (rows_at_opening c)) p ≡ Some number
+    → get (from_entries {R = place_cmp} (rows_at_opening c)) q ≡ Some number → p ≡ q
 numbers_apart = opening_apart

@@ -1,5 +1,6 @@
 -- The rows of numbers, one device, set and channel subsystem after the other.
-use Rattle.std.proofs.Common.{◌≡◌, ℕ, ◌+◌, ◌<◌, ◌≤◌, true, false, cond, List, [], ◌∷◌, ◌++◌, map, length, get_or, drop, sym, ap, subst, ◌∙◌, arith, append_assoc}
+use Rattle.std.proofs.Common.{◌≡◌, ℕ, ◌+◌, ◌<◌, ◌≤◌, true, false, cond, List, [], ◌∷◌, ◌++◌, map, length, get_or, drop}
+use Rattle.std.proofs.Common.{sym, ap, subst, ◌∙◌, arith, append_assoc}
 use Rattle.std.proofs.lemmas.List.{append-nil}
 use Rattle.std.proofs.Math.ListN.{drop_of_length-le}
 use Rattle.std.specs.List.{flat_map, filter}
@@ -12,18 +13,23 @@ use Rattle.iocm_numbers.specs.Opening.{is_numbered, numbered, RiseFrom}
 -- ---- one device
 
 -- a device that isn't numbered leaves the rest
-pub numbered_past : (css set : ℕ) (ds : List DeviceReach) (i : ℕ) (d : DeviceReach) → i < length ds → d ≡ get_or ds i d → is_numbered css set d ≡ false
+pub numbered_past : (css set : ℕ) (ds : List DeviceReach) (i : ℕ) (d : DeviceReach) → i < length ds → d ≡ get_or ds i d
+    → is_numbered css set d ≡ false
     → numbered css set (drop i ds) ≡ numbered css set (drop (i + 1) ds)
 numbered_past css set ds i d within item other =
     ap (numbered css set) (drop-item ds i d within item)
-    ∙ ap (λ b. map (λ (e : DeviceReach). e.number) (cond b (d ∷ filter (is_numbered css set) (drop (i + 1) ds)) (filter (is_numbered css set) (drop (i + 1) ds)))) other
+    ∙ ap (λ b. map (λ (e : DeviceReach). e.number)
+    (cond b (d ∷ filter (is_numbered css set) (drop (i + 1) ds)) (filter (is_numbered css set) (drop (i + 1) ds))))
+    other
 
 -- a device that is numbered is the first of the rest
-pub numbered_here : (css set : ℕ) (ds : List DeviceReach) (i : ℕ) (d : DeviceReach) → i < length ds → d ≡ get_or ds i d → is_numbered css set d ≡ true
+pub numbered_here : (css set : ℕ) (ds : List DeviceReach) (i : ℕ) (d : DeviceReach) → i < length ds → d ≡ get_or ds i d
+    → is_numbered css set d ≡ true
     → numbered css set (drop i ds) ≡ d.number ∷ numbered css set (drop (i + 1) ds)
 numbered_here css set ds i d within item is =
     ap (numbered css set) (drop-item ds i d within item)
-    ∙ ap (λ b. map (λ (e : DeviceReach). e.number) (cond b (d ∷ filter (is_numbered css set) (drop (i + 1) ds)) (filter (is_numbered css set) (drop (i + 1) ds)))) is
+    ∙ ap (λ b. map (λ (e : DeviceReach). e.number)
+    (cond b (d ∷ filter (is_numbered css set) (drop (i + 1) ds)) (filter (is_numbered css set) (drop (i + 1) ds)))) is
 
 -- device numbers that rise from one on rise from each lower one on
 pub rise_lower : (m n : ℕ) (ds : List ℕ) → m ≤ n → RiseFrom n ds → RiseFrom m ds
@@ -60,14 +66,18 @@ pub record IsSoFar (css set : ℕ) (left : List ℕ) (all rows : List (Place × 
   pub rise : RiseFrom next left
   pub rest : rows ++ numbers_from css set next left ≡ all
 
-module _ (css set n : ℕ) (ds : List DeviceReach) (i : ℕ) (d : DeviceReach) (within : i < length ds) (item : d ≡ get_or ds i d) where
-  module _ (all old now : List (Place × ℕ)) (next : ℕ) (so_far : IsSoFar css set (numbered css set (drop i ds)) all old n) where
+module _ (css set n : ℕ) (ds : List DeviceReach) (i : ℕ) (d : DeviceReach) (within : i < length ds)
+    (item : d ≡ get_or ds i d) where
+  module _ (all old now : List (Place × ℕ)) (next : ℕ)
+      (so_far : IsSoFar css set (numbered css set (drop i ds)) all old n) where
     -- a device that isn't numbered changes nothing
-    pub kept_past : is_numbered css set d ≡ false → now ≡ old → next ≡ n → IsSoFar css set (numbered css set (drop (i + 1) ds)) all now next
+    pub kept_past : is_numbered css set d ≡ false → now ≡ old → next ≡ n
+        → IsSoFar css set (numbered css set (drop (i + 1) ds)) all now next
     kept_past other same no_more = rw (same, no_more, ← numbered_past css set ds i d within item other) so_far
 
     -- a device that is numbered takes the next number, and its row goes behind the others
-    pub kept_here : is_numbered css set d ≡ true → now ≡ old ++ (record { css = css; set = set; device = d.number }, n) ∷ [] → next ≡ n + 1
+    pub kept_here : is_numbered css set d ≡ true
+        → now ≡ old ++ (record { css = css; set = set; device = d.number }, n) ∷ [] → next ≡ n + 1
         → IsSoFar css set (numbered css set (drop (i + 1) ds)) all now next
     kept_here is more one_more =
         let opened = numbered_here css set ds i d within item is in
@@ -75,5 +85,6 @@ module _ (css set n : ℕ) (ds : List DeviceReach) (i : ℕ) (d : DeviceReach) (
         let low : n ≤ d.number = rise.0 in
         record {
           rise = rise_lower next (d.number + 1) (numbered css set (drop (i + 1) ds)) (omega arith) rise.1;
-          rest = rw (more, one_more) (append_assoc old _ _ ∙ ap (λ xs. old ++ numbers_from css set n xs) (sym opened) ∙ so_far.rest);
+          rest = rw (more, one_more)
+              (append_assoc old _ _ ∙ ap (λ xs. old ++ numbers_from css set n xs) (sym opened) ∙ so_far.rest);
         }

@@ -15,9 +15,12 @@ turned e = (record { css = e.0.css; set = e.0.set; number = e.1 }, e.0.device)
 
 -- no numbers, no number cells
 pub no_cells : cells_of (map.from_sorted []) ≡ map.empty
-no_cells = ap (λ (es : List (Place × ℕ)). map.from_entries {R = cell_cmp} (list_map turned es)) (map.entries-from_sorted place_cmp [] tt)
+no_cells = ap (λ (es : List (Place × ℕ)). map.from_entries {R = cell_cmp} (list_map turned es))
+    (map.entries-from_sorted place_cmp [] tt)
 
 -- a new number is a new number cell
-pub cells_insert : (n : Numbering) (place : Place) (number : ℕ) → map.get n place ≡ None → device_at n (cell_at place number) ≡ None
+pub cells_insert : (n : Numbering) (place : Place) (number : ℕ) → map.get n place ≡ None
+    → device_at n (cell_at place number) ≡ None
     → cells_of (map.insert n place number) ≡ map.insert (cells_of n) (cell_at place number) place.device
-cells_insert n place number new free = mapped-insert place_cmp cells_total turned places_total cells_exact n place number new free
+cells_insert n place number new free =
+    mapped-insert place_cmp cells_total turned places_total cells_exact n place number new free

@@ -1,8 +1,7 @@
 -- Places that are sifted: which of them lose their numbers, and which have none. Where memory runs
 -- out, the numbers that came in are taken back, and those that left are put back.
-use Rattle.std.proofs.Common.{◌≡◌, ℕ, ◌+◌, ◌<◌, ◌≤◌, Bool, true, false, cond, not, ◌&&◌, List, [], ◌∷◌, ◌++◌, length, get_or, drop, Option, Some, None, is_some, refl, sym, ap, ◌∙◌, append_assoc}
-use Rattle.std.proofs.Math.ListN.{drop_of_length-le}
-use Rattle.std.proofs.lemmas.List.{append-nil}
+use Rattle.std.proofs.Common.{◌≡◌, ℕ, ◌+◌, ◌<◌, Bool, true, false, cond, not, ◌&&◌, List, [], ◌∷◌, ◌++◌, length, get_or}
+use Rattle.std.proofs.Common.{drop, Option, Some, None, is_some, refl, sym, ap, ◌∙◌, append_assoc}
 use Rattle.std.proofs.lemmas.List.Elements.{filter-append, filter_map-append}
 use Rattle.std.proofs.lemmas.Bool.{and_parts}
 use Rattle.std.specs.List.{fold, list_any}
@@ -33,7 +32,8 @@ is_one_of p ps = list_any (eq_by_cmp place_cmp p) ps
 -- ---- the loop
 
 -- what was sifted, with what the places that are left give, is what all give
-pub record AreSifted (c : Configuration) (n : Numbering) (ps : List Place) (i : ℕ) (leaving : List (Place × ℕ)) (left : List Place) : Type 0 where
+pub record AreSifted (c : Configuration) (n : Numbering) (ps : List Place) (i : ℕ) (leaving : List (Place × ℕ))
+    (left : List Place) : Type 0 where
   pub all_leaving : leaving ++ numbers_at n (unreached c (drop i ps)) ≡ numbers_at n (unreached c ps)
   pub all_unnumbered : left ++ unnumbered n (drop i ps) ≡ unnumbered n ps
 
@@ -47,17 +47,21 @@ leaving_parts c n p ps = by (is_reached_at c p) (get n p)
     by true o = refl
     by false o = sym (filter_map-append (λ q. option_map (λ k. (q, k)) (get n q)) (p ∷ []) (unreached c ps))
 
-unnumbered_parts : (n : Numbering) (p : Place) (ps : List Place) → unnumbered n (p ∷ []) ++ unnumbered n ps ≡ unnumbered n (p ∷ ps)
+unnumbered_parts : (n : Numbering) (p : Place) (ps : List Place)
+    → unnumbered n (p ∷ []) ++ unnumbered n ps ≡ unnumbered n (p ∷ ps)
 unnumbered_parts n p ps = sym (filter-append (λ q. not (contains_key n q)) (p ∷ []) ps)
 
-pub sifted_one : (c : Configuration) (n : Numbering) (ps : List Place) (i : ℕ) (rows next : List (Place × ℕ)) (left more : List Place) (p : Place) → i < length ps
-    → p ≡ get_or ps i p → AreSifted c n ps i rows left → next ≡ rows ++ numbers_at n (unreached c (p ∷ [])) → more ≡ left ++ unnumbered n (p ∷ [])
+pub sifted_one : (c : Configuration) (n : Numbering) (ps : List Place) (i : ℕ) (rows next : List (Place × ℕ))
+    (left more : List Place) (p : Place) → i < length ps
+    → p ≡ get_or ps i p → AreSifted c n ps i rows left → next ≡ rows ++ numbers_at n (unreached c (p ∷ []))
+    → more ≡ left ++ unnumbered n (p ∷ [])
     → AreSifted c n ps (i + 1) next more
 sifted_one c n ps i rows next left more p within item before is also = record {
   all_leaving = ap (λ (xs : List (Place × ℕ)). xs ++ numbers_at n (unreached c (drop (i + 1) ps))) is
       ∙ append_assoc rows (numbers_at n (unreached c (p ∷ []))) (numbers_at n (unreached c (drop (i + 1) ps)))
       ∙ ap (λ (xs : List (Place × ℕ)). rows ++ xs) (leaving_parts c n p (drop (i + 1) ps))
-      ∙ ap (λ (qs : List Place). rows ++ numbers_at n (unreached c qs)) (sym (drop-item ps i p within item)) ∙ before.all_leaving;
+      ∙ ap (λ (qs : List Place). rows ++ numbers_at n (unreached c qs)) (sym (drop-item ps i p within item))
+      ∙ before.all_leaving;
   all_unnumbered = ap (λ (xs : List Place). xs ++ unnumbered n (drop (i + 1) ps)) also
       ∙ append_assoc left (unnumbered n (p ∷ [])) (unnumbered n (drop (i + 1) ps))
       ∙ ap (λ (xs : List Place). left ++ xs) (unnumbered_parts n p (drop (i + 1) ps))
@@ -75,7 +79,8 @@ none_of None e = refl
 none_of (Some x) e = cc
 
 module _ (c : Configuration) (n : Numbering) (ps : List Place) (all : AreAllTouched c n ps) where
-  gone_by : (t r : Bool) (o : Option ℕ) → (t ≡ false → is_some o ≡ r) → cond (is_some (cond (t && not r) o None)) None o ≡ cond r o None
+  gone_by : (t r : Bool) (o : Option ℕ) → (t ≡ false → is_some o ≡ r)
+      → cond (is_some (cond (t && not r) o None)) None o ≡ cond r o None
   gone_by true true o h = refl
   gone_by true false (Some x) h = refl
   gone_by true false None h = refl
@@ -90,17 +95,20 @@ module _ (c : Configuration) (n : Numbering) (ps : List Place) (all : AreAllTouc
       ∙ gone_by (is_one_of q ps) (is_reached_at c q) (get n q) (all q) ∙ sym (get_without c n q))
 
   -- a place that is reached and isn't among those without a number has one
-  pub numbered : (q : Place) → is_one_of q (unnumbered n ps) ≡ false → is_reached_at c q ≡ true → contains_key n q ≡ true
+  pub numbered : (q : Place) → is_one_of q (unnumbered n ps) ≡ false → is_reached_at c q ≡ true
+      → contains_key n q ≡ true
   numbered q out in_reach = by (is_one_of q ps) (contains_key n q) refl refl
     where
       by : (t h : Bool) → is_one_of q ps ≡ t → contains_key n q ≡ h → contains_key n q ≡ true
       by t true e has = has
       by false false e has = all q e ∙ in_reach
       by true false e has =
-          let no : true ≡ false = sym (λ i. e i && not (has i)) ∙ sym (any_filter places_exact q ps (λ p. not (contains_key n p))) ∙ out in cc
+          let no : true ≡ false = sym (λ i. e i && not (has i))
+          ∙ sym (any_filter places_exact q ps (λ p. not (contains_key n p))) ∙ out in cc
 
   -- so it has one when the rest gets theirs
-  pub numbered_has : (carried : List (Place × ℕ)) (p : Place) → is_one_of p (unnumbered n ps) ≡ false → is_reached_at c p ≡ true
+  pub numbered_has : (carried : List (Place × ℕ)) (p : Place) → is_one_of p (unnumbered n ps) ≡ false
+      → is_reached_at c p ≡ true
       → contains_key (fold (with_carried c) (without_leavers c n) carried) p ≡ true
   numbered_has carried p out in_reach =
       let has = present (get n p) (numbered p out in_reach) in
@@ -119,7 +127,8 @@ module _ (c : Configuration) (n : Numbering) (ps : List Place) (all : AreAllTouc
 
     -- what isn't reached has none
     unreached_none : (q : Place) → is_reached_at c q ≡ false → get now q ≡ None
-    unreached_none q off = others q (ap (λ r. r && not (contains_key (without_leavers c n) q)) off) ∙ get_without c n q ∙ ap (λ r. cond r (get n q) None) off
+    unreached_none q off = others q (ap (λ r. r && not (contains_key (without_leavers c n) q)) off) ∙ get_without c n q
+        ∙ ap (λ r. cond r (get n q) None) off
 
     -- what stays has its own
     staying : (q : Place) → is_reached_at c q ≡ true → contains_key n q ≡ true → get now q ≡ get n q
@@ -134,26 +143,32 @@ module _ (c : Configuration) (n : Numbering) (ps : List Place) (all : AreAllTouc
         by : (t : Bool) → is_one_of q ps ≡ t → get n q ≡ None
         by false e = none_of (get n q) (all q e ∙ off)
         by true e =
-            let no : true ≡ false = sym (λ i. e i && not (off i)) ∙ sym (any_filter places_exact q ps (λ p. not (is_reached_at c p))) ∙ out in cc
+            let no : true ≡ false = sym (λ i. e i && not (off i))
+            ∙ sym (any_filter places_exact q ps (λ p. not (is_reached_at c p))) ∙ out in cc
 
     -- a place that isn't one of those that leave, by whether it had none and is reached
-    elsewhere_by : (q : Place) → is_one_of q (unreached c ps) ≡ false → (l r : Bool) → is_one_of q (unnumbered n ps) ≡ l → is_reached_at c q ≡ r
+    elsewhere_by : (q : Place) → is_one_of q (unreached c ps) ≡ false → (l r : Bool) → is_one_of q (unnumbered n ps) ≡ l
+        → is_reached_at c q ≡ r
         → cond l None (get now q) ≡ get n q
     elsewhere_by q out true r e is =
-        let had : (is_one_of q ps ≡ true) × (not (contains_key n q) ≡ true) = and_parts _ _ (sym (any_filter places_exact q ps (λ p. not (contains_key n p))) ∙ e) in
+        let had : (is_one_of q ps ≡ true) × (not (contains_key n q) ≡ true) =
+        and_parts _ _ (sym (any_filter places_exact q ps (λ p. not (contains_key n p))) ∙ e) in
         sym (none_of (get n q) (not_true (contains_key n q) had.1))
     elsewhere_by q out false true e is = staying q is (numbered q e is)
     elsewhere_by q out false false e is = unreached_none q is ∙ sym (never_had q out is)
 
     off : (q : Place) → is_one_of q (unreached c ps) ≡ true → is_reached_at c q ≡ false
     off q among =
-        let is = and_parts (is_one_of q ps) (not (is_reached_at c q)) (sym (any_filter places_exact q ps (λ p. not (is_reached_at c p))) ∙ among) in
+        let is = and_parts (is_one_of q ps) (not (is_reached_at c q))
+        (sym (any_filter places_exact q ps (λ p. not (is_reached_at c p))) ∙ among) in
         not_true (is_reached_at c q) is.1
 
     -- these numbers are the old ones but for what leaves
     pub old_but : AreOldBut n back (unreached c ps)
     old_but = record {
-      elsewhere = λ q out. get_freed now (unnumbered n ps) q ∙ elsewhere_by q out (is_one_of q (unnumbered n ps)) (is_reached_at c q) refl refl;
-      here = λ q among. get_freed now (unnumbered n ps) q ∙ ap (cond (is_one_of q (unnumbered n ps)) None) (unreached_none q (off q among))
+      elsewhere = λ q out. get_freed now (unnumbered n ps) q
+          ∙ elsewhere_by q out (is_one_of q (unnumbered n ps)) (is_reached_at c q) refl refl;
+      here = λ q among. get_freed now (unnumbered n ps) q
+          ∙ ap (cond (is_one_of q (unnumbered n ps)) None) (unreached_none q (off q among))
           ∙ none_either (is_one_of q (unnumbered n ps));
     }

@@ -1,6 +1,7 @@
 -- The steps together: what leaves has left once, the same numbers come in afterwards, and room that
 -- was made is there. Places that rise are apart.
-use Rattle.std.proofs.Common.{◌≡◌, ℕ, Bool, true, false, cond, not, ◌&&◌, ◌||◌, List, [], ◌∷◌, Option, None, is_some, T, refl, sym, ap, subst, ◌∙◌}
+use Rattle.std.proofs.Common.{◌≡◌, ℕ, Bool, true, false, cond, not, ◌&&◌, ◌||◌, List, [], ◌∷◌, Option, None, is_some, T}
+use Rattle.std.proofs.Common.{refl, sym, ap, subst, ◌∙◌}
 use Rattle.std.specs.List.{list_any, filter}
 use Rattle.std.specs.Ordering.{eq_by_cmp, is_eq}
 use Rattle.std.specs.FinMap.{get, entries, same_map}
@@ -26,7 +27,8 @@ is_one_of p ps = list_any (eq_by_cmp place_cmp p) ps
 
 -- those that have left have left
 pub left_once : (c : Configuration) (n : Numbering) → without_leavers c (without_leavers c n) ≡ without_leavers c n
-left_once c n = same_map places_total places_exact _ _ (λ q. get_without c (without_leavers c n) q ∙ ap (λ o. cond (is_reached_at c q) o None) (get_without c n q)
+left_once c n = same_map places_total places_exact _ _
+    (λ q. get_without c (without_leavers c n) q ∙ ap (λ o. cond (is_reached_at c q) o None) (get_without c n q)
     ∙ by (is_reached_at c q) (get n q) ∙ sym (get_without c n q))
   where
     by : (r : Bool) (x : Option ℕ) → cond r (cond r x None) None ≡ cond r x None
@@ -35,16 +37,19 @@ left_once c n = same_map places_total places_exact _ _ (λ q. get_without c (wit
 
 -- the same come in
 comes_same : (c : Configuration) (n : Numbering) (x : Place × ℕ) → comes_in c (without_leavers c n) x ≡ comes_in c n x
-comes_same c n x = ap (λ o. is_reached_at c x.0 && not (is_some o)) (get_without c n x.0) ∙ by (is_reached_at c x.0) (get n x.0)
+comes_same c n x = ap (λ o. is_reached_at c x.0 && not (is_some o)) (get_without c n x.0)
+    ∙ by (is_reached_at c x.0) (get n x.0)
   where
     by : (r : Bool) (o : Option ℕ) → (r && not (is_some (cond r o None))) ≡ (r && not (is_some o))
     by true o = refl
     by false o = refl
 
 -- and the same numbers are taken
-pub taken_same : (c : Configuration) (n : Numbering) (xs : List (Place × ℕ)) → is_number_taken c (without_leavers c n) xs ≡ is_number_taken c n xs
+pub taken_same : (c : Configuration) (n : Numbering) (xs : List (Place × ℕ))
+    → is_number_taken c (without_leavers c n) xs ≡ is_number_taken c n xs
 taken_same c n xs = λ i.
-    list_any (λ p. list_any (same_cell p) (entries (left_once c n i))) (filter (λ x. comes_same c n x i) xs) || has_cell_twice (filter (λ x. comes_same c n x i) xs)
+    list_any (λ p. list_any (same_cell p) (entries (left_once c n i))) (filter (λ x. comes_same c n x i) xs)
+    || has_cell_twice (filter (λ x. comes_same c n x i) xs)
 
 -- ---- the places that are touched
 
@@ -63,5 +68,6 @@ risen_apart (p ∷ ps) rise = (by (is_one_of p ps) refl, risen_apart ps rise.1)
 pub room_in : (n m : Numbered) → HasSameRoom n m → (p : Place) (k : ℕ) → HasRoom m p k → HasRoom n p k
 room_in n m same p k h = record {
   place_has = subst (λ (ps : List Place). T (list_any (eq_by_cmp place_cmp p) ps)) (sym same.same_places) h.place_has;
-  cell_has = subst (λ (cs : List NumberCell). T (list_any (eq_by_cmp cell_cmp (cell_at p k)) cs)) (sym same.same_cells) h.cell_has;
+  cell_has = subst (λ (cs : List NumberCell). T (list_any (eq_by_cmp cell_cmp (cell_at p k)) cs)) (sym same.same_cells)
+      h.cell_has;
 }

@@ -1,6 +1,6 @@
 -- Which carried numbers are taken: held by a device that stays, or carried twice.
-use Rattle.std.proofs.Common.{◌≡◌, ℕ, ◌+◌, ◌<◌, ◌≤◌, Bool, true, false, cond, ◌||◌, ◌&&◌, nat_eq, List, [], ◌∷◌, length, get_or, drop, Option, Some, None, is_some, refl, sym, ap, ◌∙◌}
-use Rattle.std.proofs.Math.ListN.{drop_of_length-le}
+use Rattle.std.proofs.Common.{◌≡◌, ℕ, ◌+◌, ◌<◌, Bool, true, false, cond, ◌||◌, ◌&&◌, nat_eq, List, [], ◌∷◌, length}
+use Rattle.std.proofs.Common.{get_or, drop, Option, Some, None, is_some, refl, sym, ap, ◌∙◌}
 use Rattle.std.proofs.lemmas.Bool.{and_parts, eqb-true, true_from_ne_false, false_from_ne_true}
 use Rattle.std.specs.List.{filter, list_any}
 use Rattle.std.specs.Ordering.{eq_by_cmp}
@@ -28,7 +28,11 @@ same_cells : (a b : Place × ℕ) → same_cell a b ≡ true → cell_at a.0 a.1
 same_cells a b same =
     let parts = and_parts _ _ same in
     let first = and_parts (nat_eq a.0.css b.0.css) (nat_eq a.0.set b.0.set) parts.0 in
-    λ i. record { css = eqb-true a.0.css b.0.css first.0 i; set = eqb-true a.0.set b.0.set first.1 i; number = eqb-true a.1 b.1 parts.1 i }
+    λ i. record {
+      css = eqb-true a.0.css b.0.css first.0 i;
+      set = eqb-true a.0.set b.0.set first.1 i;
+      number = eqb-true a.1 b.1 parts.1 i;
+    }
 
 module _ (c : Configuration) (n : Numbering) (row : Place × ℕ) where
   -- whether a device that stays holds the number
@@ -40,21 +44,27 @@ module _ (c : Configuration) (n : Numbering) (row : Place × ℕ) where
   holder d = place (cell_at row.0 row.1) d
 
   -- a device that is reached holds it
-  stays_there : (d : ℕ) → device_at n (cell_at row.0 row.1) ≡ Some d → is_reached_at c (holder d) ≡ true → is_held ≡ true
+  stays_there : (d : ℕ) → device_at n (cell_at row.0 row.1) ≡ Some d → is_reached_at c (holder d) ≡ true
+      → is_held ≡ true
   stays_there d at in_reach = true_from_ne_false is_held (λ none.
-      let has : get (without_leavers c n) (holder d) ≡ Some row.1 = stays c n (holder d) in_reach ∙ has_number n (cell_at row.0 row.1) d at in
+      let has : get (without_leavers c n) (holder d) ≡ Some row.1 =
+      stays c n (holder d) in_reach ∙ has_number n (cell_at row.0 row.1) d at in
       let no : same_cell row (holder d, row.1) ≡ false =
-      found_fails place_cmp places_total places_exact (same_cell row) (entries (without_leavers c n)) (holder d) row.1 none (sym (get-entries (without_leavers c n) (holder d)) ∙ has) in
+      found_fails place_cmp places_total places_exact (same_cell row) (entries (without_leavers c n)) (holder d) row.1
+      none (sym (get-entries (without_leavers c n) (holder d)) ∙ has) in
       let yes : same_cell row (holder d, row.1) ≡ true = one_cell row (holder d, row.1) refl refl refl in cc)
 
   -- one that isn't reached doesn't, nor does another
-  leaves_there : IsApart n → (d : ℕ) → device_at n (cell_at row.0 row.1) ≡ Some d → is_reached_at c (holder d) ≡ false → is_held ≡ false
-  leaves_there apart d at out = none_passes place_cmp places_total places_exact (same_cell row) (entries (without_leavers c n)) (entries_sorted (without_leavers c n))
+  leaves_there : IsApart n → (d : ℕ) → device_at n (cell_at row.0 row.1) ≡ Some d → is_reached_at c (holder d) ≡ false
+      → is_held ≡ false
+  leaves_there apart d at out = none_passes place_cmp places_total places_exact (same_cell row)
+      (entries (without_leavers c n)) (entries_sorted (without_leavers c n))
       (λ q k is. false_from_ne_true (same_cell row (q, k)) (λ same.
       let was = had c n q k (get-entries (without_leavers c n) q ∙ is) in
       let parts = and_parts _ _ same in
       let first = and_parts (nat_eq row.0.css q.css) (nat_eq row.0.set q.set) parts.0 in
-      let one : holder d ≡ q = apart (holder d) q k (eqb-true row.0.css q.css first.0) (eqb-true row.0.set q.set first.1)
+      let one : holder d ≡ q =
+      apart (holder d) q k (eqb-true row.0.css q.css first.0) (eqb-true row.0.set q.set first.1)
       (has_number n (cell_at row.0 row.1) d at ∙ ap Some (eqb-true row.1 k parts.1)) was.1 in
       let no : true ≡ false = sym was.0 ∙ ap (is_reached_at c) (sym one) ∙ out in cc))
 
@@ -83,26 +93,33 @@ module _ (comes held : Place × ℕ → Bool) where
   any_at : (xs : List (Place × ℕ)) (i : ℕ) (x : Place × ℕ) → i < length xs → x ≡ get_or xs i x → IsLooking xs i
       → ((comes x && held x) || list_any held (filter comes (drop (i + 1) xs))) ≡ list_any held (filter comes xs)
   any_at xs i x within item before =
-      sym (any_by (comes x) (held x) x (drop (i + 1) xs) refl) ∙ ap (λ ys. list_any held (filter comes ys)) (sym (drop-item xs i x within item)) ∙ before.left
+      sym (any_by (comes x) (held x) x (drop (i + 1) xs) refl)
+      ∙ ap (λ ys. list_any held (filter comes ys)) (sym (drop-item xs i x within item)) ∙ before.left
 
 -- ---- numbers that are carried twice
 
 -- a row with one cell more noted
-noted_by : (seen : Cells) (x r : Place × ℕ) (b : Bool) → eq_by_cmp cell_cmp (cell_at r.0 r.1) (cell_at x.0 x.1) ≡ b → same_cell x r ≡ b
+noted_by : (seen : Cells) (x r : Place × ℕ) (b : Bool) → eq_by_cmp cell_cmp (cell_at r.0 r.1) (cell_at x.0 x.1) ≡ b
+    → same_cell x r ≡ b
 noted_by seen x r true is = true_from_ne_false (same_cell x r) (λ no.
-    let cells : cell_at r.0 r.1 ≡ cell_at x.0 x.1 = same_key cell_cmp cells_exact (cell_at r.0 r.1) (cell_at x.0 x.1) is in
-    let yes : same_cell x r ≡ true = one_cell x r (sym (ap (λ q. q.css) cells)) (sym (ap (λ q. q.set) cells)) (sym (ap (λ q. q.number) cells)) in cc)
+    let cells : cell_at r.0 r.1 ≡ cell_at x.0 x.1 =
+    same_key cell_cmp cells_exact (cell_at r.0 r.1) (cell_at x.0 x.1) is in
+    let yes : same_cell x r ≡ true =
+    one_cell x r (sym (ap (λ q. q.css) cells)) (sym (ap (λ q. q.set) cells)) (sym (ap (λ q. q.number) cells)) in cc)
 noted_by seen x r false is = false_from_ne_true (same_cell x r) (λ yes.
     let tie : eq_by_cmp cell_cmp (cell_at r.0 r.1) (cell_at x.0 x.1) ≡ true =
-    ap (eq_by_cmp cell_cmp (cell_at r.0 r.1)) (same_cells x r yes) ∙ ties_itself cell_cmp cells_total (cell_at r.0 r.1) in cc)
+    ap (eq_by_cmp cell_cmp (cell_at r.0 r.1)) (same_cells x r yes)
+    ∙ ties_itself cell_cmp cells_total (cell_at r.0 r.1) in cc)
 
 is_some_by : (b : Bool) (o : Option (Unit {0})) → is_some (cond b (Some tt) o) ≡ (b || is_some o)
 is_some_by true o = refl
 is_some_by false o = refl
 
-noted_more : (seen : Cells) (x r : Place × ℕ) → is_noted (insert seen (cell_at x.0 x.1) tt) r ≡ (same_cell x r || is_noted seen r)
+noted_more : (seen : Cells) (x r : Place × ℕ)
+    → is_noted (insert seen (cell_at x.0 x.1) tt) r ≡ (same_cell x r || is_noted seen r)
 noted_more seen x r =
-    ap is_some (get-insert cells_total seen (cell_at x.0 x.1) tt (cell_at r.0 r.1)) ∙ is_some_by (eq_by_cmp cell_cmp (cell_at r.0 r.1) (cell_at x.0 x.1)) (get seen (cell_at r.0 r.1))
+    ap is_some (get-insert cells_total seen (cell_at x.0 x.1) tt (cell_at r.0 r.1))
+    ∙ is_some_by (eq_by_cmp cell_cmp (cell_at r.0 r.1) (cell_at x.0 x.1)) (get seen (cell_at r.0 r.1))
     ∙ ap (λ b. b || is_noted seen r) (sym (noted_by seen x r _ refl))
 
 either : (a b r s : Bool) → ((a || b) || (r || s)) ≡ ((a || r) || (b || s))
@@ -111,9 +128,13 @@ either false true true s = refl
 either false true false s = refl
 either false false r s = refl
 
-any_more : (seen : Cells) (x : Place × ℕ) (rows : List (Place × ℕ)) → list_any (is_noted (insert seen (cell_at x.0 x.1) tt)) rows ≡ (list_any (same_cell x) rows || list_any (is_noted seen) rows)
+any_more : (seen : Cells) (x : Place × ℕ) (rows : List (Place × ℕ))
+    → list_any (is_noted (insert seen (cell_at x.0 x.1) tt)) rows
+    ≡ (list_any (same_cell x) rows || list_any (is_noted seen) rows)
 any_more seen x [] = refl
-any_more seen x (r ∷ rows) = (λ i. noted_more seen x r i || any_more seen x rows i) ∙ either (same_cell x r) (is_noted seen r) (list_any (same_cell x) rows) (list_any (is_noted seen) rows)
+any_more seen x (r ∷ rows) =
+    (λ i. noted_more seen x r i || any_more seen x rows i)
+    ∙ either (same_cell x r) (is_noted seen r) (list_any (same_cell x) rows) (list_any (is_noted seen) rows)
 
 turned : (a b d : Bool) → ((a || b) || d) ≡ (b || (a || d))
 turned true true d = refl
@@ -142,29 +163,36 @@ module _ (c : Configuration) (n : Numbering) (xs : List (Place × ℕ)) where
 
   pub notes_none : (seen : Cells) → seen ≡ empty → IsNoting 0 seen
   notes_none seen new = record {
-    left = ap (λ m. is_one_again m (arriving xs)) new ∙ ap (λ b. b || has_cell_twice (arriving xs)) (none_noted (arriving xs));
+    left = ap (λ m. is_one_again m (arriving xs)) new
+        ∙ ap (λ b. b || has_cell_twice (arriving xs)) (none_noted (arriving xs));
   }
 
   at_item : (i : ℕ) (seen : Cells) (x : Place × ℕ) → i < length xs → x ≡ get_or xs i x → IsNoting i seen
       → is_one_again seen (arriving (x ∷ drop (i + 1) xs)) ≡ has_cell_twice (arriving xs)
-  at_item i seen x within item before = ap (λ ys. is_one_again seen (arriving ys)) (sym (drop-item xs i x within item)) ∙ before.left
+  at_item i seen x within item before =
+      ap (λ ys. is_one_again seen (arriving ys)) (sym (drop-item xs i x within item)) ∙ before.left
 
   note_by : (seen : Cells) (x : Place × ℕ) (rest : List (Place × ℕ)) (b : Bool) → (b && is_noted seen x) ≡ false
       → is_one_again (cond b (insert seen (cell_at x.0 x.1) tt) seen) rest ≡ is_one_again seen (cond b (x ∷ rest) rest)
   note_by seen x rest true new = again_more seen x rest new
   note_by seen x rest false new = refl
 
-  pub notes_one : (i : ℕ) (seen next : Cells) (x : Place × ℕ) → i < length xs → x ≡ get_or xs i x → IsNoting i seen → next ≡ with_noted c n seen x
+  pub notes_one : (i : ℕ) (seen next : Cells) (x : Place × ℕ) → i < length xs → x ≡ get_or xs i x → IsNoting i seen
+      → next ≡ with_noted c n seen x
       → (comes_in c n x && is_noted seen x) ≡ false → IsNoting (i + 1) next
   notes_one i seen next x within item before is new = record {
-    left = ap (λ m. is_one_again m (arriving (drop (i + 1) xs))) is ∙ note_by seen x (arriving (drop (i + 1) xs)) (comes_in c n x) new
+    left = ap (λ m. is_one_again m (arriving (drop (i + 1) xs))) is
+        ∙ note_by seen x (arriving (drop (i + 1) xs)) (comes_in c n x) new
         ∙ at_item i seen x within item before;
   }
 
-  again_by : (seen : Cells) (x : Place × ℕ) (rest : List (Place × ℕ)) (b : Bool) → (b && is_noted seen x) ≡ true → is_one_again seen (cond b (x ∷ rest) rest) ≡ true
-  again_by seen x rest true is = ap (λ b. (b || list_any (is_noted seen) rest) || (list_any (same_cell x) rest || has_cell_twice rest)) is
+  again_by : (seen : Cells) (x : Place × ℕ) (rest : List (Place × ℕ)) (b : Bool) → (b && is_noted seen x) ≡ true
+      → is_one_again seen (cond b (x ∷ rest) rest) ≡ true
+  again_by seen x rest true is =
+      ap (λ b. (b || list_any (is_noted seen) rest) || (list_any (same_cell x) rest || has_cell_twice rest)) is
   again_by seen x rest false is = cc
 
   pub notes_again : (i : ℕ) (seen : Cells) (x : Place × ℕ) → i < length xs → x ≡ get_or xs i x → IsNoting i seen
       → (comes_in c n x && is_noted seen x) ≡ true → true ≡ has_cell_twice (arriving xs)
-  notes_again i seen x within item before is = sym (again_by seen x (arriving (drop (i + 1) xs)) (comes_in c n x) is) ∙ at_item i seen x within item before
+  notes_again i seen x within item before is =
+      sym (again_by seen x (arriving (drop (i + 1) xs)) (comes_in c n x) is) ∙ at_item i seen x within item before

@@ -1,12 +1,14 @@
 -- The three tables of numbers say the same: at first, with one number more, and with one less.
-use Rattle.std.proofs.Common.{◌≡◌, ◌≢◌, ℕ, ◌<◌, Bool, true, false, cond, List, [], length, Option, Some, None, is_some, get_or, nat_lt, subst, nat_eq, replicate, refl, sym, ap, ◌∙◌, arith, ◌/◌, ◌%◌}
+use Rattle.std.proofs.Common.{◌≡◌, ◌≢◌, ℕ, ◌<◌, Bool, true, false, cond, List, [], length, Option, Some, None, is_some}
+use Rattle.std.proofs.Common.{get_or, nat_lt, subst, nat_eq, replicate, refl, sym, ap, ◌∙◌, arith, ◌/◌, ◌%◌}
 use Rattle.std.specs.Int.{bit_at}
 use Rattle.std.proofs.lemmas.Nat.Bits.{bit_at-zero}
 use Rattle.std.proofs.lemmas.List.{get_or-replicate, get_or_past, length-replicate}
 use Rattle.std.proofs.lemmas.Bool.{ltb-true, ltb-false}
 use Rattle.std.specs.Cmp.{Equal-is}
 use Rattle.std.specs.Ordering.{eq_by_cmp}
-use Rattle.std.specs.FinMap.{FinMap, get, insert, remove, empty, contains_key, from_sorted, get-insert, get-remove, get-empty, get_tied, len-entries, empty_of_len, entries-from_sorted, same_map}
+use Rattle.std.specs.FinMap.{FinMap, get, insert, remove, empty, contains_key, from_sorted, get-insert, get-remove}
+use Rattle.std.specs.FinMap.{get-empty, get_tied, len-entries, empty_of_len, entries-from_sorted, same_map}
 use Rattle.iocm_types.specs.declared.place.Place.{Place}
 use Rattle.iocm_types.specs.declared.place.NumberCell.{NumberCell}
 use Rattle.iocm_types.specs.Place.{place_cmp, cell_cmp}
@@ -23,7 +25,8 @@ use Rattle.iocm_numbers.proofs.OneMore.{no_cells, cells_insert}
 use Rattle.iocm_numbers.proofs.OneLess.{remove_apart, cells_remove}
 
 -- cells of one bit are one cell
-pub one_bit : (c d : NumberCell) → c.set < 4 → c.number < 65536 → d.set < 4 → d.number < 65536 → bit_of c.css c.set c.number ≡ bit_of d.css d.set d.number → c ≡ d
+pub one_bit : (c d : NumberCell) → c.set < 4 → c.number < 65536 → d.set < 4 → d.number < 65536
+    → bit_of c.css c.set c.number ≡ bit_of d.css d.set d.number → c ≡ d
 one_bit c d cs cn ds dn is =
     let css : c.css ≡ d.css = omega (arith, is, cs, cn, ds, dn) in
     let set : c.set ≡ d.set = omega (arith, is, cs, cn, ds, dn) in
@@ -40,17 +43,22 @@ zero_at n i = by (nat_lt i n) refl
 
 -- in words that are 0 no bit is set
 pub none_set : (n bit : ℕ) → is_bit_set (replicate n 0) bit ≡ false
-none_set n bit = ap (λ w. nat_eq (bit_at w (bit % 64)) 1) (zero_at n (bit / 64)) ∙ ap (λ b. nat_eq b 1) (bit_at-zero (bit % 64))
+none_set n bit = ap (λ w. nat_eq (bit_at w (bit % 64)) 1) (zero_at n (bit / 64))
+    ∙ ap (λ b. nat_eq b 1) (bit_at-zero (bit % 64))
 
 -- tables with nothing in them
-pub tied_new : (places : Stored Place ℕ) (cells : Stored NumberCell ℕ) (words : List ℕ) (n : ℕ) → rows place_cmp places ≡ empty → rows cell_cmp cells ≡ empty
+pub tied_new : (places : Stored Place ℕ) (cells : Stored NumberCell ℕ) (words : List ℕ) (n : ℕ)
+    → rows place_cmp places ≡ empty → rows cell_cmp cells ≡ empty
     → n ≡ all_words → words ≡ replicate n 0 → AreTied places cells words
 tied_new places cells words n none none_too all zeros = record {
   same = none_too ∙ sym empty_cells ∙ ap cells_of (sym none);
-  apart = λ p q number css set has. let no : None ≡ Some number = sym (get-empty place_cmp p) ∙ ap (λ (m : Numbering). get m p) (sym none) ∙ has in cc;
-  small = λ p number has. let no : None ≡ Some number = sym (get-empty place_cmp p) ∙ ap (λ (m : Numbering). get m p) (sym none) ∙ has in cc;
+  apart = λ p q number css set has. let no : None ≡ Some number =
+      sym (get-empty place_cmp p) ∙ ap (λ (m : Numbering). get m p) (sym none) ∙ has in cc;
+  small = λ p number has. let no : None ≡ Some number =
+      sym (get-empty place_cmp p) ∙ ap (λ (m : Numbering). get m p) (sym none) ∙ has in cc;
   whole = ap length zeros ∙ length-replicate {A = ℕ} n 0 ∙ all;
-  bits = λ css set number c6 s4 most. ap (λ (ws : List ℕ). is_bit_set ws (bit_of css set number)) zeros ∙ none_set n (bit_of css set number)
+  bits = λ css set number c6 s4 most. ap (λ (ws : List ℕ). is_bit_set ws (bit_of css set number)) zeros
+      ∙ none_set n (bit_of css set number)
       ∙ sym (ap (λ (m : FinMap cell_cmp ℕ). contains_key m (record { css = css; set = set; number = number })) none_too
       ∙ ap is_some (get-empty {X = ℕ} cell_cmp (record { css = css; set = set; number = number })));
 }
@@ -82,9 +90,12 @@ module _ (places new_places : Stored Place ℕ) (cells new_cells : Stored Number
 
   -- a bit after a cell has come or gone, by whether it is that cell's
   bits_by : (b : Bool) → IsWritten words new_words (bit_of place.css place.set number) b
-      → ((q : NumberCell) → contains_key (rows cell_cmp new_cells) q ≡ cond (eq_by_cmp cell_cmp q (cell_at place number)) b (contains_key (rows cell_cmp cells) q))
-      → (css s k : ℕ) → css < 6 → s < 4 → k < 65536 → (t : Bool) → eq_by_cmp cell_cmp (record { css = css; set = s; number = k }) (cell_at place number) ≡ t
-      → is_bit_set new_words (bit_of css s k) ≡ contains_key (rows cell_cmp new_cells) (record { css = css; set = s; number = k })
+      → ((q : NumberCell) → contains_key (rows cell_cmp new_cells) q
+      ≡ cond (eq_by_cmp cell_cmp q (cell_at place number)) b (contains_key (rows cell_cmp cells) q))
+      → (css s k : ℕ) → css < 6 → s < 4 → k < 65536 → (t : Bool)
+      → eq_by_cmp cell_cmp (record { css = css; set = s; number = k }) (cell_at place number) ≡ t
+      → is_bit_set new_words (bit_of css s k)
+      ≡ contains_key (rows cell_cmp new_cells) (record { css = css; set = s; number = k })
   bits_by b written there css s k c6 s4 most_k true is =
       let q : NumberCell = record { css = css; set = s; number = k } in
       let same : q ≡ cell_at place number = same_key cell_cmp cells_exact q (cell_at place number) is in
@@ -94,13 +105,16 @@ module _ (places new_places : Stored Place ℕ) (cells new_cells : Stored Number
       let q : NumberCell = record { css = css; set = s; number = k } in
       written.others (bit_of css s k) (λ e.
       let same : q ≡ cell_at place number = one_bit q (cell_at place number) s4 most_k set most e in
-      let no : true ≡ false = sym (ap (λ (x : NumberCell). eq_by_cmp cell_cmp x (cell_at place number)) same ∙ ties_itself cell_cmp cells_total (cell_at place number)) ∙ is in cc)
+      let no : true ≡ false = sym
+      (ap (λ (x : NumberCell). eq_by_cmp cell_cmp x (cell_at place number)) same
+      ∙ ties_itself cell_cmp cells_total (cell_at place number)) ∙ is in cc)
       ∙ tied.bits css s k c6 s4 most_k
       ∙ sym (there q ∙ ap (λ t. cond t b (contains_key (rows cell_cmp cells) q)) is)
 
   -- with a number more
   pub tied_more : place.device < 65536 → get numbers place ≡ None → device_at numbers (cell_at place number) ≡ None
-      → rows place_cmp new_places ≡ insert numbers place number → rows cell_cmp new_cells ≡ insert (rows cell_cmp cells) (cell_at place number) place.device
+      → rows place_cmp new_places ≡ insert numbers place number
+      → rows cell_cmp new_cells ≡ insert (rows cell_cmp cells) (cell_at place number) place.device
       → IsWritten words new_words (bit_of place.css place.set number) true → AreTied new_places new_cells new_words
   tied_more low new free more more_cells written = record {
     same = more_cells ∙ ap (λ (m : FinMap cell_cmp ℕ). insert m (cell_at place number) place.device) tied.same
@@ -112,23 +126,30 @@ module _ (places new_places : Stored Place ℕ) (cells new_cells : Stored Number
     bits = λ css s k c6 s4 most_k. bits_by true written there css s k c6 s4 most_k _ refl;
   }
     where
-      small_by : (p : Place) (k : ℕ) (b : Bool) → eq_by_cmp place_cmp p place ≡ b → cond b (Some number) (get numbers p) ≡ Some k → p.device < 65536
-      small_by p k true is has = subst (λ (q : Place). q.device < 65536) (sym (same_key place_cmp places_exact p place is)) low
+      small_by : (p : Place) (k : ℕ) (b : Bool) → eq_by_cmp place_cmp p place ≡ b
+          → cond b (Some number) (get numbers p) ≡ Some k → p.device < 65536
+      small_by p k true is has =
+          subst (λ (q : Place). q.device < 65536) (sym (same_key place_cmp places_exact p place is)) low
       small_by p k false is has = tied.small p k has
 
       unused : (q : Place) → q.css ≡ place.css → q.set ≡ place.set → get numbers q ≡ Some number → ⊥
       unused q css s has =
           let held = has_device numbers tied.apart q number has in
-          let none : None ≡ Some q.device = sym free ∙ (λ i. get (cells_of numbers) (record { css = sym css i; set = sym s i; number = number })) ∙ held in cc
+          let none : None ≡ Some q.device =
+          sym free ∙ (λ i. get (cells_of numbers) (record { css = sym css i; set = sym s i; number = number }))
+          ∙ held in cc
 
-      there : (q : NumberCell) → contains_key (rows cell_cmp new_cells) q ≡ cond (eq_by_cmp cell_cmp q (cell_at place number)) true (contains_key (rows cell_cmp cells) q)
+      there : (q : NumberCell)
+          → contains_key (rows cell_cmp new_cells) q
+          ≡ cond (eq_by_cmp cell_cmp q (cell_at place number)) true (contains_key (rows cell_cmp cells) q)
       there q = ap (λ (m : FinMap cell_cmp ℕ). contains_key m q) more_cells
           ∙ ap is_some (get-insert cells_total (rows cell_cmp cells) (cell_at place number) place.device q)
           ∙ some_by (eq_by_cmp cell_cmp q (cell_at place number)) place.device (get (rows cell_cmp cells) q)
 
   -- with one less
   pub tied_less : get numbers place ≡ Some number
-      → rows place_cmp new_places ≡ remove numbers place → rows cell_cmp new_cells ≡ remove (rows cell_cmp cells) (cell_at place number)
+      → rows place_cmp new_places ≡ remove numbers place
+      → rows cell_cmp new_cells ≡ remove (rows cell_cmp cells) (cell_at place number)
       → IsWritten words new_words (bit_of place.css place.set number) false → AreTied new_places new_cells new_words
   tied_less has less less_cells written = record {
     same = less_cells ∙ ap (λ (m : FinMap cell_cmp ℕ). remove m (cell_at place number)) tied.same
@@ -140,7 +161,9 @@ module _ (places new_places : Stored Place ℕ) (cells new_cells : Stored Number
     bits = λ css s k c6 s4 most_k. bits_by false written there css s k c6 s4 most_k _ refl;
   }
     where
-      there : (q : NumberCell) → contains_key (rows cell_cmp new_cells) q ≡ cond (eq_by_cmp cell_cmp q (cell_at place number)) false (contains_key (rows cell_cmp cells) q)
+      there : (q : NumberCell)
+          → contains_key (rows cell_cmp new_cells) q
+          ≡ cond (eq_by_cmp cell_cmp q (cell_at place number)) false (contains_key (rows cell_cmp cells) q)
       there q = ap (λ (m : FinMap cell_cmp ℕ). contains_key m q) less_cells
           ∙ ap is_some (get-remove cells_total (rows cell_cmp cells) (cell_at place number) q)
           ∙ none_by (eq_by_cmp cell_cmp q (cell_at place number)) (get (rows cell_cmp cells) q)
@@ -150,29 +173,40 @@ module _ (places new_places : Stored Place ℕ) (cells new_cells : Stored Number
       was_there p k false is = is
 
 -- the same at a cell that is the number's
-module _ (places new_places : Stored Place ℕ) (cells new_cells : Stored NumberCell ℕ) (words new_words : List ℕ) (place : Place) (number : ℕ)
-    (tied : AreTied places cells words) (cell : NumberCell) (is : cell ≡ cell_at place number) (set : cell.set < 4) (most : cell.number < 65536)
+module _ (places new_places : Stored Place ℕ) (cells new_cells : Stored NumberCell ℕ) (words new_words : List ℕ)
+    (place : Place) (number : ℕ)
+    (tied : AreTied places cells words) (cell : NumberCell) (is : cell ≡ cell_at place number) (set : cell.set < 4)
+    (most : cell.number < 65536)
     (bit : ℕ) (bit_is : bit ≡ bit_of cell.css cell.set cell.number) where
   -- what holds of the bit of a cell holds of the number's
-  written_at : (b : Bool) → IsWritten words new_words bit b → IsWritten words new_words (bit_of place.css place.set number) b
-  written_at b = subst (λ k. IsWritten words new_words k b) (bit_is ∙ ap (λ (c : NumberCell). bit_of c.css c.set c.number) is)
+  written_at : (b : Bool) → IsWritten words new_words bit b
+      → IsWritten words new_words (bit_of place.css place.set number) b
+  written_at b = subst (λ k. IsWritten words new_words k b)
+      (bit_is ∙ ap (λ (c : NumberCell). bit_of c.css c.set c.number) is)
 
-  pub tied_with : place.device < 65536 → get (rows place_cmp places) place ≡ None → device_at (rows place_cmp places) (cell_at place number) ≡ None
-      → rows place_cmp new_places ≡ insert (rows place_cmp places) place number → rows cell_cmp new_cells ≡ insert (rows cell_cmp cells) cell place.device
+  pub tied_with : place.device < 65536 → get (rows place_cmp places) place ≡ None
+      → device_at (rows place_cmp places) (cell_at place number) ≡ None
+      → rows place_cmp new_places ≡ insert (rows place_cmp places) place number
+      → rows cell_cmp new_cells ≡ insert (rows cell_cmp cells) cell place.device
       → IsWritten words new_words bit true → AreTied new_places new_cells new_words
   tied_with low new free more more_cells written =
-      tied_more places new_places cells new_cells words new_words place number (subst (λ (c : NumberCell). c.set < 4) is set) (subst (λ (c : NumberCell). c.number < 65536) is most)
-      tied low new free more (more_cells ∙ ap (λ (c : NumberCell). insert (rows cell_cmp cells) c place.device) is) (written_at true written)
+      tied_more places new_places cells new_cells words new_words place number
+      (subst (λ (c : NumberCell). c.set < 4) is set) (subst (λ (c : NumberCell). c.number < 65536) is most)
+      tied low new free more (more_cells ∙ ap (λ (c : NumberCell). insert (rows cell_cmp cells) c place.device) is)
+      (written_at true written)
 
   pub tied_without : get (rows place_cmp places) place ≡ Some number
-      → rows place_cmp new_places ≡ remove (rows place_cmp places) place → rows cell_cmp new_cells ≡ remove (rows cell_cmp cells) cell
+      → rows place_cmp new_places ≡ remove (rows place_cmp places) place
+      → rows cell_cmp new_cells ≡ remove (rows cell_cmp cells) cell
       → IsWritten words new_words bit false → AreTied new_places new_cells new_words
   tied_without has less less_cells written =
-      tied_less places new_places cells new_cells words new_words place number (subst (λ (c : NumberCell). c.set < 4) is set) (subst (λ (c : NumberCell). c.number < 65536) is most)
+      tied_less places new_places cells new_cells words new_words place number
+      (subst (λ (c : NumberCell). c.set < 4) is set) (subst (λ (c : NumberCell). c.number < 65536) is most)
       tied has less (less_cells ∙ ap (remove (rows cell_cmp cells)) is) (written_at false written)
 
 -- tables with the same rows
-pub tied_same : (places new_places : Stored Place ℕ) (cells : Stored NumberCell ℕ) (words : List ℕ) → rows place_cmp new_places ≡ rows place_cmp places
+pub tied_same : (places new_places : Stored Place ℕ) (cells : Stored NumberCell ℕ) (words : List ℕ)
+    → rows place_cmp new_places ≡ rows place_cmp places
     → AreTied places cells words → AreTied new_places cells words
 tied_same places new_places cells words same tied = record {
   same = tied.same ∙ ap cells_of (sym same);
@@ -184,7 +218,8 @@ tied_same places new_places cells words same tied = record {
 
 -- to take back what isn't there changes nothing
 pub remove_none : (n : Numbering) (p : Place) → get n p ≡ None → remove n p ≡ n
-remove_none n p none = same_map places_total places_exact (remove n p) n (λ q. get-remove places_total n p q ∙ kept q (eq_by_cmp place_cmp q p) refl)
+remove_none n p none = same_map places_total places_exact (remove n p) n
+    (λ q. get-remove places_total n p q ∙ kept q (eq_by_cmp place_cmp q p) refl)
   where
     kept : (q : Place) (b : Bool) → eq_by_cmp place_cmp q p ≡ b → cond b None (get n q) ≡ get n q
     kept q true tied = sym none ∙ get_tied places_total n q p ((Equal-is _).0 tied)

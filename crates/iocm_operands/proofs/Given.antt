@@ -1,6 +1,7 @@
 -- What a reader gives is a value that its operand can have: paths, numbers, devices, units and
 -- ranges.
-use Rattle.std.proofs.Common.{◌≡◌, ◌≢◌, ℕ, ◌+◌, ◌<◌, ◌≤◌, ◌==◌, nat_le, Bool, true, false, cond, Option, Some, None, List, [], ◌∷◌, map, All, refl, ◌∙◌, subst, arith, leb-true}
+use Rattle.std.proofs.Common.{◌≡◌, ◌≢◌, ℕ, ◌+◌, ◌<◌, ◌≤◌, ◌==◌, nat_le, Bool, true, false, cond, Option, Some, None}
+use Rattle.std.proofs.Common.{List, [], ◌∷◌, map, All, refl, ◌∙◌, subst, arith, leb-true}
 use Rattle.std.proofs.lemmas.Bool.{eqb-false}
 use Rattle.std.proofs.lemmas.List.Elements.{All-nil, All-cons}
 use Rattle.std.specs.Option.{option_map, option_and_then}
@@ -18,7 +19,8 @@ use Rattle.iocm_operands.specs.declared.device.Devices.{Devices}
 use Rattle.iocm_operands.specs.Again.{IsPath, AreDevices, IsRange}
 use Rattle.iocm_operands.specs.ChpidPath.{path_in, path_listed, path_of_items}
 use Rattle.iocm_operands.specs.Device.{devices_within, devices_listed, unit_item}
-use Rattle.iocm_operands.specs.Given.{GivesPath, GivesNumber, GivesCuadd, GivesFirstAddress, GivesSet, GivesDevices, GivesUnits, GivesRanges}
+use Rattle.iocm_operands.specs.Given.{GivesPath, GivesNumber, GivesCuadd, GivesFirstAddress, GivesSet, GivesDevices}
+use Rattle.iocm_operands.specs.Given.{GivesUnits, GivesRanges}
 use Rattle.iocm_operands.specs.Unit.{range_listed, range_of, ranges_listed}
 
 -- ---- where something is given, each step has given something
@@ -29,15 +31,18 @@ no_value x e = absurd (cc)
 pub same_value : {A : Type 0} (x y : A) → Some x ≡ Some y → x ≡ y
 same_value x y e = cc
 
-pub step_gave : {A B : Type 0} (o : Option A) (f : A → Option B) (y : B) → (o >>= f) ≡ Some y → (x : A) × (o ≡ Some x) × (f x ≡ Some y)
+pub step_gave : {A B : Type 0} (o : Option A) (f : A → Option B) (y : B) → (o >>= f) ≡ Some y
+    → (x : A) × (o ≡ Some x) × (f x ≡ Some y)
 step_gave None f y e = no_value y e
 step_gave (Some x) f y e = (x, refl, e)
 
-pub then_gave : {A B : Type 0} (o : Option A) (f : A → Option B) (y : B) → option_and_then f o ≡ Some y → (x : A) × (o ≡ Some x) × (f x ≡ Some y)
+pub then_gave : {A B : Type 0} (o : Option A) (f : A → Option B) (y : B) → option_and_then f o ≡ Some y
+    → (x : A) × (o ≡ Some x) × (f x ≡ Some y)
 then_gave None f y e = no_value y e
 then_gave (Some x) f y e = (x, refl, e)
 
-pub map_gave : {A B : Type 0} (o : Option A) (f : A → B) (y : B) → option_map f o ≡ Some y → (x : A) × (o ≡ Some x) × (f x ≡ y)
+pub map_gave : {A B : Type 0} (o : Option A) (f : A → B) (y : B) → option_map f o ≡ Some y
+    → (x : A) × (o ≡ Some x) × (f x ≡ y)
 map_gave None f y e = no_value y e
 map_gave (Some x) f y e = (x, refl, same_value (f x) y e)
 
@@ -57,7 +62,8 @@ pub hex_small : (limit width n : ℕ) (text : List ℕ) → hex_of limit width t
 hex_small limit width n text e = up_to_small limit (hex_value text) n (test_gave _ (up_to limit (hex_value text)) n e).1
 
 pub decimal_small : (limit n : ℕ) (text : List ℕ) → decimal_of limit text ≡ Some n → n ≤ limit
-decimal_small limit n text e = up_to_small limit (decimal_value text) n (test_gave _ (up_to limit (decimal_value text)) n e).1
+decimal_small limit n text e =
+    up_to_small limit (decimal_value text) n (test_gave _ (up_to limit (decimal_value text)) n e).1
 
 pub not_zero : (m n : ℕ) → cond (m == 0) None (Some m) ≡ Some n → (m ≡ n) × (1 ≤ n)
 not_zero m n e = by (m == 0) refl e
@@ -95,7 +101,8 @@ pieces_some [] p ps e = more_some [] [] ps (same_value ([] ∷ []) ps (test_gave
 pieces_some (b ∷ bs) p ps e = by (cuts p b) e (pieces_some bs)
   where
     by : (cut : Bool)
-        → cond cut (option_map (λ pieces. [] ∷ pieces) (pieces_from p bs)) (option_and_then (λ q. option_map (onto_first (b ∷ [])) (pieces_from q bs)) (step p b)) ≡ Some ps
+        → cond cut (option_map (λ pieces. [] ∷ pieces) (pieces_from p bs))
+        (option_and_then (λ q. option_map (onto_first (b ∷ [])) (pieces_from q bs)) (step p b)) ≡ Some ps
         → ((q : Nesting) (rest : List (List ℕ)) → pieces_from q bs ≡ Some rest → rest ≢ []) → ps ≢ []
     by true is others =
         let gave = map_gave (pieces_from p bs) (λ pieces. [] ∷ pieces) ps is in
@@ -122,13 +129,17 @@ items_or_one_some (list inner) vs e = values_some inner vs e
 pub every_gave : {A B : Type 0} (P : B → Type 0) (read : A → Option B) → ((x : A) (y : B) → read x ≡ Some y → P y)
     → (xs : List A) (ys : List B) → every read xs ≡ Some ys → All P ys × (xs ≢ [] → ys ≢ [])
 unfolding every
-every_gave P read is [] ys e = let same : [] ≡ ys = same_value [] ys e in (subst (All P) same (All-nil P), λ some. absurd (some refl))
+every_gave P read is [] ys e = let same : [] ≡ ys = same_value [] ys e in
+    (subst (All P) same (All-nil P), λ some. absurd (some refl))
 every_gave P read is (x ∷ xs) ys e =
     let first = step_gave (read x) (λ y. every read xs >>= λ rest. Some (y ∷ rest)) ys e in
     let rest = step_gave (every read xs) (λ others. Some (first.0 ∷ others)) ys first.2 in
     let same : first.0 ∷ rest.0 ≡ ys = same_value (first.0 ∷ rest.0) ys rest.2 in
-    let others = every_gave P read is xs rest.0 rest.1 in
-    (subst (All P) same (All-cons P first.0 rest.0 (is x first.0 first.1) others.0), λ _. more_some first.0 rest.0 ys same)
+    let others = every_gave P read is xs rest.0 rest.1 in (
+      subst (All P) same (All-cons P first.0 rest.0 (is x first.0 first.1) others.0),
+      λ _.
+          more_some first.0 rest.0 ys same,
+    )
 
 -- ---- PATH of CHPID
 
@@ -161,7 +172,8 @@ path_given v p e = let gave = step_gave (items_or_one v) path_of_items p e in pa
 -- ---- numbers alone
 
 pub number_given : GivesNumber
-number_given v number e = let gave = step_gave (word_text v) unit_number number e in hex_small 65534 4 number gave.0 gave.2
+number_given v number e = let gave = step_gave (word_text v) unit_number number e in
+    hex_small 65534 4 number gave.0 gave.2
 
 pub cuadd_given : GivesCuadd
 cuadd_given v address e =
@@ -183,10 +195,12 @@ set_given v set e = let gave = step_gave (word_text v) (decimal_of 3) set e in d
 
 -- ---- ADDRESS of IODEVICE
 
-within_are : (first count : ℕ) (d : Devices) → 1 ≤ count → count ≤ 4096 → devices_within first count ≡ Some d → AreDevices d
+within_are : (first count : ℕ) (d : Devices) → 1 ≤ count → count ≤ 4096 → devices_within first count ≡ Some d
+    → AreDevices d
 within_are first count d some most e =
     let gave = test_gave (nat_le (first + count) 65536) (Some (record { first = first; count = count })) d e in
-    subst AreDevices (same_value (record { first = first; count = count }) d gave.1) (record { some = some; most = most; last = leb-true (first + count) 65536 gave.0 })
+    subst AreDevices (same_value (record { first = first; count = count }) d gave.1)
+    (record { some = some; most = most; last = leb-true (first + count) 65536 gave.0 })
 
 devices_listed_are : (vs : List Value) (d : Devices) → devices_listed vs ≡ Some d → AreDevices d
 devices_listed_are [] d e = no_value d e
@@ -225,21 +239,27 @@ range_listed_is (word number ∷ []) r e =
 range_listed_is (word number ∷ list inner ∷ vs) r e = no_value r e
 range_listed_is (word number ∷ word count ∷ v ∷ vs) r e = no_value r e
 range_listed_is (word number ∷ word count ∷ []) r e =
-    let gave = step_gave (unit_address number) (λ n. count_of 256 count >>= λ c. Some (record { start = n; count = c })) r e in
+    let gave = step_gave (unit_address number) (λ n. count_of 256 count >>= λ c. Some (record { start = n; count = c }))
+    r e in
     let many = step_gave (count_of 256 count) (λ c. Some (record { start = gave.0; count = c })) r gave.2 in
     let within = hex_small 255 2 gave.0 number gave.1 in
     let fits = count_small 256 many.0 count many.1 in
-    subst IsRange (same_value (record { start = gave.0; count = many.0 }) r many.2) (record { start = omega arith; some = fits.0; most = fits.1 })
+    subst IsRange (same_value (record { start = gave.0; count = many.0 }) r many.2)
+    (record { start = omega arith; some = fits.0; most = fits.1 })
 
 range_given : (v : Value) (r : UnitRange) → range_of v ≡ Some r → IsRange r
 range_given v r e = let gave = step_gave (items_or_one v) range_listed r e in range_listed_is gave.0 r gave.2
 
-one_range : (vs : List Value) (ranges : List UnitRange) → option_map (λ r. r ∷ []) (range_listed vs) ≡ Some ranges → (ranges ≢ []) × All IsRange ranges
+one_range : (vs : List Value) (ranges : List UnitRange) → option_map (λ r. r ∷ []) (range_listed vs) ≡ Some ranges
+    → (ranges ≢ []) × All IsRange ranges
 one_range vs ranges e =
-    let gave = map_gave (range_listed vs) (λ r. r ∷ []) ranges e in
-    (more_some gave.0 [] ranges gave.2, subst (All IsRange) gave.2 (All-cons IsRange gave.0 [] (range_listed_is vs gave.0 gave.1) (All-nil IsRange)))
+    let gave = map_gave (range_listed vs) (λ r. r ∷ []) ranges e in (
+      more_some gave.0 [] ranges gave.2,
+      subst (All IsRange) gave.2 (All-cons IsRange gave.0 [] (range_listed_is vs gave.0 gave.1) (All-nil IsRange)),
+    )
 
-ranges_listed_are : (vs : List Value) (ranges : List UnitRange) → ranges_listed vs ≡ Some ranges → (ranges ≢ []) × All IsRange ranges
+ranges_listed_are : (vs : List Value) (ranges : List UnitRange) → ranges_listed vs ≡ Some ranges
+    → (ranges ≢ []) × All IsRange ranges
 ranges_listed_are [] ranges e = one_range [] ranges e
 ranges_listed_are (word text ∷ vs) ranges e = one_range (word text ∷ vs) ranges e
 ranges_listed_are (list inner ∷ vs) ranges e =
@@ -247,4 +267,5 @@ ranges_listed_are (list inner ∷ vs) ranges e =
     (each.1 (more_some (list inner) vs (list inner ∷ vs) refl), each.0)
 
 pub ranges_given : GivesRanges
-ranges_given v ranges e = let gave = step_gave (items_or_one v) ranges_listed ranges e in ranges_listed_are gave.0 ranges gave.2
+ranges_given v ranges e = let gave = step_gave (items_or_one v) ranges_listed ranges e in
+    ranges_listed_are gave.0 ranges gave.2

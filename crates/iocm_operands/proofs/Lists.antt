@@ -1,5 +1,6 @@
 -- The operands that are lists by channel subsystem are read again: paths, links and images.
-use Rattle.std.proofs.Common.{◌≡◌, ℕ, ◌/◌, ◌%◌, ◌<◌, ◌≤◌, ◌==◌, true, false, cond, Some, None, List, [], ◌∷◌, map, get_or, codes, refl, sym, ap, ◌∙◌, arith, ne_eqb, map-id}
+use Rattle.std.proofs.Common.{◌≡◌, ℕ, ◌/◌, ◌%◌, ◌<◌, ◌≤◌, ◌==◌, true, false, cond, Some, None, List, [], ◌∷◌, map}
+use Rattle.std.proofs.Common.{get_or, codes, refl, sym, ap, ◌∙◌, arith, ne_eqb, map-id}
 use Rattle.std.proofs.lemmas.Bool.Decides.{nat_tests}
 use Rattle.std.specs.List.{filter_map}
 use Rattle.std.specs.Option.{option_map, option_and_then}
@@ -15,7 +16,8 @@ use Rattle.iocm_values.specs.Reading.{◌>>=◌}
 use Rattle.iocm_values.specs.Texts.{list_text}
 use Rattle.iocm_values.specs.Value.{word, value}
 use Rattle.iocm_operands.specs.declared.resource.ImagePlace.{ImagePlace}
-use Rattle.iocm_operands.specs.Again.{IsPath, IsWithinDigits, IsLink, IsImage, ReadsPathsAgain, ReadsLinksAgain, ReadsImagesAgain}
+use Rattle.iocm_operands.specs.Again.{IsPath, IsWithinDigits, IsLink, IsImage, ReadsPathsAgain, ReadsLinksAgain}
+use Rattle.iocm_operands.specs.Again.{ReadsImagesAgain}
 use Rattle.iocm_operands.specs.Resource.{mif_of, image_name, image_listed, image_item, image_at}
 use Rattle.iocm_operands.specs.Unit.{path_item, short_link, long_link, link_of, link_item, link_text}
 use Rattle.iocm_values.proofs.Levels.{plain_again, items_again, whole_items}
@@ -31,14 +33,17 @@ path_item_again : (p : CssPath) → IsPath p → path_item p.css (value (hex2 p.
 path_item_again p is =
     let small = is.path in
     ap (path_item p.css) (hex2_word p.path small)
-    ∙ ap (λ found. found >>= λ path. Some (record { css = p.css; path = path })) (hex2_again 255 2 p.path small (omega arith) refl)
+    ∙ ap (λ found. found >>= λ path. Some (record { css = p.css; path = path }))
+    (hex2_again 255 2 p.path small (omega arith) refl)
 
-path_read : (p : CssPath) → IsPath p → IsReadAgain path_item (λ (q : CssPath). q.css) (λ (q : CssPath). hex2 q.path) (λ (q : CssPath). q) p
+path_read : (p : CssPath) → IsPath p
+    → IsReadAgain path_item (λ (q : CssPath). q.css) (λ (q : CssPath). hex2 q.path) (λ (q : CssPath). q) p
 path_read p is = record { whole = whole_hex2 p.path is.path; again = path_item_again p is }
 
 pub paths_again : ReadsPathsAgain
 paths_again paths are =
-    items_by_css_again false path_item (λ (p : CssPath). p.css) (λ (p : CssPath). hex2 p.path) (λ (p : CssPath). p) paths
+    items_by_css_again false path_item (λ (p : CssPath). p.css) (λ (p : CssPath). hex2 p.path) (λ (p : CssPath). p)
+    paths
     are.some (λ k d within. path_read (get_or paths k d) (are.each k d within)) are.ascending
     ∙ ap Some (map-id paths)
 
@@ -50,7 +55,8 @@ glyph_no_star n small = grind (arith, nat_tests)
 two_digits_link : (a b : ℕ) → a < 16 → link_of (glyph a ∷ glyph b ∷ []) ≡ short_link (glyph a ∷ glyph b ∷ [])
 two_digits_link a b small = rw (glyph_no_star a small) refl
 
-four_digits_link : (a b c d : ℕ) → a < 16 → link_of (glyph a ∷ glyph b ∷ glyph c ∷ glyph d ∷ []) ≡ long_link (glyph a ∷ glyph b ∷ glyph c ∷ glyph d ∷ [])
+four_digits_link : (a b c d : ℕ) → a < 16
+    → link_of (glyph a ∷ glyph b ∷ glyph c ∷ glyph d ∷ []) ≡ long_link (glyph a ∷ glyph b ∷ glyph c ∷ glyph d ∷ [])
 four_digits_link a b c d small = rw (glyph_no_star a small) refl
 
 short_again : (n : ℕ) → n < 256 → link_of (hex2 n) ≡ Some (link.Short n)
@@ -83,12 +89,14 @@ link_item_again l is =
     ap (link_item l.css) (link_word l.link is.link)
     ∙ ap (λ found. found >>= λ to. Some (record { css = l.css; link = to })) (link_again l.link is.link)
 
-link_read : (l : CssLink) → IsLink l → IsReadAgain link_item (λ (m : CssLink). m.css) (λ (m : CssLink). link_text m.link) (λ (m : CssLink). m) l
+link_read : (l : CssLink) → IsLink l
+    → IsReadAgain link_item (λ (m : CssLink). m.css) (λ (m : CssLink). link_text m.link) (λ (m : CssLink). m) l
 link_read l is = record { whole = link_whole l.link is.link; again = link_item_again l is }
 
 pub links_again : ReadsLinksAgain
 links_again links are =
-    items_by_css_again false link_item (λ (l : CssLink). l.css) (λ (l : CssLink). link_text l.link) (λ (l : CssLink). l) links
+    items_by_css_again false link_item (λ (l : CssLink). l.css) (λ (l : CssLink). link_text l.link) (λ (l : CssLink). l)
+    links
     are.some (λ k d within. link_read (get_or links k d) (are.each k d within)) are.ascending
     ∙ ap Some (map-id links)
 
@@ -117,18 +125,24 @@ mif_again mif some most =
     ∙ ap (λ b. cond b None (Some mif)) (ne_eqb mif 0 (λ e. omega arith))
 
 pair_whole : (i : ImageRecord) → IsImage i → AllWhole (i.name ∷ hex1 i.mif ∷ [])
-pair_whole i is = let most = is.most in (whole_plain i.name (name_plain i.name is.name), (whole_plain (hex1 i.mif) (hex1_plain i.mif (omega arith)), tt))
+pair_whole i is = let most = is.most in
+    (whole_plain i.name (name_plain i.name is.name), (whole_plain (hex1 i.mif) (hex1_plain i.mif (omega arith)), tt))
 
 image_item_again : (i : ImageRecord) → IsImage i → image_item i.css (value (pair i)) ≡ Some (place i)
 image_item_again i is =
     let most = is.most in
     ap (λ found. found >>= image_listed i.css) (items_again i.name (hex1 i.mif ∷ []) (pair_whole i is))
-    ∙ (λ j. image_listed i.css (plain_again i.name (name_plain i.name is.name) j ∷ plain_again (hex1 i.mif) (hex1_plain i.mif (omega arith)) j ∷ []))
-    ∙ ap (λ found. found >>= λ mif. image_name i.name >>= λ n. Some (record { css = i.css; mif = mif; name = n })) (mif_again i.mif is.some most)
-    ∙ ap (λ found. found >>= λ n. Some (record { css = i.css; mif = i.mif; name = n })) (image_name_again i.name is.name)
+    ∙ (λ j. image_listed i.css
+    (plain_again i.name (name_plain i.name is.name) j ∷ plain_again (hex1 i.mif) (hex1_plain i.mif (omega arith)) j
+    ∷ []))
+    ∙ ap (λ found. found >>= λ mif. image_name i.name >>= λ n. Some (record { css = i.css; mif = mif; name = n }))
+    (mif_again i.mif is.some most)
+    ∙ ap (λ found. found >>= λ n. Some (record { css = i.css; mif = i.mif; name = n }))
+    (image_name_again i.name is.name)
 
 image_read : (i : ImageRecord) → IsImage i → IsReadAgain image_item (λ (k : ImageRecord). k.css) pair place i
-image_read i is = record { whole = whole_items (i.name ∷ hex1 i.mif ∷ []) (pair_whole i is); again = image_item_again i is }
+image_read i is = record
+    { whole = whole_items (i.name ∷ hex1 i.mif ∷ []) (pair_whole i is); again = image_item_again i is }
 
 all_named : (images : List ImageRecord) → filter_map image_at (map place images) ≡ images
 all_named [] = refl

@@ -1,5 +1,6 @@
 -- Names that are written are read again: as candidates, and as the lists of PARTITION.
-use Rattle.std.proofs.Common.{◌≡◌, ℕ, ◌==◌, ◌&&◌, Bool, true, false, Some, None, List, [], ◌∷◌, ◌++◌, All, map, get_or, take, nat_eq, codes, refl, sym, ap, ◌∙◌, arith, append_assoc, append-nil}
+use Rattle.std.proofs.Common.{◌≡◌, ℕ, ◌==◌, ◌&&◌, Bool, true, false, Some, None, List, [], ◌∷◌, ◌++◌, All, map, get_or}
+use Rattle.std.proofs.Common.{take, nat_eq, codes, refl, sym, ap, ◌∙◌, arith, append_assoc, append-nil}
 use Rattle.std.proofs.lemmas.Bool.{and_parts, and_right}
 use Rattle.std.proofs.lemmas.Bool.Decides.{nat_tests}
 use Rattle.std.proofs.lemmas.List.Elements.{All-head, All-tail}
@@ -76,7 +77,8 @@ css_begins_not (a ∷ []) plain = and_right (nat_eq a 67) false refl
 css_begins_not (a ∷ b ∷ []) plain = third_not true (nat_eq a 67) (nat_eq b 83)
 css_begins_not (a ∷ b ∷ c ∷ []) plain = third_not (nat_eq a 67) (nat_eq b 83) (nat_eq c 83)
 css_begins_not (a ∷ b ∷ c ∷ d ∷ text) plain =
-    let rest = (and_parts (is_plain c) (list_all is_plain (d ∷ text)) (and_parts (is_plain b) _ (and_parts (is_plain a) _ plain).1).1).1 in
+    let rest = (and_parts (is_plain c) (list_all is_plain (d ∷ text))
+    (and_parts (is_plain b) _ (and_parts (is_plain a) _ plain).1).1).1 in
     let other : d == 40 ≡ false = (plain_other d (and_parts (is_plain d) (list_all is_plain text) rest).0).0 in
     fourth_not (nat_eq a 67) (nat_eq b 83) (nat_eq c 83) (nat_eq d 40) other
 
@@ -95,13 +97,15 @@ plain_goes_on : (b : ℕ) → is_plain b ≡ true → (ends_word b ≡ false) ×
 unfolding step
 plain_goes_on b plain = (grind (arith, nat_tests), grind (arith, nat_tests), grind (arith, nat_tests))
 
-byte_goes_on : (text : List ℕ) (b : ℕ) (rest : List ℕ) → is_plain b ≡ true → words_from start text (b ∷ rest) ≡ words_from start (text ++ b ∷ []) rest
+byte_goes_on : (text : List ℕ) (b : ℕ) (rest : List ℕ) → is_plain b ≡ true
+    → words_from start text (b ∷ rest) ≡ words_from start (text ++ b ∷ []) rest
 unfolding words_from is_outside
 byte_goes_on text b rest plain =
     let on = plain_goes_on b plain in
     rw (on.0, on.1, on.2) refl
 
-plain_goes_in : (text plain rest : List ℕ) → list_all is_plain plain ≡ true → words_from start text (plain ++ rest) ≡ words_from start (text ++ plain) rest
+plain_goes_in : (text plain rest : List ℕ) → list_all is_plain plain ≡ true
+    → words_from start text (plain ++ rest) ≡ words_from start (text ++ plain) rest
 plain_goes_in text [] rest is = ap (λ t. words_from start t rest) (sym (append-nil text))
 plain_goes_in text (b ∷ bs) rest is =
     let parts = and_parts (is_plain b) (list_all is_plain bs) is in
@@ -116,7 +120,8 @@ all_ends : (text : List ℕ) → words_from start text [] ≡ ended text []
 unfolding words_from
 all_ends text = refl
 
-plain_is_word : (text : List ℕ) (others : List (List ℕ)) → list_all is_plain text ≡ true → ended text others ≡ text ∷ others
+plain_is_word : (text : List ℕ) (others : List (List ℕ)) → list_all is_plain text ≡ true
+    → ended text others ≡ text ∷ others
 plain_is_word [] others plain = refl
 plain_is_word (b ∷ text) others plain =
     rw (plain_other b (and_parts (is_plain b) (list_all is_plain text) plain).0).1 refl
@@ -144,8 +149,10 @@ names_plain names are = λ k d within. name_plain (get_or names k d) (are k d wi
 
 names_whole : (names : List (List ℕ)) → AreNames names → AllWhole names
 names_whole [] are = tt
-names_whole (name ∷ names) are =
-    (whole_plain name (name_plain name (All-head (λ n. is_name n ≡ true) name names are)), names_whole names (All-tail (λ n. is_name n ≡ true) name names are))
+names_whole (name ∷ names) are = (
+  whole_plain name (name_plain name (All-head (λ n. is_name n ≡ true) name names are)),
+  names_whole names (All-tail (λ n. is_name n ≡ true) name names are),
+)
 
 -- a candidate
 
@@ -157,7 +164,10 @@ candidates_each : (names : List (List ℕ)) → AreNames names → every device.
 unfolding every
 candidates_each [] are = refl
 candidates_each (name ∷ names) are =
-    rw (candidate_again name (All-head (λ n. is_name n ≡ true) name names are), candidates_each names (All-tail (λ n. is_name n ≡ true) name names are)) refl
+    rw (
+      candidate_again name (All-head (λ n. is_name n ≡ true) name names are),
+      candidates_each names (All-tail (λ n. is_name n ≡ true) name names are),
+    ) refl
 
 all_kept : (names : List (List ℕ)) → filter_map (λ n. n) (map Some names) ≡ names
 all_kept [] = refl
@@ -168,7 +178,8 @@ candidates_again [] is = refl
 candidates_again (name ∷ names) is =
     let all : List (List ℕ) = name ∷ names in
     ap device.candidates_of (list_again (join_with_byte 44 all))
-    ∙ ap (λ found. option_map (λ ns. name_set (filter_map (λ n. n) ns)) (every device.candidate_word found)) (words_again name names (names_plain all is.each))
+    ∙ ap (λ found. option_map (λ ns. name_set (filter_map (λ n. n) ns)) (every device.candidate_word found))
+    (words_again name names (names_plain all is.each))
     ∙ ap (option_map (λ ns. name_set (filter_map (λ n. n) ns))) (candidates_each all is.each)
     ∙ ap (λ ns. Some (name_set ns)) (all_kept all) ∙ ap Some is.ascending
 
@@ -189,9 +200,13 @@ names_each : (names : List (List ℕ)) → AreNames names → every name_item (m
 unfolding every
 names_each [] are = refl
 names_each (name ∷ names) are =
-    rw (name_item_again name (All-head (λ n. is_name n ≡ true) name names are), names_each names (All-tail (λ n. is_name n ≡ true) name names are)) refl
+    rw (
+      name_item_again name (All-head (λ n. is_name n ≡ true) name names are),
+      names_each names (All-tail (λ n. is_name n ≡ true) name names are),
+    ) refl
 
-joined_first : (name : List ℕ) (names : List (List ℕ)) → begins_with_letter name ≡ true → begins_with_letter (join_with_byte 44 (name ∷ names)) ≡ true
+joined_first : (name : List ℕ) (names : List (List ℕ)) → begins_with_letter name ≡ true
+    → begins_with_letter (join_with_byte 44 (name ∷ names)) ≡ true
 joined_first [] names first = absurd (no first)
   where
     no : false ≡ true → ⊥
@@ -199,7 +214,8 @@ joined_first [] names first = absurd (no first)
 joined_first (b ∷ name) [] first = first
 joined_first (b ∷ name) (y ∷ ys) first = first
 
-list_is_read : (name : List ℕ) (names : List (List ℕ)) → IsNameSet (name ∷ names) → AreRead (name ∷ names) (list (join_with_byte 44 (name ∷ names)))
+list_is_read : (name : List ℕ) (names : List (List ℕ)) → IsNameSet (name ∷ names)
+    → AreRead (name ∷ names) (list (join_with_byte 44 (name ∷ names)))
 list_is_read name names is =
     let inner : List ℕ = join_with_byte 44 (name ∷ names) in
     let first = joined_first name names (letter_first name (All-head (λ n. is_name n ≡ true) name names is.each)) in
@@ -220,11 +236,13 @@ are_read : (names : List (List ℕ)) → IsNameSet names → AreRead names (valu
 are_read [] is = none_are_read
 are_read (name ∷ names) is = rw (list_again (join_with_byte 44 (name ∷ names))) (list_is_read name names is)
 
-no_group_alone : (css : ℕ) (a c : Value) (rest : List Value) → partition.without_groups css (a ∷ c ∷ rest) ≡ partition.without_group css (a ∷ c ∷ rest)
+no_group_alone : (css : ℕ) (a c : Value) (rest : List Value)
+    → partition.without_groups css (a ∷ c ∷ rest) ≡ partition.without_group css (a ∷ c ∷ rest)
 no_group_alone css (word text) c rest = refl
 no_group_alone css (list inner) c rest = refl
 
-ungrouped : (css : ℕ) (a c : Value) (rest : List Value) (access : List (List ℕ)) → AreRead access a → partition.without_groups css (a ∷ c ∷ rest) ≡ Some (a ∷ c ∷ rest)
+ungrouped : (css : ℕ) (a c : Value) (rest : List Value) (access : List (List ℕ)) → AreRead access a
+    → partition.without_groups css (a ∷ c ∷ rest) ≡ Some (a ∷ c ∷ rest)
 ungrouped css a c rest access at = no_group_alone css a c rest ∙ rw (at.css (c ∷ rest)) refl
 
 rec_again : (rec : Bool) (a c : Value) (candidates : List (List ℕ)) → AreRead candidates c
@@ -233,10 +251,12 @@ rec_again true a c candidates at = refl
 rec_again false a c candidates at = rw at.rec refl
 
 lists_again : (rec : Bool) (a c : Value) (access candidates : List (List ℕ)) → AreRead access a → AreRead candidates c
-    → partition.lists rec (a ∷ c ∷ []) ≡ Some (record { access = access; candidates = Some candidates; is_reconfigurable = rec })
+    → partition.lists rec (a ∷ c ∷ [])
+    ≡ Some (record { access = access; candidates = Some candidates; is_reconfigurable = rec })
 lists_again rec a c access candidates first second = rw (first.form, first.listed, second.same, second.listed) refl
 
-partition_items : (css : ℕ) (rec : Bool) (a c : Value) (access candidates : List (List ℕ)) → AreRead access a → AreRead candidates c
+partition_items : (css : ℕ) (rec : Bool) (a c : Value) (access candidates : List (List ℕ)) → AreRead access a
+    → AreRead candidates c
     → (partition.without_groups css (a ∷ c ∷ map value (partition.rec_texts rec)) >>= partition.with_rec)
     ≡ Some (record { access = access; candidates = Some candidates; is_reconfigurable = rec })
 partition_items css rec a c access candidates first second =
@@ -256,4 +276,5 @@ partition_again css access candidates rec first second =
     ap (λ found. found >>= partition.without_groups css >>= partition.with_rec)
     (items_again (names_text access) (names_text candidates ∷ partition.rec_texts rec)
     (names_text_whole access first.each, (names_text_whole candidates second.each, rec_whole rec)))
-    ∙ partition_items css rec (value (names_text access)) (value (names_text candidates)) access candidates (are_read access first) (are_read candidates second)
+    ∙ partition_items css rec (value (names_text access)) (value (names_text candidates)) access candidates
+    (are_read access first) (are_read candidates second)

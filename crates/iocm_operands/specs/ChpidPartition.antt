@@ -1,9 +1,9 @@
 -- PARTITION of CHPID: the access and the candidate list of a path, in the group of its channel
 -- subsystem or without. IOCP User's Guide, CHPID statement; the forms are own.
-use Rattle.std.specs.Prelude.{ℕ, ◌==◌, ◌-◌, ◌&&◌, ◌||◌, Bool, true, false, not, if◌then◌else◌, Option}
+use Rattle.std.specs.Prelude.{ℕ, ◌==◌, ◌-◌, ◌||◌, Bool, true, false, if◌then◌else◌, Option}
 use Rattle.std.specs.Prelude.{None, Some, List, [], ◌∷◌, length, take, slice_get, codes}
 use Rattle.std.specs.List.{list_any}
-use Rattle.std.specs.Option.{option_map, option_map_or}
+use Rattle.std.specs.Option.{option_map_or}
 use Rattle.std.specs.Str.{bytes_eq}
 use Rattle.iocm_operands.specs.declared.chpid_partition.Partition.{Partition}
 use Rattle.iocm_values.specs.CssLists.{begins_with_css, css_number}

@@ -1,6 +1,6 @@
 -- PATH of CHPID: cc in CSS 0, (cc), or (CSS(n),cc), with one outer pair of parentheses more or
 -- without. IOCP User's Guide, CHPID statement; the forms are own.
-use Rattle.std.specs.Prelude.{ℕ, Option, None, Some, List, [], ◌∷◌}
+use Rattle.std.specs.Prelude.{ℕ, Option, None, List, [], ◌∷◌}
 use Rattle.std.specs.Option.{option_map}
 use Rattle.iocm_types.specs.declared.css_path.CssPath.{CssPath}
 use Rattle.iocm_types.specs.Print.{hex2}

@@ -1,7 +1,7 @@
 -- The values of CNTLUNIT: number, paths, ranges of unit addresses, links, control unit address.
 -- IOCP User's Guide, CNTLUNIT statement; the forms are own.
 use Rattle.std.specs.Prelude.{ℕ, ◌==◌, false, if◌then◌else◌, Option, None, Some, List, [], ◌∷◌, map, length, codes}
-use Rattle.std.specs.Option.{option_map, option_and_then}
+use Rattle.std.specs.Option.{option_map}
 use Rattle.std.specs.Fmt.{decimal}
 use Rattle.std.specs.Str.{bytes_eq}
 use Rattle.iocm_types.specs.Print.{hex2, hex4}

@@ -32,14 +32,29 @@ as_many [] = refl
 as_many (l ∷ ls) = by l.said (as_many ls)
   where
     by : (s : Said) → length (lines_of 0 ls) + length (lines_of 1 ls) ≡ operator_lines ls
-        → length (lines_of 0 (record { line = l.line; said = s } ∷ ls)) + length (lines_of 1 (record { line = l.line; said = s } ∷ ls)) ≡ operator_lines (record { line = l.line; said = s } ∷ ls)
-    by (Operator operators.P c) e = one_first (length (lines_of 0 ls)) (length (lines_of 1 ls)) (operator_lines ls) e ∙ sym (sum_by-cons counted (record { line = l.line; said = Operator operators.P c }) ls)
-    by (Operator operators.Q c) e = one_second (length (lines_of 0 ls)) (length (lines_of 1 ls)) (operator_lines ls) e ∙ sym (sum_by-cons counted (record { line = l.line; said = Operator operators.Q c }) ls)
-    by (Image images.A c) e = none_more (operator_lines ls) e ∙ sym (sum_by-cons counted (record { line = l.line; said = Image images.A c }) ls)
-    by (Image images.B c) e = none_more (operator_lines ls) e ∙ sym (sum_by-cons counted (record { line = l.line; said = Image images.B c }) ls)
+        → length (lines_of 0 (record { line = l.line; said = s } ∷ ls))
+        + length (lines_of 1 (record { line = l.line; said = s } ∷ ls))
+        ≡ operator_lines (record { line = l.line; said = s } ∷ ls)
+    by (Operator operators.P c) e =
+        one_first (length (lines_of 0 ls)) (length (lines_of 1 ls)) (operator_lines ls) e
+        ∙ sym (sum_by-cons counted (record { line = l.line; said = Operator operators.P c }) ls)
+    by (Operator operators.Q c) e =
+        one_second (length (lines_of 0 ls)) (length (lines_of 1 ls)) (operator_lines ls) e
+        ∙ sym (sum_by-cons counted (record { line = l.line; said = Operator operators.Q c }) ls)
+    by (Image images.A c) e =
+        none_more (operator_lines ls) e
+        ∙ sym (sum_by-cons counted (record { line = l.line; said = Image images.A c }) ls)
+    by (Image images.B c) e =
+        none_more (operator_lines ls) e
+        ∙ sym (sum_by-cons counted (record { line = l.line; said = Image images.B c }) ls)
 
-calls_by_lines : (ts : List ChangeTree) (ls : List Line) (r : Round) (n : ℕ) → AreAsked ts ls r → length (calls_by n r) ≡ length (lines_of n ls)
-calls_by_lines ts ls r n asked = sym (length-map (calls_by n r) call_in) ∙ ap length (asked n) ∙ length-map (lines_of n ls) (λ (l : Line). call_said ts l.said)
+calls_by_lines : (ts : List ChangeTree) (ls : List Line) (r : Round) (n : ℕ) → AreAsked ts ls r
+    → length (calls_by n r) ≡ length (lines_of n ls)
+calls_by_lines ts ls r n asked =
+    sym (length-map (calls_by n r) call_in) ∙ ap length (asked n)
+    ∙ length-map (lines_of n ls) (λ (l : Line). call_said ts l.said)
 
-pub few_calls : (ts : List ChangeTree) (ls : List Line) (r : Round) → AreAsked ts ls r → FitsQueue ls → length r.p.items + length r.q.items ≤ 14
-few_calls ts ls r asked fits = omega (arith, calls_by_lines ts ls r 0 asked, calls_by_lines ts ls r 1 asked, as_many ls, fits)
+pub few_calls : (ts : List ChangeTree) (ls : List Line) (r : Round) → AreAsked ts ls r → FitsQueue ls
+    → length r.p.items + length r.q.items ≤ 14
+few_calls ts ls r asked fits =
+    omega (arith, calls_by_lines ts ls r 0 asked, calls_by_lines ts ls r 1 asked, as_many ls, fits)

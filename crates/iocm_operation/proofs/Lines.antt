@@ -1,5 +1,6 @@
 -- The entry at the place of each line is that of its call.
-use Rattle.std.proofs.Common.{◌≡◌, ℕ, zero, suc, ◌+◌, ◌==◌, Bool, true, false, cond, ltb, Some, None, List, [], ◌∷◌, ◌++◌, length, refl, sym, ap, ◌∙◌, subst, arith}
+use Rattle.std.proofs.Common.{◌≡◌, ℕ, zero, suc, ◌+◌, ◌==◌, Bool, true, false, cond, ltb, Some, None, List, [], ◌∷◌}
+use Rattle.std.proofs.Common.{◌++◌, length, refl, sym, ap, ◌∙◌, subst, arith}
 use Rattle.std.specs.Prelude.{filter, map}
 use Rattle.std.specs.List.{AllByRecursion, flat_map, slice_get, slice_index_or}
 use Rattle.std.proofs.lemmas.Bool.{ltb-false, ltb-true}
@@ -26,7 +27,8 @@ places ms = map (λ (m : Made). m.number) ms
 abbrev replies : List Made → List Answer
 replies ms = map (λ (m : Made). m.entry.answer) ms
 
-at_seam : (front : List Entry) (e : Entry) (behind : List Entry) → slice_get (front ++ e ∷ behind) (length front) ≡ Some e
+at_seam : (front : List Entry) (e : Entry) (behind : List Entry)
+    → slice_get (front ++ e ∷ behind) (length front) ≡ Some e
 at_seam [] e behind = refl
 at_seam (x ∷ front) e behind = at_seam front e behind
 
@@ -47,7 +49,8 @@ module _ (es : List Entry) where
   numbered_there front (e ∷ since) is =
       let longer : length (front ++ e ∷ []) ≡ suc (length front) = omega (arith, length-append front (e ∷ [])) in (
         ap (λ xs. slice_get xs (length front)) is ∙ at_seam front e since,
-        subst (λ k. AllThere (numbered k since)) longer (numbered_there (front ++ e ∷ []) since (is ∙ sym (append_assoc front (e ∷ []) since))),
+        subst (λ k. AllThere (numbered k since)) longer
+            (numbered_there (front ++ e ∷ []) since (is ∙ sym (append_assoc front (e ∷ []) since))),
       )
 
   first_there : (xs ys : List Made) → AllThere (xs ++ ys) → AllThere xs
@@ -62,11 +65,14 @@ module _ (es : List Entry) where
   those_there n [] there = tt
   those_there n (m ∷ ms) there = by (m.0 == n) (those_there n ms there.1)
     where
-      by : (b : Bool) → AllThere (those_of n ms) → AllThere (all_of (cond b (m ∷ filter (λ (k : ℕ × Made). k.0 == n) ms) (filter (λ (k : ℕ × Made). k.0 == n) ms)))
+      by : (b : Bool) → AllThere (those_of n ms)
+          → AllThere (all_of (cond b (m ∷ filter (λ (k : ℕ × Made). k.0 == n) ms)
+          (filter (λ (k : ℕ × Made). k.0 == n) ms)))
       by true rest = (there.0, rest)
       by false rest = rest
 
-  taken : (line : ℕ) (xs : List Made) → AllThere xs → (behind : List ℕ → List Placed) (after : List Answer → List Answered)
+  taken : (line : ℕ) (xs : List Made) → AllThere xs
+      → (behind : List ℕ → List Placed) (after : List Answer → List Answered)
       → ((ys : List Made) → AllThere ys → answers_at es (behind (places ys)) ≡ after (replies ys))
       → answers_at es (taking_place line (places xs) behind) ≡ taking line (replies xs) after
   taken line [] there behind after same = same [] tt
@@ -75,12 +81,14 @@ module _ (es : List Entry) where
       ∙ ap (λ ys. record { line = line; answer = x.entry.answer } ∷ ys) (same xs there.1)
 
   answers_there : (ls : List Line) (p q a b : List Made) → AllThere p → AllThere q → AllThere a → AllThere b
-      → answers_at es (places_by ls (places p) (places q) (places a) (places b)) ≡ answers_by ls (replies p) (replies q) (replies a) (replies b)
+      → answers_at es (places_by ls (places p) (places q) (places a) (places b))
+      ≡ answers_by ls (replies p) (replies q) (replies a) (replies b)
   answers_there [] p q a b tp tq ta tb = refl
   answers_there (l ∷ ls) p q a b tp tq ta tb = by (answers_there ls) (actor_of l.said)
     where
       by : ((p q a b : List Made) → AllThere p → AllThere q → AllThere a → AllThere b
-          → answers_at es (places_by ls (places p) (places q) (places a) (places b)) ≡ answers_by ls (replies p) (replies q) (replies a) (replies b))
+          → answers_at es (places_by ls (places p) (places q) (places a) (places b))
+          ≡ answers_by ls (replies p) (replies q) (replies a) (replies b))
           → (n : ℕ) → answers_at es (chosen n
           (taking_place l.line (places p) (λ rest. places_by ls rest (places q) (places a) (places b)))
           (taking_place l.line (places q) (λ rest. places_by ls (places p) rest (places a) (places b)))
@@ -107,13 +115,16 @@ module _ (es : List Entry) where
 
   round_there : (ls : List Line) (ms : Marked) → AllThere (all_of ms)
       → answers_at es (places_by ls (numbers_of 0 ms) (numbers_of 1 ms) (numbers_of 2 ms) (numbers_of 3 ms))
-      ≡ answers_by ls (answers_in 0 (segment_of ms)) (answers_in 1 (segment_of ms)) (answers_in 2 (segment_of ms)) (answers_in 3 (segment_of ms))
+      ≡ answers_by ls (answers_in 0 (segment_of ms)) (answers_in 1 (segment_of ms)) (answers_in 2 (segment_of ms))
+      (answers_in 3 (segment_of ms))
   round_there ls ms there =
       let s = segment_of ms in
       answers_there ls (those_of 0 ms) (those_of 1 ms) (those_of 2 ms) (those_of 3 ms)
       (those_there 0 ms there) (those_there 1 ms there) (those_there 2 ms there) (those_there 3 ms there)
-      ∙ ap (λ xs. answers_by ls xs (replies (those_of 1 ms)) (replies (those_of 2 ms)) (replies (those_of 3 ms))) (replies_of_one 0 ms)
-      ∙ ap (λ xs. answers_by ls (answers_in 0 s) xs (replies (those_of 2 ms)) (replies (those_of 3 ms))) (replies_of_one 1 ms)
+      ∙ ap (λ xs. answers_by ls xs (replies (those_of 1 ms)) (replies (those_of 2 ms)) (replies (those_of 3 ms)))
+      (replies_of_one 0 ms)
+      ∙ ap (λ xs. answers_by ls (answers_in 0 s) xs (replies (those_of 2 ms)) (replies (those_of 3 ms)))
+      (replies_of_one 1 ms)
       ∙ ap (λ xs. answers_by ls (answers_in 0 s) (answers_in 1 s) xs (replies (those_of 3 ms))) (replies_of_one 2 ms)
       ∙ ap (λ xs. answers_by ls (answers_in 0 s) (answers_in 1 s) (answers_in 2 s) xs) (replies_of_one 3 ms)
 
@@ -125,13 +136,16 @@ module _ (es : List Entry) where
   answers_of_all (ls ∷ rounds) [] there = refl
   answers_of_all (ls ∷ rounds) (ms ∷ parts) there =
       let s = segment_of ms in
-      answers_append (places_by ls (numbers_of 0 ms) (numbers_of 1 ms) (numbers_of 2 ms) (numbers_of 3 ms)) (places_of rounds parts)
-      ∙ ap (λ xs. xs ++ answers_at es (places_of rounds parts)) (round_there ls ms (first_there (all_of ms) (flat_map all_of parts) there))
+      answers_append (places_by ls (numbers_of 0 ms) (numbers_of 1 ms) (numbers_of 2 ms) (numbers_of 3 ms))
+      (places_of rounds parts)
+      ∙ ap (λ xs. xs ++ answers_at es (places_of rounds parts))
+      (round_there ls ms (first_there (all_of ms) (flat_map all_of parts) there))
       ∙ ap (λ xs. answers_by ls (answers_in 0 s) (answers_in 1 s) (answers_in 2 s) (answers_in 3 s) ++ xs)
       (answers_of_all rounds parts (rest_there (all_of ms) (flat_map all_of parts) there))
 
 -- the entry at a place, if there is one
-pub entry_there : (es : List Entry) (i : ℕ) (e : Entry) → true ≡ ltb i (length es) → e ≡ slice_index_or es i e → slice_get es i ≡ Some e
+pub entry_there : (es : List Entry) (i : ℕ) (e : Entry) → true ≡ ltb i (length es) → e ≡ slice_index_or es i e
+    → slice_get es i ≡ Some e
 entry_there es i e less is = slice_get-get_or es i e (ltb-true i (length es) (sym less)) ∙ ap Some (sym is)
 
 pub no_entry_there : (es : List Entry) (i : ℕ) → false ≡ ltb i (length es) → slice_get es i ≡ None
@@ -145,5 +159,6 @@ adds_answer es k e old new there is rest =
     ∙ sym (append_assoc old (record { line = k.line; answer = e.answer } ∷ []) (answers_at es rest))
     ∙ ap (λ xs. xs ++ answers_at es rest) (sym is)
 
-pub adds_none : (es : List Entry) (k : Placed) (old : List Answered) → slice_get es k.number ≡ None → AddsAnswer es k old old
+pub adds_none : (es : List Entry) (k : Placed) (old : List Answered) → slice_get es k.number ≡ None
+    → AddsAnswer es k old old
 adds_none es k old none rest = ap (λ o. old ++ (given k.line o ++ answers_at es rest)) none

@@ -23,7 +23,9 @@ nothing_made f (x ∷ xs) e = cc
 -- the lines of that actor are all, and of another there are none
 all_lines : (n : ℕ) (ls : List Line) → IsOfOne n ls → lines_of n ls ≡ ls
 all_lines n [] one = refl
-all_lines n (l ∷ ls) one = ap (λ b. cond b (l ∷ lines_of n ls) (lines_of n ls)) (eq-eqb (actor_of l.said) n one.0) ∙ ap (λ xs. l ∷ xs) (all_lines n ls one.1)
+all_lines n (l ∷ ls) one =
+    ap (λ b. cond b (l ∷ lines_of n ls) (lines_of n ls)) (eq-eqb (actor_of l.said) n one.0)
+    ∙ ap (λ xs. l ∷ xs) (all_lines n ls one.1)
 
 pub no_lines : (n k : ℕ) (ls : List Line) → (n == k) ≡ false → IsOfOne n ls → lines_of k ls ≡ []
 no_lines n k [] other one = refl
@@ -31,34 +33,44 @@ no_lines n k (l ∷ ls) other one =
     ap (λ b. cond b (l ∷ lines_of k ls) (lines_of k ls)) (ap (λ j. j == k) one.0 ∙ other) ∙ no_lines n k ls other one.1
 
 -- the first entry is of the actor whose the others are not
-first_is : (e : ℕ × Entry) (s : Segment) (n : ℕ) → ((k : ℕ) → (n == k) ≡ false → entries_of k (e ∷ s) ≡ []) → (e.0 == n) ≡ true
+first_is : (e : ℕ × Entry) (s : Segment) (n : ℕ) → ((k : ℕ) → (n == k) ≡ false → entries_of k (e ∷ s) ≡ [])
+    → (e.0 == n) ≡ true
 first_is e s n none = by (n == e.0) refl
   where
     by : (b : Bool) → (n == e.0) ≡ b → (e.0 == n) ≡ true
     by true is = eq-eqb e.0 n (sym (eqb-true n e.0 is))
-    by false is = absurd (there (sym (ap (λ b. in_order (cond b (e ∷ filter (λ (x : ℕ × Entry). x.0 == e.0) s) (filter (λ (x : ℕ × Entry). x.0 == e.0) s))) (eq-eqb e.0 e.0 refl)) ∙ none e.0 is))
+    by false is = absurd (there
+        (sym (ap (λ b. in_order (cond b (e ∷ filter (λ (x : ℕ × Entry). x.0 == e.0) s)
+        (filter (λ (x : ℕ × Entry). x.0 == e.0) s))) (eq-eqb e.0 e.0 refl)) ∙ none e.0 is))
       where
         there : e.1 ∷ entries_of e.0 s ≡ [] → ⊥
         there bad = cc
 
-later_none : (e : ℕ × Entry) (s : Segment) (n k : ℕ) → (e.0 == n) ≡ true → (n == k) ≡ false → entries_of k (e ∷ s) ≡ [] → entries_of k s ≡ []
+later_none : (e : ℕ × Entry) (s : Segment) (n k : ℕ) → (e.0 == n) ≡ true → (n == k) ≡ false → entries_of k (e ∷ s) ≡ []
+    → entries_of k s ≡ []
 later_none e s n k is other none =
-    sym (ap (λ b. in_order (cond b (e ∷ filter (λ (x : ℕ × Entry). x.0 == k) s) (filter (λ (x : ℕ × Entry). x.0 == k) s))) (ap (λ j. j == k) (eqb-true e.0 n is) ∙ other)) ∙ none
+    sym (ap (λ b. in_order (cond b (e ∷ filter (λ (x : ℕ × Entry). x.0 == k) s)
+    (filter (λ (x : ℕ × Entry). x.0 == k) s))) (ap (λ j. j == k) (eqb-true e.0 n is) ∙ other)) ∙ none
 
-pub all_of_one : (n : ℕ) (s : Segment) → ((k : ℕ) → (n == k) ≡ false → entries_of k s ≡ []) → entries_of n s ≡ in_order s
+pub all_of_one : (n : ℕ) (s : Segment) → ((k : ℕ) → (n == k) ≡ false → entries_of k s ≡ [])
+    → entries_of n s ≡ in_order s
 all_of_one n [] none = refl
 all_of_one n (e ∷ s) none =
     let is = first_is e s n none in
     ap (λ b. in_order (cond b (e ∷ filter (λ (x : ℕ × Entry). x.0 == n) s) (filter (λ (x : ℕ × Entry). x.0 == n) s))) is
     ∙ ap (λ es. e.1 ∷ es) (all_of_one n s (λ k other. later_none e s n k is other (none k other)))
 
-pub one_round : (ts : List ChangeTree) (ls : List Line) (s : Segment) (n : ℕ) → IsOfOne n ls → IsRoundRun ts ls s → calls_of_entries (in_order s) ≡ calls_of_lines ts ls
+pub one_round : (ts : List ChangeTree) (ls : List Line) (s : Segment) (n : ℕ) → IsOfOne n ls → IsRoundRun ts ls s
+    → calls_of_entries (in_order s) ≡ calls_of_lines ts ls
 one_round ts ls s n one run =
     let none : (k : ℕ) → (n == k) ≡ false → entries_of k s ≡ [] =
-    λ k other. nothing_made (λ (e : Entry). call_in e.call) (entries_of k s) (run k ∙ ap (map (λ (l : Line). call_said ts l.said)) (no_lines n k ls other one)) in
-    ap calls_of_entries (sym (all_of_one n s none)) ∙ run n ∙ ap (map (λ (l : Line). call_said ts l.said)) (all_lines n ls one)
+    λ k other. nothing_made (λ (e : Entry). call_in e.call) (entries_of k s)
+    (run k ∙ ap (map (λ (l : Line). call_said ts l.said)) (no_lines n k ls other one)) in
+    ap calls_of_entries (sym (all_of_one n s none)) ∙ run n
+    ∙ ap (map (λ (l : Line). call_said ts l.said)) (all_lines n ls one)
 
-rounds_in_order : (ts : List ChangeTree) (rounds : List (List Line)) (ss : List Segment) → AreOfOne rounds → AreRun ts rounds ss
+rounds_in_order : (ts : List ChangeTree) (rounds : List (List Line)) (ss : List Segment) → AreOfOne rounds
+    → AreRun ts rounds ss
     → calls_of_entries (flat_map in_order ss) ≡ flat_map (calls_of_lines ts) rounds
 rounds_in_order ts [] [] ones run = refl
 rounds_in_order ts [] (s ∷ ss) ones run = absurd run
@@ -68,7 +80,8 @@ rounds_in_order ts (ls ∷ rounds) (s ∷ ss) ones run =
     ∙ ap (λ cs. cs ++ calls_of_entries (flat_map in_order ss)) (one_round ts ls s ones.0.0 ones.0.1 run.0)
     ∙ ap (λ cs. calls_of_lines ts ls ++ cs) (rounds_in_order ts rounds ss ones.1 run.1)
 
-pub one_order : (core : seen.Core) (ts : List ChangeTree) (rounds : List (List Line)) (o : Operated) → AreOfOne rounds → IsOperation core ts rounds o
+pub one_order : (core : seen.Core) (ts : List ChangeTree) (rounds : List (List Line)) (o : Operated) → AreOfOne rounds
+    → IsOperation core ts rounds o
     → StandAsInTheScript core ts rounds o
 one_order core ts rounds o ones op =
     ap calls_of_entries op.trace

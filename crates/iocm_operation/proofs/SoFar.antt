@@ -17,9 +17,11 @@ use Rattle.iocm_operation.specs.Placing.{places_for, places_of}
 use Rattle.iocm_operation.specs.Running.{IsRan}
 use Rattle.iocm_operation.specs.Segments.{AreRun}
 use Rattle.iocm_operation.specs.SoFar.{IsSoFar, segment_of}
-use Rattle.iocm_operation.proofs.Segments.{all_more, map_more, one_run_more, places_are_those, places_of_more, round_is_run}
+use Rattle.iocm_operation.proofs.Segments.{all_more, map_more, one_run_more, places_are_those, places_of_more}
+use Rattle.iocm_operation.proofs.Segments.{round_is_run}
 
-pub none_yet : (ts : List ChangeTree) (me : Sight) → me.receipts ≡ [] → is_whole me.names ≡ true → IsSoFar ts [] me me []
+pub none_yet : (ts : List ChangeTree) (me : Sight) → me.receipts ≡ [] → is_whole me.names ≡ true
+    → IsSoFar ts [] me me []
 none_yet ts me new whole =
     record {
       parts = [];
@@ -32,9 +34,11 @@ none_yet ts me new whole =
       whole = whole;
     }
 
-pub goes_on : (ts : List ChangeTree) (ls : List Line) (r : Round) (old new : Sight) (rp rq ra rb : List Receipt) (stopped : Option Rule) (places more : List Placed)
+pub goes_on : (ts : List ChangeTree) (ls : List Line) (r : Round) (old new : Sight) (rp rq ra rb : List Receipt)
+    (stopped : Option Rule) (places more : List Placed)
     → AreAsked ts ls r → IsRan r.p.items r.q.items r.a.items r.b.items old new rp rq ra rb stopped → stopped ≡ None
-    → more ≡ places ++ places_for ls rp rq ra rb → (rounds : List (List Line)) (first : Sight) → IsSoFar ts rounds first old places → IsSoFar ts (rounds ++ ls ∷ []) first new more
+    → more ≡ places ++ places_for ls rp rq ra rb → (rounds : List (List Line)) (first : Sight)
+    → IsSoFar ts rounds first old places → IsSoFar ts (rounds ++ ls ∷ []) first new more
 goes_on ts ls r old new rp rq ra rb stopped places more asked ran none are rounds first so_far =
     let all = ran.all none in
     let ms = ran.marked in
@@ -43,8 +47,10 @@ goes_on ts ls r old new rp rq ra rb stopped places more asked ran none are round
     record {
       parts = so_far.parts ++ ms ∷ [];
       receipts = ran.receipts ∙ ap (λ xs. xs ++ all_of ms) so_far.receipts ∙ sym (all_more so_far.parts ms);
-      each = subst (AreRun ts (rounds ++ ls ∷ [])) (sym (map_more so_far.parts ms)) (one_run_more ts rounds (map segment_of so_far.parts) ls (segment_of ms) so_far.each run);
-      placed = are ∙ ap (λ ks. ks ++ places_for ls rp rq ra rb) so_far.placed ∙ ap (λ ks. places_of rounds so_far.parts ++ ks) those
+      each = subst (AreRun ts (rounds ++ ls ∷ [])) (sym (map_more so_far.parts ms))
+          (one_run_more ts rounds (map segment_of so_far.parts) ls (segment_of ms) so_far.each run);
+      placed = are ∙ ap (λ ks. ks ++ places_for ls rp rq ra rb) so_far.placed
+          ∙ ap (λ ks. places_of rounds so_far.parts ++ ks) those
           ∙ sym (places_of_more ts rounds so_far.parts ls ms so_far.each);
       below = ran.below;
       tag = ran.tag ∙ so_far.tag;
@@ -53,7 +59,8 @@ goes_on ts ls r old new rp rq ra rb stopped places more asked ran none are round
     }
 
 -- the receipts that lie in slices
-pub in_hands : (places more : List Placed) (ls : List Line) (hp hq ha hb p q a b : List Receipt) → hp ≡ p → hq ≡ q → ha ≡ a → hb ≡ b
+pub in_hands : (places more : List Placed) (ls : List Line) (hp hq ha hb p q a b : List Receipt) → hp ≡ p → hq ≡ q
+    → ha ≡ a → hb ≡ b
     → more ≡ places ++ places_for ls hp hq ha hb → more ≡ places ++ places_for ls p q a b
 in_hands places more ls hp hq ha hb p q a b is_p is_q is_a is_b e =
     e ∙ ap (λ xs. places ++ places_for ls xs hq ha hb) is_p ∙ ap (λ xs. places ++ places_for ls p xs ha hb) is_q

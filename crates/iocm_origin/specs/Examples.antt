@@ -73,4 +73,5 @@ pub record RemarksAsWorked : Type 0 where
   pub of_whole : remark_on (Some (codes "a.change")) Whole too_many None
       ≡ codes "a.change: the change has too many edits (C2)\n  see: iocm explain C2"
   -- no file: not even its line is named
-  pub of_memory : remark_on None (Line 0) (Fault fault.memory) None ≡ codes "not enough storage (M1)\n  see: iocm explain M1"
+  pub of_memory : remark_on None (Line 0) (Fault fault.memory) None
+      ≡ codes "not enough storage (M1)\n  see: iocm explain M1"

@@ -1,5 +1,5 @@
 -- What is said of a refusal beside it.
-use Rattle.std.specs.Prelude.{ℕ, false, List, [], ◌∷◌, ◌++◌, codes, Option, None, Some}
+use Rattle.std.specs.Prelude.{ℕ, false, List, [], ◌++◌, codes, Option, None, Some}
 use Rattle.std.specs.Fmt.{digits}
 use Rattle.iocm_types.specs.declared.refused.At.{At}
 use Rattle.iocm_types.specs.declared.refused.At.TheVariants as at

@@ -53,7 +53,8 @@ fn origin_in_statements(
     told: Fault,
 ) -> Result<Option<Origin>, AllocError>
     ensures some { IfOk result (λ found. IfSome found (λ origin.
-        (meaning.fault_of (reading.read_tree statements.now) ≡ Some (said.Fault told)) × (origin ≡ Origin.Line told.line))) }
+        (meaning.fault_of (reading.read_tree statements.now) ≡ Some (said.Fault told))
+        × (origin ≡ Origin.Line told.line))) }
     ensures only { IfOk result (λ found.
         meaning.fault_of (reading.read_tree statements.now) ≡ Some (said.Fault told) → IsSome found) }
 {

@@ -29,7 +29,8 @@ pub fn origin_in_deck(
     told: Told,
 ) -> Result<Option<Origin>, AllocError>
     ensures some { IfOk result (λ found. IfSome found (IsOriginInDeck cards.now told)) }
-    ensures only { IfOk result (λ found. meaning.refusal_of_deck cards.now ≡ Some (meaning.as_breach told) → IsSome found) }
+    ensures only { IfOk result (λ found.
+        meaning.refusal_of_deck cards.now ≡ Some (meaning.as_breach told) → IsSome found) }
 {
     let told = as_breach(told);
     match read_statements(alloc, cards) {

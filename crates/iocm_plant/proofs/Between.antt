@@ -15,17 +15,20 @@ use Rattle.iocm_model.proofs.Change.Steps.{steps_stay_sound}
 use Rattle.iocm_model.proofs.Change.EditsGoBack.{inverse_gives, lived_after}
 use Rattle.iocm_index.specs.Namings.{namings_of}
 use Rattle.iocm_plant.specs.Operating.{HasNamingRoom, KeepsPlaces, KeepsRoom}
-use Rattle.iocm_plant.specs.Between.{SamePlacesAreKept, PlacesAreKeptOn, StandsAsItDoes, StandsOn, StepsLeaveItStanding, CanStillUnapply}
+use Rattle.iocm_plant.specs.Between.{SamePlacesAreKept, PlacesAreKeptOn, StandsAsItDoes, StandsOn, StepsLeaveItStanding}
+use Rattle.iocm_plant.specs.Between.{CanStillUnapply}
 use Rattle.iocm_plant.specs.Between.{TakenBackItStandsAsBefore}
 
 -- ---- what holds of each holds on
 
-all_on : {A : Type 0} {P Q : A → Type 0} → ((x : A) → P x → Q x) → (xs : List A) → AllByRecursion P xs → AllByRecursion Q xs
+all_on : {A : Type 0} {P Q : A → Type 0} → ((x : A) → P x → Q x) → (xs : List A) → AllByRecursion P xs
+    → AllByRecursion Q xs
 all_on more [] h = h
 all_on more (x ∷ xs) h = (more x h.0, all_on more xs h.1)
 
 -- the namings of a record that comes
-pub naming_room_kept : (ps qs : List Naming) → KeepsPlaces naming_cmp ps qs → (o : Option Rec) → HasNamingRoom ps o → HasNamingRoom qs o
+pub naming_room_kept : (ps qs : List Naming) → KeepsPlaces naming_cmp ps qs → (o : Option Rec) → HasNamingRoom ps o
+    → HasNamingRoom qs o
 naming_room_kept ps qs keeps None room = room
 naming_room_kept ps qs keeps (Some r) room = all_on keeps (namings_of r) room
 
@@ -42,7 +45,12 @@ places_are_kept_on a b c before after = record {
 -- where the places are the same, none is lost
 pub same_places_are_kept : SamePlacesAreKept
 same_places_are_kept old new same = subst (KeepsRoom old) (sym same)
-    (record { same_keys = λ key h. h; same_numbers = λ row h. h; same_namings = λ key h. h; same_subchannels = λ key h. h })
+    (record {
+      same_keys = λ key h. h;
+      same_numbers = λ row h. h;
+      same_namings = λ key h. h;
+      same_subchannels = λ key h. h;
+    })
 
 pub stands_as_it_does : StandsAsItDoes
 stands_as_it_does p sound = record {
@@ -52,7 +60,11 @@ stands_as_it_does p sound = record {
 
 pub stands_on : StandsOn
 stands_on p q r before after = record {
-  state = record { config = after.state.config ∙ before.state.config; numbers = after.state.numbers ∙ before.state.numbers; lived = after.state.lived };
+  state = record {
+    config = after.state.config ∙ before.state.config;
+    numbers = after.state.numbers ∙ before.state.numbers;
+    lived = after.state.lived;
+  };
   room = places_are_kept_on p.room q.room r.room before.room after.room;
 }
 
@@ -83,7 +95,8 @@ can_still_unapply i p q can stands = record {
   };
   room = record {
     key = stands.room.same_keys (action_key i.edit.action) can.room.key;
-    namings = naming_room_kept p.room.namings q.room.namings stands.room.same_namings (record_after i.edit.action) can.room.namings;
+    namings = naming_room_kept p.room.namings q.room.namings stands.room.same_namings (record_after i.edit.action)
+        can.room.namings;
     numbers = all_on stands.room.same_numbers i.edit.places can.room.numbers;
     subchannels = λ x h. stands.room.same_subchannels x (can.room.subchannels x h);
   };
@@ -101,8 +114,10 @@ back_as_before e s u carried sound like same =
 
 pub taken_back_it_stands_as_before : TakenBackItStandsAsBefore
 taken_back_it_stands_as_before e i p q r t was =
-    let like : HasConfigAndNumbersOf r.state (state_after e p.state) = subst (HasConfigAndNumbersOf r.state) was.performed was.stands.state in record {
-      state = subst (λ (s : State). HasConfigAndNumbersOf s p.state) (sym (was.taken_back ∙ ap (λ (k : Edit). state_after k r.state) was.inverse))
+    let like : HasConfigAndNumbersOf r.state (state_after e p.state) =
+    subst (HasConfigAndNumbersOf r.state) was.performed was.stands.state in record {
+      state = subst (λ (s : State). HasConfigAndNumbersOf s p.state)
+          (sym (was.taken_back ∙ ap (λ (k : Edit). state_after k r.state) was.inverse))
           (back_as_before e p.state r.state i.lives was.sound like was.lives);
       room = places_are_kept_on p.room q.room t.room was.room_kept
           (places_are_kept_on q.room r.room t.room was.stands.room (same_places_are_kept r.room t.room was.same_room));

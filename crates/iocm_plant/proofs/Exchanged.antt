@@ -28,7 +28,8 @@ use Rattle.iocm_plant.proofs.Between.{naming_room_kept}
 
 -- a record was exchanged by an action, and this one takes it back: the key has a place, and no
 -- naming has lost its own
-pub record WasExchanged (a again : Action) (old new : config.Stored) (index next : Stored Naming (Unit {0})) : Type 0 where
+pub record WasExchanged (a again : Action) (old new : config.Stored) (index next : Stored Naming (Unit {0})) : Type
+    0 where
   pub keyed : IsKeyed old.records
   pub indexed : IsIndexOf old.records index
   pub placed : RowsHavePlaces naming_cmp index
@@ -39,25 +40,32 @@ pub record WasExchanged (a again : Action) (old new : config.Stored) (index next
 
 -- things that a record of a configuration names have places in its index
 named_places : (t : Stored Naming (Unit {0})) (r : Rec) (things : List Named)
-    → ((thing : Named) → list_any (eq_by_cmp named_cmp thing) things ≡ true → HasPlaceIn naming_cmp t.places (naming (key_of r) thing))
+    → ((thing : Named) → list_any (eq_by_cmp named_cmp thing) things ≡ true
+    → HasPlaceIn naming_cmp t.places (naming (key_of r) thing))
     → AllByRecursion (HasPlaceIn naming_cmp t.places) (map (naming (key_of r)) things)
 named_places t r [] has = tt
 named_places t r (thing ∷ things) has = (
   has thing (ap (λ b. b || list_any (eq_by_cmp named_cmp thing) things) (ties_itself named_cmp named_total thing)),
-  named_places t r things (λ other among. has other (or_right (eq_by_cmp named_cmp other thing) (list_any (eq_by_cmp named_cmp other) things) among)),
+  named_places t r things (λ other among.
+      has other (or_right (eq_by_cmp named_cmp other thing) (list_any (eq_by_cmp named_cmp other) things) among)),
 )
 
 -- the namings of a record that stands in a configuration have places in its index
-pub record_has_room : (c : Configuration) (t : Stored Naming (Unit {0})) (key : Key) → IsKeyed c → IsIndexOf c t → RowsHavePlaces naming_cmp t
+pub record_has_room : (c : Configuration) (t : Stored Naming (Unit {0})) (key : Key) → IsKeyed c → IsIndexOf c t
+    → RowsHavePlaces naming_cmp t
     → (o : Option Rec) → get c key ≡ o → HasNamingRoom t.places o
 record_has_room c t key keyed index have None is = tt
 record_has_room c t key keyed index have (Some r) is = named_places t r (named_by r) (λ thing among.
-    have (naming (key_of r) thing) (index (naming (key_of r) thing) ∙ ap (names thing) (ap (get c) (keyed_own c keyed key r is) ∙ is) ∙ among))
+    have (naming (key_of r) thing)
+    (index (naming (key_of r) thing) ∙ ap (names thing) (ap (get c) (keyed_own c keyed key r is) ∙ is) ∙ among))
 
-module _ {a again : Action} {old new : config.Stored} {index next : Stored Naming (Unit {0})} (x : WasExchanged a again old new index next) where
+module _ {a again : Action} {old new : config.Stored} {index next : Stored Naming (Unit {0})}
+    (x : WasExchanged a again old new index next) where
   -- the way back has the same key
   same_key : action_key again ≡ action_key a
-  same_key = ap action_key x.back ∙ back_key (action_key a) (get old.records (action_key a)) (record_after a) (keyed_own old.records x.keyed (action_key a))
+  same_key = ap action_key x.back
+      ∙ back_key (action_key a) (get old.records (action_key a)) (record_after a)
+      (keyed_own old.records x.keyed (action_key a))
 
   -- and brings the record that was there
   old_record : record_after again ≡ get old.records (action_key a)
@@ -71,7 +79,8 @@ module _ {a again : Action} {old new : config.Stored} {index next : Stored Namin
   pub back_has_namings : HasNamingRoom next.places (record_after again)
   back_has_namings = subst (HasNamingRoom next.places) (sym old_record)
       (naming_room_kept index.places next.places x.namings (get old.records (action_key a))
-      (record_has_room old.records index (action_key a) x.keyed x.indexed x.placed (get old.records (action_key a)) refl))
+      (record_has_room old.records index (action_key a) x.keyed x.indexed x.placed (get old.records (action_key a))
+      refl))
 
   -- it leads back to the configuration from before
   pub config_as_before : (b : Configuration) → b ≡ config_after again new.records → b ≡ old.records

@@ -44,8 +44,10 @@ pub state_as_before : {p q : Inside} → AreAsBefore p q → state_in q ≡ stat
 state_as_before same = λ i. state_of (same.same_config i) (same.same_numbers i) (same.same_seats i)
 
 -- and what always holds holds still
-pub operating_as_before : {p q : Inside} → AreAsBefore p q → AreOperating p → IsIndexOf q.config.records q.index → AreOperating q
-operating_as_before {p} {q} same before indexed = subst (λ (k : Configuration × (Numbering × Seats)). IsOperating k.0 k.1.0 q.index k.1.1)
+pub operating_as_before : {p q : Inside} → AreAsBefore p q → AreOperating p → IsIndexOf q.config.records q.index
+    → AreOperating q
+operating_as_before {p} {q} same before indexed = subst
+    (λ (k : Configuration × (Numbering × Seats)). IsOperating k.0 k.1.0 q.index k.1.1)
     (sym (λ i. (same.same_config i, (same.same_numbers i, same.same_seats i)))) (record {
       keyed = before.keyed;
       numbered = before.numbered;

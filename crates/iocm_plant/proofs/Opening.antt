@@ -1,5 +1,6 @@
 -- The machine at opening: its seats show what is seen and have fresh live records.
-use Rattle.std.proofs.Common.{◌≡◌, Bool, true, false, cond, List, [], ◌∷◌, map, Option, Some, None, refl, sym, ap, subst, ◌∙◌}
+use Rattle.std.proofs.Common.{◌≡◌, Bool, true, false, cond, List, [], ◌∷◌, map, Option, Some, None, refl, sym, ap}
+use Rattle.std.proofs.Common.{subst, ◌∙◌}
 use Rattle.std.specs.Option.{option_map}
 use Rattle.std.specs.Ordering.{eq_by_cmp}
 use Rattle.std.specs.FinMap.{get, find, from_entries, same_map, get-from_entries}
@@ -21,14 +22,16 @@ use Rattle.iocm_seats.specs.Seated.{Seats, views_seated, lives_seated, fresh_sea
 use Rattle.iocm_seats.proofs.Settled.{view_in, live_in, view_seated, live_seated}
 use Rattle.iocm_plant.specs.Operating.{IsOperating, state_of}
 
-turned : {X Y : Type 0} (f : X → Y) (b : Bool) (x : X) (o : Option X) → cond b (Some (f x)) (option_map f o) ≡ option_map f (cond b (Some x) o)
+turned : {X Y : Type 0} (f : X → Y) (b : Bool) (x : X) (o : Option X)
+    → cond b (Some (f x)) (option_map f o) ≡ option_map f (cond b (Some x) o)
 turned f true x o = refl
 turned f false x o = refl
 
 abbrev seat_of : View → Seat
 seat_of v = record { view = v; live = fresh v.pim }
 
-find_seat : (x : SubId) (rows : List (SubId × View)) → find sub_id_cmp x (map fresh_seat rows) ≡ option_map seat_of (find sub_id_cmp x rows)
+find_seat : (x : SubId) (rows : List (SubId × View))
+    → find sub_id_cmp x (map fresh_seat rows) ≡ option_map seat_of (find sub_id_cmp x rows)
 find_seat x [] = refl
 find_seat x (row ∷ rows) = ap (cond (eq_by_cmp sub_id_cmp x row.0) (Some (seat_of row.1))) (find_seat x rows)
     ∙ turned seat_of (eq_by_cmp sub_id_cmp x row.0) row.1 (find sub_id_cmp x rows)
@@ -54,7 +57,8 @@ module _ (rows : List (SubId × View)) (seats : Seats) (is : seats ≡ from_entr
   -- they show what is seen
   pub fresh_seats_show : views_seated seats ≡ from_entries rows
   fresh_seats_show = same_map sub_ids_total sub_ids_exact _ _ (λ x.
-      view_seated seats x ∙ ap view_in (seat_at x) ∙ view_of_seat (find sub_id_cmp x rows) ∙ sym (get-from_entries sub_ids_total rows x))
+      view_seated seats x ∙ ap view_in (seat_at x) ∙ view_of_seat (find sub_id_cmp x rows)
+      ∙ sym (get-from_entries sub_ids_total rows x))
 
   -- and have fresh live records
   pub fresh_seats_live : lives_seated seats ≡ from_entries (map fresh_row rows)
@@ -62,7 +66,8 @@ module _ (rows : List (SubId × View)) (seats : Seats) (is : seats ≡ from_entr
       live_seated seats x ∙ ap live_in (seat_at x) ∙ live_of_seat (find sub_id_cmp x rows) ∙ sym (find_live x rows)
       ∙ sym (get-from_entries sub_ids_total (map fresh_row rows) x))
 
-module _ (c : Configuration) (n : Numbering) (index : Stored Naming (Unit {0})) (seats : Seats) (keyed : IsKeyed c) (first : n ≡ opening c)
+module _ (c : Configuration) (n : Numbering) (index : Stored Naming (Unit {0})) (seats : Seats) (keyed : IsKeyed c)
+    (first : n ≡ opening c)
     (indexed : IsIndexOf c index)
     (is : seats ≡ from_entries (map fresh_seat (views c n))) where
   pub opens : IsOperating c n index seats

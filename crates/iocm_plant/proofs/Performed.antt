@@ -10,7 +10,8 @@ use Rattle.iocm_types.specs.SubId.{sub_id_cmp}
 use Rattle.iocm_types.specs.KeyOrder.{sub_ids_total, sub_ids_exact}
 use Rattle.iocm_model.specs.Machine.Configuration.{Configuration, IsKeyed}
 use Rattle.iocm_model.specs.Machine.Numbering.{Numbering, AreNumbersOf}
-use Rattle.iocm_model.specs.Change.Edit.{Action, Edit, same_view, config_after, state_after, altered_by, is_altered, lives_after_edit}
+use Rattle.iocm_model.specs.Change.Edit.{Action, Edit, same_view, config_after, state_after, altered_by, is_altered}
+use Rattle.iocm_model.specs.Change.Edit.{lives_after_edit}
 use Rattle.iocm_model.specs.Change.Inverse.{inverse_of, freed_numbers}
 use Rattle.iocm_model.specs.Change.Maps.{differing}
 use Rattle.iocm_model.specs.Change.Refusal.{is_number_taken}
@@ -71,7 +72,8 @@ module _ {e : Edit} {p : Inside} {d : Configuration} {m : Numbering} (w : HasCha
       ∙ (λ i. not (option_eq same_view (get (w.before.seated i) x) (get (seen_new i) x)))
 
   -- what is told of it
-  pub told_altered : seen_changes d m p.seats.seats ≡ changes_between (views_in (state_in p)) (views_in (state_after e (state_in p)))
+  pub told_altered : seen_changes d m p.seats.seats
+      ≡ changes_between (views_in (state_in p)) (views_in (state_after e (state_in p)))
   told_altered = λ i. changes_between (w.before.seated i) (seen_new i)
 
   -- and of the numbers
@@ -87,9 +89,11 @@ pub record HaveFollowed (e : Edit) (again : Action) (p q : Inside) (f : Followed
   pub before : AreOperating p
   pub exchanged : WasExchanged e.action again p.config q.config p.index q.index
   pub numbers : q.numbers.numbers ≡ numbers_after q.config.records e.places p.numbers.numbers
-  pub seats : q.seats.seats ≡ settled_all e.lives p.seats.seats (seen_changes q.config.records q.numbers.numbers p.seats.seats)
+  pub seats : q.seats.seats
+      ≡ settled_all e.lives p.seats.seats (seen_changes q.config.records q.numbers.numbers p.seats.seats)
   pub told : TellsAll q.config.records p.numbers.numbers q.numbers.numbers p.seats.seats f
-  pub have_numbers : (place : Place) (number : ℕ) → get p.numbers.numbers place ≡ Some number → HasRoom p.numbers place number
+  pub have_numbers : (place : Place) (number : ℕ) → get p.numbers.numbers place ≡ Some number
+      → HasRoom p.numbers place number
   pub number_room : KeepsRoom p.numbers q.numbers
   pub have_seats : SeatsHavePlaces p.seats
   pub seat_room : KeepsPlaces p.seats q.seats
@@ -108,13 +112,15 @@ module _ {e : Edit} {again : Action} {p q : Inside} {f : Followed} (w : HaveFoll
       λ i. record { config = w.exchanged.there i; numbers = numbers_new has_changed i; lives = lives i }
 
   -- and what always holds holds again
-  pub operating_now : is_number_taken q.config.records p.numbers.numbers e.places ≡ false → IsIndexOf q.config.records q.index → AreOperating q
+  pub operating_now : is_number_taken q.config.records p.numbers.numbers e.places ≡ false
+      → IsIndexOf q.config.records q.index → AreOperating q
   operating_now free indexed = record {
     keyed = subst IsKeyed (sym w.exchanged.there) (keyed_after e.action p.config.records w.before.keyed);
     numbered = subst (AreNumbersOf q.config.records) (sym w.numbers)
         (numbers_after_are_numbers p.config.records q.config.records e.places p.numbers.numbers w.before.numbered free);
     indexed = indexed;
-    seated = ap views_seated w.seats ∙ settled_seats_show p.seats.seats (views_of q.config.records q.numbers.numbers) e.lives;
+    seated = ap views_seated w.seats
+        ∙ settled_seats_show p.seats.seats (views_of q.config.records q.numbers.numbers) e.lives;
   }
 
   -- the subchannels that were altered
@@ -123,7 +129,8 @@ module _ {e : Edit} {again : Action} {p q : Inside} {f : Followed} (w : HaveFoll
 
   -- they are in order
   altered_rise : IsStrictlySortedBy sub_id_cmp altered
-  altered_rise = differing_rise sub_id_cmp same_view (views_seated p.seats.seats) (views_of q.config.records q.numbers.numbers)
+  altered_rise = differing_rise sub_id_cmp same_view (views_seated p.seats.seats)
+      (views_of q.config.records q.numbers.numbers)
 
   -- what is made of it stands in order
   pub made_order : HasMadeOrder f
@@ -136,9 +143,11 @@ module _ {e : Edit} {again : Action} {p q : Inside} {f : Followed} (w : HaveFoll
   }
 
   -- the live records that altered subchannels had are those that the definition keeps
-  kept_retained : from_sorted f.told.kept.items ≡ retain_keys (lives_seated p.seats.seats) (is_altered (state_in p) (state_after e (state_in p)))
+  kept_retained : from_sorted f.told.kept.items
+      ≡ retain_keys (lives_seated p.seats.seats) (is_altered (state_in p) (state_after e (state_in p)))
   kept_retained = ap from_sorted w.told.altered.settled.kept_are
-      ∙ met_at_retained (lives_seated p.seats.seats) (get (views_seated p.seats.seats)) (get (views_of q.config.records q.numbers.numbers)) altered
+      ∙ met_at_retained (lives_seated p.seats.seats) (get (views_seated p.seats.seats))
+      (get (views_of q.config.records q.numbers.numbers)) altered
       (is_altered (state_in p) (state_after e (state_in p))) altered_rise (is_altered_at has_changed)
 
   -- the numbers that were freed are those by the definition
@@ -162,7 +171,8 @@ module _ {e : Edit} {again : Action} {p q : Inside} {f : Followed} (w : HaveFoll
     lives = λ x. ap (λ (l : Lives). contains_key l x) kept_retained;
     frees = w.told.given;
     meets = λ x. ap (is_among x) w.told.altered.settled.meets_are
-        ∙ left_at (lives_seated p.seats.seats) (get (views_seated p.seats.seats)) (get (views_of q.config.records q.numbers.numbers)) altered x
+        ∙ left_at (lives_seated p.seats.seats) (get (views_seated p.seats.seats))
+        (get (views_of q.config.records q.numbers.numbers)) altered x
         ∙ (λ i. is_altered_at has_changed x i && is_some (get (seen_new has_changed i) x));
   }
 
@@ -174,20 +184,26 @@ module _ {e : Edit} {again : Action} {p q : Inside} {f : Followed} (w : HaveFoll
     numbers = numbers_placed q.numbers (room_of q.config q.numbers q.index q.seats) refl refl f.renumbered.freed.items
         (subst (HaveRoom q.numbers) (sym w.told.freed) (rows_have_room q.numbers q.numbers.numbers p.numbers.numbers
         (λ place number has. w.number_room place number (w.have_numbers place number has))));
-    subchannels = kept_have_places p.seats q.seats.places (from_sorted f.told.kept.items) (is_altered (state_in p) (state_after e (state_in p)))
+    subchannels = kept_have_places p.seats q.seats.places (from_sorted f.told.kept.items)
+        (is_altered (state_in p) (state_after e (state_in p)))
         kept_retained w.have_seats w.seat_room;
   }
 
   -- an edit was performed, with what is made and told of it
-  pub performs : (a : Applied) → a.inverse ≡ made_of again f → a.touched ≡ f.told.touched → Performs e (operating_in p) a (operating_in q)
+  pub performs : (a : Applied) → a.inverse ≡ made_of again f → a.touched ≡ f.told.touched
+      → Performs e (operating_in p) a (operating_in q)
   performs a inverse touched = record {
     state = state_now;
     inverse = ap (λ (k : Carried). k.edit) inverse ∙ inverse_is;
-    back = subst (λ (k : Carried). CanUnapply k (operating_in q)) (sym inverse) (record { back = takes_back; room = has_room });
+    back = subst (λ (k : Carried). CanUnapply k (operating_in q)) (sym inverse)
+        (record { back = takes_back; room = has_room });
     numbers = ap (λ (t : Touched). t.numbers.items) touched ∙ w.told.cells ∙ told_numbers has_changed;
-    subchannels = ap (λ (t : Touched). t.subchannels.items) touched ∙ w.told.altered.subchannels ∙ told_altered has_changed;
+    subchannels = ap (λ (t : Touched). t.subchannels.items) touched ∙ w.told.altered.subchannels
+        ∙ told_altered has_changed;
   }
 
 -- the same of an edit and a machine that are given otherwise
-pub performs_as : {e x : Edit} {p q : Operating} {a : Applied} {r : Operating} → e ≡ x → p ≡ q → Performs e p a r → Performs x q a r
-performs_as {e} {x} {p} {q} {a} {r} same is made = subst (λ (k : Edit × Operating). Performs k.0 k.1 a r) (λ i. (same i, is i)) made
+pub performs_as : {e x : Edit} {p q : Operating} {a : Applied} {r : Operating} → e ≡ x → p ≡ q → Performs e p a r
+    → Performs x q a r
+performs_as {e} {x} {p} {q} {a} {r} same is made =
+    subst (λ (k : Edit × Operating). Performs k.0 k.1 a r) (λ i. (same i, is i)) made

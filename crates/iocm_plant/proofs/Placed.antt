@@ -1,5 +1,6 @@
 -- What an edit brings has places: its numbers, and the subchannels of its live records.
-use Rattle.std.proofs.Common.{◌≡◌, ℕ, Bool, true, false, cond, List, [], ◌∷◌, Option, Some, None, is_some, T, refl, sym, ap, subst, ◌∙◌}
+use Rattle.std.proofs.Common.{◌≡◌, ℕ, Bool, true, false, cond, List, [], ◌∷◌, Option, Some, None, is_some, T, refl, sym}
+use Rattle.std.proofs.Common.{ap, subst, ◌∙◌}
 use Rattle.std.specs.FinMap.{get, contains_key, find, is_sorted, from_sorted, retain_keys, get-from_sorted}
 use Rattle.std.specs.List.{AllByRecursion}
 use Rattle.std.specs.Ordering.{eq_by_cmp}
@@ -37,7 +38,8 @@ rows_placed : (places : List SubId) (rows : List (SubId × Live))
     → AllByRecursion (λ (row : SubId × Live). HasPlaceIn sub_id_cmp places row.0) rows
 rows_placed places [] has = tt
 rows_placed places (row ∷ rows) has = (
-  has row.0 (ap (λ b. is_some (cond b (Some row.1) (find sub_id_cmp row.0 rows))) (ties_itself sub_id_cmp sub_ids_total row.0)),
+  has row.0 (ap (λ b. is_some (cond b (Some row.1) (find sub_id_cmp row.0 rows)))
+      (ties_itself sub_id_cmp sub_ids_total row.0)),
   rows_placed places rows (λ x among. has x (behind (eq_by_cmp sub_id_cmp x row.0) (find sub_id_cmp x rows) among)),
 )
   where
@@ -49,7 +51,8 @@ rows_placed places (row ∷ rows) has = (
 pub kept_placed : (places : List SubId) (rows : List (SubId × Live)) → T (is_sorted sub_id_cmp rows)
     → ((x : SubId) → contains_key (from_sorted {R = sub_id_cmp} rows) x ≡ true → HasPlaceIn sub_id_cmp places x)
     → AllByRecursion (λ (row : SubId × Live). HasPlaceIn sub_id_cmp places row.0) rows
-kept_placed places rows up has = rows_placed places rows (λ x among. has x (ap is_some (get-from_sorted sub_id_cmp rows x up) ∙ among))
+kept_placed places rows up has =
+    rows_placed places rows (λ x among. has x (ap is_some (get-from_sorted sub_id_cmp rows x up) ∙ among))
 
 -- a seat that has a live record is there
 has_seat : (o : Option Seat) → is_some (live_in o) ≡ true → is_some o ≡ true
@@ -63,9 +66,12 @@ retained_there false o h = cc
 
 -- live records that were kept are of subchannels that have places
 pub kept_have_places : (seated : Seated) (places : List SubId) (kept : Lives) (test : SubId → Bool)
-    → kept ≡ retain_keys (lives_seated seated.seats) test → SeatsHavePlaces seated → KeepsPlaces sub_id_cmp seated.places places
+    → kept ≡ retain_keys (lives_seated seated.seats) test → SeatsHavePlaces seated
+    → KeepsPlaces sub_id_cmp seated.places places
     → (x : SubId) → contains_key kept x ≡ true → HasPlaceIn sub_id_cmp places x
 kept_have_places seated places kept test is have keeps x there =
-    let lived : is_some (get (lives_seated seated.seats) x) ≡ true = retained_there (test x) (get (lives_seated seated.seats) x)
-    (sym (ap is_some (ap (λ (l : Lives). get l x) is ∙ get_retained sub_ids_total sub_ids_exact (lives_seated seated.seats) test x)) ∙ there) in
+    let lived : is_some (get (lives_seated seated.seats) x) ≡ true =
+    retained_there (test x) (get (lives_seated seated.seats) x)
+    (sym (ap is_some (ap (λ (l : Lives). get l x) is
+    ∙ get_retained sub_ids_total sub_ids_exact (lives_seated seated.seats) test x)) ∙ there) in
     keeps x (have x (has_seat (get seated.seats x) (sym (ap is_some (live_seated seated.seats x)) ∙ lived)))

@@ -31,18 +31,22 @@ own_key (add s) r is = let same : s ≡ r = cc in ap key_of (sym same)
 own_key (delete key) r is = cc
 own_key (modify s) r is = let same : s ≡ r = cc in ap key_of (sym same)
 
-module _ (c : Configuration) (a : Action) (keyed : IsKeyed c) (x : IsPutAlike (get c (action_key a)) (record_after a)) where
+module _ (c : Configuration) (a : Action) (keyed : IsKeyed c)
+    (x : IsPutAlike (get c (action_key a)) (record_after a)) where
   -- nothing is affected
   pub nothing_affected : AreAllAffected c (config_after a c) [] []
-  nothing_affected = none_affected c (action_key a) (record_after a) keyed (own_key a) x.alike.seen.before x.alike.seen.after
-      (x.was_there ∙ ap Some x.alike.seen.old_is) (x.is_there ∙ ap Some x.alike.seen.new_is) x.alike.seen.units x.alike.seen.candidates
+  nothing_affected = none_affected c (action_key a) (record_after a) keyed (own_key a) x.alike.seen.before
+      x.alike.seen.after
+      (x.was_there ∙ ap Some x.alike.seen.old_is) (x.is_there ∙ ap Some x.alike.seen.new_is) x.alike.seen.units
+      x.alike.seen.candidates
 
   -- both records stand under one key
   one_key : key_of x.old ≡ key_of x.new
   one_key = keyed_own c keyed (action_key a) x.old x.was_there ∙ sym (own_key a x.new x.is_there)
 
   -- what the new one names has places in the index
-  pub alike_has_room : (t : Stored Naming (Unit {0})) → IsIndexOf c t → RowsHavePlaces naming_cmp t → HasNamingRoom t.places (record_after a)
+  pub alike_has_room : (t : Stored Naming (Unit {0})) → IsIndexOf c t → RowsHavePlaces naming_cmp t
+      → HasNamingRoom t.places (record_after a)
   alike_has_room t index have =
       subst (HasNamingRoom t.places) (sym x.is_there)
       (subst (AllByRecursion (HasPlaceIn naming_cmp t.places)) (λ i. map (naming (one_key i)) (x.alike.named i))

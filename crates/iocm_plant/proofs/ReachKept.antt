@@ -21,9 +21,11 @@ apart other key off false is = refl
 -- an action leaves the records of all other keys
 same_but : (a : Action) (m : Configuration) → IsSameBut (action_key a) m (config_after a m)
 same_but a m other off = get_with_value keys_total keys_exact m (action_key a) (record_after a) other
-    ∙ ap (λ b. cond b (record_after a) (get m other)) (apart other (action_key a) off (eq_by_cmp key_cmp other (action_key a)) refl)
+    ∙ ap (λ b. cond b (record_after a) (get m other))
+    (apart other (action_key a) off (eq_by_cmp key_cmp other (action_key a)) refl)
 
-module _ (a : Action) (key : Key) (m then : Configuration) (of : key ≡ action_key a) (after : then ≡ config_after a m) where
+module _ (a : Action) (key : Key) (m then : Configuration) (of : key ≡ action_key a)
+    (after : then ≡ config_after a m) where
   others : (other : Key) → other ≢ key → get then other ≡ get m other
   others other off = ap (λ (c : Configuration). get c other) after ∙ same_but a m other (λ e. off (e ∙ sym of))
 
@@ -32,7 +34,8 @@ module _ (a : Action) (key : Key) (m then : Configuration) (of : key ≡ action_
   was_reach table reach = record { before = m; same = others; reach = reach }
 
   -- and where it was taken back
-  pub was_reach_there : (now : Configuration) → now ≡ m → (table : List ImagePath) → IsReachOf then table → WasReach key now table
+  pub was_reach_there : (now : Configuration) → now ≡ m → (table : List ImagePath) → IsReachOf then table
+      → WasReach key now table
   was_reach_there now back table reach = record {
     before = then;
     same = λ other off. ap (λ (c : Configuration). get c other) back ∙ sym (others other off);

@@ -1,5 +1,6 @@
 -- A record is put in or taken out: the index stays that of the configuration.
-use Rattle.std.proofs.Common.{◌≡◌, ℕ, Bool, true, false, cond, not, ◌&&◌, ◌||◌, List, [], ◌∷◌, ◌++◌, map, unwrap_or, Option, Some, None, refl, sym, ap, ◌∙◌}
+use Rattle.std.proofs.Common.{◌≡◌, ℕ, Bool, true, false, cond, not, ◌&&◌, ◌||◌, List, [], ◌∷◌, ◌++◌, map, unwrap_or}
+use Rattle.std.proofs.Common.{Option, Some, None, refl, sym, ap, ◌∙◌}
 use Rattle.std.specs.List.{list_any}
 use Rattle.std.specs.Ordering.{eq_by_cmp, is_eq, ordering_then}
 use Rattle.std.specs.declared.cmp.Ordering.{Ordering}
@@ -36,11 +37,13 @@ apart_or true false false = refl
 apart_or false b t = refl
 
 one_naming : (key : Key) (n : Naming) (things : List Named)
-    → list_any (eq_by_cmp naming_cmp n) (map (naming key) things) ≡ (list_any (eq_by_cmp named_cmp n.named) things && eq_by_cmp key_cmp n.user key)
+    → list_any (eq_by_cmp naming_cmp n) (map (naming key) things)
+    ≡ (list_any (eq_by_cmp named_cmp n.named) things && eq_by_cmp key_cmp n.user key)
 one_naming key n [] = refl
 one_naming key n (t ∷ things) =
     (λ i. tied_parts (named_cmp n.named t) (key_cmp n.user key) i || one_naming key n things i)
-    ∙ apart_or (eq_by_cmp named_cmp n.named t) (list_any (eq_by_cmp named_cmp n.named) things) (eq_by_cmp key_cmp n.user key)
+    ∙ apart_or (eq_by_cmp named_cmp n.named t) (list_any (eq_by_cmp named_cmp n.named) things)
+    (eq_by_cmp key_cmp n.user key)
 
 -- a naming is one of a record's if the record names its thing and stands under its user
 of_record : (r : Rec) (n : Naming) → is_naming_of r n ≡ (names n.named (Some r) && eq_by_cmp key_cmp n.user (key_of r))
@@ -49,11 +52,14 @@ of_record r n = one_naming (key_of r) n (named_by r)
 -- ---- the index
 
 module _ (c : Configuration) (key : Key) where
-  out_by : (t : Stored Naming (Unit {0})) (n : Naming) (r : Rec) (b e : Bool) → eq_by_cmp key_cmp n.user key ≡ b → names n.named (Some r) ≡ e
+  out_by : (t : Stored Naming (Unit {0})) (n : Naming) (r : Rec) (b e : Bool) → eq_by_cmp key_cmp n.user key ≡ b
+      → names n.named (Some r) ≡ e
       → get c key ≡ Some r
-      → is_linked t n ≡ names n.named (get c n.user) → (not (e && b) && is_linked t n) ≡ names n.named (cond b None (get c n.user))
+      → is_linked t n ≡ names n.named (get c n.user)
+      → (not (e && b) && is_linked t n) ≡ names n.named (cond b None (get c n.user))
   out_by t n r true e tied is here linked =
-      ap (λ z. not (e && true) && z) (linked ∙ ap (λ z. names n.named (get c z)) (same_key key_cmp keys_exact n.user key tied)
+      ap (λ z. not (e && true) && z)
+      (linked ∙ ap (λ z. names n.named (get c z)) (same_key key_cmp keys_exact n.user key tied)
       ∙ ap (names n.named) here ∙ is)
       ∙ none e
     where
@@ -80,22 +86,28 @@ module _ (c : Configuration) (key : Key) where
   -- where there is no record nothing is taken out
   pub none_unlinked : (t : Stored Naming (Unit {0})) → get c key ≡ None → IsIndexOf c t → IsIndexOf (remove c key) t
   none_unlinked t none index n =
-      index n ∙ none_by t n (eq_by_cmp key_cmp n.user key) refl none ∙ ap (names n.named) (sym (get-remove keys_total c key n.user))
+      index n ∙ none_by t n (eq_by_cmp key_cmp n.user key) refl none
+      ∙ ap (names n.named) (sym (get-remove keys_total c key n.user))
 
-in_by : (c : Configuration) (t : Stored Naming (Unit {0})) (n : Naming) (r : Rec) (b e : Bool) → names n.named (Some r) ≡ e
-    → is_linked t n ≡ names n.named (cond b None (get c n.user)) → ((e && b) || is_linked t n) ≡ names n.named (cond b (Some r) (get c n.user))
+in_by : (c : Configuration) (t : Stored Naming (Unit {0})) (n : Naming) (r : Rec) (b e : Bool)
+    → names n.named (Some r) ≡ e
+    → is_linked t n ≡ names n.named (cond b None (get c n.user))
+    → ((e && b) || is_linked t n) ≡ names n.named (cond b (Some r) (get c n.user))
 in_by c t n r true true is linked = sym is
 in_by c t n r true false is linked = linked ∙ sym is
 in_by c t n r false true is linked = linked
 in_by c t n r false false is linked = linked
 
 -- a record that names the same things as the one that was there
-pub alike_linked : (c : Configuration) (t : Stored Naming (Unit {0})) (old r : Rec) → get c (key_of r) ≡ Some old → named_by old ≡ named_by r
+pub alike_linked : (c : Configuration) (t : Stored Naming (Unit {0})) (old r : Rec) → get c (key_of r) ≡ Some old
+    → named_by old ≡ named_by r
     → IsIndexOf c t → IsIndexOf (insert c (key_of r) r) t
 alike_linked c t old r here same index n =
-    index n ∙ by (eq_by_cmp key_cmp n.user (key_of r)) refl ∙ ap (names n.named) (sym (get-insert keys_total c (key_of r) r n.user))
+    index n ∙ by (eq_by_cmp key_cmp n.user (key_of r)) refl
+    ∙ ap (names n.named) (sym (get-insert keys_total c (key_of r) r n.user))
   where
-    by : (b : Bool) → eq_by_cmp key_cmp n.user (key_of r) ≡ b → names n.named (get c n.user) ≡ names n.named (cond b (Some r) (get c n.user))
+    by : (b : Bool) → eq_by_cmp key_cmp n.user (key_of r) ≡ b
+        → names n.named (get c n.user) ≡ names n.named (cond b (Some r) (get c n.user))
     by true tied = ap (names n.named) (ap (get c) (same_key key_cmp keys_exact n.user (key_of r) tied) ∙ here)
         ∙ ap (list_any (eq_by_cmp named_cmp n.named)) same
     by false tied = refl
@@ -107,7 +119,8 @@ same_number a b e = cc
 named_alike : (old new : Rec) → IsSeenAlike old new → address_of old ≡ address_of new → named_by old ≡ named_by new
 named_alike old new alike same =
     ap named_by alike.old_is
-    ∙ (λ i. map unit_named (alike.units i) ++ map (address_named (address i)) (alike.units i) ++ map image_named (unwrap_or (alike.candidates i) []))
+    ∙ (λ i. map unit_named (alike.units i) ++ map (address_named (address i)) (alike.units i)
+    ++ map image_named (unwrap_or (alike.candidates i) []))
     ∙ sym (ap named_by alike.new_is)
   where
     address : alike.before.unit_address ≡ alike.after.unit_address
@@ -127,7 +140,8 @@ pub alike : (old new : Rec) → IsSeenAlike old new → address_of old ≡ addre
 alike old new seen same = record { seen = seen; named = named_alike old new seen same }
 
 -- a record that comes in the place of such a one
-pub put_alike_linked : (c : Configuration) (t : Stored Naming (Unit {0})) (r : Rec) → IsPutAlike (get c (key_of r)) (Some r) → IsIndexOf c t
+pub put_alike_linked : (c : Configuration) (t : Stored Naming (Unit {0})) (r : Rec)
+    → IsPutAlike (get c (key_of r)) (Some r) → IsIndexOf c t
     → IsIndexOf (insert c (key_of r) r) t
 put_alike_linked c t r x index =
     let is : x.new ≡ r = cc in

@@ -22,7 +22,8 @@ use Rattle.iocm_plant.specs.Refusing.{refusal_by_number}
 
 -- numbers followed a change of the configuration, with those that came along: these were freed, and
 -- these given
-pub record WereRenumbered (d : Configuration) (carried : List (Place × ℕ)) (old new : Numbered) (freed given : List (Place × ℕ)) : Type 0 where
+pub record WereRenumbered (d : Configuration) (carried : List (Place × ℕ)) (old new : Numbered)
+    (freed given : List (Place × ℕ)) : Type 0 where
   pub apart : HasNoNumberTwice old.numbers
   pub have_room : (place : Place) (number : ℕ) → get old.numbers place ≡ Some number → HasRoom old place number
   pub now : new.numbers ≡ numbers_after d carried old.numbers
@@ -47,7 +48,8 @@ module _ {d : Configuration} {carried : List (Place × ℕ)} {old new : Numbered
   -- what was freed has room
   pub freed_have_room : HaveRoom new freed
   freed_have_room = subst (HaveRoom new) (sym w.gone)
-      (rows_have_room new new.numbers old.numbers (λ place number has. w.room place number (w.have_room place number has)))
+      (rows_have_room new new.numbers old.numbers
+      (λ place number has. w.room place number (w.have_room place number has)))
 
   -- and fits in once what was given is out
   pub freed_fit_in : FitIn (without_rows new.numbers given) freed
@@ -56,11 +58,14 @@ module _ {d : Configuration} {carried : List (Place × ℕ)} {old new : Numbered
 
   -- exchanged for it, it leads back to the numbers from before
   pub exchanged_back : exchanged new.numbers given freed ≡ old.numbers
-  exchanged_back = (λ i. exchanged new.numbers (w.come i) (w.gone i)) ∙ exchange_leads new.numbers old.numbers agree_back
+  exchanged_back = (λ i. exchanged new.numbers (w.come i) (w.gone i))
+      ∙ exchange_leads new.numbers old.numbers agree_back
 
 -- where no number that comes along is taken, only seats are in the way
-pub seats_are_in_the_way : (d : Configuration) (n m : Numbering) (seats : Seats) (key : Key) (carried : List (Place × ℕ)) (quiet : Quiet)
+pub seats_are_in_the_way : (d : Configuration) (n m : Numbering) (seats : Seats) (key : Key)
+    (carried : List (Place × ℕ)) (quiet : Quiet)
     → m ≡ numbers_after d carried n → is_number_taken d n carried ≡ false
     → seating_refusal d m seats quiet ≡ following_refusal d n seats key carried quiet
 seats_are_in_the_way d n m seats key carried quiet now free = ap (λ k. seating_refusal d k seats quiet) now
-    ∙ sym (ap (λ t. option_or (refusal_by_number key t) (seating_refusal d (numbers_after d carried n) seats quiet)) free)
+    ∙ sym (ap (λ t. option_or (refusal_by_number key t) (seating_refusal d (numbers_after d carried n) seats quiet))
+    free)

@@ -5,5 +5,7 @@ use Rattle.iocm_types.specs.declared.sub_id.SubId.{SubId}
 use Rattle.iocm_types.specs.SubId.{sub_id_cmp}
 use Rattle.iocm_types.specs.KeyOrder.{sub_ids_total, sub_ids_exact}
 
-pub as_rows : {X : Type 0} (rows : List (SubId × X)) → T (is_sorted sub_id_cmp rows) → from_entries {R = sub_id_cmp} rows ≡ from_sorted rows
-as_rows rows up = same_map sub_ids_total sub_ids_exact _ _ (λ x. get-from_entries sub_ids_total rows x ∙ sym (get-from_sorted sub_id_cmp rows x up))
+pub as_rows : {X : Type 0} (rows : List (SubId × X)) → T (is_sorted sub_id_cmp rows)
+    → from_entries {R = sub_id_cmp} rows ≡ from_sorted rows
+as_rows rows up = same_map sub_ids_total sub_ids_exact _ _
+    (λ x. get-from_entries sub_ids_total rows x ∙ sym (get-from_sorted sub_id_cmp rows x up))

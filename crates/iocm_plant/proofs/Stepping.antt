@@ -18,7 +18,8 @@ use Rattle.iocm_plant.specs.Operating.{Operating, IsOperating, state_of}
 use Rattle.iocm_plant.proofs.Inside.{AreOperating, state_in, operating_in}
 
 -- the loan of a seat that is there has ended
-pub changed_seat : {B : Type 0} (lent : Option B) (seat : B) → lent ≡ Some seat → (t : Seated) (x : SubId) (u : Seated) (s : Seat)
+pub changed_seat : {B : Type 0} (lent : Option B) (seat : B) → lent ≡ Some seat
+    → (t : Seated) (x : SubId) (u : Seated) (s : Seat)
     → OnSome lent (IsChangedAt t x u s) → IsChangedAt t x u s
 changed_seat lent seat is t x u s changed = subst (λ o. OnSome o (IsChangedAt t x u s)) is changed
 
@@ -37,8 +38,10 @@ module _ (seats : Seats) (x : SubId) (s : Seat) (l : Live) (here : get seats x �
   with_live = insert seats x (seat_with s l)
 
   -- at each subchannel the same view
-  seen_by : (b : Bool) (q : SubId) → eq_by_cmp sub_id_cmp q x ≡ b → view_in (cond b (Some (seat_with s l)) (get seats q)) ≡ view_in (get seats q)
-  seen_by true q tied = sym (ap (λ z. view_in (get seats z)) (same_key sub_id_cmp sub_ids_exact q x tied) ∙ ap view_in here)
+  seen_by : (b : Bool) (q : SubId) → eq_by_cmp sub_id_cmp q x ≡ b
+      → view_in (cond b (Some (seat_with s l)) (get seats q)) ≡ view_in (get seats q)
+  seen_by true q tied = sym
+      (ap (λ z. view_in (get seats z)) (same_key sub_id_cmp sub_ids_exact q x tied) ∙ ap view_in here)
   seen_by false q other = refl
 
   -- the same is seen
@@ -48,7 +51,8 @@ module _ (seats : Seats) (x : SubId) (s : Seat) (l : Live) (here : get seats x �
       ∙ seen_by (eq_by_cmp sub_id_cmp q x) q refl ∙ sym (view_seated seats q))
 
   -- and the same live record, but at this one
-  lived_by : (b : Bool) (q : SubId) → live_in (cond b (Some (seat_with s l)) (get seats q)) ≡ cond b (Some l) (live_in (get seats q))
+  lived_by : (b : Bool) (q : SubId)
+      → live_in (cond b (Some (seat_with s l)) (get seats q)) ≡ cond b (Some l) (live_in (get seats q))
   lived_by true q = refl
   lived_by false q = refl
 
@@ -56,7 +60,8 @@ module _ (seats : Seats) (x : SubId) (s : Seat) (l : Live) (here : get seats x �
   pub lives_now : lives_seated with_live ≡ insert (lives_seated seats) x l
   lives_now = same_map sub_ids_total sub_ids_exact _ _ (λ q.
       live_seated with_live q ∙ ap live_in (get-insert sub_ids_total seats x (seat_with s l) q)
-      ∙ lived_by (eq_by_cmp sub_id_cmp q x) q ∙ ap (cond (eq_by_cmp sub_id_cmp q x) (Some l)) (sym (live_seated seats q))
+      ∙ lived_by (eq_by_cmp sub_id_cmp q x) q
+      ∙ ap (cond (eq_by_cmp sub_id_cmp q x) (Some l)) (sym (live_seated seats q))
       ∙ sym (get-insert sub_ids_total (lives_seated seats) x l q))
 
 -- ---- a subchannel that isn't there
@@ -69,13 +74,15 @@ with_seats p t = record p { seats = t }
 subchannel_is : (p : Inside) → AreOperating p → (x : SubId)
     → subchannel_in (state_in p) x ≡ option_map (λ (s : Seat). (s.view, s.live)) (get p.seats.seats x)
 subchannel_is p before x =
-    (λ i. option_zip ((ap (λ v. get v x) (sym before.seated) ∙ view_seated p.seats.seats x) i) (live_seated p.seats.seats x i))
+    (λ i. option_zip ((ap (λ v. get v x) (sym before.seated) ∙ view_seated p.seats.seats x) i)
+    (live_seated p.seats.seats x i))
     ∙ zipped (get p.seats.seats x)
 
 -- what has a place is as it was
 room_still : {old : Operating} (p : Inside) (t : Seated) → operating_in p ≡ old → t.places ≡ p.seats.places
     → (operating_in (with_seats p t)).room ≡ old.room
-room_still p t is same = (λ i. record (operating_in p).room { subchannels = same i }) ∙ ap (λ (k : Operating). k.room) is
+room_still p t is same =
+    (λ i. record (operating_in p).room { subchannels = same i }) ∙ ap (λ (k : Operating). k.room) is
 
 -- a subchannel isn't there, and the seats stay as they are
 pub record FoundNone (old : Operating) (p : Inside) (x : SubId) (t : Seated) : Type 0 where
@@ -97,7 +104,8 @@ module _ {old : Operating} {p : Inside} {x : SubId} {t : Seated} (w : FoundNone 
 
   -- a step changes nothing
   pub state_still : (step : Step) → state_in (with_seats p t) ≡ after_step x step old.state
-  state_still step = ap (state_of p.config.records p.numbers.numbers) w.same_seats ∙ ap (λ (k : Operating). k.state) w.is
+  state_still step = ap (state_of p.config.records p.numbers.numbers) w.same_seats
+      ∙ ap (λ (k : Operating). k.state) w.is
       ∙ sym (ap (λ o. record old.state { lives = lives_after_step x step o old.state.lives }) none_there)
 
   -- and no place is lost
@@ -113,7 +121,8 @@ pub record FoundSeat (old : Operating) (p : Inside) (x : SubId) (s : Seat) (l : 
   pub here : get p.seats.seats x ≡ Some s
   pub changed : IsChangedAt p.seats x t (seat_with s l)
 
-module _ {old : Operating} {p : Inside} {x : SubId} {s : Seat} {l : Live} {t : Seated} (w : FoundSeat old p x s l t) where
+module _ {old : Operating} {p : Inside} {x : SubId} {s : Seat} {l : Live} {t : Seated}
+    (w : FoundSeat old p x s l t) where
   -- its view and its live record are at it
   pub one_there : subchannel_in old.state x ≡ Some (s.view, s.live)
   one_there = ap (λ (k : Operating). subchannel_in k.state x) (sym w.is)
@@ -129,13 +138,17 @@ module _ {old : Operating} {p : Inside} {x : SubId} {s : Seat} {l : Live} {t : S
   }
 
   -- where the live record is the one that a step leaves, the state is the one after it
-  pub state_after_step : (step : Step) → l ≡ live_after_step step s.view s.live → state_in (with_seats p t) ≡ after_step x step old.state
+  pub state_after_step : (step : Step) → l ≡ live_after_step step s.view s.live
+      → state_in (with_seats p t) ≡ after_step x step old.state
   state_after_step step left =
-      let lives : lives_seated t.seats ≡ lives_after_step x step (subchannel_in old.state x) (lives_seated p.seats.seats) =
-      ap lives_seated w.changed.seats ∙ lives_now p.seats.seats x s l w.here ∙ ap (insert (lives_seated p.seats.seats) x) left
+      let lives : lives_seated t.seats
+      ≡ lives_after_step x step (subchannel_in old.state x) (lives_seated p.seats.seats) =
+      ap lives_seated w.changed.seats ∙ lives_now p.seats.seats x s l w.here
+      ∙ ap (insert (lives_seated p.seats.seats) x) left
       ∙ sym (ap (λ o. lives_after_step x step o (lives_seated p.seats.seats)) one_there) in
       (λ i. record (state_in p) { lives = lives i })
-      ∙ (λ i. record (w.is i).state { lives = lives_after_step x step (subchannel_in old.state x) (w.is i).state.lives })
+      ∙ (λ i. record (w.is i).state
+      { lives = lives_after_step x step (subchannel_in old.state x) (w.is i).state.lives })
 
   -- and no place is lost
   pub room_as_before : (operating_in (with_seats p t)).room ≡ old.room

@@ -1,6 +1,7 @@
 -- What an edit does that takes another one back: the configuration and the numbers are those from
 -- before that one, and of the seats those that are altered are exchanged.
-use Rattle.std.proofs.Common.{◌≡◌, ℕ, Bool, true, false, cond, not, ◌&&◌, List, map, Option, Some, None, is_some, refl, sym, ap, subst, ◌∙◌}
+use Rattle.std.proofs.Common.{◌≡◌, ℕ, Bool, true, false, cond, not, ◌&&◌, List, map, Option, Some, None, is_some, refl}
+use Rattle.std.proofs.Common.{sym, ap, subst, ◌∙◌}
 use Rattle.std.specs.List.{AllByRecursion}
 use Rattle.std.specs.Map.{keys_of}
 use Rattle.std.specs.Option.{option_eq}
@@ -14,7 +15,8 @@ use Rattle.iocm_types.specs.KeyOrder.{sub_ids_total, sub_ids_exact}
 use Rattle.iocm_model.specs.Machine.Configuration.{Configuration, IsKeyed}
 use Rattle.iocm_model.specs.Machine.Numbering.{Numbering, AreNumbersOf}
 use Rattle.iocm_model.specs.Operation.State.{State, Lives, Views, views_of, views_in, seen_in}
-use Rattle.iocm_model.specs.Change.Edit.{Action, Edit, config_after, state_after, same_view, is_altered, lives_after_edit}
+use Rattle.iocm_model.specs.Change.Edit.{Action, Edit, config_after, state_after, same_view, is_altered}
+use Rattle.iocm_model.specs.Change.Edit.{lives_after_edit}
 use Rattle.iocm_model.specs.Change.Inverse.{inverse_of, freed_numbers}
 use Rattle.iocm_model.specs.Change.Renumbering.{numbers_after}
 use Rattle.iocm_model.proofs.Change.EditsGoBack.{config_back}
@@ -43,7 +45,11 @@ use Rattle.iocm_plant.proofs.Placed.{numbers_placed, kept_placed, kept_have_plac
 -- an edit by its parts
 abbrev pub edit_of : Action → List (Place × ℕ) → List (SubId × Live) → List (Place × ℕ) → List (SubId × Live) → Carried
 edit_of action places kept frees meets =
-    record { edit = record { action = action; places = places; lives = from_sorted kept }; frees = frees; meets = keys_of meets }
+    record {
+      edit = record { action = action; places = places; lives = from_sorted kept };
+      frees = frees;
+      meets = keys_of meets;
+    }
 
 -- something is kept where the test passes and something is there
 some_by : (b : Bool) (o : Option Live) → is_some (cond b o None) ≡ (b && is_some o)
@@ -73,13 +79,15 @@ module _ {A : Type 0} {parts : Parts A} {p : Inside} (w : CanBePerformed parts p
 
   -- the configuration is the one from before
   config_is : config_after (action_of parts.action) p.config.records ≡ first.config
-  config_is = ap (λ a. config_after a p.config.records) w.can.back.action ∙ ap (config_after (inverse_of taken first).action) w.can.back.is_config
+  config_is = ap (λ a. config_after a p.config.records) w.can.back.action
+      ∙ ap (config_after (inverse_of taken first).action) w.can.back.is_config
       ∙ config_back taken.action first.config w.can.back.sound.keyed
 
   -- a device that has a number there and here has the same
   agree : numbers.Agree n first.numbers
   agree = agree_both_ways first.numbers n
-      (subst (numbers.Agree first.numbers) (sym w.can.back.is_numbers) (changes_agree (state_after taken first).config taken.places first.numbers))
+      (subst (numbers.Agree first.numbers) (sym w.can.back.is_numbers)
+      (changes_agree (state_after taken first).config taken.places first.numbers))
 
   -- what it brings is what the other one freed
   places_are : parts.places.items ≡ freed_numbers first.numbers n
@@ -100,9 +108,11 @@ module _ {A : Type 0} {parts : Parts A} {p : Inside} (w : CanBePerformed parts p
   come_to_places = kept_placed p.seats.places parts.kept.items w.order.kept_rise w.can.room.subchannels
 
   -- the numbers are those from before by the definition, too
-  renumbered : numbers_after (config_after (action_of parts.action) p.config.records) parts.places.items n ≡ first.numbers
+  renumbered : numbers_after (config_after (action_of parts.action) p.config.records) parts.places.items n
+      ≡ first.numbers
   renumbered = (λ i. numbers_after (config_is i) (w.can.back.places i) (w.can.back.is_numbers i))
-      ∙ renumbering_goes_back first.config (state_after taken first).config taken.places first.numbers w.can.back.sound.numbered
+      ∙ renumbering_goes_back first.config (state_after taken first).config taken.places first.numbers
+      w.can.back.sound.numbered
 
   -- what is seen is what was seen after the other one
   seen_before : views_seated p.seats.seats ≡ views_in (state_after taken first)
@@ -117,14 +127,19 @@ pub record WasUnapplied {A : Type 0} (parts : Parts A) (again : Action) (p q : I
   pub exchanged : WasExchanged (action_of parts.action) again p.config q.config p.index q.index
   pub numbers : q.numbers.numbers ≡ numbers.exchanged p.numbers.numbers parts.frees.items parts.places.items
   pub number_room : HasSameRoom q.numbers p.numbers
-  pub have_numbers : (place : Place) (number : ℕ) → get p.numbers.numbers place ≡ Some number → HasRoom p.numbers place number
-  pub seats : q.seats.seats ≡ seats.exchanged (views_of q.config.records q.numbers.numbers) p.seats.seats (keys_of parts.meets.items) parts.kept.items
+  pub have_numbers : (place : Place) (number : ℕ) → get p.numbers.numbers place ≡ Some number
+      → HasRoom p.numbers place number
+  pub seats : q.seats.seats
+      ≡ seats.exchanged (views_of q.config.records q.numbers.numbers) p.seats.seats (keys_of parts.meets.items)
+      parts.kept.items
   pub seat_room : q.seats.places ≡ p.seats.places
   pub have_seats : SeatsHavePlaces p.seats
 
 -- the edit that takes it back: what it found in place of what it brought
 abbrev pub way_back : {A : Type 0} → Parts A → Action → Seats → Carried
-way_back parts again seats = edit_of again parts.frees.items (map (met (lives_seated seats)) parts.meets.items) parts.places.items parts.kept.items
+way_back parts again seats =
+    edit_of again parts.frees.items (map (met (lives_seated seats)) parts.meets.items) parts.places.items
+    parts.kept.items
 
 module _ {A : Type 0} {parts : Parts A} {again : Action} {p q : Inside} (w : WasUnapplied parts again p q) where
   -- the edit takes another one back
@@ -167,11 +182,15 @@ module _ {A : Type 0} {parts : Parts A} {again : Action} {p q : Inside} (w : Was
   exchange : IsExchange (views_seated p.seats.seats) now (keys_of parts.meets.items) parts.kept.items
   exchange = record {
     out_exactly = λ x. back.meets x ∙ (λ i. not (sight_turned (seen_in s x) (seen_in t x) i) && is_some (seen_in t x))
-        ∙ sym (λ i. not (option_eq same_view (get (seen_before w.here i) x) (get (seen_now i) x)) && is_some (get (seen_before w.here i) x));
-    back_exactly = λ x. sym (ap is_some (get-from_sorted sub_id_cmp parts.kept.items x w.here.order.kept_rise)) ∙ back.lives x
-        ∙ ap is_some (get_retained sub_ids_total sub_ids_exact s.lives (is_altered s t) x) ∙ some_by (is_altered s t x) (get s.lives x)
+        ∙ sym (λ i. not (option_eq same_view (get (seen_before w.here i) x) (get (seen_now i) x))
+        && is_some (get (seen_before w.here i) x));
+    back_exactly = λ x. sym (ap is_some (get-from_sorted sub_id_cmp parts.kept.items x w.here.order.kept_rise))
+        ∙ back.lives x
+        ∙ ap is_some (get_retained sub_ids_total sub_ids_exact s.lives (is_altered s t) x)
+        ∙ some_by (is_altered s t x) (get s.lives x)
         ∙ (λ i. not (sight_turned (seen_in s x) (seen_in t x) i) && back.sound.lived x i)
-        ∙ sym (λ i. not (option_eq same_view (get (seen_before w.here i) x) (get (seen_now i) x)) && is_some (get (seen_now i) x));
+        ∙ sym (λ i. not (option_eq same_view (get (seen_before w.here i) x) (get (seen_now i) x))
+        && is_some (get (seen_now i) x));
     apart = w.here.order.kept_rise;
   }
 
@@ -182,14 +201,20 @@ module _ {A : Type 0} {parts : Parts A} {again : Action} {p q : Inside} (w : Was
   -- the state is the one that the definition gives
   pub state_now : state_in q ≡ state_after e u
   state_now =
-      let lives : lives_seated q.seats.seats ≡ lives_after_edit (views_seated p.seats.seats) now (from_sorted parts.kept.items) (lives_seated p.seats.seats) =
-      ap lives_seated w.seats ∙ exchanged_seats_live p.seats.seats now (keys_of parts.meets.items) parts.kept.items exchange in
-      let numbers : q.numbers.numbers ≡ numbers_after (config_after (action_of parts.action) p.config.records) parts.places.items p.numbers.numbers =
+      let lives : lives_seated q.seats.seats
+      ≡ lives_after_edit (views_seated p.seats.seats) now (from_sorted parts.kept.items)
+      (lives_seated p.seats.seats) =
+      ap lives_seated w.seats ∙ exchanged_seats_live p.seats.seats now (keys_of parts.meets.items) parts.kept.items
+      exchange in
+      let numbers : q.numbers.numbers
+      ≡ numbers_after (config_after (action_of parts.action) p.config.records) parts.places.items
+      p.numbers.numbers =
       numbers_now ∙ sym (renumbered w.here) in
       λ i. record {
         config = w.exchanged.there i;
         numbers = numbers i;
-        lives = (lives ∙ (λ j. lives_after_edit (w.here.before.seated j) (views_of (w.exchanged.there j) (numbers j)) (from_sorted parts.kept.items)
+        lives = (lives ∙ (λ j. lives_after_edit (w.here.before.seated j) (views_of (w.exchanged.there j) (numbers j))
+            (from_sorted parts.kept.items)
             (lives_seated p.seats.seats))) i;
       }
 
@@ -197,9 +222,11 @@ module _ {A : Type 0} {parts : Parts A} {again : Action} {p q : Inside} (w : Was
   pub operating_now : IsIndexOf q.config.records q.index → AreOperating q
   operating_now index = record {
     keyed = subst IsKeyed (sym config_now) back.sound.keyed;
-    numbered = subst (λ (k : Configuration × Numbering). AreNumbersOf k.0 k.1) (sym (λ i. (config_now i, numbers_now i))) back.sound.numbered;
+    numbered = subst (λ (k : Configuration × Numbering). AreNumbersOf k.0 k.1)
+        (sym (λ i. (config_now i, numbers_now i))) back.sound.numbered;
     indexed = index;
-    seated = ap views_seated w.seats ∙ exchanged_seats_show p.seats.seats now (keys_of parts.meets.items) parts.kept.items exchange;
+    seated = ap views_seated w.seats
+        ∙ exchanged_seats_show p.seats.seats now (keys_of parts.meets.items) parts.kept.items exchange;
   }
 
   -- ---- the edit that takes this back
@@ -214,7 +241,8 @@ module _ {A : Type 0} {parts : Parts A} {again : Action} {p q : Inside} (w : Was
   lives_are = met_are_retained (lives_seated p.seats.seats) parts.meets.items (is_altered u (state_after e u))
       (λ x. is_some (seen_in u x)) w.here.order.meets_rise
       (λ x. exchange.out_exactly x
-      ∙ (λ i. not (option_eq same_view (get (w.here.before.seated i) x) (get (seen_new i) x)) && is_some (get (w.here.before.seated i) x)))
+      ∙ (λ i. not (option_eq same_view (get (w.here.before.seated i) x) (get (seen_new i) x))
+      && is_some (get (w.here.before.seated i) x)))
       (sound_state p w.here.before).lived
 
   -- it brings the numbers that this one freed
@@ -238,7 +266,8 @@ module _ {A : Type 0} {parts : Parts A} {again : Action} {p q : Inside} (w : Was
     lives = λ x. ap (λ (l : Lives). contains_key l x) lives_are;
     frees = places_are w.here ∙ ap (λ k. freed_numbers k p.numbers.numbers) (sym numbers_now);
     meets = λ x. sym (is_some-find sub_id_cmp x parts.kept.items) ∙ exchange.back_exactly x
-        ∙ (λ i. not (option_eq same_view (get (w.here.before.seated i) x) (get (seen_new i) x)) && is_some (get (seen_new i) x));
+        ∙ (λ i. not (option_eq same_view (get (w.here.before.seated i) x) (get (seen_new i) x))
+        && is_some (get (seen_new i) x));
   }
 
   -- what it brings has places
@@ -246,9 +275,12 @@ module _ {A : Type 0} {parts : Parts A} {again : Action} {p q : Inside} (w : Was
   has_room = record {
     key = back_has_key w.exchanged;
     namings = back_has_namings w.exchanged;
-    numbers = numbers_placed p.numbers (room_of q.config q.numbers q.index q.seats) w.number_room.same_places w.number_room.same_cells parts.frees.items
-        (subst (HaveRoom p.numbers) (sym back.frees) (rows_have_room p.numbers s.numbers p.numbers.numbers w.have_numbers));
-    subchannels = kept_have_places p.seats q.seats.places (from_sorted (map (met (lives_seated p.seats.seats)) parts.meets.items))
+    numbers = numbers_placed p.numbers (room_of q.config q.numbers q.index q.seats) w.number_room.same_places
+        w.number_room.same_cells parts.frees.items
+        (subst (HaveRoom p.numbers) (sym back.frees)
+        (rows_have_room p.numbers s.numbers p.numbers.numbers w.have_numbers));
+    subchannels = kept_have_places p.seats q.seats.places
+        (from_sorted (map (met (lives_seated p.seats.seats)) parts.meets.items))
         (is_altered u (state_after e u))
         lives_are w.have_seats (λ x has. subst (λ ps. HasPlaceIn sub_id_cmp ps x) (sym w.seat_room) has);
   }
@@ -259,4 +291,5 @@ module _ {A : Type 0} {parts : Parts A} {again : Action} {p q : Inside} (w : Was
 
 -- an edit by its parts, on a machine by its tables
 pub by_parts : {i j : Carried} {p q : Operating} → i ≡ j → p ≡ q → CanUnapply j q → CanUnapply i p
-by_parts {i} {j} {p} {q} same is can = subst (λ (k : Carried). CanUnapply k p) (sym same) (subst (CanUnapply j) (sym is) can)
+by_parts {i} {j} {p} {q} same is can =
+    subst (λ (k : Carried). CanUnapply k p) (sym same) (subst (CanUnapply j) (sym is) can)

@@ -44,7 +44,8 @@ pub record WasChanged (d : Configuration) (n : Numbering) (seats : Seats) (at : 
   pub cells_are : at.cells.items ≡ cells_at n at.affected.places.items
 
 -- the numbers have followed it: those of devices that stay are as they were, and these were given
-pub record WasRenumbered (d : Configuration) (m : Numbering) (seats : Seats) (at : LookedAt) (given : List (Place × ℕ)) : Type 0 where
+pub record WasRenumbered (d : Configuration) (m : Numbering) (seats : Seats) (at : LookedAt)
+    (given : List (Place × ℕ)) : Type 0 where
   pub first : Numbering
   pub changed : WasChanged d first seats at
   pub now_numbered : AreNumbersOf d m

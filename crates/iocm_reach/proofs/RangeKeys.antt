@@ -1,5 +1,6 @@
 -- The keys of the paths of a range, and of those by which they are online, in the order of keys.
-use Rattle.std.proofs.Common.{◌≡◌, ◌∙◌, ℕ, ◌<◌, ◌≤◌, ◌≢◌, Bool, true, false, not, ◌&&◌, cond, nat_eq, nat_le, IsTrue, List, [], ◌∷◌, length, codes, Option, None, Some, refl, sym, ap, subst, arith}
+use Rattle.std.proofs.Common.{◌≡◌, ◌∙◌, ℕ, ◌<◌, ◌≤◌, ◌≢◌, Bool, true, false, not, ◌&&◌, cond, nat_eq, nat_le, IsTrue}
+use Rattle.std.proofs.Common.{List, [], ◌∷◌, length, codes, Option, None, Some, refl, sym, ap, subst, arith}
 use Rattle.std.proofs.lemmas.Bool.{eqb-true, eqb-false, leb-true, leb-false}
 use Rattle.std.specs.List.{list_all}
 use Rattle.std.specs.Ordering.{nat_cmp, is_le, is_eq, eq_by_cmp, ordering_then}
@@ -27,7 +28,8 @@ from_first : (a n : ℕ) (s : Ordering) → a ≤ n → is_le s ≡ true → is_
 from_first a n s low le = by (nat_eq a n) refl
   where
     by : (b : Bool) → nat_eq a n ≡ b → is_le (ordering_then (nat_cmp a n) s) ≡ true
-    by true tie = subst (λ (k : ℕ). is_le (ordering_then (nat_cmp a k) s) ≡ true) (eqb-true a n tie) (ap is_le (past_tie a s) ∙ le)
+    by true tie = subst (λ (k : ℕ). is_le (ordering_then (nat_cmp a k) s) ≡ true) (eqb-true a n tie)
+        (ap is_le (past_tie a s) ∙ le)
     by false tie =
         let other : a ≢ n = eqb-false a n tie in
         let less : a < n = omega arith in
@@ -42,7 +44,8 @@ first_of_five false b c d e h = h
 least_first : (n : List ℕ) → IsTrue (is_name n) → is_le (slice_cmp nat_cmp least n) ≡ true
 least_first [] named = cc
 least_first (x ∷ xs) named = by (nat_eq 65 x) refl
-    (leb-true 65 x (first_of_five (nat_le 65 x) (nat_le x 90) (list_all is_letter_or_digit (x ∷ xs)) (nat_le (length (x ∷ xs)) 8) (not (pointwise nat_eq (x ∷ xs) (codes "REC"))) named))
+    (leb-true 65 x (first_of_five (nat_le 65 x) (nat_le x 90) (list_all is_letter_or_digit (x ∷ xs))
+    (nat_le (length (x ∷ xs)) 8) (not (pointwise nat_eq (x ∷ xs) (codes "REC"))) named))
   where
     ends_first : (ys : List ℕ) → is_le (slice_cmp nat_cmp [] ys) ≡ true
     ends_first [] = refl
@@ -70,10 +73,12 @@ module _ (r : PathRange) where
   -- ---- paths
 
   pub first_path : (p : ℕ) → r.first ≤ p → is_le (key_cmp (Path r.css r.first) (Path r.css p)) ≡ true
-  first_path p low = ap is_le (past_tie r.css (ordering_then (nat_cmp r.first p) Equal)) ∙ from_first r.first p Equal low refl
+  first_path p low = ap is_le (past_tie r.css (ordering_then (nat_cmp r.first p) Equal))
+      ∙ from_first r.first p Equal low refl
 
   -- a key that isn't one of these, and isn't before them, is after them
-  pub behind_paths : (k : Key) → path_within r k ≡ None → is_le (key_cmp (Path r.css r.first) k) ≡ true → (p : ℕ) → p ≤ r.last → key_cmp (Path r.css p) k ≡ Less
+  pub behind_paths : (k : Key) → path_within r k ≡ None → is_le (key_cmp (Path r.css r.first) k) ≡ true → (p : ℕ)
+      → p ≤ r.last → key_cmp (Path r.css p) k ≡ Less
   behind_paths Id none le p low = cc
   behind_paths Resource none le p low = cc
   behind_paths (Image a b) none le p low = cc
@@ -83,13 +88,15 @@ module _ (r : PathRange) where
   behind_paths (Online a b c) none le p low = refl
   behind_paths (Path of q) none le p low = by (nat_eq of r.css) refl (nat_le q r.last) refl none
     where
-      by : (b : Bool) → nat_eq of r.css ≡ b → (d : Bool) → nat_le q r.last ≡ d → cond (b && d) (Some q) None ≡ None → key_cmp (Path r.css p) (Path of q) ≡ Less
+      by : (b : Bool) → nat_eq of r.css ≡ b → (d : Bool) → nat_le q r.last ≡ d → cond (b && d) (Some q) None ≡ None
+          → key_cmp (Path r.css p) (Path of q) ≡ Less
       by true here true near none = cc
       by true here false far none = after_last r.css of p q r.last Equal here far low
       by false here d near none = other_is_after r.css of _ _ here le
 
   -- the key of one of these ties with that of the path of this number, and with no other
-  pub ties_with_path : (q : ℕ) (k : Key) → path_within r k ≡ Some q → (p : ℕ) → eq_by_cmp key_cmp (Path r.css p) k ≡ nat_eq p q
+  pub ties_with_path : (q : ℕ) (k : Key) → path_within r k ≡ Some q → (p : ℕ)
+      → eq_by_cmp key_cmp (Path r.css p) k ≡ nat_eq p q
   ties_with_path q Id is p = cc
   ties_with_path q Resource is p = cc
   ties_with_path q (Image a b) is p = cc
@@ -99,18 +106,21 @@ module _ (r : PathRange) where
   ties_with_path q (Online a b c) is p = cc
   ties_with_path q (Path of path) is p = by (nat_eq of r.css) refl (nat_le path r.last) is
     where
-      by : (b : Bool) → nat_eq of r.css ≡ b → (d : Bool) → cond (b && d) (Some path) None ≡ Some q → eq_by_cmp key_cmp (Path r.css p) (Path of path) ≡ nat_eq p q
+      by : (b : Bool) → nat_eq of r.css ≡ b → (d : Bool) → cond (b && d) (Some path) None ≡ Some q
+          → eq_by_cmp key_cmp (Path r.css p) (Path of path) ≡ nat_eq p q
       by true here true is =
           let same : of ≡ r.css = eqb-true of r.css here in
           let there : path ≡ q = cc in
           ap (eq_by_cmp key_cmp (Path r.css p)) (λ i. Path (same i) (there i))
-          ∙ ap is_eq (past_tie r.css (ordering_then (nat_cmp p q) Equal)) ∙ both_tie (nat_cmp p q) Equal ∙ ends (is_eq (nat_cmp p q)) ∙ unsigned_tied p q
+          ∙ ap is_eq (past_tie r.css (ordering_then (nat_cmp p q) Equal)) ∙ both_tie (nat_cmp p q) Equal
+          ∙ ends (is_eq (nat_cmp p q)) ∙ unsigned_tied p q
       by true here false is = cc
       by false here d is = cc
 
   -- ---- paths that are online
 
-  pub first_online : (p : ℕ) (n : List ℕ) → r.first ≤ p → IsTrue (is_name n) → is_le (key_cmp (Online r.css r.first least) (Online r.css p n)) ≡ true
+  pub first_online : (p : ℕ) (n : List ℕ) → r.first ≤ p → IsTrue (is_name n)
+      → is_le (key_cmp (Online r.css r.first least) (Online r.css p n)) ≡ true
   first_online p n low named =
       ap is_le (past_tie r.css (ordering_then (nat_cmp r.first p) (slice_cmp nat_cmp least n)))
       ∙ from_first r.first p (slice_cmp nat_cmp least n) low (least_first n named)
@@ -127,7 +137,8 @@ module _ (r : PathRange) where
   behind_online (Device a b) none le p n low = cc
   behind_online (Online of q other) none le p n low = by (nat_eq of r.css) refl (nat_le q r.last) refl none
     where
-      by : (b : Bool) → nat_eq of r.css ≡ b → (d : Bool) → nat_le q r.last ≡ d → cond {A = Option OnlinePath} (b && d) (Some (record { path = q; name = other })) None ≡ None
+      by : (b : Bool) → nat_eq of r.css ≡ b → (d : Bool) → nat_le q r.last ≡ d
+          → cond {A = Option OnlinePath} (b && d) (Some (record { path = q; name = other })) None ≡ None
           → key_cmp (Online r.css p n) (Online of q other) ≡ Less
       by true here true near none = cc
       by true here false far none = after_last r.css of p q r.last (slice_cmp nat_cmp n other) here far low
@@ -146,14 +157,17 @@ module _ (r : PathRange) where
   ties_with_online row (Device a b) is p n = cc
   ties_with_online row (Online of path other) is p n = by (nat_eq of r.css) refl (nat_le path r.last) is
     where
-      by : (b : Bool) → nat_eq of r.css ≡ b → (d : Bool) → cond {A = Option OnlinePath} (b && d) (Some (record { path = path; name = other })) None ≡ Some row
-          → eq_by_cmp key_cmp (Online r.css p n) (Online of path other) ≡ (nat_eq p row.path && pointwise nat_eq n row.name)
+      by : (b : Bool) → nat_eq of r.css ≡ b → (d : Bool)
+          → cond {A = Option OnlinePath} (b && d) (Some (record { path = path; name = other })) None ≡ Some row
+          → eq_by_cmp key_cmp (Online r.css p n) (Online of path other)
+          ≡ (nat_eq p row.path && pointwise nat_eq n row.name)
       by true here true is =
           let css : of ≡ r.css = eqb-true of r.css here in
           let found : OnlinePath = record { path = path; name = other } in
           let same : found ≡ row = cc in
           ap (λ k. eq_by_cmp key_cmp (Online r.css p n) k) (λ i. Online (css i) (same i).path (same i).name)
-          ∙ ap is_eq (past_tie r.css (ordering_then (nat_cmp p row.path) (slice_cmp nat_cmp n row.name))) ∙ both_tie (nat_cmp p row.path) (slice_cmp nat_cmp n row.name)
+          ∙ ap is_eq (past_tie r.css (ordering_then (nat_cmp p row.path) (slice_cmp nat_cmp n row.name)))
+          ∙ both_tie (nat_cmp p row.path) (slice_cmp nat_cmp n row.name)
           ∙ ap (λ b. b && eq_by_cmp (slice_cmp nat_cmp) n row.name) (unsigned_tied p row.path)
           ∙ ap (λ b. nat_eq p row.path && b) (sym (texts_ties n row.name))
       by true here false is = cc

@@ -1,5 +1,6 @@
 -- Lists of which one item after the other is written.
-use Rattle.std.proofs.Common.{◌≡◌, ◌≢◌, ◌∙◌, ℕ, ◌+◌, ◌<◌, Bool, true, false, nat_eq, List, length, get_or, set, refl, sym, subst, ap, arith, get_or-set_other, get_or-set_same}
+use Rattle.std.proofs.Common.{◌≡◌, ◌≢◌, ◌∙◌, ℕ, ◌+◌, ◌<◌, Bool, true, false, nat_eq, List, length, get_or, set, refl}
+use Rattle.std.proofs.Common.{sym, subst, ap, arith, get_or-set_other, get_or-set_same}
 use Rattle.std.proofs.lemmas.Bool.{eqb-true, eqb-false}
 
 -- the items of these numbers were right up to one that is written: now it is, too
@@ -12,7 +13,8 @@ right_more {A} In at right xs d x place k here within apart before is m holds lo
     by : (b : Bool) → nat_eq m k ≡ b → get_or (set xs place x) (at m) d ≡ right m
     by true tie =
         let same : m ≡ k = eqb-true m k tie in
-        ap (λ (i : ℕ). get_or (set xs place x) i d) (ap at same ∙ sym here) ∙ get_or-set_same xs place x d within ∙ is ∙ ap right (sym same)
+        ap (λ (i : ℕ). get_or (set xs place x) i d) (ap at same ∙ sym here) ∙ get_or-set_same xs place x d within ∙ is
+        ∙ ap right (sym same)
     by false tie =
         let other : m ≢ k = eqb-false m k tie in
         get_or-set_other xs place (at m) x d (apart m other) ∙ before m holds (omega arith)

@@ -9,9 +9,12 @@ mark_at marks path mif = slice_index_or marks (path * 16 + mif) false
 
 -- for each path of a range just the images are marked of which a test says so
 abbrev pub AreMarksOf : (ℕ → ℕ → Bool) → PathRange → List Bool → Type 0
-AreMarksOf test r marks = (path mif : ℕ) → r.first ≤ path → path ≤ r.last → 0 < mif → mif < 16 → mark_at marks path mif ≡ test path mif
+AreMarksOf test r marks =
+    (path mif : ℕ) → r.first ≤ path → path ≤ r.last → 0 < mif → mif < 16 → mark_at marks path mif ≡ test path mif
 
 -- for one path the images were marked whose names pass a test, and no others
-pub record IsRowMarked (path : ℕ) (test : List ℕ → Bool) (names : List (Option (List ℕ))) (old new : List Bool) : Type 0 where
-  pub here : (mif : ℕ) → 0 < mif → mif < 16 → mark_at new path mif ≡ (mark_at old path mif || is_named test (slice_index_or names mif None))
+pub record IsRowMarked (path : ℕ) (test : List ℕ → Bool) (names : List (Option (List ℕ))) (old new : List Bool) : Type
+    0 where
+  pub here : (mif : ℕ) → 0 < mif → mif < 16
+      → mark_at new path mif ≡ (mark_at old path mif || is_named test (slice_index_or names mif None))
   pub others : (other mif : ℕ) → other ≢ path → mif < 16 → mark_at new other mif ≡ mark_at old other mif

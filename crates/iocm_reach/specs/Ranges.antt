@@ -17,5 +17,6 @@ path_within r _ = None
 
 -- the path whose key this is, with the image to which it is online, if it is that of one of these
 abbrev pub online_within : PathRange → Key → Option OnlinePath
-online_within r (Online of path name) = if nat_eq of r.css && nat_le path r.last then Some (record { path = path; name = name }) else None
+online_within r (Online of path name) =
+    if nat_eq of r.css && nat_le path r.last then Some (record { path = path; name = name }) else None
 online_within r _ = None

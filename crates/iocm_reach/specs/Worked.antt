@@ -61,4 +61,5 @@ pub record IsFollowed (m : Configuration) (key : Key) (table : List ImagePath) :
   pub taken : WasReach key (remove m key) table
 
 abbrev pub ChangesAreFollowed : Type 0
-ChangesAreFollowed = (m : Configuration) (key : Key) (table : List ImagePath) → IsReachOf m table → IsFollowed m key table
+ChangesAreFollowed = (m : Configuration) (key : Key) (table : List ImagePath) → IsReachOf m table
+    → IsFollowed m key table

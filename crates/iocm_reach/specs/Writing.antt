@@ -1,6 +1,7 @@
 -- How a table is written: by the names of images, the rows of a range of paths at once, or image by
 -- image.
-use Rattle.std.specs.Prelude.{◌≡◌, ◌≢◌, ℕ, ◌<◌, ◌≤◌, ◌⊎◌, Bool, List, Option, None, IfSome, IsTrue, slice_index_or, length}
+use Rattle.std.specs.Prelude.{◌≡◌, ◌≢◌, ℕ, ◌<◌, ◌≤◌, ◌⊎◌, Bool, List, Option, None, IfSome, IsTrue, slice_index_or}
+use Rattle.std.specs.Prelude.{length}
 use Rattle.iocm_types.specs.Name.{is_name}
 use Rattle.iocm_model.specs.Machine.Configuration.{Lookup}
 use Rattle.iocm_derive.specs.Derived.{name_at}
@@ -22,14 +23,17 @@ IsBeside r of path = (of ≢ r.css) ⊎ ((path < r.first) ⊎ (r.last < path))
 -- the rows of a range of paths were written from marks, and no others
 pub record AreRowsWritten (r : PathRange) (listed online : List Bool) (old new : List ImagePath) : Type 0 where
   pub rows : (path mif : ℕ) → r.first ≤ path → path ≤ r.last → mif < 16
-      → cell_of new (row_of r.css path) mif ≡ record { reached = mark_at listed path mif; online = mark_at online path mif }
-  pub others : (of path mif : ℕ) → path < 256 → mif < 16 → IsBeside r of path → cell_of new (row_of of path) mif ≡ cell_of old (row_of of path) mif
+      → cell_of new (row_of r.css path) mif
+      ≡ record { reached = mark_at listed path mif; online = mark_at online path mif }
+  pub others : (of path mif : ℕ) → path < 256 → mif < 16 → IsBeside r of path
+      → cell_of new (row_of of path) mif ≡ cell_of old (row_of of path) mif
   pub long : length new ≡ length old
 
 -- the rows of a range of paths were written for a configuration, and no others
 pub record AreRowsSet (c : Lookup) (r : PathRange) (old new : List ImagePath) : Type 0 where
   pub rows : (path : ℕ) → r.first ≤ path → path ≤ r.last → IsRowOf c r.css path new
-  pub others : (of path mif : ℕ) → path < 256 → mif < 16 → IsBeside r of path → cell_of new (row_of of path) mif ≡ cell_of old (row_of of path) mif
+  pub others : (of path mif : ℕ) → path < 256 → mif < 16 → IsBeside r of path
+      → cell_of new (row_of of path) mif ≡ cell_of old (row_of of path) mif
   pub long : length new ≡ length old
 
 -- what an image has of each path of its channel subsystem was written, and nothing else

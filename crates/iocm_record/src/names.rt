@@ -107,7 +107,8 @@ pub fn unit_names_len(paths: &[CssPath]) -> usize
 
 /// How many units, unit addresses and images a device names.
 pub fn device_names_len<A: Allocator>(units: &[UnitNo], candidates: Option<&List<Name, A>>) -> usize
-    ensures { (address : ℕ) → result ≡ length (map names.unit_named units.now ++ map (names.address_named address) units.now
+    ensures { (address : ℕ) → result ≡ length
+        (map names.unit_named units.now ++ map (names.address_named address) units.now
         ++ map names.image_named (unwrap_or (option_copied candidates.entry) [])) }
 {
     match candidates {

@@ -177,8 +177,9 @@ impl<A: Allocator> Record<A> {
     }
 
     /// The thing at a place, counted from 0, of all that the record names: a device its units,
-    /// its unit address at each of these and the images of its candidates, a unit its paths, a path the images of its access and its
-    /// candidate list, an online record its path and its image. Nothing past the end.
+    /// its unit address at each of these and the images of its candidates, a unit its paths, a path
+    /// the images of its access and its candidate list, an online record its path and its image.
+    /// Nothing past the end.
     pub fn names(&self, place: usize) -> Option<Named>
         ensures { result ≡ slice_get (named_by self.now) place }
     {

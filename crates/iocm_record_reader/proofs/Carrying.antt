@@ -10,7 +10,8 @@ use Rattle.iocm_record_reader.specs.Values.{as_carried, carried_by}
 -- an operand that is carried
 pub one_carried : (operation : Operation) (operands : List Operand) (i : ℕ) (d : Operand) → i < length operands
     → is_carried operation (get_or operands i d) ≡ true
-    → carried_by operation (take (i + 1) operands) ≡ carried_by operation (take i operands) ++ as_carried (get_or operands i d) ∷ []
+    → carried_by operation (take (i + 1) operands) ≡ carried_by operation (take i operands)
+    ++ as_carried (get_or operands i d) ∷ []
 one_carried operation operands i d within is =
     rw (
       take_more operands i d within,

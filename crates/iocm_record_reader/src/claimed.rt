@@ -99,7 +99,8 @@ impl Claimed {
     fn put(&mut self, key: Key) -> Result<bool, AllocError>
         ensures added { IfOk result (λ added. added ≡ not (has_claimed self.old.keys key)) }
         ensures keys { OnOk result ((q : keys.Key)
-            → has_claimed self.new.keys q ≡ (if is_eq (key_cmp key q) then Bool.true else has_claimed self.old.keys q)) }
+            → has_claimed self.new.keys q
+            ≡ (if is_eq (key_cmp key q) then Bool.true else has_claimed self.old.keys q)) }
         ensures lasts { self.new.lasts ≡ self.old.lasts }
     {
         Ok(self.keys.insert(key)?)

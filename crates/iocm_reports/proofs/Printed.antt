@@ -1,5 +1,6 @@
 -- What was printed of a list so far, and one item more.
-use Rattle.std.proofs.Common.{◌≡◌, ℕ, ◌+◌, ◌<◌, Bool, true, false, ◌&&◌, nat_eq, codes, Some, List, [], ◌∷◌, ◌++◌, length, get_or, take, refl, sym, ap, ◌∙◌}
+use Rattle.std.proofs.Common.{◌≡◌, ℕ, ◌+◌, ◌<◌, Bool, true, false, ◌&&◌, nat_eq, codes, Some, List, [], ◌∷◌, ◌++◌}
+use Rattle.std.proofs.Common.{length, get_or, take, refl, sym, ap, ◌∙◌}
 use Rattle.std.specs.Cmp.Lexicographic.{pointwise}
 use Rattle.std.specs.List.{flat_map}
 use Rattle.std.proofs.lemmas.List.{append-nil, take_more}
@@ -17,7 +18,8 @@ use Rattle.iocm_reports.specs.Lines.{lines_by, signed_line}
 pub text_more : {A : Type 0} (text : A → List ℕ) (xs : List A) (i : ℕ) (x : A) → i < length xs → x ≡ get_or xs i x
     → flat_map text (take i xs) ++ text x ≡ flat_map text (take (i + 1) xs)
 text_more text xs i x within is =
-    sym (ap (flat_map text) (take_more xs i x within ∙ ap (λ y. take i xs ++ y ∷ []) (sym is)) ∙ flat_map-append text (take i xs) (x ∷ [])
+    sym (ap (flat_map text) (take_more xs i x within ∙ ap (λ y. take i xs ++ y ∷ []) (sym is))
+    ∙ flat_map-append text (take i xs) (x ∷ [])
     ∙ ap (λ t. flat_map text (take i xs) ++ t) (append-nil (text x)))
 
 grouped : (a b c d : Bool) → (((a && b) && c) && d) ≡ (a && (b && (c && d)))
@@ -27,15 +29,18 @@ grouped false b c d = refl
 
 -- the lines of a subchannel at which something else is seen
 pub lines_changed : (x : SubId) (v w : View)
-    → (nat_eq v.device w.device && (pointwise nat_eq v.paths w.paths && (nat_eq v.pim w.pim && nat_eq v.pam w.pam))) ≡ false
+    → (nat_eq v.device w.device && (pointwise nat_eq v.paths w.paths && (nat_eq v.pim w.pim && nat_eq v.pam w.pam)))
+    ≡ false
     → signed_line (codes "- ") x v ++ signed_line (codes "+ ") x w ≡ lines_by x (Some v) (Some w)
 lines_changed x v w other =
     let apart : same_view v w ≡ false =
-    grouped (nat_eq v.device w.device) (pointwise nat_eq v.paths w.paths) (nat_eq v.pim w.pim) (nat_eq v.pam w.pam) ∙ other in
+    grouped (nat_eq v.device w.device) (pointwise nat_eq v.paths w.paths) (nat_eq v.pim w.pim) (nat_eq v.pam w.pam)
+    ∙ other in
     rw apart refl
 
 -- a key that is none of a pair has no comment
-pub no_remark : (c : Configuration) (k : Key) → ((css number : ℕ) (name : List ℕ) → k ≡ key.Online css number name → ⊥) → remark_line c k ≡ []
+pub no_remark : (c : Configuration) (k : Key) → ((css number : ℕ) (name : List ℕ) → k ≡ key.Online css number name → ⊥)
+    → remark_line c k ≡ []
 unfolding remark_line
 no_remark c key.Id other = refl
 no_remark c key.Resource other = refl

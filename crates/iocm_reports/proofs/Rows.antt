@@ -30,7 +30,8 @@ use Rattle.iocm_reports.proofs.AlteredRows.{cells_rows, one_is_in_order, rows_ar
 
 -- ---- how many, and in which order
 
-subchannels_are : (v w : SubId → Option View) (xs : List SubId) → map (λ (r : ViewChange). r.subchannel) (map (view_change v w) xs) ≡ xs
+subchannels_are : (v w : SubId → Option View) (xs : List SubId)
+    → map (λ (r : ViewChange). r.subchannel) (map (view_change v w) xs) ≡ xs
 subchannels_are v w [] = refl
 subchannels_are v w (x ∷ xs) = ap (λ ys. x ∷ ys) (subchannels_are v w xs)
 
@@ -46,12 +47,14 @@ rows_stand_in_order es s t =
     subst (IsStrictlySortedBy sub_id_cmp) (sym (subchannels_are (get (views_in s)) (get (views_in t)) (keys lives)))
     (keys_rise sub_id_cmp (entries lives) (entries_sorted lives))
 
-row_subchannels : (t : State) (es : List (SubId × Option View)) → map (λ (r : ViewChange). r.subchannel) (map (row_of t) es) ≡ keys_of es
+row_subchannels : (t : State) (es : List (SubId × Option View))
+    → map (λ (r : ViewChange). r.subchannel) (map (row_of t) es) ≡ keys_of es
 row_subchannels t [] = refl
 row_subchannels t (e ∷ es) = ap (λ xs. e.0 ∷ xs) (row_subchannels t es)
 
 -- rows that are made of what was seen, in order, stand in order
-pub made_in_order : (rows : List SeenRow) (t : State) → IsStrictlySortedBy sub_id_cmp (keys_of rows) → AreInOrder (map (row_of t) rows)
+pub made_in_order : (rows : List SeenRow) (t : State) → IsStrictlySortedBy sub_id_cmp (keys_of rows)
+    → AreInOrder (map (row_of t) rows)
 made_in_order rows t rise = subst (IsStrictlySortedBy sub_id_cmp) (sym (row_subchannels t rows)) rise
 
 -- there are as many subchannels of which it is known what was seen first as rows, whatever state
@@ -63,7 +66,8 @@ seen_are_counted performed rows rise is es s told =
     sym (length-map rows (row_of s)) ∙ ap length (rows_are performed rows rise is es s s told) ∙ rows_are_counted es s s
 
 -- of one edit there are as many as it tells of
-pub one_is_counted : (d : Touched) (es : List Edit) (s : State) → AreToldBy (d ∷ []) (told_of_all es s) → length d.subchannels.items ≡ len (effect_of es s).lives
+pub one_is_counted : (d : Touched) (es : List Edit) (s : State) → AreToldBy (d ∷ []) (told_of_all es s)
+    → length d.subchannels.items ≡ len (effect_of es s).lives
 one_is_counted d es s told =
     sym (length-map d.subchannels.items (λ (c : ViewChange). (c.subchannel, c.before)))
     ∙ ap length (sym (append-nil (seen_before d.subchannels.items)))
@@ -78,10 +82,13 @@ unaltered [] s x none = refl
 unaltered (e ∷ es) s x none =
     let t = state_after e s in
     let here = not_in_first sub_id_cmp x (altered_between s t) (cells_written_by_all es t).subchannels none in
-    sight_is (seen_in s x) (seen_in t x) (not-false _ (sym (in_differing sub_ids_total sub_ids_exact same_view (views_in s) (views_in t) x) ∙ here))
+    sight_is (seen_in s x) (seen_in t x)
+    (not-false _ (sym (in_differing sub_ids_total sub_ids_exact same_view (views_in s) (views_in t) x) ∙ here))
     ∙ unaltered es t x (not_in_second sub_id_cmp x (altered_between s t) (cells_written_by_all es t).subchannels none)
 
-written : (v w : SubId → Option View) (xs : List SubId) → map {B = SubId × Option View} (λ (r : ViewChange). (r.subchannel, r.after)) (map (view_change v w) xs) ≡ map (λ x. (x, w x)) xs
+written : (v w : SubId → Option View) (xs : List SubId)
+    → map {B = SubId × Option View} (λ (r : ViewChange). (r.subchannel, r.after)) (map (view_change v w) xs)
+    ≡ map (λ x. (x, w x)) xs
 written v w [] = refl
 written v w (x ∷ xs) = ap (λ (ys : List (SubId × Option View)). (x, w x) ∷ ys) (written v w xs)
 
@@ -95,7 +102,9 @@ rows_lead_to_the_table es s =
     ∙ sym (cells_rows sub_ids_total sub_ids_exact (views_in t) xs))
     ∙ with_cells_is sub_ids_total sub_ids_exact (views_in s) (views_in t) xs (unaltered es s)
 
-were : (v w : SubId → Option View) (xs : List SubId) → map {B = SubId × Option View} (λ (r : ViewChange). (r.subchannel, r.before)) (map (view_change v w) xs) ≡ map (λ x. (x, v x)) xs
+were : (v w : SubId → Option View) (xs : List SubId)
+    → map {B = SubId × Option View} (λ (r : ViewChange). (r.subchannel, r.before)) (map (view_change v w) xs)
+    ≡ map (λ x. (x, v x)) xs
 were v w [] = refl
 were v w (x ∷ xs) = ap (λ (ys : List (SubId × Option View)). (x, v x) ∷ ys) (were v w xs)
 

@@ -1,10 +1,12 @@
 -- The comments on pairs of a configuration whose records are listed in the order of keys, computed.
-use Rattle.std.proofs.Common.{◌≡◌, Bool, not, ◌&&◌, ◌||◌, ℕ, List, [], ◌∷◌, ◌++◌, map, filter, is_some, T, refl, sym, ap, ◌∙◌}
+use Rattle.std.proofs.Common.{◌≡◌, Bool, not, ◌&&◌, ◌||◌, ℕ, List, [], ◌∷◌, ◌++◌, map, filter, is_some, T, refl, sym}
+use Rattle.std.proofs.Common.{ap, ◌∙◌}
 use Rattle.std.specs.Fmt.{char_count, digits, padded_integral}
 use Rattle.std.specs.List.{flat_map, list_any}
 use Rattle.std.specs.List.Sorted.{IsStrictlySortedBy}
 use Rattle.std.specs.Ordering.{eq_by_cmp}
-use Rattle.std.specs.FinMap.{entries, from_entries, contains_key, same_map, contains_key-keys, get-from_entries, get-from_sorted, entries-from_sorted}
+use Rattle.std.specs.FinMap.{entries, from_entries, contains_key, same_map, contains_key-keys, get-from_entries}
+use Rattle.std.specs.FinMap.{get-from_sorted, entries-from_sorted}
 use Rattle.std.specs.FinMap.Entries.{is_sorted, is_some-find}
 use Rattle.std.proofs.lemmas.List.Folds.{list_any-append}
 use Rattle.iocm_types.specs.declared.key.Key.{Key}
@@ -57,7 +59,8 @@ module _ (rs : List Rec) (up : T (is_sorted key_cmp (with_keys rs))) where
   c = configuration_of rs
 
   in_order : entries c ≡ with_keys rs
-  in_order = ap entries (same_map keys_total keys_exact _ _ (λ q. get-from_entries keys_total (with_keys rs) q ∙ sym (get-from_sorted key_cmp (with_keys rs) q up)))
+  in_order = ap entries (same_map keys_total keys_exact _ _
+      (λ q. get-from_entries keys_total (with_keys rs) q ∙ sym (get-from_sorted key_cmp (with_keys rs) q up)))
       ∙ entries-from_sorted key_cmp (with_keys rs) up
 
   records_are : records_of c ≡ rs
@@ -70,7 +73,8 @@ module _ (rs : List Rec) (up : T (is_sorted key_cmp (with_keys rs))) where
   listed = from_entries {R = key_cmp} (map (λ k. (k, tt)) (pairs_listed rs))
 
   listed_is : (k : Key) → contains_key listed k ≡ among k (pairs_listed rs)
-  listed_is k = ap is_some (get-from_entries keys_total (map (λ p. (p, tt)) (pairs_listed rs)) k) ∙ is_some-find key_cmp k (map (λ p. (p, tt)) (pairs_listed rs))
+  listed_is k = ap is_some (get-from_entries keys_total (map (λ p. (p, tt)) (pairs_listed rs)) k)
+      ∙ is_some-find key_cmp k (map (λ p. (p, tt)) (pairs_listed rs))
       ∙ ap (among k) (keys_alone (pairs_listed rs))
 
   listed_too : (k : Key) → contains_key listed k ≡ among k (pairs_listed (records_of c))
@@ -80,8 +84,10 @@ module _ (rs : List Rec) (up : T (is_sorted key_cmp (with_keys rs))) where
   same_pairs k =
       let keys_there = map key_of rs in
       let pairs = pairs_listed rs in
-      list_any-append (eq_by_cmp key_cmp k) (filter (λ p. not (among p keys_there)) pairs) (filter (λ p. is_online p && not (among p pairs)) keys_there)
-      ∙ (λ i. any_filter keys_exact k pairs (λ p. not (among p keys_there)) i || any_filter keys_exact k keys_there (λ p. is_online p && not (among p pairs)) i)
+      list_any-append (eq_by_cmp key_cmp k) (filter (λ p. not (among p keys_there)) pairs)
+      (filter (λ p. is_online p && not (among p pairs)) keys_there)
+      ∙ (λ i. any_filter keys_exact k pairs (λ p. not (among p keys_there)) i
+      || any_filter keys_exact k keys_there (λ p. is_online p && not (among p pairs)) i)
       ∙ sym (among_both c listed listed_too k
       ∙ (λ i. (listed_is k i && not (there_is k i)) || (there_is k i && (is_online k && not (listed_is k i)))))
 

@@ -1,9 +1,10 @@
 //! What `apply` reports of a change: what it altered, who loses what, and the deck afterwards.
 //!
 //! `count_altered` says how many subchannels a change altered. `altered_rows` lists them in order,
-//! each with what was seen there before the change and what is seen there after it. `print_altered` prints them as lines
-//! behind `-` and `+`, `print_counts` how many of each image are gone, came, changed and are the
-//! same; both take any rows in order, so some may be left out between. `deck_text` gives the
+//! each with what was seen there before the change and what is seen there after it.
+//! `print_altered` prints them as lines behind `-` and `+`, `print_counts` how many of each image
+//! are gone, came, changed and are the same; both take any rows in order, so some may be left out
+//! between. `deck_text` gives the
 //! canonical deck of a configuration, and in comments what the deck doesn't say of online paths.
 //!
 //! What the layer above may rely on: each of them is exactly what `specs/` says, and the two that

@@ -1,5 +1,6 @@
 -- A device that continues a run is the one at the next place of the run.
-use Rattle.std.proofs.Common.{◌≡◌, ◌+◌, ◌&&◌, ◌==◌, ℕ, nat_eq, Bool, true, Option, None, Some, List, [], ◌∷◌, refl, sym, ap}
+use Rattle.std.proofs.Common.{◌≡◌, ◌+◌, ◌&&◌, ◌==◌, ℕ, nat_eq, Bool, true, Option, None, Some, List, [], ◌∷◌, refl, sym}
+use Rattle.std.proofs.Common.{ap}
 use Rattle.std.proofs.lemmas.Bool.{eqb-true, false≢true, and_parts}
 use Rattle.std.specs.Cmp.Lexicographic.{pointwise}
 use Rattle.std.specs.Str.{bytes_eq}
@@ -23,7 +24,8 @@ all_four a b c d all =
 
 -- lists whose items a test finds the same in pairs are the same, where items that it finds the same
 -- are
-same_items : {X : Type 0} (E : X → X → Bool) → ((x y : X) → E x y ≡ true → x ≡ y) → (xs ys : List X) → pointwise E xs ys ≡ true → xs ≡ ys
+same_items : {X : Type 0} (E : X → X → Bool) → ((x y : X) → E x y ≡ true → x ≡ y) → (xs ys : List X)
+    → pointwise E xs ys ≡ true → xs ≡ ys
 same_items E same [] [] all = refl
 same_items E same [] (y ∷ ys) all = absurd (false≢true all)
 same_items E same (x ∷ xs) [] all = absurd (false≢true all)
@@ -77,7 +79,8 @@ devices_alike a b alike =
 
 pub next_device : (r : Run) (d : DeviceRecord) → continues r d ≡ true → device_at r.first r.count ≡ d
 next_device r d goes_on =
-    let parts = all_three (d.number == r.first.number + r.count) (d.unit_address == r.first.unit_address + r.count) (are_alike r.first d) goes_on in
+    let parts = all_three (d.number == r.first.number + r.count) (d.unit_address == r.first.unit_address + r.count)
+    (are_alike r.first d) goes_on in
     let number = eqb-true d.number (r.first.number + r.count) parts.0 in
     let address = eqb-true d.unit_address (r.first.unit_address + r.count) parts.1 in
     let alike = devices_alike r.first d parts.2 in

@@ -39,13 +39,16 @@ among_either x (z ∷ xs) ys (inr is) = by (among_either x xs ys is)
 module _ {X Y : Type 0} (f : X → List Y) (y : Y) where
   pub among_all_given : (x : X) (xs : List X) → IsAmong x xs → IsAmong y (f x) → IsAmong y (flat_map f xs)
   among_all_given x [] there given = absurd there
-  among_all_given x (z ∷ xs) (inl e) given = among_first y (f z) (flat_map f xs) (subst (λ v. IsAmong y (f v)) (sym e) given)
+  among_all_given x (z ∷ xs) (inl e) given =
+      among_first y (f z) (flat_map f xs) (subst (λ v. IsAmong y (f v)) (sym e) given)
   among_all_given x (z ∷ xs) (inr there) given = among_second y (f z) (flat_map f xs) (among_all_given x xs there given)
 
   pub given_by_one : (xs : List X) → IsAmong y (flat_map f xs) → IsGivenBy f y xs
   given_by_one [] is = absurd is
   given_by_one (z ∷ xs) is = by (among_either y (f z) (flat_map f xs) is) (given_by_one xs)
     where
-      by : IsAmong y (f z) ⊎ IsAmong y (flat_map f xs) → (IsAmong y (flat_map f xs) → IsGivenBy f y xs) → IsGivenBy f y (z ∷ xs)
+      by : IsAmong y (f z) ⊎ IsAmong y (flat_map f xs) → (IsAmong y (flat_map f xs) → IsGivenBy f y xs)
+          → IsGivenBy f y (z ∷ xs)
       by (inl given) later = record { giver = z; there = inl refl; given = given }
-      by (inr rest) later = let one = later rest in record { giver = one.giver; there = inr one.there; given = one.given }
+      by (inr rest) later = let one = later rest in
+          record { giver = one.giver; there = inr one.there; given = one.given }

@@ -1,6 +1,7 @@
 -- Records in the order of their keys stand by kind, as a canonical deck has them: the records of
 -- its statements are those of its records.
-use Rattle.std.proofs.Common.{◌≡◌, ℕ, ◌≤◌, Bool, true, false, cond, nat_le, List, [], ◌∷◌, ◌++◌, map, refl, sym, ap, ◌∙◌, append_assoc, arith}
+use Rattle.std.proofs.Common.{◌≡◌, ℕ, ◌≤◌, Bool, true, false, cond, nat_le, List, [], ◌∷◌, ◌++◌, map, refl, sym, ap}
+use Rattle.std.proofs.Common.{◌∙◌, append_assoc, arith}
 use Rattle.std.proofs.lemmas.Bool.Decides.{nat_tests}
 use Rattle.std.proofs.lemmas.List.{map-append}
 use Rattle.std.specs.List.{AllByRecursion, flat_map}
@@ -38,24 +39,28 @@ low k f r = cond (nat_le (kind_of r) k) (f r) []
 abbrev high : ℕ → (Rec → List Rec) → Rec → List Rec
 high k f r = cond (nat_le (kind_of r) k) [] (f r)
 
-nothing_low : (k : ℕ) (f : Rec → List Rec) (rs : List Rec) → AllByRecursion (λ r. nat_le (kind_of r) k ≡ false) rs → flat_map (low k f) rs ≡ []
+nothing_low : (k : ℕ) (f : Rec → List Rec) (rs : List Rec) → AllByRecursion (λ r. nat_le (kind_of r) k ≡ false) rs
+    → flat_map (low k f) rs ≡ []
 nothing_low k f [] above = refl
 nothing_low k f (r ∷ rs) above = rw above.0 (nothing_low k f rs above.1)
 
-above : (k n : ℕ) → nat_le n k ≡ false → (rs : List Rec) → AllByRecursion (λ r. n ≤ kind_of r) rs → AllByRecursion (λ r. nat_le (kind_of r) k ≡ false) rs
+above : (k n : ℕ) → nat_le n k ≡ false → (rs : List Rec) → AllByRecursion (λ r. n ≤ kind_of r) rs
+    → AllByRecursion (λ r. nat_le (kind_of r) k ≡ false) rs
 above k n past [] behind = tt
 above k n past (r ∷ rs) behind = (higher (kind_of r) behind.0, above k n past rs behind.1)
   where
     higher : (m : ℕ) → n ≤ m → nat_le m k ≡ false
     higher m more = grind (arith, nat_tests)
 
-parted : (k : ℕ) (f : Rec → List Rec) (rs : List Rec) → AreByKind rs → flat_map f rs ≡ flat_map (low k f) rs ++ flat_map (high k f) rs
+parted : (k : ℕ) (f : Rec → List Rec) (rs : List Rec) → AreByKind rs
+    → flat_map f rs ≡ flat_map (low k f) rs ++ flat_map (high k f) rs
 parted k f [] ordered = refl
 parted k f (r ∷ rs) ordered = by (nat_le (kind_of r) k) refl (parted k f rs ordered.1)
   where
     by : (b : Bool) → nat_le (kind_of r) k ≡ b → flat_map f rs ≡ flat_map (low k f) rs ++ flat_map (high k f) rs
         → flat_map f (r ∷ rs) ≡ flat_map (low k f) (r ∷ rs) ++ flat_map (high k f) (r ∷ rs)
-    by true within rest = rw within (ap (λ more. f r ++ more) rest ∙ sym (append_assoc (f r) (flat_map (low k f) rs) (flat_map (high k f) rs)))
+    by true within rest = rw within
+        (ap (λ more. f r ++ more) rest ∙ sym (append_assoc (f r) (flat_map (low k f) rs) (flat_map (high k f) rs)))
     by false past rest =
         let none : flat_map (low k f) rs ≡ [] = nothing_low k f rs (above k (kind_of r) past rs ordered.0) in
         rw (past, none) (ap (λ more. f r ++ more) (rest ∙ ap (λ lows. lows ++ flat_map (high k f) rs) none))
@@ -92,7 +97,8 @@ each_alike f g alike (r ∷ rs) = λ i. alike r i ++ each_alike f g alike rs i
 -- the first of what is left, and what is left behind it
 next : (k : ℕ) (f g : Rec → List Rec) → ((r : Rec) → low k f r ≡ g r) → (rs : List Rec) → AreByKind rs
     → flat_map f rs ≡ flat_map g rs ++ flat_map (high k f) rs
-next k f g alike rs ordered = parted k f rs ordered ∙ ap (λ first. first ++ flat_map (high k f) rs) (each_alike (low k f) g alike rs)
+next k f g alike rs ordered =
+    parted k f rs ordered ∙ ap (λ first. first ++ flat_map (high k f) rs) (each_alike (low k f) g alike rs)
 
 id_first : (r : Rec) → low 0 expanded r ≡ ids r
 id_first (id c) = refl
@@ -166,14 +172,17 @@ devices_last (unit u) = refl
 devices_last (device d) = refl
 devices_last (online o) = refl
 
-map_of_each : {A : Type 0} (f : A → Rec) (g : Rec → List A) (rs : List Rec) → flat_map (λ r. map f (g r)) rs ≡ map f (flat_map g rs)
+map_of_each : {A : Type 0} (f : A → Rec) (g : Rec → List A) (rs : List Rec)
+    → flat_map (λ r. map f (g r)) rs ≡ map f (flat_map g rs)
 map_of_each f g [] = refl
-map_of_each f g (r ∷ rs) = ap (λ more. map f (g r) ++ more) (map_of_each f g rs) ∙ sym (map-append f (g r) (flat_map g rs))
+map_of_each f g (r ∷ rs) =
+    ap (λ more. map f (g r) ++ more) (map_of_each f g rs) ∙ sym (map-append f (g r) (flat_map g rs))
 
 -- the records of the statements of a canonical deck, in their order
 abbrev pub records_by_kind : List Rec → List Rec
 records_by_kind rs =
-    flat_map ids rs ++ ((flat_map resources rs ++ (map image (flat_map images_of rs) ++ map limit (flat_map limits_of rs)))
+    flat_map ids rs ++ ((flat_map resources rs
+    ++ (map image (flat_map images_of rs) ++ map limit (flat_map limits_of rs)))
     ++ (flat_map parts rs ++ map device (flat_map devices_of rs)))
 
 six_parts : (a b c d e f : List Rec) → a ++ (b ++ (c ++ (d ++ (e ++ f)))) ≡ a ++ ((b ++ (c ++ d)) ++ (e ++ f))
@@ -187,6 +196,9 @@ deck_by_kind rs ordered =
     ∙ ap (λ more. flat_map resources rs ++ more) (next 2 behind_resources image_records images_next rs ordered
     ∙ (λ i. map_of_each image images_of rs i ++ (next 3 behind_images limit_records limits_next rs ordered
     ∙ (λ j. map_of_each limit limits_of rs j ++ (next 5 behind_limits parts parts_next rs ordered
-    ∙ (λ k. flat_map parts rs ++ (each_alike (high 5 behind_limits) device_records devices_last rs ∙ map_of_each device devices_of rs) k)) j)) i)))
-    ∙ six_parts (flat_map ids rs) (flat_map resources rs) (map image (flat_map images_of rs)) (map limit (flat_map limits_of rs))
+    ∙ (λ k. flat_map parts rs
+    ++ (each_alike (high 5 behind_limits) device_records devices_last rs ∙ map_of_each device devices_of rs) k)) j))
+    i)))
+    ∙ six_parts (flat_map ids rs) (flat_map resources rs) (map image (flat_map images_of rs))
+    (map limit (flat_map limits_of rs))
     (flat_map parts rs) (map device (flat_map devices_of rs))

@@ -1,6 +1,7 @@
 -- Images and limits in the order of their keys stand by channel subsystem, and the sets of each
 -- channel subsystem rise.
-use Rattle.std.proofs.Common.{◌≡◌, ◌≢◌, ℕ, zero, suc, ◌+◌, ◌≤◌, ◌<◌, ◌==◌, nat_lt, Bool, true, false, cond, List, [], ◌∷◌, ◌++◌, map, filter, All, refl, sym, ap, ◌∙◌, arith, eqb-true}
+use Rattle.std.proofs.Common.{◌≡◌, ◌≢◌, ℕ, zero, suc, ◌+◌, ◌≤◌, ◌<◌, ◌==◌, nat_lt, Bool, true, false, cond, List, []}
+use Rattle.std.proofs.Common.{◌∷◌, ◌++◌, map, filter, All, refl, sym, ap, ◌∙◌, arith, eqb-true}
 use Rattle.std.proofs.lemmas.Bool.Decides.{nat_tests}
 use Rattle.std.proofs.lemmas.List.Elements.{All-nil, All-cons, All-head, All-tail, All-append}
 use Rattle.std.proofs.lemmas.Map.Keys.{IsStrictlyIncreasing-from_sorted}
@@ -9,7 +10,8 @@ use Rattle.std.specs.List.Sorted.{IsStrictlySortedBy}
 use Rattle.std.specs.Ordering.{nat_cmp, ordering_then}
 use Rattle.std.specs.declared.cmp.Ordering.TheVariants.{Less, Equal, Greater}
 use Rattle.iocm_types.proofs.Orderings.{ties}
-use Rattle.iocm_model.specs.Machine.Record.{Rec, ImageRecord, LimitRecord, id, resource, image, limit, path, unit, device, online}
+use Rattle.iocm_model.specs.Machine.Record.{Rec, ImageRecord, LimitRecord, id, resource, image, limit, path, unit}
+use Rattle.iocm_model.specs.Machine.Record.{device, online}
 use Rattle.iocm_values.specs.CssLists.{in_css_order}
 use Rattle.iocm_operands.specs.Again.{AreByCss, AreLimits, IsImage, IsLimit}
 use Rattle.iocm_deck_writer.specs.Resource.{images_of, limits_of}
@@ -44,14 +46,18 @@ module _ {A : Type 0} (css_of : A → ℕ) where
       let other : css_of x == css ≡ false = grind (arith, nat_tests) in
       rw other (ap (λ more. of_css xs css ++ more) (passed x xs n (css + 1) (omega arith)))
 
-  all_past : (x : A) (css : ℕ) → css < css_of x → (xs : List A) → AllByRecursion (λ y. css_of x ≤ css_of y) xs → AllByRecursion (λ y. css < css_of y) xs
+  all_past : (x : A) (css : ℕ) → css < css_of x → (xs : List A) → AllByRecursion (λ y. css_of x ≤ css_of y) xs
+      → AllByRecursion (λ y. css < css_of y) xs
   all_past x css below [] behind = tt
-  all_past x css below (y ∷ ys) behind = (let behind' : css_of x ≤ css_of y = behind.0 in omega arith, all_past x css below ys behind.1)
+  all_past x css below (y ∷ ys) behind =
+      (let behind' : css_of x ≤ css_of y = behind.0 in omega arith, all_past x css below ys behind.1)
 
-  stands_first : (x : A) (xs : List A) → AllByRecursion (λ y. css_of x ≤ css_of y) xs → (n css : ℕ) → css ≤ css_of x → css_of x < css + n
+  stands_first : (x : A) (xs : List A) → AllByRecursion (λ y. css_of x ≤ css_of y) xs → (n css : ℕ) → css ≤ css_of x
+      → css_of x < css + n
       → from css n (x ∷ xs) ≡ x ∷ from css n xs
   stands_first x xs behind zero css least most = absurd (omega arith)
-  stands_first x xs behind (suc n) css least most = by (css_of x == css) refl (λ later. stands_first x xs behind n (css + 1) later (omega arith))
+  stands_first x xs behind (suc n) css least most =
+      by (css_of x == css) refl (λ later. stands_first x xs behind n (css + 1) later (omega arith))
     where
       by : (b : Bool) → css_of x == css ≡ b → (css + 1 ≤ css_of x → from (css + 1) n (x ∷ xs) ≡ x ∷ from (css + 1) n xs)
           → from css (suc n) (x ∷ xs) ≡ x ∷ from css (suc n) xs
@@ -63,9 +69,11 @@ module _ {A : Type 0} (css_of : A → ℕ) where
           let none : of_css xs css ≡ [] = none_of css xs (all_past x css above xs behind) in
           rw (other, none) (others (omega arith))
 
-  in_order : (xs : List A) → AllByRecursion (λ x. css_of x < 6) xs → AreOrdered (λ x y. css_of x ≤ css_of y) xs → in_css_order css_of xs ≡ xs
+  in_order : (xs : List A) → AllByRecursion (λ x. css_of x < 6) xs → AreOrdered (λ x y. css_of x ≤ css_of y) xs
+      → in_css_order css_of xs ≡ xs
   in_order [] small ordered = refl
-  in_order (x ∷ xs) small ordered = stands_first x xs ordered.0 6 0 (omega arith) small.0 ∙ ap (λ ys. x ∷ ys) (in_order xs small.1 ordered.1)
+  in_order (x ∷ xs) small ordered =
+      stands_first x xs ordered.0 6 0 (omega arith) small.0 ∙ ap (λ ys. x ∷ ys) (in_order xs small.1 ordered.1)
 
 -- ---- images
 
@@ -112,7 +120,8 @@ image_given (online o) is = All-nil IsImage
 images_given : (rs : List Rec) → All IsGiven rs → All IsImage (flat_map images_of rs)
 images_given [] are = All-nil IsImage
 images_given (r ∷ rs) are =
-    All-append IsImage (images_of r) (flat_map images_of rs) (image_given r (All-head IsGiven r rs are)) (images_given rs (All-tail IsGiven r rs are))
+    All-append IsImage (images_of r) (flat_map images_of rs) (image_given r (All-head IsGiven r rs are))
+    (images_given rs (All-tail IsGiven r rs are))
 
 images_small : (xs : List ImageRecord) → All IsImage xs → AllByRecursion (λ (i : ImageRecord). i.css < 6) xs
 images_small [] are = tt
@@ -125,7 +134,8 @@ images_by_css rs ordered are some =
     record {
       some = some;
       each = given;
-      ascending = in_order (λ (i : ImageRecord). i.css) (flat_map images_of rs) (images_small (flat_map images_of rs) given)
+      ascending = in_order (λ (i : ImageRecord). i.css) (flat_map images_of rs)
+          (images_small (flat_map images_of rs) given)
           (given_ordered BeforeImage images_of images_alone images_behind rs ordered);
     }
 
@@ -147,13 +157,15 @@ limits_alone (online o) = tt
 less_alone : (m n : ℕ) → ordering_then (nat_cmp m n) Equal ≡ Less → m < n
 less_alone m n less = by (nat_lt m n) (m == n) refl refl less
   where
-    by : (b c : Bool) → nat_lt m n ≡ b → m == n ≡ c → ordering_then (cond b Less (cond c Equal Greater)) Equal ≡ Less → m < n
+    by : (b c : Bool) → nat_lt m n ≡ b → m == n ≡ c → ordering_then (cond b Less (cond c Equal Greater)) Equal ≡ Less
+        → m < n
     by true c below same e = grind (arith, nat_tests)
     by false true below same e = cc
     by false false below same e = cc
 
 second_below : (a b m n : ℕ) → a ≡ b → ordering_then (nat_cmp a b) (ordering_then (nat_cmp m n) Equal) ≡ Less → m < n
-second_below a b m n same less = less_alone m n (ap (λ o. ordering_then o (ordering_then (nat_cmp m n) Equal)) (sym (ties a b same)) ∙ less)
+second_below a b m n same less =
+    less_alone m n (ap (λ o. ordering_then o (ordering_then (nat_cmp m n) Equal)) (sym (ties a b same)) ∙ less)
 
 limits_behind : (r s : Rec) → ComesBefore r s → AreBehind BeforeLimit (limits_of r) (limits_of s)
 limits_behind (id carried) s less = tt
@@ -162,7 +174,8 @@ limits_behind (image i) s less = tt
 limits_behind (limit l) (id carried) less = (tt, tt)
 limits_behind (limit l) (resource carried) less = (tt, tt)
 limits_behind (limit l) (image i) less = (tt, tt)
-limits_behind (limit l) (limit m) less = (((first_within l.css m.css _ less, λ same. second_below l.css m.css l.set m.set same less), tt), tt)
+limits_behind (limit l) (limit m) less =
+    (((first_within l.css m.css _ less, λ same. second_below l.css m.css l.set m.set same less), tt), tt)
 limits_behind (limit l) (path p) less = (tt, tt)
 limits_behind (limit l) (unit u) less = (tt, tt)
 limits_behind (limit l) (device d) less = (tt, tt)
@@ -185,13 +198,15 @@ limit_given (online o) is = All-nil IsLimit
 limits_given : (rs : List Rec) → All IsGiven rs → All IsLimit (flat_map limits_of rs)
 limits_given [] are = All-nil IsLimit
 limits_given (r ∷ rs) are =
-    All-append IsLimit (limits_of r) (flat_map limits_of rs) (limit_given r (All-head IsGiven r rs are)) (limits_given rs (All-tail IsGiven r rs are))
+    All-append IsLimit (limits_of r) (flat_map limits_of rs) (limit_given r (All-head IsGiven r rs are))
+    (limits_given rs (All-tail IsGiven r rs are))
 
 limits_small : (xs : List LimitRecord) → All IsLimit xs → AllByRecursion (λ (l : LimitRecord). l.css < 6) xs
 limits_small [] are = tt
 limits_small (l ∷ xs) are = ((All-head IsLimit l xs are).css, limits_small xs (All-tail IsLimit l xs are))
 
-css_rises_behind : (l : LimitRecord) (xs : List LimitRecord) → AllByRecursion (BeforeLimit l) xs → AllByRecursion (λ (m : LimitRecord). l.css ≤ m.css) xs
+css_rises_behind : (l : LimitRecord) (xs : List LimitRecord) → AllByRecursion (BeforeLimit l) xs
+    → AllByRecursion (λ (m : LimitRecord). l.css ≤ m.css) xs
 css_rises_behind l [] behind = tt
 css_rises_behind l (m ∷ xs) behind = (behind.0.0, css_rises_behind l xs behind.1)
 
@@ -212,21 +227,29 @@ sets_behind css l own [] behind = tt
 sets_behind css l own (m ∷ xs) behind = by (m.css == css) refl (sets_behind css l own xs behind.1)
   where
     by : (b : Bool) → m.css == css ≡ b → AllByRecursion (λ set. nat_cmp l.set set ≡ Less) (sets_of css xs)
-        → AllByRecursion (λ set. nat_cmp l.set set ≡ Less) (map (λ (l : LimitRecord). l.set) (cond b (m ∷ filter (λ (l : LimitRecord). l.css == css) xs) (filter (λ (l : LimitRecord). l.css == css) xs)))
+        → AllByRecursion (λ set. nat_cmp l.set set ≡ Less)
+        (map (λ (l : LimitRecord). l.set)
+        (cond b (m ∷ filter (λ (l : LimitRecord). l.css == css) xs)
+        (filter (λ (l : LimitRecord). l.css == css) xs)))
     by true here rest = (below_is_less l.set m.set (behind.0.1 (own ∙ sym (eqb-true m.css css here))), rest)
     by false other rest = rest
 
-sets_sorted : (css : ℕ) (xs : List LimitRecord) → AreOrdered BeforeLimit xs → IsStrictlySortedBy nat_cmp (sets_of css xs)
+sets_sorted : (css : ℕ) (xs : List LimitRecord) → AreOrdered BeforeLimit xs
+    → IsStrictlySortedBy nat_cmp (sets_of css xs)
 unfolding IsStrictlySortedBy
 sets_sorted css [] ordered = tt
 sets_sorted css (l ∷ xs) ordered = by (l.css == css) refl (sets_sorted css xs ordered.1)
   where
     by : (b : Bool) → l.css == css ≡ b → IsStrictlySortedBy nat_cmp (sets_of css xs)
-        → IsStrictlySortedBy nat_cmp (map (λ (l : LimitRecord). l.set) (cond b (l ∷ filter (λ (l : LimitRecord). l.css == css) xs) (filter (λ (l : LimitRecord). l.css == css) xs)))
+        → IsStrictlySortedBy nat_cmp
+        (map (λ (l : LimitRecord). l.set)
+        (cond b (l ∷ filter (λ (l : LimitRecord). l.css == css) xs)
+        (filter (λ (l : LimitRecord). l.css == css) xs)))
     by true here rest = (sets_behind css l (eqb-true l.css css here) xs ordered.0, rest)
     by false other rest = rest
 
-pub limits_are : (rs : List Rec) → AreOrdered ComesBefore rs → All IsGiven rs → flat_map limits_of rs ≢ [] → AreLimits (flat_map limits_of rs)
+pub limits_are : (rs : List Rec) → AreOrdered ComesBefore rs → All IsGiven rs → flat_map limits_of rs ≢ []
+    → AreLimits (flat_map limits_of rs)
 limits_are rs ordered are some =
     let given = limits_given rs are in
     let rising = given_ordered BeforeLimit limits_of limits_alone limits_behind rs ordered in
@@ -234,7 +257,9 @@ limits_are rs ordered are some =
       by_css = record {
         some = some;
         each = given;
-        ascending = in_order (λ (l : LimitRecord). l.css) (flat_map limits_of rs) (limits_small (flat_map limits_of rs) given) (css_rises (flat_map limits_of rs) rising);
+        ascending = in_order (λ (l : LimitRecord). l.css) (flat_map limits_of rs)
+            (limits_small (flat_map limits_of rs) given) (css_rises (flat_map limits_of rs) rising);
       };
-      sets = λ css small. IsStrictlyIncreasing-from_sorted (sets_of css (flat_map limits_of rs)) (sets_sorted css (flat_map limits_of rs) rising);
+      sets = λ css small. IsStrictlyIncreasing-from_sorted (sets_of css (flat_map limits_of rs))
+          (sets_sorted css (flat_map limits_of rs) rising);
     }

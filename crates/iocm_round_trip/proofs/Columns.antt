@@ -1,6 +1,7 @@
 -- Canonical statements are read from the columns as themselves: an operand part is printable, with
 -- its blanks inside quotes, which are closed.
-use Rattle.std.proofs.Common.{◌≡◌, ◌≢◌, ℕ, ◌+◌, ◌≤◌, ◌<◌, ◌==◌, ◌&&◌, not, Bool, true, false, Option, None, Some, List, [], ◌∷◌, ◌++◌, All, map, fold, length, Ok, refl, sym, ap, ◌∙◌, subst, arith}
+use Rattle.std.proofs.Common.{◌≡◌, ◌≢◌, ℕ, ◌+◌, ◌≤◌, ◌<◌, ◌==◌, ◌&&◌, not, Bool, true, false, Option, None, Some, List}
+use Rattle.std.proofs.Common.{[], ◌∷◌, ◌++◌, All, map, fold, length, Ok, refl, sym, ap, ◌∙◌, subst, arith}
 use Rattle.std.proofs.lemmas.Bool.{false≢true, and_parts, and_from}
 use Rattle.std.proofs.lemmas.Bool.Decides.{nat_tests}
 use Rattle.std.proofs.lemmas.List.Elements.{All-head, All-tail, All-map}
@@ -20,7 +21,8 @@ use Rattle.iocm_columns.proofs.WrittenTexts.{AreInside}
 use Rattle.iocm_model.specs.Machine.Record.{CarriedOperand}
 use Rattle.iocm_statements.specs.declared.nesting.Nesting.{Nesting}
 use Rattle.iocm_statements.specs.declared.operation.Operation.{Operation}
-use Rattle.iocm_statements.specs.declared.operation.Operation.TheVariants.{Id, Resource, Chpid, Cntlunit, Iodevice, Online, Row, Group, Choose, End}
+use Rattle.iocm_statements.specs.declared.operation.Operation.TheVariants.{Id, Resource, Chpid, Cntlunit, Iodevice}
+use Rattle.iocm_statements.specs.declared.operation.Operation.TheVariants.{Online, Row, Group, Choose, End}
 use Rattle.iocm_statements.specs.declared.statement.Statement as read
 use Rattle.iocm_statements.specs.Cutting.{nesting_behind, IsBalanced}
 use Rattle.iocm_statements.specs.Nesting.{start, step}
@@ -46,15 +48,18 @@ unfolding step switched
 byte_switches p b = grind (arith, nat_tests)
 
 -- so quotes end in the columns where they end in the nesting
-quoted_behind : (p q : Nesting) (text : List ℕ) → nesting_behind p text ≡ Some q → fold switched p.quoted text ≡ q.quoted
+quoted_behind : (p q : Nesting) (text : List ℕ) → nesting_behind p text ≡ Some q
+    → fold switched p.quoted text ≡ q.quoted
 quoted_behind p q [] is = ap (quoted_or false) is
 quoted_behind p q (b ∷ bs) is = by (step p b) refl (λ r. quoted_behind r q bs) is
   where
-    by : (next : Option Nesting) → step p b ≡ next → ((r : Nesting) → nesting_behind r bs ≡ Some q → fold switched r.quoted bs ≡ q.quoted)
+    by : (next : Option Nesting) → step p b ≡ next
+        → ((r : Nesting) → nesting_behind r bs ≡ Some q → fold switched r.quoted bs ≡ q.quoted)
         → option_and_then (λ r. nesting_behind r bs) next ≡ Some q → fold switched (switched p.quoted b) bs ≡ q.quoted
     by None next rest is = let none : None ≡ Some q = is in cc
     by (Some r) next rest is =
-        ap (λ inside. fold switched inside bs) (sym (byte_switches p b) ∙ ap (quoted_or (switched p.quoted b)) next) ∙ rest r is
+        ap (λ inside. fold switched inside bs) (sym (byte_switches p b) ∙ ap (quoted_or (switched p.quoted b)) next)
+        ∙ rest r is
 
 pub balanced_is_closed : (text : List ℕ) → IsBalanced text → is_quoting text ≡ false
 balanced_is_closed text balanced = quoted_behind start start text balanced
@@ -74,7 +79,8 @@ both_parts : (a b : List ℕ) → IsPart a → IsPart b → IsPart (a ++ b)
 both_parts a b first second =
     let behind : false ≡ fold switched false a = sym first.closed in
     record {
-      printable = list_all-append is_printable a b ∙ and_from (list_all is_printable a) (list_all is_printable b) first.printable second.printable;
+      printable = list_all-append is_printable a b
+          ∙ and_from (list_all is_printable a) (list_all is_printable b) first.printable second.printable;
       inside = inside_both false a b first.inside (subst (λ inside. IsInside inside b) behind second.inside);
       closed = fold-append switched false a b ∙ ap (λ inside. fold switched inside b) first.closed ∙ second.closed;
     }
@@ -117,7 +123,8 @@ keyword_part (b ∷ keyword) word =
     both_parts (b ∷ []) keyword (still_byte b (keyword_byte_still b parts.0)) (keyword_part keyword parts.1)
 
 text_part : (text : List ℕ) → IsInColumns text → IsBalanced text → IsPart text
-text_part text at balanced = record { printable = at.printable; inside = at.blanks; closed = balanced_is_closed text balanced }
+text_part text at balanced =
+    record { printable = at.printable; inside = at.blanks; closed = balanced_is_closed text balanced }
 
 -- so an operand that can be placed is a part, and so are operands with commas between them
 operand_part : (o : CarriedOperand) → IsPlaceable o → IsInColumns o.text → IsPart (operand_text o)
@@ -126,9 +133,11 @@ operand_part o is at = by o.keyword is.keyed
     part : IsPart o.text
     part = text_part o.text at is.balanced
 
-    by : (keyword : Option (List ℕ)) → IsKeyed keyword o.text → IsPart (option_map_or (λ word. word ++ 61 ∷ o.text) keyword o.text)
+    by : (keyword : Option (List ℕ)) → IsKeyed keyword o.text
+        → IsPart (option_map_or (λ word. word ++ 61 ∷ o.text) keyword o.text)
     by (Some word) keyed =
-        both_parts word (61 ∷ o.text) (keyword_part word (keyword_bytes word keyed)) (both_parts (61 ∷ []) o.text (still_byte 61 refl) part)
+        both_parts word (61 ∷ o.text) (keyword_part word (keyword_bytes word keyed))
+        (both_parts (61 ∷ []) o.text (still_byte 61 refl) part)
     by None keyed = part
 
 joined_part : (texts : List (List ℕ)) → All IsPart texts → IsPart (join_with_byte 44 texts)
@@ -136,12 +145,15 @@ joined_part [] parts = no_part
 joined_part (x ∷ []) parts = All-head IsPart x [] parts
 joined_part (x ∷ y ∷ ys) parts =
     both_parts x (44 ∷ join_with_byte 44 (y ∷ ys)) (All-head IsPart x (y ∷ ys) parts)
-    (both_parts (44 ∷ []) (join_with_byte 44 (y ∷ ys)) (still_byte 44 refl) (joined_part (y ∷ ys) (All-tail IsPart x (y ∷ ys) parts)))
+    (both_parts (44 ∷ []) (join_with_byte 44 (y ∷ ys)) (still_byte 44 refl)
+    (joined_part (y ∷ ys) (All-tail IsPart x (y ∷ ys) parts)))
 
-operands_part : (operands : List CarriedOperand) → All IsPlaceable operands → All (λ (o : CarriedOperand). IsInColumns o.text) operands
+operands_part : (operands : List CarriedOperand) → All IsPlaceable operands
+    → All (λ (o : CarriedOperand). IsInColumns o.text) operands
     → IsPart (join_with_byte 44 (map operand_text operands))
 operands_part operands each at =
-    joined_part (map operand_text operands) (All-map IsPart operand_text operands (λ k d h. operand_part _ (each k d h) (at k d h)))
+    joined_part (map operand_text operands)
+    (All-map IsPart operand_text operands (λ k d h. operand_part _ (each k d h) (at k d h)))
 
 -- ---- statements
 
@@ -192,7 +204,8 @@ statement_again : (s : Statement) → CanBeWritten s → (joined : Joined) → w
 statement_again s can joined same =
     let named = (name_is_word s.operation).named in
     let operands = operands_again joined.line s.operands can.operands in
-    ap (λ (j : Joined). statement_of (record { line = joined.line; name = j.name; operation = j.operation; text = j.text })) same
+    ap (λ (j : Joined). statement_of
+    (record { line = joined.line; name = j.name; operation = j.operation; text = j.text })) same
     ∙ rw (named, operands) refl
 
 -- joined statements from this place of the deck on are read as canonical ones
@@ -206,7 +219,8 @@ unfolding each
 none_read place = record { read = []; is_read = refl; same = tt }
 
 one_more_read : (place : ℕ) (s : Statement) (ss : List Statement) (joined : Joined) (deck : List Joined)
-    → statement_of joined ≡ Ok (as_read joined.line s) → AreReadFrom (place + 1) ss deck → AreReadFrom place (s ∷ ss) (joined ∷ deck)
+    → statement_of joined ≡ Ok (as_read joined.line s) → AreReadFrom (place + 1) ss deck
+    → AreReadFrom place (s ∷ ss) (joined ∷ deck)
 unfolding each
 one_more_read place s ss joined deck first rest = record {
   read = as_read joined.line s ∷ rest.read;
@@ -228,7 +242,8 @@ statements_again place (s ∷ ss) (joined ∷ deck) can same =
 -- the bytes of canonical statements are read as these statements
 pub statements_are_read_again : ReadsStatementsAgain
 statements_are_read_again ss can =
-    let deck = deck_is_read_again (map to_write ss) (All-map IsWritable to_write ss (λ k d h. statement_is_writable _ (can k d h))) in
+    let deck = deck_is_read_again (map to_write ss)
+    (All-map IsWritable to_write ss (λ k d h. statement_is_writable _ (can k d h))) in
     let statements = statements_again 0 ss deck.read can deck.same in
     record {
       read = statements.read;

@@ -1,6 +1,7 @@
 -- Operands that can stand behind others: clean ones in front, each under a keyword of its own, and
 -- behind them what a statement carries.
-use Rattle.std.proofs.Common.{◌≡◌, ◌≢◌, ℕ, ◌&&◌, not, is_none, Bool, true, false, Option, None, Some, List, [], ◌∷◌, ◌++◌, All, IfSome, get_or, refl, sym, ap, ◌∙◌, subst, append_assoc}
+use Rattle.std.proofs.Common.{◌≡◌, ◌≢◌, ℕ, ◌&&◌, not, is_none, Bool, true, false, Option, None, Some, List, [], ◌∷◌}
+use Rattle.std.proofs.Common.{◌++◌, All, IfSome, get_or, refl, sym, ap, ◌∙◌, subst, append_assoc}
 use Rattle.std.proofs.lemmas.Bool.{false≢true, and_parts, and_from, or_parts, not-true, false_from_ne_true}
 use Rattle.std.proofs.lemmas.List.Elements.{All-nil, All-cons, All-head, All-tail}
 use Rattle.std.proofs.lemmas.List.Folds.{list_all-append}
@@ -32,7 +33,8 @@ graphic_printable : (text : List ℕ) → list_all is_graphic text ≡ true → 
 graphic_printable [] are = refl
 graphic_printable (b ∷ text) are =
     let parts = and_parts (is_graphic b) (list_all is_graphic text) are in
-    and_from (is_printable b) (list_all is_printable text) (and_parts (is_printable b) (not (is_blank b)) parts.0).0 (graphic_printable text parts.1)
+    and_from (is_printable b) (list_all is_printable text) (and_parts (is_printable b) (not (is_blank b)) parts.0).0
+    (graphic_printable text parts.1)
 
 -- there is no blank that would have to be inside quotes
 graphic_no_blank : (text before after : List ℕ) → list_all is_graphic text ≡ true → text ≢ before ++ 32 ∷ after
@@ -51,7 +53,11 @@ clean_placeable : (keyword : Option (List ℕ)) (text : List ℕ) → IsKeyed ke
     → IsPlaceable (record { keyword = keyword; text = text })
 clean_placeable keyword text keyed clean =
     let cut = finds_pieces text (text ∷ []) (pieces_again text [] (clean.whole, tt)) in
-    record { keyed = keyed; balanced = All-head IsBalanced text [] cut.balanced; uncut = All-head IsUncut text [] cut.uncut }
+    record {
+      keyed = keyed;
+      balanced = All-head IsBalanced text [] cut.balanced;
+      uncut = All-head IsUncut text [] cut.uncut;
+    }
 
 -- ---- operands behind others, whose keywords are taken
 
@@ -79,20 +85,23 @@ one_follows taken keyword text operands keyed clean own behind can =
     record {
       placeable = record {
         each = All-cons IsPlaceable o operands (clean_placeable keyword text keyed clean) can.placeable.each;
-        apart = AllPairs-cons (λ (a b : CarriedOperand). repeats a.keyword b.keyword ≡ false) o operands behind can.placeable.apart;
+        apart = AllPairs-cons (λ (a b : CarriedOperand). repeats a.keyword b.keyword ≡ false) o operands behind
+            can.placeable.apart;
       };
       texts = All-cons (λ (x : CarriedOperand). IsInColumns x.text) o operands (clean_in_columns text clean) can.texts;
       others = λ k d within. All-cons (IsOther _) o operands (own k d within) (can.others k d within);
     }
 
-not_taken : (word : List ℕ) (taken : List (List ℕ)) → list_any (bytes_eq word) taken ≡ false → All (λ other. bytes_eq word other ≡ false) taken
+not_taken : (word : List ℕ) (taken : List (List ℕ)) → list_any (bytes_eq word) taken ≡ false
+    → All (λ other. bytes_eq word other ≡ false) taken
 not_taken word [] none = All-nil (λ other. bytes_eq word other ≡ false)
 not_taken word (other ∷ taken) none =
     let parts = or_parts (bytes_eq word other) (list_any (bytes_eq word) taken) none in
     All-cons (λ o. bytes_eq word o ≡ false) other taken parts.0 (not_taken word taken parts.1)
 
 -- what stands behind more keywords stands behind fewer
-fewer_taken : (word : List ℕ) (taken : List (List ℕ)) (operands : List CarriedOperand) → CanFollow (word ∷ taken) operands → CanFollow taken operands
+fewer_taken : (word : List ℕ) (taken : List (List ℕ)) (operands : List CarriedOperand)
+    → CanFollow (word ∷ taken) operands → CanFollow taken operands
 fewer_taken word taken operands can = record {
   placeable = can.placeable;
   texts = can.texts;
@@ -113,10 +122,12 @@ none_repeats : (keyword : Option (List ℕ)) → repeats None keyword ≡ false
 none_repeats None = refl
 none_repeats (Some word) = refl
 
-pub word_follows : (taken : List (List ℕ)) (text : List ℕ) (operands : List CarriedOperand) → text ≢ [] → HasNoEquals text → IsClean text
+pub word_follows : (taken : List (List ℕ)) (text : List ℕ) (operands : List CarriedOperand) → text ≢ []
+    → HasNoEquals text → IsClean text
     → CanFollow taken operands → CanFollow taken (alone text ∷ operands)
 word_follows taken text operands some none clean can =
-    one_follows taken None text operands (some, none) clean (λ k d within. refl) (λ k d within. none_repeats (get_or operands k d).keyword) can
+    one_follows taken None text operands (some, none) clean (λ k d within. refl)
+    (λ k d within. none_repeats (get_or operands k d).keyword) can
 
 -- ---- what a statement carries has no keyword that it knows
 
@@ -124,7 +135,8 @@ word_follows taken text operands some none clean can =
 abbrev pub is_known : Operation → List ℕ → Bool
 is_known operation word = not (is_none (form_in (table operation) word))
 
-unknown_differs : (operation : Operation) (word other : List ℕ) → is_known operation word ≡ true → is_none (form_in (table operation) other) ≡ true
+unknown_differs : (operation : Operation) (word other : List ℕ) → is_known operation word ≡ true
+    → is_none (form_in (table operation) other) ≡ true
     → bytes_eq other word ≡ false
 unknown_differs operation word other known unknown = false_from_ne_true (bytes_eq other word) (λ same.
     let is : word ≡ other = sym ((bytes_eq-Decides other word).0 same) in
@@ -134,17 +146,20 @@ carried_is_other : (operation : Operation) (word : List ℕ) (o : CarriedOperand
     → is_carried operation (as_operand o) ≡ true → IsOther word o
 carried_is_other operation word o known carried = by o.keyword carried
   where
-    by : (keyword : Option (List ℕ)) → is_carried operation (key_at 0 keyword, o.text) ≡ true → repeats (Some word) keyword ≡ false
+    by : (keyword : Option (List ℕ)) → is_carried operation (key_at 0 keyword, o.text) ≡ true
+        → repeats (Some word) keyword ≡ false
     by None unknown = refl
     by (Some other) unknown = unknown_differs operation word other known unknown
 
-pub carried_follows : (operation : Operation) (taken : List (List ℕ)) (carried : List CarriedOperand) → list_all (is_known operation) taken ≡ true
+pub carried_follows : (operation : Operation) (taken : List (List ℕ)) (carried : List CarriedOperand)
+    → list_all (is_known operation) taken ≡ true
     → AreCarriedBy operation carried → CanFollow taken carried
 carried_follows operation taken carried known at = record {
   placeable = at.placeable;
   texts = at.texts;
   others = λ k d within i e inside.
-      carried_is_other operation _ _ (AllPass-from_list_all (is_known operation) taken known k d within) (at.unknown i e inside);
+      carried_is_other operation _ _ (AllPass-from_list_all (is_known operation) taken known k d within)
+      (at.unknown i e inside);
 }
 
 -- ---- values under keywords, one behind the other, with what is carried behind them
@@ -163,7 +178,8 @@ all_valued (e ∷ next ∷ entries) = valued e.word e.text ++ all_valued (next �
 -- each has a keyword, and none of those that are taken or stand before
 abbrev pub are_new : List (List ℕ) → List Entry → Bool
 are_new taken [] = true
-are_new taken (e ∷ entries) = (is_keyword e.word && not (list_any (bytes_eq e.word) taken)) && are_new (e.word ∷ taken) entries
+are_new taken (e ∷ entries) =
+    (is_keyword e.word && not (list_any (bytes_eq e.word) taken)) && are_new (e.word ∷ taken) entries
 
 -- the keywords that are taken behind them
 abbrev pub taken_behind : List (List ℕ) → List Entry → List (List ℕ)
@@ -177,17 +193,20 @@ entry_follows taken e operands own can =
     let parts = and_parts (is_keyword e.word) (not (list_any (bytes_eq e.word) taken)) own in
     value_follows taken e.word e.text operands parts.0 (not-true (list_any (bytes_eq e.word) taken) parts.1) e.clean can
 
-entries_follow : (taken : List (List ℕ)) (entries : List Entry) (operands : List CarriedOperand) → are_new taken entries ≡ true
+entries_follow : (taken : List (List ℕ)) (entries : List Entry) (operands : List CarriedOperand)
+    → are_new taken entries ≡ true
     → CanFollow (taken_behind taken entries) operands → CanFollow taken (all_valued entries ++ operands)
 entries_follow taken [] operands new can = can
 entries_follow taken (e ∷ []) operands new can = entry_follows taken e operands (and_parts _ true new).0 can
 entries_follow taken (e ∷ next ∷ entries) operands new can =
     let parts = and_parts _ (are_new (e.word ∷ taken) (next ∷ entries)) new in
     subst (CanFollow taken) (sym (append_assoc (valued e.word e.text) (all_valued (next ∷ entries)) operands))
-    (entry_follows taken e (all_valued (next ∷ entries) ++ operands) parts.0 (entries_follow (e.word ∷ taken) (next ∷ entries) operands parts.1 can))
+    (entry_follows taken e (all_valued (next ∷ entries) ++ operands) parts.0
+    (entries_follow (e.word ∷ taken) (next ∷ entries) operands parts.1 can))
 
 -- a statement of such values whose keywords it knows, with what it carries behind them
-pub entries_can_be_written : (operation : Operation) (entries : List Entry) (carried : List CarriedOperand) → are_new [] entries ≡ true
+pub entries_can_be_written : (operation : Operation) (entries : List Entry) (carried : List CarriedOperand)
+    → are_new [] entries ≡ true
     → list_all (is_known operation) (taken_behind [] entries) ≡ true → AreCarriedBy operation carried
     → CanBeWritten (record { operation = operation; operands = all_valued entries ++ carried })
 entries_can_be_written operation entries carried new known at =

@@ -1,6 +1,7 @@
 -- The records of a configuration stand in the order of their keys. So they stand by kind, and its
 -- images and limits by channel subsystem.
-use Rattle.std.proofs.Common.{◌≡◌, ℕ, ◌≤◌, ◌==◌, nat_lt, Bool, true, false, cond, List, [], ◌∷◌, ◌++◌, T, refl, sym, ◌∙◌, subst, arith}
+use Rattle.std.proofs.Common.{◌≡◌, ℕ, ◌≤◌, ◌==◌, nat_lt, Bool, true, false, cond, List, [], ◌∷◌, ◌++◌, T, refl, sym}
+use Rattle.std.proofs.Common.{◌∙◌, subst, arith}
 use Rattle.std.proofs.lemmas.Bool.Decides.{nat_tests}
 use Rattle.std.specs.List.{AllByRecursion, flat_map}
 use Rattle.std.specs.Ordering.{nat_cmp, ordering_then}
@@ -21,7 +22,8 @@ use Rattle.iocm_round_trip.proofs.ByKind.{AreOrdered, AreByKind, kind_of}
 abbrev pub ComesBefore : Rec → Rec → Type 0
 ComesBefore a b = key_cmp (key_of a) (key_of b) ≡ Less
 
-all_behind : (r : Rec) (rs : List Rec) → T (below_all key_cmp (key_of r) (with_keys rs)) → AllByRecursion (ComesBefore r) rs
+all_behind : (r : Rec) (rs : List Rec) → T (below_all key_cmp (key_of r) (with_keys rs))
+    → AllByRecursion (ComesBefore r) rs
 all_behind r [] up = tt
 all_behind r (s ∷ rs) up = (less_is _ (first_holds _ _ up), all_behind r rs (second_holds _ _ up))
 
@@ -45,32 +47,38 @@ module _ {A : Type 0} (S : A → A → Type 0) where
 
   ordered_both : (xs ys : List A) → AreOrdered S xs → AreOrdered S ys → AreBehind S xs ys → AreOrdered S (xs ++ ys)
   ordered_both [] ys first second behind = second
-  ordered_both (x ∷ xs) ys first second behind = (all_both (S x) xs ys first.0 behind.0, ordered_both xs ys first.1 second behind.1)
+  ordered_both (x ∷ xs) ys first second behind =
+      (all_both (S x) xs ys first.0 behind.0, ordered_both xs ys first.1 second behind.1)
 
   behind_both : (xs ys zs : List A) → AreBehind S xs ys → AreBehind S xs zs → AreBehind S xs (ys ++ zs)
   behind_both [] ys zs first second = tt
-  behind_both (x ∷ xs) ys zs first second = (all_both (S x) ys zs first.0 second.0, behind_both xs ys zs first.1 second.1)
+  behind_both (x ∷ xs) ys zs first second =
+      (all_both (S x) ys zs first.0 second.0, behind_both xs ys zs first.1 second.1)
 
   nothing_behind : (xs : List A) → AreBehind S xs []
   nothing_behind [] = tt
   nothing_behind (x ∷ xs) = (tt, nothing_behind xs)
 
   -- what each record gives is in order, where it is so of each one and of each two
-  module _ (g : Rec → List A) (alone : (r : Rec) → AreOrdered S (g r)) (two : (r s : Rec) → ComesBefore r s → AreBehind S (g r) (g s)) where
+  module _ (g : Rec → List A) (alone : (r : Rec) → AreOrdered S (g r))
+      (two : (r s : Rec) → ComesBefore r s → AreBehind S (g r) (g s)) where
     given_behind : (r : Rec) (rs : List Rec) → AllByRecursion (ComesBefore r) rs → AreBehind S (g r) (flat_map g rs)
     given_behind r [] behind = nothing_behind (g r)
-    given_behind r (s ∷ rs) behind = behind_both (g r) (g s) (flat_map g rs) (two r s behind.0) (given_behind r rs behind.1)
+    given_behind r (s ∷ rs) behind =
+        behind_both (g r) (g s) (flat_map g rs) (two r s behind.0) (given_behind r rs behind.1)
 
     pub given_ordered : (rs : List Rec) → AreOrdered ComesBefore rs → AreOrdered S (flat_map g rs)
     given_ordered [] ordered = tt
-    given_ordered (r ∷ rs) ordered = ordered_both (g r) (flat_map g rs) (alone r) (given_ordered rs ordered.1) (given_behind r rs ordered.0)
+    given_ordered (r ∷ rs) ordered =
+        ordered_both (g r) (flat_map g rs) (alone r) (given_ordered rs ordered.1) (given_behind r rs ordered.0)
 
 -- ---- by kind
 
 pub first_within : (m n : ℕ) (o : Ordering) → ordering_then (nat_cmp m n) o ≡ Less → m ≤ n
 first_within m n o less = by (nat_lt m n) (m == n) refl refl less
   where
-    by : (b c : Bool) → nat_lt m n ≡ b → m == n ≡ c → ordering_then (cond b Less (cond c Equal Greater)) o ≡ Less → m ≤ n
+    by : (b c : Bool) → nat_lt m n ≡ b → m == n ≡ c → ordering_then (cond b Less (cond c Equal Greater)) o ≡ Less
+        → m ≤ n
     by true c below same e = grind (arith, nat_tests)
     by false true below same e = grind (arith, nat_tests)
     by false false below same e = cc
@@ -99,10 +107,12 @@ begins (online o) = refl
 
 kinds_rise : (a b : Rec) → ComesBefore a b → kind_of a ≤ kind_of b
 kinds_rise a b less =
-    let begun : slice_cmp nat_cmp (kind_of a ∷ tail_of a) (kind_of b ∷ tail_of b) ≡ Less = (λ i. slice_cmp nat_cmp (sym (begins a) i) (sym (begins b) i)) ∙ less in
+    let begun : slice_cmp nat_cmp (kind_of a ∷ tail_of a) (kind_of b ∷ tail_of b) ≡ Less =
+    (λ i. slice_cmp nat_cmp (sym (begins a) i) (sym (begins b) i)) ∙ less in
     first_within (kind_of a) (kind_of b) (slice_cmp nat_cmp (tail_of a) (tail_of b)) begun
 
-kind_behind : (r : Rec) (rs : List Rec) → AllByRecursion (ComesBefore r) rs → AllByRecursion (λ s. kind_of r ≤ kind_of s) rs
+kind_behind : (r : Rec) (rs : List Rec) → AllByRecursion (ComesBefore r) rs
+    → AllByRecursion (λ s. kind_of r ≤ kind_of s) rs
 kind_behind r [] behind = tt
 kind_behind r (s ∷ rs) behind = (kinds_rise r s behind.0, kind_behind r rs behind.1)
 

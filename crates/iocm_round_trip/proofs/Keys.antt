@@ -13,16 +13,19 @@ module _ (records : List Rec) (are : AreOfDeck records) where
   was_read : (r : Rec) → IsAmong r (deck_of (records_of (configuration_of records))) → IsAmong r records
   was_read r is =
       let of = given_by_one expanded r (records_of (configuration_of records)) is in
-      subst (IsAmong r) are.whole (among_all_given expanded r of.giver records (was_among of.giver records of.there) of.given)
+      subst (IsAmong r) are.whole
+      (among_all_given expanded r of.giver records (was_among of.giver records of.there) of.given)
 
   -- and each of the records stands there
   is_written : (r : Rec) → IsAmong r records → IsAmong r (deck_of (records_of (configuration_of records)))
   is_written r is =
       let of = given_by_one expanded r records (subst (IsAmong r) (sym are.whole) is) in
-      among_all_given expanded r of.giver (records_of (configuration_of records)) (stays_among of.giver records are.apart of.there) of.given
+      among_all_given expanded r of.giver (records_of (configuration_of records))
+      (stays_among of.giver records are.apart of.there) of.given
 
   of_its_deck : configuration_of (deck_of (records_of (configuration_of records))) ≡ configuration_of records
-  of_its_deck = same_configuration (deck_of (records_of (configuration_of records))) records are.apart was_read is_written
+  of_its_deck = same_configuration (deck_of (records_of (configuration_of records))) records are.apart was_read
+      is_written
 
 pub is_of_its_deck : IsOfItsDeck
 is_of_its_deck bytes records is = of_its_deck records (IfOk-at_ok AreOfDeck is (records_are_of_deck bytes))

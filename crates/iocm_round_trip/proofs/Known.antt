@@ -1,6 +1,7 @@
 -- Each canonical statement can be written: the values that it knows are clean and stand under
 -- different keywords, before what it carries.
-use Rattle.std.proofs.Common.{◌≡◌, ◌≢◌, ℕ, ◌≤◌, ◌==◌, Bool, true, false, cond, Option, None, Some, List, [], ◌∷◌, ◌++◌, IfSome, length, codes, refl, sym, ap, ◌∙◌, subst, append_assoc, arith}
+use Rattle.std.proofs.Common.{◌≡◌, ◌≢◌, ℕ, ◌≤◌, ◌==◌, Bool, true, false, cond, Option, None, Some, List, [], ◌∷◌, ◌++◌}
+use Rattle.std.proofs.Common.{IfSome, length, codes, refl, sym, ap, ◌∙◌, subst, append_assoc, arith}
 use Rattle.std.proofs.Math.Dec.{eqb-suc-zero}
 use Rattle.std.specs.Option.{option_map}
 use Rattle.iocm_types.specs.declared.path_kind.PathKind.{PathKind}
@@ -22,20 +23,24 @@ use Rattle.iocm_statements.specs.Operands.{equals_from}
 use Rattle.iocm_statements.specs.Splitting.{HasNoEquals}
 use Rattle.iocm_statements.proofs.Saying.{finds_operand}
 use Rattle.iocm_values.specs.NameSet.{names_text}
-use Rattle.iocm_deck_writer.specs.Canonical.{chpid_operands, chpid_statement, cntlunit_statement, shared_words, is_reconfigurable}
+use Rattle.iocm_deck_writer.specs.Canonical.{chpid_operands, chpid_statement, cntlunit_statement, shared_words}
+use Rattle.iocm_deck_writer.specs.Canonical.{is_reconfigurable}
 use Rattle.iocm_deck_writer.specs.Device.{Run, iodevice_statement, set_operand}
 use Rattle.iocm_deck_writer.specs.Resource.{resource_operands}
 use Rattle.iocm_deck_writer.specs.Statement.{valued, if_any}
 use Rattle.iocm_round_trip.specs.Given.{AreCarriedBy, IsGivenPath, IsGivenUnit}
 use Rattle.iocm_round_trip.specs.Running.{IsGivenRun}
 use Rattle.iocm_round_trip.specs.Stating.{CanBeWritten}
-use Rattle.iocm_round_trip.proofs.OperandTexts.{path_clean, names_clean, partition_clean, paths_clean, ranges_clean, links_clean, devices_clean, units_clean, images_clean, limits_clean}
+use Rattle.iocm_round_trip.proofs.OperandTexts.{path_clean, names_clean, partition_clean, paths_clean, ranges_clean}
+use Rattle.iocm_round_trip.proofs.OperandTexts.{links_clean, devices_clean, units_clean, images_clean, limits_clean}
 use Rattle.iocm_round_trip.proofs.Texts.{IsClean, clean_plain, clean_hex1, clean_hex2, clean_hex4}
-use Rattle.iocm_round_trip.proofs.Following.{CanFollow, Entry, can_be_written, value_follows, word_follows, carried_follows, entries_can_be_written}
+use Rattle.iocm_round_trip.proofs.Following.{CanFollow, Entry, can_be_written, value_follows, word_follows}
+use Rattle.iocm_round_trip.proofs.Following.{carried_follows, entries_can_be_written}
 
 -- ---- values that may be left out
 
-any_clean : {A : Type 0} (items : List A) (text : List ℕ) → (items ≢ [] → IsClean text) → IfSome (if_any items text) IsClean
+any_clean : {A : Type 0} (items : List A) (text : List ℕ) → (items ≢ [] → IsClean text)
+    → IfSome (if_any items text) IsClean
 any_clean [] text clean = tt
 any_clean (x ∷ items) text clean =
     subst (λ none. IfSome (cond none None (Some text)) IsClean) (sym (eqb-suc-zero (length items))) (clean (λ e. cc))
@@ -63,26 +68,31 @@ abbrev where_any : {A : Type 0} (word : List ℕ) (items : List A) (text : List 
 where_any word items text clean = record { word = word; text = if_any items text; clean = any_clean items text clean }
 
 -- a value that stands where there is one
-abbrev where_some : {A : Type 0} (word : List ℕ) (text_of : A → List ℕ) (value : Option A) → ((x : A) → value ≡ Some x → IsClean (text_of x)) → Entry
-where_some word text_of value clean = record { word = word; text = option_map text_of value; clean = mapped_clean text_of value clean }
+abbrev where_some : {A : Type 0} (word : List ℕ) (text_of : A → List ℕ) (value : Option A)
+    → ((x : A) → value ≡ Some x → IsClean (text_of x)) → Entry
+where_some word text_of value clean =
+    record { word = word; text = option_map text_of value; clean = mapped_clean text_of value clean }
 
 -- ---- ID
 
 -- the ID statement has nothing but what it carries
-pub id_can_be_written : (carried : List CarriedOperand) → AreCarriedBy Id carried → CanBeWritten (record { operation = Id; operands = carried })
+pub id_can_be_written : (carried : List CarriedOperand) → AreCarriedBy Id carried
+    → CanBeWritten (record { operation = Id; operands = carried })
 id_can_be_written carried at = entries_can_be_written Id [] carried refl refl at
 
 -- ---- RESOURCE
 
 abbrev resource_entries : (images : List ImageRecord) (limits : List LimitRecord)
-    → (images ≢ [] → AreByCss (λ (i : ImageRecord). i.css) IsImage images) → (limits ≢ [] → AreLimits limits) → List Entry
+    → (images ≢ [] → AreByCss (λ (i : ImageRecord). i.css) IsImage images) → (limits ≢ [] → AreLimits limits)
+    → List Entry
 resource_entries images limits are_images are_limits =
     where_any (codes "PARTITION") images (images_text images) (λ some. images_clean images (are_images some).each)
     ∷ where_any (codes "MAXDEV") limits (limits_text limits) (λ some. limits_clean limits (are_limits some).by_css.each)
     ∷ []
 
 pub resource_can_be_written : (images : List ImageRecord) (limits : List LimitRecord) (carried : List CarriedOperand)
-    → (images ≢ [] → AreByCss (λ (i : ImageRecord). i.css) IsImage images) → (limits ≢ [] → AreLimits limits) → AreCarriedBy Resource carried
+    → (images ≢ [] → AreByCss (λ (i : ImageRecord). i.css) IsImage images) → (limits ≢ [] → AreLimits limits)
+    → AreCarriedBy Resource carried
     → CanBeWritten (record { operation = Resource; operands = resource_operands images limits ++ carried })
 resource_can_be_written images limits carried are_images are_limits at =
     entries_can_be_written Resource (resource_entries images limits are_images are_limits) carried refl refl at
@@ -97,7 +107,8 @@ shared_has_no_equals = (finds_operand memory 0 (codes "SHARED") (Bare 0, codes "
 shared_follows : (taken : List (List ℕ)) (kind : PathKind) (operands : List CarriedOperand) → CanFollow taken operands
     → CanFollow taken (shared_words kind ++ operands)
 shared_follows taken Shared operands can =
-    word_follows taken (codes "SHARED") operands (λ e. cc) shared_has_no_equals (clean_plain (codes "SHARED") refl refl) can
+    word_follows taken (codes "SHARED") operands (λ e. cc) shared_has_no_equals (clean_plain (codes "SHARED") refl refl)
+    can
 shared_follows taken Dedicated operands can = can
 shared_follows taken Reconfigurable operands can = can
 
@@ -108,12 +119,15 @@ chpid_can_be_written p is =
     let front = valued (codes "PATH") (Some number) in
     let back = valued (codes "PARTITION") (Some lists) in
     let in_order : front ++ (shared_words p.kind ++ (back ++ p.carried)) ≡ chpid_operands p ++ p.carried =
-    ap (λ os. front ++ os) (sym (append_assoc (shared_words p.kind) back p.carried)) ∙ sym (append_assoc front (shared_words p.kind ++ back) p.carried) in
+    ap (λ os. front ++ os) (sym (append_assoc (shared_words p.kind) back p.carried))
+    ∙ sym (append_assoc front (shared_words p.kind ++ back) p.carried) in
     let carried = carried_follows Chpid (codes "PARTITION" ∷ codes "PATH" ∷ []) p.carried refl is.carried in
     let clean = partition_clean p.access p.candidates (is_reconfigurable p.kind) is.access is.candidates in
-    let with_lists = value_follows (codes "PATH" ∷ []) (codes "PARTITION") (Some lists) p.carried refl refl clean carried in
+    let with_lists = value_follows (codes "PATH" ∷ []) (codes "PARTITION") (Some lists) p.carried refl refl clean
+    carried in
     let with_word = shared_follows (codes "PATH" ∷ []) p.kind (back ++ p.carried) with_lists in
-    let all = value_follows [] (codes "PATH") (Some number) (shared_words p.kind ++ (back ++ p.carried)) refl refl (path_clean p.css p.number is.path) with_word in
+    let all = value_follows [] (codes "PATH") (Some number) (shared_words p.kind ++ (back ++ p.carried)) refl refl
+    (path_clean p.css p.number is.path) with_word in
     can_be_written Chpid (chpid_operands p ++ p.carried) (subst (CanFollow []) in_order all)
 
 -- ---- CNTLUNIT
@@ -141,8 +155,10 @@ iodevice_entries r is =
     ∷ where_any (codes "CUNUMBR") d.units (units_text d.units) (λ some. units_clean d.units first.units)
     ∷ always (codes "UNITADD") (hex2 d.unit_address) (clean_hex2 d.unit_address first.unit_address)
     ∷ record { word = codes "SCHSET"; text = set_operand d.set; clean = set_clean d.set first.set }
-    ∷ where_some (codes "PARTITION") names_text d.candidates (λ names there. names_clean names (first.candidates names there))
+    ∷ where_some (codes "PARTITION") names_text d.candidates
+    (λ names there. names_clean names (first.candidates names there))
     ∷ []
 
 pub iodevice_can_be_written : (r : Run) → IsGivenRun r → CanBeWritten (iodevice_statement r)
-iodevice_can_be_written r is = entries_can_be_written Iodevice (iodevice_entries r is) r.first.carried refl refl is.first.carried
+iodevice_can_be_written r is =
+    entries_can_be_written Iodevice (iodevice_entries r is) r.first.carried refl refl is.first.carried

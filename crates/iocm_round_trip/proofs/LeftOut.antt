@@ -1,12 +1,13 @@
 -- What is written of an operand stands in no form that is left out: none of its words, at any
 -- depth, names several channel subsystems. Bytes by their codes: 39 is a quote, 40 and 41 are
 -- parentheses, 44 is a comma.
-use Rattle.std.proofs.Common.{◌≡◌, ℕ, zero, suc, ◌<◌, ◌==◌, ◌+◌, ◌||◌, nat_le, Bool, true, false, cond, Option, Some, None, List, [], ◌∷◌, ◌++◌, length, unwrap_or, All, refl, sym, ap, ◌∙◌, arith, append_assoc, append-nil}
+use Rattle.std.proofs.Common.{◌≡◌, ℕ, ◌<◌, ◌==◌, ◌+◌, ◌||◌, nat_le, Bool, true, false, cond, Option, Some, None, List}
+use Rattle.std.proofs.Common.{[], ◌∷◌, ◌++◌, unwrap_or, All, refl, sym, ap, ◌∙◌, arith, append_assoc, append-nil}
 use Rattle.std.specs.Prelude.{is_some, codes}
 use Rattle.std.proofs.lemmas.Bool.{true≢false, and_parts}
 use Rattle.std.proofs.lemmas.Bool.Decides.{nat_tests}
 use Rattle.std.proofs.lemmas.List.Elements.{All-head, All-tail}
-use Rattle.std.specs.List.{flat_map, list_all, list_any, join_with_byte}
+use Rattle.std.specs.List.{list_all, list_any, join_with_byte}
 use Rattle.std.specs.Option.{option_and_then}
 use Rattle.std.specs.Str.{bytes_eq}
 use Rattle.iocm_types.specs.Print.{hex1}
@@ -47,7 +48,8 @@ list_begins rest = refl
 pub record Lacks (kind : List ℕ → Bool) (text : List ℕ) : Type 0 where
   pub last : List ℕ
   pub other : kind last ≡ false
-  pub stands : (rest : List ℕ) → list_any kind (words_from start [] (text ++ rest)) ≡ list_any kind (words_from start last rest)
+  pub stands : (rest : List ℕ)
+      → list_any kind (words_from start [] (text ++ rest)) ≡ list_any kind (words_from start last rest)
 
 -- a text that is one word, whatever stands behind
 abbrev pub IsWord : List ℕ → Type 0
@@ -57,7 +59,8 @@ module _ (kind : List ℕ → Bool) where
   word_lacks : (text : List ℕ) → IsWord text → kind text ≡ false → Lacks kind text
   word_lacks text word other = record { last = text; other = other; stands = λ rest. ap (list_any kind) (word rest) }
 
-  other_ends : (last : List ℕ) (others : List (List ℕ)) → kind last ≡ false → list_any kind (ended last others) ≡ list_any kind others
+  other_ends : (last : List ℕ) (others : List (List ℕ)) → kind last ≡ false
+      → list_any kind (ended last others) ≡ list_any kind others
   other_ends last others other = by (bytes_eq last (codes ")"))
     where
       by : (closes : Bool) → list_any kind (cond closes others (last ∷ others)) ≡ list_any kind others
@@ -66,33 +69,40 @@ module _ (kind : List ℕ → Bool) where
 
   pub lacks_any : (text : List ℕ) → Lacks kind text → list_any kind (words text) ≡ false
   lacks_any text lacks =
-      ap (λ t. list_any kind (words t)) (sym (append-nil text)) ∙ lacks.stands [] ∙ ap (list_any kind) (all_ends lacks.last)
+      ap (λ t. list_any kind (words t)) (sym (append-nil text)) ∙ lacks.stands []
+      ∙ ap (list_any kind) (all_ends lacks.last)
       ∙ other_ends lacks.last [] lacks.other
 
   -- texts that commas join, up to the end of their list
   joined_lack : (x : List ℕ) (xs : List (List ℕ)) (rest : List ℕ) → All (Lacks kind) (x ∷ xs)
-      → list_any kind (words_from start [] (join_with_byte 44 (x ∷ xs) ++ 41 ∷ rest)) ≡ list_any kind (words_from start (41 ∷ []) rest)
+      → list_any kind (words_from start [] (join_with_byte 44 (x ∷ xs) ++ 41 ∷ rest))
+      ≡ list_any kind (words_from start (41 ∷ []) rest)
   joined_lack x [] rest all =
       let first = All-head (Lacks kind) x [] all in
-      first.stands (41 ∷ rest) ∙ ap (list_any kind) (list_ends first.last rest) ∙ other_ends first.last (words_from start (41 ∷ []) rest) first.other
+      first.stands (41 ∷ rest) ∙ ap (list_any kind) (list_ends first.last rest)
+      ∙ other_ends first.last (words_from start (41 ∷ []) rest) first.other
   joined_lack x (y ∷ ys) rest all =
       let first = All-head (Lacks kind) x (y ∷ ys) all in
       let more : List ℕ = join_with_byte 44 (y ∷ ys) ++ 41 ∷ rest in
       ap (λ t. list_any kind (words_from start [] t)) (append_assoc x (44 ∷ join_with_byte 44 (y ∷ ys)) (41 ∷ rest))
-      ∙ first.stands (44 ∷ more) ∙ ap (list_any kind) (comma_ends first.last more) ∙ other_ends first.last (words_from start [] more) first.other
+      ∙ first.stands (44 ∷ more) ∙ ap (list_any kind) (comma_ends first.last more)
+      ∙ other_ends first.last (words_from start [] more) first.other
       ∙ joined_lack y ys rest (All-tail (Lacks kind) x (y ∷ ys) all)
 
   -- a list of texts that lack it; behind a list stands its parenthesis, which is no word
-  pub list_lacks : (texts : List (List ℕ)) → kind [] ≡ false → kind (41 ∷ []) ≡ false → All (Lacks kind) texts → Lacks kind (list_text texts)
+  pub list_lacks : (texts : List (List ℕ)) → kind [] ≡ false → kind (41 ∷ []) ≡ false → All (Lacks kind) texts
+      → Lacks kind (list_text texts)
   list_lacks texts empty closing all = record {
     last = 41 ∷ [];
     other = closing;
     stands = λ rest. ap (list_any kind) (list_begins ((join_with_byte 44 texts ++ 41 ∷ []) ++ rest))
-        ∙ ap (λ t. list_any kind (words_from start [] t)) (append_assoc (join_with_byte 44 texts) (41 ∷ []) rest) ∙ by texts all rest;
+        ∙ ap (λ t. list_any kind (words_from start [] t)) (append_assoc (join_with_byte 44 texts) (41 ∷ []) rest)
+        ∙ by texts all rest;
   }
     where
       by : (xs : List (List ℕ)) → All (Lacks kind) xs → (rest : List ℕ)
-          → list_any kind (words_from start [] (join_with_byte 44 xs ++ 41 ∷ rest)) ≡ list_any kind (words_from start (41 ∷ []) rest)
+          → list_any kind (words_from start [] (join_with_byte 44 xs ++ 41 ∷ rest))
+          ≡ list_any kind (words_from start (41 ∷ []) rest)
       by [] all rest = ap (list_any kind) (list_ends [] rest) ∙ other_ends [] (words_from start (41 ∷ []) rest) empty
       by (x ∷ xs) all rest = joined_lack x xs rest all
 
@@ -102,11 +112,13 @@ plain_goes_on : (b : ℕ) → is_plain b ≡ true → (ends_word b ≡ false) ×
 unfolding step
 plain_goes_on b plain = (grind (arith, nat_tests), grind (arith, nat_tests), grind (arith, nat_tests))
 
-byte_goes_on : (text : List ℕ) (b : ℕ) (rest : List ℕ) → is_plain b ≡ true → words_from start text (b ∷ rest) ≡ words_from start (text ++ b ∷ []) rest
+byte_goes_on : (text : List ℕ) (b : ℕ) (rest : List ℕ) → is_plain b ≡ true
+    → words_from start text (b ∷ rest) ≡ words_from start (text ++ b ∷ []) rest
 unfolding words_from is_outside
 byte_goes_on text b rest plain = let on = plain_goes_on b plain in rw (on.0, on.1, on.2) refl
 
-plain_goes_in : (text plain rest : List ℕ) → list_all is_plain plain ≡ true → words_from start text (plain ++ rest) ≡ words_from start (text ++ plain) rest
+plain_goes_in : (text plain rest : List ℕ) → list_all is_plain plain ≡ true
+    → words_from start text (plain ++ rest) ≡ words_from start (text ++ plain) rest
 plain_goes_in text [] rest is = ap (λ t. words_from start t rest) (sym (append-nil text))
 plain_goes_in text (b ∷ bs) rest is =
     let parts = and_parts (is_plain b) (list_all is_plain bs) is in
@@ -130,7 +142,8 @@ css_goes_in d rest plain =
 pub css_is_word : (n : ℕ) → n < 16 → IsWord (css_text n)
 css_is_word n small rest =
     let digit : hex1 n ≡ glyph n ∷ [] = hex1_text n small in
-    ap (λ d. words_from start [] ((codes "CSS(" ++ (d ++ codes ")")) ++ rest)) digit ∙ css_goes_in (glyph n) rest (glyph_plain n small)
+    ap (λ d. words_from start [] ((codes "CSS(" ++ (d ++ codes ")")) ++ rest)) digit
+    ∙ css_goes_in (glyph n) rest (glyph_plain n small)
     ∙ ap (λ d. words_from start (codes "CSS(" ++ (d ++ codes ")")) rest) (sym digit)
 
 -- ---- several channel subsystems
@@ -149,7 +162,8 @@ no_two false = refl
 other_spans_none : (text : List ℕ) → is_some (inside_css text) ≡ false → spans_css text ≡ false
 other_spans_none text = by (inside_css text)
   where
-    by : (found : Option (List ℕ)) → is_some found ≡ false → nat_le 2 (count_decimals (unwrap_or (option_and_then pieces_of found) [])) ≡ false
+    by : (found : Option (List ℕ)) → is_some found ≡ false
+        → nat_le 2 (count_decimals (unwrap_or (option_and_then pieces_of found) [])) ≡ false
     by None none = refl
     by (Some inner) none = absurd (true≢false none)
 
@@ -164,7 +178,8 @@ css_has n small =
     ∙ ap (λ found. unwrap_or found []) (pieces_again (hex1 n) [] (whole_plain (hex1 n) (hex1_plain n small), tt))
 
 css_spans_none : (n : ℕ) → n < 16 → spans_css (css_text n) ≡ false
-css_spans_none n small = ap (λ items. nat_le 2 (count_decimals items)) (css_has n small) ∙ no_two (is_number is_decimal_digit (hex1 n))
+css_spans_none n small =
+    ap (λ items. nat_le 2 (count_decimals items)) (css_has n small) ∙ no_two (is_number is_decimal_digit (hex1 n))
 
 -- ---- texts in one
 

@@ -1,6 +1,7 @@
 -- What is found among the operands of a written statement: the place that an operand stands at is
 -- of no account, and what the statement carries is none of the words that it knows.
-use Rattle.std.proofs.Common.{◌≡◌, ℕ, ◌+◌, ◌||◌, Bool, true, false, cond, Option, Some, None, List, [], ◌∷◌, ◌++◌, All, map, refl, sym, ap, ◌∙◌}
+use Rattle.std.proofs.Common.{◌≡◌, ℕ, ◌+◌, ◌||◌, Bool, true, false, cond, Option, Some, None, List, [], ◌∷◌, ◌++◌, All}
+use Rattle.std.proofs.Common.{map, refl, sym, ap, ◌∙◌}
 use Rattle.std.specs.Prelude.{is_none, filter}
 use Rattle.std.specs.Option.{option_or}
 use Rattle.std.specs.List.{list_any}
@@ -24,7 +25,8 @@ use Rattle.iocm_round_trip.specs.Given.{as_operand}
 
 -- ---- wherever they stand
 
-under_key : (keyword : List ℕ) (place : ℕ) (key : Option (List ℕ)) → is_under keyword (key_at place key) ≡ is_under keyword (key_at 0 key)
+under_key : (keyword : List ℕ) (place : ℕ) (key : Option (List ℕ))
+    → is_under keyword (key_at place key) ≡ is_under keyword (key_at 0 key)
 under_key keyword place None = refl
 under_key keyword place (Some word) = refl
 
@@ -32,7 +34,8 @@ under_key keyword place (Some word) = refl
 abbrev pub text_of : List ℕ → List CarriedOperand → Option (List ℕ)
 text_of keyword operands = text_under keyword (map as_operand operands)
 
-text_placed : (keyword : List ℕ) (place : ℕ) (os : List CarriedOperand) → text_under keyword (placed place os) ≡ text_of keyword os
+text_placed : (keyword : List ℕ) (place : ℕ) (os : List CarriedOperand)
+    → text_under keyword (placed place os) ≡ text_of keyword os
 unfolding placed
 text_placed keyword place [] = refl
 text_placed keyword place (o ∷ os) =
@@ -40,7 +43,8 @@ text_placed keyword place (o ∷ os) =
 
 -- a test of operands that doesn't ask for their places
 abbrev pub IsBlind : (Operand → Bool) → Type 0
-IsBlind test = (place : ℕ) (key : Option (List ℕ)) (text : List ℕ) → test (key_at place key, text) ≡ test (key_at 0 key, text)
+IsBlind test = (place : ℕ) (key : Option (List ℕ)) (text : List ℕ)
+    → test (key_at place key, text) ≡ test (key_at 0 key, text)
 
 any_placed : (test : Operand → Bool) → IsBlind test → (place : ℕ) (os : List CarriedOperand)
     → list_any test (placed place os) ≡ list_any (λ o. test (as_operand o)) os
@@ -73,7 +77,8 @@ carried_blind : (operation : Operation) → IsBlind (is_carried operation)
 carried_blind operation place None text = refl
 carried_blind operation place (Some keyword) text = refl
 
-carried_again : (place : ℕ) (key : Option (List ℕ)) (text : List ℕ) → as_carried (key_at place key, text) ≡ record { keyword = key; text = text }
+carried_again : (place : ℕ) (key : Option (List ℕ)) (text : List ℕ)
+    → as_carried (key_at place key, text) ≡ record { keyword = key; text = text }
 carried_again place None text = refl
 carried_again place (Some keyword) text = refl
 
@@ -103,7 +108,8 @@ no_form (Some found) none = absurd (true≢false (sym none))
 abbrev pub Knows : Operation → List ℕ → Type 0
 Knows operation word = is_none (form_in (table operation) word) ≡ false
 
-other_word : (operation : Operation) (known word : List ℕ) → Knows operation known → is_none (form_in (table operation) word) ≡ true → bytes_eq word known ≡ false
+other_word : (operation : Operation) (known word : List ℕ) → Knows operation known
+    → is_none (form_in (table operation) word) ≡ true → bytes_eq word known ≡ false
 other_word operation known word knows unknown = by (bytes_eq word known) refl
   where
     by : (same : Bool) → bytes_eq word known ≡ same → same ≡ false
@@ -116,12 +122,14 @@ other_word operation known word knows unknown = by (bytes_eq word known) refl
 abbrev pub IsUnknown : Operation → CarriedOperand → Type 0
 IsUnknown operation o = is_carried operation (as_operand o) ≡ true
 
-not_under : (operation : Operation) (keyword : List ℕ) → Knows operation keyword → (key : Option (List ℕ)) (text : List ℕ)
+not_under : (operation : Operation) (keyword : List ℕ) → Knows operation keyword
+    → (key : Option (List ℕ)) (text : List ℕ)
     → is_carried operation (key_at 0 key, text) ≡ true → is_under keyword (key_at 0 key) ≡ false
 not_under operation keyword knows None text unknown = refl
 not_under operation keyword knows (Some word) text unknown = other_word operation keyword word knows unknown
 
-no_text : (operation : Operation) (keyword : List ℕ) → Knows operation keyword → (carried : List CarriedOperand) → All (IsUnknown operation) carried
+no_text : (operation : Operation) (keyword : List ℕ) → Knows operation keyword → (carried : List CarriedOperand)
+    → All (IsUnknown operation) carried
     → text_of keyword carried ≡ None
 no_text operation keyword knows [] unknown = refl
 no_text operation keyword knows (o ∷ os) unknown =
@@ -131,11 +139,14 @@ no_text operation keyword knows (o ∷ os) unknown =
 
 -- a test that no carried operand passes
 none_pass : (operation : Operation) (test : Operand → Bool)
-    → ((key : Option (List ℕ)) (text : List ℕ) → is_carried operation (key_at 0 key, text) ≡ true → test (key_at 0 key, text) ≡ false)
-    → (carried : List CarriedOperand) → All (IsUnknown operation) carried → list_any (λ o. test (as_operand o)) carried ≡ false
+    → ((key : Option (List ℕ)) (text : List ℕ) → is_carried operation (key_at 0 key, text) ≡ true
+    → test (key_at 0 key, text) ≡ false)
+    → (carried : List CarriedOperand) → All (IsUnknown operation) carried
+    → list_any (λ o. test (as_operand o)) carried ≡ false
 none_pass operation test fails [] unknown = refl
 none_pass operation test fails (o ∷ os) unknown =
-    (λ i. fails o.keyword o.text (All-head (IsUnknown operation) o os unknown) i || list_any (λ x. test (as_operand x)) os)
+    (λ i. fails o.keyword o.text (All-head (IsUnknown operation) o os unknown) i
+    || list_any (λ x. test (as_operand x)) os)
     ∙ none_pass operation test fails os (All-tail (IsUnknown operation) o os unknown)
 
 not_bare : (operation : Operation) (known : List ℕ) → Knows operation known → (key : Option (List ℕ)) (text : List ℕ)
@@ -146,14 +157,17 @@ not_bare operation known knows (Some word) text unknown = refl
 not_left_out : (operation : Operation) (key : Option (List ℕ)) (text : List ℕ)
     → is_carried operation (key_at 0 key, text) ≡ true → is_left_out operation (key_at 0 key, text) ≡ false
 not_left_out operation key text unknown =
-    ap (λ found. is_left_out_as found operation (key_at 0 key, text)) (no_form (form_in (table operation) (word_of (key_at 0 key, text))) unknown)
+    ap (λ found. is_left_out_as found operation (key_at 0 key, text))
+    (no_form (form_in (table operation) (word_of (key_at 0 key, text))) unknown)
 
 not_other_form : (operation : Operation) (key : Option (List ℕ)) (text : List ℕ)
     → is_carried operation (key_at 0 key, text) ≡ true → is_other_form operation (key_at 0 key, text) ≡ false
 not_other_form operation key text unknown =
-    ap (λ found. is_other_form_of found (has_value (key_at 0 key, text))) (no_form (form_in (table operation) (word_of (key_at 0 key, text))) unknown)
+    ap (λ found. is_other_form_of found (has_value (key_at 0 key, text)))
+    (no_form (form_in (table operation) (word_of (key_at 0 key, text))) unknown)
 
-all_kept : (operation : Operation) (carried : List CarriedOperand) → All (IsUnknown operation) carried → filter (λ o. is_carried operation (as_operand o)) carried ≡ carried
+all_kept : (operation : Operation) (carried : List CarriedOperand) → All (IsUnknown operation) carried
+    → filter (λ o. is_carried operation (as_operand o)) carried ≡ carried
 all_kept operation [] unknown = refl
 all_kept operation (o ∷ os) unknown =
     (λ i. cond (All-head (IsUnknown operation) o os unknown i)
@@ -172,15 +186,19 @@ pub record IsTaken (operation : Operation) (o : CarriedOperand) : Type 0 where
 abbrev pub IsTakenText : Operation → List ℕ → List ℕ → Type 0
 IsTakenText operation keyword text = IsTaken operation (record { keyword = Some keyword; text = text })
 
-all_fail : (test : CarriedOperand → Bool) (os : List CarriedOperand) → All (λ o. test o ≡ false) os → list_any test os ≡ false
+all_fail : (test : CarriedOperand → Bool) (os : List CarriedOperand) → All (λ o. test o ≡ false) os
+    → list_any test os ≡ false
 all_fail test [] fail = refl
 all_fail test (o ∷ os) fail =
-    (λ i. All-head (λ x. test x ≡ false) o os fail i || list_any test os) ∙ all_fail test os (All-tail (λ x. test x ≡ false) o os fail)
+    (λ i. All-head (λ x. test x ≡ false) o os fail i || list_any test os)
+    ∙ all_fail test os (All-tail (λ x. test x ≡ false) o os fail)
 
-none_kept : (test : CarriedOperand → Bool) (os : List CarriedOperand) → All (λ o. test o ≡ false) os → filter test os ≡ []
+none_kept : (test : CarriedOperand → Bool) (os : List CarriedOperand) → All (λ o. test o ≡ false) os
+    → filter test os ≡ []
 none_kept test [] fail = refl
 none_kept test (o ∷ os) fail =
-    (λ i. cond (All-head (λ x. test x ≡ false) o os fail i) (o ∷ filter test os) (filter test os)) ∙ none_kept test os (All-tail (λ x. test x ≡ false) o os fail)
+    (λ i. cond (All-head (λ x. test x ≡ false) o os fail i) (o ∷ filter test os) (filter test os))
+    ∙ none_kept test os (All-tail (λ x. test x ≡ false) o os fail)
 
 -- ---- known operands, and what is carried behind them
 
@@ -188,47 +206,58 @@ pub or_none : {A : Type 0} (found : Option A) → option_or found None ≡ found
 or_none None = refl
 or_none (Some x) = refl
 
-text_of_both : (keyword : List ℕ) (front back : List CarriedOperand) → text_of keyword (front ++ back) ≡ option_or (text_of keyword front) (text_of keyword back)
+text_of_both : (keyword : List ℕ) (front back : List CarriedOperand)
+    → text_of keyword (front ++ back) ≡ option_or (text_of keyword front) (text_of keyword back)
 text_of_both keyword [] back = refl
 text_of_both keyword (o ∷ os) back = by (is_under keyword (key_at 0 o.keyword)) (text_of_both keyword os back)
   where
     by : (b : Bool) → text_of keyword (os ++ back) ≡ option_or (text_of keyword os) (text_of keyword back)
-        → cond b (Some o.text) (text_of keyword (os ++ back)) ≡ option_or (cond b (Some o.text) (text_of keyword os)) (text_of keyword back)
+        → cond b (Some o.text) (text_of keyword (os ++ back))
+        ≡ option_or (cond b (Some o.text) (text_of keyword os)) (text_of keyword back)
     by true rest = refl
     by false rest = rest
 
-module _ (operation : Operation) (known carried : List CarriedOperand) (unknown : All (IsUnknown operation) carried) where
+module _ (operation : Operation) (known carried : List CarriedOperand)
+    (unknown : All (IsUnknown operation) carried) where
   -- the text under a known keyword is that of the known operands
-  pub text_found : (keyword : List ℕ) → Knows operation keyword → text_under keyword (placed 0 (known ++ carried)) ≡ text_of keyword known
+  pub text_found : (keyword : List ℕ) → Knows operation keyword
+      → text_under keyword (placed 0 (known ++ carried)) ≡ text_of keyword known
   text_found keyword knows =
       text_placed keyword 0 (known ++ carried) ∙ text_of_both keyword known carried
-      ∙ ap (option_or (text_of keyword known)) (no_text operation keyword knows carried unknown) ∙ or_none (text_of keyword known)
+      ∙ ap (option_or (text_of keyword known)) (no_text operation keyword knows carried unknown)
+      ∙ or_none (text_of keyword known)
 
   any_found : (test : Operand → Bool) → IsBlind test → list_any (λ o. test (as_operand o)) carried ≡ false
       → list_any test (placed 0 (known ++ carried)) ≡ list_any (λ o. test (as_operand o)) known
   any_found test blind none =
       any_placed test blind 0 (known ++ carried) ∙ list_any-append (λ o. test (as_operand o)) known carried
-      ∙ ap (λ b. list_any (λ o. test (as_operand o)) known || b) none ∙ or-false (list_any (λ o. test (as_operand o)) known)
+      ∙ ap (λ b. list_any (λ o. test (as_operand o)) known || b) none
+      ∙ or-false (list_any (λ o. test (as_operand o)) known)
 
   -- a known word stands alone if it does among the known operands
-  pub bare_found : (word : List ℕ) → Knows operation word → has_bare word (placed 0 (known ++ carried)) ≡ list_any (λ o. is_bare_word word (as_operand o)) known
-  bare_found word knows = any_found (is_bare_word word) (bare_blind word) (none_pass operation (is_bare_word word) (not_bare operation word knows) carried unknown)
+  pub bare_found : (word : List ℕ) → Knows operation word
+      → has_bare word (placed 0 (known ++ carried)) ≡ list_any (λ o. is_bare_word word (as_operand o)) known
+  bare_found word knows = any_found (is_bare_word word) (bare_blind word)
+      (none_pass operation (is_bare_word word) (not_bare operation word knows) carried unknown)
 
   module _ (are : All (IsTaken operation) known) where
     pub none_left_out : list_any (is_left_out operation) (placed 0 (known ++ carried)) ≡ false
     none_left_out =
-        any_found (is_left_out operation) (left_out_blind operation) (none_pass operation (is_left_out operation) (not_left_out operation) carried unknown)
+        any_found (is_left_out operation) (left_out_blind operation)
+        (none_pass operation (is_left_out operation) (not_left_out operation) carried unknown)
         ∙ all_fail (λ o. is_left_out operation (as_operand o)) known (λ k d within. (are k d within).taken)
 
     pub none_in_other_form : list_any (is_other_form operation) (placed 0 (known ++ carried)) ≡ false
     none_in_other_form =
-        any_found (is_other_form operation) (other_form_blind operation) (none_pass operation (is_other_form operation) (not_other_form operation) carried unknown)
+        any_found (is_other_form operation) (other_form_blind operation)
+        (none_pass operation (is_other_form operation) (not_other_form operation) carried unknown)
         ∙ all_fail (λ o. is_other_form operation (as_operand o)) known (λ k d within. (are k d within).formed)
 
     -- the statement carries what stands behind the known operands
     pub carried_behind : carried_by operation (placed 0 (known ++ carried)) ≡ carried
     carried_behind =
-        carried_placed operation 0 (known ++ carried) ∙ filter-append (λ o. is_carried operation (as_operand o)) known carried
+        carried_placed operation 0 (known ++ carried)
+        ∙ filter-append (λ o. is_carried operation (as_operand o)) known carried
         ∙ ap (λ front. front ++ filter (λ o. is_carried operation (as_operand o)) carried)
         (none_kept (λ o. is_carried operation (as_operand o)) known (λ k d within. (are k d within).known))
         ∙ all_kept operation carried unknown

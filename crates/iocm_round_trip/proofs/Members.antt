@@ -1,5 +1,6 @@
 -- A configuration is told by which records are in it, where no key stands twice.
-use Rattle.std.proofs.Common.{◌≡◌, ◌⊎◌, inl, inr, true, false, Bool, cond, Option, Some, None, List, [], ◌∷◌, map, refl, sym, ap, subst, ◌∙◌}
+use Rattle.std.proofs.Common.{◌≡◌, ◌⊎◌, inl, inr, true, false, Bool, cond, Option, Some, None, List, [], ◌∷◌, map, refl}
+use Rattle.std.proofs.Common.{sym, ap, subst, ◌∙◌}
 use Rattle.std.specs.Ordering.{eq_by_cmp}
 use Rattle.std.specs.declared.cmp.Ordering.{Ordering}
 use Rattle.std.specs.declared.cmp.Ordering.TheVariants.{Less, Equal, Greater}
@@ -85,14 +86,16 @@ module _ (xs ys : List Rec) (apart : HasNoKeyTwice ys)
   pub same_configuration : configuration_of xs ≡ configuration_of ys
   same_configuration =
       same_map keys_total keys_exact (configuration_of xs) (configuration_of ys)
-      (λ q. get-from_entries keys_total (with_keys xs) q ∙ same_found q ∙ sym (get-from_entries keys_total (with_keys ys) q))
+      (λ q. get-from_entries keys_total (with_keys xs) q ∙ same_found q
+      ∙ sym (get-from_entries keys_total (with_keys ys) q))
 
 -- ---- the records of a configuration
 
 -- of each key the configuration has what is found first
 found_in : (rs : List Rec) (q : Key) → found q (records_of (configuration_of rs)) ≡ found q rs
 found_in rs q =
-    ap (find key_cmp q) (sym (keyed_made rs)) ∙ sym (get-entries (configuration_of rs) q) ∙ get-from_entries keys_total (with_keys rs) q
+    ap (find key_cmp q) (sym (keyed_made rs)) ∙ sym (get-entries (configuration_of rs) q)
+    ∙ get-from_entries keys_total (with_keys rs) q
 
 -- what was put into entries, or was among them
 among_put : (k : Key) (v r : Rec) (es : List (Key × Rec))
@@ -100,7 +103,8 @@ among_put : (k : Key) (v r : Rec) (es : List (Key × Rec))
 among_put k v r [] is = is
 among_put k v r (e ∷ es) is = by (key_cmp k e.0) is (among_put k v r es)
   where
-    by : (o : Ordering) → IsAmong r (map (λ e. e.1) (by_order o ((k, v) ∷ e ∷ es) ((e.0, v) ∷ es) (e ∷ put key_cmp k v es)))
+    by : (o : Ordering) → IsAmong r
+        (map (λ e. e.1) (by_order o ((k, v) ∷ e ∷ es) ((e.0, v) ∷ es) (e ∷ put key_cmp k v es)))
         → (IsAmong r (map (λ e. e.1) (put key_cmp k v es)) → (v ≡ r) ⊎ IsAmong r (map (λ e. e.1) es))
         → (v ≡ r) ⊎ IsAmong r (map (λ e. e.1) (e ∷ es))
     by Less is later = is
@@ -118,7 +122,8 @@ pub was_among : (r : Rec) (rs : List Rec) → IsAmong r (records_of (configurati
 was_among r [] is = absurd (not_missing r (records_of (configuration_of [])) is (found_in [] (key_of r)))
 was_among r (x ∷ rs) is =
     by (among_put (key_of x) x r (entries (configuration_of rs))
-    (subst (λ es. IsAmong r (map (λ (e : Key × Rec). e.1) es)) (entries-insert keys_total (configuration_of rs) (key_of x) x) is)) (was_among r rs)
+    (subst (λ es. IsAmong r (map (λ (e : Key × Rec). e.1) es))
+    (entries-insert keys_total (configuration_of rs) (key_of x) x) is)) (was_among r rs)
   where
     by : (x ≡ r) ⊎ IsAmong r (records_of (configuration_of rs))
         → (IsAmong r (records_of (configuration_of rs)) → IsAmong r rs) → IsAmong r (x ∷ rs)
@@ -126,7 +131,8 @@ was_among r (x ∷ rs) is =
     by (inr rest) earlier = inr (earlier rest)
 
 -- and where no key stands twice, each of these is in it
-pub stays_among : (r : Rec) (rs : List Rec) → HasNoKeyTwice rs → IsAmong r rs → IsAmong r (records_of (configuration_of rs))
+pub stays_among : (r : Rec) (rs : List Rec) → HasNoKeyTwice rs → IsAmong r rs
+    → IsAmong r (records_of (configuration_of rs))
 stays_among r rs apart is = by (found (key_of r) rs) refl
   where
     by : (o : Option Rec) → found (key_of r) rs ≡ o → IsAmong r (records_of (configuration_of rs))
@@ -134,4 +140,5 @@ stays_among r rs apart is = by (found (key_of r) rs) refl
     by (Some s) here =
         let member = found_is_member (key_of r) s rs here in
         let kept = found_is_member (key_of r) s (records_of (configuration_of rs)) (found_in rs (key_of r) ∙ here) in
-        subst (λ x. IsAmong x (records_of (configuration_of rs))) (same_member s r rs apart member.there is member.own) kept.there
+        subst (λ x. IsAmong x (records_of (configuration_of rs))) (same_member s r rs apart member.there is member.own)
+        kept.there

@@ -1,5 +1,6 @@
 -- The text of each operand that a statement knows is clean.
-use Rattle.std.proofs.Common.{◌≡◌, ℕ, ◌<◌, ◌≤◌, Bool, true, false, cond, Some, List, [], ◌∷◌, All, map, find, codes, refl, arith}
+use Rattle.std.proofs.Common.{◌≡◌, ℕ, ◌<◌, ◌≤◌, Bool, true, false, cond, Some, List, [], ◌∷◌, All, map, find, codes}
+use Rattle.std.proofs.Common.{refl, arith}
 use Rattle.std.proofs.lemmas.List.Elements.{All-nil, All-cons, All-head, All-tail, All-append, All-map}
 use Rattle.std.specs.Fmt.{decimal}
 use Rattle.std.specs.List.{flat_map, range_with_len}
@@ -19,15 +20,18 @@ use Rattle.iocm_operands.specs.ChpidPath.{path_text}
 use Rattle.iocm_operands.specs.Device.{devices_text, units_text}
 use Rattle.iocm_operands.specs.Limits.{place_text, places_in, count_places, limits_text}
 use Rattle.iocm_operands.specs.Resource.{image_text, images_text}
-use Rattle.iocm_operands.specs.Unit.{path_item_text, paths_text, range_text, ranges_text, link_text, link_item_text, links_text}
+use Rattle.iocm_operands.specs.Unit.{path_item_text, paths_text, range_text, ranges_text, link_text, link_item_text}
+use Rattle.iocm_operands.specs.Unit.{links_text}
 use Rattle.iocm_values.specs.declared.texts.CssText.{CssText}
 use Rattle.iocm_values.specs.NameSet.{names_text}
 use Rattle.iocm_values.specs.Texts.{css_text}
-use Rattle.iocm_round_trip.proofs.Texts.{IsClean, AreClean, clean_plain, clean_name, clean_hex1, clean_hex2, clean_hex4, clean_decimal, clean_list, clean_pair, clean_css, clean_by_css}
+use Rattle.iocm_round_trip.proofs.Texts.{IsClean, AreClean, clean_plain, clean_name, clean_hex1, clean_hex2, clean_hex4}
+use Rattle.iocm_round_trip.proofs.Texts.{clean_decimal, clean_list, clean_pair, clean_css, clean_by_css}
 
 -- ---- CHPID
 
-pub path_clean : (css path : ℕ) → IsPath (record { css = css; path = path }) → IsClean (path_text (record { css = css; path = path }))
+pub path_clean : (css path : ℕ) → IsPath (record { css = css; path = path })
+    → IsClean (path_text (record { css = css; path = path }))
 path_clean css path is = clean_pair (css_text css) (hex2 path) (clean_css css is.css) (clean_hex2 path is.path)
 
 names_are_clean : (names : List (List ℕ)) → All (λ name. is_name name ≡ true) names → All IsClean names
@@ -57,7 +61,9 @@ paths_clean paths are =
     (All-map (λ (i : CssText). IsClean i.text) path_item_text paths (λ k d within. clean_hex2 _ (are k d within).path))
 
 pub ranges_clean : (ranges : List UnitRange) → All IsRange ranges → IsClean (ranges_text ranges)
-ranges_clean ranges are = clean_list (map range_text ranges) (All-map IsClean range_text ranges (λ k d within. range_clean _ (are k d within)))
+ranges_clean ranges are =
+    clean_list (map range_text ranges)
+    (All-map IsClean range_text ranges (λ k d within. range_clean _ (are k d within)))
   where
     range_clean : (r : UnitRange) → IsRange r → IsClean (range_text r)
     range_clean r is =
@@ -76,8 +82,10 @@ links_clean links are =
 
 -- ---- IODEVICE
 
-pub devices_clean : (first count : ℕ) → first < 65536 → count ≤ 65536 → IsClean (devices_text (record { first = first; count = count }))
-devices_clean first count small few = clean_pair (hex4 first) (decimal count) (clean_hex4 first small) (clean_decimal count (omega arith))
+pub devices_clean : (first count : ℕ) → first < 65536 → count ≤ 65536
+    → IsClean (devices_text (record { first = first; count = count }))
+devices_clean first count small few =
+    clean_pair (hex4 first) (decimal count) (clean_hex4 first small) (clean_decimal count (omega arith))
 
 pub units_clean : (units : List ℕ) → All (λ unit. unit ≤ 65534) units → IsClean (units_text units)
 units_clean units are =
@@ -110,7 +118,8 @@ limit_clean p (l ∷ limits) are = by (p l) (limit_clean p limits (All-tail IsLi
     by true others = clean_decimal l.limit (omega (arith, small))
     by false others = others
 
-places_clean : (limits : List LimitRecord) → All IsLimit limits → (all : List ℕ) → AreClean (flat_map (places_in limits) all)
+places_clean : (limits : List LimitRecord) → All IsLimit limits → (all : List ℕ)
+    → AreClean (flat_map (places_in limits) all)
 places_clean limits are [] = All-nil (λ (i : CssText). IsClean i.text)
 places_clean limits are (css ∷ all) =
     All-append (λ (i : CssText). IsClean i.text) (places_in limits css) (flat_map (places_in limits) all)

@@ -1,12 +1,14 @@
 -- The runs of devices stand for the devices, are apart, and are given where the devices are.
-use Rattle.std.proofs.Common.{◌≡◌, ◌∙◌, ◌+◌, ◌++◌, ◌<◌, Bool, true, false, if◌then◌else◌, List, [], ◌∷◌, All, refl, sym, ap, subst, append_assoc, arith}
+use Rattle.std.proofs.Common.{◌≡◌, ◌∙◌, ◌+◌, ◌++◌, ◌<◌, Bool, true, false, if◌then◌else◌, List, [], ◌∷◌, All, refl, sym}
+use Rattle.std.proofs.Common.{ap, subst, append_assoc, arith}
 use Rattle.std.proofs.lemmas.List.Elements.{All-nil, All-cons, All-head, All-tail}
 use Rattle.std.proofs.lemmas.List.FromFn.{map-range_with_len_more}
 use Rattle.std.specs.List.{flat_map}
 use Rattle.iocm_model.specs.Machine.Record.{DeviceRecord}
 use Rattle.iocm_deck_writer.specs.Device.{Run, continues, runs_from}
 use Rattle.iocm_round_trip.specs.Given.{IsGivenDevice}
-use Rattle.iocm_round_trip.specs.Running.{device_at, run_devices, IsGivenRun, AreApart, AreRunsOfDevices, AreMaximal, AreGivenRuns}
+use Rattle.iocm_round_trip.specs.Running.{device_at, run_devices, IsGivenRun, AreApart, AreRunsOfDevices, AreMaximal}
+use Rattle.iocm_round_trip.specs.Running.{AreGivenRuns}
 use Rattle.iocm_round_trip.proofs.Alike.{next_device}
 
 -- a run that is longer by one device, and the run of one device
@@ -26,7 +28,8 @@ devices_alone d =
 
 devices_longer : (r : Run) (d : DeviceRecord) → continues r d ≡ true → run_devices (longer r) ≡ run_devices r ++ d ∷ []
 devices_longer r d goes_on =
-    map-range_with_len_more (device_at r.first) 0 r.count r.count (omega arith) ∙ ap (λ x. run_devices r ++ x ∷ []) (next_device r d goes_on)
+    map-range_with_len_more (device_at r.first) 0 r.count r.count (omega arith)
+    ∙ ap (λ x. run_devices r ++ x ∷ []) (next_device r d goes_on)
 
 devices_from : (r : Run) (ds : List DeviceRecord) → flat_map run_devices (runs_from r ds) ≡ run_devices r ++ ds
 devices_from r [] = refl
@@ -34,8 +37,10 @@ devices_from r (d ∷ ds) = by (continues r d) refl (devices_from (longer r) ds)
   where
     by : (b : Bool) → continues r d ≡ b → flat_map run_devices (runs_from (longer r) ds) ≡ run_devices (longer r) ++ ds
         → flat_map run_devices (runs_from (alone d) ds) ≡ run_devices (alone d) ++ ds
-        → flat_map run_devices (if b then runs_from (longer r) ds else r ∷ runs_from (alone d) ds) ≡ run_devices r ++ d ∷ ds
-    by true goes_on more next = more ∙ ap (λ x. x ++ ds) (devices_longer r d goes_on) ∙ append_assoc (run_devices r) (d ∷ []) ds
+        → flat_map run_devices (if b then runs_from (longer r) ds else r ∷ runs_from (alone d) ds) ≡ run_devices r
+        ++ d ∷ ds
+    by true goes_on more next =
+        more ∙ ap (λ x. x ++ ds) (devices_longer r d goes_on) ∙ append_assoc (run_devices r) (d ∷ []) ds
     by false ends more next = ap (λ x. run_devices r ++ x) (next ∙ ap (λ x. x ++ ds) (devices_alone d))
 
 pub are_runs_of_devices : AreRunsOfDevices
@@ -45,7 +50,8 @@ are_runs_of_devices (d ∷ ds) = devices_from (alone d) ds ∙ ap (λ x. x ++ ds
 -- ---- the runs are apart
 
 -- a run in front of those from another one on, whose first device doesn't continue it
-apart_before : (r s : Run) (ds : List DeviceRecord) → continues r s.first ≡ false → AreApart (runs_from s ds) → AreApart (r ∷ runs_from s ds)
+apart_before : (r s : Run) (ds : List DeviceRecord) → continues r s.first ≡ false → AreApart (runs_from s ds)
+    → AreApart (r ∷ runs_from s ds)
 apart_before r s [] ends apart = (ends, tt)
 apart_before r s (d ∷ ds) ends apart = by (continues s d) apart (apart_before r (longer s) ds ends)
   where
@@ -78,25 +84,37 @@ given_alone d is = record {
   addresses = omega (arith, is.unit_address);
 }
 
-given_longer : (r : Run) (d : DeviceRecord) → continues r d ≡ true → IsGivenRun r → IsGivenDevice d → IsGivenRun (longer r)
+given_longer : (r : Run) (d : DeviceRecord) → continues r d ≡ true → IsGivenRun r → IsGivenDevice d
+    → IsGivenRun (longer r)
 given_longer r d goes_on run is =
     let next = next_device r d goes_on in
-    let number : r.first.number + r.count < 65536 = subst (λ (x : DeviceRecord). x.number < 65536) (sym next) is.number in
-    let address : r.first.unit_address + r.count < 256 = subst (λ (x : DeviceRecord). x.unit_address < 256) (sym next) is.unit_address in
-    record { first = run.first; some = omega arith; numbers = omega (arith, number); addresses = omega (arith, address) }
+    let number : r.first.number + r.count < 65536 =
+    subst (λ (x : DeviceRecord). x.number < 65536) (sym next) is.number in
+    let address : r.first.unit_address + r.count < 256 =
+    subst (λ (x : DeviceRecord). x.unit_address < 256) (sym next) is.unit_address in
+    record {
+      first = run.first;
+      some = omega arith;
+      numbers = omega (arith, number);
+      addresses = omega (arith, address);
+    }
 
 given_from : (r : Run) (ds : List DeviceRecord) → IsGivenRun r → All IsGivenDevice ds → All IsGivenRun (runs_from r ds)
 given_from r [] run are = All-cons IsGivenRun r [] run (All-nil IsGivenRun)
 given_from r (d ∷ ds) run are =
     let is = All-head IsGivenDevice d ds are in
     let others = All-tail IsGivenDevice d ds are in
-    by (continues r d) refl is (λ more. given_from (longer r) ds more others) (given_from (alone d) ds (given_alone d is) others)
+    by (continues r d) refl is (λ more. given_from (longer r) ds more others)
+    (given_from (alone d) ds (given_alone d is) others)
   where
-    by : (b : Bool) → continues r d ≡ b → IsGivenDevice d → (IsGivenRun (longer r) → All IsGivenRun (runs_from (longer r) ds))
-        → All IsGivenRun (runs_from (alone d) ds) → All IsGivenRun (if b then runs_from (longer r) ds else r ∷ runs_from (alone d) ds)
+    by : (b : Bool) → continues r d ≡ b → IsGivenDevice d
+        → (IsGivenRun (longer r) → All IsGivenRun (runs_from (longer r) ds))
+        → All IsGivenRun (runs_from (alone d) ds)
+        → All IsGivenRun (if b then runs_from (longer r) ds else r ∷ runs_from (alone d) ds)
     by true goes_on is more next = more (given_longer r d goes_on run is)
     by false ends is more next = All-cons IsGivenRun r (runs_from (alone d) ds) run next
 
 pub are_given_runs : AreGivenRuns
 are_given_runs [] are = All-nil IsGivenRun
-are_given_runs (d ∷ ds) are = given_from (alone d) ds (given_alone d (All-head IsGivenDevice d ds are)) (All-tail IsGivenDevice d ds are)
+are_given_runs (d ∷ ds) are =
+    given_from (alone d) ds (given_alone d (All-head IsGivenDevice d ds are)) (All-tail IsGivenDevice d ds are)

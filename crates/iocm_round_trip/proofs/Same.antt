@@ -26,19 +26,22 @@ of_all P (x ∷ xs) each = All-cons P x xs (each x (inl refl)) (of_all P xs (λ 
 
 -- the records of the configuration are such as decks give, since they were read
 all_given : (records : List Rec) → All IsGiven records → All IsGiven (records_of (configuration_of records))
-all_given records are = of_all IsGiven (records_of (configuration_of records)) (λ r is. of_one IsGiven r records are (was_among r records is))
+all_given records are = of_all IsGiven (records_of (configuration_of records))
+    (λ r is. of_one IsGiven r records are (was_among r records is))
 
 same_again : (bytes : List ℕ) (records : List Rec) → records_in bytes ≡ Ok records
     → configuration_in (canonical_deck (configuration_of records)) ≡ Ok (configuration_of records)
 same_again bytes records is =
     let c = configuration_of records in
-    ap (λ read. read >>= λ rs. Ok (configuration_of rs)) (deck_is_read_again c (keyed_made records) (all_given records (gives_records bytes records is)))
+    ap (λ read. read >>= λ rs. Ok (configuration_of rs))
+    (deck_is_read_again c (keyed_made records) (all_given records (gives_records bytes records is)))
     ∙ ap Ok (is_of_its_deck bytes records is)
 
 pub configuration_is_read_again : ReadsConfigurationAgain
 configuration_is_read_again bytes c is = by (records_in bytes) refl is
   where
-    by : (read : Result (List Rec) Fault) → records_in bytes ≡ read → (read >>= λ records. Ok (configuration_of records)) ≡ Ok c → configuration_in (canonical_deck c) ≡ Ok c
+    by : (read : Result (List Rec) Fault) → records_in bytes ≡ read
+        → (read >>= λ records. Ok (configuration_of records)) ≡ Ok c → configuration_in (canonical_deck c) ≡ Ok c
     by (Err fault) same none = cc
     by (Ok records) same some =
         let own : configuration_of records ≡ c = cc in

@@ -1,6 +1,7 @@
 -- What a statement carries of the operands that were read for it stands in columns, and the
 -- statement knows none of it.
-use Rattle.std.proofs.Common.{◌≡◌, ℕ, true, false, is_none, Option, None, Some, List, [], ◌∷◌, ◌++◌, All, map, filter, fold, get_or, Result, Ok, Err, refl, sym, ap, ◌∙◌, append_assoc, subst}
+use Rattle.std.proofs.Common.{◌≡◌, ℕ, true, false, is_none, Option, None, Some, List, [], ◌∷◌, ◌++◌, All, map, filter}
+use Rattle.std.proofs.Common.{fold, get_or, Result, Ok, Err, refl, sym, ap, ◌∙◌, append_assoc, subst}
 use Rattle.std.proofs.lemmas.Bool.{and_parts}
 use Rattle.std.proofs.lemmas.List.Elements.{All-nil, All-cons, All-head, All-tail, All-map, All-filter, filter_passes}
 use Rattle.std.proofs.lemmas.List.Folds.{list_all-append}
@@ -39,10 +40,12 @@ use Rattle.iocm_round_trip.proofs.Columns.{balanced_is_closed}
 -- a text that leaves no quote open, and the text behind it
 both_in_columns : (a b : List ℕ) → is_quoting a ≡ false → IsInColumns (a ++ b) → IsInColumns a × IsInColumns b
 both_in_columns a b closed both =
-    let printable = and_parts (list_all is_printable a) (list_all is_printable b) (sym (list_all-append is_printable a b) ∙ both.printable) in (
+    let printable = and_parts (list_all is_printable a) (list_all is_printable b)
+    (sym (list_all-append is_printable a b) ∙ both.printable) in (
       record {
         printable = printable.0;
-        blanks = λ before after e. both.blanks before (after ++ b) (ap (λ t. t ++ b) e ∙ append_assoc before (32 ∷ after) b);
+        blanks = λ before after e.
+            both.blanks before (after ++ b) (ap (λ t. t ++ b) e ∙ append_assoc before (32 ∷ after) b);
       },
       record {
         printable = printable.1;
@@ -69,7 +72,8 @@ value_in_columns (Some keyword) text keyed is =
 operand_balanced : (keyword : Option (List ℕ)) (text : List ℕ) → IsKeyed keyword text → IsBalanced text
     → IsBalanced (option_map_or (λ word. word ++ 61 ∷ text) keyword text)
 operand_balanced None text keyed balanced = balanced
-operand_balanced (Some keyword) text keyed balanced = keyword_stays keyword text (keyword_bytes keyword keyed) ∙ balanced
+operand_balanced (Some keyword) text keyed balanced =
+    keyword_stays keyword text (keyword_bytes keyword keyed) ∙ balanced
 
 -- ---- operands
 
@@ -82,7 +86,8 @@ operands_in_columns : (es : List Operand) → All IsPlaceable (map as_carried es
 operands_in_columns [] are is = All-nil IsReadInColumns
 operands_in_columns (e ∷ []) are is =
     let o = as_carried e in
-    All-cons IsReadInColumns e [] (value_in_columns o.keyword o.text (All-head IsPlaceable o [] are).keyed is) (All-nil IsReadInColumns)
+    All-cons IsReadInColumns e [] (value_in_columns o.keyword o.text (All-head IsPlaceable o [] are).keyed is)
+    (All-nil IsReadInColumns)
 operands_in_columns (e ∷ f ∷ es) are is =
     let o = as_carried e in
     let os : List CarriedOperand = map as_carried (f ∷ es) in
@@ -91,7 +96,8 @@ operands_in_columns (e ∷ f ∷ es) are is =
     let closed = balanced_is_closed (operand_text o) (operand_balanced o.keyword o.text first.keyed first.balanced) in
     let parts = both_in_columns (operand_text o) (44 ∷ rest) closed is in
     All-cons IsReadInColumns e (f ∷ es) (value_in_columns o.keyword o.text first.keyed parts.0)
-    (operands_in_columns (f ∷ es) (All-tail IsPlaceable o os are) (both_in_columns (44 ∷ []) rest comma_closed parts.1).1)
+    (operands_in_columns (f ∷ es) (All-tail IsPlaceable o os are)
+    (both_in_columns (44 ∷ []) rest comma_closed parts.1).1)
 
 -- ---- what is carried
 
@@ -104,20 +110,23 @@ still_unknown : (operation : Operation) (es : List Operand) → All (λ (e : Ope
     → All (λ (o : CarriedOperand). is_carried operation (as_operand o) ≡ true) (map as_carried es)
 still_unknown operation es are =
     All-map (λ (o : CarriedOperand). is_carried operation (as_operand o) ≡ true) as_carried es
-    (λ k d within. ap (λ word. is_none (form_in (table operation) word)) (carried_word (get_or es k d)) ∙ are k d within)
+    (λ k d within. ap (λ word. is_none (form_in (table operation) word)) (carried_word (get_or es k d))
+    ∙ are k d within)
 
 -- operands of which a statement of any operation can carry what it doesn't know
 abbrev pub AreCarriable : List Operand → Type 0
 AreCarriable es = (operation : Operation) → AreCarriedBy operation (carried_by operation es)
 
-carriable : (line : ℕ) (text : List ℕ) (es : List Operand) → IsInColumns text → operands_of line text ≡ Ok es → AreCarriable es
+carriable : (line : ℕ) (text : List ℕ) (es : List Operand) → IsInColumns text → operands_of line text ≡ Ok es
+    → AreCarriable es
 carriable line text es is read operation =
     let given = operands_given line text es read in
     let unknown = filter (is_carried operation) es in
     let texts = operands_in_columns es given.placeable.each (subst IsInColumns (sym given.written) is) in
     record {
       placeable = carried_given line text es read operation;
-      texts = All-map (λ (o : CarriedOperand). IsInColumns o.text) as_carried unknown (All-filter (is_carried operation) IsReadInColumns es texts);
+      texts = All-map (λ (o : CarriedOperand). IsInColumns o.text) as_carried unknown
+          (All-filter (is_carried operation) IsReadInColumns es texts);
       unknown = still_unknown operation unknown (filter_passes (is_carried operation) es);
     }
 
@@ -137,10 +146,12 @@ statement_carriable : (joined : Joined) → IsShownStatement joined → IfOk (st
 statement_carriable joined shown =
     whichever IsCarriable (or_fault (at S1 joined.line) (operation_named joined.operation)) _ (λ operation.
     in_turn AreCarriable IsCarriable (operands_of joined.line joined.text) _
-    (operands_carriable joined.line joined.text (record { printable = shown.printable; blanks = shown.inside })) (λ es are. are))
+    (operands_carriable joined.line joined.text (record { printable = shown.printable; blanks = shown.inside }))
+    (λ es are. are))
 
 -- whatever bytes say
 pub statements_carriable : (bytes : List ℕ) → IfOk (joined_of bytes >>= parsed) (All IsCarriable)
 statements_carriable bytes =
     in_turn (All IsShownStatement) (All IsCarriable) (joined_of bytes) parsed (deck_shown bytes)
-    (each_gives IsShownStatement IsCarriable (λ _ joined. statement_of joined) (λ _ joined shown. statement_carriable joined shown) 0)
+    (each_gives IsShownStatement IsCarriable (λ _ joined. statement_of joined)
+    (λ _ joined shown. statement_carriable joined shown) 0)

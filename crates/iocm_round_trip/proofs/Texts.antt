@@ -1,6 +1,7 @@
 -- Clean texts: they are cut nowhere, and all of their bytes are printable and no blanks. Words and
 -- numbers are clean, and so is a list of clean items.
-use Rattle.std.proofs.Common.{◌≡◌, ℕ, ◌/◌, ◌%◌, ◌^◌, ◌<◌, ◌==◌, Bool, true, false, cond, List, [], ◌∷◌, ◌++◌, All, filter, length, codes, refl, ap, ◌∙◌, arith}
+use Rattle.std.proofs.Common.{◌≡◌, ℕ, ◌/◌, ◌%◌, ◌^◌, ◌<◌, ◌==◌, Bool, true, false, cond, List, [], ◌∷◌, ◌++◌, All}
+use Rattle.std.proofs.Common.{filter, length, codes, refl, ap, ◌∙◌, arith}
 use Rattle.std.proofs.lemmas.Bool.{and_parts, and_from}
 use Rattle.std.proofs.lemmas.Bool.Decides.{nat_tests}
 use Rattle.std.proofs.lemmas.List.Elements.{All-nil, All-cons, All-head, All-tail, All-append, All-map, All-filter}
@@ -16,15 +17,18 @@ use Rattle.iocm_values.specs.declared.texts.CssText.{CssText}
 use Rattle.iocm_values.specs.Digits.{is_decimal_digit}
 use Rattle.iocm_values.specs.Texts.{list_text, css_text, texts_in, group_texts, by_css_text}
 use Rattle.iocm_values.proofs.Levels.{whole_css, whole_items}
-use Rattle.iocm_values.proofs.Numerals.{glyph, hex1_text, hex1_plain, hex2_text, hex2_plain, hex4_text, hex4_plain, decimal_is}
+use Rattle.iocm_values.proofs.Numerals.{glyph, hex1_text, hex1_plain, hex2_text, hex2_plain, hex4_text, hex4_plain}
+use Rattle.iocm_values.proofs.Numerals.{decimal_is}
 use Rattle.iocm_values.proofs.Pieces.{IsWhole, AllWhole, is_plain, whole_plain}
 
 pub record IsClean (text : List ℕ) : Type 0 where
   pub whole : IsWhole text
   pub graphic : list_all is_graphic text ≡ true
 
-both_graphic : (a b : List ℕ) → list_all is_graphic a ≡ true → list_all is_graphic b ≡ true → list_all is_graphic (a ++ b) ≡ true
-both_graphic a b first second = list_all-append is_graphic a b ∙ and_from (list_all is_graphic a) (list_all is_graphic b) first second
+both_graphic : (a b : List ℕ) → list_all is_graphic a ≡ true → list_all is_graphic b ≡ true
+    → list_all is_graphic (a ++ b) ≡ true
+both_graphic a b first second =
+    list_all-append is_graphic a b ∙ and_from (list_all is_graphic a) (list_all is_graphic b) first second
 
 -- ---- words
 
@@ -55,7 +59,8 @@ two_graphic a b small_a small_b = rw (glyph_graphic a small_a, glyph_graphic b s
 
 pub clean_hex1 : (n : ℕ) → n < 16 → IsClean (hex1 n)
 clean_hex1 n small =
-    clean_plain (hex1 n) (hex1_plain n small) (ap (list_all is_graphic) (hex1_text n small) ∙ rw (glyph_graphic n small) refl)
+    clean_plain (hex1 n) (hex1_plain n small)
+    (ap (list_all is_graphic) (hex1_text n small) ∙ rw (glyph_graphic n small) refl)
 
 pub clean_hex2 : (n : ℕ) → n < 256 → IsClean (hex2 n)
 clean_hex2 n small =
@@ -68,7 +73,8 @@ clean_hex4 n small =
     let back : List ℕ = glyph (n / 16 % 16) ∷ glyph (n % 16) ∷ [] in
     clean_plain (hex4 n) (hex4_plain n small)
     (ap (list_all is_graphic) (hex4_text n small)
-    ∙ both_graphic front back (two_graphic (n / 4096) (n / 256 % 16) (omega arith) (omega arith)) (two_graphic (n / 16 % 16) (n % 16) (omega arith) (omega arith)))
+    ∙ both_graphic front back (two_graphic (n / 4096) (n / 256 % 16) (omega arith) (omega arith))
+    (two_graphic (n / 16 % 16) (n % 16) (omega arith) (omega arith)))
 
 digit_is_letter_or_digit : (b : ℕ) → is_decimal_digit b ≡ true → is_letter_or_digit b ≡ true
 digit_is_letter_or_digit b is = grind (arith, nat_tests)
@@ -77,10 +83,12 @@ digits_graphic : (text : List ℕ) → list_all is_decimal_digit text ≡ true �
 digits_graphic [] are = refl
 digits_graphic (b ∷ text) are =
     let parts = and_parts (is_decimal_digit b) (list_all is_decimal_digit text) are in
-    and_from (is_graphic b) (list_all is_graphic text) (letter_graphic b (digit_is_letter_or_digit b parts.0)) (digits_graphic text parts.1)
+    and_from (is_graphic b) (list_all is_graphic text) (letter_graphic b (digit_is_letter_or_digit b parts.0))
+    (digits_graphic text parts.1)
 
 pub clean_decimal : (n : ℕ) → n < 2 ^ 64 → IsClean (decimal n)
-clean_decimal n small = let is = decimal_is n small in clean_plain (decimal n) is.plain (digits_graphic (decimal n) is.digits)
+clean_decimal n small = let is = decimal_is n small in
+    clean_plain (decimal n) is.plain (digits_graphic (decimal n) is.digits)
 
 -- ---- lists
 
@@ -132,14 +140,17 @@ group_clean items clean css small = by (length (texts_in items css) == 0)
     by true = All-nil IsClean
     by false =
         All-cons IsClean group []
-        (clean_list (css_text css ∷ texts_in items css) (All-cons IsClean (css_text css) (texts_in items css) (clean_css css small) texts))
+        (clean_list (css_text css ∷ texts_in items css)
+        (All-cons IsClean (css_text css) (texts_in items css) (clean_css css small) texts))
         (All-nil IsClean)
 
-groups_clean : (items : List CssText) → AreClean items → (all : List ℕ) → AreCss all → All IsClean (flat_map (group_texts items) all)
+groups_clean : (items : List CssText) → AreClean items → (all : List ℕ) → AreCss all
+    → All IsClean (flat_map (group_texts items) all)
 groups_clean items clean [] small = All-nil IsClean
 groups_clean items clean (css ∷ all) small =
     All-append IsClean (group_texts items css) (flat_map (group_texts items) all) (group_clean items clean css small.0)
     (groups_clean items clean all small.1)
 
 pub clean_by_css : (items : List CssText) → AreClean items → IsClean (by_css_text items)
-clean_by_css items clean = clean_list (flat_map (group_texts items) all_css) (groups_clean items clean all_css all_small)
+clean_by_css items clean =
+    clean_list (flat_map (group_texts items) all_css) (groups_clean items clean all_css all_small)

@@ -22,7 +22,13 @@ use Rattle.iocm_rounds.specs.contracts.worker.Work as Work
 
 module _ (B : RattleType) (i : Ghosts B.Denot) where
   pub image_send : IsSend (Image.the_row B i)
-  image_send = declared_send (Image.the_type B i) (caller_send B i, (search (receipt_send, crosses, sendable) depth 20, (search (rule.the_send, crosses, sendable) depth 20, tt)))
+  image_send = declared_send (Image.the_type B i) (
+    caller_send B i,
+    (
+      search (receipt_send, crosses, sendable) depth 20,
+      (search (rule.the_send, crosses, sendable) depth 20, tt),
+    ),
+  )
 
   pub task_send : IsSend (Task.the_row B i)
   task_send = declared_send (Task.the_type B i) (caller_send B i, (search (call_send, crosses, sendable) depth 20, tt))
@@ -32,7 +38,13 @@ module _ (B : RattleType) (i : Ghosts B.Denot) where
     caller_send B i,
     (
       search (worker.the_send, call_send, crosses, sendable) depth 20,
-      (search (receipt_send, crosses, sendable) depth 20, (search (receipt_send, crosses, sendable) depth 20, (search (rule.the_send, crosses, sendable) depth 20, tt))),
+      (
+        search (receipt_send, crosses, sendable) depth 20,
+        (
+          search (receipt_send, crosses, sendable) depth 20,
+          (search (rule.the_send, crosses, sendable) depth 20, tt),
+        ),
+      ),
     ),
   )
 

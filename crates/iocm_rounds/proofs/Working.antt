@@ -1,5 +1,6 @@
 -- The work goes on by one message.
-use Rattle.std.proofs.Common.{◌≡◌, ◌<◌, ℕ, zero, suc, ◌==◌, true, false, inl, inr, List, [], ◌∷◌, ◌++◌, refl, sym, ap, ◌∙◌, subst, arith}
+use Rattle.std.proofs.Common.{◌≡◌, ◌<◌, ℕ, zero, suc, ◌==◌, true, false, inl, inr, List, [], ◌∷◌, ◌++◌, refl, sym, ap}
+use Rattle.std.proofs.Common.{◌∙◌, subst, arith}
 use Rattle.std.specs.Prelude.{map, Option, None, Some}
 use Rattle.std.specs.List.{AllByRecursion}
 use Rattle.std.specs.Option.{is_some}
@@ -20,10 +21,21 @@ use Rattle.iocm_rounds.specs.Working.{GoesOn, IsKept, IsWorked, Stops}
 use Rattle.iocm_rounds.proofs.Lines.{jobs_last, jobs_other, lines_end, lines_last}
 
 pub work_begins : (me : Sight) → IsWorked [] me me [] [] None
-work_begins me = record { made = []; rest = []; lines = refl; turn = turn_begins [] me; of_two = tt; first_are = refl; second_are = refl; ends = λ e. refl; why = tt }
+work_begins me = record {
+  made = [];
+  rest = [];
+  lines = refl;
+  turn = turn_begins [] me;
+  of_two = tt;
+  first_are = refl;
+  second_are = refl;
+  ends = λ e. refl;
+  why = tt;
+}
 
 -- an end mark changes nothing
-pub work_past_end : (taken : List (Message Call)) (p : ℕ) (old now : Sight) (first second : List Receipt) (stopped : Option Rule)
+pub work_past_end : (taken : List (Message Call)) (p : ℕ) (old now : Sight) (first second : List Receipt)
+    (stopped : Option Rule)
     → IsWorked taken old now first second stopped → IsWorked (taken ++ End p ∷ []) old now first second stopped
 work_past_end taken p old now first second stopped w =
     record {
@@ -39,7 +51,8 @@ work_past_end taken p old now first second stopped w =
     }
 
 -- a turn with one call more, which is made
-turn_with : (calls : List Call) (old now new : Sight) (rs : List Receipt) (x : Call) (r : Receipt) → IsTurn calls old now rs [] → IsMade x now r new
+turn_with : (calls : List Call) (old now new : Sight) (rs : List Receipt) (x : Call) (r : Receipt)
+    → IsTurn calls old now rs [] → IsMade x now r new
     → IsTurn (calls ++ x ∷ []) old new (rs ++ r ∷ []) []
 turn_with calls old now new rs x r t made =
     turn_goes_on (calls ++ x ∷ []) old now new rs x [] r
@@ -55,12 +68,14 @@ turn_with calls old now new rs x r t made =
     })
     made.asked made.later made.receipt
 
-two_last : (js : List Job) (j : Job) → AllByRecursion (λ (k : Job). k.by < 2) js → j.by < 2 → AllByRecursion (λ (k : Job). k.by < 2) (js ++ j ∷ [])
+two_last : (js : List Job) (j : Job) → AllByRecursion (λ (k : Job). k.by < 2) js → j.by < 2
+    → AllByRecursion (λ (k : Job). k.by < 2) (js ++ j ∷ [])
 two_last [] j are is = (is, tt)
 two_last (k ∷ js) j are is = (are.0, two_last js j are.1 is)
 
 -- a line's call was made, and its receipt is the last of its operator's
-work_makes : (taken : List (Message Call)) (p : ℕ) (x : Call) (r : Receipt) (old now new : Sight) (first first_new second second_new : List Receipt)
+work_makes : (taken : List (Message Call)) (p : ℕ) (x : Call) (r : Receipt) (old now new : Sight)
+    (first first_new second second_new : List Receipt)
     → (w : IsWorked taken old now first second None) → p < 2 → IsMade x now r new
     → first_new ≡ receipts_of (jobs_by 0 (w.made ++ record { by = p; call = x; receipt = r } ∷ []))
     → second_new ≡ receipts_of (jobs_by 1 (w.made ++ record { by = p; call = x; receipt = r } ∷ []))
@@ -69,10 +84,14 @@ work_makes taken p x r old now new first first_new second second_new w few made 
     let job : Job = record { by = p; call = x; receipt = r } in record {
       made = w.made ++ job ∷ [];
       rest = [];
-      lines = lines_last taken p x ∙ ap (λ ls. ls ++ (p, x) ∷ []) (w.lines ∙ ap (λ ls. map line_of w.made ++ ls) (w.ends refl) ∙ append-nil (map line_of w.made))
+      lines = lines_last taken p x
+          ∙ ap (λ ls. ls ++ (p, x) ∷ [])
+          (w.lines ∙ ap (λ ls. map line_of w.made ++ ls) (w.ends refl) ∙ append-nil (map line_of w.made))
           ∙ sym (map-append line_of w.made (job ∷ [])) ∙ sym (append-nil (map line_of (w.made ++ job ∷ [])));
-      turn = subst (λ cs. IsTurn cs old new (receipts_of (w.made ++ job ∷ [])) []) (sym (map-append (λ (j : Job). j.call) w.made (job ∷ [])))
-          (subst (λ rs. IsTurn (calls_of w.made ++ x ∷ []) old new rs []) (sym (map-append (λ (j : Job). j.receipt) w.made (job ∷ [])))
+      turn = subst (λ cs. IsTurn cs old new (receipts_of (w.made ++ job ∷ [])) [])
+          (sym (map-append (λ (j : Job). j.call) w.made (job ∷ [])))
+          (subst (λ rs. IsTurn (calls_of w.made ++ x ∷ []) old new rs [])
+          (sym (map-append (λ (j : Job). j.receipt) w.made (job ∷ [])))
           (turn_with (calls_of w.made) old now new (receipts_of w.made) x r w.turn made));
       of_two = two_last w.made job w.of_two few;
       first_are = firsts;
@@ -82,13 +101,15 @@ work_makes taken p x r old now new first first_new second second_new w few made 
     }
 
 -- a line that is left after the work has stopped
-work_leaves : (taken : List (Message Call)) (p : ℕ) (x : Call) (old now : Sight) (first second : List Receipt) (why : Rule)
+work_leaves : (taken : List (Message Call)) (p : ℕ) (x : Call) (old now : Sight) (first second : List Receipt)
+    (why : Rule)
     → IsWorked taken old now first second (Some why) → IsWorked (taken ++ Line p x ∷ []) old now first second (Some why)
 work_leaves taken p x old now first second why w =
     record {
       made = w.made;
       rest = w.rest ++ (p, x) ∷ [];
-      lines = lines_last taken p x ∙ ap (λ ls. ls ++ (p, x) ∷ []) w.lines ∙ append_assoc (map line_of w.made) w.rest ((p, x) ∷ []);
+      lines = lines_last taken p x ∙ ap (λ ls. ls ++ (p, x) ∷ []) w.lines
+          ∙ append_assoc (map line_of w.made) w.rest ((p, x) ∷ []);
       turn = w.turn;
       of_two = w.of_two;
       first_are = w.first_are;
@@ -97,7 +118,8 @@ work_leaves taken p x old now first second why w =
       why = w.why;
     }
 
-stopped_turn : (calls : List Call) (old now new : Sight) (rs : List Receipt) (why : Rule) → IsTurn calls old now rs [] → Stops why now new → IsTurn calls old new rs []
+stopped_turn : (calls : List Call) (old now new : Sight) (rs : List Receipt) (why : Rule) → IsTurn calls old now rs []
+    → Stops why now new → IsTurn calls old new rs []
 stopped_turn calls old now new rs why t (inl same) = subst (λ s. IsTurn calls old s rs []) (sym same.1) t
 stopped_turn calls old now new rs why t (inr back) = turn_ends calls old now new rs [] why t back
 
@@ -106,13 +128,17 @@ stopped_why now new why (inl same) = subst (λ r. EndsATurn r new) (sym same.0) 
 stopped_why now new why (inr back) = why_back why now new back
 
 -- a line's call was not made: the work stops before it
-work_stops : (taken : List (Message Call)) (p : ℕ) (x : Call) (old now new : Sight) (first second : List Receipt) (why : Rule)
-    → IsWorked taken old now first second None → Stops why now new → IsWorked (taken ++ Line p x ∷ []) old new first second (Some why)
+work_stops : (taken : List (Message Call)) (p : ℕ) (x : Call) (old now new : Sight) (first second : List Receipt)
+    (why : Rule)
+    → IsWorked taken old now first second None → Stops why now new
+    → IsWorked (taken ++ Line p x ∷ []) old new first second (Some why)
 work_stops taken p x old now new first second why w stops =
     record {
       made = w.made;
       rest = (p, x) ∷ [];
-      lines = lines_last taken p x ∙ ap (λ ls. ls ++ (p, x) ∷ []) (w.lines ∙ ap (λ ls. map line_of w.made ++ ls) (w.ends refl) ∙ append-nil (map line_of w.made));
+      lines = lines_last taken p x
+          ∙ ap (λ ls. ls ++ (p, x) ∷ [])
+          (w.lines ∙ ap (λ ls. map line_of w.made ++ ls) (w.ends refl) ∙ append-nil (map line_of w.made));
       turn = stopped_turn (calls_of w.made) old now new (receipts_of w.made) why w.turn stops;
       of_two = w.of_two;
       first_are = w.first_are;
@@ -122,14 +148,17 @@ work_stops taken p x old now new first second why w stops =
     }
 
 -- no more calls are made
-pub goes_on_stopped : (p : ℕ) (x : Call) (now : Sight) (first second : List Receipt) (stopped : Option Rule) → true ≡ is_some stopped
+pub goes_on_stopped : (p : ℕ) (x : Call) (now : Sight) (first second : List Receipt) (stopped : Option Rule)
+    → true ≡ is_some stopped
     → GoesOn p x now now first first second second stopped stopped
 goes_on_stopped p x now first second (Some why) there taken old w = work_leaves taken p x old now first second why w
 goes_on_stopped p x now first second None there taken old w = absurd (false≢true (sym there))
 
 -- the call of a line of operator 0, and of operator 1
-pub goes_on_first : (p : ℕ) (x : Call) (now new : Sight) (first first_new second : List Receipt) (stopped stopped_new : Option Rule) → p ≡ 0
-    → stopped ≡ None → IsKept x now new first first_new stopped_new → GoesOn p x now new first first_new second second stopped stopped_new
+pub goes_on_first : (p : ℕ) (x : Call) (now new : Sight) (first first_new second : List Receipt)
+    (stopped stopped_new : Option Rule) → p ≡ 0
+    → stopped ≡ None → IsKept x now new first first_new stopped_new
+    → GoesOn p x now new first first_new second second stopped stopped_new
 goes_on_first p x now new first first_new second stopped None mine none kept taken old w =
     let v = subst (λ s. IsWorked taken old now first second s) none w in
     let job : Job = record { by = p; call = x; receipt = kept.0 } in
@@ -147,10 +176,13 @@ goes_on_first p x now new first first_new second stopped None mine none kept tak
     not_both p e = subst (λ n. (n == 1) ≡ false) (sym e) refl
 goes_on_first p x now new first first_new second stopped (Some why) mine none kept taken old w =
     subst (λ rs. IsWorked (taken ++ Line p x ∷ []) old new rs second (Some why)) (sym kept.1)
-    (work_stops taken p x old now new first second why (subst (λ s. IsWorked taken old now first second s) none w) kept.0)
+    (work_stops taken p x old now new first second why (subst (λ s. IsWorked taken old now first second s) none w)
+    kept.0)
 
-pub goes_on_second : (p : ℕ) (x : Call) (now new : Sight) (first second second_new : List Receipt) (stopped stopped_new : Option Rule) → (p ≡ 0 → ⊥) → p < 2
-    → stopped ≡ None → IsKept x now new second second_new stopped_new → GoesOn p x now new first first second second_new stopped stopped_new
+pub goes_on_second : (p : ℕ) (x : Call) (now new : Sight) (first second second_new : List Receipt)
+    (stopped stopped_new : Option Rule) → (p ≡ 0 → ⊥) → p < 2
+    → stopped ≡ None → IsKept x now new second second_new stopped_new
+    → GoesOn p x now new first first second second_new stopped stopped_new
 goes_on_second p x now new first second second_new stopped None other few none kept taken old w =
     let v = subst (λ s. IsWorked taken old now first second s) none w in
     let job : Job = record { by = p; call = x; receipt = kept.0 } in
@@ -170,7 +202,8 @@ goes_on_second p x now new first second second_new stopped None other few none k
     is_one p e = subst (λ n. (n == 1) ≡ true) (sym e) refl
 goes_on_second p x now new first second second_new stopped (Some why) other few none kept taken old w =
     subst (λ rs. IsWorked (taken ++ Line p x ∷ []) old new first rs (Some why)) (sym kept.1)
-    (work_stops taken p x old now new first second why (subst (λ s. IsWorked taken old now first second s) none w) kept.0)
+    (work_stops taken p x old now new first second why (subst (λ s. IsWorked taken old now first second s) none w)
+    kept.0)
 
 pub none_of : (stopped : Option Rule) → is_some stopped ≡ false → stopped ≡ None
 none_of None e = refl

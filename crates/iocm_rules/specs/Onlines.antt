@@ -1,5 +1,6 @@
 -- Online records that are looked for among the users of a path.
-use Rattle.std.specs.Prelude.{◌≡◌, ℕ, ◌&&◌, ◌||◌, ◌==◌, not, Bool, true, false, if◌then◌else◌, Option, None, Some, List, [], ◌∷◌}
+use Rattle.std.specs.Prelude.{◌≡◌, ℕ, ◌&&◌, ◌||◌, ◌==◌, not, Bool, true, false, if◌then◌else◌, Option, None, Some, List}
+use Rattle.std.specs.Prelude.{[], ◌∷◌}
 use Rattle.std.specs.List.{list_any}
 use Rattle.iocm_types.specs.declared.key.Key.{Key}
 use Rattle.iocm_types.specs.declared.key.Key.TheVariants.{Online, Path}
@@ -13,7 +14,8 @@ use Rattle.iocm_lookup.specs.Among.{is_so_at}
 
 -- an online record breaks V4 where this is what stands under the key of its path
 abbrev pub is_wrong_on : Configuration → OnlineRecord → Option Rec → Bool
-is_wrong_on c o found = not (record_lists o.name found) || (is_exclusive found && some_before c (online o) (is_online_at o.css o.path))
+is_wrong_on c o found = not (record_lists o.name found)
+    || (is_exclusive found && some_before c (online o) (is_online_at o.css o.path))
 
 -- the key of an online record of a path
 abbrev pub is_key_at_path : ℕ → ℕ → Key → Bool

@@ -1,6 +1,7 @@
 -- What the entry of an accepted change tells.
-use Rattle.std.proofs.Common.{◌≡◌, inl, inr, ℕ, ◌+◌, Bool, true, false, cond, ◌∷◌, Option, Some, None, Ok, Err, refl, sym, ap, subst, ◌∙◌}
-use Rattle.iocm_types.specs.declared.answer.Answer.TheVariants.{Changed, Held}
+use Rattle.std.proofs.Common.{◌≡◌, inl, inr, ℕ, ◌+◌, Bool, true, false, cond, ◌∷◌, Option, Some, None, Ok, Err, refl}
+use Rattle.std.proofs.Common.{sym, ap, subst, ◌∙◌}
+use Rattle.iocm_types.specs.declared.answer.Answer.TheVariants.{Changed}
 use Rattle.iocm_types.specs.declared.answer.Answer.TheVariants as answers
 use Rattle.iocm_types.specs.declared.refused.Refused.{Refused}
 use Rattle.iocm_types.specs.declared.sub_id.SubId.{SubId}
@@ -9,7 +10,8 @@ use Rattle.iocm_model.specs.Operation.State.{State, is_among}
 use Rattle.iocm_model.specs.Operation.Step.{Step, order, device_begin, device_end, answer_in}
 use Rattle.iocm_model.specs.Change.Tree.{ChangeTree}
 use Rattle.iocm_model.specs.Change.Meaning.{Outcome, meaning}
-use Rattle.iocm_history.specs.Entry.{Call, at, activate, begin, advance, commit, abort, undo, redo, show, Entry, History, plain_entry}
+use Rattle.iocm_history.specs.Entry.{Call, at, activate, begin, advance, commit, abort, undo, redo, show, Entry}
+use Rattle.iocm_history.specs.Entry.{History, plain_entry}
 use Rattle.iocm_history.specs.Store.{store_of}
 use Rattle.iocm_history.specs.Change.{Change, change_of, effect_of_change, altered}
 use Rattle.iocm_history.specs.MarkedEntry.{kept}
@@ -17,7 +19,9 @@ use Rattle.iocm_history.specs.Stage.{Stage, is_held}
 use Rattle.iocm_history.specs.Account.{committed, Account, account, marked_entries, state_at}
 use Rattle.iocm_history.specs.StandsOn.{stands_on}
 use Rattle.iocm_history.specs.Journal.{Journal, is_in, is_past, journal_of}
-use Rattle.iocm_history.specs.Legal.{unless_held, unless_staged, activated, begun, advance_answer, commit_entry, abort_answer, unless_not_quiet, unless_stood_on, is_last_undone, show_answer, not_quiet_of, entry_of, IsRight, IsLegal}
+use Rattle.iocm_history.specs.Legal.{unless_held, unless_staged, activated, begun, advance_answer, commit_entry}
+use Rattle.iocm_history.specs.Legal.{abort_answer, unless_not_quiet, unless_stood_on, is_last_undone, show_answer}
+use Rattle.iocm_history.specs.Legal.{not_quiet_of, entry_of, IsRight, IsLegal}
 use Rattle.iocm_history.specs.InUse.{IsInUse}
 use Rattle.iocm_history.proofs.Striking.{made, entry}
 use Rattle.iocm_history.proofs.WasMade.{was_meant}
@@ -62,7 +66,8 @@ module _ (opening : State) (h : History) (used : IsInUse opening) (legal : IsLeg
   from_is (Ok r) = refl
   from_is (Err why) = refl
 
-  activation : (p : ChangeTree) (g : Option Stage) (o : Outcome) (k : ℕ) → k ≡ b.count + 1 → a.stage ≡ g → meaning p s ≡ o → Tells (unless_staged g (activate p) (activated p k s o))
+  activation : (p : ChangeTree) (g : Option Stage) (o : Outcome) (k : ℕ) → k ≡ b.count + 1 → a.stage ≡ g
+      → meaning p s ≡ o → Tells (unless_staged g (activate p) (activated p k s o))
   unfolding account
   activation p (Some g) o k number stage is n answer = cc
   activation p None (Err why) k number stage is n answer = cc
@@ -76,7 +81,10 @@ module _ (opening : State) (h : History) (used : IsInUse opening) (legal : IsLeg
       lives = λ x on. ap (λ (z : State). get z.lives x) (sym (from_is (meaning p s)));
     };
     effect = ap (λ z. effect_of_change (change_of z s)) (sym is);
-    entries = λ j. record { entries = made (inner answer j) (change_of (meaning p s) s) ∷ marked_entries opening h; stage = stage j };
+    entries = λ j. record {
+      entries = made (inner answer j) (change_of (meaning p s) s) ∷ marked_entries opening h;
+      stage = stage j;
+    };
     held = λ x off. ap (is_held x) stage;
   }
 
@@ -88,7 +96,10 @@ module _ (opening : State) (h : History) (used : IsInUse opening) (legal : IsLeg
     number = sym (inner answer) ∙ number;
     ready = subst (λ (o : Option Stage). IsStaged o s) stage i.stage;
     effect = refl;
-    entries = λ j. record { entries = entry (committed (inner answer j) (stage j)) kept ∷ marked_entries opening h; stage = None };
+    entries = λ j. record {
+      entries = entry (committed (inner answer j) (stage j)) kept ∷ marked_entries opening h;
+      stage = None;
+    };
     held = λ x off. ap (is_held x) stage ∙ off;
   }
 
@@ -105,14 +116,17 @@ module _ (opening : State) (h : History) (used : IsInUse opening) (legal : IsLeg
   abort_not (Some g) n answer = cc
   abort_not None n answer = cc
 
-  step_not : (x : SubId) (done : Step) (held : Bool) → Tells (plain_entry (at x done) (unless_held held (answer_in s x done)))
+  step_not : (x : SubId) (done : Step) (held : Bool)
+      → Tells (plain_entry (at x done) (unless_held held (answer_in s x done)))
   step_not x done true n answer = cc
   step_not x (order o) false n answer = cc
   step_not x device_begin false n answer = cc
   step_not x device_end false n answer = cc
 
   undo_not : (k : ℕ) (g : Option Stage) (here : Bool) (on : Option ℕ) (quiet : Option SubId) (why : Refused)
-      → Tells (unless_staged g (undo k) (plain_entry (undo k) (cond here (unless_stood_on on (unless_not_quiet quiet (answers.Undone k))) (answers.Refused why))))
+      → Tells (unless_staged g (undo k)
+      (plain_entry (undo k) (cond here (unless_stood_on on (unless_not_quiet quiet (answers.Undone k)))
+      (answers.Refused why))))
   undo_not k (Some g) here on quiet why n answer = cc
   undo_not k None true (Some m) quiet why n answer = cc
   undo_not k None true None (Some x) why n answer = cc
@@ -141,7 +155,8 @@ module _ (opening : State) (h : History) (used : IsInUse opening) (legal : IsLeg
   called commit = commitment a.stage (b.count + 1) refl refl
   called abort = abort_not a.stage
   called (undo k) = undo_not k a.stage (is_in k b.standing) (stands_on k a.entries s) (not_quiet_of k s a) _
-  called (redo k) = redo_not k a.stage (is_last_undone k b.undone) (is_in k b.undone) (is_past k b) (not_quiet_of k s a) _ _ _
+  called (redo k) = redo_not k a.stage (is_last_undone k b.undone) (is_in k b.undone) (is_past k b) (not_quiet_of k s a)
+      _ _ _
   called show = show_not a.stage
 
   pub has_accepted : (e : Entry) → IsRight opening h e → Tells e

@@ -15,7 +15,8 @@ use Rattle.iocm_types.specs.SubId.{sub_id_cmp}
 use Rattle.iocm_types.specs.KeyOrder.{sub_ids_total}
 use Rattle.iocm_model.specs.Operation.Orders.{code_of, answer_if_accepted, live_if_accepted}
 use Rattle.iocm_model.specs.Operation.State.{State, Lives, IsSound, seen_in}
-use Rattle.iocm_model.specs.Operation.Step.{Step, order, device_begin, device_end, live_after_step, lives_after_step, step_answer, after_step, answer_in}
+use Rattle.iocm_model.specs.Operation.Step.{Step, order, device_begin, device_end, live_after_step, lives_after_step}
+use Rattle.iocm_model.specs.Operation.Step.{step_answer, after_step, answer_in}
 
 -- an order that is accepted isn't answered as one with another condition code
 code_0 : (k : ℕ) → Code 0 ≡ Code k → eqb k 0 ≡ false → ⊥
@@ -31,7 +32,8 @@ not_accepted Test v l k other is = cc
 not_accepted Store v l k other is = cc
 
 module _ (o : Order) (v w : View) (l : Live) where
-  by_code : (j k : ℕ) (b d : Bool) → eqb j 0 ≡ b → eqb k 0 ≡ d → cond b (answer_if_accepted o v l) (Code j) ≡ cond d (answer_if_accepted o w l) (Code k)
+  by_code : (j k : ℕ) (b d : Bool) → eqb j 0 ≡ b → eqb k 0 ≡ d
+      → cond b (answer_if_accepted o v l) (Code j) ≡ cond d (answer_if_accepted o w l) (Code k)
       → cond b (live_if_accepted o l) l ≡ cond d (live_if_accepted o l) l
   by_code j k true true p q same = refl
   by_code j k false false p q same = refl
@@ -42,18 +44,21 @@ io_inner : (x y : Io) → answers.Io x ≡ answers.Io y → x ≡ y
 io_inner x y e = cc
 
 -- a live record after a step that is answered alike
-live_alike : (made : Step) (v w : View) (l : Live) → step_answer made (Some (v, l)) ≡ step_answer made (Some (w, l)) → live_after_step made v l ≡ live_after_step made w l
+live_alike : (made : Step) (v w : View) (l : Live) → step_answer made (Some (v, l)) ≡ step_answer made (Some (w, l))
+    → live_after_step made v l ≡ live_after_step made w l
 live_alike (order o) v w l same = by_code o v w l (code_of o v l) (code_of o w l) _ _ refl refl (io_inner _ _ same)
 live_alike device_begin v w l same = refl
 live_alike device_end v w l same = refl
 
 -- what a step leaves at its subchannel
-there_by : (x : SubId) (made : Step) (lives : Lives) (v : View) (l : Live) → get (lives_after_step x made (Some (v, l)) lives) x
+there_by : (x : SubId) (made : Step) (lives : Lives) (v : View) (l : Live)
+    → get (lives_after_step x made (Some (v, l)) lives) x
     ≡ cond (eq_by_cmp sub_id_cmp x x) (Some (live_after_step made v l)) (get lives x)
 there_by x made lives v l = get-insert sub_ids_total lives x (live_after_step made v l) x
 
 module _ (x : SubId) (made : Step) (m o : Lives) (same : get m x ≡ get o x) where
-  left_alike : (p q : Option View) (k l : Option Live) → get m x ≡ k → get o x ≡ l → is_some k ≡ is_some p → is_some l ≡ is_some q
+  left_alike : (p q : Option View) (k l : Option Live) → get m x ≡ k → get o x ≡ l → is_some k ≡ is_some p
+      → is_some l ≡ is_some q
       → step_answer made (option_zip p k) ≡ step_answer made (option_zip q l)
       → get (lives_after_step x made (option_zip p k) m) x ≡ get (lives_after_step x made (option_zip q l) o) x
   left_alike (Some v) (Some w) (Some k) (Some l) at_k at_l both other answer =
@@ -66,18 +71,23 @@ module _ (x : SubId) (made : Step) (m o : Lives) (same : get m x ≡ get o x) wh
       inner e = cc
 
       left : k ≡ l → live_after_step made v k ≡ live_after_step made w l
-      left is = live_alike made v w k (answer ∙ ap (λ z. step_answer made (Some (w, z))) (sym is)) ∙ ap (live_after_step made w) is
+      left is = live_alike made v w k (answer ∙ ap (λ z. step_answer made (Some (w, z))) (sym is))
+          ∙ ap (live_after_step made w) is
   left_alike None None None None at_k at_l both other answer = same
   left_alike (Some v) q None l at_k at_l both other answer = cc
   left_alike None q (Some k) l at_k at_l both other answer = cc
   left_alike p (Some w) k None at_k at_l both other answer = cc
   left_alike p None k (Some l) at_k at_l both other answer = cc
-  left_alike (Some v) None (Some k) None at_k at_l both other answer = let no : Some k ≡ None = sym at_k ∙ same ∙ at_l in cc
-  left_alike None (Some w) None (Some l) at_k at_l both other answer = let no : None ≡ Some l = sym at_k ∙ same ∙ at_l in cc
+  left_alike (Some v) None (Some k) None at_k at_l both other answer = let no : Some k ≡ None =
+      sym at_k ∙ same ∙ at_l in cc
+  left_alike None (Some w) None (Some l) at_k at_l both other answer = let no : None ≡ Some l =
+      sym at_k ∙ same ∙ at_l in cc
 
 -- a step leaves the same at its subchannel in two sound states in which it has the same live record
 -- there and is answered alike
-pub leaves_alike : (s u : State) (x : SubId) (made : Step) → IsSound s → IsSound u → get s.lives x ≡ get u.lives x → answer_in s x made ≡ answer_in u x made
+pub leaves_alike : (s u : State) (x : SubId) (made : Step) → IsSound s → IsSound u → get s.lives x ≡ get u.lives x
+    → answer_in s x made ≡ answer_in u x made
     → get (after_step x made s).lives x ≡ get (after_step x made u).lives x
 leaves_alike s u x made sound_s sound_u same answer =
-    left_alike x made s.lives u.lives same (seen_in s x) (seen_in u x) (get s.lives x) (get u.lives x) refl refl (sound_s.lived x) (sound_u.lived x) answer
+    left_alike x made s.lives u.lives same (seen_in s x) (seen_in u x) (get s.lives x) (get u.lives x) refl refl
+    (sound_s.lived x) (sound_u.lived x) answer

@@ -1,6 +1,7 @@
 -- Two runs beside each other, of which one leaves out the steps on some subchannels: each keeps its
 -- configuration and numbers, and their live records are the same off these subchannels.
-use Rattle.std.proofs.Common.{◌≡◌, inl, ℕ, Bool, true, false, cond, ◌&&◌, not, [], ◌∷◌, ◌++◌, List, Option, Some, None, refl, sym, ap, subst, ◌∙◌}
+use Rattle.std.proofs.Common.{◌≡◌, inl, ℕ, Bool, true, false, cond, ◌&&◌, not, [], ◌∷◌, ◌++◌, List, Option, Some, None}
+use Rattle.std.proofs.Common.{refl, sym, ap, subst, ◌∙◌}
 use Rattle.std.proofs.lemmas.Bool.{or_parts}
 use Rattle.std.specs.List.{list_any}
 use Rattle.std.specs.Option.{option_zip}
@@ -13,7 +14,8 @@ use Rattle.iocm_types.specs.SubId.{sub_id_cmp}
 use Rattle.iocm_types.specs.KeyOrder.{sub_ids_total, sub_ids_exact}
 use Rattle.iocm_types.proofs.Found.{same_key}
 use Rattle.iocm_model.specs.Operation.State.{State, Lives, is_among, views_of, seen_in}
-use Rattle.iocm_model.specs.Operation.Step.{Step, order, device_begin, device_end, subchannel_in, live_after_step, lives_after_step, step_answer, after_step, answer_in}
+use Rattle.iocm_model.specs.Operation.Step.{Step, order, device_begin, device_end, subchannel_in, live_after_step}
+use Rattle.iocm_model.specs.Operation.Step.{lives_after_step, step_answer, after_step, answer_in}
 use Rattle.iocm_history.specs.Entry.{at, Entry, History, plain_entry}
 use Rattle.iocm_history.specs.Store.{store_of, state_of}
 use Rattle.iocm_history.specs.MarkedEntry.{nothing, kept, change_at}
@@ -32,7 +34,8 @@ use Rattle.iocm_runs.proofs.Resting.{Rests, rests, steps, may_rest}
 -- ---- a step and live records
 
 -- a step leaves other live records, and the same at its subchannel where the same is there
-lives_at : (x : SubId) (made : Step) (p : Option (View × Live)) (lives : Lives) (y : SubId) (b : Bool) → eq_by_cmp sub_id_cmp y x ≡ b
+lives_at : (x : SubId) (made : Step) (p : Option (View × Live)) (lives : Lives) (y : SubId) (b : Bool)
+    → eq_by_cmp sub_id_cmp y x ≡ b
     → b ≡ false → get (lives_after_step x made p lives) y ≡ get lives y
 lives_at x made None lives y b is off = refl
 lives_at x made (Some p) lives y b is off =
@@ -48,10 +51,12 @@ lives_same x made (Some p) m o y same =
     ∙ sym (get-insert sub_ids_total o x (live_after_step made p.0 p.1) y)
 
 -- a subchannel that isn't among these is another than one that is
-another : (xs : List SubId) (x y : SubId) (b : Bool) → is_among x xs ≡ b → is_among y xs ≡ not b → eq_by_cmp sub_id_cmp y x ≡ false
+another : (xs : List SubId) (x y : SubId) (b : Bool) → is_among x xs ≡ b → is_among y xs ≡ not b
+    → eq_by_cmp sub_id_cmp y x ≡ false
 another xs x y b there off = by (eq_by_cmp sub_id_cmp y x) refl b there off
   where
-    by : (c : Bool) → eq_by_cmp sub_id_cmp y x ≡ c → (b : Bool) → is_among x xs ≡ b → is_among y xs ≡ not b → eq_by_cmp sub_id_cmp y x ≡ false
+    by : (c : Bool) → eq_by_cmp sub_id_cmp y x ≡ c → (b : Bool) → is_among x xs ≡ b → is_among y xs ≡ not b
+        → eq_by_cmp sub_id_cmp y x ≡ false
     by false is b there off = is
     by true is true there off =
         let same : is_among y xs ≡ is_among x xs = ap (λ z. is_among z xs) (same_key sub_id_cmp sub_ids_exact y x is) in
@@ -73,7 +78,8 @@ pub record AreBeside (xs : List SubId) (t r s u : State) : Type 0 where
   pub on : (x : SubId) → is_among x xs ≡ true → get u.lives x ≡ get r.lives x
 
 -- a value by a test, where each way it is the same
-pub pick : {A B : Type 0} (f : A → B) (b : Bool) (x y z : A) → (b ≡ true → x ≡ z) → (b ≡ false → y ≡ z) → cond b (f x) (f y) ≡ f z
+pub pick : {A B : Type 0} (f : A → B) (b : Bool) (x y z : A) → (b ≡ true → x ≡ z) → (b ≡ false → y ≡ z)
+    → cond b (f x) (f y) ≡ f z
 pick f true x y z on off = ap f (on refl)
 pick f false x y z on off = ap f (off refl)
 
@@ -81,13 +87,16 @@ module _ (xs : List SubId) (t r : State) (sees : (x : SubId) → is_among x xs �
   -- the same is there off the subchannels
   same_there : (s u : State) (x : SubId) → AreBeside xs t r s u → is_among x xs ≡ false → seen_in s x ≡ seen_in u x
   same_there s u x b off =
-      (λ i. get (views_of (b.config_with i) (b.numbers_with i)) x) ∙ sees x off ∙ (λ i. get (views_of (sym b.config_without i) (sym b.numbers_without i)) x)
+      (λ i. get (views_of (b.config_with i) (b.numbers_with i)) x) ∙ sees x off
+      ∙ (λ i. get (views_of (sym b.config_without i) (sym b.numbers_without i)) x)
 
-  subchannel_same : (s u : State) (x : SubId) → AreBeside xs t r s u → is_among x xs ≡ false → subchannel_in s x ≡ subchannel_in u x
+  subchannel_same : (s u : State) (x : SubId) → AreBeside xs t r s u → is_among x xs ≡ false
+      → subchannel_in s x ≡ subchannel_in u x
   subchannel_same s u x b off = λ i. option_zip (same_there s u x b off i) (b.off x off i)
 
   -- a step off the subchannels in both
-  step_off : (s u : State) (x : SubId) (made : Step) → AreBeside xs t r s u → is_among x xs ≡ false → AreBeside xs t r (after_step x made s) (after_step x made u)
+  step_off : (s u : State) (x : SubId) (made : Step) → AreBeside xs t r s u → is_among x xs ≡ false
+      → AreBeside xs t r (after_step x made s) (after_step x made u)
   step_off s u x made b away = record {
     config_with = b.config_with;
     numbers_with = b.numbers_with;
@@ -99,7 +108,8 @@ module _ (xs : List SubId) (t r : State) (sees : (x : SubId) → is_among x xs �
   }
 
   -- a step on them in the first alone
-  step_on : (s u : State) (x : SubId) (made : Step) → AreBeside xs t r s u → is_among x xs ≡ true → AreBeside xs t r (after_step x made s) u
+  step_on : (s u : State) (x : SubId) (made : Step) → AreBeside xs t r s u → is_among x xs ≡ true
+      → AreBeside xs t r (after_step x made s) u
   step_on s u x made b here = record {
     config_with = b.config_with;
     numbers_with = b.numbers_with;
@@ -124,7 +134,8 @@ pub record StartsBeside (opening : State) (xs : List SubId) (g h : History) : Ty
 -- where the same entries come on both, but for the steps on these subchannels: the second is legal,
 -- and holds nothing off them; on the first no change comes
 pub record IsBeside (opening : State) (xs : List SubId) (g h since : History) : Type 0 where
-  pub beside : AreBeside xs (state_at opening g) (state_at opening h) (state_at opening (since ++ g)) (state_at opening (steps_off xs since ++ h))
+  pub beside : AreBeside xs (state_at opening g) (state_at opening h) (state_at opening (since ++ g))
+      (state_at opening (steps_off xs since ++ h))
   pub legal : IsLegal opening (steps_off xs since ++ h)
   pub held : (x : SubId) → is_among x xs ≡ false → is_held x (account opening (steps_off xs since ++ h)).stage ≡ false
   pub there : (n : ℕ) → change_at n (marked_entries opening (since ++ g)) ≡ change_at n (marked_entries opening g)
@@ -161,12 +172,14 @@ module _ (opening : State) (xs : List SubId) (g h : History) (start : StartsBesi
   }
 
   -- an entry that is left out
-  left_out : (l : Entry) (since : History) → (is_done l.call l.answer && not (is_at xs l.call)) ≡ false → without_it (l ∷ since) ≡ without_it since
+  left_out : (l : Entry) (since : History) → (is_done l.call l.answer && not (is_at xs l.call)) ≡ false
+      → without_it (l ∷ since) ≡ without_it since
   left_out l since none = ap (λ b. cond b (l ∷ steps_off xs since) (steps_off xs since) ++ h) none
 
   put_out : (l : Entry) (since : History) → (is_done l.call l.answer && not (is_at xs l.call)) ≡ false
       → AreBeside xs t r (state_at opening (with_it (l ∷ since))) (state_at opening (without_it since))
-      → ((n : ℕ) → change_at n (marked_entries opening (with_it (l ∷ since))) ≡ change_at n (marked_entries opening (with_it since))) → Beside since → Beside (l ∷ since)
+      → ((n : ℕ) → change_at n (marked_entries opening (with_it (l ∷ since)))
+      ≡ change_at n (marked_entries opening (with_it since))) → Beside since → Beside (l ∷ since)
   put_out l since none both there b =
       let same = sym (left_out l since none) in record {
         beside = subst (λ k. AreBeside xs t r (state_at opening (with_it (l ∷ since))) (state_at opening k)) same both;
@@ -175,16 +188,21 @@ module _ (opening : State) (xs : List SubId) (g h : History) (start : StartsBesi
         there = λ n. there n ∙ b.there n;
       }
 
-  beside_rest : (l : Entry) (since : History) → marked_entries opening (with_it (l ∷ since)) ≡ entry nothing kept ∷ marked_entries opening (with_it since)
+  beside_rest : (l : Entry) (since : History)
+      → marked_entries opening (with_it (l ∷ since)) ≡ entry nothing kept ∷ marked_entries opening (with_it since)
       → is_done l.call l.answer ≡ false → Beside since → Beside (l ∷ since)
   beside_rest l since entries none b =
-      let stays : state_at opening (with_it (l ∷ since)) ≡ state_at opening (with_it since) = ap (λ ls. state_of (replay (store_of opening) ls)) entries
-      ∙ ap state_of (inert_replay (store_of opening) (entry nothing kept) (marked_entries opening (with_it since)) nothing_inert) in
+      let stays : state_at opening (with_it (l ∷ since)) ≡ state_at opening (with_it since) =
+      ap (λ ls. state_of (replay (store_of opening) ls)) entries
+      ∙ ap state_of (inert_replay (store_of opening) (entry nothing kept) (marked_entries opening (with_it since))
+      nothing_inert) in
       put_out l since (ap (λ d. d && not (is_at xs l.call)) none)
-      (subst (λ s. AreBeside xs t r s (state_at opening (without_it since))) (sym stays) b.beside) (λ n. ap (change_at n) entries) b
+      (subst (λ s. AreBeside xs t r s (state_at opening (without_it since))) (sym stays) b.beside)
+      (λ n. ap (change_at n) entries) b
 
   -- a step that was done
-  module _ (x : SubId) (made : Step) (since : History) (legal : IsLegal opening (with_it since)) (b : Beside since) where
+  module _ (x : SubId) (made : Step) (since : History) (legal : IsLegal opening (with_it since))
+      (b : Beside since) where
     abbrev s : State
     s = state_at opening (with_it since)
 
@@ -204,14 +222,17 @@ module _ (opening : State) (xs : List SubId) (g h : History) (start : StartsBesi
 
     beside_on : is_among x xs ≡ true → Steps (with_it since) → Beside (l ∷ since)
     beside_on here stepped =
-        put_out l since (ap (λ d. is_done (at x made) (answer_in s x made) && not d) here ∙ and_none (is_done (at x made) (answer_in s x made)))
-        (subst (λ z. AreBeside xs t r z u) (sym step_with) (step_on xs t r start.sees s u x made b.beside here)) stepped.there b
+        put_out l since (ap (λ d. is_done (at x made) (answer_in s x made) && not d) here
+        ∙ and_none (is_done (at x made) (answer_in s x made)))
+        (subst (λ z. AreBeside xs t r z u) (sym step_with) (step_on xs t r start.sees s u x made b.beside here))
+        stepped.there b
       where
         and_none : (d : Bool) → (d && false) ≡ false
         and_none true = refl
         and_none false = refl
 
-    kept_too : is_among x xs ≡ false → is_done (at x made) (answer_in s x made) ≡ true → without_it (l ∷ since) ≡ l ∷ without_it since
+    kept_too : is_among x xs ≡ false → is_done (at x made) (answer_in s x made) ≡ true
+        → without_it (l ∷ since) ≡ l ∷ without_it since
     kept_too away done = λ i. cond (done i && not (away i)) (l ∷ steps_off xs since) (steps_off xs since) ++ h
 
     -- it is answered so in the other run
@@ -226,29 +247,37 @@ module _ (opening : State) (xs : List SubId) (g h : History) (start : StartsBesi
     step_without away = ap (λ w. state_at opening (plain_entry (at x made) w ∷ without_it since)) (answer_same away)
         ∙ steps_step opening (without_it since) x made start.used b.legal
 
-    beside_off : is_among x xs ≡ false → is_done (at x made) (answer_in s x made) ≡ true → ((k : History) → Steps k) → Beside (l ∷ since)
+    beside_off : is_among x xs ≡ false → is_done (at x made) (answer_in s x made) ≡ true → ((k : History) → Steps k)
+        → Beside (l ∷ since)
     beside_off away done stepped =
         let same = sym (kept_too away done) in record {
           beside = subst (λ k. AreBeside xs t r (state_at opening (with_it (l ∷ since))) (state_at opening k)) same
               (subst (λ z. AreBeside xs t r z (state_at opening (l ∷ without_it since))) (sym step_with)
-              (subst (AreBeside xs t r (after_step x made s)) (sym (step_without away)) (step_off xs t r start.sees s u x made b.beside away)));
+              (subst (AreBeside xs t r (after_step x made s)) (sym (step_without away))
+              (step_off xs t r start.sees s u x made b.beside away)));
           legal = subst (IsLegal opening) same (right_there away, b.legal);
-          held = λ y off. ap (λ k. is_held y (account opening k).stage) (sym same) ∙ ap (is_held y) (stepped (without_it since)).stage ∙ b.held y off;
+          held = λ y off. ap (λ k. is_held y (account opening k).stage) (sym same)
+              ∙ ap (is_held y) (stepped (without_it since)).stage ∙ b.held y off;
           there = λ n. (stepped (with_it since)).there n ∙ b.there n;
         }
 
-    beside_by : (here : Bool) → is_among x xs ≡ here → is_done (at x made) (answer_in s x made) ≡ true → ((k : History) → Steps k) → Beside (l ∷ since)
+    beside_by : (here : Bool) → is_among x xs ≡ here → is_done (at x made) (answer_in s x made) ≡ true
+        → ((k : History) → Steps k) → Beside (l ∷ since)
     beside_by true here done stepped = beside_on here (stepped (with_it since))
     beside_by false away done stepped = beside_off away done stepped
 
   beside_step : (x : SubId) (made : Step) (since : History) → IsLegal opening (with_it since) → Beside since
       → Beside (plain_entry (at x made) (answer_in (state_at opening (with_it since)) x made) ∷ since)
   unfolding account
-  beside_step x (order o) since legal b = beside_by x (order o) since legal b (is_among x xs) refl refl (λ k. record { stage = refl; there = λ n. refl })
-  beside_step x device_begin since legal b = beside_by x device_begin since legal b (is_among x xs) refl refl (λ k. record { stage = refl; there = λ n. refl })
-  beside_step x device_end since legal b = beside_by x device_end since legal b (is_among x xs) refl refl (λ k. record { stage = refl; there = λ n. refl })
+  beside_step x (order o) since legal b =
+      beside_by x (order o) since legal b (is_among x xs) refl refl (λ k. record { stage = refl; there = λ n. refl })
+  beside_step x device_begin since legal b =
+      beside_by x device_begin since legal b (is_among x xs) refl refl (λ k. record { stage = refl; there = λ n. refl })
+  beside_step x device_end since legal b =
+      beside_by x device_end since legal b (is_among x xs) refl refl (λ k. record { stage = refl; there = λ n. refl })
 
-  pub along : (since : History) → IsLegal opening (with_it since) → list_any (λ (l : Entry). alters_changes l.answer) since ≡ false → Beside since
+  pub along : (since : History) → IsLegal opening (with_it since)
+      → list_any (λ (l : Entry). alters_changes l.answer) since ≡ false → Beside since
   along [] legal none = beside_start
   along (l ∷ since) legal none =
       let both = or_parts (alters_changes l.answer) _ none in

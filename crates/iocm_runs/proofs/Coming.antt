@@ -1,6 +1,7 @@
 -- What an entry is: it does nothing, wherever it comes; it is a step that was done; it accepted a
 -- change; or it is an accepted undo or redo.
-use Rattle.std.proofs.Common.{◌≡◌, inl, inr, ℕ, ◌+◌, Bool, true, false, cond, ◌∷◌, Option, Some, None, Ok, Err, refl, sym, subst}
+use Rattle.std.proofs.Common.{◌≡◌, inl, inr, ℕ, ◌+◌, Bool, true, false, cond, ◌∷◌, Option, Some, None, Ok, Err, refl}
+use Rattle.std.proofs.Common.{sym, subst}
 use Rattle.iocm_types.specs.declared.answer.Answer.TheVariants as answers
 use Rattle.iocm_types.specs.declared.refused.At.TheVariants.{Nothing}
 use Rattle.iocm_types.specs.declared.refused.Refused.{Refused}
@@ -11,13 +12,16 @@ use Rattle.iocm_model.specs.Operation.Step.{Step, answer_in}
 use Rattle.iocm_model.specs.Change.Refusal.{refusal_at}
 use Rattle.iocm_model.specs.Change.Tree.{ChangeTree}
 use Rattle.iocm_model.specs.Change.Meaning.{Outcome, meaning}
-use Rattle.iocm_history.specs.Entry.{Call, at, activate, begin, advance, commit, abort, undo, redo, show, Entry, History, plain_entry}
+use Rattle.iocm_history.specs.Entry.{Call, at, activate, begin, advance, commit, abort, undo, redo, show, Entry}
+use Rattle.iocm_history.specs.Entry.{History, plain_entry}
 use Rattle.iocm_history.specs.MarkedEntry.{nothing, kept}
 use Rattle.iocm_history.specs.Stage.{Stage, is_held}
 use Rattle.iocm_history.specs.Account.{Account, account, marked_entries, state_at}
 use Rattle.iocm_history.specs.StandsOn.{stands_on}
 use Rattle.iocm_history.specs.Journal.{Journal, is_in, is_past, journal_of}
-use Rattle.iocm_history.specs.Legal.{unless_held, unless_staged, activated, begun, advance_answer, commit_entry, abort_answer, unless_not_quiet, unless_stood_on, is_last_undone, show_answer, not_quiet_of, entry_of, may_lack_memory, IsRight}
+use Rattle.iocm_history.specs.Legal.{unless_held, unless_staged, activated, begun, advance_answer, commit_entry}
+use Rattle.iocm_history.specs.Legal.{abort_answer, unless_not_quiet, unless_stood_on, is_last_undone, show_answer}
+use Rattle.iocm_history.specs.Legal.{not_quiet_of, entry_of, may_lack_memory, IsRight}
 use Rattle.iocm_history.specs.StageLaws.{is_done}
 use Rattle.iocm_history.proofs.Striking.{entry}
 use Rattle.iocm_history.specs.UndoLaws.{undo_entry}
@@ -26,14 +30,16 @@ use Rattle.iocm_runs.specs.LaterChanges.{with_one_less}
 
 -- an entry that does nothing wherever it comes
 pub record IsIdle (e : Entry) : Type 0 where
-  pub entries : (opening : State) (g : History) → marked_entries opening (e ∷ g) ≡ entry nothing kept ∷ marked_entries opening g
+  pub entries : (opening : State) (g : History)
+      → marked_entries opening (e ∷ g) ≡ entry nothing kept ∷ marked_entries opening g
   pub journal : (g : History) → journal_of (e ∷ g) ≡ journal_of g
   pub same : with_one_less e ≡ e
   pub undone : is_done e.call e.answer ≡ false
 
 pub data Comes (opening : State) (h : History) (e : Entry) : Type 0 where
   idles : IsIdle e → Comes opening h e
-  steps : (x : SubId) (made : Step) → e ≡ plain_entry (at x made) (answer_in (state_at opening h) x made) → Comes opening h e
+  steps : (x : SubId) (made : Step) → e ≡ plain_entry (at x made) (answer_in (state_at opening h) x made)
+      → Comes opening h e
   changes : (k : ℕ) → e.answer ≡ answers.Changed k → is_done e.call e.answer ≡ false → Comes opening h e
   undoes : (k : ℕ) → e ≡ undo_entry k → Comes opening h e
   redoes : (k : ℕ) → e ≡ redo_entry k → Comes opening h e
@@ -90,11 +96,13 @@ module _ (opening : State) (h : History) where
   refused_comes : (c : Call) (why : Refused) → is_step_call c ≡ false → MayCome (plain_entry c (answers.Refused why))
   refused_comes c why none = idles (idle_refused c why none)
 
-  step_comes : (x : SubId) (made : Step) (held : Bool) → MayCome (plain_entry (at x made) (unless_held held (answer_in s x made)))
+  step_comes : (x : SubId) (made : Step) (held : Bool)
+      → MayCome (plain_entry (at x made) (unless_held held (answer_in s x made)))
   step_comes x made true = idles (idle_held x made)
   step_comes x made false = steps x made refl
 
-  activation_comes : (p : ChangeTree) (g : Option Stage) (k : ℕ) (o : Outcome) → MayCome (unless_staged g (activate p) (activated p k s o))
+  activation_comes : (p : ChangeTree) (g : Option Stage) (k : ℕ) (o : Outcome)
+      → MayCome (unless_staged g (activate p) (activated p k s o))
   activation_comes p (Some g) k o = refused_comes (activate p) _ refl
   activation_comes p None k (Ok r) = changes k refl refl
   activation_comes p None k (Err why) = refused_comes (activate p) why refl
@@ -117,7 +125,9 @@ module _ (opening : State) (h : History) where
   abort_comes None = refused_comes abort _ refl
 
   undo_comes : (n : ℕ) (g : Option Stage) (here : Bool) (on : Option ℕ) (quiet : Option SubId) (why : Refused)
-      → MayCome (unless_staged g (undo n) (plain_entry (undo n) (cond here (unless_stood_on on (unless_not_quiet quiet (answers.Undone n))) (answers.Refused why))))
+      → MayCome (unless_staged g (undo n)
+      (plain_entry (undo n) (cond here (unless_stood_on on (unless_not_quiet quiet (answers.Undone n)))
+      (answers.Refused why))))
   undo_comes n (Some g) here on quiet why = refused_comes (undo n) _ refl
   undo_comes n None true (Some m) quiet why = refused_comes (undo n) _ refl
   undo_comes n None true None (Some x) why = refused_comes (undo n) _ refl
@@ -150,7 +160,8 @@ module _ (opening : State) (h : History) where
   called_comes commit = commit_comes a.stage (b.count + 1)
   called_comes abort = abort_comes a.stage
   called_comes (undo n) = undo_comes n a.stage (is_in n b.standing) (stands_on n a.entries s) (not_quiet_of n s a) _
-  called_comes (redo n) = redo_comes n a.stage (is_last_undone n b.undone) (is_in n b.undone) (is_past n b) (not_quiet_of n s a) _ _ _
+  called_comes (redo n) = redo_comes n a.stage (is_last_undone n b.undone) (is_in n b.undone) (is_past n b)
+      (not_quiet_of n s a) _ _ _
   called_comes show = show_comes a.stage
 
   no_step : (c : Call) → may_lack_memory s b a c ≡ true → is_step_call c ≡ false

@@ -1,5 +1,6 @@
 -- The run without an undo and its redo is a run, where only steps came between them.
-use Rattle.std.proofs.Common.{◌≡◌, ℕ, Bool, true, false, cond, ◌&&◌, not, [], ◌∷◌, ◌++◌, List, Option, Some, refl, sym, ap, ◌∙◌}
+use Rattle.std.proofs.Common.{◌≡◌, ℕ, Bool, true, false, cond, ◌&&◌, not, [], ◌∷◌, ◌++◌, List, Option, Some, refl, sym}
+use Rattle.std.proofs.Common.{ap, ◌∙◌}
 use Rattle.std.proofs.lemmas.Bool.{not-true, or_parts, or_from}
 use Rattle.std.specs.List.{list_any}
 use Rattle.std.specs.FinMap.{get}
@@ -21,7 +22,8 @@ use Rattle.iocm_history.specs.InUse.{IsInUse}
 use Rattle.iocm_history.specs.StageLaws.{is_done}
 use Rattle.iocm_history.specs.UndoLaws.{undo_entry}
 use Rattle.iocm_history.specs.RedoLaws.{redo_entry, undoes_or_redoes, IsRedone}
-use Rattle.iocm_history.proofs.OneCell.{Cell, at_key, at_number, at_subchannel, of_record, of_device, of_live, read, is_one_of, read_values, same_store, state_of_store, altered_cells, live_read}
+use Rattle.iocm_history.proofs.OneCell.{Cell, at_key, at_number, at_subchannel, of_record, of_device, of_live, read}
+use Rattle.iocm_history.proofs.OneCell.{is_one_of, read_values, same_store, state_of_store, altered_cells, live_read}
 use Rattle.iocm_history.proofs.Numbers.{in_front_again}
 use Rattle.iocm_history.proofs.Standing.{IsStanding, standing_change}
 use Rattle.iocm_history.proofs.Fitted.{IsTakenBack}
@@ -50,10 +52,12 @@ no_redo n answers.Aborted none = refl
 no_redo n (answers.Shown counts) none = refl
 no_redo n (answers.Refused why) none = refl
 
-none_of_it : (n : ℕ) (h : History) → list_any (λ (l : Entry). alters_changes l.answer) h ≡ false → list_any (λ (l : Entry). undoes_or_redoes n l.answer) h ≡ false
+none_of_it : (n : ℕ) (h : History) → list_any (λ (l : Entry). alters_changes l.answer) h ≡ false
+    → list_any (λ (l : Entry). undoes_or_redoes n l.answer) h ≡ false
 none_of_it n [] none = refl
 none_of_it n (l ∷ h) none =
-    let both = or_parts (alters_changes l.answer) _ none in or_from (undoes_or_redoes n l.answer) _ (no_redo n l.answer both.0) (none_of_it n h both.1)
+    let both = or_parts (alters_changes l.answer) _ none in
+    or_from (undoes_or_redoes n l.answer) _ (no_redo n l.answer both.0) (none_of_it n h both.1)
 
 same_journal : (answer : Answer) (b : Journal) → alters_changes answer ≡ false → journal_after answer b ≡ b
 same_journal (answers.Changed k) b none = cc
@@ -69,15 +73,19 @@ same_journal answers.Aborted b none = refl
 same_journal (answers.Shown counts) b none = refl
 same_journal (answers.Refused why) b none = refl
 
-journal_stays : (g since : History) → list_any (λ (l : Entry). alters_changes l.answer) since ≡ false → journal_of (since ++ g) ≡ journal_of g
+journal_stays : (g since : History) → list_any (λ (l : Entry). alters_changes l.answer) since ≡ false
+    → journal_of (since ++ g) ≡ journal_of g
 journal_stays g [] none = refl
 journal_stays g (l ∷ since) none =
-    let both = or_parts (alters_changes l.answer) _ none in same_journal l.answer (journal_of (since ++ g)) both.0 ∙ journal_stays g since both.1
+    let both = or_parts (alters_changes l.answer) _ none in
+    same_journal l.answer (journal_of (since ++ g)) both.0 ∙ journal_stays g since both.1
 
-journal_left : (xs : List SubId) (g since : History) → list_any (λ (l : Entry). alters_changes l.answer) since ≡ false → journal_of (steps_off xs since ++ g) ≡ journal_of g
+journal_left : (xs : List SubId) (g since : History) → list_any (λ (l : Entry). alters_changes l.answer) since ≡ false
+    → journal_of (steps_off xs since ++ g) ≡ journal_of g
 journal_left xs g [] none = refl
 journal_left xs g (l ∷ since) none =
-    let both = or_parts (alters_changes l.answer) _ none in by both.0 (is_done l.call l.answer && not (is_at xs l.call)) (journal_left xs g since both.1)
+    let both = or_parts (alters_changes l.answer) _ none in
+    by both.0 (is_done l.call l.answer && not (is_at xs l.call)) (journal_left xs g since both.1)
   where
     by : alters_changes l.answer ≡ false → (b : Bool) → journal_of (steps_off xs since ++ g) ≡ journal_of g
         → journal_of (cond b (l ∷ steps_off xs since) (steps_off xs since) ++ g) ≡ journal_of g
@@ -92,7 +100,8 @@ device_inner x y e = cc
 
 -- ---- an undo and its redo
 
-module _ (opening : State) (h : History) (n : ℕ) (used : IsInUse opening) (legal_undo : IsLegal opening (undo_entry n ∷ h)) where
+module _ (opening : State) (h : History) (n : ℕ) (used : IsInUse opening)
+    (legal_undo : IsLegal opening (undo_entry n ∷ h)) where
   abbrev m : Store
   m = store_of opening
 
@@ -132,11 +141,13 @@ module _ (opening : State) (h : History) (n : ℕ) (used : IsInUse opening) (leg
 
   t_is : t ≡ taken.state
   unfolding account
-  t_is = ap state_of (undo_leaves m (journal_of h) a i n may.here may.none) ∙ state_of_store taken.state taken.used.sound
+  t_is = ap state_of (undo_leaves m (journal_of h) a i n may.here may.none)
+      ∙ state_of_store taken.state taken.used.sound
 
   -- a cell that the change didn't write is as before the undo
   not_written : (q : Cell) → is_one_of (cells_of_change c) q ≡ false → read (store_of t) q ≡ read (store_of r) q
-  not_written q off = ap (λ z. read z q) (undo_puts_the_cells_back opening h n c used legal_undo there) ∙ read_values c.from (cells_of_change c) (store_of r) q
+  not_written q off = ap (λ z. read z q) (undo_puts_the_cells_back opening h n c used legal_undo there)
+      ∙ read_values c.from (cells_of_change c) (store_of r) q
       ∙ ap (λ b. cond b (read (store_of c.from) q) (read (store_of r) q)) off
 
   starts : StartsBeside opening xs (undo_entry n ∷ h) h
@@ -144,8 +155,10 @@ module _ (opening : State) (h : History) (n : ℕ) (used : IsInUse opening) (leg
     used = used;
     legal_with = legal_undo;
     legal_without = legal_undo.1;
-    sees = λ x off. ap (λ z. seen_in z x) t_is ∙ taken.seen x (ap (is_among x) (sym xs_is) ∙ off) ∙ ap (λ z. seen_in z x) (sym (level_is m (journal_of h) a i));
-    off = λ x off. live_read (store_of t) (store_of r) x (not_written (at_subchannel x) (sym (altered_cells c x) ∙ ap (is_among x) (sym xs_is) ∙ off));
+    sees = λ x off. ap (λ z. seen_in z x) t_is ∙ taken.seen x (ap (is_among x) (sym xs_is) ∙ off)
+        ∙ ap (λ z. seen_in z x) (sym (level_is m (journal_of h) a i));
+    off = λ x off. live_read (store_of t) (store_of r) x
+        (not_written (at_subchannel x) (sym (altered_cells c x) ∙ ap (is_among x) (sym xs_is) ∙ off));
     held = λ x off. ap (is_held x) may.idle;
   }
 
@@ -174,21 +187,28 @@ module _ (opening : State) (h : History) (n : ℕ) (used : IsInUse opening) (leg
     redone : IsRedone opening h between n
     redone = record { used = used; legal = legal; first = none_of_it n between alone }
 
-    by : (q : Cell) → cond (is_one_of (cells_of_change c) q) (read (store_of r) q) (read (store_of s) q) ≡ read (store_of u) q
-    by (at_key k) = pick of_record (is_one_of (cells_of_change c) (at_key k)) (get r.config k) (get s.config k) (get u.config k)
+    by : (q : Cell) → cond (is_one_of (cells_of_change c) q) (read (store_of r) q) (read (store_of s) q)
+        ≡ read (store_of u) q
+    by (at_key k) = pick of_record (is_one_of (cells_of_change c) (at_key k)) (get r.config k) (get s.config k)
+        (get u.config k)
         (λ on. ap (λ z. get z k) (sym b.beside.config_without))
-        (λ off. ap (λ z. get z k) b.beside.config_with ∙ record_inner (get t.config k) (get r.config k) (not_written (at_key k) off)
+        (λ off. ap (λ z. get z k) b.beside.config_with
+        ∙ record_inner (get t.config k) (get r.config k) (not_written (at_key k) off)
         ∙ ap (λ z. get z k) (sym b.beside.config_without))
-    by (at_number k) = pick of_device (is_one_of (cells_of_change c) (at_number k)) (get (cells_of r.numbers) k) (get (cells_of s.numbers) k) (get (cells_of u.numbers) k)
+    by (at_number k) = pick of_device (is_one_of (cells_of_change c) (at_number k)) (get (cells_of r.numbers) k)
+        (get (cells_of s.numbers) k) (get (cells_of u.numbers) k)
         (λ on. ap (λ z. get (cells_of z) k) (sym b.beside.numbers_without))
         (λ off. ap (λ z. get (cells_of z) k) b.beside.numbers_with
-        ∙ device_inner (get (cells_of t.numbers) k) (get (cells_of r.numbers) k) (not_written (at_number k) off) ∙ ap (λ z. get (cells_of z) k) (sym b.beside.numbers_without))
-    by (at_subchannel x) = pick of_live (is_among x (cells_of_change c).subchannels) (get r.lives x) (get s.lives x) (get u.lives x)
+        ∙ device_inner (get (cells_of t.numbers) k) (get (cells_of r.numbers) k) (not_written (at_number k) off)
+        ∙ ap (λ z. get (cells_of z) k) (sym b.beside.numbers_without))
+    by (at_subchannel x) = pick of_live (is_among x (cells_of_change c).subchannels) (get r.lives x) (get s.lives x)
+        (get u.lives x)
         (λ on. sym (b.beside.on x (ap (is_among x) xs_is ∙ altered_cells c x ∙ on)))
         (λ off. b.beside.off x (ap (is_among x) xs_is ∙ altered_cells c x ∙ off))
 
     same : store_of v ≡ store_of u
-    same = redo_puts_the_cells_forward opening h between n c redone there ∙ same_store _ _ (λ q. read_values r (cells_of_change c) (store_of s) q ∙ by q)
+    same = redo_puts_the_cells_forward opening h between n c redone there
+        ∙ same_store _ _ (λ q. read_values r (cells_of_change c) (store_of s) q ∙ by q)
 
     none_undone : is_in n (journal_of h).undone ≡ false
     none_undone = not_undone m n (journal_of h).undone a.entries (journal_of h).standing may.here i.chain
@@ -196,14 +216,18 @@ module _ (opening : State) (h : History) (n : ℕ) (used : IsInUse opening) (leg
     pub both_gone : IsRunWithoutBoth opening h between n
     both_gone = record {
       legal = b.legal;
-      state = sym (state_of_store v (states_stay_in_use opening (redo_entry n ∷ before) used legal).sound) ∙ ap state_of same
+      state = sym (state_of_store v (states_stay_in_use opening (redo_entry n ∷ before) used legal).sound)
+          ∙ ap state_of same
           ∙ state_of_store u (states_stay_in_use opening left used b.legal).sound;
       standing = λ k. ap (λ (j : Journal). is_in k (n ∷ j.standing)) (journal_stays (undo_entry n ∷ h) between alone)
-          ∙ in_front_again n k (journal_of h).standing may.here ∙ ap (λ (j : Journal). is_in k j.standing) (sym (journal_left xs h between alone));
+          ∙ in_front_again n k (journal_of h).standing may.here
+          ∙ ap (λ (j : Journal). is_in k j.standing) (sym (journal_left xs h between alone));
       undone = ap (λ (j : Journal). without n j.undone) (journal_stays (undo_entry n ∷ h) between alone)
-          ∙ without_first n (journal_of h).undone none_undone ∙ ap (λ (j : Journal). j.undone) (sym (journal_left xs h between alone));
+          ∙ without_first n (journal_of h).undone none_undone
+          ∙ ap (λ (j : Journal). j.undone) (sym (journal_left xs h between alone));
     }
 
 pub redone_runs_are_runs : RedoneRunsAreRuns
 redone_runs_are_runs opening h between n r =
-    both_gone opening h n r.used (legal_before opening between (undo_entry n ∷ h) r.legal.1) between r.legal (not-true _ r.alone)
+    both_gone opening h n r.used (legal_before opening between (undo_entry n ∷ h) r.legal.1) between r.legal
+    (not-true _ r.alone)

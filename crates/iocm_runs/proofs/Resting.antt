@@ -1,5 +1,6 @@
 -- An entry after which the same changes count leaves the state, or is a step that was done.
-use Rattle.std.proofs.Common.{◌≡◌, inl, inr, ℕ, ◌+◌, Bool, true, false, cond, ◌∷◌, Option, Some, None, Ok, Err, refl, sym, subst}
+use Rattle.std.proofs.Common.{◌≡◌, inl, inr, ℕ, ◌+◌, Bool, true, false, cond, ◌∷◌, Option, Some, None, Ok, Err, refl}
+use Rattle.std.proofs.Common.{sym, subst}
 use Rattle.iocm_types.specs.declared.answer.Answer.TheVariants as answers
 use Rattle.iocm_types.specs.declared.refused.At.TheVariants.{Nothing}
 use Rattle.iocm_types.specs.declared.refused.Refused.{Refused}
@@ -10,21 +11,26 @@ use Rattle.iocm_model.specs.Operation.Step.{Step, answer_in}
 use Rattle.iocm_model.specs.Change.Refusal.{refusal_at}
 use Rattle.iocm_model.specs.Change.Tree.{ChangeTree}
 use Rattle.iocm_model.specs.Change.Meaning.{Outcome, meaning}
-use Rattle.iocm_history.specs.Entry.{Call, at, activate, begin, advance, commit, abort, undo, redo, show, Entry, History, plain_entry}
+use Rattle.iocm_history.specs.Entry.{Call, at, activate, begin, advance, commit, abort, undo, redo, show, Entry}
+use Rattle.iocm_history.specs.Entry.{History, plain_entry}
 use Rattle.iocm_history.specs.Stage.{Stage, is_held}
 use Rattle.iocm_history.specs.MarkedEntry.{nothing, kept}
 use Rattle.iocm_history.specs.Account.{Account, account, marked_entries, state_at}
 use Rattle.iocm_history.specs.StandsOn.{stands_on}
 use Rattle.iocm_history.specs.Journal.{Journal, is_in, is_past, journal_of}
-use Rattle.iocm_history.specs.Legal.{unless_held, unless_staged, activated, begun, advance_answer, commit_entry, abort_answer, unless_not_quiet, unless_stood_on, is_last_undone, show_answer, not_quiet_of, entry_of, may_lack_memory, IsRight}
+use Rattle.iocm_history.specs.Legal.{unless_held, unless_staged, activated, begun, advance_answer, commit_entry}
+use Rattle.iocm_history.specs.Legal.{abort_answer, unless_not_quiet, unless_stood_on, is_last_undone, show_answer}
+use Rattle.iocm_history.specs.Legal.{not_quiet_of, entry_of, may_lack_memory, IsRight}
 use Rattle.iocm_history.specs.StageLaws.{is_done}
 use Rattle.iocm_history.proofs.Striking.{entry}
 use Rattle.iocm_runs.specs.RunWithout.{alters_changes}
 
 -- an entry that leaves the state and is no step that was done, or such a step
 pub data Rests (opening : State) (h : History) (e : Entry) : Type 0 where
-  rests : marked_entries opening (e ∷ h) ≡ entry nothing kept ∷ marked_entries opening h → is_done e.call e.answer ≡ false → Rests opening h e
-  steps : (x : SubId) (done : Step) → e ≡ plain_entry (at x done) (answer_in (state_at opening h) x done) → Rests opening h e
+  rests : marked_entries opening (e ∷ h) ≡ entry nothing kept ∷ marked_entries opening h
+      → is_done e.call e.answer ≡ false → Rests opening h e
+  steps : (x : SubId) (done : Step) → e ≡ plain_entry (at x done) (answer_in (state_at opening h) x done)
+      → Rests opening h e
 
 module _ (opening : State) (h : History) where
   abbrev a : Account
@@ -39,12 +45,14 @@ module _ (opening : State) (h : History) where
   abbrev MayRest : Entry → Type 0
   MayRest e = alters_changes e.answer ≡ false → Rests opening h e
 
-  step_rests : (x : SubId) (done : Step) (held : Bool) → MayRest (plain_entry (at x done) (unless_held held (answer_in s x done)))
+  step_rests : (x : SubId) (done : Step) (held : Bool)
+      → MayRest (plain_entry (at x done) (unless_held held (answer_in s x done)))
   unfolding account
   step_rests x done true same = rests refl refl
   step_rests x done false same = steps x done refl
 
-  activation_rests : (p : ChangeTree) (g : Option Stage) (k : ℕ) (o : Outcome) → MayRest (unless_staged g (activate p) (activated p k s o))
+  activation_rests : (p : ChangeTree) (g : Option Stage) (k : ℕ) (o : Outcome)
+      → MayRest (unless_staged g (activate p) (activated p k s o))
   unfolding account
   activation_rests p (Some g) k o same = rests refl refl
   activation_rests p None k (Ok r) same = cc
@@ -72,7 +80,9 @@ module _ (opening : State) (h : History) where
   abort_rests None same = rests refl refl
 
   undo_rests : (n : ℕ) (g : Option Stage) (here : Bool) (on : Option ℕ) (quiet : Option SubId) (why : Refused)
-      → MayRest (unless_staged g (undo n) (plain_entry (undo n) (cond here (unless_stood_on on (unless_not_quiet quiet (answers.Undone n))) (answers.Refused why))))
+      → MayRest (unless_staged g (undo n)
+      (plain_entry (undo n) (cond here (unless_stood_on on (unless_not_quiet quiet (answers.Undone n)))
+      (answers.Refused why))))
   unfolding account
   undo_rests n (Some g) here on quiet why same = rests refl refl
   undo_rests n None true (Some m) quiet why same = rests refl refl
@@ -104,10 +114,12 @@ module _ (opening : State) (h : History) where
   called_rests commit = commit_rests a.stage (b.count + 1)
   called_rests abort = abort_rests a.stage
   called_rests (undo n) = undo_rests n a.stage (is_in n b.standing) (stands_on n a.entries s) (not_quiet_of n s a) _
-  called_rests (redo n) = redo_rests n a.stage (is_last_undone n b.undone) (is_in n b.undone) (is_past n b) (not_quiet_of n s a) _ _ _
+  called_rests (redo n) = redo_rests n a.stage (is_last_undone n b.undone) (is_in n b.undone) (is_past n b)
+      (not_quiet_of n s a) _ _ _
   called_rests show = show_rests a.stage
 
-  lack_rests : (c : Call) (why : Refused) → may_lack_memory s b a c ≡ true → MayRest (plain_entry c (answers.Refused why))
+  lack_rests : (c : Call) (why : Refused) → may_lack_memory s b a c ≡ true
+      → MayRest (plain_entry c (answers.Refused why))
   unfolding account
   lack_rests (at x done) why may same = cc
   lack_rests (activate p) why may same = rests refl refl

@@ -19,7 +19,8 @@ use Rattle.iocm_history.specs.Journal.{journal_of}
 use Rattle.iocm_history.specs.Legal.{IsLegal}
 use Rattle.iocm_history.specs.UndoLaws.{undo_entry}
 use Rattle.iocm_history.specs.InUse.{IsInUse}
-use Rattle.iocm_history.proofs.OneCell.{Cell, at_key, at_number, at_subchannel, of_record, of_device, of_live, read, is_one_of, read_values, same_store, state_of_store, altered_cells}
+use Rattle.iocm_history.proofs.OneCell.{Cell, at_key, at_number, at_subchannel, of_record, of_device, of_live, read}
+use Rattle.iocm_history.proofs.OneCell.{is_one_of, read_values, same_store, state_of_store, altered_cells}
 use Rattle.iocm_history.proofs.Passing.{change_here}
 use Rattle.iocm_history.proofs.Level.{state_changed, changed_store, state_changed_in_use}
 use Rattle.iocm_history.proofs.Along.{settled}
@@ -31,7 +32,8 @@ use Rattle.iocm_runs.specs.UndoneRun.{IsRunWithout, UndoneRunsAreRuns}
 use Rattle.iocm_runs.proofs.Accepted.{HasAccepted, has_accepted}
 use Rattle.iocm_runs.proofs.Beside.{pick, StartsBeside, IsBeside, along}
 
-module _ (opening : State) (h : History) (e : Entry) (n : ℕ) (used : IsInUse opening) (legal_e : IsLegal opening (e ∷ h)) (accepted : HasAccepted opening h e n) where
+module _ (opening : State) (h : History) (e : Entry) (n : ℕ) (used : IsInUse opening)
+    (legal_e : IsLegal opening (e ∷ h)) (accepted : HasAccepted opening h e n) where
   abbrev c : Change
   c = accepted.change
 
@@ -62,7 +64,8 @@ module _ (opening : State) (h : History) (e : Entry) (n : ℕ) (used : IsInUse o
       ap (λ (a : Account). state_of (replay (store_of opening) a.entries)) accepted.entries
       ∙ ap (λ m. state_of (store_with (effect_of_change c) m))
       (store_now (store_of opening) (journal_of h) (account opening h) (settled opening h used legal_e.1))
-      ∙ ap state_of (changed_store c r accepted.ready r_used) ∙ state_of_store (state_changed c r) (state_changed_in_use c r accepted.ready r_used).sound
+      ∙ ap state_of (changed_store c r accepted.ready r_used)
+      ∙ state_of_store (state_changed c r) (state_changed_in_use c r accepted.ready r_used).sound
 
   not_written : (x : SubId) → is_among x xs ≡ false → is_among x (cells_of_change c).subchannels ≡ false
   not_written x off = sym (altered_cells c x) ∙ ap (is_among x) (sym xs_is) ∙ off
@@ -78,14 +81,16 @@ module _ (opening : State) (h : History) (e : Entry) (n : ℕ) (used : IsInUse o
     legal_without = legal_e.1;
     sees = sees;
     off = λ x off. ap (λ z. get z.lives x) t_is
-        ∙ get_with_cells_as sub_ids_total sub_ids_exact (state_after_all c.edits c.from).lives (cells_of_change c).subchannels r.lives x
+        ∙ get_with_cells_as sub_ids_total sub_ids_exact (state_after_all c.edits c.from).lives
+        (cells_of_change c).subchannels r.lives x
         ∙ ap (λ b. cond b (get (state_after_all c.edits c.from).lives x) (get r.lives x)) (not_written x off);
     held = λ x off. accepted.held x (ap (is_among x) (sym xs_is) ∙ off);
   }
 
   -- ---- the undo
 
-  undone : (since : History) → IsLegal opening (undo_entry n ∷ with_it since) → list_any (λ (l : Entry). alters_changes l.answer) since ≡ false
+  undone : (since : History) → IsLegal opening (undo_entry n ∷ with_it since)
+      → list_any (λ (l : Entry). alters_changes l.answer) since ≡ false
       → IsRunWithout opening h since e n
   undone since legal none = record {
     legal = b.legal;
@@ -96,7 +101,8 @@ module _ (opening : State) (h : History) (e : Entry) (n : ℕ) (used : IsInUse o
       b = along opening xs (e ∷ h) h starts since legal.1 none
 
       there : change_at n (marked_entries opening (with_it since)) ≡ Some c
-      there = b.there n ∙ ap (λ (a : Account). change_at n a.entries) accepted.entries ∙ change_here n c (marked_entries opening h)
+      there = b.there n ∙ ap (λ (a : Account). change_at n a.entries) accepted.entries
+          ∙ change_here n c (marked_entries opening h)
 
       s : State
       s = state_at opening (with_it since)
@@ -113,16 +119,22 @@ module _ (opening : State) (h : History) (e : Entry) (n : ℕ) (used : IsInUse o
       u_used : IsInUse u
       u_used = states_stay_in_use opening (without_it since) used b.legal
 
-      by : (q : Cell) → cond (is_one_of (cells_of_change c) q) (read (store_of c.from) q) (read (store_of s) q) ≡ read (store_of u) q
-      by (at_key k) = pick of_record (is_one_of (cells_of_change c) (at_key k)) (get c.from.config k) (get s.config k) (get u.config k)
+      by : (q : Cell) → cond (is_one_of (cells_of_change c) q) (read (store_of c.from) q) (read (store_of s) q)
+          ≡ read (store_of u) q
+      by (at_key k) = pick of_record (is_one_of (cells_of_change c) (at_key k)) (get c.from.config k) (get s.config k)
+          (get u.config k)
           (λ on. ap (λ z. get z k) (sym accepted.ready.config ∙ sym b.beside.config_without))
-          (λ off. ap (λ z. get z k) (b.beside.config_with ∙ ap (λ (z : State). z.config) t_is) ∙ off_keys c.edits c.from k off
+          (λ off. ap (λ z. get z k) (b.beside.config_with ∙ ap (λ (z : State). z.config) t_is)
+          ∙ off_keys c.edits c.from k off
           ∙ ap (λ z. get z k) (sym accepted.ready.config ∙ sym b.beside.config_without))
-      by (at_number k) = pick of_device (is_one_of (cells_of_change c) (at_number k)) (get (cells_of c.from.numbers) k) (get (cells_of s.numbers) k) (get (cells_of u.numbers) k)
+      by (at_number k) = pick of_device (is_one_of (cells_of_change c) (at_number k)) (get (cells_of c.from.numbers) k)
+          (get (cells_of s.numbers) k) (get (cells_of u.numbers) k)
           (λ on. ap (λ z. get (cells_of z) k) (sym accepted.ready.numbers ∙ sym b.beside.numbers_without))
-          (λ off. ap (λ z. get (cells_of z) k) (b.beside.numbers_with ∙ ap (λ (z : State). z.numbers) t_is) ∙ off_cells c.edits c.from k off
+          (λ off. ap (λ z. get (cells_of z) k) (b.beside.numbers_with ∙ ap (λ (z : State). z.numbers) t_is)
+          ∙ off_cells c.edits c.from k off
           ∙ ap (λ z. get (cells_of z) k) (sym accepted.ready.numbers ∙ sym b.beside.numbers_without))
-      by (at_subchannel x) = pick of_live (is_among x (cells_of_change c).subchannels) (get c.from.lives x) (get s.lives x) (get u.lives x)
+      by (at_subchannel x) = pick of_live (is_among x (cells_of_change c).subchannels) (get c.from.lives x)
+          (get s.lives x) (get u.lives x)
           (λ on. let here : is_among x (altered c) ≡ true = altered_cells c x ∙ on in
           sym (accepted.ready.lives x here) ∙ sym (b.beside.on x (ap (is_among x) xs_is ∙ here)))
           (λ off. b.beside.off x (ap (is_among x) xs_is ∙ altered_cells c x ∙ off))
@@ -134,4 +146,5 @@ module _ (opening : State) (h : History) (e : Entry) (n : ℕ) (used : IsInUse o
 pub undone_runs_are_runs : UndoneRunsAreRuns
 undone_runs_are_runs opening h since e n r =
     let legal_e : IsLegal opening (e ∷ h) = legal_before opening since (e ∷ h) r.legal.1 in
-    undone opening h e n r.used legal_e (has_accepted opening h r.used legal_e.1 e legal_e.0 n r.accepted) since r.legal (not-true _ r.alone)
+    undone opening h e n r.used legal_e (has_accepted opening h r.used legal_e.1 e legal_e.0 n r.accepted) since r.legal
+    (not-true _ r.alone)

@@ -7,7 +7,7 @@ use Rattle.iocm_script.specs.declared.line.Line as code
 use Rattle.iocm_script.specs.declared.line.Spoken.{Spoken}
 use Rattle.iocm_script.specs.declared.line.Spoken.TheVariants.{Nothing, Sync, Line}
 use Rattle.iocm_script.specs.Lines.{is_sync}
-use Rattle.iocm_script.specs.Scripts.{HaveOneRoundMore, KeepLines, Rounds, line_said}
+use Rattle.iocm_script.specs.Scripts.{HaveOneRoundMore, KeepLines, line_said}
 
 abbrev flat : List (List Spoken) → List code.Line
 flat pieces = flat_map (λ round. round) (map (filter_map line_said) pieces)

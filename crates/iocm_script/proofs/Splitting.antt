@@ -20,9 +20,11 @@ is_not false e = refl
 
 unblank : (w : List ℕ) → is_word w ≡ true → All (λ b. is_blank b ≡ false) w
 unblank w is k d within =
-    is_not _ (AllPass-from_list_all (λ b. not (is_blank b)) w (both_right (not (is_empty w)) (list_all (λ b. not (is_blank b)) w) is) k d within)
+    is_not _ (AllPass-from_list_all (λ b. not (is_blank b)) w
+    (both_right (not (is_empty w)) (list_all (λ b. not (is_blank b)) w) is) k d within)
 
-kept : (w : List ℕ) (rest : List (List ℕ)) → is_word w ≡ true → filter (λ piece. not (is_empty piece)) (w ∷ rest) ≡ w ∷ filter (λ piece. not (is_empty piece)) rest
+kept : (w : List ℕ) (rest : List (List ℕ)) → is_word w ≡ true
+    → filter (λ piece. not (is_empty piece)) (w ∷ rest) ≡ w ∷ filter (λ piece. not (is_empty piece)) rest
 kept w rest is = rw (both_left (not (is_empty w)) (list_all (λ b. not (is_blank b)) w) is) refl
 
 pub words_again : (words : List (List ℕ)) → list_all is_word words ≡ true → words_of (join_with_byte 32 words) ≡ words
@@ -33,6 +35,7 @@ words_again (w ∷ []) is =
 words_again (w ∷ v ∷ more) is =
     let word = both_left (is_word w) (list_all is_word (v ∷ more)) is in
     let others = both_right (is_word w) (list_all is_word (v ∷ more)) is in
-    ap (filter (λ piece. not (is_empty piece))) (slice_split_at is_blank w 32 (join_with_byte 32 (v ∷ more)) (unblank w word) refl)
+    ap (filter (λ piece. not (is_empty piece)))
+    (slice_split_at is_blank w 32 (join_with_byte 32 (v ∷ more)) (unblank w word) refl)
     ∙ kept w (slice_split is_blank (join_with_byte 32 (v ∷ more))) word
     ∙ ap (λ ws. w ∷ ws) (words_again (v ∷ more) others)

@@ -20,7 +20,8 @@ here x (Some l) met rest is = by (is_not_quiet (Some l))
     by true = refl
     by false = is
 
-pub first_met : (lives : Lives) (changes : List ViewChange) → first_busy (lives_met lives changes) ≡ first_not_quiet lives (map (λ (ch : ViewChange). ch.subchannel) changes)
+pub first_met : (lives : Lives) (changes : List ViewChange)
+    → first_busy (lives_met lives changes) ≡ first_not_quiet lives (map (λ (ch : ViewChange). ch.subchannel) changes)
 first_met lives [] = refl
 first_met lives (ch ∷ changes) = here ch.subchannel (get lives ch.subchannel) (lives_met lives changes)
     (first_not_quiet lives (map (λ (c : ViewChange). c.subchannel) changes)) (first_met lives changes)

@@ -1,5 +1,6 @@
 -- The number cells of a channel subsystem stand together, from its first one on.
-use Rattle.std.proofs.Common.{◌≡◌, ◌==◌, ◌<◌, ◌≤◌, ℕ, Bool, true, false, cond, nat_le, List, [], ◌∷◌, ◌++◌, refl, sym, ap, ◌∙◌, arith}
+use Rattle.std.proofs.Common.{◌≡◌, ◌==◌, ◌<◌, ◌≤◌, ℕ, Bool, true, false, cond, nat_le, List, [], ◌∷◌, ◌++◌, refl, sym}
+use Rattle.std.proofs.Common.{ap, ◌∙◌, arith}
 use Rattle.std.proofs.lemmas.Bool.Decides.{nat_tests}
 use Rattle.std.specs.Cmp.{ranks}
 use Rattle.std.specs.FinMap.{FinMap, entries, entries_sorted}
@@ -56,10 +57,14 @@ module _ (css : ℕ) where
     where
       by : (b : Bool) → nat_le css e.0.css ≡ b → cells_in css (cells_from css es) ≡ cells_in css es
           → cells_in css (cond b (e ∷ cells_from css es) (cells_from css es)) ≡ cells_in css (e ∷ es)
-      by true is rest = cells_in-more css e (cells_from css es) ∙ ap (λ xs. cells_in css (e ∷ []) ++ xs) rest ∙ sym (cells_in-more css e es)
-      by false is rest = rest ∙ ap (λ xs. xs ++ cells_in css es) (sym (other_css css e (grind (arith, nat_tests)))) ∙ sym (cells_in-more css e es)
+      by true is rest = cells_in-more css e (cells_from css es) ∙ ap (λ xs. cells_in css (e ∷ []) ++ xs) rest
+          ∙ sym (cells_in-more css e es)
+      by false is rest = rest ∙ ap (λ xs. xs ++ cells_in css es) (sym (other_css css e (grind (arith, nat_tests))))
+          ∙ sym (cells_in-more css e es)
 
   pub cells_together : (m : FinMap cell_cmp ℕ) → StandTogether IsPast (cells_in css) (cells_from css (entries m))
-  cells_together m = together cell_cmp (cells_in css) refl (cells_in-more css) IsFrom IsPast (λ e from past. past) past_rises (cells_from css (entries m))
+  cells_together m = together cell_cmp (cells_in css) refl (cells_in-more css) IsFrom IsPast (λ e from past. past)
+      past_rises (cells_from css (entries m))
       (is_sorted-where_key cell_cmp (λ c. nat_le css c.css) (entries m) (entries_sorted m))
-      (of_passing IsFrom (λ e. nat_le css e.0.css) (entries m) (of_any (λ e. nat_le css e.0.css ≡ true → IsFrom e) (λ e is. is) (entries m)))
+      (of_passing IsFrom (λ e. nat_le css e.0.css) (entries m)
+      (of_any (λ e. nat_le css e.0.css ≡ true → IsFrom e) (λ e is. is) (entries m)))

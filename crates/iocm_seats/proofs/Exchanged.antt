@@ -1,6 +1,7 @@
 -- Seats of which those that are altered are exchanged: they show what is seen now, and have the
 -- live records after the edit.
-use Rattle.std.proofs.Common.{◌≡◌, Bool, true, false, cond, not, ◌&&◌, List, [], ◌∷◌, Option, Some, None, is_some, T, refl, sym, ap, ◌∙◌}
+use Rattle.std.proofs.Common.{◌≡◌, Bool, true, false, cond, not, ◌&&◌, List, [], ◌∷◌, Option, Some, None, is_some, T}
+use Rattle.std.proofs.Common.{refl, sym, ap, ◌∙◌}
 use Rattle.std.specs.List.{fold}
 use Rattle.std.specs.Option.{option_eq}
 use Rattle.std.specs.Ordering.{eq_by_cmp}
@@ -39,12 +40,15 @@ one_given x l None m q = by (eq_by_cmp sub_id_cmp q x)
     by false = refl
 one_given x l (Some v) m q = get-insert sub_ids_total m x (record { view = v; live = l }) q
 
-given_by : (w : Views) (row : SubId × Live) (rest : Option Live) (o : Option Seat) (q : SubId) (b : Bool) → eq_by_cmp sub_id_cmp q row.0 ≡ b
+given_by : (w : Views) (row : SubId × Live) (rest : Option Live) (o : Option Seat) (q : SubId) (b : Bool)
+    → eq_by_cmp sub_id_cmp q row.0 ≡ b
     → (b ≡ true → rest ≡ None)
-    → seat_with rest (get w q) (cond b (seat_with (Some row.1) (get w row.0) o) o) ≡ seat_with (cond b (Some row.1) rest) (get w q) o
+    → seat_with rest (get w q) (cond b (seat_with (Some row.1) (get w row.0) o) o)
+    ≡ seat_with (cond b (Some row.1) rest) (get w q) o
 given_by w row rest o q true tied none =
     let same : q ≡ row.0 = same_key sub_id_cmp sub_ids_exact q row.0 tied in
-    ap (λ r. seat_with r (get w q) (seat_with (Some row.1) (get w row.0) o)) (none refl) ∙ ap (λ z. seat_with (Some row.1) (get w z) o) (sym same)
+    ap (λ r. seat_with r (get w q) (seat_with (Some row.1) (get w row.0) o)) (none refl)
+    ∙ ap (λ z. seat_with (Some row.1) (get w z) o) (sym same)
 given_by w row rest o q false other none = refl
 
 get_given : (w : Views) (m : Seats) (rows : List (SubId × Live)) → T (is_sorted sub_id_cmp rows) → (q : SubId)
@@ -54,20 +58,25 @@ get_given w m (row ∷ rows) up q =
     get_given w (given w m row) rows (second_holds _ _ up) q
     ∙ ap (seat_with (find sub_id_cmp q rows) (get w q)) (one_given row.0 row.1 (get w row.0) m q)
     ∙ given_by w row (find sub_id_cmp q rows) (get m q) q (eq_by_cmp sub_id_cmp q row.0) refl
-    (λ tied. ap (λ k. find sub_id_cmp k rows) (same_key sub_id_cmp sub_ids_exact q row.0 tied) ∙ not_found sub_id_cmp row.0 rows (first_holds _ _ up))
+    (λ tied. ap (λ k. find sub_id_cmp k rows) (same_key sub_id_cmp sub_ids_exact q row.0 tied)
+    ∙ not_found sub_id_cmp row.0 rows (first_holds _ _ up))
 
 -- the seat of a subchannel once seats are exchanged
-seat_exchanged : (seats : Seats) (w : Views) (out : List SubId) (back : List (SubId × Live)) → T (is_sorted sub_id_cmp back) → (x : SubId)
-    → get (exchanged w seats out back) x ≡ seat_with (find sub_id_cmp x back) (get w x) (cond (is_among x out) None (get seats x))
+seat_exchanged : (seats : Seats) (w : Views) (out : List SubId) (back : List (SubId × Live))
+    → T (is_sorted sub_id_cmp back) → (x : SubId)
+    → get (exchanged w seats out back) x
+    ≡ seat_with (find sub_id_cmp x back) (get w x) (cond (is_among x out) None (get seats x))
 seat_exchanged seats w out back up x = get_given w (fold remove seats out) back up x
     ∙ ap (seat_with (find sub_id_cmp x back) (get w x)) (get_without sub_ids_total sub_ids_exact seats out x)
 
 -- at one subchannel: old its seat, new what is seen now, k the live record that is given
 module _ (old : Option Seat) where
   shown_at : (b : Bool) (new : Option View) (k : Option Live) (out : Bool) → option_eq same_view (view_in old) new ≡ b
-      → out ≡ (not b && is_some (view_in old)) → is_some k ≡ (not b && is_some new) → view_in (seat_with k new (cond out None old)) ≡ new
+      → out ≡ (not b && is_some (view_in old)) → is_some k ≡ (not b && is_some new)
+      → view_in (seat_with k new (cond out None old)) ≡ new
   shown_at true new k out same goes comes =
-      ap (λ (o : Option Live). view_in (seat_with o new (cond out None old))) (absent k comes) ∙ ap (λ t. view_in (cond t None old)) goes ∙ sight_is (view_in old) new same
+      ap (λ (o : Option Live). view_in (seat_with o new (cond out None old))) (absent k comes)
+      ∙ ap (λ t. view_in (cond t None old)) goes ∙ sight_is (view_in old) new same
   shown_at false None (Some l) out other goes comes = absurd (no comes)
     where
       no : true ≡ false → ⊥
@@ -87,7 +96,8 @@ module _ (old : Option Seat) where
       → out ≡ (not b && is_some (view_in old)) → is_some k ≡ (not b && is_some new)
       → live_in (seat_with k new (cond out None old)) ≡ left_at (view_in old) new k (live_in old)
   lived_at true new k out same goes comes =
-      ap (λ (o : Option Live). live_in (seat_with o new (cond out None old))) (absent k comes) ∙ ap (λ t. live_in (cond t None old)) goes
+      ap (λ (o : Option Live). live_in (seat_with o new (cond out None old))) (absent k comes)
+      ∙ ap (λ t. live_in (cond t None old)) goes
       ∙ sym (same_keeps (view_in old) new k (live_in old) same (both_there old))
   lived_at false None (Some l) out other goes comes = absurd (no comes)
     where
@@ -105,24 +115,33 @@ module _ (old : Option Seat) where
       no e = cc
 
 -- the live record that is given
-found_given : (back : List (SubId × Live)) → T (is_sorted sub_id_cmp back) → (x : SubId) → get (from_sorted {R = sub_id_cmp} back) x ≡ find sub_id_cmp x back
+found_given : (back : List (SubId × Live)) → T (is_sorted sub_id_cmp back) → (x : SubId)
+    → get (from_sorted {R = sub_id_cmp} back) x ≡ find sub_id_cmp x back
 found_given back up x = get-from_sorted sub_id_cmp back x up
 
-module _ (seats : Seats) (w : Views) (out : List SubId) (back : List (SubId × Live)) (h : IsExchange (views_seated seats) w out back) (x : SubId) where
-  goes_at : is_among x out ≡ (not (option_eq same_view (view_in (get seats x)) (get w x)) && is_some (view_in (get seats x)))
+module _ (seats : Seats) (w : Views) (out : List SubId) (back : List (SubId × Live))
+    (h : IsExchange (views_seated seats) w out back) (x : SubId) where
+  goes_at : is_among x out
+      ≡ (not (option_eq same_view (view_in (get seats x)) (get w x)) && is_some (view_in (get seats x)))
   goes_at = h.out_exactly x ∙ ap (λ v. not (option_eq same_view v (get w x)) && is_some v) (view_seated seats x)
 
-  comes_at : is_some (find sub_id_cmp x back) ≡ (not (option_eq same_view (view_in (get seats x)) (get w x)) && is_some (get w x))
-  comes_at = h.back_exactly x ∙ ap (λ v. not (option_eq same_view v (get w x)) && is_some (get w x)) (view_seated seats x)
+  comes_at : is_some (find sub_id_cmp x back)
+      ≡ (not (option_eq same_view (view_in (get seats x)) (get w x)) && is_some (get w x))
+  comes_at = h.back_exactly x
+      ∙ ap (λ v. not (option_eq same_view v (get w x)) && is_some (get w x)) (view_seated seats x)
 
   pub view_there : get (views_seated (exchanged w seats out back)) x ≡ get w x
   view_there = view_seated (exchanged w seats out back) x ∙ ap view_in (seat_exchanged seats w out back h.apart x)
-      ∙ shown_at (get seats x) (option_eq same_view (view_in (get seats x)) (get w x)) (get w x) (find sub_id_cmp x back) (is_among x out) refl goes_at comes_at
+      ∙ shown_at (get seats x) (option_eq same_view (view_in (get seats x)) (get w x)) (get w x)
+      (find sub_id_cmp x back) (is_among x out) refl goes_at comes_at
 
-  pub live_there : get (lives_seated (exchanged w seats out back)) x ≡ get (lives_after_edit (views_seated seats) w (from_sorted back) (lives_seated seats)) x
+  pub live_there : get (lives_seated (exchanged w seats out back)) x
+      ≡ get (lives_after_edit (views_seated seats) w (from_sorted back) (lives_seated seats)) x
   live_there = live_seated (exchanged w seats out back) x ∙ ap live_in (seat_exchanged seats w out back h.apart x)
-      ∙ lived_at (get seats x) (option_eq same_view (view_in (get seats x)) (get w x)) (get w x) (find sub_id_cmp x back) (is_among x out) refl goes_at comes_at
-      ∙ (λ i. left_at (sym (view_seated seats x) i) (get w x) (sym (found_given back h.apart x) i) (sym (live_seated seats x) i))
+      ∙ lived_at (get seats x) (option_eq same_view (view_in (get seats x)) (get w x)) (get w x)
+      (find sub_id_cmp x back) (is_among x out) refl goes_at comes_at
+      ∙ (λ i. left_at (sym (view_seated seats x) i) (get w x) (sym (found_given back h.apart x) i)
+      (sym (live_seated seats x) i))
       ∙ sym (lives_after_edit_at (views_seated seats) w (from_sorted back) (lives_seated seats) x)
 
 pub exchanged_seats_show : ExchangedSeatsShow

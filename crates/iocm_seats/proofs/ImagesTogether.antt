@@ -95,6 +95,8 @@ past_rises j (Online a b c) past less = refl
 -- ---- the walk
 
 pub images_together : (m : Configuration) → IsKeyed m → StandTogether IsPast images_in (entries m)
-images_together m keyed = together key_cmp images_in refl (λ e es. filter_map-append as_image (e.1 ∷ []) (records_in es)) IsOwn IsPast
-    (λ e own past. no_image e.1 (sym (ap is_past_images own) ∙ past)) (λ d e own owns past less. past_rises d.0 e.0 past less)
+images_together m keyed = together key_cmp images_in refl
+    (λ e es. filter_map-append as_image (e.1 ∷ []) (records_in es)) IsOwn IsPast
+    (λ e own past. no_image e.1 (sym (ap is_past_images own) ∙ past))
+    (λ d e own owns past less. past_rises d.0 e.0 past less)
     (entries m) (entries_sorted m) (own_rows m keyed)

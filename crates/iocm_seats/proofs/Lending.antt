@@ -21,7 +21,8 @@ module _ (t u : Gridded Seat) (s : Seated) (is : seated_in t ≡ s) where
   }
 
   -- a seat that is there is written over
-  pub seat_changed : {B : Type 0} (lent : Option B) (x : SubId) (w : Seat) → OnSome lent (grid.IsChangedAt t x u w) → OnSome lent (IsChangedAt s x (seated_in u) w)
+  pub seat_changed : {B : Type 0} (lent : Option B) (x : SubId) (w : Seat) → OnSome lent (grid.IsChangedAt t x u w)
+      → OnSome lent (IsChangedAt s x (seated_in u) w)
   seat_changed None x w now = tt
   seat_changed (Some b) x w now = changed x w now
 

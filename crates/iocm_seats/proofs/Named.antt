@@ -10,23 +10,28 @@ use Rattle.iocm_reach.specs.SightedCells.{SightedCell}
 use Rattle.iocm_seats.specs.Sights.{has_device, AreSights, IsNamedAt}
 
 -- cells of a configuration have its records
-pub same_records : (c : Configuration) (n : Numbering) (m : Configuration) → m ≡ c → (sights : List SightedCell) → AreSights c n sights
+pub same_records : (c : Configuration) (n : Numbering) (m : Configuration) → m ≡ c → (sights : List SightedCell)
+    → AreSights c n sights
     → AllByRecursion (λ (s : SightedCell). s.records ≡ m) sights
 same_records c n m is [] all = tt
-same_records c n m is (s ∷ sights) all = (ap (λ (t : SightedCell). t.records) all.0 ∙ sym is, same_records c n m is sights all.1)
+same_records c n m is (s ∷ sights) all =
+    (ap (λ (t : SightedCell). t.records) all.0 ∙ sym is, same_records c n m is sights all.1)
 
 -- a name that was looked up is the image's at all cells
-pub looked_up : (m : Configuration) (i : Image) (sights : List SightedCell) → AllByRecursion (λ (s : SightedCell). s.records ≡ m) sights
+pub looked_up : (m : Configuration) (i : Image) (sights : List SightedCell)
+    → AllByRecursion (λ (s : SightedCell). s.records ≡ m) sights
     → AllByRecursion (IsNamedAt i (name_at (lookup_of m) i)) sights
 looked_up m i [] all = tt
-looked_up m i (s ∷ sights) all = ((λ has. ap (λ (c : Configuration). name_at (lookup_of c) i) (sym all.0)), looked_up m i sights all.1)
+looked_up m i (s ∷ sights) all =
+    ((λ has. ap (λ (c : Configuration). name_at (lookup_of c) i) (sym all.0)), looked_up m i sights all.1)
 
 neither : (a b : Bool) → (a || b) ≡ false → (a ≡ false) × (b ≡ false)
 neither true b h = cc
 neither false b h = (refl, h)
 
 -- where no cell has a device, any name will do
-pub no_name_needed : (i : Image) (name : Option (List ℕ)) (sights : List SightedCell) → list_any has_device sights ≡ false
+pub no_name_needed : (i : Image) (name : Option (List ℕ)) (sights : List SightedCell)
+    → list_any has_device sights ≡ false
     → AllByRecursion (IsNamedAt i name) sights
 no_name_needed i name [] none = tt
 no_name_needed i name (s ∷ sights) none =

@@ -21,25 +21,31 @@ abbrev row_at : Lives → ViewChange → Option (SubId × Live)
 row_at lives ch = option_map (λ (l : Live). (ch.subchannel, l)) (get lives ch.subchannel)
 
 -- those of more changes
-pub met_more : (lives : Lives) (changes more all : List ViewChange) (met further rows : List (SubId × Live)) → met ≡ lives_met lives changes → all ≡ changes ++ more
+pub met_more : (lives : Lives) (changes more all : List ViewChange) (met further rows : List (SubId × Live))
+    → met ≡ lives_met lives changes → all ≡ changes ++ more
     → rows ≡ met ++ further → further ≡ lives_met lives more → rows ≡ lives_met lives all
 met_more lives changes more all met further rows before is rows_are further_are =
-    rows_are ∙ (λ i. before i ++ further_are i) ∙ sym (filter_map-append (row_at lives) changes more) ∙ ap (lives_met lives) (sym is)
+    rows_are ∙ (λ i. before i ++ further_are i) ∙ sym (filter_map-append (row_at lives) changes more)
+    ∙ ap (lives_met lives) (sym is)
 
 -- those at a subchannel with a seat
 pub met_there : (seats : Seats) (x : SubId) (seat : Seat) → get seats x ≡ Some seat → (after : Option View)
-    → met_at seat.live (cons_option (change_from (Some seat.view) after x) []) ≡ lives_met (lives_seated seats) (cons_option (change_from (Some seat.view) after x) [])
+    → met_at seat.live (cons_option (change_from (Some seat.view) after x) [])
+    ≡ lives_met (lives_seated seats) (cons_option (change_from (Some seat.view) after x) [])
 met_there seats x seat is after = by (option_eq same_view (Some seat.view) after)
   where
     change : Bool → Option ViewChange
     change b = cond b None (Some (record { subchannel = x; before = Some seat.view; after = after }))
 
-    by : (b : Bool) → met_at seat.live (cons_option (change b) []) ≡ lives_met (lives_seated seats) (cons_option (change b) [])
+    by : (b : Bool) → met_at seat.live (cons_option (change b) [])
+        ≡ lives_met (lives_seated seats) (cons_option (change b) [])
     by true = refl
-    by false = sym (ap (λ (o : Option Live). cons_option (option_map (λ (l : Live). (x, l)) o) []) (live_seated seats x ∙ ap live_in is))
+    by false = sym (ap (λ (o : Option Live). cons_option (option_map (λ (l : Live). (x, l)) o) [])
+        (live_seated seats x ∙ ap live_in is))
 
 -- those at a subchannel without a seat
-pub met_nowhere : (seats : Seats) (x : SubId) → get seats x ≡ None → (after : Option View) → [] ≡ lives_met (lives_seated seats) (cons_option (change_from None after x) [])
+pub met_nowhere : (seats : Seats) (x : SubId) → get seats x ≡ None → (after : Option View)
+    → [] ≡ lives_met (lives_seated seats) (cons_option (change_from None after x) [])
 met_nowhere seats x is after = by (option_eq same_view None after)
   where
     change : Bool → Option ViewChange
@@ -47,4 +53,5 @@ met_nowhere seats x is after = by (option_eq same_view None after)
 
     by : (b : Bool) → [] ≡ lives_met (lives_seated seats) (cons_option (change b) [])
     by true = refl
-    by false = sym (ap (λ (o : Option Live). cons_option (option_map (λ (l : Live). (x, l)) o) []) (live_seated seats x ∙ ap live_in is))
+    by false = sym (ap (λ (o : Option Live). cons_option (option_map (λ (l : Live). (x, l)) o) [])
+        (live_seated seats x ∙ ap live_in is))

@@ -1,6 +1,7 @@
 -- Seats that are settled by all changes: they show what is seen afterwards, and have the live
 -- records after the edit.
-use Rattle.std.proofs.Common.{◌≡◌, Bool, true, false, cond, not, List, [], ◌∷◌, ◌++◌, map, Option, Some, None, is_some, refl, sym, ap, ◌∙◌}
+use Rattle.std.proofs.Common.{◌≡◌, Bool, true, false, cond, not, List, [], ◌∷◌, ◌++◌, map, Option, Some, None, is_some}
+use Rattle.std.proofs.Common.{refl, sym, ap, ◌∙◌}
 use Rattle.std.specs.List.{fold}
 use Rattle.std.specs.Option.{option_map, option_eq}
 use Rattle.std.specs.FinMap.{get, contains_key, entries, entries_sorted, from_entries, same_map}
@@ -35,23 +36,31 @@ pub live_seated : (seats : Seats) (x : SubId) → get (lives_seated seats) x ≡
 live_seated seats x = get_turned sub_id_cmp (λ (s : Seat). s.live) sub_ids_total seats x
 
 -- a list that is turned is gone through as the list
-pub fold_turned : {A B C : Type 0} (f : C → B → C) (h : A → B) (z : C) (xs : List A) → fold f z (map h xs) ≡ fold (λ (y : C) (x : A). f y (h x)) z xs
+pub fold_turned : {A B C : Type 0} (f : C → B → C) (h : A → B) (z : C) (xs : List A)
+    → fold f z (map h xs) ≡ fold (λ (y : C) (x : A). f y (h x)) z xs
 fold_turned f h z [] = refl
 fold_turned f h z (x ∷ xs) = fold_turned f h (f z (h x)) xs
 
 -- the seat of a subchannel once all changes are settled
-seat_left : (seats : Seats) (w : Views) (kept : Lives) (x : SubId) → get (settled_all kept seats (changes_between (views_seated seats) w)) x
-    ≡ cond (not (option_eq same_view (get (views_seated seats) x) (get w x))) (seat_after (get seats x) (get w x) (get kept x)) (get seats x)
+seat_left : (seats : Seats) (w : Views) (kept : Lives) (x : SubId)
+    → get (settled_all kept seats (changes_between (views_seated seats) w)) x
+    ≡ cond (not (option_eq same_view (get (views_seated seats) x) (get w x)))
+    (seat_after (get seats x) (get w x) (get kept x)) (get seats x)
 seat_left seats w kept x =
     let v = views_seated seats in
     let all = from_entries {R = sub_id_cmp} (entries v ++ entries w) in
-    ap (λ (m : Seats). get m x) (fold_turned (settled kept) (view_change (get v) (get w)) seats (differing same_view v w))
-    ∙ get_written sub_ids_total sub_ids_exact (λ (k : SubId) (o : Option Seat). seat_after o (get w k) (get kept k)) seats (differing same_view v w)
-    (sorted_apart sub_id_cmp (λ (y : SubId). not (option_eq same_view (get v y) (get w y))) (entries all) (entries_sorted all)) x
-    ∙ ap (λ b. cond b (seat_after (get seats x) (get w x) (get kept x)) (get seats x)) (in_differing sub_ids_total sub_ids_exact same_view v w x)
+    ap (λ (m : Seats). get m x)
+    (fold_turned (settled kept) (view_change (get v) (get w)) seats (differing same_view v w))
+    ∙ get_written sub_ids_total sub_ids_exact (λ (k : SubId) (o : Option Seat). seat_after o (get w k) (get kept k))
+    seats (differing same_view v w)
+    (sorted_apart sub_id_cmp (λ (y : SubId). not (option_eq same_view (get v y) (get w y))) (entries all)
+    (entries_sorted all)) x
+    ∙ ap (λ b. cond b (seat_after (get seats x) (get w x) (get kept x)) (get seats x))
+    (in_differing sub_ids_total sub_ids_exact same_view v w x)
 
 -- where nothing is seen afterwards, no live record is needed
-pub none_needed : (old : Option Seat) (new : Option View) (kept brought : Option Live) → is_some new ≡ false → seat_after old new kept ≡ seat_after old new brought
+pub none_needed : (old : Option Seat) (new : Option View) (kept brought : Option Live) → is_some new ≡ false
+    → seat_after old new kept ≡ seat_after old new brought
 none_needed old None kept brought none = refl
 none_needed old (Some w) kept brought none = cc
 
@@ -59,12 +68,14 @@ view_after : (old : Option Seat) (new : Option View) (kept : Option Live) → vi
 view_after old None kept = refl
 view_after old (Some w) kept = refl
 
-shown_by : (b : Bool) (old : Option Seat) (new : Option View) (kept : Option Live) → option_eq same_view (view_in old) new ≡ b
+shown_by : (b : Bool) (old : Option Seat) (new : Option View) (kept : Option Live)
+    → option_eq same_view (view_in old) new ≡ b
     → view_in (cond (not b) (seat_after old new kept) old) ≡ new
 shown_by true old new kept same = sight_is (view_in old) new same
 shown_by false old new kept other = view_after old new kept
 
-live_after : (old : Option Seat) (new : Option View) (kept : Option Live) → option_eq same_view (view_in old) new ≡ false
+live_after : (old : Option Seat) (new : Option View) (kept : Option Live)
+    → option_eq same_view (view_in old) new ≡ false
     → live_in (seat_after old new kept) ≡ left_at (view_in old) new kept (live_in old)
 live_after old None kept other = refl
 live_after old (Some w) kept other = rw other refl
@@ -74,28 +85,34 @@ both_there None = refl
 both_there (Some s) = refl
 
 -- a subchannel at which something is seen has a seat
-pub seated_by_view : (seats : Seats) (x : SubId) (seen : Option View) → seen ≡ get (views_seated seats) x → is_some seen ≡ true → contains_key seats x ≡ true
+pub seated_by_view : (seats : Seats) (x : SubId) (seen : Option View) → seen ≡ get (views_seated seats) x
+    → is_some seen ≡ true → contains_key seats x ≡ true
 seated_by_view seats x seen is some = by (get seats x) (is ∙ view_seated seats x)
   where
     by : (o : Option Seat) → seen ≡ view_in o → is_some o ≡ true
     by None h = sym (ap is_some h) ∙ some
     by (Some s) h = refl
 
-lived_by : (b : Bool) (old : Option Seat) (new : Option View) (kept : Option Live) → option_eq same_view (view_in old) new ≡ b
+lived_by : (b : Bool) (old : Option Seat) (new : Option View) (kept : Option Live)
+    → option_eq same_view (view_in old) new ≡ b
     → live_in (cond (not b) (seat_after old new kept) old) ≡ left_at (view_in old) new kept (live_in old)
 lived_by true old new kept same = sym (same_keeps (view_in old) new kept (live_in old) same (both_there old))
 lived_by false old new kept other = live_after old new kept other
 
 pub settled_seats_show : SettledSeatsShow
 settled_seats_show seats w kept = same_map sub_ids_total sub_ids_exact _ _ (λ x.
-    view_seated (settled_all kept seats (changes_between (views_seated seats) w)) x ∙ ap view_in (seat_left seats w kept x)
-    ∙ ap (λ v. view_in (cond (not (option_eq same_view v (get w x))) (seat_after (get seats x) (get w x) (get kept x)) (get seats x))) (view_seated seats x)
+    view_seated (settled_all kept seats (changes_between (views_seated seats) w)) x
+    ∙ ap view_in (seat_left seats w kept x)
+    ∙ ap (λ v. view_in (cond (not (option_eq same_view v (get w x))) (seat_after (get seats x) (get w x) (get kept x))
+    (get seats x))) (view_seated seats x)
     ∙ shown_by (option_eq same_view (view_in (get seats x)) (get w x)) (get seats x) (get w x) (get kept x) refl)
 
 pub settled_seats_live : SettledSeatsLive
 settled_seats_live seats w kept = same_map sub_ids_total sub_ids_exact _ _ (λ x.
-    live_seated (settled_all kept seats (changes_between (views_seated seats) w)) x ∙ ap live_in (seat_left seats w kept x)
-    ∙ ap (λ v. live_in (cond (not (option_eq same_view v (get w x))) (seat_after (get seats x) (get w x) (get kept x)) (get seats x))) (view_seated seats x)
+    live_seated (settled_all kept seats (changes_between (views_seated seats) w)) x
+    ∙ ap live_in (seat_left seats w kept x)
+    ∙ ap (λ v. live_in (cond (not (option_eq same_view v (get w x))) (seat_after (get seats x) (get w x) (get kept x))
+    (get seats x))) (view_seated seats x)
     ∙ lived_by (option_eq same_view (view_in (get seats x)) (get w x)) (get seats x) (get w x) (get kept x) refl
     ∙ (λ i. left_at (sym (view_seated seats x) i) (get w x) (get kept x) (sym (live_seated seats x) i))
     ∙ sym (lives_after_edit_at (views_seated seats) w kept (lives_seated seats) x))

@@ -7,7 +7,8 @@ use Rattle.iocm_seats.specs.Taken.{cells_in}
 abbrev Cells : Type 0
 Cells = List (NumberCell × ℕ)
 
-pub cells_in-more : (css : ℕ) (e : NumberCell × ℕ) (es : Cells) → cells_in css (e ∷ es) ≡ cells_in css (e ∷ []) ++ cells_in css es
+pub cells_in-more : (css : ℕ) (e : NumberCell × ℕ) (es : Cells)
+    → cells_in css (e ∷ es) ≡ cells_in css (e ∷ []) ++ cells_in css es
 cells_in-more css e es = filter-append (λ (e : NumberCell × ℕ). e.0.css == css) (e ∷ []) es
 
 -- a cell of another channel subsystem isn't among them

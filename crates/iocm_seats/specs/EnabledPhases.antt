@@ -4,10 +4,18 @@ use Rattle.iocm_types.specs.declared.live.Function.TheVariants as function
 use Rattle.iocm_types.specs.declared.live.Phase.{Phase}
 use Rattle.iocm_types.specs.declared.live.Phase.TheVariants.{Idle, StartPending, StartActive, Halt, Clear, Pending}
 use Rattle.iocm_seats.specs.declared.enabled_phase.EnabledPhase.{EnabledPhase}
-use Rattle.iocm_seats.specs.declared.enabled_phase.EnabledPhase.TheVariants.{DisabledIdle, DisabledStartPending, DisabledStartActive, DisabledHalt, DisabledClear}
-use Rattle.iocm_seats.specs.declared.enabled_phase.EnabledPhase.TheVariants.{DisabledStartStatusPending, DisabledHaltStatusPending, DisabledClearStatusPending}
-use Rattle.iocm_seats.specs.declared.enabled_phase.EnabledPhase.TheVariants.{EnabledIdle, EnabledStartPending, EnabledStartActive, EnabledHalt, EnabledClear}
-use Rattle.iocm_seats.specs.declared.enabled_phase.EnabledPhase.TheVariants.{EnabledStartStatusPending, EnabledHaltStatusPending, EnabledClearStatusPending}
+use Rattle.iocm_seats.specs.declared.enabled_phase.EnabledPhase.TheVariants.{DisabledIdle, DisabledStartPending}
+use Rattle.iocm_seats.specs.declared.enabled_phase.EnabledPhase.TheVariants.{DisabledStartActive, DisabledHalt}
+use Rattle.iocm_seats.specs.declared.enabled_phase.EnabledPhase.TheVariants.{DisabledClear}
+use Rattle.iocm_seats.specs.declared.enabled_phase.EnabledPhase.TheVariants.{DisabledStartStatusPending}
+use Rattle.iocm_seats.specs.declared.enabled_phase.EnabledPhase.TheVariants.{DisabledHaltStatusPending}
+use Rattle.iocm_seats.specs.declared.enabled_phase.EnabledPhase.TheVariants.{DisabledClearStatusPending}
+use Rattle.iocm_seats.specs.declared.enabled_phase.EnabledPhase.TheVariants.{EnabledIdle, EnabledStartPending}
+use Rattle.iocm_seats.specs.declared.enabled_phase.EnabledPhase.TheVariants.{EnabledStartActive, EnabledHalt}
+use Rattle.iocm_seats.specs.declared.enabled_phase.EnabledPhase.TheVariants.{EnabledClear}
+use Rattle.iocm_seats.specs.declared.enabled_phase.EnabledPhase.TheVariants.{EnabledStartStatusPending}
+use Rattle.iocm_seats.specs.declared.enabled_phase.EnabledPhase.TheVariants.{EnabledHaltStatusPending}
+use Rattle.iocm_seats.specs.declared.enabled_phase.EnabledPhase.TheVariants.{EnabledClearStatusPending}
 
 -- whether it is enabled
 abbrev pub is_enabled : EnabledPhase → Bool

@@ -46,7 +46,8 @@ subsystem_seats c cells css = cells_seats (sights_of c (images_among css (record
 
 -- the channel subsystem of each image among some records is among these
 abbrev pub AreSubsystemsOf : List Rec → List ℕ → Type 0
-AreSubsystemsOf records subsystems = AllByRecursion (λ (i : ImageRecord). T (list_any (nat_eq i.css) subsystems)) (filter_map as_image records)
+AreSubsystemsOf records subsystems =
+    AllByRecursion (λ (i : ImageRecord). T (list_any (nat_eq i.css) subsystems)) (filter_map as_image records)
 
 -- the seats with one more, that of a row
 abbrev pub with_seat : Seats → SubId × Seat → Seats

@@ -1,5 +1,6 @@
 -- A change that was performed is a stage with all of its edits advanced.
-use Rattle.std.proofs.Common.{◌≡◌, ◌≤◌, List, [], ◌∷◌, length, drop, reverse, Vec, Global, refl, sym, ap, subst, ◌∙◌, arith}
+use Rattle.std.proofs.Common.{◌≡◌, ◌≤◌, List, [], ◌∷◌, length, drop, reverse, Vec, Global, refl, sym, ap, subst, ◌∙◌}
+use Rattle.std.proofs.Common.{arith}
 use Rattle.std.specs.Prelude.{Ok, Err}
 use Rattle.std.specs.Vec.{vec_len, vec_capacity}
 use Rattle.std.proofs.lemmas.List.{take_all, drop_all}
@@ -28,7 +29,8 @@ leaves_plain : (is : List Carried) → plain_parts (leaves_from is) ≡ parts_of
 leaves_plain [] = refl
 leaves_plain (i ∷ is) = ap (model.part (model.leaf i.edit)) (leaves_plain is)
 
-one_part : (e f : Edit) (ps qs : model.Parts) → model.part (model.leaf e) ps ≡ model.part (model.leaf f) qs → (e ≡ f) × (ps ≡ qs)
+one_part : (e f : Edit) (ps qs : model.Parts) → model.part (model.leaf e) ps ≡ model.part (model.leaf f) qs
+    → (e ≡ f) × (ps ≡ qs)
 one_part e f ps qs h = (cc, cc)
 
 same_parts : (es fs : List Edit) → parts_of es ≡ parts_of fs → es ≡ fs
@@ -36,19 +38,25 @@ same_parts [] [] h = refl
 same_parts [] (f ∷ fs) h = cc
 same_parts (e ∷ es) [] h = cc
 same_parts (e ∷ es) (f ∷ fs) h =
-    let both = one_part e f (parts_of es) (parts_of fs) h in let more = same_parts es fs both.1 in λ i. both.0 i ∷ more i
+    let both = one_part e f (parts_of es) (parts_of fs) h in let more = same_parts es fs both.1 in
+    λ i. both.0 i ∷ more i
 
 same_rows : (ps qs : model.Parts) → model.row ps ≡ model.row qs → ps ≡ qs
 same_rows ps qs h = cc
 
-way_edits : (t : CarriedTree) (is : List Carried) (es : List Edit) (s : State) → t ≡ row (leaves_from is) → plain_tree t ≡ inverse_tree es s → edits_in is ≡ inverses es s
+way_edits : (t : CarriedTree) (is : List Carried) (es : List Edit) (s : State) → t ≡ row (leaves_from is)
+    → plain_tree t ≡ inverse_tree es s → edits_in is ≡ inverses es s
 way_edits t is es s shape inverse = same_parts (edits_in is) (inverses es s)
-    (sym (leaves_plain is) ∙ same_rows (plain_parts (leaves_from is)) (parts_of (inverses es s)) (sym (ap plain_tree shape) ∙ inverse))
+    (sym (leaves_plain is) ∙ same_rows (plain_parts (leaves_from is)) (parts_of (inverses es s))
+    (sym (ap plain_tree shape) ∙ inverse))
 
 -- there is room for the edits that take a change back, one way and the other
-pub room_for : (done : Done) (back forward : Vec Carried Global) → vec_len back ≡ length back.items → vec_len back ≤ vec_capacity back
-    → forward.items ≡ [] → length back.items ≤ vec_capacity forward → HasRoomBothWays (record { done = done; forward = forward; back = back })
-room_for done back forward long within none room = let z = ap length none in record { back = omega (arith, long, within, z); forward = omega (arith, z, room) }
+pub room_for : (done : Done) (back forward : Vec Carried Global) → vec_len back ≡ length back.items
+    → vec_len back ≤ vec_capacity back
+    → forward.items ≡ [] → length back.items ≤ vec_capacity forward
+    → HasRoomBothWays (record { done = done; forward = forward; back = back })
+room_for done back forward long within none room = let z = ap length none in
+    record { back = omega (arith, long, within, z); forward = omega (arith, z, room) }
 
 -- the change that a tree means
 pub change_is : (m : Outcome) (s : State) → record { edits = edits_of m; from = s } ≡ change_of m s
@@ -76,9 +84,11 @@ module _ (t : model.ChangeTree) (s : State) (p : Operating) (sound : IsSound s) 
     rules = subst KeepsTheRules run.state run.rules;
   }
 
-  module _ (g : Staged) (inverse : plain_tree (tree_of g.done.inverse) ≡ inverse_tree es s) (way : IsWayBack (tree_of g.done.inverse) s p)
+  module _ (g : Staged) (inverse : plain_tree (tree_of g.done.inverse) ≡ inverse_tree es s)
+      (way : IsWayBack (tree_of g.done.inverse) s p)
       (effect : effect_in g.done.effect ≡ effect_of es s) (told : AreToldBy g.done.performed.items (told_of_all es s))
-      (copied : (is : List Carried) → tree_of g.done.inverse ≡ row (leaves_from is) → reverse g.back.items ≡ is) (none : g.forward.items ≡ []) (room : HasRoomBothWays g) where
+      (copied : (is : List Carried) → tree_of g.done.inverse ≡ row (leaves_from is) → reverse g.back.items ≡ is)
+      (none : g.forward.items ≡ []) (room : HasRoomBothWays g) where
     backs : reverse g.back.items ≡ way.edits
     backs = copied way.edits way.shape
 
@@ -93,13 +103,20 @@ module _ (t : model.ChangeTree) (s : State) (p : Operating) (sound : IsSound s) 
 
     stage : IsStageOf g (record { change = record { edits = es; from = s }; advances = length es }) s p
     stage = record {
-      ready = record { made = made; like = record { config = refl; numbers = refl; lived = sound.lived }; lives = λ x among. refl };
+      ready = record {
+        made = made;
+        like = record { config = refl; numbers = refl; lived = sound.lived };
+        lives = λ x among. refl;
+      };
       tells = record { inverse = inverse; effect = effect; performed = told };
-      along = subst (λ f. StandsAlong f (drop (length es) es) s s (reverse g.back.items) (reverse g.forward.items) p) (sym (take_all (length es) es (omega arith)))
-          (subst (λ r. StandsAlong es r s s (reverse g.back.items) (reverse g.forward.items) p) (sym (drop_all (length es) es (omega arith))) along);
+      along = subst (λ f. StandsAlong f (drop (length es) es) s s (reverse g.back.items) (reverse g.forward.items) p)
+          (sym (take_all (length es) es (omega arith)))
+          (subst (λ r. StandsAlong es r s s (reverse g.back.items) (reverse g.forward.items) p)
+          (sym (drop_all (length es) es (omega arith))) along);
       room = room;
     }
 
     -- with all edits advanced
     pub all_advanced : IsStageOf g (record { change = change_of (meaning t s) s; advances = length es }) s p
-    all_advanced = subst (λ c. IsStageOf g (record { change = c; advances = length es }) s p) (change_is (meaning t s) s) stage
+    all_advanced = subst (λ c. IsStageOf g (record { change = c; advances = length es }) s p)
+        (change_is (meaning t s) s) stage

@@ -20,10 +20,14 @@ pub record IsPerforming (before : Operating) (all : List Carried) (now : Operati
 pub next_is : (left new : List Carried) (i : Carried) → left ≡ new ++ i ∷ [] → reverse left ≡ i ∷ reverse new
 next_is left new i is = ap reverse is ∙ reverse_last new i
 
-pub next_performed : (p q r : Operating) (all left rest : List Carried) (i : Carried) → IsPerforming p all q left → left ≡ i ∷ rest
+pub next_performed : (p q r : Operating) (all left rest : List Carried) (i : Carried) → IsPerforming p all q left
+    → left ≡ i ∷ rest
     → r.state ≡ state_after i.edit q.state → r.room ≡ q.room → IsPerforming p all r rest
 next_performed p q r all left rest i doing is state room = record {
-  can = record { state = doing.can.state; leads = (subst (λ is. LeadsTo is doing.can.state q) is doing.can.leads).1 r state room };
+  can = record {
+    state = doing.can.state;
+    leads = (subst (λ is. LeadsTo is doing.can.state q) is doing.can.leads).1 r state room;
+  };
   leads = λ s h. (subst (λ is. LeadsTo is s q) is (doing.leads s h)).1 r state room;
   room = room ∙ doing.room;
 }
@@ -38,10 +42,12 @@ pub record BeginsWith (t : CarriedTree) (ps : CarriedParts) (s : State) (p : Ope
   pub can : CanUnapply edit p
   pub rest : (q : Operating) → q.state ≡ state_after edit.edit p.state → q.room ≡ p.room → IsWayBack (row ps) s q
 
-first_leaf : (t : CarriedTree) (ps : CarriedParts) (i : Carried) (is : List Carried) → row (part t ps) ≡ row (leaves_from (i ∷ is)) → t ≡ leaf i
+first_leaf : (t : CarriedTree) (ps : CarriedParts) (i : Carried) (is : List Carried)
+    → row (part t ps) ≡ row (leaves_from (i ∷ is)) → t ≡ leaf i
 first_leaf t ps i is h = cc
 
-other_leaves : (t : CarriedTree) (ps : CarriedParts) (i : Carried) (is : List Carried) → row (part t ps) ≡ row (leaves_from (i ∷ is)) → row ps ≡ row (leaves_from is)
+other_leaves : (t : CarriedTree) (ps : CarriedParts) (i : Carried) (is : List Carried)
+    → row (part t ps) ≡ row (leaves_from (i ∷ is)) → row ps ≡ row (leaves_from is)
 other_leaves t ps i is h = cc
 
 some_leaves : (t : CarriedTree) (ps : CarriedParts) → row (part t ps) ≡ row (leaves_from []) → ⊥
@@ -50,7 +56,8 @@ some_leaves t ps h = cc
 no_leaves : (i : Carried) (is : List Carried) → row none ≡ row (leaves_from (i ∷ is)) → ⊥
 no_leaves i is h = cc
 
-pub begins_with : (t : CarriedTree) (ps : CarriedParts) (s : State) (p : Operating) → IsWayBack (row (part t ps)) s p → BeginsWith t ps s p
+pub begins_with : (t : CarriedTree) (ps : CarriedParts) (s : State) (p : Operating) → IsWayBack (row (part t ps)) s p
+    → BeginsWith t ps s p
 begins_with t ps s p way = by way.edits way.shape way.leads
   where
     by : (is : List Carried) → row (part t ps) ≡ row (leaves_from is) → LeadsTo is s p → BeginsWith t ps s p
@@ -71,12 +78,14 @@ nothing_left s p way = by way.edits way.shape way.leads
     by (i ∷ is) shape leads = absurd (no_leaves i is shape)
 
 -- some parts took back what they are to: the others still lead to where all of them led
-pub record IsTakingBack (before : Operating) (whole : CarriedTree) (now : Operating) (left : List CarriedTree) : Type 0 where
+pub record IsTakingBack (before : Operating) (whole : CarriedTree) (now : Operating) (left : List CarriedTree) : Type
+    0 where
   pub can : GoesBack (row (parts_from left)) now
   pub leads : (s : State) → IsWayBack whole s before → IsWayBack (row (parts_from left)) s now
   pub room : now.room ≡ before.room
 
-module _ (p q : Operating) (whole t : CarriedTree) (left ts : List CarriedTree) (taking : IsTakingBack p whole q left) (is : left ≡ t ∷ ts) where
+module _ (p q : Operating) (whole t : CarriedTree) (left ts : List CarriedTree) (taking : IsTakingBack p whole q left)
+    (is : left ≡ t ∷ ts) where
   abbrev starts : (s : State) → IsWayBack (row (parts_from left)) s q → BeginsWith t (parts_from ts) s q
   starts s way = begins_with t (parts_from ts) s q (subst (λ xs. IsWayBack (row (parts_from xs)) s q) is way)
 
@@ -99,7 +108,8 @@ module _ (p q : Operating) (whole t : CarriedTree) (left ts : List CarriedTree) 
     pub part_can : CanUnapply i q
     part_can = subst (λ j. CanUnapply j q) (sym (same_edit begun.edit begun.is)) begun.can
 
-    pub part_taken : (r : Operating) → r.state ≡ state_after i.edit q.state → r.room ≡ q.room → IsTakingBack p whole r ts
+    pub part_taken : (r : Operating) → r.state ≡ state_after i.edit q.state → r.room ≡ q.room
+        → IsTakingBack p whole r ts
     part_taken r state room = record {
       can = record { state = taking.can.state; way = further taking.can.state begun };
       leads = λ s way. further s (starts s (taking.leads s way));
@@ -109,5 +119,7 @@ module _ (p q : Operating) (whole t : CarriedTree) (left ts : List CarriedTree) 
         further : (s : State) → BeginsWith t (parts_from ts) s q → IsWayBack (row (parts_from ts)) s r
         further s b = b.rest r (state ∙ ap (λ (j : Carried). state_after j.edit q.state) (same_edit b.edit b.is)) room
 
-pub all_taken_back : (p q : Operating) (whole : CarriedTree) (left : List CarriedTree) → IsTakingBack p whole q left → left ≡ [] → (s : State) → IsWayBack whole s p → q.state ≡ s
-all_taken_back p q whole left taking empty s way = nothing_left s q (subst (λ xs. IsWayBack (row (parts_from xs)) s q) empty (taking.leads s way))
+pub all_taken_back : (p q : Operating) (whole : CarriedTree) (left : List CarriedTree) → IsTakingBack p whole q left
+    → left ≡ [] → (s : State) → IsWayBack whole s p → q.state ≡ s
+all_taken_back p q whole left taking empty s way =
+    nothing_left s q (subst (λ xs. IsWayBack (row (parts_from xs)) s q) empty (taking.leads s way))

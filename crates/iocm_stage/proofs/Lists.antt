@@ -1,5 +1,6 @@
 -- Lists: the first so many, the rest, and the last.
-use Rattle.std.proofs.Common.{◌≡◌, ℕ, zero, suc, ◌+◌, List, [], ◌∷◌, ◌++◌, take, drop, map, reverse, refl, ap, ◌∙◌, add-one}
+use Rattle.std.proofs.Common.{◌≡◌, ℕ, zero, suc, ◌+◌, List, [], ◌∷◌, ◌++◌, take, drop, map, reverse, refl, ap, ◌∙◌}
+use Rattle.std.proofs.Common.{add-one}
 use Rattle.std.proofs.lemmas.List.{map-append, reverse-append}
 
 module _ {A : Type 0} where
@@ -22,7 +23,8 @@ module _ {A : Type 0} where
   drop_suc (suc k) [] y ys h = cc
   drop_suc (suc k) (x ∷ xs) y ys h = drop_suc k xs y ys h
 
-  pub take_more : (k : ℕ) (xs : List A) (y : A) (ys : List A) → drop k xs ≡ y ∷ ys → take (k + 1) xs ≡ take k xs ++ (y ∷ [])
+  pub take_more : (k : ℕ) (xs : List A) (y : A) (ys : List A) → drop k xs ≡ y ∷ ys
+      → take (k + 1) xs ≡ take k xs ++ (y ∷ [])
   take_more k xs y ys h = ap (λ n. take n xs) (add-one k) ∙ take_suc k xs y ys h
 
   pub drop_more : (k : ℕ) (xs : List A) (y : A) (ys : List A) → drop k xs ≡ y ∷ ys → drop (k + 1) xs ≡ ys
@@ -59,12 +61,14 @@ module _ {A : Type 0} where
 
   pub has_last : (x : A) (xs : List A) → HasLast (x ∷ xs)
   has_last x [] = record { before = []; last = x; is = refl }
-  has_last x (y ∷ ys) = let rest = has_last y ys in record { before = x ∷ rest.before; last = rest.last; is = ap (λ zs. x ∷ zs) rest.is }
+  has_last x (y ∷ ys) = let rest = has_last y ys in
+      record { before = x ∷ rest.before; last = rest.last; is = ap (λ zs. x ∷ zs) rest.is }
 
 module _ {A B : Type 0} (f : A → B) where
   -- the same of what is made of each
   pub map_last : (old new : List A) (x : A) → old ≡ new ++ (x ∷ []) → map f old ≡ map f new ++ (f x ∷ [])
   map_last old new x is = ap (map f) is ∙ map-append f new (x ∷ [])
 
-  pub map_reverse_last : (old new : List A) (x : A) → old ≡ new ++ (x ∷ []) → map f (reverse old) ≡ f x ∷ map f (reverse new)
+  pub map_reverse_last : (old new : List A) (x : A) → old ≡ new ++ (x ∷ [])
+      → map f (reverse old) ≡ f x ∷ map f (reverse new)
   map_reverse_last old new x is = ap (λ xs. map f (reverse xs)) is ∙ ap (map f) (reverse_last new x)

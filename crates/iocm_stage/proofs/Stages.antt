@@ -1,5 +1,6 @@
 -- Stages on a machine: an edit forth or back, steps between, and the two ends.
-use Rattle.std.proofs.Common.{◌≡◌, ℕ, suc, ◌+◌, Bool, false, ◌||◌, List, [], ◌∷◌, ◌++◌, Some, length, take, drop, reverse, refl, sym, ap, subst, append_assoc, ◌∙◌, arith}
+use Rattle.std.proofs.Common.{◌≡◌, ℕ, suc, ◌+◌, Bool, false, ◌||◌, List, [], ◌∷◌, ◌++◌, Some, length, take, drop}
+use Rattle.std.proofs.Common.{reverse, refl, sym, ap, subst, append_assoc, ◌∙◌, arith}
 use Rattle.std.proofs.lemmas.Bool.{or_parts}
 use Rattle.std.proofs.lemmas.List.{take-append-drop, length-append, length-drop, length-map, length-reverse}
 use Rattle.std.specs.FinMap.{contains_key, contains_key-keys}
@@ -29,7 +30,8 @@ use Rattle.iocm_stage.specs.Along.{edits_in, StandsAlong}
 use Rattle.iocm_stage.specs.Staged.{WasMade, IsReady, Tells, HasRoomBothWays, IsStageOf, IsStaged}
 use Rattle.iocm_stage.specs.StageLaws.{PassesAStage, StepsElsewherePassAStage}
 use Rattle.iocm_stage.specs.declared.staged.Staged.{Staged}
-use Rattle.iocm_stage.proofs.Agreeing.{Agrees, agrees_first, agrees_rest, agrees_after_step, all_do_again, step_passes, same_answer, taken_back, among_all}
+use Rattle.iocm_stage.proofs.Agreeing.{Agrees, agrees_first, agrees_rest, agrees_after_step, all_do_again, step_passes}
+use Rattle.iocm_stage.proofs.Agreeing.{same_answer, taken_back, among_all}
 use Rattle.iocm_stage.proofs.Going.{forth, back_again, free_first, free_rest, leads_elsewhere}
 use Rattle.iocm_stage.proofs.Like.{like_after_all}
 use Rattle.iocm_stage.proofs.Lists.{take_more, drop_more, take_no_more, drop_no_more, has_last, HasLast, reverse_last}
@@ -50,7 +52,8 @@ again_none (e ∷ es) s h = cc
 again_some : (e : Edit) (es : List Edit) → e ∷ es ≡ [] → ⊥
 again_some e es h = cc
 
-module _ (es : List Edit) (from s : State) (made : IsSound from) (free : CarryFreeNumbers es from) (agrees : Agrees es from s) where
+module _ (es : List Edit) (from s : State) (made : IsSound from) (free : CarryFreeNumbers es from)
+    (agrees : Agrees es from s) where
   -- the edits up to a place and the rest are all
   abbrev Free : List Edit → Type 0
   Free fs = CarryFreeNumbers fs from
@@ -58,19 +61,24 @@ module _ (es : List Edit) (from s : State) (made : IsSound from) (free : CarryFr
   abbrev Agree : List Edit → Type 0
   Agree fs = Agrees fs from s
 
-  pub next_done : (k : ℕ) (i j : Carried) (back forward : List Carried) (p q : Operating) → StandsAlong (take k es) (drop k es) from s back (i ∷ forward) p
+  pub next_done : (k : ℕ) (i j : Carried) (back forward : List Carried) (p q : Operating)
+      → StandsAlong (take k es) (drop k es) from s back (i ∷ forward) p
       → q.state ≡ state_after i.edit p.state → j.edit ≡ inverse_of i.edit p.state → CanUnapply j q → q.room ≡ p.room
       → StandsAlong (take (k + 1) es) (drop (k + 1) es) from s (j ∷ back) forward q
   next_done k i j back forward p q stands state inverse can room = by (drop k es) refl
     where
-      by : (rest : List Edit) → drop k es ≡ rest → StandsAlong (take (k + 1) es) (drop (k + 1) es) from s (j ∷ back) forward q
-      by [] is = absurd (again_some i.edit (edits_in forward) (stands.forward_edits ∙ ap (λ r. all_again r (state_after_all (take k es) from)) is))
+      by : (rest : List Edit) → drop k es ≡ rest
+          → StandsAlong (take (k + 1) es) (drop (k + 1) es) from s (j ∷ back) forward q
+      by [] is = absurd (again_some i.edit (edits_in forward)
+          (stands.forward_edits ∙ ap (λ r. all_again r (state_after_all (take k es) from)) is))
       by (e ∷ rest) is =
           let whole : take k es ++ (e ∷ rest) ≡ es = ap (λ r. take k es ++ r) (sym is) ∙ take-append-drop k es in
-          let there = forth (take k es) rest e from s made (subst Free (sym whole) free) (subst Agree (sym whole) agrees) i j back forward p q
+          let there = forth (take k es) rest e from s made (subst Free (sym whole) free)
+          (subst Agree (sym whole) agrees) i j back forward p q
           (subst (λ r. StandsAlong (take k es) r from s back (i ∷ forward) p) is stands) state inverse can room in
           subst (λ f. StandsAlong f (drop (k + 1) es) from s (j ∷ back) forward q) (sym (take_more k es e rest is))
-          (subst (λ r. StandsAlong (take k es ++ (e ∷ [])) r from s (j ∷ back) forward q) (sym (drop_more k es e rest is)) there)
+          (subst (λ r. StandsAlong (take k es ++ (e ∷ [])) r from s (j ∷ back) forward q)
+          (sym (drop_more k es e rest is)) there)
 
   pub none_left : (k : ℕ) (back : List Carried) (p : Operating) → StandsAlong (take k es) (drop k es) from s back [] p
       → StandsAlong (take (k + 1) es) (drop (k + 1) es) from s back [] p
@@ -99,8 +107,10 @@ inverses_none : (es : List Edit) (s : State) → [] ≡ inverses es s → es ≡
 inverses_none [] s h = refl
 inverses_none (e ∷ es) s h = absurd (inverses_some e es s h)
 
-module _ (es : List Edit) (from s : State) (made : IsSound from) (free : CarryFreeNumbers es from) (agrees : Agrees es from s) where
-  pub latest_taken : (i j : Carried) (back forward : List Carried) (p q : Operating) → HasGone es from s (i ∷ back) forward p
+module _ (es : List Edit) (from s : State) (made : IsSound from) (free : CarryFreeNumbers es from)
+    (agrees : Agrees es from s) where
+  pub latest_taken : (i j : Carried) (back forward : List Carried) (p q : Operating)
+      → HasGone es from s (i ∷ back) forward p
       → q.state ≡ state_after i.edit p.state → j.edit ≡ inverse_of i.edit p.state → CanUnapply j q → q.room ≡ p.room
       → HasGone es from s back (j ∷ forward) q
   latest_taken i j back forward p q gone state inverse can room = by gone.first refl
@@ -108,13 +118,18 @@ module _ (es : List Edit) (from s : State) (made : IsSound from) (free : CarryFr
       on : (f : List Edit) → gone.first ≡ f → HasLast f → HasGone es from s back (j ∷ forward) q
       on f is last =
           let first = is ∙ last.is in
-          let whole : last.before ++ (last.last ∷ gone.rest) ≡ es = sym (append_assoc last.before (last.last ∷ []) gone.rest) ∙ ap (λ g. g ++ gone.rest) (sym first) ∙ gone.whole in
+          let whole : last.before ++ (last.last ∷ gone.rest) ≡ es =
+          sym (append_assoc last.before (last.last ∷ []) gone.rest) ∙ ap (λ g. g ++ gone.rest) (sym first)
+          ∙ gone.whole in
           record {
             first = last.before;
             rest = last.last ∷ gone.rest;
             whole = whole;
-            stands = back_again last.before gone.rest last.last from s made (subst (λ g. CarryFreeNumbers g from) (sym whole) free) (subst (λ g. Agrees g from s) (sym whole) agrees)
-                i j back forward p q (subst (λ g. StandsAlong g gone.rest from s (i ∷ back) forward p) first gone.stands) state inverse can room;
+            stands = back_again last.before gone.rest last.last from s made
+                (subst (λ g. CarryFreeNumbers g from) (sym whole) free)
+                (subst (λ g. Agrees g from s) (sym whole) agrees)
+                i j back forward p q (subst (λ g. StandsAlong g gone.rest from s (i ∷ back) forward p) first
+                gone.stands) state inverse can room;
           }
 
       by : (f : List Edit) → gone.first ≡ f → HasGone es from s back (j ∷ forward) q
@@ -122,7 +137,8 @@ module _ (es : List Edit) (from s : State) (made : IsSound from) (free : CarryFr
       by (e ∷ f) is = on (e ∷ f) is (has_last e f)
 
   -- all are taken back
-  pub all_taken : (forward : List Carried) (p : Operating) → HasGone es from s [] forward p → StandsAlong [] es from s [] forward p
+  pub all_taken : (forward : List Carried) (p : Operating) → HasGone es from s [] forward p
+      → StandsAlong [] es from s [] forward p
   all_taken forward p gone =
       let none = inverses_none gone.first from gone.stands.back_edits in
       subst (λ r. StandsAlong [] r from s [] forward p) (ap (λ f. f ++ gone.rest) (sym none) ∙ gone.whole)
@@ -131,50 +147,64 @@ module _ (es : List Edit) (from s : State) (made : IsSound from) (free : CarryFr
 -- ---- a whole stage
 
 -- an edit went from one side to the other
-pub room_on : (g h : Staged) (i j : Carried) → HasRoomBothWays g → g.forward.items ≡ h.forward.items ++ i ∷ [] → h.back.items ≡ g.back.items ++ j ∷ []
+pub room_on : (g h : Staged) (i j : Carried) → HasRoomBothWays g → g.forward.items ≡ h.forward.items ++ i ∷ []
+    → h.back.items ≡ g.back.items ++ j ∷ []
     → vec_capacity h.forward ≡ vec_capacity g.forward → vec_capacity h.back ≡ vec_capacity g.back → HasRoomBothWays h
 room_on g h i j room out put forward back =
-    let o = ap length out ∙ length-append h.forward.items (i ∷ []) in let n = ap length put ∙ length-append g.back.items (j ∷ []) in
+    let o = ap length out ∙ length-append h.forward.items (i ∷ []) in let n =
+    ap length put ∙ length-append g.back.items (j ∷ []) in
     let r = room.back in let f = room.forward in
     record { back = omega (arith, o, n, r, back); forward = omega (arith, o, n, f, forward) }
 
-pub room_back : (g h : Staged) (i j : Carried) → HasRoomBothWays g → g.back.items ≡ h.back.items ++ i ∷ [] → h.forward.items ≡ g.forward.items ++ j ∷ []
+pub room_back : (g h : Staged) (i j : Carried) → HasRoomBothWays g → g.back.items ≡ h.back.items ++ i ∷ []
+    → h.forward.items ≡ g.forward.items ++ j ∷ []
     → vec_capacity h.forward ≡ vec_capacity g.forward → vec_capacity h.back ≡ vec_capacity g.back → HasRoomBothWays h
 room_back g h i j room out put forward back =
-    let o = ap length out ∙ length-append h.back.items (i ∷ []) in let n = ap length put ∙ length-append g.forward.items (j ∷ []) in
+    let o = ap length out ∙ length-append h.back.items (i ∷ []) in let n =
+    ap length put ∙ length-append g.forward.items (j ∷ []) in
     let r = room.back in let f = room.forward in
     record { back = omega (arith, o, n, r, back); forward = omega (arith, o, n, f, forward) }
 
-pub advanced : (g h : Staged) (i j : Carried) (p q : Operating) → g.forward.items ≡ h.forward.items ++ i ∷ [] → h.back.items ≡ g.back.items ++ j ∷ []
+pub advanced : (g h : Staged) (i j : Carried) (p q : Operating) → g.forward.items ≡ h.forward.items ++ i ∷ []
+    → h.back.items ≡ g.back.items ++ j ∷ []
     → vec_capacity h.forward ≡ vec_capacity g.forward → vec_capacity h.back ≡ vec_capacity g.back → h.done ≡ g.done
     → q.state ≡ state_after i.edit p.state → j.edit ≡ inverse_of i.edit p.state → CanUnapply j q → q.room ≡ p.room
     → (t : Stage) (s : State) → IsStageOf g t s p → IsStageOf h (once_more t) s q
 advanced g h i j p q out put forward back done state inverse can room t s stage = record {
   ready = stage.ready;
   tells = subst (λ d. Tells d t.change) (sym done) stage.tells;
-  along = subst (λ is. StandsAlong (take (t.advances + 1) t.change.edits) (drop (t.advances + 1) t.change.edits) t.change.from s is (reverse h.forward.items) q)
+  along = subst (λ is. StandsAlong (take (t.advances + 1) t.change.edits) (drop (t.advances + 1) t.change.edits)
+      t.change.from s is (reverse h.forward.items) q)
       (sym (ap reverse put ∙ reverse_last g.back.items j))
-      (next_done t.change.edits t.change.from s stage.ready.made.used.sound (free_made t.change stage.ready.made) (agrees_ready t.change s stage.ready)
+      (next_done t.change.edits t.change.from s stage.ready.made.used.sound (free_made t.change stage.ready.made)
+      (agrees_ready t.change s stage.ready)
       t.advances i j (reverse g.back.items) (reverse h.forward.items) p q
-      (subst (λ is. StandsAlong (take t.advances t.change.edits) (drop t.advances t.change.edits) t.change.from s (reverse g.back.items) is p)
+      (subst (λ is. StandsAlong (take t.advances t.change.edits) (drop t.advances t.change.edits) t.change.from s
+      (reverse g.back.items) is p)
       (ap reverse out ∙ reverse_last h.forward.items i) stage.along) state inverse can room);
   room = room_on g h i j stage.room out put forward back;
 }
 
 -- where none is left, a stage may be said to be advanced
-pub not_advanced : (g h : Staged) (p : Operating) → g.forward.items ≡ [] → h.forward.items ≡ [] → h.back.items ≡ g.back.items
+pub not_advanced : (g h : Staged) (p : Operating) → g.forward.items ≡ [] → h.forward.items ≡ []
+    → h.back.items ≡ g.back.items
     → vec_capacity h.forward ≡ vec_capacity g.forward → vec_capacity h.back ≡ vec_capacity g.back → h.done ≡ g.done
     → (t : Stage) (s : State) → IsStageOf g t s p → IsStageOf h (once_more t) s p
 not_advanced g h p empty still items forward back done t s stage = record {
   ready = stage.ready;
   tells = subst (λ d. Tells d t.change) (sym done) stage.tells;
-  along = subst (λ is. StandsAlong (take (t.advances + 1) t.change.edits) (drop (t.advances + 1) t.change.edits) t.change.from s (reverse is) (reverse h.forward.items) p)
+  along = subst (λ is. StandsAlong (take (t.advances + 1) t.change.edits) (drop (t.advances + 1) t.change.edits)
+      t.change.from s (reverse is) (reverse h.forward.items) p)
       (sym items)
-      (subst (λ is. StandsAlong (take (t.advances + 1) t.change.edits) (drop (t.advances + 1) t.change.edits) t.change.from s (reverse g.back.items) (reverse is) p) (sym still)
-      (none_left t.change.edits t.change.from s stage.ready.made.used.sound (free_made t.change stage.ready.made) (agrees_ready t.change s stage.ready)
+      (subst (λ is. StandsAlong (take (t.advances + 1) t.change.edits) (drop (t.advances + 1) t.change.edits)
+      t.change.from s (reverse g.back.items) (reverse is) p) (sym still)
+      (none_left t.change.edits t.change.from s stage.ready.made.used.sound (free_made t.change stage.ready.made)
+      (agrees_ready t.change s stage.ready)
       t.advances (reverse g.back.items) p
-      (subst (λ is. StandsAlong (take t.advances t.change.edits) (drop t.advances t.change.edits) t.change.from s (reverse g.back.items) (reverse is) p) empty stage.along)));
-  room = let e = ap length empty in let z = ap length still in let l = ap length items in let r = stage.room.back in let f = stage.room.forward in
+      (subst (λ is. StandsAlong (take t.advances t.change.edits) (drop t.advances t.change.edits) t.change.from s
+      (reverse g.back.items) (reverse is) p) empty stage.along)));
+  room = let e = ap length empty in let z = ap length still in let l = ap length items in let r = stage.room.back in
+      let f = stage.room.forward in
       record { back = omega (arith, e, z, l, r, back); forward = omega (arith, e, z, l, f, forward) };
 }
 
@@ -182,22 +212,29 @@ not_advanced g h p empty still items forward back done t s stage = record {
 pub how_many_back : (g : Staged) (t : Stage) (s : State) (p : Operating) → IsStageOf g t s p
     → length g.back.items ≡ length (take t.advances t.change.edits)
 how_many_back g t s p stage =
-    sym (length-reverse g.back.items) ∙ sym (length-map (reverse g.back.items) (λ (i : Carried). i.edit)) ∙ ap length stage.along.back_edits
+    sym (length-reverse g.back.items) ∙ sym (length-map (reverse g.back.items) (λ (i : Carried). i.edit))
+    ∙ ap length stage.along.back_edits
     ∙ inverses_length (take t.advances t.change.edits) t.change.from
 
 -- how many are left
-pub how_many : (g : Staged) (t : Stage) (s : State) (p : Operating) → IsStageOf g t s p → length g.forward.items ≡ left_of t
+pub how_many : (g : Staged) (t : Stage) (s : State) (p : Operating) → IsStageOf g t s p
+    → length g.forward.items ≡ left_of t
 how_many g t s p stage =
-    sym (length-reverse g.forward.items) ∙ sym (length-map (reverse g.forward.items) (λ (i : Carried). i.edit)) ∙ ap length stage.along.forward_edits
-    ∙ all_long (drop t.advances t.change.edits) (state_after_all (take t.advances t.change.edits) t.change.from) ∙ length-drop t.advances t.change.edits
+    sym (length-reverse g.forward.items) ∙ sym (length-map (reverse g.forward.items) (λ (i : Carried). i.edit))
+    ∙ ap length stage.along.forward_edits
+    ∙ all_long (drop t.advances t.change.edits) (state_after_all (take t.advances t.change.edits) t.change.from)
+    ∙ length-drop t.advances t.change.edits
   where
     all_long : (es : List Edit) (u : State) → length (all_again es u) ≡ length es
     all_long [] u = refl
     all_long (e ∷ es) u = ap suc (all_long es (state_after e u))
 
 -- what is held
-pub is_held_by : (g : Staged) (t : Stage) (s : State) (p : Operating) (x : SubId) → IsStageOf g t s p → contains_key (effect_in g.done.effect).lives x ≡ is_held x (Some t)
-is_held_by g t s p x stage = ap (λ (f : Effect). contains_key f.lives x) stage.tells.effect ∙ contains_key-keys (effect_of_change t.change).lives x
+pub is_held_by : (g : Staged) (t : Stage) (s : State) (p : Operating) (x : SubId) → IsStageOf g t s p
+    → contains_key (effect_in g.done.effect).lives x ≡ is_held x (Some t)
+is_held_by g t s p x stage =
+    ap (λ (f : Effect). contains_key f.lives x) stage.tells.effect
+    ∙ contains_key-keys (effect_of_change t.change).lives x
 
 -- ---- all edits back
 
@@ -211,7 +248,8 @@ pub record IsGoingBack (before : Staged) (at : Operating) (now : Staged) (here :
   pub room : HasRoomBothWays now
   pub staged : IsStaged before at
 
-pub one_back : (before : Staged) (at : Operating) (g h : Staged) (i j : Carried) (p q : Operating) → IsGoingBack before at g p
+pub one_back : (before : Staged) (at : Operating) (g h : Staged) (i j : Carried) (p q : Operating)
+    → IsGoingBack before at g p
     → g.back.items ≡ h.back.items ++ i ∷ [] → h.forward.items ≡ g.forward.items ++ j ∷ []
     → vec_capacity h.forward ≡ vec_capacity g.forward → vec_capacity h.back ≡ vec_capacity g.back → h.done ≡ g.done
     → q.state ≡ state_after i.edit p.state → j.edit ≡ inverse_of i.edit p.state → CanUnapply j q → q.room ≡ p.room
@@ -219,10 +257,13 @@ pub one_back : (before : Staged) (at : Operating) (g h : Staged) (i j : Carried)
 one_back before at g h i j p q going out put forward back done state inverse can room = record {
   gone = λ t s stage.
       let ready = going.can t s stage in
-      subst (λ is. HasGone t.change.edits t.change.from s (reverse h.back.items) is q) (sym (ap reverse put ∙ reverse_last g.forward.items j))
-      (latest_taken t.change.edits t.change.from s ready.made.used.sound (free_made t.change ready.made) (agrees_ready t.change s ready)
+      subst (λ is. HasGone t.change.edits t.change.from s (reverse h.back.items) is q)
+      (sym (ap reverse put ∙ reverse_last g.forward.items j))
+      (latest_taken t.change.edits t.change.from s ready.made.used.sound (free_made t.change ready.made)
+      (agrees_ready t.change s ready)
       i j (reverse h.back.items) (reverse g.forward.items) p q
-      (subst (λ is. HasGone t.change.edits t.change.from s is (reverse g.forward.items) p) (ap reverse out ∙ reverse_last h.back.items i) (going.gone t s stage))
+      (subst (λ is. HasGone t.change.edits t.change.from s is (reverse g.forward.items) p)
+      (ap reverse out ∙ reverse_last h.back.items i) (going.gone t s stage))
       state inverse can room);
   can = going.can;
   done = done ∙ going.done;
@@ -232,28 +273,36 @@ one_back before at g h i j p q going out put forward back done state inverse can
 }
 
 -- all are
-pub gone_back : (before : Staged) (at : Operating) (g h : Staged) (p : Operating) → IsGoingBack before at g p → g.back.items ≡ [] → h.back.items ≡ []
-    → h.forward.items ≡ g.forward.items → vec_capacity h.forward ≡ vec_capacity g.forward → vec_capacity h.back ≡ vec_capacity g.back → h.done ≡ g.done
+pub gone_back : (before : Staged) (at : Operating) (g h : Staged) (p : Operating) → IsGoingBack before at g p
+    → g.back.items ≡ [] → h.back.items ≡ []
+    → h.forward.items ≡ g.forward.items → vec_capacity h.forward ≡ vec_capacity g.forward
+    → vec_capacity h.back ≡ vec_capacity g.back → h.done ≡ g.done
     → (t : Stage) (s : State) → IsStageOf before t s at → IsStageOf h (record { change = t.change; advances = 0 }) s p
 gone_back before at g h p going empty still items forward back done t s stage =
     let ready = going.can t s stage in record {
       ready = ready;
       tells = subst (λ d. Tells d t.change) (sym (done ∙ going.done)) stage.tells;
-      along = subst (λ is. StandsAlong [] t.change.edits t.change.from s (reverse is) (reverse h.forward.items) p) (sym still)
+      along = subst (λ is. StandsAlong [] t.change.edits t.change.from s (reverse is) (reverse h.forward.items) p)
+          (sym still)
           (subst (λ is. StandsAlong [] t.change.edits t.change.from s [] (reverse is) p) (sym items)
-          (all_taken t.change.edits t.change.from s ready.made.used.sound (free_made t.change ready.made) (agrees_ready t.change s ready) (reverse g.forward.items) p
-          (subst (λ is. HasGone t.change.edits t.change.from s (reverse is) (reverse g.forward.items) p) empty (going.gone t s stage))));
-      room = let e = ap length empty in let z = ap length still in let l = ap length items in let r = going.room.back in let f = going.room.forward in
+          (all_taken t.change.edits t.change.from s ready.made.used.sound (free_made t.change ready.made)
+          (agrees_ready t.change s ready) (reverse g.forward.items) p
+          (subst (λ is. HasGone t.change.edits t.change.from s (reverse is) (reverse g.forward.items) p) empty
+          (going.gone t s stage))));
+      room = let e = ap length empty in let z = ap length still in let l = ap length items in let r = going.room.back in
+          let f = going.room.forward in
           record { back = omega (arith, e, z, l, r, back); forward = omega (arith, e, z, l, f, forward) };
     }
 
 -- ---- the two ends
 
-all_along : (es : List Edit) (k : ℕ) (s : State) → state_after_all (drop k es) (state_after_all (take k es) s) ≡ state_after_all es s
+all_along : (es : List Edit) (k : ℕ) (s : State)
+    → state_after_all (drop k es) (state_after_all (take k es) s) ≡ state_after_all es s
 all_along es k s = sym (all_append (take k es) (drop k es) s) ∙ ap (λ fs. state_after_all fs s) (take-append-drop k es)
 
 pub end_reached : (g : Staged) (t : Stage) (s : State) (p : Operating) (u : State) → IsStageOf g t s p
-    → u ≡ state_after_all (drop t.advances t.change.edits) (state_after_all (take t.advances t.change.edits) s) → u ≡ state_after_all t.change.edits s
+    → u ≡ state_after_all (drop t.advances t.change.edits) (state_after_all (take t.advances t.change.edits) s)
+    → u ≡ state_after_all t.change.edits s
 end_reached g t s p u stage is = is ∙ all_along t.change.edits t.advances s
 
 rules_like : (u s : State) → HasConfigAndNumbersOf u s → KeepsTheRules s → KeepsTheRules u
@@ -267,7 +316,8 @@ kept_at_start c s ready = rules_like s c.from ready.like ready.made.used.rules
 
 -- ---- steps
 
-module _ (still : CanStillUnapply) (g : Staged) (t : Stage) (s : State) (x : SubId) (step : Step) (p q : Operating) (stage : IsStageOf g t s p) (off : is_among x (altered t.change) ≡ false)
+module _ (still : CanStillUnapply) (g : Staged) (t : Stage) (s : State) (x : SubId) (step : Step) (p q : Operating)
+    (stage : IsStageOf g t s p) (off : is_among x (altered t.change) ≡ false)
     (state : q.state ≡ after_step x step p.state) (room : KeepsRoom p.room q.room) where
   abbrev c : Change
   c = t.change
@@ -282,24 +332,34 @@ module _ (still : CanStillUnapply) (g : Staged) (t : Stage) (s : State) (x : Sub
   off_cells = sym (altered_cells c x) ∙ off
 
   free : CarryFreeNumbers (first ++ rest) c.from
-  free = subst (λ fs. CarryFreeNumbers fs c.from) (sym (take-append-drop t.advances c.edits)) (free_made c stage.ready.made)
+  free = subst (λ fs. CarryFreeNumbers fs c.from) (sym (take-append-drop t.advances c.edits))
+      (free_made c stage.ready.made)
 
   agrees : Agrees (first ++ rest) c.from s
   agrees = subst (λ fs. Agrees fs c.from s) (sym (take-append-drop t.advances c.edits)) (agrees_ready c s stage.ready)
 
   off_first : is_among x (cells_written_by_all first c.from).subchannels ≡ false
-  off_first = not_first _ _ (sym (among_all first rest c.from x) ∙ ap (λ fs. is_among x (cells_written_by_all fs c.from).subchannels) (take-append-drop t.advances c.edits) ∙ off_cells)
+  off_first = not_first _ _
+      (sym (among_all first rest c.from x)
+      ∙ ap (λ fs. is_among x (cells_written_by_all fs c.from).subchannels) (take-append-drop t.advances c.edits)
+      ∙ off_cells)
     where
       not_first : (a b : Bool) → (a || b) ≡ false → a ≡ false
       not_first a b h = (or_parts _ _ h).0
 
   ready_then : IsReady c (after_step x step s)
   ready_then =
-      let then = agrees_after_step c.edits c.from s (agrees_ready c s stage.ready) x step off_cells stage.ready.made.used.sound in
-      record { made = stage.ready.made; like = then.like; lives = λ y among. then.lives y (sym (altered_cells c y) ∙ among) }
+      let then = agrees_after_step c.edits c.from s (agrees_ready c s stage.ready) x step off_cells
+      stage.ready.made.used.sound in
+      record {
+        made = stage.ready.made;
+        like = then.like;
+        lives = λ y among. then.lives y (sym (altered_cells c y) ∙ among);
+      }
 
   agrees_then : Agrees (first ++ rest) c.from (after_step x step s)
-  agrees_then = subst (λ fs. Agrees fs c.from (after_step x step s)) (sym (take-append-drop t.advances c.edits)) (agrees_ready c (after_step x step s) ready_then)
+  agrees_then = subst (λ fs. Agrees fs c.from (after_step x step s)) (sym (take-append-drop t.advances c.edits))
+      (agrees_ready c (after_step x step s) ready_then)
 
   sound : IsSound c.from
   sound = stage.ready.made.used.sound
@@ -331,11 +391,14 @@ module _ (still : CanStillUnapply) (g : Staged) (t : Stage) (s : State) (x : Sub
         back_edits = stage.along.back_edits;
         forward_edits = stage.along.forward_edits;
         back = subst (λ u. LeadsTo (reverse g.back.items) u q)
-            ((λ i. state_after_all (stage.along.back_edits i) (here i)) ∙ taken_back first c.from (after_step x step s) (agrees_first first rest c.from (after_step x step s) agrees_then) sound free_now)
+            ((λ i. state_after_all (stage.along.back_edits i) (here i))
+            ∙ taken_back first c.from (after_step x step s)
+            (agrees_first first rest c.from (after_step x step s) agrees_then) sound free_now)
             (leads_elsewhere still (reverse g.back.items) s p q stage.along.back stands);
         forward = subst (λ u. LeadsTo (reverse g.forward.items) u q)
             ((λ i. state_after_all (stage.along.forward_edits i) (here i))
-            ∙ all_do_again rest (state_after_all first c.from) (state_after_all first (after_step x step s)) (agrees_rest first rest c.from (after_step x step s) agrees_then)
+            ∙ all_do_again rest (state_after_all first c.from) (state_after_all first (after_step x step s))
+            (agrees_rest first rest c.from (after_step x step s) agrees_then)
             (stays_sound first c.from sound free_now) (free_rest first rest c.from free))
             (leads_elsewhere still (reverse g.forward.items) _ p q stage.along.forward stands);
       };
@@ -346,4 +409,5 @@ module _ (still : CanStillUnapply) (g : Staged) (t : Stage) (s : State) (x : Sub
   }
 
 pub steps_elsewhere_pass_a_stage : CanStillUnapply → StepsElsewherePassAStage
-steps_elsewhere_pass_a_stage still g t s x step p q stage off state room = passes still g t s x step p q stage off state room
+steps_elsewhere_pass_a_stage still g t s x step p q stage off state room =
+    passes still g t s x step p q stage off state room

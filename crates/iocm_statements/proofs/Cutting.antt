@@ -1,5 +1,6 @@
 -- The steps of the loop that cuts a text.
-use Rattle.std.proofs.Common.{◌≡◌, ℕ, ◌+◌, ◌<◌, ◌≤◌, true, false, Option, None, Some, List, [], ◌∷◌, ◌++◌, length, get_or, drop, slice_range, refl, sym, ap, ◌∙◌, append_assoc}
+use Rattle.std.proofs.Common.{◌≡◌, ℕ, ◌+◌, ◌<◌, ◌≤◌, true, false, Option, None, Some, List, [], ◌∷◌, ◌++◌, length}
+use Rattle.std.proofs.Common.{get_or, drop, slice_range, refl, sym, ap, ◌∙◌, append_assoc}
 use Rattle.std.proofs.Math.ListN.{drop_of_length-le}
 use Rattle.std.proofs.lemmas.List.{append-nil, drop_more}
 use Rattle.std.specs.Option.{option_map}
@@ -38,7 +39,8 @@ pub cut_ends_piece : (pieces more : List (List ℕ)) (p : Nesting) (text : List 
     ≡ with_front more (slice_range text next (i + 1)) (pieces_from p (drop (i + 1) text))
 unfolding pieces_from
 cut_ends_piece pieces more p text from next i within cut is begins =
-    rw (drop_more text i 0 within, cut, is, begins, run_begins text (i + 1)) (cut_grows pieces (slice_range text from i) (pieces_from p (drop (i + 1) text)))
+    rw (drop_more text i 0 within, cut, is, begins, run_begins text (i + 1))
+    (cut_grows pieces (slice_range text from i) (pieces_from p (drop (i + 1) text)))
 
 -- another byte goes to the piece at hand
 pub byte_joins_piece : (pieces : List (List ℕ)) (p q : Nesting) (text : List ℕ) (from i : ℕ)
@@ -76,4 +78,12 @@ pub nothing_in_front : (rest : Option (List (List ℕ))) → with_front [] [] re
 nothing_in_front None = refl
 nothing_in_front (Some more) = ap Some (none_in_front more)
 
-pub ruleset cutting = (cut_ends_piece, byte_joins_piece, closing_fails, end_ends_piece, end_fails, nothing_in_front, run_begins)
+pub ruleset cutting = (
+  cut_ends_piece,
+  byte_joins_piece,
+  closing_fails,
+  end_ends_piece,
+  end_fails,
+  nothing_in_front,
+  run_begins,
+)

@@ -1,5 +1,6 @@
 -- The pieces of a text, as cutting finds them, are those of the relation, and no others are.
-use Rattle.std.proofs.Common.{◌≡◌, ◌≢◌, ℕ, Bool, true, false, cond, Option, None, Some, List, [], ◌∷◌, ◌++◌, All, refl, sym, ap, ◌∙◌, subst}
+use Rattle.std.proofs.Common.{◌≡◌, ◌≢◌, ℕ, Bool, true, false, cond, Option, None, Some, List, [], ◌∷◌, ◌++◌, All, refl}
+use Rattle.std.proofs.Common.{sym, ap, ◌∙◌, subst}
 use Rattle.std.proofs.lemmas.Bool.{false≢true}
 use Rattle.std.proofs.lemmas.List.{append-nil}
 use Rattle.std.proofs.lemmas.List.Elements.{All-nil, All-cons, All-head, All-tail}
@@ -8,9 +9,11 @@ use Rattle.std.specs.Option.{option_and_then}
 use Rattle.std.specs.Option.{option_map}
 use Rattle.iocm_statements.specs.declared.nesting.Nesting.{Nesting}
 use Rattle.iocm_statements.specs.Nesting.{start, is_outside, step, cuts}
-use Rattle.iocm_statements.proofs.Nestings.{start_is_outside, comma_cuts, outside_is_start, cuts_at_start, cuts_at_comma, step_over_cut}
+use Rattle.iocm_statements.proofs.Nestings.{start_is_outside, comma_cuts, outside_is_start, cuts_at_start}
+use Rattle.iocm_statements.proofs.Nestings.{cuts_at_comma, step_over_cut}
 use Rattle.iocm_statements.specs.Pieces.{onto_first, pieces_from, pieces_of}
-use Rattle.iocm_statements.specs.Cutting.{nesting_behind, IsBalanced, IsUncut, FindsPieces, FindsNoOthers, CutsBalanced, CutsNoOthers}
+use Rattle.iocm_statements.specs.Cutting.{nesting_behind, IsBalanced, IsUncut, FindsPieces, FindsNoOthers, CutsBalanced}
+use Rattle.iocm_statements.specs.Cutting.{CutsNoOthers}
 
 -- ---- pieces that begin at any nesting
 
@@ -29,7 +32,8 @@ empty_piece = record { ends = refl; uncut = λ a b e _. no_parts a b e }
     no_parts [] b e = cc
     no_parts (x ∷ a) b e = cc
 
-longer_piece : (p q : Nesting) (b : ℕ) (piece : List ℕ) → cuts p b ≡ false → step p b ≡ Some q → IsPieceFrom q piece → IsPieceFrom p (b ∷ piece)
+longer_piece : (p q : Nesting) (b : ℕ) (piece : List ℕ) → cuts p b ≡ false → step p b ≡ Some q → IsPieceFrom q piece
+    → IsPieceFrom p (b ∷ piece)
 longer_piece p q b piece kept next at = record {
   ends = rw next at.ends;
   uncut = parts;
@@ -45,7 +49,8 @@ longer_piece p q b piece kept next at = record {
         let rest : piece ≡ a ++ 44 ∷ c = cc in
         at.uncut a c rest (sym (ap (option_and_then (λ r. nesting_behind r a)) (ap (step p) same ∙ next)) ∙ h)
 
-shorter_piece : (p q : Nesting) (b : ℕ) (piece : List ℕ) → step p b ≡ Some q → IsPieceFrom p (b ∷ piece) → IsPieceFrom q piece
+shorter_piece : (p q : Nesting) (b : ℕ) (piece : List ℕ) → step p b ≡ Some q → IsPieceFrom p (b ∷ piece)
+    → IsPieceFrom q piece
 shorter_piece p q b piece next at = record {
   ends = rw next at at.ends;
   uncut = λ a c e h. at.uncut (b ∷ a) c (ap (λ xs. b ∷ xs) e) (rw next h);
@@ -54,7 +59,8 @@ shorter_piece p q b piece next at = record {
 -- ---- what is found
 
 abbrev Found : Nesting → List ℕ → Option (List (List ℕ)) → Type 0
-Found p text (Some pieces) = (join_with_byte 44 pieces ≡ text) × IsCutFrom p pieces × (nesting_behind p text ≡ Some start)
+Found p text (Some pieces) =
+    (join_with_byte 44 pieces ≡ text) × IsCutFrom p pieces × (nesting_behind p text ≡ Some start)
 Found p text None = nesting_behind p text ≢ Some start
 
 found_end : (p : Nesting) (out : Bool) → is_outside p ≡ out → Found p [] (cond out (Some ([] ∷ [])) None)
@@ -71,8 +77,12 @@ found_cut p b bs (Some (r ∷ rs)) cut at =
     let begun = cuts_at_start p b cut in
     let comma = cuts_at_comma p b cut in
     let first : IsPieceFrom p [] = subst (λ q. IsPieceFrom q []) (sym begun) empty_piece in
-    let second : IsPieceFrom start r = subst (λ q. IsPieceFrom q r) begun at.1.0 in
-    (ap (λ c. c ∷ join_with_byte 44 (r ∷ rs)) (sym comma) ∙ ap (λ xs. b ∷ xs) at.0, (first, All-cons (IsPieceFrom start) r rs second at.1.1), rw (step_over_cut p b cut) at.2)
+    let second : IsPieceFrom start r = subst (λ q. IsPieceFrom q r) begun at.1.0 in (
+      ap (λ c. c ∷ join_with_byte 44 (r ∷ rs)) (sym comma)
+          ∙ ap (λ xs. b ∷ xs) at.0,
+      (first, All-cons (IsPieceFrom start) r rs second at.1.1),
+      rw (step_over_cut p b cut) at.2,
+    )
 
 found_byte : (p q : Nesting) (b : ℕ) (bs : List ℕ) (rest : Option (List (List ℕ)))
     → cuts p b ≡ false → step p b ≡ Some q → Found q bs rest → Found p (b ∷ bs) (option_map (onto_first (b ∷ [])) rest)
@@ -86,7 +96,8 @@ found_byte p q b bs (Some (r ∷ s ∷ ss)) kept next at =
 found_step : (p : Nesting) (b : ℕ) (bs : List ℕ) (next : Option Nesting) → cuts p b ≡ false → step p b ≡ next
     → ((q : Nesting) → Found q bs (pieces_from q bs))
     → Found p (b ∷ bs) (option_and_then (λ q. option_map (onto_first (b ∷ [])) (pieces_from q bs)) next)
-found_step p b bs None kept next rest = λ e. let none : None ≡ Some start = sym (ap (option_and_then (λ q. nesting_behind q bs)) next) ∙ e in cc
+found_step p b bs None kept next rest = λ e. let none : None ≡ Some start =
+    sym (ap (option_and_then (λ q. nesting_behind q bs)) next) ∙ e in cc
 found_step p b bs (Some q) kept next rest = found_byte p q b bs (pieces_from q bs) kept next (rest q)
 
 pub found_from : (p : Nesting) (text : List ℕ) → Found p text (pieces_from p text)
@@ -113,7 +124,8 @@ only_piece more pieces rest (b ∷ piece) p at = by (cuts p b) refl (step p b) r
     by : (cut : Bool) → cuts p b ≡ cut → (next : Option Nesting) → step p b ≡ next
         → ((q : Nesting) → IsPieceFrom q piece → pieces_from q (piece ++ more) ≡ Some (piece ∷ pieces))
         → cond cut (option_map (λ found. [] ∷ found) (pieces_from p (piece ++ more)))
-        (option_and_then (λ q. option_map (onto_first (b ∷ [])) (pieces_from q (piece ++ more))) next) ≡ Some ((b ∷ piece) ∷ pieces)
+        (option_and_then (λ q. option_map (onto_first (b ∷ [])) (pieces_from q (piece ++ more))) next)
+        ≡ Some ((b ∷ piece) ∷ pieces)
     by true cut next is found =
         absurd (at.uncut [] piece (ap (λ c. c ∷ piece) (cuts_at_comma p b cut)) (ap Some (cuts_at_start p b cut)))
     by false kept None is found =
@@ -129,7 +141,8 @@ only_from [] p piece at =
 only_from (next ∷ pieces) p piece at =
     let rest = only_from pieces start next
     (All-head (IsPieceFrom start) next pieces at.1, All-tail (IsPieceFrom start) next pieces at.1) in
-    let cut : pieces_from start (44 ∷ join_with_byte 44 (next ∷ pieces)) ≡ Some ([] ∷ next ∷ pieces) = rw (comma_cuts, rest) refl in
+    let cut : pieces_from start (44 ∷ join_with_byte 44 (next ∷ pieces)) ≡ Some ([] ∷ next ∷ pieces) =
+    rw (comma_cuts, rest) refl in
     only_piece (44 ∷ join_with_byte 44 (next ∷ pieces)) (next ∷ pieces) cut piece p at.0
 
 -- ---- the law
@@ -159,9 +172,11 @@ finds_pieces text (piece ∷ pieces) is =
 pub finds_no_others : FindsNoOthers
 finds_no_others text [] at = absurd (at.some refl)
 finds_no_others text (piece ∷ pieces) at =
-    let each : All (IsPieceFrom start) (piece ∷ pieces) = λ k d h. record { ends = at.balanced k d h; uncut = at.uncut k d h } in
+    let each : All (IsPieceFrom start) (piece ∷ pieces) =
+    λ k d h. record { ends = at.balanced k d h; uncut = at.uncut k d h } in
     ap pieces_of (sym at.joined)
-    ∙ only_from pieces start piece (All-head (IsPieceFrom start) piece pieces each, All-tail (IsPieceFrom start) piece pieces each)
+    ∙ only_from pieces start piece
+    (All-head (IsPieceFrom start) piece pieces each, All-tail (IsPieceFrom start) piece pieces each)
 
 pub cuts_balanced : CutsBalanced
 cuts_balanced text is = subst (Found start text) is (found_from start text)

@@ -1,5 +1,6 @@
 -- The operand of a text is what the text says, and nothing else is.
-use Rattle.std.proofs.Common.{◌≡◌, ◌≢◌, ℕ, suc, ◌+◌, Bool, true, false, not, cond, ◌==◌, Option, None, Some, List, [], ◌∷◌, ◌++◌, length, take, drop, Result, Ok, Err, refl, sym, ap, ◌∙◌, subst, arith}
+use Rattle.std.proofs.Common.{◌≡◌, ◌≢◌, ℕ, suc, ◌+◌, Bool, true, false, not, cond, ◌==◌, Option, None, Some, List, []}
+use Rattle.std.proofs.Common.{◌∷◌, ◌++◌, length, take, drop, Result, Ok, Err, refl, sym, ap, ◌∙◌, subst, arith}
 use Rattle.std.proofs.lemmas.Bool.{false≢true, and_parts}
 use Rattle.std.proofs.Math.Dec.{eqb-suc-zero}
 use Rattle.std.proofs.Math.Seq.{take-append_seam, drop-append-add}
@@ -10,9 +11,11 @@ use Rattle.iocm_statements.specs.declared.nesting.Nesting.{Nesting}
 use Rattle.iocm_statements.specs.declared.operands.OperandKey.TheVariants.{Keyword, Bare}
 use Rattle.iocm_statements.specs.Nesting.{start, step, sets}
 use Rattle.iocm_statements.specs.Cutting.{nesting_behind}
-use Rattle.iocm_statements.specs.Operands.{Operand, equals_from, is_keyword_byte, is_keyword, keyword_operand, operand_split, operand_of}
+use Rattle.iocm_statements.specs.Operands.{Operand, equals_from, is_keyword_byte, is_keyword, keyword_operand}
+use Rattle.iocm_statements.specs.Operands.{operand_split, operand_of}
 use Rattle.iocm_statements.specs.Splitting.{HasNoEquals, Says, FindsOperand, FindsNoOtherOperand}
-use Rattle.iocm_statements.proofs.Nestings.{sets_at_start, sets_at_equals, equals_sets, keyword_byte_sets_not, keyword_byte_stays}
+use Rattle.iocm_statements.proofs.Nestings.{sets_at_start, sets_at_equals, equals_sets, keyword_byte_sets_not}
+use Rattle.iocm_statements.proofs.Nestings.{keyword_byte_stays}
 
 -- ---- the equal sign that is found
 
@@ -42,7 +45,8 @@ none_longer p b bs other rest (x ∷ a) c e h =
 
 longer : (p q : Nesting) (b : ℕ) (bs : List ℕ) (found : Option ℕ) → sets p b ≡ false → step p b ≡ Some q
     → Split q bs found → Split p (b ∷ bs) (option_map suc found)
-longer p q b bs None other next at = none_longer p b bs other (λ a c e h. at a c e (sym (ap (option_and_then (λ r. nesting_behind r a)) next) ∙ h))
+longer p q b bs None other next at =
+    none_longer p b bs other (λ a c e h. at a c e (sym (ap (option_and_then (λ r. nesting_behind r a)) next) ∙ h))
 longer p q b bs (Some n) other next at =
     let further : suc n + 1 ≡ suc (n + 1) = omega arith in
     (ap (λ k. b ∷ (take n bs ++ 61 ∷ drop k (b ∷ bs))) further ∙ ap (λ xs. b ∷ xs) at.0, rw next at.1)
@@ -57,7 +61,9 @@ split_from p (b ∷ bs) = by (sets p b) refl (step p b) refl (λ q. split_from q
         → Split p (b ∷ bs) (cond here (Some 0) (option_and_then (λ q. option_map suc (equals_from q bs)) next))
     by true here next is rest = split_here p b bs here
     by false other None is rest =
-        none_longer p b bs other (λ a c e h. let none : None ≡ Some start = sym (ap (option_and_then (λ q. nesting_behind q a)) is) ∙ h in cc)
+        none_longer p b bs other
+        (λ a c e h. let none : None ≡ Some start = sym (ap (option_and_then (λ q. nesting_behind q a)) is)
+        ∙ h in cc)
     by false other (Some q) is rest = longer p q b bs (equals_from q bs) other is (rest q)
 
 -- ---- the operand that is found

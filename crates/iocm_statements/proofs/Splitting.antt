@@ -1,5 +1,6 @@
 -- The steps of the search for the equal sign of an operand.
-use Rattle.std.proofs.Common.{◌≡◌, ℕ, suc, ◌+◌, ◌<◌, ◌≤◌, true, false, Option, None, Some, List, length, get_or, drop, refl, ap, arith}
+use Rattle.std.proofs.Common.{◌≡◌, ℕ, suc, ◌+◌, ◌<◌, ◌≤◌, true, false, Option, None, Some, List, length, get_or, drop}
+use Rattle.std.proofs.Common.{refl, ap, arith}
 use Rattle.std.proofs.Math.ListN.{drop_of_length-le}
 use Rattle.std.proofs.lemmas.List.{drop_more}
 use Rattle.std.specs.Option.{option_map}
@@ -23,19 +24,23 @@ unfolding equals_from further
 equals_here p text i within here = rw (drop_more text i 0 within, here) (ap Some (omega arith))
 
 -- it stands further on
-pub equals_later : (p q : Nesting) (text : List ℕ) (i : ℕ) → i < length text → sets p (get_or text i 0) ≡ false → step p (get_or text i 0) ≡ Some q
+pub equals_later : (p q : Nesting) (text : List ℕ) (i : ℕ) → i < length text → sets p (get_or text i 0) ≡ false
+    → step p (get_or text i 0) ≡ Some q
     → further i (equals_from p (drop i text)) ≡ further (i + 1) (equals_from q (drop (i + 1) text))
 unfolding equals_from further
-equals_later p q text i within other next = rw (drop_more text i 0 within, other, next) (one_further i (equals_from q (drop (i + 1) text)))
+equals_later p q text i within other next =
+    rw (drop_more text i 0 within, other, next) (one_further i (equals_from q (drop (i + 1) text)))
 
 -- there is none behind a parenthesis that closes nothing
-pub equals_lost : (p : Nesting) (text : List ℕ) (i : ℕ) → i < length text → sets p (get_or text i 0) ≡ false → step p (get_or text i 0) ≡ None
+pub equals_lost : (p : Nesting) (text : List ℕ) (i : ℕ) → i < length text → sets p (get_or text i 0) ≡ false
+    → step p (get_or text i 0) ≡ None
     → further i (equals_from p (drop i text)) ≡ None
 unfolding equals_from further
 equals_lost p text i within other next = rw (drop_more text i 0 within, other, next) refl
 
 -- nor at the end
-pub equals_none : (p : Nesting) (text : List ℕ) (i : ℕ) → length text ≤ i → further i (equals_from p (drop i text)) ≡ None
+pub equals_none : (p : Nesting) (text : List ℕ) (i : ℕ) → length text ≤ i
+    → further i (equals_from p (drop i text)) ≡ None
 unfolding equals_from further
 equals_none p text i past = rw (drop_of_length-le text past) refl
 

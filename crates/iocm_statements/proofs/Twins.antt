@@ -1,5 +1,6 @@
 -- Operands that come one by one into a map by their keys.
-use Rattle.std.proofs.Common.{◌≡◌, ℕ, ◌+◌, ◌<◌, Bool, true, false, cond, ◌||◌, Some, is_some, List, [], ◌∷◌, ◌++◌, map, length, get_or, take, drop, refl, sym, ap, ◌∙◌, subst, take-append-drop}
+use Rattle.std.proofs.Common.{◌≡◌, ℕ, ◌+◌, ◌<◌, Bool, true, false, cond, ◌||◌, Some, is_some, List, [], ◌∷◌, ◌++◌, map}
+use Rattle.std.proofs.Common.{length, get_or, take, drop, refl, sym, ap, ◌∙◌, subst, take-append-drop}
 use Rattle.std.proofs.lemmas.List.{map-id}
 use Rattle.std.proofs.lemmas.Bool.{false≢true, or_parts}
 use Rattle.std.specs.List.{list_any}
@@ -21,19 +22,23 @@ derived_eq (Bare i) (Bare j) = refl
 
 -- an operand whose key is not there brings no twins
 pub stays_distinct : (es : List Operand) (key : OperandKey) (text : List ℕ)
-    → has_twins es ≡ false → is_some (lookup (derived.ghosts.eq key) es) ≡ false → has_twins (es ++ (key, text) ∷ []) ≡ false
+    → has_twins es ≡ false → is_some (lookup (derived.ghosts.eq key) es) ≡ false
+    → has_twins (es ++ (key, text) ∷ []) ≡ false
 stays_distinct [] key text distinct absent = refl
 stays_distinct ((k, t) ∷ es) key text distinct absent =
     by (derived.ghosts.eq key k) refl absent (stays_distinct es key text (or_parts _ _ distinct).1)
   where
-    by : (b : Bool) → derived.ghosts.eq key k ≡ b → is_some (cond b (Some t) (lookup (derived.ghosts.eq key) es)) ≡ false
+    by : (b : Bool) → derived.ghosts.eq key k ≡ b
+        → is_some (cond b (Some t) (lookup (derived.ghosts.eq key) es)) ≡ false
         → (is_some (lookup (derived.ghosts.eq key) es) ≡ false → has_twins (es ++ (key, text) ∷ []) ≡ false)
-        → (list_any (λ (other : Operand). same_key other.0 k) (es ++ (key, text) ∷ []) || has_twins (es ++ (key, text) ∷ [])) ≡ false
+        → (list_any (λ (other : Operand). same_key other.0 k) (es ++ (key, text) ∷ [])
+        || has_twins (es ++ (key, text) ∷ [])) ≡ false
     by true same found rest = absurd (false≢true (sym found))
     by false other missing rest =
         let none : list_any (λ (other : Operand). same_key other.0 k) es ≡ false = (or_parts _ _ distinct).0 in
         let apart : same_key key k ≡ false = sym (derived_eq key k) ∙ other in
-        rw (rest missing, list_any-append (λ (other : Operand). same_key other.0 k) es ((key, text) ∷ []), none, apart) refl
+        rw (rest missing, list_any-append (λ (other : Operand). same_key other.0 k) es ((key, text) ∷ []), none, apart)
+        refl
 
 -- an operand whose key is there is a twin, whatever follows
 pub becomes_twin : (es rest : List Operand) (key : OperandKey) (text : List ℕ)
@@ -44,15 +49,21 @@ becomes_twin ((k, t) ∷ es) rest key text found =
   where
     by : (b : Bool) → derived.ghosts.eq key k ≡ b → is_some (cond b (Some t) (lookup (derived.ghosts.eq key) es)) ≡ true
         → (is_some (lookup (derived.ghosts.eq key) es) ≡ true → has_twins (es ++ (key, text) ∷ rest) ≡ true)
-        → (list_any (λ (other : Operand). same_key other.0 k) (es ++ (key, text) ∷ rest) || has_twins (es ++ (key, text) ∷ rest)) ≡ true
+        → (list_any (λ (other : Operand). same_key other.0 k) (es ++ (key, text) ∷ rest)
+        || has_twins (es ++ (key, text) ∷ rest)) ≡ true
     by true same there more =
         let twin : same_key key k ≡ true = sym (derived_eq key k) ∙ same in
-        rw (list_any-append (λ (other : Operand). same_key other.0 k) es ((key, text) ∷ rest), twin, or-true (list_any (λ (other : Operand). same_key other.0 k) es)) refl
+        rw (
+          list_any-append (λ (other : Operand). same_key other.0 k) es ((key, text) ∷ rest),
+          twin,
+          or-true (list_any (λ (other : Operand). same_key other.0 k) es),
+        ) refl
     by false other there more = rw (more there) (or-true _)
 
 -- the items that came first, the item at hand, and the rest are all
 cut_at : (items yielded : List Operand) (e : Operand)
-    → map (λ x. x) yielded ≡ take (length yielded) items → (length yielded < length items) × (e ≡ get_or items (length yielded) e)
+    → map (λ x. x) yielded ≡ take (length yielded) items
+    → (length yielded < length items) × (e ≡ get_or items (length yielded) e)
     → yielded ++ e ∷ drop (length yielded + 1) items ≡ items
 cut_at items yielded e front here =
     let opened : drop (length yielded) items ≡ e ∷ drop (length yielded + 1) items =

@@ -1,6 +1,7 @@
 -- A seat is a caller's still, once it was joined to another, or has lent a name; what a caller has
 -- of a call, and tells at the close.
-use Rattle.std.proofs.Common.{◌≡◌, ◌≤◌, Ok, Err, Bool, true, false, cond, ◌||◌, List, [], ◌++◌, refl, sym, ap, ◌∙◌, subst}
+use Rattle.std.proofs.Common.{◌≡◌, ◌≤◌, Ok, Err, Bool, true, false, cond, ◌||◌, List, [], ◌++◌, refl, sym, ap, ◌∙◌}
+use Rattle.std.proofs.Common.{subst}
 use Rattle.std.specs.Prelude.{Result, IfOk}
 use Rattle.iocm_core.specs.Seen as seen
 use Rattle.iocm_core.specs.declared.call.Call.{Call}
@@ -51,8 +52,11 @@ first_caller o run is =
     }
 
 -- what a call under the lock gave the seat, the caller has gained
-pub ok_made : {E : Type 0} (r : Result Receipt E) (old new : Held) (me : Sight) (call : Call) → sight_of old ≡ me → IfOk r (λ x. x.asked ≡ asked_by call)
-    → IfOk r (λ x. (old.view.seen ≤ x.number) × ◌≡◌ {A = Held} new (record { tag = old.tag; view = with_receipt old.view x.number (record { call = call; answer = x.answer }) }))
+pub ok_made : {E : Type 0} (r : Result Receipt E) (old new : Held) (me : Sight) (call : Call) → sight_of old ≡ me
+    → IfOk r (λ x. x.asked ≡ asked_by call)
+    → IfOk r (λ x. (old.view.seen ≤ x.number)
+    × ◌≡◌ {A = Held} new (record
+    { tag = old.tag; view = with_receipt old.view x.number (record { call = call; answer = x.answer }) }))
     → IfOk r (λ x. IsMade call me x (sight_of new))
 ok_made (Ok x) old new me call is asked h =
     record {
@@ -63,7 +67,8 @@ ok_made (Ok x) old new me call is asked h =
 ok_made (Err e) old new me call is asked h = tt
 
 -- a whole caller with the keeper's list tells all of the core
-pub tells_all : (run : seen.Core) (h : Held) (k : View) (me : Sight) → sight_of h ≡ me → k.list ≡ run.entries → is_whole me.names ≡ true → HasAll (takes h.view k)
+pub tells_all : (run : seen.Core) (h : Held) (k : View) (me : Sight) → sight_of h ≡ me → k.list ≡ run.entries
+    → is_whole me.names ≡ true → HasAll (takes h.view k)
     → TellAll me.origin me.receipts run.entries
 tells_all run h k me is list whole has =
     subst (λ (s : Sight). is_whole s.names ≡ true → TellAll s.origin s.receipts run.entries) is

@@ -10,7 +10,7 @@ use Rattle.iocm_board.specs.contracts.board.Board as Board
 use Rattle.iocm_board.specs.contracts.seat.Seat as Seat
 use Rattle.iocm_board.specs.contracts.seat.Seat.TheInside as seat_inside
 use Rattle.iocm_board.specs.declared.identity.Identity.{Ghosts}
-use Rattle.iocm_core.proofs.Sends.{call_send, core_send, entry_send}
+use Rattle.iocm_core.proofs.Sends.{core_send, entry_send}
 use Rattle.iocm_types.proofs.answer.Answer.TheSendSync as answer
 use Rattle.iocm_types.proofs.rule.Rule.TheSendSync as rule
 use Rattle.iocm_system.specs.contracts.asked.Asked as Asked
@@ -32,7 +32,11 @@ receipt_send = declared_send Receipt.the_type (search sendable depth 20, (asked_
 
 module _ (B : RattleType) (i : Ghosts B.Denot) where
   seat_send : IsSend (Seat.the_row B i)
-  seat_send = view_send _ _ _ _ _ (declared_send (seat_inside.the_type B i) (search (entry_send, place.the_send, crosses, sendable) depth 20, (search sendable depth 20, (search (crosses, sendable) depth 20, tt))))
+  seat_send = view_send _ _ _ _ _
+      (declared_send (seat_inside.the_type B i) (
+        search (entry_send, place.the_send, crosses, sendable) depth 20,
+        (search sendable depth 20, (search (crosses, sendable) depth 20, tt)),
+      ))
 
   pub caller_send : IsSend (Caller.the_row B i)
   caller_send = view_send _ _ _ _ _ (declared_send (caller_inside.the_type B i) (seat_send, tt))
@@ -41,7 +45,11 @@ module _ (B : RattleType) (i : Ghosts B.Denot) where
   desk_send = view_send _ _ _ _ _ (declared_send (desk_inside.the_type B i) (core_send, (seat_send, tt)))
 
   board_sync : IsSync (Board.the_row B i)
-  board_sync = declared_sync (Board.the_type B i) (search (entry_send, table.the_sync, crosses, sendable) depth 20, (search sendable depth 20, (search (crosses, sendable) depth 20, tt)))
+  board_sync = declared_sync (Board.the_type B i) (
+    search (entry_send, table.the_sync, crosses, sendable) depth 20,
+    (search sendable depth 20, (search (crosses, sendable) depth 20, tt)),
+  )
 
   pub system_sync : IsSync (System.the_row B i)
-  system_sync = declared_sync (System.the_type B i) (board_sync, (search (desk_send, crosses, sendable) depth 20, (search (crosses, sendable) depth 20, tt)))
+  system_sync = declared_sync (System.the_type B i)
+      (board_sync, (search (desk_send, crosses, sendable) depth 20, (search (crosses, sendable) depth 20, tt)))

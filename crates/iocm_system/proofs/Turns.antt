@@ -16,9 +16,11 @@ gained_last : (cs : List Call) (rs : List Receipt) (c : Call) (r : Receipt) → 
 gained_last [] [] c r e = refl
 gained_last [] (x ∷ rs) c r e = absurd (omega arith)
 gained_last (x ∷ cs) [] c r e = absurd (omega arith)
-gained_last (x ∷ cs) (y ∷ rs) c r e = ap (λ ms. made y.number (record { call = x; answer = y.answer }) ∷ ms) (gained_last cs rs c r (omega arith))
+gained_last (x ∷ cs) (y ∷ rs) c r e =
+    ap (λ ms. made y.number (record { call = x; answer = y.answer }) ∷ ms) (gained_last cs rs c r (omega arith))
 
-rise_last : (from below : ℕ) (rs : List Receipt) (r : Receipt) → Rise from rs below → below ≤ r.number → Rise from (rs ++ r ∷ []) (suc r.number)
+rise_last : (from below : ℕ) (rs : List Receipt) (r : Receipt) → Rise from rs below → below ≤ r.number
+    → Rise from (rs ++ r ∷ []) (suc r.number)
 rise_last from below [] r h low = (omega (arith, h, low), omega arith)
 rise_last from below (x ∷ rs) r h low = (h.0, rise_last (suc x.number) below rs r h.1 low)
 
@@ -39,14 +41,18 @@ turn_begins calls me =
       names = refl;
     }
 
-pub turn_goes_on : (calls : List Call) (old now new : Sight) (rs : List Receipt) (c : Call) (rest : List Call) (r : Receipt) → IsTurn calls old now rs (c ∷ rest) → r.asked ≡ asked_by c
-    → now.seen ≤ r.number → new ≡ gains now r.number (record { call = c; answer = r.answer }) → IsTurn calls old new (rs ++ r ∷ []) rest
+pub turn_goes_on : (calls : List Call) (old now new : Sight) (rs : List Receipt) (c : Call) (rest : List Call)
+    (r : Receipt) → IsTurn calls old now rs (c ∷ rest) → r.asked ≡ asked_by c
+    → now.seen ≤ r.number → new ≡ gains now r.number (record { call = c; answer = r.answer })
+    → IsTurn calls old new (rs ++ r ∷ []) rest
 turn_goes_on calls old now new rs c rest r t asked later is =
-    let many : length rs ≡ length t.first = sym (length-map rs (λ (x : Receipt). x.asked)) ∙ ap length t.asked ∙ length-map t.first asked_by in
+    let many : length rs ≡ length t.first =
+    sym (length-map rs (λ (x : Receipt). x.asked)) ∙ ap length t.asked ∙ length-map t.first asked_by in
     subst (λ s. IsTurn calls old s (rs ++ r ∷ []) rest) (sym is) (record {
       first = t.first ++ c ∷ [];
       all = t.all ∙ sym (append_assoc t.first (c ∷ []) rest);
-      asked = map-append (λ (x : Receipt). x.asked) rs (r ∷ []) ∙ (λ i. t.asked i ++ asked i ∷ []) ∙ sym (map-append asked_by t.first (c ∷ []));
+      asked = map-append (λ (x : Receipt). x.asked) rs (r ∷ []) ∙ (λ i. t.asked i ++ asked i ∷ [])
+          ∙ sym (map-append asked_by t.first (c ∷ []));
       gained_are = ap (λ ms. ms ++ made r.number (record { call = c; answer = r.answer }) ∷ []) t.gained_are
           ∙ append_assoc old.receipts (gained t.first rs) (made r.number (record { call = c; answer = r.answer }) ∷ [])
           ∙ ap (λ ms. old.receipts ++ ms) (sym (gained_last t.first rs c r many));
@@ -57,7 +63,8 @@ turn_goes_on calls old now new rs c rest r t asked later is =
     })
 
 -- a caller with a call handed back has seen as much, or more, and nothing else is new
-back_sees : (calls : List Call) (old now : Sight) (rs : List Receipt) (rest : List Call) (n : ℕ) → IsTurn calls old now rs rest → now.seen ≤ n → IsTurn calls old (sees_now now n) rs rest
+back_sees : (calls : List Call) (old now : Sight) (rs : List Receipt) (rest : List Call) (n : ℕ)
+    → IsTurn calls old now rs rest → now.seen ≤ n → IsTurn calls old (sees_now now n) rs rest
 back_sees calls old now rs rest n t more =
     record {
       first = t.first;
@@ -70,8 +77,10 @@ back_sees calls old now rs rest n t more =
       names = t.names;
     }
 
-pub turn_ends : (calls : List Call) (old now new : Sight) (rs : List Receipt) (rest : List Call) (why : Rule) → IsTurn calls old now rs rest → IsBack why now new → IsTurn calls old new rs rest
-turn_ends calls old now new rs rest rules.O3 t back = subst (λ s. IsTurn calls old s rs rest) (sym back.1) (back_sees calls old now rs rest now.origin.room t back.0)
+pub turn_ends : (calls : List Call) (old now new : Sight) (rs : List Receipt) (rest : List Call) (why : Rule)
+    → IsTurn calls old now rs rest → IsBack why now new → IsTurn calls old new rs rest
+turn_ends calls old now new rs rest rules.O3 t back =
+    subst (λ s. IsTurn calls old s rs rest) (sym back.1) (back_sees calls old now rs rest now.origin.room t back.0)
 turn_ends calls old now new rs rest rules.X1 t back = subst (λ s. IsTurn calls old s rs rest) (sym back) t
 turn_ends calls old now new rs rest _ t back = absurd back
 

@@ -1,5 +1,6 @@
 -- Slots that are made of rows at once: their rows are these, as many as there are.
-use Rattle.std.proofs.Common.{◌≡◌, ℕ, suc, ◌+◌, ◌||◌, Bool, true, false, cond, List, [], ◌∷◌, Option, None, Some, is_some, length, refl, sym, ap, subst, ◌∙◌, arith}
+use Rattle.std.proofs.Common.{◌≡◌, ℕ, suc, ◌+◌, ◌||◌, Bool, true, false, cond, List, [], ◌∷◌, Option, None, Some}
+use Rattle.std.proofs.Common.{is_some, length, refl, sym, ap, subst, ◌∙◌, arith}
 use Rattle.std.specs.List.{IsDistinct, AllByRecursion, list_any}
 use Rattle.std.specs.Option.{option_flatten}
 use Rattle.std.specs.Ordering.{eq_by_cmp}
@@ -25,8 +26,10 @@ module _ {K X : Type 0} where
   keys_filled (e ∷ es) = ap (λ ks. e.0 ∷ ks) (keys_filled es)
 
   -- slots that are as many as their rows are all full
-  full_first : (key : K) (o : Option X) (es : List (K × Option X)) → length (listed_first key o (present es)) ≡ suc (length es)
-      → (length (present es) ≡ length es → keys_of (present es) ≡ keys_of es) → keys_of (listed_first key o (present es)) ≡ key ∷ keys_of es
+  full_first : (key : K) (o : Option X) (es : List (K × Option X))
+      → length (listed_first key o (present es)) ≡ suc (length es)
+      → (length (present es) ≡ length es → keys_of (present es) ≡ keys_of es)
+      → keys_of (listed_first key o (present es)) ≡ key ∷ keys_of es
   full_first key None es many rest = let short = present_short es in absurd (omega arith)
   full_first key (Some row) es many rest = ap (λ ks. key ∷ ks) (rest (omega arith))
 
@@ -46,18 +49,22 @@ module _ {K X : Type 0} {R : K → K → Ordering} (o : IsTotalOrder R) where
   -- a look-up among rows is one among the slots that are made of them
   find_filled : (q : K) (es : List (K × X)) → find R q es ≡ option_flatten (lookup (is_at (R q)) (full_slots es))
   find_filled q [] = refl
-  find_filled q (e ∷ es) = find_full o (eq_by_cmp R q e.0) e.1 (find R q es) (lookup (is_at (R q)) (full_slots es)) (find_filled q es)
+  find_filled q (e ∷ es) =
+      find_full o (eq_by_cmp R q e.0) e.1 (find R q es) (lookup (is_at (R q)) (full_slots es)) (find_filled q es)
 
   -- the rows of slots that were made of these rows
-  pub built : IsAntisymmetric R → (es : List (K × X)) (m : BTreeMap K (Option X)) → IsDistinct (eq_by_cmp R) (keys_of es)
+  pub built : IsAntisymmetric R → (es : List (K × X)) (m : BTreeMap K (Option X))
+      → IsDistinct (eq_by_cmp R) (keys_of es)
       → IsFromIterResult R (full_slots es) m → rows R (seen_of m) ≡ from_entries es
   built exact es m apart made = same_map o exact _ _ (λ q. row_at refl m (seen_of m) refl made.1 o q
       ∙ ap option_flatten (made.0 q
-      ∙ update_all_none (eq_by_cmp_equiv o) (eq_by_cmp R) (λ x y. refl) (full_slots es) q (subst (IsDistinct (eq_by_cmp R)) (sym (keys_filled es)) apart))
+      ∙ update_all_none (eq_by_cmp_equiv o) (eq_by_cmp R) (λ x y. refl) (full_slots es) q
+      (subst (IsDistinct (eq_by_cmp R)) (sym (keys_filled es)) apart))
       ∙ sym (find_filled q es) ∙ sym (get-from_entries o es q))
 
   -- rows no two of which have one key are as many as their finite map has
-  pub len_apart : (es : List (K × X)) → IsDistinct (eq_by_cmp R) (keys_of es) → len (from_entries {R = R} es) ≡ length es
+  pub len_apart : (es : List (K × X)) → IsDistinct (eq_by_cmp R) (keys_of es)
+      → len (from_entries {R = R} es) ≡ length es
   len_apart [] apart = len-empty R X
   len_apart (e ∷ es) apart = len-insert o (from_entries es) e.0 e.1
       ∙ one_longer _ _ _ (ap is_some (get-from_entries o es e.0) ∙ is_some-find R e.0 es
@@ -65,14 +72,18 @@ module _ {K X : Type 0} {R : K → K → Ordering} (o : IsTotalOrder R) where
       (len_apart es (IsDistinct-tail (eq_by_cmp R) e.0 (keys_of es) apart))
 
   -- slots that were made of these rows are as many as these
-  many_apart : (es : List (K × X)) (m : BTreeMap K (Option X)) → IsDistinct (eq_by_cmp R) (keys_of es) → IsFromIterResult R (full_slots es) m
+  many_apart : (es : List (K × X)) (m : BTreeMap K (Option X)) → IsDistinct (eq_by_cmp R) (keys_of es)
+      → IsFromIterResult R (full_slots es) m
       → length (keys_of m.entries) ≡ length (keys_of es)
-  many_apart es m apart made = length-from_same_keys (eq_by_cmp_equiv o) (keys_of m.entries) (keys_of es) (IsDistinct-from_sorted R _ made.1) apart
+  many_apart es m apart made = length-from_same_keys (eq_by_cmp_equiv o) (keys_of m.entries) (keys_of es)
+      (IsDistinct-from_sorted R _ made.1) apart
       (λ q. sym (is_some-lookup (is_at (R q)) m.entries) ∙ ap is_some (made.0 q)
-      ∙ is_some-update_all (eq_by_cmp_equiv o) q (λ _. None) (full_slots es) ∙ ap (λ ks. is_member (eq_by_cmp R) ks q) (keys_filled es))
+      ∙ is_some-update_all (eq_by_cmp_equiv o) q (λ _. None) (full_slots es)
+      ∙ ap (λ ks. is_member (eq_by_cmp R) ks q) (keys_filled es))
 
   -- each of them is full: their keys are those of their rows
-  pub all_full : IsAntisymmetric R → (es : List (K × X)) (m : BTreeMap K (Option X)) → IsDistinct (eq_by_cmp R) (keys_of es)
+  pub all_full : IsAntisymmetric R → (es : List (K × X)) (m : BTreeMap K (Option X))
+      → IsDistinct (eq_by_cmp R) (keys_of es)
       → IsFromIterResult R (full_slots es) m → keys_of (present m.entries) ≡ keys_of m.entries
   all_full exact es m apart made = full_of_many m.entries
       (sym (len_of_rows refl m (seen_of m) refl made.1) ∙ ap len (built exact es m apart made) ∙ len_apart es apart

@@ -17,19 +17,24 @@ same_with c d e = omega arith
 same_without : (c d : ℕ) → c - 0 ≡ d → c ≡ d
 same_without c d e = omega arith
 
-module _ {K X : Type 0} {R S : K → K → Ordering} (same : ◌≡◌ {A = K → K → Ordering} R S) (o : IsTotalOrder R) (exact : IsAntisymmetric R)
-    (m n : BTreeMap K (Option X)) (t : Stored K X) (is : seen_of m ≡ t) (key : K) (c : ℕ) (counted : AreCounted R m c) where
+module _ {K X : Type 0} {R S : K → K → Ordering} (same : ◌≡◌ {A = K → K → Ordering} R S) (o : IsTotalOrder R)
+    (exact : IsAntisymmetric R)
+    (m n : BTreeMap K (Option X)) (t : Stored K X) (is : seen_of m ≡ t) (key : K) (c : ℕ)
+    (counted : AreCounted R m c) where
   -- a row that is there is written over
-  pub row_changed : (row w : X) → Some (Some row) ≡ get_by (R key) m → WritesThrough R (R key) m (Some w) n → IsChangedAt S t key (seen_of n) w
+  pub row_changed : (row w : X) → Some (Some row) ≡ get_by (R key) m → WritesThrough R (R key) m (Some w) n
+      → IsChangedAt S t key (seen_of n) w
   row_changed row w found through = record {
     rows = rows_put same o exact m n t is key counted.rise through.4 w (through.3 (ap is_some (sym found)));
     places = through.1 ∙ ap (λ v. v.places) is;
   }
 
-  pub row_still_counted : (row w : X) → Some (Some row) ≡ get_by (R key) m → WritesThrough R (R key) m (Some w) n → AreCounted R n c
+  pub row_still_counted : (row w : X) → Some (Some row) ≡ get_by (R key) m → WritesThrough R (R key) m (Some w) n
+      → AreCounted R n c
   row_still_counted row w found through = record {
     rise = through.4;
-    counted = same_with c _ (counted_in o exact m n key counted.rise through.4 w (Some row) false c (through.3 (ap is_some (sym found))) found refl counted.counted);
+    counted = same_with c _ (counted_in o exact m n key counted.rise through.4 w (Some row) false c
+        (through.3 (ap is_some (sym found))) found refl counted.counted);
   }
 
   -- an empty slot stays empty
@@ -43,5 +48,7 @@ module _ {K X : Type 0} {R S : K → K → Ordering} (same : ◌≡◌ {A = K �
   pub none_still_counted : Some None ≡ get_by (R key) m → WritesThrough R (R key) m None n → AreCounted R n c
   none_still_counted found through = record {
     rise = through.4;
-    counted = same_without c _ (counted_out o exact m n key counted.rise through.4 None false c (through.3 (ap is_some (sym found))) found refl counted.counted);
+    counted = same_without c _
+        (counted_out o exact m n key counted.rise through.4 None false c (through.3 (ap is_some (sym found))) found refl
+        counted.counted);
   }

@@ -1,5 +1,6 @@
 -- Walks: the rows of the slots in a range of keys are the rows in that range.
-use Rattle.std.proofs.Common.{◌≡◌, ◌<◌, ◌^◌, Bool, true, false, ◌&&◌, cond, List, [], ◌∷◌, Option, None, Some, filter, length, refl, sym, ap, ◌∙◌, arith}
+use Rattle.std.proofs.Common.{◌≡◌, ◌<◌, ◌^◌, Bool, true, false, ◌&&◌, cond, List, [], ◌∷◌, Option, None, Some, filter}
+use Rattle.std.proofs.Common.{length, refl, sym, ap, ◌∙◌, arith}
 use Rattle.iocm_table.specs.Slots.{present, listed_first}
 use Rattle.iocm_table.proofs.Writing.{present_short}
 
@@ -15,12 +16,16 @@ module _ {K X : Type 0} (p : K → Bool) where
   abbrev passes_row : K × X → Bool
   passes_row e = p e.0
 
-  filter_at : (key : K) (row : Option X) (b : Bool) → p key ≡ b → (more : List (K × Option X)) (es : List (K × X)) → present more ≡ filter passes_row es
+  filter_at : (key : K) (row : Option X) (b : Bool) → p key ≡ b → (more : List (K × Option X)) (es : List (K × X))
+      → present more ≡ filter passes_row es
       → present (cond b ((key, row) ∷ more) more) ≡ filter passes_row (listed_first key row es)
   filter_at key None true is more es same = same
   filter_at key None false is more es same = same
-  filter_at key (Some row) true is more es same = ap (λ rs. (key, row) ∷ rs) same ∙ ap (λ c. cond c ((key, row) ∷ filter passes_row es) (filter passes_row es)) (sym is)
-  filter_at key (Some row) false is more es same = same ∙ ap (λ c. cond c ((key, row) ∷ filter passes_row es) (filter passes_row es)) (sym is)
+  filter_at key (Some row) true is more es same =
+      ap (λ rs. (key, row) ∷ rs) same
+      ∙ ap (λ c. cond c ((key, row) ∷ filter passes_row es) (filter passes_row es)) (sym is)
+  filter_at key (Some row) false is more es same =
+      same ∙ ap (λ c. cond c ((key, row) ∷ filter passes_row es) (filter passes_row es)) (sym is)
 
   -- a test of keys passes from slots to rows
   pub present_filter : (es : List (K × Option X)) → present (filter passes_slot es) ≡ filter passes_row (present es)

@@ -17,7 +17,11 @@ pub record HasNoRows {A : Type 0} (p : Parts A) : Type 0 where
 -- they make the edit of their action alone
 pub bare_edit : {A : Type 0} (p : Parts A) → HasNoRows p → carried_of p ≡ bare (action_of p.action)
 bare_edit p none = λ i. record {
-  edit = record { action = action_of p.action; places = none.no_places i; lives = (ap (from_sorted {R = sub_id_cmp}) none.no_kept ∙ none_sorted sub_id_cmp) i };
+  edit = record {
+    action = action_of p.action;
+    places = none.no_places i;
+    lives = (ap (from_sorted {R = sub_id_cmp}) none.no_kept ∙ none_sorted sub_id_cmp) i;
+  };
   frees = none.no_frees i;
   meets = keys_of (none.no_meets i);
 }

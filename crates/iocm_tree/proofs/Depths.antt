@@ -3,7 +3,8 @@ use Rattle.std.proofs.Common.{◌≡◌, ℕ, max, min, nat_cmp, arith, rules}
 use Rattle.std.specs.Ordering.{ord_max}
 
 -- one more part
-pub deepest_more : (most deepest one rest : ℕ) → max (max deepest (min most one)) (min most rest) ≡ max deepest (min most (max one rest))
+pub deepest_more : (most deepest one rest : ℕ)
+    → max (max deepest (min most one)) (min most rest) ≡ max deepest (min most (max one rest))
 deepest_more most deepest one rest = omega arith
 
 -- the greater of two numbers, as code finds it

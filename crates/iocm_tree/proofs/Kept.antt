@@ -13,12 +13,15 @@ use Rattle.iocm_tree.proofs.Ordered.{same_keys_sorted}
 module _ {A : Type 0} (parts : Parts A) (edit : Carried) (order : HasOrder parts) (is : carried_of parts ≡ edit) where
   -- the live records of an edit are the rows of its parts
   pub kept_rows : entries edit.edit.lives ≡ parts.kept.items
-  kept_rows = ap (λ (e : Carried). entries e.edit.lives) (sym is) ∙ entries-from_sorted sub_id_cmp parts.kept.items order.kept_rise
+  kept_rows = ap (λ (e : Carried). entries e.edit.lives) (sym is)
+      ∙ entries-from_sorted sub_id_cmp parts.kept.items order.kept_rise
 
   -- rows of the subchannels that an edit has live records for are of those of its parts
-  pub same_subchannels : (rows : List (SubId × Live)) → keys_of rows ≡ keys edit.edit.lives → keys_of rows ≡ keys_of parts.kept.items
+  pub same_subchannels : (rows : List (SubId × Live)) → keys_of rows ≡ keys edit.edit.lives
+      → keys_of rows ≡ keys_of parts.kept.items
   same_subchannels rows same = same ∙ ap keys_of kept_rows
 
   -- and stand in order
   pub others_in_order : (rows : List (SubId × Live)) → keys_of rows ≡ keys edit.edit.lives → AreInOrder rows
-  others_in_order rows same = same_keys_sorted sub_id_cmp parts.kept.items rows (same_subchannels rows same) order.kept_rise
+  others_in_order rows same =
+      same_keys_sorted sub_id_cmp parts.kept.items rows (same_subchannels rows same) order.kept_rise

@@ -23,10 +23,13 @@ module _ {K : Type 0} (R : K → K → Ordering) where
 
   sorted_by_keys : {X : Type 0} (es : List (K × X)) → is_sorted R es ≡ rise (keys_of es)
   sorted_by_keys [] = refl
-  sorted_by_keys (e ∷ es) = ap (λ b. b && is_sorted R es) (below_by_keys e.0 es) ∙ ap (λ b. stands_below e.0 (keys_of es) && b) (sorted_by_keys es)
+  sorted_by_keys (e ∷ es) =
+      ap (λ b. b && is_sorted R es) (below_by_keys e.0 es)
+      ∙ ap (λ b. stands_below e.0 (keys_of es) && b) (sorted_by_keys es)
 
   -- rows of the same keys as rows in order stand in order
-  pub same_keys_sorted : {X : Type 0} (es fs : List (K × X)) → keys_of fs ≡ keys_of es → T (is_sorted R es) → T (is_sorted R fs)
+  pub same_keys_sorted : {X : Type 0} (es fs : List (K × X)) → keys_of fs ≡ keys_of es → T (is_sorted R es)
+      → T (is_sorted R fs)
   same_keys_sorted es fs same = subst T (sorted_by_keys es ∙ ap rise (sym same) ∙ sym (sorted_by_keys fs))
 
 -- the map of no rows is the empty one

@@ -1,5 +1,6 @@
 -- How deep nodes are and how many leaves they have, counted as the code counts.
-use Rattle.std.proofs.Common.{◌≡◌, ◌≢◌, length-append, ℕ, ◌+◌, List, [], ◌∷◌, ◌++◌, length, map, max, min, zero, suc, arith, refl, sym, ap, ◌∙◌}
+use Rattle.std.proofs.Common.{◌≡◌, ◌≢◌, length-append, ℕ, ◌+◌, List, [], ◌∷◌, ◌++◌, length, map, max, min, zero, suc}
+use Rattle.std.proofs.Common.{arith, refl, sym, ap, ◌∙◌}
 use Rattle.std.proofs.lemmas.List.{map-append}
 use Rattle.iocm_model.specs.Change.Tree.{depth_of, depth_in, leaves_of, leaves_in, or_one}
 use Rattle.iocm_tree.proofs.Trees.{tree-Row, tree-Group, tree-Choose}
@@ -20,15 +21,18 @@ abbrev pub leaves_among : List CarriedTree → ℕ
 leaves_among ts = leaves_in (plain_parts (parts_from ts))
 
 -- two sizes of equal numbers
-pub same_size : (a b c d : ℕ) → a ≡ c → b ≡ d → let s : Size = record { depth = a; leaves = b } in let t : Size = record { depth = c; leaves = d } in s ≡ t
+pub same_size : (a b c d : ℕ) → a ≡ c → b ≡ d → let s : Size = record { depth = a; leaves = b } in let t : Size =
+    record { depth = c; leaves = d } in s ≡ t
 same_size a b c d e f = cc
 
 -- one tree more
-depth-more : (ts : List CarriedTree) (t : CarriedTree) → depth_among (ts ++ t ∷ []) ≡ max (depth_among ts) (depth_of (plain_tree t))
+depth-more : (ts : List CarriedTree) (t : CarriedTree)
+    → depth_among (ts ++ t ∷ []) ≡ max (depth_among ts) (depth_of (plain_tree t))
 depth-more [] t = omega arith
 depth-more (x ∷ ts) t = omega (arith, depth-more ts t)
 
-leaves-more : (ts : List CarriedTree) (t : CarriedTree) → leaves_among (ts ++ t ∷ []) ≡ leaves_among ts + leaves_of (plain_tree t)
+leaves-more : (ts : List CarriedTree) (t : CarriedTree)
+    → leaves_among (ts ++ t ∷ []) ≡ leaves_among ts + leaves_of (plain_tree t)
 leaves-more [] t = omega arith
 leaves-more (x ∷ ts) t = omega (arith, leaves-more ts t)
 
@@ -38,7 +42,8 @@ capped_max a b = omega arith
 capped_sum : (a b : ℕ) → min most (min most a + min most b) ≡ min most (a + b)
 capped_sum a b = omega arith
 
-pub among-more : (ts : List CarriedTree) (t : CarriedTree) → size_among (ts ++ t ∷ []) ≡ beside (size_among ts) (size_of t)
+pub among-more : (ts : List CarriedTree) (t : CarriedTree)
+    → size_among (ts ++ t ∷ []) ≡ beside (size_among ts) (size_of t)
 among-more ts t =
     same_size _ _ _ _
     (ap (λ n. min most n) (depth-more ts t) ∙ sym (capped_max (depth_among ts) (depth_of (plain_tree t))))
@@ -65,7 +70,8 @@ pub among-one : (t : CarriedTree) → size_among (t ∷ []) ≡ size_of t
 among-one t = same_size _ _ _ _ (omega arith) (omega arith)
 
 -- trees in memory, with one more behind them
-pub seen_more : {A : Type 0} (xs ys : List (Tree A)) (t : Tree A) → ys ≡ xs ++ t ∷ [] → map tree_of ys ≡ map tree_of xs ++ tree_of t ∷ []
+pub seen_more : {A : Type 0} (xs ys : List (Tree A)) (t : Tree A) → ys ≡ xs ++ t ∷ []
+    → map tree_of ys ≡ map tree_of xs ++ tree_of t ∷ []
 seen_more xs ys t is = ap (map tree_of) is ∙ map-append tree_of xs (t ∷ [])
 
 pub counted_more : {A : Type 0} (xs ys : List (Tree A)) (t : Tree A) (s a : Size) → ys ≡ xs ++ t ∷ []
@@ -74,12 +80,14 @@ counted_more xs ys t s a is counted one =
     ap (λ z. beside z a) counted ∙ ap (beside (size_among (map tree_of xs))) one
     ∙ sym (ap size_among (seen_more xs ys t is) ∙ among-more (map tree_of xs) (tree_of t))
 
-pub counted_node : {A : Type 0} (kind : NodeKind) (t : Tree A) (xs : List (Tree A)) (s : Size) → tree_of t ≡ node_of_kind kind (map tree_of xs)
+pub counted_node : {A : Type 0} (kind : NodeKind) (t : Tree A) (xs : List (Tree A)) (s : Size)
+    → tree_of t ≡ node_of_kind kind (map tree_of xs)
     → s ≡ size_among (map tree_of xs) → inside s ≡ size_of (tree_of t)
 counted_node kind t xs s is counted = ap inside counted ∙ sym (ap size_of is ∙ size-node kind (map tree_of xs))
 
 -- the only tree
-pub counted_only : {A : Type 0} (xs : List (Tree A)) (t : Tree A) (s : Size) → xs ≡ t ∷ [] → s ≡ size_among (map tree_of xs) → s ≡ size_of (tree_of t)
+pub counted_only : {A : Type 0} (xs : List (Tree A)) (t : Tree A) (s : Size) → xs ≡ t ∷ []
+    → s ≡ size_among (map tree_of xs) → s ≡ size_of (tree_of t)
 counted_only xs t s is counted = counted ∙ ap (λ ys. size_among (map tree_of ys)) is ∙ among-one (tree_of t)
 
 pub only_item : {X : Type 0} (xs ys : List X) (x : X) → xs ≡ ys ++ x ∷ [] → length xs ≡ 1 → xs ≡ x ∷ []
@@ -88,7 +96,8 @@ only_item xs (y ∷ ys) x is one =
     absurd (omega (arith, ap length is, one, length-append ys (x ∷ [])))
 
 -- none or several trees are the parts of a Row
-pub whole_several : {A : Type 0} (xs : List (Tree A)) → length xs ≢ 1 → whole (map tree_of xs) ≡ row (parts_from (map tree_of xs))
+pub whole_several : {A : Type 0} (xs : List (Tree A)) → length xs ≢ 1
+    → whole (map tree_of xs) ≡ row (parts_from (map tree_of xs))
 whole_several [] apart = refl
 whole_several (x ∷ []) apart = absurd (apart refl)
 whole_several (x ∷ y ∷ xs) apart = refl

@@ -29,7 +29,13 @@ parted [] b ss are = record { front = []; back = ss; is = refl; first = tt; seco
 parted (l ∷ a) b [] are = absurd are
 parted (l ∷ a) b (s ∷ ss) are =
     let rest = parted a b ss are.1 in
-    record { front = s ∷ rest.front; back = rest.back; is = ap (λ more. s ∷ more) rest.is; first = (are.0, rest.first); second = rest.second }
+    record {
+      front = s ∷ rest.front;
+      back = rest.back;
+      is = ap (λ more. s ∷ more) rest.is;
+      first = (are.0, rest.first);
+      second = rest.second;
+    }
 
 pub puts_none : (r : Reading) → Puts [] r r
 puts_none r [] rest are = refl

@@ -1,5 +1,6 @@
 -- What is deleted is read again: the statement of a key gives this key alone.
-use Rattle.std.proofs.Common.{◌≡◌, ℕ, zero, suc, ◌<◌, ◌≤◌, ◌==◌, Bool, true, false, cond, Some, None, List, [], ◌∷◌, All, map, Ok, codes, refl, sym, ap, ◌∙◌, arith, add-zero, eqb-true, ne_eqb}
+use Rattle.std.proofs.Common.{◌≡◌, ℕ, zero, suc, ◌<◌, ◌≤◌, ◌==◌, Bool, true, false, cond, Some, None, List, [], ◌∷◌}
+use Rattle.std.proofs.Common.{All, map, Ok, codes, refl, sym, ap, ◌∙◌, arith, add-zero, eqb-true, ne_eqb}
 use Rattle.std.proofs.lemmas.List.Elements.{All-nil, All-cons}
 use Rattle.std.specs.List.{flat_map}
 use Rattle.std.specs.Option.{option_map, option_and_then}
@@ -35,7 +36,8 @@ use Rattle.iocm_change_records.specs.declared.image_keys.ImageKey.{ImageKey}
 use Rattle.iocm_change_records.specs.Keys.{key_fault, keys_given, keys_unless, keys_of}
 use Rattle.iocm_change_records.specs.ResourceKeys.{image_key, image_key_listed, image_keys, key_of_image}
 use Rattle.iocm_round_trip.proofs.LeftOut.{IsInOneCss, names_one_css, plain_in_one, list_in_one}
-use Rattle.iocm_round_trip.proofs.OneSubsystem.{hex1_in_one, hex4_in_one, path_in_one, names_one_path, names_in_one, devices_in_one, by_css_in_one, limits_in_one}
+use Rattle.iocm_round_trip.proofs.OneSubsystem.{hex1_in_one, hex4_in_one, path_in_one, names_one_path, names_in_one}
+use Rattle.iocm_round_trip.proofs.OneSubsystem.{devices_in_one, by_css_in_one, limits_in_one}
 use Rattle.iocm_tree_writer.specs.Again.{as_read}
 use Rattle.iocm_tree_writer.specs.Given.{IsGivenKey, IsImagePlace, IsLimitPlace, IsDevicePlace, IsPair}
 use Rattle.iocm_tree_writer.specs.Leaves.{key_statement}
@@ -99,11 +101,27 @@ device_given set number is = by (set == 0) refl
     by : (none : Bool) → set == 0 ≡ none → GivesKey (key.Device set number)
     by true zero_set = record {
       no_fault = rw (zero_set, names_one_css (devices_text (one_device number)) one_css) refl;
-      gives = λ f. rw (zero_set, devices_again (one_device number) (one_is number is.last), add-zero number, sym (eqb-true set 0 zero_set)) refl;
+      gives = λ f. rw (
+        zero_set,
+        devices_again (one_device number) (one_is number is.last),
+        add-zero number,
+        sym (eqb-true set 0 zero_set),
+      ) refl;
     }
     by false other = record {
-      no_fault = rw (other, names_one_css (devices_text (one_device number)) one_css, names_one_css (hex1 set) (hex1_in_one set (let small = is.within in omega arith)), set_is_word set is.within) refl;
-      gives = λ f. rw (other, devices_again (one_device number) (one_is number is.last), set_again set is.within, add-zero number) refl;
+      no_fault = rw (
+        other,
+        names_one_css (devices_text (one_device number)) one_css,
+        names_one_css (hex1 set) (hex1_in_one set (let small = is.within in omega arith)),
+        set_is_word set is.within,
+      )
+          refl;
+      gives = λ f. rw (
+        other,
+        devices_again (one_device number) (one_is number is.last),
+        set_again set is.within,
+        add-zero number,
+      ) refl;
     }
 
 -- ---- that a path is online to an image
@@ -111,12 +129,15 @@ device_given set number is = by (set == 0) refl
 name_is_read : (name : List ℕ) → is_name name ≡ true → every name_item (value name ∷ []) ≡ Some (name ∷ [])
 unfolding every
 name_is_read name is =
-    let again : name_item (value name) ≡ Some name = ap name_item (plain_again name (name_plain name is)) ∙ name_again name is in
+    let again : name_item (value name) ≡ Some name =
+    ap name_item (plain_again name (name_plain name is)) ∙ name_again name is in
     rw again refl
 
-pub names_are_read : (name : List ℕ) → is_name name ≡ true → (items (value (names_text (name ∷ []))) >>= every name_item) ≡ Some (name ∷ [])
+pub names_are_read : (name : List ℕ) → is_name name ≡ true
+    → (items (value (names_text (name ∷ []))) >>= every name_item) ≡ Some (name ∷ [])
 names_are_read name is =
-    ap (λ found. found >>= every name_item) (items_again name [] (whole_plain name (name_plain name is), tt)) ∙ name_is_read name is
+    ap (λ found. found >>= every name_item) (items_again name [] (whole_plain name (name_plain name is), tt))
+    ∙ name_is_read name is
 
 one_name : (name : List ℕ) → is_name name ≡ true → All (λ n. is_name n ≡ true) (name ∷ [])
 one_name name is = All-cons (λ n. is_name n ≡ true) name [] is (All-nil (λ n. is_name n ≡ true))
@@ -129,7 +150,11 @@ unfolding placed
 pair_given css number name is =
     let p : CssPath = record { css = css; path = number } in
     record {
-      no_fault = rw (names_one_css (path_text p) (path_in_one p is.path), names_one_path p is.path, names_one_css (names_text (name ∷ [])) (name_in_one name is.named)) refl;
+      no_fault = rw (
+        names_one_css (path_text p) (path_in_one p is.path),
+        names_one_path p is.path,
+        names_one_css (names_text (name ∷ [])) (name_in_one name is.named),
+      ) refl;
       gives = λ f. rw (path_again p is.path, names_are_read name is.named) refl;
     }
 
@@ -156,35 +181,44 @@ mif_again mif some most =
     ∙ ap (λ b. cond b None (Some mif)) (ne_eqb mif 0 (λ e. omega arith))
 
 pair_whole : (i : ImageKey) → IsImagePlace i.css i.mif → AllWhole (codes "*" ∷ hex1 i.mif ∷ [])
-pair_whole i is = let most = is.most in (whole_plain (codes "*") refl, (whole_plain (hex1 i.mif) (hex1_plain i.mif (omega arith)), tt))
+pair_whole i is = let most = is.most in
+    (whole_plain (codes "*") refl, (whole_plain (hex1 i.mif) (hex1_plain i.mif (omega arith)), tt))
 
 image_key_again : (i : ImageKey) → IsImagePlace i.css i.mif → image_key i.css (value (star_pair i)) ≡ Some i
 image_key_again i is =
     let most = is.most in
     ap (λ found. found >>= image_key_listed i.css) (items_again (codes "*") (hex1 i.mif ∷ []) (pair_whole i is))
-    ∙ ap (λ v. image_key_listed i.css (word (codes "*") ∷ v ∷ [])) (plain_again (hex1 i.mif) (hex1_plain i.mif (omega arith)))
+    ∙ ap (λ v. image_key_listed i.css (word (codes "*") ∷ v ∷ []))
+    (plain_again (hex1 i.mif) (hex1_plain i.mif (omega arith)))
     ∙ ap (option_map (λ mif. record { css = i.css; mif = mif })) (mif_again i.mif is.some most)
 
-image_read : (i : ImageKey) → IsImagePlace i.css i.mif → IsReadAgain image_key (λ (k : ImageKey). k.css) star_pair (λ (k : ImageKey). k) i
-image_read i is = record { whole = whole_items (codes "*" ∷ hex1 i.mif ∷ []) (pair_whole i is); again = image_key_again i is }
+image_read : (i : ImageKey) → IsImagePlace i.css i.mif
+    → IsReadAgain image_key (λ (k : ImageKey). k.css) star_pair (λ (k : ImageKey). k) i
+image_read i is = record
+    { whole = whole_items (codes "*" ∷ hex1 i.mif ∷ []) (pair_whole i is); again = image_key_again i is }
 
 abbrev pub starred : ℕ → ℕ → ImageRecord
 starred css mif = record { css = css; mif = mif; name = codes "*" }
 
-image_keys_again : (css mif : ℕ) → IsImagePlace css mif → image_keys (value (images_text (starred css mif ∷ []))) ≡ Some (key.Image css mif ∷ [])
+image_keys_again : (css mif : ℕ) → IsImagePlace css mif
+    → image_keys (value (images_text (starred css mif ∷ []))) ≡ Some (key.Image css mif ∷ [])
 image_keys_again css mif is =
     let i : ImageKey = record { css = css; mif = mif } in
     let Read : ImageKey → Type 0 = IsReadAgain image_key (λ (k : ImageKey). k.css) star_pair (λ (k : ImageKey). k) in
     ap (option_map (map key_of_image))
     (items_by_css_again false image_key (λ (k : ImageKey). k.css) star_pair (λ (k : ImageKey). k) (i ∷ [])
-    (λ none. cc) (All-cons Read i [] (image_read i is) (All-nil Read)) (one_in_order (λ (k : ImageKey). k.css) i is.subsystem))
+    (λ none. cc) (All-cons Read i [] (image_read i is) (All-nil Read))
+    (one_in_order (λ (k : ImageKey). k.css) i is.subsystem))
 
 image_in_one : (css mif : ℕ) → IsImagePlace css mif → IsInOneCss (images_text (starred css mif ∷ []))
 image_in_one css mif is =
     let most = is.most in
     let text = (image_text (starred css mif)).text in
-    let digit : All IsInOneCss (hex1 mif ∷ []) = All-cons IsInOneCss (hex1 mif) [] (hex1_in_one mif (omega arith)) (All-nil IsInOneCss) in
-    let one : IsInOneCss text = list_in_one (codes "*" ∷ hex1 mif ∷ []) (All-cons IsInOneCss (codes "*") (hex1 mif ∷ []) (plain_in_one (codes "*") refl) digit) in
+    let digit : All IsInOneCss (hex1 mif ∷ []) =
+    All-cons IsInOneCss (hex1 mif) [] (hex1_in_one mif (omega arith)) (All-nil IsInOneCss) in
+    let one : IsInOneCss text =
+    list_in_one (codes "*" ∷ hex1 mif ∷ [])
+    (All-cons IsInOneCss (codes "*") (hex1 mif ∷ []) (plain_in_one (codes "*") refl) digit) in
     by_css_in_one (map image_text (starred css mif ∷ []))
     (All-cons (λ i. IsInOneCss i.text) (image_text (starred css mif)) [] one (All-nil (λ i. IsInOneCss i.text)))
 
@@ -205,7 +239,8 @@ unfolding placed
 limit_given css set is =
     let all = All-cons IsLimit (no_limit css set) [] (no_limit_is css set is) (All-nil IsLimit) in
     record {
-      no_fault = rw (names_one_css (limits_text (no_limit css set ∷ [])) (limits_in_one (no_limit css set ∷ []) all)) refl;
+      no_fault = rw (names_one_css (limits_text (no_limit css set ∷ [])) (limits_in_one (no_limit css set ∷ []) all))
+          refl;
       gives = λ f. rw (limit_keys_again css set is.subsystem is.within) refl;
     }
 
@@ -224,4 +259,5 @@ key_given (key.Online css number name) is = pair_given css number name is
 pub key_again : (line : ℕ) (k : Key) → IsGivenKey k → keys_of (as_read line (action_line (delete k))) ≡ Ok (k ∷ [])
 key_again line k is =
     let given = key_given k is in
-    ap (λ found. keys_unless found (as_read line (action_line (delete k)))) given.no_fault ∙ given.gives (fault.at S4 line)
+    ap (λ found. keys_unless found (as_read line (action_line (delete k)))) given.no_fault
+    ∙ given.gives (fault.at S4 line)

@@ -1,6 +1,7 @@
 -- A deleted limit is read again: its place has 0, those of the sets before it are empty. Each place
 -- is computed.
-use Rattle.std.proofs.Common.{◌≡◌, ℕ, zero, suc, ◌<◌, List, [], ◌∷◌, ◌++◌, Some, replicate, codes, refl, sym, ap, ◌∙◌, arith}
+use Rattle.std.proofs.Common.{◌≡◌, ℕ, zero, suc, ◌<◌, List, [], ◌∷◌, ◌++◌, Some, replicate, codes, refl, sym, ap, ◌∙◌}
+use Rattle.std.proofs.Common.{arith}
 use Rattle.std.specs.Fmt.{decimal}
 use Rattle.iocm_types.specs.declared.key.Key.TheVariants.{Limit}
 use Rattle.iocm_model.specs.Machine.Record.{LimitRecord}
@@ -47,12 +48,54 @@ of_set P css all (suc (suc (suc zero))) small = all.fourth
 of_set P css all (suc (suc (suc (suc n)))) small = absurd (omega arith)
 
 all_written : (css : ℕ) → css < 6 → AreSets IsWritten css
-all_written zero small = record { first = rw (hex1_text 0 (omega arith), zero_text) refl; second = rw (hex1_text 0 (omega arith), zero_text) refl; third = rw (hex1_text 0 (omega arith), zero_text) refl; fourth = rw (hex1_text 0 (omega arith), zero_text) refl }
-all_written (suc zero) small = record { first = rw (hex1_text 1 (omega arith), zero_text) refl; second = rw (hex1_text 1 (omega arith), zero_text) refl; third = rw (hex1_text 1 (omega arith), zero_text) refl; fourth = rw (hex1_text 1 (omega arith), zero_text) refl }
-all_written (suc (suc zero)) small = record { first = rw (hex1_text 2 (omega arith), zero_text) refl; second = rw (hex1_text 2 (omega arith), zero_text) refl; third = rw (hex1_text 2 (omega arith), zero_text) refl; fourth = rw (hex1_text 2 (omega arith), zero_text) refl }
-all_written (suc (suc (suc zero))) small = record { first = rw (hex1_text 3 (omega arith), zero_text) refl; second = rw (hex1_text 3 (omega arith), zero_text) refl; third = rw (hex1_text 3 (omega arith), zero_text) refl; fourth = rw (hex1_text 3 (omega arith), zero_text) refl }
-all_written (suc (suc (suc (suc zero)))) small = record { first = rw (hex1_text 4 (omega arith), zero_text) refl; second = rw (hex1_text 4 (omega arith), zero_text) refl; third = rw (hex1_text 4 (omega arith), zero_text) refl; fourth = rw (hex1_text 4 (omega arith), zero_text) refl }
-all_written (suc (suc (suc (suc (suc zero))))) small = record { first = rw (hex1_text 5 (omega arith), zero_text) refl; second = rw (hex1_text 5 (omega arith), zero_text) refl; third = rw (hex1_text 5 (omega arith), zero_text) refl; fourth = rw (hex1_text 5 (omega arith), zero_text) refl }
+all_written zero small =
+    record {
+      first = rw (hex1_text 0 (omega arith), zero_text) refl;
+      second = rw (hex1_text 0 (omega arith), zero_text) refl;
+      third =
+          rw (hex1_text 0 (omega arith), zero_text) refl;
+      fourth = rw (hex1_text 0 (omega arith), zero_text) refl;
+    }
+all_written (suc zero) small =
+    record {
+      first = rw (hex1_text 1 (omega arith), zero_text) refl;
+      second = rw (hex1_text 1 (omega arith), zero_text) refl;
+      third =
+          rw (hex1_text 1 (omega arith), zero_text) refl;
+      fourth = rw (hex1_text 1 (omega arith), zero_text) refl;
+    }
+all_written (suc (suc zero)) small =
+    record {
+      first = rw (hex1_text 2 (omega arith), zero_text) refl;
+      second = rw (hex1_text 2 (omega arith), zero_text) refl;
+      third =
+          rw (hex1_text 2 (omega arith), zero_text) refl;
+      fourth = rw (hex1_text 2 (omega arith), zero_text) refl;
+    }
+all_written (suc (suc (suc zero))) small =
+    record {
+      first = rw (hex1_text 3 (omega arith), zero_text) refl;
+      second = rw (hex1_text 3 (omega arith), zero_text) refl;
+      third =
+          rw (hex1_text 3 (omega arith), zero_text) refl;
+      fourth = rw (hex1_text 3 (omega arith), zero_text) refl;
+    }
+all_written (suc (suc (suc (suc zero)))) small =
+    record {
+      first = rw (hex1_text 4 (omega arith), zero_text) refl;
+      second = rw (hex1_text 4 (omega arith), zero_text) refl;
+      third =
+          rw (hex1_text 4 (omega arith), zero_text) refl;
+      fourth = rw (hex1_text 4 (omega arith), zero_text) refl;
+    }
+all_written (suc (suc (suc (suc (suc zero))))) small =
+    record {
+      first = rw (hex1_text 5 (omega arith), zero_text) refl;
+      second = rw (hex1_text 5 (omega arith), zero_text) refl;
+      third =
+          rw (hex1_text 5 (omega arith), zero_text) refl;
+      fourth = rw (hex1_text 5 (omega arith), zero_text) refl;
+    }
 all_written (suc (suc (suc (suc (suc (suc n)))))) small = absurd (omega arith)
 
 all_read : (css : ℕ) → css < 6 → AreSets IsRead css

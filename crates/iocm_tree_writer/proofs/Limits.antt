@@ -11,10 +11,12 @@ use Rattle.iocm_tree_writer.proofs.Sizes.{IsWithin}
 not_over : (most n : ℕ) → n ≤ most → nat_lt most n ≡ false
 not_over most n within = grind (arith, nat_tests)
 
-neither_is_over : (deep many : Bool) → deep ≡ false → many ≡ false → cond deep (Some C1) (cond many (Some C2) None) ≡ None
+neither_is_over : (deep many : Bool) → deep ≡ false → many ≡ false
+    → cond deep (Some C1) (cond many (Some C2) None) ≡ None
 neither_is_over deep many first second = rw (first, second) refl
 
-pub tree_is_within : (t : CarriedTree) → depth_of (plain_tree t) ≤ most_depth → leaves_of (plain_tree t) ≤ most_leaves → IsWithin (size_of t) [] []
+pub tree_is_within : (t : CarriedTree) → depth_of (plain_tree t) ≤ most_depth → leaves_of (plain_tree t) ≤ most_leaves
+    → IsWithin (size_of t) [] []
 tree_is_within t depth leaves =
     over-size t
     ∙ neither_is_over (nat_lt most_depth (depth_of (plain_tree t))) (nat_lt most_leaves (leaves_of (plain_tree t)))

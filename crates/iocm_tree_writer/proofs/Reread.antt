@@ -1,5 +1,6 @@
 -- The lines of a change deck are read from the columns as themselves.
-use Rattle.std.proofs.Common.{◌≡◌, ◌≢◌, ℕ, ◌+◌, ◌≤◌, ◌==◌, true, false, Some, sym, List, [], ◌∷◌, All, map, length, slice_index, Ok, refl, ap, ◌∙◌, arith}
+use Rattle.std.proofs.Common.{◌≡◌, ◌≢◌, ℕ, ◌+◌, ◌≤◌, ◌==◌, true, false, Some, sym, List, [], ◌∷◌, All, map, length}
+use Rattle.std.proofs.Common.{slice_index, Ok, refl, ap, ◌∙◌, arith}
 use Rattle.std.proofs.lemmas.Bool.{false≢true}
 use Rattle.std.proofs.lemmas.List.Elements.{All-head, All-tail, All-map}
 use Rattle.std.specs.List.{list_all}
@@ -10,7 +11,8 @@ use Rattle.iocm_columns.specs.Statements.{joined_of}
 use Rattle.iocm_columns.specs.Written.{IsWritable, is_graphic, without_line, deck_bytes}
 use Rattle.iocm_columns.proofs.Rereading.{deck_is_read_again}
 use Rattle.iocm_statements.specs.declared.operation.Operation.{Operation}
-use Rattle.iocm_statements.specs.declared.operation.Operation.TheVariants.{Id, Resource, Chpid, Cntlunit, Iodevice, Online, Row, Group, Choose, End}
+use Rattle.iocm_statements.specs.declared.operation.Operation.TheVariants.{Id, Resource, Chpid, Cntlunit, Iodevice}
+use Rattle.iocm_statements.specs.declared.operation.Operation.TheVariants.{Online, Row, Group, Choose, End}
 use Rattle.iocm_statements.specs.declared.statement.Statement as read
 use Rattle.iocm_statements.specs.Operation.{operation_name, operation_named}
 use Rattle.iocm_statements.specs.Statement.{statement_of, parsed}
@@ -81,7 +83,8 @@ line_again : (l : Line) → CanBeLine l → (joined : Joined) → without_line j
 line_again l can joined same =
     let is = named l.statement.operation in
     let operands = operands_again joined.line l.statement.operands can.statement.operands in
-    ap (λ (j : Joined). statement_of (record { line = joined.line; name = j.name; operation = j.operation; text = j.text })) same
+    ap (λ (j : Joined). statement_of
+    (record { line = joined.line; name = j.name; operation = j.operation; text = j.text })) same
     ∙ rw (is, operands) refl
 
 -- joined statements from this place of the deck on are read as lines
@@ -95,7 +98,8 @@ unfolding each
 none_read place = record { read = []; is_read = refl; same = tt }
 
 one_more_read : (place : ℕ) (l : Line) (ls : List Line) (joined : Joined) (deck : List Joined)
-    → statement_of joined ≡ Ok (as_read joined.line l) → AreReadFrom (place + 1) ls deck → AreReadFrom place (l ∷ ls) (joined ∷ deck)
+    → statement_of joined ≡ Ok (as_read joined.line l) → AreReadFrom (place + 1) ls deck
+    → AreReadFrom place (l ∷ ls) (joined ∷ deck)
 unfolding each
 one_more_read place l ls joined deck first rest = record {
   read = as_read joined.line l ∷ rest.read;
@@ -122,7 +126,8 @@ pub record AreReadAgain (ls : List Line) : Type 0 where
 
 pub lines_are_read_again : (ls : List Line) → All CanBeLine ls → AreReadAgain ls
 lines_are_read_again ls can =
-    let deck = deck_is_read_again (map line_to_write ls) (All-map IsWritable line_to_write ls (λ k d h. line_is_writable _ (can k d h))) in
+    let deck = deck_is_read_again (map line_to_write ls)
+    (All-map IsWritable line_to_write ls (λ k d h. line_is_writable _ (can k d h))) in
     let statements = lines_again 0 ls deck.read can deck.same in
     record {
       read = statements.read;

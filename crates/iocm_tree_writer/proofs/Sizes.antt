@@ -1,6 +1,7 @@
 -- Where a tree that is put into what was read so far is within the limits, so is one that is no
 -- deeper and has no more leaves.
-use Rattle.std.proofs.Common.{◌≡◌, ℕ, ◌≤◌, ◌==◌, nat_lt, Bool, true, false, cond, None, Some, List, [], ◌∷◌, ◌++◌, length, fold, arith, refl}
+use Rattle.std.proofs.Common.{◌≡◌, ℕ, ◌≤◌, ◌==◌, nat_lt, Bool, true, false, cond, None, Some, List, [], ◌∷◌, ◌++◌}
+use Rattle.std.proofs.Common.{length, fold, arith, refl}
 use Rattle.std.proofs.lemmas.Bool.Decides.{nat_tests}
 use Rattle.iocm_types.specs.declared.rule.Rule.TheVariants.{C1, C2}
 use Rattle.iocm_model.specs.Change.Tree.{or_one}
@@ -35,9 +36,11 @@ round_no_more : (a b : Size) (os : List OpenNode) → IsNoMore a b → IsNoMore 
 round_no_more a b [] less = less
 round_no_more a b (o ∷ os) less =
     round_no_more (around a o) (around b o) os
-    (inside_no_more (beside (size_among o.parts) a) (beside (size_among o.parts) b) (beside_no_more (size_among o.parts) a b less))
+    (inside_no_more (beside (size_among o.parts) a) (beside (size_among o.parts) b)
+    (beside_no_more (size_among o.parts) a b less))
 
-so_far_no_more : (a b : Size) (top : List CarriedTree) (os : List OpenNode) → IsNoMore a b → IsNoMore (size_with a top os) (size_with b top os)
+so_far_no_more : (a b : Size) (top : List CarriedTree) (os : List OpenNode) → IsNoMore a b
+    → IsNoMore (size_with a top os) (size_with b top os)
 so_far_no_more a b top os less = by (length top == 0)
   where
     round : IsNoMore (fold around a os) (fold around b os)
@@ -58,7 +61,8 @@ so_far_no_more a b top os less = by (length top == 0)
 test_no_more : (limit m n : ℕ) → m ≤ n → nat_lt limit n ≡ false → nat_lt limit m ≡ false
 test_no_more limit m n less within = grind (arith, nat_tests)
 
-pub neither : (deep many : Bool) → cond deep (Some C1) (cond many (Some C2) None) ≡ None → (deep ≡ false) × (many ≡ false)
+pub neither : (deep many : Bool) → cond deep (Some C1) (cond many (Some C2) None) ≡ None
+    → (deep ≡ false) × (many ≡ false)
 neither true many none = cc
 neither false true none = cc
 neither false false none = (refl, refl)
@@ -76,8 +80,10 @@ within_no_more a b less within =
 abbrev pub IsWithin : Size → List CarriedTree → List OpenNode → Type 0
 IsWithin size top os = over (size_with size top os) ≡ None
 
-pub smaller_is_within : (a b : Size) (top : List CarriedTree) (os : List OpenNode) → IsNoMore a b → IsWithin b top os → IsWithin a top os
-smaller_is_within a b top os less within = within_no_more (size_with a top os) (size_with b top os) (so_far_no_more a b top os less) within
+pub smaller_is_within : (a b : Size) (top : List CarriedTree) (os : List OpenNode) → IsNoMore a b → IsWithin b top os
+    → IsWithin a top os
+smaller_is_within a b top os less within =
+    within_no_more (size_with a top os) (size_with b top os) (so_far_no_more a b top os less) within
 
 -- ---- fewer parts
 
@@ -95,9 +101,11 @@ among_front xs ys =
     record { depth = omega arith; leaves = omega arith }
 
 -- a node of the first parts
-pub front_no_more : (kind : NodeKind) (xs ys : List CarriedTree) → IsNoMore (size_of (node_of_kind kind xs)) (size_of (node_of_kind kind (xs ++ ys)))
+pub front_no_more : (kind : NodeKind) (xs ys : List CarriedTree)
+    → IsNoMore (size_of (node_of_kind kind xs)) (size_of (node_of_kind kind (xs ++ ys)))
 front_no_more kind xs ys =
-    rw (size-node kind xs, size-node kind (xs ++ ys)) (inside_no_more (size_among xs) (size_among (xs ++ ys)) (among_front xs ys))
+    rw (size-node kind xs, size-node kind (xs ++ ys))
+    (inside_no_more (size_among xs) (size_among (xs ++ ys)) (among_front xs ys))
 
 empty_no_more : (s : Size) → IsNoMore size_of_empty (inside s)
 empty_no_more s = record { depth = omega arith; leaves = one_no_more 0 s.leaves (omega arith) }

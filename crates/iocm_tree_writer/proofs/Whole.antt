@@ -30,7 +30,8 @@ use Rattle.iocm_tree_writer.proofs.Writable.{lines_can}
 
 -- ---- leaves
 
-pair_added : (line : ℕ) (o : OnlineRecord) → IsPair o.css o.path o.name → records_of (as_read line (action_line (add (online o)))) ≡ Ok (online o ∷ [])
+pair_added : (line : ℕ) (o : OnlineRecord) → IsPair o.css o.path o.name
+    → records_of (as_read line (action_line (add (online o)))) ≡ Ok (online o ∷ [])
 unfolding placed
 pair_added line o is =
     let p : CssPath = record { css = o.css; path = o.path } in
@@ -63,9 +64,12 @@ modified line (device d) is = record_given Modify (verb_name Modify) line (devic
 modified line (online o) is = absurd is
 
 pub leaves_are_read_again : ReadsLeafAgain
-leaves_are_read_again line (add r) is = ap (λ found. found >>= λ records. Ok (map (λ x. bare (add x)) records)) (added line r is)
-leaves_are_read_again line (delete k) is = ap (λ found. found >>= λ keys. Ok (map (λ x. bare (delete x)) keys)) (key_again line k is)
-leaves_are_read_again line (modify r) is = ap (λ found. found >>= λ records. Ok (map (λ x. bare (modify x)) records)) (modified line r is)
+leaves_are_read_again line (add r) is =
+    ap (λ found. found >>= λ records. Ok (map (λ x. bare (add x)) records)) (added line r is)
+leaves_are_read_again line (delete k) is =
+    ap (λ found. found >>= λ keys. Ok (map (λ x. bare (delete x)) keys)) (key_again line k is)
+leaves_are_read_again line (modify r) is =
+    ap (λ found. found >>= λ records. Ok (map (λ x. bare (modify x)) records)) (modified line r is)
 
 -- ---- the whole
 

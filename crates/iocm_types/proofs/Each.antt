@@ -1,6 +1,7 @@
 -- The steps of a loop that reads a list item by item: what was gathered, with what the rest gives,
 -- is what all gives.
-use Rattle.std.proofs.Common.{◌≡◌, ℕ, ◌+◌, ◌<◌, ◌≤◌, List, [], ◌∷◌, ◌++◌, length, get_or, drop, Result, Ok, Err, refl, sym, ap, append_assoc}
+use Rattle.std.proofs.Common.{◌≡◌, ℕ, ◌+◌, ◌<◌, ◌≤◌, List, [], ◌∷◌, ◌++◌, length, get_or, drop, Result, Ok, Err, refl}
+use Rattle.std.proofs.Common.{sym, ap, append_assoc}
 use Rattle.std.proofs.Math.ListN.{drop_of_length-le}
 use Rattle.std.proofs.lemmas.List.{append-nil}
 use Rattle.iocm_types.specs.declared.fault.Fault.{Fault}
@@ -23,7 +24,8 @@ each_goes_on read front xs i x y within item is =
     rw (drop-item xs i x within item, is) (front_grows front (y ∷ []) (each read (i + 1) (drop (i + 1) xs)))
 
 -- an item that is refused is the answer
-pub each_fails : {A B : Type 0} (read : ℕ → A → Result B Fault) (front : List B) (xs : List A) (i : ℕ) (x : A) (f : Fault)
+pub each_fails : {A B : Type 0} (read : ℕ → A → Result B Fault) (front : List B) (xs : List A) (i : ℕ) (x : A)
+    (f : Fault)
     → i < length xs → x ≡ get_or xs i x → read i x ≡ Err f
     → after_front front (each read i (drop i xs)) ≡ Err f
 unfolding each

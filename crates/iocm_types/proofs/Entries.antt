@@ -9,11 +9,13 @@ use Rattle.iocm_types.proofs.Tests.{first_holds, second_holds}
 use Rattle.std.specs.Ordering.{is_lt}
 
 -- a key below all is below those behind the first
-pub below_rest : {K X : Type 0} (R : K → K → Ordering) (q : K) (e : K × X) (es : List (K × X)) → T (below_all R q (e ∷ es)) → T (below_all R q es)
+pub below_rest : {K X : Type 0} (R : K → K → Ordering) (q : K) (e : K × X) (es : List (K × X))
+    → T (below_all R q (e ∷ es)) → T (below_all R q es)
 below_rest R q e es h = second_holds (is_lt (R q e.0)) (below_all R q es) h
 
 -- a key below all others is not found
-pub not_found : {K X : Type 0} (R : K → K → Ordering) (q : K) (es : List (K × X)) → T (below_all R q es) → find R q es ≡ None
+pub not_found : {K X : Type 0} (R : K → K → Ordering) (q : K) (es : List (K × X)) → T (below_all R q es)
+    → find R q es ≡ None
 not_found R q [] h = refl
 not_found R q (e ∷ es) h =
     let less : R q e.0 ≡ Less = less_is _ (first_holds _ _ h) in

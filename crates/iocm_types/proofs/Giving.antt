@@ -20,10 +20,12 @@ in_turn P Q (Ok x) next first each = each x first
 
 -- so it is item by item
 pub each_gives : {A B : Type 0} (P : A → Type 0) (Q : B → Type 0) (read : ℕ → A → Result B Fault)
-    → ((place : ℕ) (x : A) → P x → IfOk (read place x) Q) → (place : ℕ) (xs : List A) → All P xs → IfOk (each read place xs) (All Q)
+    → ((place : ℕ) (x : A) → P x → IfOk (read place x) Q) → (place : ℕ) (xs : List A) → All P xs
+    → IfOk (each read place xs) (All Q)
 unfolding each
 each_gives P Q read gives place [] are = All-nil Q
 each_gives P Q read gives place (x ∷ xs) are =
     in_turn Q (All Q) (read place x) _ (gives place x (All-head P x xs are)) (λ y is.
-    in_turn (All Q) (All Q) (each read (place + 1) xs) _ (each_gives P Q read gives (place + 1) xs (All-tail P x xs are)) (λ ys more.
+    in_turn (All Q) (All Q) (each read (place + 1) xs) _
+    (each_gives P Q read gives (place + 1) xs (All-tail P x xs are)) (λ ys more.
     All-cons Q y ys is more))

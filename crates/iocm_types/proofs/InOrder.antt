@@ -21,7 +21,8 @@ module _ {K X : Type 0} (R : K → K → Ordering) where
   -- rows whose keys are in order are in order
   pub rows_sorted : (es : List (K × X)) → IsStrictlySortedBy R (keys_of es) → T (is_sorted R es)
   rows_sorted [] h = tt
-  rows_sorted (e ∷ es) h = both_hold _ _ (below_rows e.0 es (sorted_head R _ _ h)) (rows_sorted es (sorted_tail R _ _ h))
+  rows_sorted (e ∷ es) h =
+      both_hold _ _ (below_rows e.0 es (sorted_head R _ _ h)) (rows_sorted es (sorted_tail R _ _ h))
 
   keys_below : (k : K) (es : List (K × X)) → T (below_all R k es) → AllByRecursion (λ y. R k y ≡ Less) (keys_of es)
   keys_below k [] below = tt

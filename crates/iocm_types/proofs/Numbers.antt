@@ -1,5 +1,6 @@
 -- Names compared as numbers of eight bytes.
-use Rattle.std.proofs.Common.{◌≡◌, ℕ, ◌+◌, ◌*◌, ◌^◌, ◌<◌, ◌≤◌, Bool, true, false, ◌&&◌, not, nat_le, nat_eq, List, [], ◌∷◌, zero, suc, length, codes, refl, sym, ap, subst, ◌∙◌, arith}
+use Rattle.std.proofs.Common.{◌≡◌, ℕ, ◌+◌, ◌*◌, ◌^◌, ◌<◌, ◌≤◌, Bool, true, false, ◌&&◌, not, nat_le, nat_eq, List, []}
+use Rattle.std.proofs.Common.{◌∷◌, zero, suc, length, codes, refl, sym, ap, subst, ◌∙◌, arith}
 use Rattle.std.proofs.lemmas.Bool.{and_parts, leb-true}
 use Rattle.std.specs.List.{list_all}
 use Rattle.std.specs.Ordering.{nat_cmp, ordering_then, MatchOrdering}
@@ -48,7 +49,8 @@ step x y p v w less_v less_w = nat_cmp_is (x * p + v) (y * p + w) _ (by_first (n
     by_second same Greater more = subst (λ n. n * p + w < x * p + v) same (omega arith)
 
     by_first : (r : Ordering) → MatchOrdering r (x < y) (x ≡ y) (y < x)
-        → MatchOrdering (ordering_then r (nat_cmp v w)) (x * p + v < y * p + w) (x * p + v ≡ y * p + w) (y * p + w < x * p + v)
+        → MatchOrdering (ordering_then r (nat_cmp v w)) (x * p + v < y * p + w) (x * p + v ≡ y * p + w)
+        (y * p + w < x * p + v)
     by_first Less less = let much : (x + 1) * p ≤ y * p = mul-le-mul_right p (omega arith) in grind arith
     by_first Equal same = by_second same (nat_cmp v w) (ranks v w)
     by_first Greater more = let much : (y + 1) * p ≤ x * p = mul-le-mul_right p (omega arith) in grind arith
@@ -112,4 +114,5 @@ names_by_number xs ys is_x is_y =
   where
     bytes_of : (zs : List ℕ) → is_name zs ≡ true → AreBytes zs
     bytes_of zs is = letters_are_bytes zs
-        (second (begins_with_letter zs) (list_all is_letter_or_digit zs) (nat_le (length zs) 8) (not (pointwise nat_eq zs (codes "REC"))) is)
+        (second (begins_with_letter zs) (list_all is_letter_or_digit zs) (nat_le (length zs) 8)
+        (not (pointwise nat_eq zs (codes "REC"))) is)

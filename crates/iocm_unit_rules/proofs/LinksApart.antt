@@ -9,7 +9,8 @@ use Rattle.iocm_types.specs.declared.link.Link.TheVariants as link
 use Rattle.iocm_model.specs.Machine.Configuration.{Configuration, IsKeyed, records_of}
 use Rattle.iocm_model.specs.Machine.Numbering.{subsystems}
 use Rattle.iocm_model.specs.Machine.Record.{Rec, UnitRecord, id, resource, image, limit, path, unit, device, online}
-use Rattle.iocm_model.specs.Rules.EachRule.{breaks_v14, answers_for, overlap, share_link, same_link, linked_paths, cuadd_or_zero, has_twice, some_before}
+use Rattle.iocm_model.specs.Rules.EachRule.{breaks_v14, answers_for, overlap, share_link, same_link, linked_paths}
+use Rattle.iocm_model.specs.Rules.EachRule.{cuadd_or_zero, has_twice, some_before}
 use Rattle.iocm_lookup.specs.First.{first_key}
 use Rattle.iocm_lookup.proofs.KindWalks.{GivesOfKind}
 use Rattle.iocm_lookup.proofs.Apart.{Common, common_of_one, common_of_two, none_clashes}
@@ -53,20 +54,25 @@ one_number (link.Long a) (link.Short b) h = absurd (false≢true h)
 -- ---- units
 
 module _ (u v : UnitRecord) (cuadd : cuadd_or_zero u ≡ cuadd_or_zero v) where
-  equal_on : (css : ℕ) (p q : ℕ × Link) → (nat_eq p.0 q.0 && same_link p.1 q.1) ≡ true → number_on css (cuadd_or_zero u) p ≡ number_on css (cuadd_or_zero v) q
+  equal_on : (css : ℕ) (p q : ℕ × Link) → (nat_eq p.0 q.0 && same_link p.1 q.1) ≡ true
+      → number_on css (cuadd_or_zero u) p ≡ number_on css (cuadd_or_zero v) q
   equal_on css p q h =
       let path = same_value p.0 q.0 (first (nat_eq p.0 q.0) (same_link p.1 q.1) h) in
       let its_link = one_number p.1 q.1 (second (nat_eq p.0 q.0) (same_link p.1 q.1) h) in
       (λ i. ((css * 256 + path i) * 262144 + its_link i) * 256 + cuadd i)
 
-  common_in : (css : ℕ) → list_any (λ (p : ℕ × Link). list_any (λ (q : ℕ × Link). nat_eq p.0 q.0 && same_link p.1 q.1) (linked_paths css v)) (linked_paths css u) ≡ true
+  common_in : (css : ℕ) → list_any
+      (λ (p : ℕ × Link). list_any (λ (q : ℕ × Link). nat_eq p.0 q.0 && same_link p.1 q.1) (linked_paths css v))
+      (linked_paths css u) ≡ true
       → Common (numbers_in u css) (numbers_in v css)
-  common_in css any = common_of_two (number_on css (cuadd_or_zero u)) (number_on css (cuadd_or_zero v)) (λ p q. nat_eq p.0 q.0 && same_link p.1 q.1)
+  common_in css any = common_of_two (number_on css (cuadd_or_zero u)) (number_on css (cuadd_or_zero v))
+      (λ p q. nat_eq p.0 q.0 && same_link p.1 q.1)
       (equal_on css) (linked_paths css u) (linked_paths css v) any
 
   common_of_units : share_link u v ≡ true → Common (link_numbers (unit u)) (link_numbers (unit v))
   common_of_units any = common_of_one (numbers_in u) (numbers_in v)
-      (λ css. list_any (λ (p : ℕ × Link). list_any (λ (q : ℕ × Link). nat_eq p.0 q.0 && same_link p.1 q.1) (linked_paths css v)) (linked_paths css u))
+      (λ css. list_any (λ (p : ℕ × Link).
+      list_any (λ (q : ℕ × Link). nat_eq p.0 q.0 && same_link p.1 q.1) (linked_paths css v)) (linked_paths css u))
       common_in subsystems any
 
 -- ---- the rule
@@ -91,7 +97,8 @@ pub of_unit : (u : UnitRecord) (r : Rec) → answers_for u r ≡ true → Common
 of_unit u (unit v) h =
     let ranges = list_any (λ r. list_any (overlap r) v.ranges) u.ranges in
     let both = first (share_link u v && nat_eq (cuadd_or_zero u) (cuadd_or_zero v)) ranges h in
-    common_of_units u v (same_value (cuadd_or_zero u) (cuadd_or_zero v) (second (share_link u v) (nat_eq (cuadd_or_zero u) (cuadd_or_zero v)) both))
+    common_of_units u v (same_value (cuadd_or_zero u) (cuadd_or_zero v)
+    (second (share_link u v) (nat_eq (cuadd_or_zero u) (cuadd_or_zero v)) both))
     (first (share_link u v) (nat_eq (cuadd_or_zero u) (cuadd_or_zero v)) both)
 of_unit u (id x) h = absurd (false≢true h)
 of_unit u (resource x) h = absurd (false≢true h)
@@ -113,5 +120,6 @@ common (device x) other h = absurd (false≢true h)
 common (online x) other h = absurd (false≢true h)
 
 -- where no number is there twice, no unit breaks the rule
-pub none_shares : (c : Configuration) → IsKeyed c → has_twice (flat_map link_numbers (records_of c)) ≡ false → None ≡ first_key (breaks_v14 c) c
+pub none_shares : (c : Configuration) → IsKeyed c → has_twice (flat_map link_numbers (records_of c)) ≡ false
+    → None ≡ first_key (breaks_v14 c) c
 none_shares c keyed none = none_clashes c link_numbers keyed none (breaks_v14 c) clashes (with_one c) common

@@ -6,13 +6,17 @@ use Rattle.iocm_types.proofs.Lists.{drop-item}
 use Rattle.iocm_types.specs.declared.unit_range.UnitRange.{UnitRange}
 use Rattle.iocm_model.specs.Rules.EachRule.{overlap, has_overlap}
 
-pub apart_from_rest : (rs : List UnitRange) (i : ℕ) (r : UnitRange) → i < length rs → r ≡ get_or rs i r → list_any (overlap r) (drop (i + 1) rs) ≡ false
+pub apart_from_rest : (rs : List UnitRange) (i : ℕ) (r : UnitRange) → i < length rs → r ≡ get_or rs i r
+    → list_any (overlap r) (drop (i + 1) rs) ≡ false
     → has_overlap (drop i rs) ≡ has_overlap (drop (i + 1) rs)
-apart_from_rest rs i r within item apart = ap has_overlap (drop-item rs i r within item) ∙ ap (λ b. b || has_overlap (drop (i + 1) rs)) apart
+apart_from_rest rs i r within item apart =
+    ap has_overlap (drop-item rs i r within item) ∙ ap (λ b. b || has_overlap (drop (i + 1) rs)) apart
 
-pub overlaps_rest : (rs : List UnitRange) (i : ℕ) (r : UnitRange) → i < length rs → r ≡ get_or rs i r → list_any (overlap r) (drop (i + 1) rs) ≡ true
+pub overlaps_rest : (rs : List UnitRange) (i : ℕ) (r : UnitRange) → i < length rs → r ≡ get_or rs i r
+    → list_any (overlap r) (drop (i + 1) rs) ≡ true
     → has_overlap (drop i rs) ≡ true
-overlaps_rest rs i r within item there = ap has_overlap (drop-item rs i r within item) ∙ ap (λ b. b || has_overlap (drop (i + 1) rs)) there
+overlaps_rest rs i r within item there =
+    ap has_overlap (drop-item rs i r within item) ∙ ap (λ b. b || has_overlap (drop (i + 1) rs)) there
 
 pub none_overlap : (rs : List UnitRange) (i : ℕ) → length rs ≤ i → has_overlap (drop i rs) ≡ false
 none_overlap rs i past = ap has_overlap (drop_of_length-le rs past)

@@ -1,5 +1,6 @@
 -- The units that share an address are among those that name its paths.
-use Rattle.std.proofs.Common.{◌≡◌, ℕ, Bool, true, false, cond, ◌&&◌, ◌||◌, ◌==◌, nat_eq, None, Some, List, [], ◌∷◌, map, refl, sym, ap, ◌∙◌, arith}
+use Rattle.std.proofs.Common.{◌≡◌, ℕ, Bool, true, false, cond, ◌&&◌, ◌||◌, ◌==◌, nat_eq, None, Some, List, [], ◌∷◌, map}
+use Rattle.std.proofs.Common.{refl, sym, ap, ◌∙◌, arith}
 use Rattle.std.proofs.lemmas.Bool.{false≢true}
 use Rattle.std.proofs.lemmas.Bool.Decides.{nat_tests}
 use Rattle.std.specs.List.{list_any, AllByRecursion}
@@ -26,7 +27,8 @@ use Rattle.iocm_model.specs.Machine.Configuration.{Configuration, IsKeyed, looku
 use Rattle.iocm_model.specs.Machine.Naming.{path_named}
 use Rattle.iocm_model.specs.Machine.Numbering.{subsystems}
 use Rattle.iocm_model.specs.Machine.PathList.{paths_in}
-use Rattle.iocm_model.specs.Rules.EachRule.{stands_before, some_before, answers_for, share_link, linked_paths, links_in, with_links, same_link}
+use Rattle.iocm_model.specs.Rules.EachRule.{stands_before, some_before, answers_for, share_link, linked_paths, links_in}
+use Rattle.iocm_model.specs.Rules.EachRule.{with_links, same_link}
 use Rattle.iocm_lookup.specs.Indexed.{names, IsIndexOf}
 use Rattle.iocm_lookup.proofs.Anys.{any_implies, any_weaker, or_later}
 use Rattle.iocm_lookup.proofs.Members.{own_path, record_there, user_found}
@@ -82,18 +84,21 @@ turned a b = grind (arith, nat_tests)
 -- ---- units that share a path
 
 -- a path with its link that passes is a path that does
-linked_any : (test : ℕ × Link → Bool) (other : ℕ → Bool) → ((x : ℕ × Link) → test x ≡ true → other x.0 ≡ true) → (ns : List ℕ) (ls : List Link)
+linked_any : (test : ℕ × Link → Bool) (other : ℕ → Bool) → ((x : ℕ × Link) → test x ≡ true → other x.0 ≡ true)
+    → (ns : List ℕ) (ls : List Link)
     → list_any test (with_links ns ls) ≡ true → list_any other ns ≡ true
 linked_any test other weaker [] ls any = any
 linked_any test other weaker (n ∷ ns) [] any = by (test (n, link.None)) refl any (linked_any test other weaker ns [])
   where
-    by : (b : Bool) → test (n, link.None) ≡ b → (b || list_any test (with_links ns [])) ≡ true → (list_any test (with_links ns []) ≡ true → list_any other ns ≡ true)
+    by : (b : Bool) → test (n, link.None) ≡ b → (b || list_any test (with_links ns [])) ≡ true
+        → (list_any test (with_links ns []) ≡ true → list_any other ns ≡ true)
         → (other n || list_any other ns) ≡ true
     by true is h more = ap (λ b. b || list_any other ns) (weaker (n, link.None) is)
     by false is h more = or_later (other n) _ (more h)
 linked_any test other weaker (n ∷ ns) (l ∷ ls) any = by (test (n, l)) refl any (linked_any test other weaker ns ls)
   where
-    by : (b : Bool) → test (n, l) ≡ b → (b || list_any test (with_links ns ls)) ≡ true → (list_any test (with_links ns ls) ≡ true → list_any other ns ≡ true)
+    by : (b : Bool) → test (n, l) ≡ b → (b || list_any test (with_links ns ls)) ≡ true
+        → (list_any test (with_links ns ls) ≡ true → list_any other ns ≡ true)
         → (other n || list_any other ns) ≡ true
     by true is h more = ap (λ b. b || list_any other ns) (weaker (n, l) is)
     by false is h more = or_later (other n) _ (more h)
@@ -108,11 +113,13 @@ record IsLinkedAmong (test : ℕ × Link → Bool) (ns : List ℕ) (ls : List Li
 itself : (n : ℕ) → nat_eq n n ≡ true
 itself n = grind (arith, nat_tests)
 
-linked_found : (test : ℕ × Link → Bool) (ns : List ℕ) (ls : List Link) → list_any test (with_links ns ls) ≡ true → IsLinkedAmong test ns ls
+linked_found : (test : ℕ × Link → Bool) (ns : List ℕ) (ls : List Link) → list_any test (with_links ns ls) ≡ true
+    → IsLinkedAmong test ns ls
 linked_found test [] ls any = cc
 linked_found test (n ∷ ns) [] any = by (test (n, link.None)) refl any (linked_found test ns [])
   where
-    by : (b : Bool) → test (n, link.None) ≡ b → (b || list_any test (with_links ns [])) ≡ true → (list_any test (with_links ns []) ≡ true → IsLinkedAmong test ns [])
+    by : (b : Bool) → test (n, link.None) ≡ b → (b || list_any test (with_links ns [])) ≡ true
+        → (list_any test (with_links ns []) ≡ true → IsLinkedAmong test ns [])
         → IsLinkedAmong test (n ∷ ns) []
     by true is h more = record {
       item = (n, link.None);
@@ -128,7 +135,8 @@ linked_found test (n ∷ ns) [] any = by (test (n, link.None)) refl any (linked_
     }
 linked_found test (n ∷ ns) (l ∷ ls) any = by (test (n, l)) refl any (linked_found test ns ls)
   where
-    by : (b : Bool) → test (n, l) ≡ b → (b || list_any test (with_links ns ls)) ≡ true → (list_any test (with_links ns ls) ≡ true → IsLinkedAmong test ns ls)
+    by : (b : Bool) → test (n, l) ≡ b → (b || list_any test (with_links ns ls)) ≡ true
+        → (list_any test (with_links ns ls) ≡ true → IsLinkedAmong test ns ls)
         → IsLinkedAmong test (n ∷ ns) (l ∷ ls)
     by true is h more = record {
       item = (n, l);
@@ -144,38 +152,53 @@ linked_found test (n ∷ ns) (l ∷ ls) any = by (test (n, l)) refl any (linked_
     }
 
 -- a path that is among a unit's is named by it
-named_among : (css n : ℕ) (ps : List CssPath) → list_any (is_path css n) ps ≡ true → list_any (eq_by_cmp named_cmp (thing.Record (key.Path css n))) (map path_named ps) ≡ true
+named_among : (css n : ℕ) (ps : List CssPath) → list_any (is_path css n) ps ≡ true
+    → list_any (eq_by_cmp named_cmp (thing.Record (key.Path css n))) (map path_named ps) ≡ true
 named_among css n [] any = any
 named_among css n (p ∷ ps) any = by (is_path css n p) refl any (named_among css n ps)
   where
     by : (b : Bool) → is_path css n p ≡ b → (b || list_any (is_path css n) ps) ≡ true
-        → (list_any (is_path css n) ps ≡ true → list_any (eq_by_cmp named_cmp (thing.Record (key.Path css n))) (map path_named ps) ≡ true)
-        → (eq_by_cmp named_cmp (thing.Record (key.Path css n)) (path_named p) || list_any (eq_by_cmp named_cmp (thing.Record (key.Path css n))) (map path_named ps)) ≡ true
-    by true is h more = ap (λ b. b || list_any (eq_by_cmp named_cmp (thing.Record (key.Path css n))) (map path_named ps))
-        (own_path css n p.css p.path (λ i. first_of (nat_eq p.css css) (nat_eq n p.path) is i && (turned p.path n ∙ second_of (nat_eq p.css css) (nat_eq n p.path) is) i))
+        → (list_any (is_path css n) ps ≡ true
+        → list_any (eq_by_cmp named_cmp (thing.Record (key.Path css n))) (map path_named ps) ≡ true)
+        → (eq_by_cmp named_cmp (thing.Record (key.Path css n)) (path_named p)
+        || list_any (eq_by_cmp named_cmp (thing.Record (key.Path css n))) (map path_named ps)) ≡ true
+    by true is h more = ap (λ b.
+        b || list_any (eq_by_cmp named_cmp (thing.Record (key.Path css n))) (map path_named ps))
+        (own_path css n p.css p.path
+        (λ i. first_of (nat_eq p.css css) (nat_eq n p.path) is i
+        && (turned p.path n ∙ second_of (nat_eq p.css css) (nat_eq n p.path) is) i))
     by false is h more = or_later (eq_by_cmp named_cmp (thing.Record (key.Path css n)) (path_named p)) _ (more h)
 
 -- units that share a link share a path, on which they do
 pub shared_path : (a b : UnitRecord) → share_link a b ≡ true
-    → list_any (λ (p : CssPath). names (thing.Record (key.Path p.css p.path)) (Some (unit b)) && share_link_on p.css p.path a b) a.paths ≡ true
-shared_path a b shares = any_implies (λ css. list_any (is_on_link css b) (linked_paths css a)) subsystems in_subsystem shares
+    → list_any (λ (p : CssPath).
+    names (thing.Record (key.Path p.css p.path)) (Some (unit b)) && share_link_on p.css p.path a b) a.paths ≡ true
+shared_path a b shares =
+    any_implies (λ css. list_any (is_on_link css b) (linked_paths css a)) subsystems in_subsystem shares
   where
     in_subsystem : (css : ℕ) → list_any (is_on_link css b) (linked_paths css a) ≡ true
-        → list_any (λ (p : CssPath). names (thing.Record (key.Path p.css p.path)) (Some (unit b)) && share_link_on p.css p.path a b) a.paths ≡ true
+        → list_any (λ (p : CssPath).
+        names (thing.Record (key.Path p.css p.path)) (Some (unit b)) && share_link_on p.css p.path a b) a.paths ≡ true
     in_subsystem css h =
         let m = linked_found (is_on_link css b) (paths_in css a.paths) (links_in css a.links) h in
         let n = m.item.0 in
-        let in_other = linked_any (λ (q : ℕ × Link). (n == q.0) && same_link m.item.1 q.1) (nat_eq n) (λ y both. first_of (nat_eq n y.0) (same_link m.item.1 y.1) both)
+        let in_other = linked_any (λ (q : ℕ × Link). (n == q.0) && same_link m.item.1 q.1) (nat_eq n)
+        (λ y both. first_of (nat_eq n y.0) (same_link m.item.1 y.1) both)
         (paths_in css b.paths) (links_in css b.links) m.passes in
         let named = named_among css n b.paths (sym (path_among css n b.paths) ∙ in_other) in
-        any_weaker (is_path css n) (λ (p : CssPath). names (thing.Record (key.Path p.css p.path)) (Some (unit b)) && share_link_on p.css p.path a b)
-        (λ p both. at_path css n p (same_number p.css css (first_of (nat_eq p.css css) _ both)) (same_number n p.path (second_of (nat_eq p.css css) _ both)) named m.alike)
+        any_weaker (is_path css n)
+        (λ (p : CssPath). names (thing.Record (key.Path p.css p.path)) (Some (unit b))
+        && share_link_on p.css p.path a b)
+        (λ p both. at_path css n p (same_number p.css css (first_of (nat_eq p.css css) _ both))
+        (same_number n p.path (second_of (nat_eq p.css css) _ both)) named m.alike)
         a.paths (sym (path_among css n a.paths) ∙ m.there)
       where
-        at_path : (css n : ℕ) (p : CssPath) → p.css ≡ css → n ≡ p.path → names (thing.Record (key.Path css n)) (Some (unit b)) ≡ true → share_link_on css n a b ≡ true
+        at_path : (css n : ℕ) (p : CssPath) → p.css ≡ css → n ≡ p.path
+            → names (thing.Record (key.Path css n)) (Some (unit b)) ≡ true → share_link_on css n a b ≡ true
             → (names (thing.Record (key.Path p.css p.path)) (Some (unit b)) && share_link_on p.css p.path a b) ≡ true
         at_path css n p here same named alike =
-            (λ i. names (thing.Record (key.Path (here i) (sym same i))) (Some (unit b)) && share_link_on (here i) (sym same i) a b)
+            (λ i. names (thing.Record (key.Path (here i) (sym same i))) (Some (unit b))
+            && share_link_on (here i) (sym same i) a b)
             ∙ (λ i. named i && alike i)
 
 -- a path of a list that passes one test and not another
@@ -185,16 +208,20 @@ pub record IsPathAmong (test fails : CssPath → Bool) (ps : List CssPath) : Typ
   pub passes_not : fails path ≡ false
   pub named : list_any (eq_by_cmp named_cmp (path_named path)) (map path_named ps) ≡ true
 
-pub path_found : (test fails : CssPath → Bool) (ps : List CssPath) → list_any test ps ≡ true → list_any fails ps ≡ false → IsPathAmong test fails ps
+pub path_found : (test fails : CssPath → Bool) (ps : List CssPath) → list_any test ps ≡ true → list_any fails ps ≡ false
+    → IsPathAmong test fails ps
 path_found test fails [] any none = cc
 path_found test fails (p ∷ ps) any none = by (test p) refl any (path_found test fails ps)
   where
-    by : (b : Bool) → test p ≡ b → (b || list_any test ps) ≡ true → (list_any test ps ≡ true → list_any fails ps ≡ false → IsPathAmong test fails ps) → IsPathAmong test fails (p ∷ ps)
+    by : (b : Bool) → test p ≡ b → (b || list_any test ps) ≡ true
+        → (list_any test ps ≡ true → list_any fails ps ≡ false → IsPathAmong test fails ps)
+        → IsPathAmong test fails (p ∷ ps)
     by true is h more = record {
       path = p;
       passes = is;
       passes_not = neither_first (fails p) _ none;
-      named = ap (λ b. b || list_any (eq_by_cmp named_cmp (path_named p)) (map path_named ps)) (ties_itself named_cmp named_total (path_named p));
+      named = ap (λ b. b || list_any (eq_by_cmp named_cmp (path_named p)) (map path_named ps))
+          (ties_itself named_cmp named_total (path_named p));
     }
     by false is h more = let later = more h (neither_second (fails p) _ none) in record {
       path = later.path;
@@ -204,13 +231,15 @@ path_found test fails (p ∷ ps) any none = by (test p) refl any (path_found tes
     }
 
 -- a unit that shares an address with a user of a path breaks the rule
-pub clash_breaks : (c : Configuration) (t : Stored Naming (Unit {0})) → IsKeyed c → IsIndexOf c t → (u : UnitRecord) (p : CssPath)
+pub clash_breaks : (c : Configuration) (t : Stored Naming (Unit {0})) → IsKeyed c → IsIndexOf c t
+    → (u : UnitRecord) (p : CssPath)
     → clashes_on (lookup_of c) (rows naming_cmp t) u p ≡ true → some_before c (unit u) (answers_for u) ≡ true
 clash_breaks c t keyed of u p any =
     let r = user_found c t (thing.Record (key.Path p.css p.path)) _ (clashes_before (lookup_of c) u p) keyed of
     (users_name_it (thing.Record (key.Path p.css p.path)) (rows naming_cmp t)) any in
     record_there c (λ r. stands_before r (unit u) && answers_for u r) (key_of r.user) r.user r.there
-    (without_middle (is_lt (key_cmp (key_of r.user) (key.Unit u.number))) (is_on_its_link p u r.user) (answers_for u r.user)
+    (without_middle (is_lt (key_cmp (key_of r.user) (key.Unit u.number))) (is_on_its_link p u r.user)
+    (answers_for u r.user)
     (sym (ap (λ o. is_lt (key_cmp (key_of r.user) (key.Unit u.number)) && clashes p u o) r.there) ∙ r.passes))
 
 -- ---- users in order
@@ -230,28 +259,34 @@ not_before q p k not less = by (key_cmp p k) refl
     by Greater is = ap is_lt is
 
 -- from a user on that isn't before a unit none clashes before it
-none_behind_clashes : (c : Lookup) (u : UnitRecord) (p : CssPath) (q : Key) (qs : List Key) → is_lt (key_cmp q (key.Unit u.number)) ≡ false
+none_behind_clashes : (c : Lookup) (u : UnitRecord) (p : CssPath) (q : Key) (qs : List Key)
+    → is_lt (key_cmp q (key.Unit u.number)) ≡ false
     → IsStrictlySortedBy key_cmp (q ∷ qs) → list_any (clashes_before c u p) (q ∷ qs) ≡ false
 unfolding IsStrictlySortedBy
-none_behind_clashes c u p q qs not up = ap (λ b. (b && clashes p u (c q)) || list_any (clashes_before c u p) qs) not ∙ later qs up.0
+none_behind_clashes c u p q qs not up =
+    ap (λ b. (b && clashes p u (c q)) || list_any (clashes_before c u p) qs) not ∙ later qs up.0
   where
     later : (ks : List Key) → AllByRecursion (λ k. key_cmp q k ≡ Less) ks → list_any (clashes_before c u p) ks ≡ false
     later [] all = refl
-    later (k ∷ ks) all = ap (λ b. (b && clashes p u (c k)) || list_any (clashes_before c u p) ks) (not_before q k (key.Unit u.number) not all.0) ∙ later ks all.1
+    later (k ∷ ks) all = ap (λ b. (b && clashes p u (c k)) || list_any (clashes_before c u p) ks)
+        (not_before q k (key.Unit u.number) not all.0) ∙ later ks all.1
 
 -- what a user says is so of it and of those behind it
-pub told_is : (c : Lookup) (u : UnitRecord) (p : CssPath) (q : Key) (qs : List Key) (a : Bool) → told_by c u p q ≡ Some a → IsStrictlySortedBy key_cmp (q ∷ qs)
+pub told_is : (c : Lookup) (u : UnitRecord) (p : CssPath) (q : Key) (qs : List Key) (a : Bool)
+    → told_by c u p q ≡ Some a → IsStrictlySortedBy key_cmp (q ∷ qs)
     → list_any (clashes_before c u p) (q ∷ qs) ≡ a
 told_is c u p q qs a told up = by (is_lt (key_cmp q (key.Unit u.number))) refl (clashes p u (c q)) refl told
   where
     by : (b : Bool) → is_lt (key_cmp q (key.Unit u.number)) ≡ b → (d : Bool) → clashes p u (c q) ≡ d
         → cond b (cond d (Some true) None) (Some false) ≡ Some a → list_any (clashes_before c u p) (q ∷ qs) ≡ a
-    by true is true does told = let same : true ≡ a = cc in (λ i. (is i && does i) || list_any (clashes_before c u p) qs) ∙ same
+    by true is true does told = let same : true ≡ a = cc in
+        (λ i. (is i && does i) || list_any (clashes_before c u p) qs) ∙ same
     by true is false does told = cc
     by false is d does told = let same : false ≡ a = cc in none_behind_clashes c u p q qs is up ∙ same
 
 -- one that says nothing is none
-pub untold : (c : Lookup) (u : UnitRecord) (p : CssPath) (q : Key) → told_by c u p q ≡ None → clashes_before c u p q ≡ false
+pub untold : (c : Lookup) (u : UnitRecord) (p : CssPath) (q : Key) → told_by c u p q ≡ None
+    → clashes_before c u p q ≡ false
 untold c u p q told = by (is_lt (key_cmp q (key.Unit u.number))) refl (clashes p u (c q)) refl told
   where
     by : (b : Bool) → is_lt (key_cmp q (key.Unit u.number)) ≡ b → (d : Bool) → clashes p u (c q) ≡ d

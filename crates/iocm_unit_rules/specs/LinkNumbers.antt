@@ -27,7 +27,8 @@ numbers_in u css = map (number_on css (cuadd_or_zero u)) (linked_paths css u)
 -- another channel subsystem there is none
 abbrev pub number_if_on : ℕ → UnitRecord → CssPath → ℕ → List ℕ
 number_if_on css u p place =
-    if p.css == css then number_on css (cuadd_or_zero u) (p.path, get_or (links_in css u.links) place link.None) ∷ [] else []
+    if p.css == css then number_on css (cuadd_or_zero u) (p.path, get_or (links_in css u.links) place link.None) ∷ []
+    else []
 
 -- those of a unit record; other records have none
 abbrev pub link_numbers : Rec → List ℕ

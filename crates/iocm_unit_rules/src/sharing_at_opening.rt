@@ -110,7 +110,8 @@ fn list_on_path<A: Allocator, B: Allocator>(
     place: usize,
     fields: &UnitFields<A>,
 ) -> Result<(), AllocError>
-    ensures { OnOk result (listed.new.items ≡ listed.old.items ++ numbers.number_if_on css (unit_of fields.now) path place) }
+    ensures { OnOk result (listed.new.items
+        ≡ listed.old.items ++ numbers.number_if_on css (unit_of fields.now) path place) }
 {
     if path.css != css {
         return Ok(());

@@ -1,6 +1,7 @@
 -- The words of items are among the words: of no kind are there more of them.
-use Rattle.std.proofs.Common.{◌≡◌, ℕ, ◌+◌, ◌≤◌, ◌==◌, ◌&&◌, ◌||◌, Bool, true, false, cond, List, [], ◌∷◌, ◌++◌, length, take, unwrap_or, refl, sym, ap, ◌∙◌, arith}
-use Rattle.std.specs.Prelude.{count_by, codes}
+use Rattle.std.proofs.Common.{◌≡◌, ℕ, ◌+◌, ◌≤◌, ◌==◌, ◌&&◌, ◌||◌, Bool, true, false, cond, List, [], ◌∷◌, ◌++◌, length}
+use Rattle.std.proofs.Common.{take, unwrap_or, refl, ap, arith}
+use Rattle.std.specs.Prelude.{count_by}
 use Rattle.std.specs.List.{list_any}
 use Rattle.std.specs.Str.{bytes_eq}
 use Rattle.std.proofs.lemmas.Bool.{true≢false}
@@ -31,12 +32,14 @@ module _ (kind : List ℕ → Bool) where
       omega (arith, last, first)
 
   piece_counts : (found : List (List ℕ)) (lists text : List ℕ) (more : List (List ℕ))
-      → count_by kind (with_piece found lists text) + count_by kind more ≤ count_by kind found + count_by kind (ended text more)
+      → count_by kind (with_piece found lists text) + count_by kind more ≤ count_by kind found
+      + count_by kind (ended text more)
   piece_counts found lists [] more = word_counts found [] more
   piece_counts found lists (b ∷ rest) more = by (b == 41) (length rest == 0) refl
     where
       by : (closes alone : Bool) → (b == 41) ≡ closes
-          → count_by kind (cond closes (cond alone found (take (before_last lists) found)) (found ++ (b ∷ rest) ∷ [])) + count_by kind more
+          → count_by kind (cond closes (cond alone found (take (before_last lists) found)) (found ++ (b ∷ rest) ∷ []))
+          + count_by kind more
           ≤ count_by kind found + count_by kind (cond (closes && bytes_eq rest []) more ((b ∷ rest) ∷ more))
       by true true e = let left = more_left (bytes_eq rest []) in omega (arith, left)
         where
@@ -54,25 +57,32 @@ module _ (kind : List ℕ → Bool) where
       by false alone e = word_counts found (b ∷ rest) more
 
   -- whichever way a byte is taken
-  one_of : (ends opens : Bool) (n : ℕ) (p q : Nesting) (text begun rest : List ℕ) (b : ℕ) (found piece : List (List ℕ)) (lists left more_lists : List ℕ)
-      → count_by kind (item_words_from piece left start begun rest) ≤ n + count_by kind (ended text (words_from start begun rest))
+  one_of : (ends opens : Bool) (n : ℕ) (p q : Nesting) (text begun rest : List ℕ) (b : ℕ) (found piece : List (List ℕ))
+      (lists left more_lists : List ℕ)
+      → count_by kind (item_words_from piece left start begun rest) ≤ n
+      + count_by kind (ended text (words_from start begun rest))
       → count_by kind (item_words_from found more_lists p [] rest) ≤ n + count_by kind (words_from p [] rest)
-      → count_by kind (item_words_from found lists q (text ++ b ∷ []) rest) ≤ n + count_by kind (words_from q (text ++ b ∷ []) rest)
-      → count_by kind (item_words_from (cond ends piece found) (cond ends left (cond opens more_lists lists)) (cond ends start (cond opens p q))
+      → count_by kind (item_words_from found lists q (text ++ b ∷ []) rest) ≤ n
+      + count_by kind (words_from q (text ++ b ∷ []) rest)
+      → count_by kind (item_words_from (cond ends piece found) (cond ends left (cond opens more_lists lists))
+      (cond ends start (cond opens p q))
       (cond ends begun (cond opens [] (text ++ b ∷ []))) rest)
-      ≤ n + count_by kind (cond ends (ended text (words_from start begun rest)) (cond opens (words_from p [] rest) (words_from q (text ++ b ∷ []) rest)))
+      ≤ n + count_by kind (cond ends (ended text (words_from start begun rest))
+      (cond opens (words_from p [] rest) (words_from q (text ++ b ∷ []) rest)))
   one_of true opens n p q text begun rest b found piece lists left more_lists e f g = e
   one_of false true n p q text begun rest b found piece lists left more_lists e f g = f
   one_of false false n p q text begun rest b found piece lists left more_lists e f g = g
 
   pub fewer_from : (found : List (List ℕ)) (lists : List ℕ) (p : Nesting) (text rest : List ℕ)
-      → count_by kind (item_words_from found lists p text rest) ≤ count_by kind found + count_by kind (words_from p text rest)
+      → count_by kind (item_words_from found lists p text rest) ≤ count_by kind found
+      + count_by kind (words_from p text rest)
   unfolding words_from item_words_from
   fewer_from found lists p text [] = let last = piece_counts found lists text [] in omega (arith, last)
   fewer_from found lists p text (b ∷ rest) =
       let piece = piece_counts found lists text (words_from start (begun_by b) rest) in
       let later = fewer_from (with_piece found lists text) (lists_left lists text) start (begun_by b) rest in
-      one_of (is_outside p && ends_word b) (opens_list p text b) (count_by kind found) p (unwrap_or (step p b) p) text (begun_by b) rest b
+      one_of (is_outside p && ends_word b) (opens_list p text b) (count_by kind found) p (unwrap_or (step p b) p) text
+      (begun_by b) rest b
       found (with_piece found lists text) lists (lists_left lists text) (lists ++ length found ∷ [])
       (omega (arith, piece, later)) (fewer_from found (lists ++ length found ∷ []) p [] rest)
       (fewer_from found lists (unwrap_or (step p b) p) (text ++ b ∷ []) rest)

@@ -1,5 +1,6 @@
 -- Items that are joined by a byte, and lists that numbers give one after the other.
-use Rattle.std.proofs.Common.{◌≡◌, ◌∙◌, ◌+◌, ◌++◌, ◌∷◌, ◌≤◌, ℕ, zero, suc, List, [], length, drop, get_or, ap, sym, arith, add-one, append_assoc}
+use Rattle.std.proofs.Common.{◌≡◌, ◌∙◌, ◌+◌, ◌++◌, ◌∷◌, ◌≤◌, ℕ, zero, suc, List, [], length, drop, get_or, ap, sym}
+use Rattle.std.proofs.Common.{arith, add-one, append_assoc}
 use Rattle.std.specs.List.{flat_map, join_with_byte, range_with_len}
 use Rattle.std.proofs.lemmas.List.{append-nil}
 
@@ -19,7 +20,8 @@ flat_map_next : {X : Type 0} (f : ℕ → List X) (a n j : ℕ) → a + n ≡ j
     → flat_map f (range_with_len a (suc n)) ≡ flat_map f (range_with_len a n) ++ f j
 flat_map_next f a zero j e = append-nil (f a) ∙ ap f (omega (arith, e))
 flat_map_next f a (suc n) j e =
-    ap (λ r. f a ++ r) (flat_map_next f (a + 1) n j (omega (arith, e))) ∙ sym (append_assoc (f a) (flat_map f (range_with_len (a + 1) n)) (f j))
+    ap (λ r. f a ++ r) (flat_map_next f (a + 1) n j (omega (arith, e)))
+    ∙ sym (append_assoc (f a) (flat_map f (range_with_len (a + 1) n)) (f j))
 
 pub flat_map_more : {X : Type 0} (f : ℕ → List X) (a n j : ℕ) → a + n ≡ j
     → flat_map f (range_with_len a (n + 1)) ≡ flat_map f (range_with_len a n) ++ f j

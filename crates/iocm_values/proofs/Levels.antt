@@ -1,5 +1,6 @@
 -- Values that are written are read again: words, lists by their items, and the word CSS(n).
-use Rattle.std.proofs.Common.{◌≡◌, ℕ, ◌-◌, ◌<◌, ◌==◌, true, false, Some, List, [], ◌∷◌, ◌++◌, length, map, codes, refl, ap, ◌∙◌, arith, length-append}
+use Rattle.std.proofs.Common.{◌≡◌, ℕ, ◌-◌, ◌<◌, ◌==◌, true, false, Some, List, [], ◌∷◌, ◌++◌, length, map, codes, refl}
+use Rattle.std.proofs.Common.{ap, ◌∙◌, arith, length-append}
 use Rattle.std.proofs.Math.Seq.{take-append_seam, drop-append_seam}
 use Rattle.std.proofs.lemmas.Bool.{and_parts}
 use Rattle.std.proofs.lemmas.Bool.Decides.{nat_tests}
@@ -12,7 +13,8 @@ use Rattle.iocm_values.specs.Digits.{decimal_of}
 use Rattle.iocm_values.specs.Texts.{list_text, css_text}
 use Rattle.iocm_values.specs.Value.{word, list, value, values, items, items_or_one, before}
 use Rattle.iocm_values.proofs.Numerals.{hex1_plain, hex1_decimal, decimal_again}
-use Rattle.iocm_values.proofs.Pieces.{IsWhole, IsInner, AllWhole, is_plain, whole_plain, whole_both, whole_list, inner_joined, pieces_again}
+use Rattle.iocm_values.proofs.Pieces.{IsWhole, IsInner, AllWhole, is_plain, whole_plain, whole_both, whole_list}
+use Rattle.iocm_values.proofs.Pieces.{inner_joined, pieces_again}
 
 pub before_last : (text last : List ℕ) → before last (text ++ last) ≡ Some text
 before_last text last =
@@ -36,13 +38,16 @@ plain_again (b ∷ text) plain =
     word_again b text (opens_not b (and_parts (is_plain b) (list_all is_plain text) plain).0)
 
 -- whole items are read again
-pub values_again : (x : List ℕ) (xs : List (List ℕ)) → AllWhole (x ∷ xs) → values (join_with_byte 44 (x ∷ xs)) ≡ Some (map value (x ∷ xs))
+pub values_again : (x : List ℕ) (xs : List (List ℕ)) → AllWhole (x ∷ xs)
+    → values (join_with_byte 44 (x ∷ xs)) ≡ Some (map value (x ∷ xs))
 values_again x xs whole = ap (option_map (map value)) (pieces_again x xs whole)
 
-pub items_again : (x : List ℕ) (xs : List (List ℕ)) → AllWhole (x ∷ xs) → items (value (list_text (x ∷ xs))) ≡ Some (map value (x ∷ xs))
+pub items_again : (x : List ℕ) (xs : List (List ℕ)) → AllWhole (x ∷ xs)
+    → items (value (list_text (x ∷ xs))) ≡ Some (map value (x ∷ xs))
 items_again x xs whole = ap items (list_again (join_with_byte 44 (x ∷ xs))) ∙ values_again x xs whole
 
-pub items_or_one_again : (x : List ℕ) (xs : List (List ℕ)) → AllWhole (x ∷ xs) → items_or_one (value (list_text (x ∷ xs))) ≡ Some (map value (x ∷ xs))
+pub items_or_one_again : (x : List ℕ) (xs : List (List ℕ)) → AllWhole (x ∷ xs)
+    → items_or_one (value (list_text (x ∷ xs))) ≡ Some (map value (x ∷ xs))
 items_or_one_again x xs whole = ap items_or_one (list_again (join_with_byte 44 (x ∷ xs))) ∙ values_again x xs whole
 
 -- a list of whole items is whole

@@ -1,5 +1,7 @@
 -- Numbers as they are printed are read again: hexadecimal to a fixed width, and decimal.
-use Rattle.std.proofs.Common.{◌≡◌, ℕ, suc, ◌+◌, ◌-◌, ◌*◌, ◌/◌, ◌%◌, ◌^◌, ◌<◌, ◌≤◌, ◌==◌, nat_le, true, false, cond, Some, None, List, [], ◌∷◌, ◌++◌, length, refl, sym, ap, ◌∙◌, arith, le-leb, eq-eqb, ne_eqb, ⊎_elim}
+use Rattle.std.proofs.Common.{◌≡◌, ℕ, suc, ◌+◌, ◌-◌, ◌*◌, ◌/◌, ◌%◌, ◌^◌, ◌<◌, ◌≤◌, ◌==◌, nat_le, true, false, cond}
+use Rattle.std.proofs.Common.{Some, None, List, [], ◌∷◌, ◌++◌, length, refl, sym, ap, ◌∙◌, arith, le-leb, eq-eqb}
+use Rattle.std.proofs.Common.{ne_eqb, ⊎_elim}
 use Rattle.std.proofs.lemmas.Bool.{cases_lt}
 use Rattle.std.proofs.lemmas.Bool.Decides.{nat_tests}
 use Rattle.std.proofs.lemmas.List.Folds.{list_all-append}
@@ -9,7 +11,8 @@ use Rattle.std.specs.List.{list_all}
 use Rattle.std.specs.Option.{option_and_then}
 use Rattle.std.specs.Fmt.{decimal, digits, digits_onto, digit_glyph, padded_integral, char_count}
 use Rattle.iocm_types.specs.Print.{hex1, hex2, hex4}
-use Rattle.iocm_values.specs.Digits.{is_decimal_digit, is_hex_digit, hex_digit, hex_value, decimal_value, is_number, hex_of, decimal_of}
+use Rattle.iocm_values.specs.Digits.{is_decimal_digit, is_hex_digit, hex_digit, hex_value, decimal_value, is_number}
+use Rattle.iocm_values.specs.Digits.{hex_of, decimal_of}
 use Rattle.iocm_values.specs.Numbers.{count_of}
 use Rattle.iocm_values.proofs.Pieces.{is_plain}
 
@@ -35,7 +38,8 @@ hex1_text n small = hex_one_digit true n small
 pub hex2_text : (n : ℕ) → n < 256 → hex2 n ≡ glyph (n / 16) ∷ glyph (n % 16) ∷ []
 hex2_text n small = hex_byte true n small
 
-more_digits : (k n : ℕ) (after : List ℕ) → 16 ≤ n → digits_onto (suc k) 16 true n after ≡ digits_onto k 16 true (n / 16) (glyph (n % 16) ∷ after)
+more_digits : (k n : ℕ) (after : List ℕ) → 16 ≤ n
+    → digits_onto (suc k) 16 true n after ≡ digits_onto k 16 true (n / 16) (glyph (n % 16) ∷ after)
 more_digits k n after large =
     let more : n / 16 == 0 ≡ false = ne_eqb (n / 16) 0 (λ e. omega arith) in
     ap (λ b. cond b (glyph (n % 16) ∷ after) (digits_onto k 16 true (n / 16) (glyph (n % 16) ∷ after))) more
@@ -44,26 +48,30 @@ last_digit : (k n : ℕ) (after : List ℕ) → n < 16 → digits_onto (suc k) 1
 last_digit k n after small =
     let done : n / 16 == 0 ≡ true = eq-eqb (n / 16) 0 (omega arith) in
     let same : n % 16 ≡ n = omega arith in
-    ap (λ b. cond b (glyph (n % 16) ∷ after) (digits_onto k 16 true (n / 16) (glyph (n % 16) ∷ after))) done ∙ ap (λ d. glyph d ∷ after) same
+    ap (λ b. cond b (glyph (n % 16) ∷ after) (digits_onto k 16 true (n / 16) (glyph (n % 16) ∷ after))) done
+    ∙ ap (λ d. glyph d ∷ after) same
 
 all_digits : (n : ℕ) → digits 16 true n ≡ digits_onto 64 16 true n []
 unfolding digits
 all_digits n = refl
 
-three_digits : (n : ℕ) → 256 ≤ n → n < 4096 → digits 16 true n ≡ glyph (n / 256) ∷ glyph (n / 16 % 16) ∷ glyph (n % 16) ∷ []
+three_digits : (n : ℕ) → 256 ≤ n → n < 4096
+    → digits 16 true n ≡ glyph (n / 256) ∷ glyph (n / 16 % 16) ∷ glyph (n % 16) ∷ []
 three_digits n large small =
     let front : n / 16 / 16 ≡ n / 256 = omega arith in
     all_digits n ∙ more_digits 63 n [] (omega arith) ∙ more_digits 62 (n / 16) (glyph (n % 16) ∷ []) (omega arith)
     ∙ last_digit 61 (n / 16 / 16) (glyph (n / 16 % 16) ∷ glyph (n % 16) ∷ []) (omega arith)
     ∙ ap (λ d. glyph d ∷ glyph (n / 16 % 16) ∷ glyph (n % 16) ∷ []) front
 
-four_digits : (n : ℕ) → 4096 ≤ n → n < 65536 → digits 16 true n ≡ glyph (n / 4096) ∷ glyph (n / 256 % 16) ∷ glyph (n / 16 % 16) ∷ glyph (n % 16) ∷ []
+four_digits : (n : ℕ) → 4096 ≤ n → n < 65536
+    → digits 16 true n ≡ glyph (n / 4096) ∷ glyph (n / 256 % 16) ∷ glyph (n / 16 % 16) ∷ glyph (n % 16) ∷ []
 four_digits n large small =
     let front : n / 16 / 16 / 16 ≡ n / 4096 = omega arith in
     let second : n / 16 / 16 % 16 ≡ n / 256 % 16 = omega arith in
     all_digits n ∙ more_digits 63 n [] (omega arith) ∙ more_digits 62 (n / 16) (glyph (n % 16) ∷ []) (omega arith)
     ∙ more_digits 61 (n / 16 / 16) (glyph (n / 16 % 16) ∷ glyph (n % 16) ∷ []) (omega arith)
-    ∙ last_digit 60 (n / 16 / 16 / 16) (glyph (n / 16 / 16 % 16) ∷ glyph (n / 16 % 16) ∷ glyph (n % 16) ∷ []) (omega arith)
+    ∙ last_digit 60 (n / 16 / 16 / 16) (glyph (n / 16 / 16 % 16) ∷ glyph (n / 16 % 16) ∷ glyph (n % 16) ∷ [])
+    (omega arith)
     ∙ (λ i. glyph (front i) ∷ glyph (second i) ∷ glyph (n / 16 % 16) ∷ glyph (n % 16) ∷ [])
 
 abbrev four : ℕ → List ℕ
@@ -79,13 +87,15 @@ hex4_small : (n : ℕ) → n < 256 → hex4 n ≡ four n
 unfolding padded_integral char_count
 hex4_small n small = ⊎_elim
     (λ one. rw (hex_one_digit true n one) (four_same n 0 0 0 n (omega arith) (omega arith) (omega arith) (omega arith)))
-    (λ two. rw (hex_two_digits true n two small) (four_same n 0 0 (n / 16) (n % 16) (omega arith) (omega arith) (omega arith) (omega arith)))
+    (λ two. rw (hex_two_digits true n two small)
+    (four_same n 0 0 (n / 16) (n % 16) (omega arith) (omega arith) (omega arith) (omega arith)))
     (cases_lt n 16)
 
 hex4_large : (n : ℕ) → 256 ≤ n → n < 65536 → hex4 n ≡ four n
 unfolding padded_integral char_count
 hex4_large n large small = ⊎_elim
-    (λ three. rw (three_digits n large three) (four_same n 0 (n / 256) (n / 16 % 16) (n % 16) (omega arith) (omega arith) (omega arith) (omega arith)))
+    (λ three. rw (three_digits n large three)
+    (four_same n 0 (n / 256) (n / 16 % 16) (n % 16) (omega arith) (omega arith) (omega arith) (omega arith)))
     (λ all. rw (four_digits n all small) refl)
     (cases_lt n 4096)
 
@@ -94,7 +104,8 @@ hex4_text n small = ⊎_elim (hex4_small n) (λ large. hex4_large n large small)
 
 -- ---- what they are worth
 
-read_hex : (limit width n : ℕ) (text : List ℕ) → is_number is_hex_digit text ≡ true → nat_le (length text) width ≡ true → hex_value text ≡ n → n ≤ limit
+read_hex : (limit width n : ℕ) (text : List ℕ) → is_number is_hex_digit text ≡ true → nat_le (length text) width ≡ true
+    → hex_value text ≡ n → n ≤ limit
     → hex_of limit width text ≡ Some n
 read_hex limit width n text digits fits is within = rw (digits, fits, is, le-leb n limit within) refl
 
@@ -111,7 +122,8 @@ four_are_number a b c d small_a small_b small_c small_d =
 two_worth : (a b : ℕ) → a < 16 → b < 16 → hex_value (glyph a ∷ glyph b ∷ []) ≡ 16 * a + b
 two_worth a b small_a small_b = rw (glyph_value a small_a, glyph_value b small_b) (omega arith)
 
-four_worth : (a b c d : ℕ) → a < 16 → b < 16 → c < 16 → d < 16 → hex_value (four_of a b c d) ≡ 16 * (16 * (16 * a + b) + c) + d
+four_worth : (a b c d : ℕ) → a < 16 → b < 16 → c < 16 → d < 16
+    → hex_value (four_of a b c d) ≡ 16 * (16 * (16 * a + b) + c) + d
 four_worth a b c d small_a small_b small_c small_d =
     rw (glyph_value a small_a, glyph_value b small_b, glyph_value c small_c, glyph_value d small_d) (omega arith)
 
@@ -124,17 +136,23 @@ hex1_again limit width n small within fits =
     ap (hex_of limit width) (hex1_text n small)
     ∙ read_hex limit width n (glyph n ∷ []) (one_is_number n small) fits (one_worth n small) within
 
-pub hex2_again : (limit width n : ℕ) → n < 256 → n ≤ limit → nat_le 2 width ≡ true → hex_of limit width (hex2 n) ≡ Some n
+pub hex2_again : (limit width n : ℕ) → n < 256 → n ≤ limit → nat_le 2 width ≡ true
+    → hex_of limit width (hex2 n) ≡ Some n
 hex2_again limit width n small within fits =
     ap (hex_of limit width) (hex2_text n small)
-    ∙ read_hex limit width n (glyph (n / 16) ∷ glyph (n % 16) ∷ []) (two_are_number (n / 16) (n % 16) (omega arith) (omega arith)) fits
+    ∙ read_hex limit width n (glyph (n / 16) ∷ glyph (n % 16) ∷ [])
+    (two_are_number (n / 16) (n % 16) (omega arith) (omega arith)) fits
     (two_worth (n / 16) (n % 16) (omega arith) (omega arith) ∙ omega arith) within
 
-pub hex4_again : (limit width n : ℕ) → n < 65536 → n ≤ limit → nat_le 4 width ≡ true → hex_of limit width (hex4 n) ≡ Some n
+pub hex4_again : (limit width n : ℕ) → n < 65536 → n ≤ limit → nat_le 4 width ≡ true
+    → hex_of limit width (hex4 n) ≡ Some n
 hex4_again limit width n small within fits =
     ap (hex_of limit width) (hex4_text n small)
-    ∙ read_hex limit width n (four n) (four_are_number (n / 4096) (n / 256 % 16) (n / 16 % 16) (n % 16) (omega arith) (omega arith) (omega arith) (omega arith)) fits
-    (four_worth (n / 4096) (n / 256 % 16) (n / 16 % 16) (n % 16) (omega arith) (omega arith) (omega arith) (omega arith) ∙ omega arith) within
+    ∙ read_hex limit width n (four n)
+    (four_are_number (n / 4096) (n / 256 % 16) (n / 16 % 16) (n % 16) (omega arith) (omega arith) (omega arith)
+    (omega arith)) fits
+    (four_worth (n / 4096) (n / 256 % 16) (n / 16 % 16) (n % 16) (omega arith) (omega arith) (omega arith) (omega arith)
+    ∙ omega arith) within
 
 -- ---- plain
 
@@ -154,7 +172,8 @@ four_plain a b c d small_a small_b small_c small_d =
 pub hex4_plain : (n : ℕ) → n < 65536 → list_all is_plain (hex4 n) ≡ true
 hex4_plain n small =
     ap (list_all is_plain) (hex4_text n small)
-    ∙ four_plain (n / 4096) (n / 256 % 16) (n / 16 % 16) (n % 16) (omega arith) (omega arith) (omega arith) (omega arith)
+    ∙ four_plain (n / 4096) (n / 256 % 16) (n / 16 % 16) (n % 16) (omega arith) (omega arith) (omega arith)
+    (omega arith)
 
 -- ---- decimal
 
@@ -185,10 +204,12 @@ one_decimal n small = record {
 
 more_decimal : (n : ℕ) (ds : List ℕ) → 10 ≤ n → IsDecimal (n / 10) ds → IsDecimal n (ds ++ ((48 + n % 10) ∷ []))
 more_decimal n ds large front = record {
-  digits = rw (list_all-append is_decimal_digit ds ((48 + n % 10) ∷ []), front.digits, digit_is (n % 10) (omega arith)) refl;
+  digits = rw (list_all-append is_decimal_digit ds ((48 + n % 10) ∷ []), front.digits, digit_is (n % 10) (omega arith))
+      refl;
   plain = rw (list_all-append is_plain ds ((48 + n % 10) ∷ []), front.plain, digit_plain (n % 10) (omega arith)) refl;
   some = some_more ds (48 + n % 10);
-  worth = fold-append (λ value b. 10 * value + (b - 48)) 0 ds ((48 + n % 10) ∷ []) ∙ ap (λ value. 10 * value + (48 + n % 10 - 48)) front.worth ∙ omega arith;
+  worth = fold-append (λ value b. 10 * value + (b - 48)) 0 ds ((48 + n % 10) ∷ [])
+      ∙ ap (λ value. 10 * value + (48 + n % 10 - 48)) front.worth ∙ omega arith;
 }
 
 pub decimal_is : (n : ℕ) → n < 2 ^ 64 → IsDecimal n (decimal n)
@@ -209,4 +230,5 @@ glyph_decimal n small = grind (arith, nat_tests)
 
 -- a digit up to 9 is that of the decimal number
 pub hex1_decimal : (n : ℕ) → n < 10 → hex1 n ≡ decimal n
-hex1_decimal n small = hex1_text n (omega arith) ∙ ap (λ d. d ∷ []) (glyph_decimal n small) ∙ sym (decimal_digit n small)
+hex1_decimal n small = hex1_text n (omega arith) ∙ ap (λ d. d ∷ []) (glyph_decimal n small)
+    ∙ sym (decimal_digit n small)

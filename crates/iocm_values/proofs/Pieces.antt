@@ -1,7 +1,8 @@
 -- Texts that are cut as they were joined: a plain text and a list are whole, and whole texts that
 -- commas join are inside of a list. Bytes by their codes: 39 is a quote, 40 and 41 are parentheses,
 -- 44 is a comma.
-use Rattle.std.proofs.Common.{◌≡◌, ℕ, suc, ◌==◌, ◌&&◌, not, Bool, true, false, Option, None, Some, List, [], ◌∷◌, ◌++◌, refl, sym, ap, ◌∙◌, append_assoc, append-nil, arith, add-one}
+use Rattle.std.proofs.Common.{◌≡◌, ℕ, suc, ◌==◌, ◌&&◌, not, Bool, true, false, Option, None, Some, List, [], ◌∷◌, ◌++◌}
+use Rattle.std.proofs.Common.{refl, sym, ap, ◌∙◌, append_assoc, append-nil, arith, add-one}
 use Rattle.std.proofs.lemmas.Bool.{and_parts}
 use Rattle.std.proofs.lemmas.Bool.Decides.{nat_tests}
 use Rattle.std.specs.List.{list_all, join_with_byte}
@@ -16,7 +17,8 @@ at depth = record { depth = depth; quoted = false }
 
 -- at this depth the text is no more than the front of the piece at hand
 abbrev pub StandsAt : ℕ → List ℕ → Type 0
-StandsAt depth text = (rest : List ℕ) → pieces_from (at depth) (text ++ rest) ≡ option_map (onto_first text) (pieces_from (at depth) rest)
+StandsAt depth text = (rest : List ℕ)
+    → pieces_from (at depth) (text ++ rest) ≡ option_map (onto_first text) (pieces_from (at depth) rest)
 
 -- at each depth
 pub record IsWhole (text : List ℕ) : Type 0 where
@@ -83,7 +85,8 @@ unfolding step
 comma_stays p out = rw out refl
 
 comma_stands : (depth : ℕ) → StandsAt (suc depth) (44 ∷ [])
-comma_stands depth rest = byte_first (at (suc depth)) (at (suc depth)) 44 rest (comma_kept depth) (comma_stays (at (suc depth)) refl)
+comma_stands depth rest =
+    byte_first (at (suc depth)) (at (suc depth)) 44 rest (comma_kept depth) (comma_stays (at (suc depth)) refl)
 
 open_kept : (p : Nesting) → cuts p 40 ≡ false
 unfolding cuts is_outside
@@ -108,14 +111,16 @@ list_stands depth inner inside rest =
     ∙ ap (λ t. option_map (onto_first (40 ∷ [])) (pieces_from (at (suc depth)) t)) (append_assoc inner (41 ∷ []) rest)
     ∙ ap (option_map (onto_first (40 ∷ []))) (inside (41 ∷ rest))
     ∙ first_twice (40 ∷ []) inner (pieces_from (at (suc depth)) (41 ∷ rest))
-    ∙ ap (option_map (onto_first (40 ∷ inner))) (byte_first (at (suc depth)) (at depth) 41 rest (close_kept (at (suc depth))) (closes depth))
+    ∙ ap (option_map (onto_first (40 ∷ inner)))
+    (byte_first (at (suc depth)) (at depth) 41 rest (close_kept (at (suc depth))) (closes depth))
     ∙ first_twice (40 ∷ inner) (41 ∷ []) (pieces_from (at depth) rest)
 
 pub whole_plain : (text : List ℕ) → list_all is_plain text ≡ true → IsWhole text
 whole_plain text plain = record { stands = λ depth. plain_stands depth text plain }
 
 pub whole_both : (a b : List ℕ) → IsWhole a → IsWhole b → IsWhole (a ++ b)
-whole_both a b first second = record { stands = λ depth. both_stand depth a b (first.stands depth) (second.stands depth) }
+whole_both a b first second =
+    record { stands = λ depth. both_stand depth a b (first.stands depth) (second.stands depth) }
 
 pub whole_list : (inner : List ℕ) → IsInner inner → IsWhole (40 ∷ (inner ++ 41 ∷ []))
 whole_list inner inside = record { stands = λ depth. list_stands depth inner (inside.stands depth) }
@@ -130,7 +135,8 @@ joined_stands depth [] whole = none_stands (suc depth)
 joined_stands depth (x ∷ []) whole = whole.0.stands (suc depth)
 joined_stands depth (x ∷ y ∷ ys) whole =
     both_stand (suc depth) x (44 ∷ join_with_byte 44 (y ∷ ys)) (whole.0.stands (suc depth))
-    (both_stand (suc depth) (44 ∷ []) (join_with_byte 44 (y ∷ ys)) (comma_stands depth) (joined_stands depth (y ∷ ys) whole.1))
+    (both_stand (suc depth) (44 ∷ []) (join_with_byte 44 (y ∷ ys)) (comma_stands depth)
+    (joined_stands depth (y ∷ ys) whole.1))
 
 pub inner_joined : (xs : List (List ℕ)) → AllWhole xs → IsInner (join_with_byte 44 xs)
 inner_joined xs whole = record { stands = λ depth. joined_stands depth xs whole }
@@ -144,12 +150,14 @@ one_piece x whole =
     ap pieces_of (sym (append-nil x)) ∙ whole.stands 0 []
     ∙ ap (option_map (onto_first x)) ended ∙ ap (λ y. Some (y ∷ [])) (append-nil x)
 
-comma_ends : (rest : List ℕ) (pieces : List (List ℕ)) → pieces_from start rest ≡ Some pieces → pieces_from start (44 ∷ rest) ≡ Some ([] ∷ pieces)
+comma_ends : (rest : List ℕ) (pieces : List (List ℕ)) → pieces_from start rest ≡ Some pieces
+    → pieces_from start (44 ∷ rest) ≡ Some ([] ∷ pieces)
 unfolding pieces_from cuts is_outside
 comma_ends rest pieces is = rw is refl
 
 -- whole texts that commas join are cut into these again
-pub pieces_again : (x : List ℕ) (xs : List (List ℕ)) → AllWhole (x ∷ xs) → pieces_of (join_with_byte 44 (x ∷ xs)) ≡ Some (x ∷ xs)
+pub pieces_again : (x : List ℕ) (xs : List (List ℕ)) → AllWhole (x ∷ xs)
+    → pieces_of (join_with_byte 44 (x ∷ xs)) ≡ Some (x ∷ xs)
 pieces_again x [] whole = one_piece x whole.0
 pieces_again x (y ∷ ys) whole =
     whole.0.stands 0 (44 ∷ join_with_byte 44 (y ∷ ys))

@@ -1,5 +1,5 @@
 -- The value of an operand: a word, or a list in parentheses, which is opened a level at a time.
-use Rattle.std.specs.Prelude.{ℕ, ◌-◌, is_some, if◌then◌else◌, Bool, false, Option, None}
+use Rattle.std.specs.Prelude.{ℕ, ◌-◌, if◌then◌else◌, Option, None}
 use Rattle.std.specs.Prelude.{Some, List, [], ◌∷◌, map, length, take, drop, codes}
 use Rattle.std.specs.Option.{option_map, option_map_or, option_and_then}
 use Rattle.std.specs.Str.{bytes_eq}

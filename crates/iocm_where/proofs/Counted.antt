@@ -1,5 +1,6 @@
 -- How many nodes a statement gives, and a tree has.
-use Rattle.std.proofs.Common.{◌≡◌, ℕ, suc, ◌+◌, ◌==◌, Bool, true, false, cond, List, [], ◌∷◌, fold, length, map, Result, Ok, Err, refl, sym, ap, ◌∙◌, arith, length-append}
+use Rattle.std.proofs.Common.{◌≡◌, ℕ, suc, ◌+◌, ◌==◌, Bool, true, false, cond, List, [], ◌∷◌, fold, length, map, Result}
+use Rattle.std.proofs.Common.{Ok, Err, refl, sym, ap, ◌∙◌, arith, length-append}
 use Rattle.std.proofs.lemmas.Bool.Decides.{nat_tests}
 use Rattle.iocm_types.specs.declared.fault.Fault.{Fault}
 use Rattle.iocm_model.specs.Change.Tree.{nodes_of, nodes_in}
@@ -7,7 +8,8 @@ use Rattle.iocm_statements.specs.declared.operation.Operation.{Operation}
 use Rattle.iocm_statements.specs.declared.operation.Operation.TheVariants as operation
 use Rattle.iocm_statements.specs.declared.statement.Statement.{Statement}
 use Rattle.iocm_tree.specs.Carried.{Carried}
-use Rattle.iocm_tree.specs.Trees.{CarriedTree, CarriedParts, leaf, row, group, choose, none, part, parts_from, plain_tree, plain_parts}
+use Rattle.iocm_tree.specs.Trees.{CarriedTree, CarriedParts, leaf, row, group, choose, none, part, parts_from}
+use Rattle.iocm_tree.specs.Trees.{plain_tree, plain_parts}
 use Rattle.iocm_tree_reader.specs.Leaves.{edits_of, whole, with_edit, in_key_order, comes_before}
 use Rattle.iocm_where.specs.Counts.{nodes_of_edits, nodes_if_given, nodes_by}
 use Rattle.iocm_where.specs.Heads.{heads_of, heads_in, heads_if_given, heads_by}
@@ -45,7 +47,8 @@ in_row edits = one_more _ (length edits) (of_leaves edits)
 of_whole : (edits : List Carried) → length (heads_of (whole (map leaf edits))) ≡ nodes_of_edits (length edits)
 of_whole [] = refl
 of_whole (e ∷ []) = refl
-of_whole (e ∷ f ∷ edits) = in_row (e ∷ f ∷ edits) ∙ ap (λ b. cond b 1 (length (e ∷ f ∷ edits) + 1)) (sym (not_one (length edits)))
+of_whole (e ∷ f ∷ edits) =
+    in_row (e ∷ f ∷ edits) ∙ ap (λ b. cond b 1 (length (e ∷ f ∷ edits) + 1)) (sym (not_one (length edits)))
   where
     not_one : (n : ℕ) → (suc (suc n) == 1) ≡ false
     not_one n = grind (arith, nat_tests)
@@ -55,7 +58,8 @@ with_one : (edits : List Carried) (e : Carried) → length (with_edit edits e) �
 with_one [] e = refl
 with_one (x ∷ xs) e = by (comes_before e x) (with_one xs e)
   where
-    by : (b : Bool) → length (with_edit xs e) ≡ suc (length xs) → length (cond b (e ∷ x ∷ xs) (x ∷ with_edit xs e)) ≡ suc (suc (length xs))
+    by : (b : Bool) → length (with_edit xs e) ≡ suc (length xs)
+        → length (cond b (e ∷ x ∷ xs) (x ∷ with_edit xs e)) ≡ suc (suc (length xs))
     by true more = refl
     by false more = ap suc more
 
@@ -64,7 +68,9 @@ in_order [] sorted = same (length sorted)
   where
     same : (n : ℕ) → n ≡ n + 0
     same n = omega arith
-in_order (e ∷ edits) sorted = in_order edits (with_edit sorted e) ∙ ap (λ n. n + length edits) (with_one sorted e) ∙ turned (length sorted) (length edits)
+in_order (e ∷ edits) sorted =
+    in_order edits (with_edit sorted e) ∙ ap (λ n. n + length edits) (with_one sorted e)
+    ∙ turned (length sorted) (length edits)
   where
     turned : (n m : ℕ) → suc n + m ≡ n + suc m
     turned n m = omega arith

@@ -1,5 +1,6 @@
 -- The first statement that brings a key, and the line of the key.
-use Rattle.std.proofs.Common.{◌≡◌, ℕ, Bool, true, false, cond, ◌||◌, List, [], ◌∷◌, ◌++◌, Option, None, Some, is_some, refl, sym, ap, subst, ◌∙◌}
+use Rattle.std.proofs.Common.{◌≡◌, ℕ, Bool, true, false, cond, ◌||◌, List, [], ◌∷◌, ◌++◌, Option, None, Some, is_some}
+use Rattle.std.proofs.Common.{refl, sym, ap, subst, ◌∙◌}
 use Rattle.std.proofs.lemmas.Bool.{false≢true, or_parts}
 use Rattle.std.specs.List.{list_any}
 use Rattle.iocm_types.specs.declared.key.Key.{Key}
@@ -15,7 +16,8 @@ module _ (images : List ImageRecord) (k : Key) where
   some_brings ss = list_any (brings images k) ss
 
   -- a statement that doesn't bring it may come before
-  later : (t s : Statement) (ss : List Statement) → brings images k t ≡ false → IsFirstThatBrings images k ss s → IsFirstThatBrings images k (t ∷ ss) s
+  later : (t s : Statement) (ss : List Statement) → brings images k t ≡ false → IsFirstThatBrings images k ss s
+      → IsFirstThatBrings images k (t ∷ ss) s
   later t s ss none_here f = record {
     before = t ∷ f.before;
     behind = f.behind;
@@ -24,7 +26,8 @@ module _ (images : List ImageRecord) (k : Key) where
     none_before = λ i. none_here i || f.none_before i;
   }
 
-  further : (t : Statement) (ss : List Statement) (line : Option ℕ) → brings images k t ≡ false → KeyComesFrom images ss k line → KeyComesFrom images (t ∷ ss) k line
+  further : (t : Statement) (ss : List Statement) (line : Option ℕ) → brings images k t ≡ false
+      → KeyComesFrom images ss k line → KeyComesFrom images (t ∷ ss) k line
   further t ss None none_here none = λ i. none_here i || none i
   further t ss (Some line) none_here from = (from.0, later t from.0 ss none_here from.1, from.2)
 
@@ -45,7 +48,8 @@ module _ (images : List ImageRecord) (k : Key) where
   of_split (t ∷ ts) behind s none is = let parts = or_parts (brings images k t) (some_brings ts) none in
       ap (λ b. cond b (Some t.line) (line_among images k (ts ++ s ∷ behind))) parts.0 ∙ of_split ts behind s parts.1 is
 
-  pub of_first : (ss : List Statement) (s : Statement) → IsFirstThatBrings images k ss s → line_among images k ss ≡ Some s.line
+  pub of_first : (ss : List Statement) (s : Statement) → IsFirstThatBrings images k ss s
+      → line_among images k ss ≡ Some s.line
   of_first ss s f = ap (line_among images k) f.split ∙ of_split f.before f.behind s f.none_before f.brings_it
 
   of_none : (ss : List Statement) → some_brings ss ≡ false → line_among images k ss ≡ None
@@ -77,5 +81,7 @@ module _ (images : List ImageRecord) (k : Key) where
       by false rest = rest
 
 pub keys_come_from_their_lines : KeysComeFromTheirLines
-keys_come_from_their_lines ss k line =
-    ((λ is. subst (KeyComesFrom (machine_images ss) ss k) is (comes_from (machine_images ss) k ss)), is_line (machine_images ss) k ss line)
+keys_come_from_their_lines ss k line = (
+  (λ is. subst (KeyComesFrom (machine_images ss) ss k) is (comes_from (machine_images ss) k ss)),
+  is_line (machine_images ss) k ss line,
+)

@@ -1,6 +1,7 @@
 -- Of a deck that is read one statement alone brings a key, and just the keys of its records have
 -- lines.
-use Rattle.std.proofs.Common.{◌≡◌, ◌⊎◌, inl, inr, Bool, true, false, cond, ◌||◌, List, [], ◌∷◌, ◌++◌, map, Some, Result, Ok, Err, is_some, refl, sym, ap, subst, ◌∙◌}
+use Rattle.std.proofs.Common.{◌≡◌, ◌⊎◌, inl, inr, Bool, true, false, cond, ◌||◌, List, [], ◌∷◌, ◌++◌, map, Some, Result}
+use Rattle.std.proofs.Common.{Ok, Err, is_some, refl, sym, ap, subst, ◌∙◌}
 use Rattle.std.proofs.lemmas.Bool.{false≢true}
 use Rattle.std.proofs.lemmas.List.{map-append}
 use Rattle.std.proofs.lemmas.List.Folds.{list_any-append}
@@ -18,7 +19,8 @@ use Rattle.iocm_types.proofs.Found.{same_key}
 use Rattle.iocm_model.specs.Machine.Configuration.{with_keys}
 use Rattle.iocm_model.specs.Machine.Record.{Rec, ImageRecord, key_of}
 use Rattle.iocm_statements.specs.declared.statement.Statement.{Statement}
-use Rattle.iocm_record_reader.specs.Deck.{machine_images, first_fault, with_records, progress_after, read_from, nothing_read}
+use Rattle.iocm_record_reader.specs.Deck.{machine_images, first_fault, with_records, progress_after, read_from}
+use Rattle.iocm_record_reader.specs.Deck.{nothing_read}
 use Rattle.iocm_record_reader.specs.Progress.{Progress, has_key}
 use Rattle.iocm_where.specs.Lines.{keys_if_given, keys_brought, comes_with, brings, line_among}
 use Rattle.iocm_where.specs.KeyLaws.{IsFirstThatBrings, IsOnlyThatBrings, KeysHaveLines, OnlyKeysThereHaveLines}
@@ -36,8 +38,10 @@ there_is : (rs : List Rec) (k : Key) → has_key rs k ≡ among k (map key_of rs
 there_is rs k = is_some-find key_cmp k (with_keys rs) ∙ ap (among k) (keys_alone rs)
 
 -- it is among those of two lists where it is among those of one
-of_both : (k : Key) (old new : List Rec) → among k (map key_of (old ++ new)) ≡ (among k (map key_of old) || among k (map key_of new))
-of_both k old new = ap (among k) (map-append key_of old new) ∙ list_any-append (eq_by_cmp key_cmp k) (map key_of old) (map key_of new)
+of_both : (k : Key) (old new : List Rec)
+    → among k (map key_of (old ++ new)) ≡ (among k (map key_of old) || among k (map key_of new))
+of_both k old new = ap (among k) (map-append key_of old new)
+    ∙ list_any-append (eq_by_cmp key_cmp k) (map key_of old) (map key_of new)
 
 in_old : (k : Key) (old new : List Rec) → among k (map key_of old) ≡ true → among k (map key_of (old ++ new)) ≡ true
 in_old k old new is = of_both k old new ∙ ap (λ b. b || among k (map key_of new)) is
@@ -46,7 +50,8 @@ in_new : (k : Key) (old new : List Rec) → among k (map key_of new) ≡ true �
 in_new k old new is = of_both k old new ∙ or_later (among k (map key_of old)) (among k (map key_of new)) is
 
 -- a key that is there isn't that of a record that goes behind
-is_no_more : (k : Key) (old : List Rec) (r : Rec) → among k (map key_of old) ≡ true → has_key old (key_of r) ≡ false → eq_by_cmp key_cmp k (key_of r) ≡ false
+is_no_more : (k : Key) (old : List Rec) (r : Rec) → among k (map key_of old) ≡ true → has_key old (key_of r) ≡ false
+    → eq_by_cmp key_cmp k (key_of r) ≡ false
 is_no_more k old r there not_there = by (eq_by_cmp key_cmp k (key_of r)) refl
   where
     by : (b : Bool) → eq_by_cmp key_cmp k (key_of r) ≡ b → b ≡ false
@@ -58,7 +63,9 @@ apart : (fault : Fault) (k : Key) (new old all : List Rec) → with_records faul
     → among k (map key_of old) ≡ true → among k (map key_of new) ≡ false
 unfolding with_records
 apart fault k [] old all is there = refl
-apart fault k (r ∷ rs) old all is there = by (has_key old (key_of r)) refl is (λ rest. apart fault k rs (old ++ r ∷ []) all rest (in_old k old (r ∷ []) there))
+apart fault k (r ∷ rs) old all is there =
+    by (has_key old (key_of r)) refl is
+    (λ rest. apart fault k rs (old ++ r ∷ []) all rest (in_old k old (r ∷ []) there))
   where
     by : (b : Bool) → has_key old (key_of r) ≡ b → cond b (Err fault) (with_records fault (old ++ r ∷ []) rs) ≡ Ok all
         → (with_records fault (old ++ r ∷ []) rs ≡ Ok all → among k (map key_of rs) ≡ false)
@@ -69,7 +76,8 @@ apart fault k (r ∷ rs) old all is there = by (has_key old (key_of r)) refl is 
 -- ---- a statement more
 
 -- what was read after a statement, and the reading of the others
-record ReadsOn (images : List ImageRecord) (p : Progress) (s : Statement) (ss : List Statement) (all : List Rec) : Type 0 where
+record ReadsOn (images : List ImageRecord) (p : Progress) (s : Statement) (ss : List Statement) (all : List Rec) : Type
+    0 where
   after : Progress
   put : HasPut images p s after
   rest : read_from images after ss ≡ Ok all
@@ -79,7 +87,8 @@ reads_on : (images : List ImageRecord) (p : Progress) (s : Statement) (ss : List
 unfolding read_from
 reads_on images p s ss all is = by (progress_after images p s) refl is
   where
-    by : (read : Result Progress Fault) → progress_after images p s ≡ read → (read >>= λ q. read_from images q ss) ≡ Ok all → ReadsOn images p s ss all
+    by : (read : Result Progress Fault) → progress_after images p s ≡ read
+        → (read >>= λ q. read_from images q ss) ≡ Ok all → ReadsOn images p s ss all
     by (Ok q) was rest = record { after = q; put = put_unless images p q s (first_fault p s) was; rest = rest }
     by (Err e) was rest = cc
 
@@ -89,17 +98,21 @@ at_end images p all is = cc
 
 module _ (images : List ImageRecord) (k : Key) where
   -- a statement brings the key where it is one of those of its records
-  is_brought : (p q : Progress) (s : Statement) (put : HasPut images p s q) → brings images k s ≡ among (comes_with k) (map key_of put.new)
+  is_brought : (p q : Progress) (s : Statement) (put : HasPut images p s q)
+      → brings images k s ≡ among (comes_with k) (map key_of put.new)
   is_brought p q s put = ap (λ read. among (comes_with k) (keys_if_given read)) put.given
 
   -- so it is there then
-  is_there : (p q : Progress) (s : Statement) → HasPut images p s q → brings images k s ≡ true → among (comes_with k) (map key_of q.records) ≡ true
+  is_there : (p q : Progress) (s : Statement) → HasPut images p s q → brings images k s ≡ true
+      → among (comes_with k) (map key_of q.records) ≡ true
   is_there p q s put here = ap (λ rs. among (comes_with k) (map key_of rs)) put.records
       ∙ in_new (comes_with k) p.records put.new (sym (is_brought p q s put) ∙ here)
 
   -- a key that is there stays
-  stays : (p q : Progress) (s : Statement) → HasPut images p s q → among (comes_with k) (map key_of p.records) ≡ true → among (comes_with k) (map key_of q.records) ≡ true
-  stays p q s put there = ap (λ rs. among (comes_with k) (map key_of rs)) put.records ∙ in_old (comes_with k) p.records put.new there
+  stays : (p q : Progress) (s : Statement) → HasPut images p s q → among (comes_with k) (map key_of p.records) ≡ true
+      → among (comes_with k) (map key_of q.records) ≡ true
+  stays p q s put there = ap (λ rs. among (comes_with k) (map key_of rs)) put.records
+      ∙ in_old (comes_with k) p.records put.new there
 
   stays_there : (ss : List Statement) (p : Progress) (all : List Rec) → read_from images p ss ≡ Ok all
       → among (comes_with k) (map key_of p.records) ≡ true → among (comes_with k) (map key_of all) ≡ true
@@ -115,7 +128,8 @@ module _ (images : List ImageRecord) (k : Key) where
       by on (either (brings images k s) (list_any (brings images k) ss) any) (comes_there ss on.after all on.rest)
     where
       by : (on : ReadsOn images p s ss all) → (brings images k s ≡ true) ⊎ (list_any (brings images k) ss ≡ true)
-          → (list_any (brings images k) ss ≡ true → among (comes_with k) (map key_of all) ≡ true) → among (comes_with k) (map key_of all) ≡ true
+          → (list_any (brings images k) ss ≡ true → among (comes_with k) (map key_of all) ≡ true)
+          → among (comes_with k) (map key_of all) ≡ true
       by on (inl here) more = stays_there ss on.after all on.rest (is_there p on.after s on.put here)
       by on (inr later) more = more later
 
@@ -124,11 +138,13 @@ module _ (images : List ImageRecord) (k : Key) where
       → among (comes_with k) (map key_of p.records) ≡ true → list_any (brings images k) ss ≡ false
   none_behind [] p all is there = refl
   none_behind (s ∷ ss) p all is there = let on = reads_on images p s ss all is in
-      λ i. (is_brought p on.after s on.put ∙ apart (at S8 s.line) (comes_with k) on.put.new p.records on.after.records on.put.put there) i
+      λ i. (is_brought p on.after s on.put
+      ∙ apart (at S8 s.line) (comes_with k) on.put.new p.records on.after.records on.put.put there) i
       || none_behind ss on.after all on.rest (stays p on.after s on.put there) i
 
   -- so none does behind one that brings it
-  none_behind_it : (before behind : List Statement) (s : Statement) (p : Progress) (all : List Rec) → read_from images p (before ++ s ∷ behind) ≡ Ok all
+  none_behind_it : (before behind : List Statement) (s : Statement) (p : Progress) (all : List Rec)
+      → read_from images p (before ++ s ∷ behind) ≡ Ok all
       → brings images k s ≡ true → list_any (brings images k) behind ≡ false
   none_behind_it [] behind s p all is here = let on = reads_on images p s behind all is in
       none_behind behind on.after all on.rest (is_there p on.after s on.put here)
@@ -142,7 +158,8 @@ module _ (images : List ImageRecord) (k : Key) where
       → IsFirstThatBrings images k ss s → IsOnlyThatBrings images k ss s
   is_only ss s all is f = record {
     first = f;
-    none_behind = none_behind_it f.before f.behind s nothing_read all (subst (λ xs. read_from images nothing_read xs ≡ Ok all) f.split is) f.brings_it;
+    none_behind = none_behind_it f.before f.behind s nothing_read all
+        (subst (λ xs. read_from images nothing_read xs ≡ Ok all) f.split is) f.brings_it;
   }
 
   has_only : (ss : List Statement) (all : List Rec) → read_from images nothing_read ss ≡ Ok all
@@ -172,7 +189,8 @@ module _ (images : List ImageRecord) (k : Key) where
       → among (comes_with k) (map key_of all) ≡ true → list_any (brings images k) ss ≡ true
   was_brought ss all is there = sym (brought_too ss) ∙ by (key_from images (comes_with k) ss nothing_read all is there)
     where
-      by : (among (comes_with k) [] ≡ true) ⊎ (list_any (brings images (comes_with k)) ss ≡ true) → list_any (brings images (comes_with k)) ss ≡ true
+      by : (among (comes_with k) [] ≡ true) ⊎ (list_any (brings images (comes_with k)) ss ≡ true)
+          → list_any (brings images (comes_with k)) ss ≡ true
       by (inl none) = absurd (false≢true none)
       by (inr any) = any
 
@@ -185,10 +203,12 @@ module _ (images : List ImageRecord) (k : Key) where
   only_there : (ss : List Statement) (all : List Rec) → read_from images nothing_read ss ≡ Ok all
       → is_some (line_among images k ss) ≡ among (comes_with k) (map key_of all)
   only_there ss all is = has_line images k ss
-      ∙ same_tests (list_any (brings images k) ss) (among (comes_with k) (map key_of all)) (comes_there ss nothing_read all is) (was_brought ss all is)
+      ∙ same_tests (list_any (brings images k) ss) (among (comes_with k) (map key_of all))
+      (comes_there ss nothing_read all is) (was_brought ss all is)
 
 pub keys_have_lines : KeysHaveLines
-keys_have_lines ss all k is there = has_only (machine_images ss) k ss all is (key_from (machine_images ss) k ss nothing_read all is there)
+keys_have_lines ss all k is there =
+    has_only (machine_images ss) k ss all is (key_from (machine_images ss) k ss nothing_read all is there)
 
 pub only_keys_there_have_lines : OnlyKeysThereHaveLines
 only_keys_there_have_lines ss all k is = only_there (machine_images ss) k ss all is

@@ -10,7 +10,8 @@ use Rattle.iocm_record_reader.specs.Deck.{deck_records, machine_images}
 use Rattle.iocm_where.specs.Lines.{comes_with, brings, line_of_key}
 
 -- a statement is the first of some that brings a key, in a machine of these images
-pub record IsFirstThatBrings (images : List ImageRecord) (key : Key) (ss : List Statement) (s : Statement) : Type 0 where
+pub record IsFirstThatBrings (images : List ImageRecord) (key : Key) (ss : List Statement) (s : Statement) : Type
+    0 where
   pub before : List Statement
   pub behind : List Statement
   pub split : ss ≡ before ++ s ∷ behind

@@ -13,9 +13,11 @@ use Rattle.iocm_examples.proofs.Listed.Views.{entries-configuration_of}
 
 -- the first breach with a number
 breach_is : (rs : List Rec) (set number : ℕ)
-    → breach_with rs set number ≡ first_breach_listed (put_all key_cmp (with_keys rs)) (put_all place_cmp (number_of_2000 set number))
+    → breach_with rs set number
+    ≡ first_breach_listed (put_all key_cmp (with_keys rs)) (put_all place_cmp (number_of_2000 set number))
 breach_is rs set number = first_breach_seen (configuration_of rs) (numbering_of_2000 set number)
-    ∙ (λ i. first_breach_listed (entries-configuration_of rs i) (entries-from_entries places_total places_exact (number_of_2000 set number) i))
+    ∙ (λ i. first_breach_listed (entries-configuration_of rs i)
+    (entries-from_entries places_total places_exact (number_of_2000 set number) i))
 
 -- with the other limits of the same deck
 pub limits_of_sets : LimitsOfSets

@@ -15,15 +15,18 @@ use Rattle.iocm_examples.specs.Edits.{started_at, enabled_at, base_started, base
 use Rattle.iocm_examples.proofs.OnLists.{states_on_lists}
 use Rattle.iocm_examples.proofs.Listed.Maps.{put_all}
 use Rattle.iocm_examples.proofs.Listed.Views.{entries-configuration_of}
-use Rattle.iocm_examples.proofs.Listed.States.{ListedState, listing, opening_state_listed, opening_state_seen, after_step_is, after_step_listed, ListedEdit}
+use Rattle.iocm_examples.proofs.Listed.States.{ListedState, listing, opening_state_listed, opening_state_seen}
+use Rattle.iocm_examples.proofs.Listed.States.{after_step_is, after_step_listed, ListedEdit}
 
 -- the example deck, opened, as lists
 unfoldable pub base_listing : ListedState
 base_listing = record {
   records = with_keys base;
   numbers = place_of 0x1000 0 ∷ place_of 0x1001 1 ∷ place_of 0x1002 2 ∷ place_of 0x1003 3 ∷ [];
-  lives = (subchannel 1 0, fresh 0xC0) ∷ (subchannel 1 1, fresh 0xC0) ∷ (subchannel 1 2, fresh 0xC0) ∷ (subchannel 1 3, fresh 0xC0)
-      ∷ (subchannel 2 0, fresh 0xC0) ∷ (subchannel 2 1, fresh 0xC0) ∷ (subchannel 2 2, fresh 0xC0) ∷ (subchannel 2 3, fresh 0xC0) ∷ [];
+  lives = (subchannel 1 0, fresh 0xC0) ∷ (subchannel 1 1, fresh 0xC0) ∷ (subchannel 1 2, fresh 0xC0)
+      ∷ (subchannel 1 3, fresh 0xC0)
+      ∷ (subchannel 2 0, fresh 0xC0) ∷ (subchannel 2 1, fresh 0xC0) ∷ (subchannel 2 2, fresh 0xC0)
+      ∷ (subchannel 2 3, fresh 0xC0) ∷ [];
 }
 
 -- these are the lists at opening of the example deck
@@ -34,7 +37,8 @@ base_computed = refl
 -- and those of its state at opening
 pub base_is : listing base_opened ≡ base_listing
 unfolding base_opened
-base_is = opening_state_seen (configuration_of base) ∙ ap opening_state_listed (entries-configuration_of base) ∙ base_computed
+base_is = opening_state_seen (configuration_of base) ∙ ap opening_state_listed (entries-configuration_of base)
+    ∙ base_computed
 
 -- an edit that brings nothing along
 abbrev pub plainly : Action → ListedEdit
@@ -78,9 +82,11 @@ abbrev pub started_listed : SubId → ListedState → ListedState
 started_listed x y = after_step_listed x (order orders.Start) (after_step_listed x (enable_step 0x80) y)
 
 -- a subchannel is started in a state that is listed
-pub started_is : (x : SubId) (s : State) (y : ListedState) → listing s ≡ y → listing (started_at x s) ≡ started_listed x y
+pub started_is : (x : SubId) (s : State) (y : ListedState) → listing s ≡ y
+    → listing (started_at x s) ≡ started_listed x y
 started_is x s y is =
-    after_step_is x (order orders.Start) (enabled_at x 0x80 s) (after_step_listed x (enable_step 0x80) y) (after_step_is x (enable_step 0x80) s y is)
+    after_step_is x (order orders.Start) (enabled_at x 0x80 s) (after_step_listed x (enable_step 0x80) y)
+    (after_step_is x (enable_step 0x80) s y is)
 
 -- the lists once LPA has started its subchannel of 1000
 unfoldable pub started_listing : ListedState

@@ -9,7 +9,8 @@ use Rattle.iocm_examples.specs.Effects.{Writes, AnInverse, Effects}
 use Rattle.iocm_examples.specs.Edits.{online_51, delete_1001, base_opened}
 use Rattle.iocm_examples.proofs.OnLists.{on_lists}
 use Rattle.iocm_examples.proofs.Listed.States.{inverse_seen, inverse_listed, edit_from}
-use Rattle.iocm_examples.proofs.Listed.Effects.{ListedEffect, with_effect_listed, effect_listed, effect_listing, effect_is, replayed, state_after_all_listed}
+use Rattle.iocm_examples.proofs.Listed.Effects.{ListedEffect, with_effect_listed, effect_listed, effect_listing}
+use Rattle.iocm_examples.proofs.Listed.Effects.{effect_is, replayed, state_after_all_listed}
 use Rattle.iocm_examples.proofs.Computed.Edits.{base_listing, base_is, one_for_another_listed, the_1001, the_online}
 
 -- an inverse
@@ -30,7 +31,8 @@ online_effect : ListedEffect
 online_effect = record {
   records = (key.Online 0 0x51 lpb, Some (online_record 0x51 lpb)) ∷ [];
   numbers = [];
-  lives = (subchannel 2 0, Some (fresh 0xC0)) ∷ (subchannel 2 1, Some (fresh 0xC0)) ∷ (subchannel 2 2, Some (fresh 0xC0))
+  lives = (subchannel 2 0, Some (fresh 0xC0)) ∷ (subchannel 2 1, Some (fresh 0xC0))
+      ∷ (subchannel 2 2, Some (fresh 0xC0))
       ∷ (subchannel 2 3, Some (fresh 0xC0)) ∷ [];
 }
 
@@ -62,7 +64,8 @@ another_computed : effect_listed one_for_another_listed base_listing ≡ another
 unfolding on_lists base_listing another_effect
 another_computed = refl
 
-replay_computed : with_effect_listed another_effect base_listing ≡ state_after_all_listed one_for_another_listed base_listing
+replay_computed : with_effect_listed another_effect base_listing
+    ≡ state_after_all_listed one_for_another_listed base_listing
 unfolding on_lists base_listing another_effect
 replay_computed = refl
 
@@ -70,7 +73,8 @@ replay_computed = refl
 pub effects : Effects
 unfolding online_effect deleted_effect
 effects = record {
-  online = writes (effect_of (online_51 ∷ []) base_opened) online_effect (effect_is (the_online ∷ []) base_opened base_listing base_is ∙ online_computed);
+  online = writes (effect_of (online_51 ∷ []) base_opened) online_effect
+      (effect_is (the_online ∷ []) base_opened base_listing base_is ∙ online_computed);
   deleted = writes (effect_of (delete_1001 ∷ []) base_opened) deleted_effect
       (effect_is (the_1001 ∷ []) base_opened base_listing base_is ∙ deleted_computed);
   replayed = replayed one_for_another_listed base_opened base_listing base_is

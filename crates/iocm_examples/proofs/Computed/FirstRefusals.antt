@@ -29,11 +29,13 @@ pub a_number_for_two : ANumberForTwo
 unfolding on_lists second_listing second_started_listing
 a_number_for_two = record {
   refused = meaning_refused (one (turned_listed one_for_two)) _ second_opened second_listing second_is refl;
-  before_busy = meaning_refused (one (turned_listed one_for_two)) _ second_started second_started_listing second_started_is refl;
+  before_busy = meaning_refused (one (turned_listed one_for_two)) _ second_started second_started_listing
+      second_started_is refl;
   busy = meaning_refused (one (turned_listed [])) _ second_started second_started_listing second_started_is refl;
 }
 
 pub depth_first : DepthFirst
 unfolding on_lists base_listing
-depth_first = meaning_refused (in_row (and_part (nested_listed 31) (times_listed 17 (in_row (times_listed 241 (in_row no_parts))))))
+depth_first = meaning_refused
+    (in_row (and_part (nested_listed 31) (times_listed 17 (in_row (times_listed 241 (in_row no_parts))))))
     _ base_opened base_listing base_is refl

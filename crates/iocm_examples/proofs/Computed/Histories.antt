@@ -5,8 +5,11 @@ use Rattle.iocm_examples.specs.BaseDeck.{lpb, online_record, device_on_1000, dev
 use Rattle.iocm_examples.proofs.Listed.Trees.{in_group, in_choose, no_parts, parts_listed}
 use Rattle.iocm_examples.proofs.Listed.Histories.{ListedCall, activating, undoes, redoes, shows}
 use Rattle.iocm_examples.proofs.Computed.Edits.{plain_add, plain_delete}
-use Rattle.iocm_examples.proofs.Computed.Runs.{changes, ordered, ended, enabled, made_by, AreRight, answers_are, marks_are, number_is, record_is, live_is}
-use Rattle.iocm_examples.specs.Histories.{GivesItsAnswers, LatestFirst, AChooseUndone, StepsElsewhere, PendingStatus, three_changes, empty_changes, a_path_comes_online, APathUndone, a_path_in_use, ABusyUndo, ABusyRedo, UndoneInTurn}
+use Rattle.iocm_examples.proofs.Computed.Runs.{changes, ordered, ended, enabled, made_by, AreRight, answers_are}
+use Rattle.iocm_examples.proofs.Computed.Runs.{marks_are, number_is, record_is, live_is}
+use Rattle.iocm_examples.specs.Histories.{GivesItsAnswers, LatestFirst, AChooseUndone, StepsElsewhere, PendingStatus}
+use Rattle.iocm_examples.specs.Histories.{three_changes, empty_changes, a_path_comes_online, APathUndone, a_path_in_use}
+use Rattle.iocm_examples.specs.Histories.{ABusyUndo, ABusyRedo, UndoneInTurn}
 
 abbrev latest_first_calls : List ListedCall
 latest_first_calls =

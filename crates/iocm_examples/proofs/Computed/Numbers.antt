@@ -13,15 +13,18 @@ use Rattle.iocm_model.specs.Change.Effect.{Cells}
 use Rattle.iocm_model.specs.Operation.Orders.{fresh}
 use Rattle.iocm_examples.specs.BaseDeck.{base, place_of, subchannel, device_on_1000}
 use Rattle.iocm_examples.specs.Views.{found_in}
-use Rattle.iocm_examples.specs.Numbers.{BaseNumbers, second_subsystem, second_opened, unit_on_both, ASecondSubsystem, ANumberComesAlong, ADeviceComesIn, ANumberIsUsedAgain}
+use Rattle.iocm_examples.specs.Numbers.{BaseNumbers, second_subsystem, second_opened, unit_on_both, ASecondSubsystem}
+use Rattle.iocm_examples.specs.Numbers.{ANumberComesAlong, ADeviceComesIn, ANumberIsUsedAgain}
 use Rattle.iocm_examples.specs.Edits.{one_for_another, base_opened}
 use Rattle.iocm_examples.proofs.Listed.Maps.{entries_in_order, put_all}
 use Rattle.iocm_examples.proofs.OnLists.{states_on_lists, on_lists}
 use Rattle.iocm_examples.proofs.Listed.Views.{entries-configuration_of}
-use Rattle.iocm_examples.proofs.Listed.States.{ListedState, listing, opening_state_listed, opening_state_seen, live_at_is, number_at_is, altered_listed, altered_seen, ListedEdit}
+use Rattle.iocm_examples.proofs.Listed.States.{ListedState, listing, opening_state_listed, opening_state_seen}
+use Rattle.iocm_examples.proofs.Listed.States.{live_at_is, number_at_is, altered_listed, altered_seen, ListedEdit}
 use Rattle.iocm_examples.proofs.Listed.Effects.{state_after_all_is, edits_cells_are}
 use Rattle.iocm_examples.proofs.Listed.Trees.{one, in_row, meaning_is, meaning_refused, parts_listed, taken_back}
-use Rattle.iocm_examples.proofs.Computed.Edits.{base_listing, base_is, plainly, the_0fff, add_0fff_listed, one_for_another_listed}
+use Rattle.iocm_examples.proofs.Computed.Edits.{base_listing, base_is, plainly, the_0fff, add_0fff_listed}
+use Rattle.iocm_examples.proofs.Computed.Edits.{one_for_another_listed}
 
 pub base_entries : entries (configuration_of base) ≡ with_keys base
 base_entries = entries_in_order key_cmp keys_total keys_exact (with_keys base) tt
@@ -47,10 +50,13 @@ a_device_comes_in = record {
 pub a_number_is_used_again : ANumberIsUsedAgain
 unfolding on_lists base_listing
 a_number_is_used_again = record {
-  accepted = meaning_is (in_row (parts_listed one_for_another_listed)) one_for_another_listed base_opened base_listing base_is refl;
-  numbers = ap (λ (y : ListedState). y.numbers) (state_after_all_is one_for_another_listed base_opened base_listing base_is);
+  accepted = meaning_is (in_row (parts_listed one_for_another_listed)) one_for_another_listed base_opened base_listing
+      base_is refl;
+  numbers = ap (λ (y : ListedState). y.numbers)
+      (state_after_all_is one_for_another_listed base_opened base_listing base_is);
   altered = altered_seen base_opened (state_after_all one_for_another base_opened)
-      ∙ (λ i. altered_listed (base_is i) (state_after_all_is one_for_another_listed base_opened base_listing base_is i));
+      ∙ (λ i. altered_listed (base_is i)
+      (state_after_all_is one_for_another_listed base_opened base_listing base_is i));
   taken_back = taken_back one_for_another_listed base_opened base_listing base_is refl;
 }
 
@@ -66,10 +72,13 @@ pub a_number_comes_along : ANumberComesAlong
 unfolding on_lists base_listing
 a_number_comes_along = record {
   accepted = meaning_is (one (with_number_listed 7)) (with_number_listed 7 ∷ []) base_opened base_listing base_is refl;
-  numbers = ap (λ (y : ListedState). y.numbers) (state_after_all_is (with_number_listed 7 ∷ []) base_opened base_listing base_is);
+  numbers = ap (λ (y : ListedState). y.numbers)
+      (state_after_all_is (with_number_listed 7 ∷ []) base_opened base_listing base_is);
   held = meaning_refused (one (with_number_listed 3)) _ base_opened base_listing base_is refl;
-  twice = meaning_refused (one (with_places_listed (place_of 0x2000 7 ∷ place_of 0x2000 7 ∷ []))) _ base_opened base_listing base_is refl;
-  of_another = meaning_is (one (with_places_listed (place_of 0x1000 0 ∷ []))) (with_places_listed (place_of 0x1000 0 ∷ []) ∷ [])
+  twice = meaning_refused (one (with_places_listed (place_of 0x2000 7 ∷ place_of 0x2000 7 ∷ []))) _ base_opened
+      base_listing base_is refl;
+  of_another = meaning_is (one (with_places_listed (place_of 0x1000 0 ∷ [])))
+      (with_places_listed (place_of 0x1000 0 ∷ []) ∷ [])
       base_opened base_listing base_is refl;
   its_own = number_at_is _ _ (place_of 0x2000 0).0
       (state_after_all_is (with_places_listed (place_of 0x1000 0 ∷ []) ∷ []) base_opened base_listing base_is);
@@ -80,8 +89,10 @@ unfoldable pub second_listing : ListedState
 second_listing = record {
   records = put_all key_cmp (with_keys second_subsystem);
   numbers = place_of 0x1000 0 ∷ place_of 0x1001 1 ∷ place_of 0x1002 2 ∷ place_of 0x1003 3 ∷ [];
-  lives = (subchannel 1 0, fresh 0xC0) ∷ (subchannel 1 1, fresh 0xC0) ∷ (subchannel 1 2, fresh 0xC0) ∷ (subchannel 1 3, fresh 0xC0)
-      ∷ (subchannel 2 0, fresh 0xC0) ∷ (subchannel 2 1, fresh 0xC0) ∷ (subchannel 2 2, fresh 0xC0) ∷ (subchannel 2 3, fresh 0xC0) ∷ [];
+  lives = (subchannel 1 0, fresh 0xC0) ∷ (subchannel 1 1, fresh 0xC0) ∷ (subchannel 1 2, fresh 0xC0)
+      ∷ (subchannel 1 3, fresh 0xC0)
+      ∷ (subchannel 2 0, fresh 0xC0) ∷ (subchannel 2 1, fresh 0xC0) ∷ (subchannel 2 2, fresh 0xC0)
+      ∷ (subchannel 2 3, fresh 0xC0) ∷ [];
 }
 
 -- these are the lists of its state at opening
@@ -92,7 +103,8 @@ second_computed = refl
 -- and they are those of the state
 pub second_is : listing second_opened ≡ second_listing
 unfolding second_opened
-second_is = opening_state_seen (configuration_of second_subsystem) ∙ ap opening_state_listed (entries-configuration_of second_subsystem) ∙ second_computed
+second_is = opening_state_seen (configuration_of second_subsystem)
+    ∙ ap opening_state_listed (entries-configuration_of second_subsystem) ∙ second_computed
 
 -- the unit is on paths of both
 abbrev the_unit_on_both : ListedEdit
@@ -103,7 +115,9 @@ pub a_second_subsystem : ASecondSubsystem
 unfolding on_lists second_listing
 a_second_subsystem = record {
   accepted = meaning_is (one the_unit_on_both) (the_unit_on_both ∷ []) second_opened second_listing second_is refl;
-  numbers = ap (λ (y : ListedState). y.numbers) (state_after_all_is (the_unit_on_both ∷ []) second_opened second_listing second_is);
-  altered = ap (λ (w : Cells). w.subchannels) (edits_cells_are (the_unit_on_both ∷ []) second_opened second_listing second_is);
+  numbers = ap (λ (y : ListedState). y.numbers)
+      (state_after_all_is (the_unit_on_both ∷ []) second_opened second_listing second_is);
+  altered = ap (λ (w : Cells). w.subchannels)
+      (edits_cells_are (the_unit_on_both ∷ []) second_opened second_listing second_is);
   taken_back = taken_back (the_unit_on_both ∷ []) second_opened second_listing second_is refl;
 }

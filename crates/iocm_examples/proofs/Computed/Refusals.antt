@@ -9,7 +9,8 @@ use Rattle.iocm_examples.specs.BaseDeck.{subchannel, device_on_1000, device_key}
 use Rattle.iocm_examples.proofs.OnLists.{on_lists}
 use Rattle.iocm_examples.proofs.Listed.States.{ListedState, listing, after_step_is, after_step_listed}
 use Rattle.iocm_examples.proofs.Listed.Trees.{one, in_choose, meaning_is, meaning_refused, parts_listed, taken_back}
-use Rattle.iocm_examples.proofs.Computed.Edits.{base_listing, base_is, plain_add, plain_delete, plain_modify, started_listed, started_is, started_listing, base_started_is, the_1001}
+use Rattle.iocm_examples.proofs.Computed.Edits.{base_listing, base_is, plain_add, plain_delete, plain_modify}
+use Rattle.iocm_examples.proofs.Computed.Edits.{started_listed, started_is, started_listing, base_started_is, the_1001}
 
 -- keys that are there, and that are missing
 pub keys_there_and_missing : Keys
@@ -17,15 +18,18 @@ unfolding on_lists base_listing
 keys_there_and_missing = record {
   there = meaning_refused (one (plain_add (device_on_1000 0x1000 0x04))) _ base_opened base_listing base_is refl;
   missing = meaning_refused (one (plain_delete (key.Unit 0x2000))) _ base_opened base_listing base_is refl;
-  missing_device = meaning_refused (one (plain_modify (device_on_1000 0x2000 0x04))) _ base_opened base_listing base_is refl;
+  missing_device = meaning_refused (one (plain_modify (device_on_1000 0x2000 0x04))) _ base_opened base_listing base_is
+      refl;
 }
 
 -- a subchannel that is busy
 pub a_busy_subchannel : ABusySubchannel
 unfolding on_lists base_listing started_listing
 a_busy_subchannel = record {
-  refused = meaning_refused (one (plain_delete (device_key 0x1000))) _ base_started started_listing base_started_is refl;
-  chosen = meaning_is (in_choose (parts_listed (plain_delete (device_key 0x1000) ∷ plain_delete (device_key 0x1003) ∷ [])))
+  refused = meaning_refused (one (plain_delete (device_key 0x1000))) _ base_started started_listing base_started_is
+      refl;
+  chosen = meaning_is (in_choose
+      (parts_listed (plain_delete (device_key 0x1000) ∷ plain_delete (device_key 0x1003) ∷ [])))
       (plain_delete (device_key 0x1003) ∷ []) base_started started_listing base_started_is refl;
 }
 
@@ -36,7 +40,8 @@ ended_listing = after_step_listed (subchannel 1 1) device_end (started_listed (s
 -- these are those of the state
 base_ended_is : listing base_ended ≡ ended_listing
 unfolding base_ended ended_listing
-base_ended_is = after_step_is (subchannel 1 1) device_end (started_at (subchannel 1 1) base_opened) (started_listed (subchannel 1 1) base_listing)
+base_ended_is = after_step_is (subchannel 1 1) device_end (started_at (subchannel 1 1) base_opened)
+    (started_listed (subchannel 1 1) base_listing)
     (started_is (subchannel 1 1) base_opened base_listing base_is)
 
 -- the lists once the status is taken

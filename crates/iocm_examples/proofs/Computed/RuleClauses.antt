@@ -8,7 +8,9 @@ use Rattle.iocm_model.specs.Machine.Configuration.{configuration_of, with_keys, 
 use Rattle.iocm_model.specs.Rules.EachRule.{breaks_v4}
 use Rattle.iocm_examples.specs.BaseDeck.{lpa, lpb, online_record}
 use Rattle.iocm_examples.specs.Rules.{unit_with}
-use Rattle.iocm_examples.specs.RuleClauses.{online_at_no_path, ranges_from, device_on, five_and, candidate_elsewhere, eight_in_both, sharing_elsewhere, online_to_both, BrokenByOneClause, OnlineAtADedicatedPath, KeptAtTheBound}
+use Rattle.iocm_examples.specs.RuleClauses.{online_at_no_path, ranges_from, device_on, five_and, candidate_elsewhere}
+use Rattle.iocm_examples.specs.RuleClauses.{eight_in_both, sharing_elsewhere, online_to_both, BrokenByOneClause}
+use Rattle.iocm_examples.specs.RuleClauses.{OnlineAtADedicatedPath, KeptAtTheBound}
 use Rattle.iocm_examples.proofs.OnLists.{states_on_lists}
 use Rattle.iocm_examples.proofs.Listed.Maps.{put_all}
 use Rattle.iocm_examples.proofs.Listed.Rules.{v4_by}
@@ -43,7 +45,8 @@ abbrev v4_listed : Records → Rec → Bool
 v4_listed es r = v4_by (record_in es) (map (λ e. e.1) es) r
 
 -- V4 of records
-v4_of_records : (rs : List Rec) (r : Rec) → breaks_v4 (configuration_of rs) r ≡ v4_listed (put_all key_cmp (with_keys rs)) r
+v4_of_records : (rs : List Rec) (r : Rec)
+    → breaks_v4 (configuration_of rs) r ≡ v4_listed (put_all key_cmp (with_keys rs)) r
 v4_of_records rs r = (λ i. v4_by (lookup_seen (configuration_of rs) i) (records_of (configuration_of rs)) r)
     ∙ (λ i. v4_listed (entries-configuration_of rs i) r)
 

@@ -6,7 +6,14 @@ use Rattle.iocm_model.specs.Machine.Record.{Rec}
 use Rattle.iocm_model.specs.Machine.Configuration.{with_keys, configuration_of}
 use Rattle.iocm_model.specs.Machine.Numbering.{opening}
 use Rattle.iocm_examples.specs.BaseDeck.{base}
-use Rattle.iocm_examples.specs.Rules.{first_breach_at_opening, two_on_a_dedicated_path, nine_paths, nine_units, limit_of_three, BaseKeepsTheRules, ADedicatedPathOfTwo, AUnitOnNinePaths, ADeviceOfNineUnits, ALimitOfThree, TheOtherRules, AtTheBounds, address_on_another_unit, linked_to, two_with_access, eight_paths, limit_of_four, range_to_the_end, name_used_again, path_of_nobody, online_without_access, online_to_two, no_path, one_path_twice, one_link, range_past_the_end, address_out_of_range, address_used_again, path_by_two_units, candidate_is_nobody, answered_by_two}
+use Rattle.iocm_examples.specs.Rules.{first_breach_at_opening, two_on_a_dedicated_path, nine_paths, nine_units}
+use Rattle.iocm_examples.specs.Rules.{limit_of_three, BaseKeepsTheRules, ADedicatedPathOfTwo, AUnitOnNinePaths}
+use Rattle.iocm_examples.specs.Rules.{ADeviceOfNineUnits, ALimitOfThree, TheOtherRules, AtTheBounds}
+use Rattle.iocm_examples.specs.Rules.{address_on_another_unit, linked_to, two_with_access, eight_paths, limit_of_four}
+use Rattle.iocm_examples.specs.Rules.{range_to_the_end, name_used_again, path_of_nobody, online_without_access}
+use Rattle.iocm_examples.specs.Rules.{online_to_two, no_path, one_path_twice, one_link, range_past_the_end}
+use Rattle.iocm_examples.specs.Rules.{address_out_of_range, address_used_again, path_by_two_units, candidate_is_nobody}
+use Rattle.iocm_examples.specs.Rules.{answered_by_two}
 use Rattle.iocm_examples.proofs.OnLists.{states_on_lists}
 use Rattle.iocm_examples.proofs.Listed.Maps.{put_all}
 use Rattle.iocm_examples.proofs.Listed.Views.{entries-configuration_of, opening_listed, opening_seen}
@@ -14,9 +21,11 @@ use Rattle.iocm_examples.proofs.Listed.Rules.{first_breach_listed, first_breach_
 
 -- the first breach of records at opening
 pub first_breach_of_records : (rs : List Rec)
-    → first_breach_at_opening rs ≡ first_breach_listed (put_all key_cmp (with_keys rs)) (opening_listed (put_all key_cmp (with_keys rs)))
+    → first_breach_at_opening rs
+    ≡ first_breach_listed (put_all key_cmp (with_keys rs)) (opening_listed (put_all key_cmp (with_keys rs)))
 first_breach_of_records rs = let c = configuration_of rs in first_breach_seen c (opening c)
-    ∙ (λ i. first_breach_listed (entries-configuration_of rs i) ((opening_seen c ∙ ap opening_listed (entries-configuration_of rs)) i))
+    ∙ (λ i. first_breach_listed (entries-configuration_of rs i)
+    ((opening_seen c ∙ ap opening_listed (entries-configuration_of rs)) i))
 
 -- the example deck keeps the rules
 pub base_keeps_the_rules : BaseKeepsTheRules

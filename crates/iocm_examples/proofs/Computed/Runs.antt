@@ -20,14 +20,21 @@ use Rattle.iocm_examples.specs.Edits.{base_opened}
 use Rattle.iocm_examples.specs.Histories.{number_of}
 use Rattle.iocm_examples.specs.SelectiveUndo.{device_of}
 use Rattle.iocm_examples.proofs.Listed.Views.{numbers_after_listed}
-use Rattle.iocm_examples.proofs.Listed.States.{ListedState, listing, record_at_is, live_at_is, ListedEdit, state_after_listed, inverse_listed, refusal_listed, after_step_listed, answer_listed}
+use Rattle.iocm_examples.proofs.Listed.States.{ListedState, listing, record_at_is, live_at_is, ListedEdit}
+use Rattle.iocm_examples.proofs.Listed.States.{state_after_listed, inverse_listed, refusal_listed, after_step_listed}
+use Rattle.iocm_examples.proofs.Listed.States.{answer_listed}
 use Rattle.iocm_examples.proofs.Listed.Rules.{first_breach_listed}
 use Rattle.iocm_examples.proofs.Listed.Fits.{before_listed, before_all_listed, fits_listed}
-use Rattle.iocm_examples.proofs.Listed.Effects.{state_after_all_listed, edits_cells_listed, edit_cells_listed, values_listed, with_effect_listed}
+use Rattle.iocm_examples.proofs.Listed.Effects.{state_after_all_listed, edits_cells_listed, edit_cells_listed}
+use Rattle.iocm_examples.proofs.Listed.Effects.{values_listed, with_effect_listed}
 use Rattle.iocm_examples.proofs.Listed.Trees.{one, mean_listed, meaning_listed}
 use Rattle.iocm_examples.proofs.Computed.Edits.{base_listing, base_is}
-use Rattle.iocm_examples.proofs.Listed.Entries.{ListedLine, line_listing, lines_listing, strike_lines, restore_lines, ListedStore, store_listing, store_in, replay_lines, store_by_seen, state_by}
-use Rattle.iocm_examples.proofs.Listed.Histories.{ListedCall, stepping, activating, calls_from, ListedHistory, call_listed, calls_listed, ComeRight, uncalled, run_is, last_state_is, first_come_right}
+use Rattle.iocm_examples.proofs.Listed.Entries.{ListedLine, line_listing, lines_listing, strike_lines, restore_lines}
+use Rattle.iocm_examples.proofs.Listed.Entries.{ListedStore, store_listing, store_in, replay_lines, store_by_seen}
+use Rattle.iocm_examples.proofs.Listed.Entries.{state_by}
+use Rattle.iocm_examples.proofs.Listed.Histories.{ListedCall, stepping, activating, calls_from, ListedHistory}
+use Rattle.iocm_examples.proofs.Listed.Histories.{call_listed, calls_listed, ComeRight, uncalled, run_is, last_state_is}
+use Rattle.iocm_examples.proofs.Listed.Histories.{first_come_right}
 
 -- a change of one edit
 abbrev pub changes : ListedEdit → ListedCall
@@ -47,9 +54,12 @@ enabled x lpm parm = ordered x (Modify (record { enabled = true; lpm = lpm; parm
 
 -- the history that calls make on the example deck, with all that computes it unfolded
 unfoldable pub made_by : List ListedCall → ListedHistory
-unfolding base_listing meaning_listed mean_listed state_after_all_listed state_after_listed refusal_listed first_breach_listed numbers_after_listed gap_from
-    first_record first_breach_of edits_cells_listed edit_cells_listed values_listed with_effect_listed after_step_listed answer_listed
-    strike_lines restore_lines replay_lines call_listed calls_listed ComeRight before_listed before_all_listed fits_listed inverse_listed
+unfolding base_listing meaning_listed mean_listed state_after_all_listed state_after_listed refusal_listed
+    first_breach_listed numbers_after_listed gap_from
+    first_record first_breach_of edits_cells_listed edit_cells_listed values_listed with_effect_listed after_step_listed
+    answer_listed
+    strike_lines restore_lines replay_lines call_listed calls_listed ComeRight before_listed before_all_listed
+    fits_listed inverse_listed
 made_by cs = calls_listed base_listing cs uncalled
 
 -- its last state
@@ -61,7 +71,8 @@ abbrev pub AreRight : List ListedCall → Type 0
 AreRight cs = ComeRight base_listing cs uncalled
 
 -- the answers of a run are those of its listing
-pub answers_are : (cs : List ListedCall) → AreRight cs → reverse (answers_of (run base_opened (calls_from cs))) ≡ reverse (made_by cs).answers
+pub answers_are : (cs : List ListedCall) → AreRight cs
+    → reverse (answers_of (run base_opened (calls_from cs))) ≡ reverse (made_by cs).answers
 unfolding made_by
 answers_are cs right = ap (λ (m : ListedHistory). reverse m.answers) (run_is base_opened base_listing base_is cs right)
 
@@ -69,16 +80,19 @@ answers_are cs right = ap (λ (m : ListedHistory). reverse m.answers) (run_is ba
 pub state_is : (n : ℕ) (cs : List ListedCall) → AreRight cs
     → listing (state_at base_opened (run base_opened (calls_from (take n cs)))) ≡ left_by (take n cs)
 unfolding made_by
-state_is n cs right = last_state_is base_opened base_listing base_is (take n cs) (first_come_right base_listing n cs uncalled right)
+state_is n cs right = last_state_is base_opened base_listing base_is (take n cs)
+    (first_come_right base_listing n cs uncalled right)
 
 -- a listing has the marks of its lines
-marks_seen : (ls : List MarkedEntry) → map (λ (l : MarkedEntry). l.mark) ls ≡ map (λ (l : ListedLine). l.mark) (lines_listing ls)
+marks_seen : (ls : List MarkedEntry)
+    → map (λ (l : MarkedEntry). l.mark) ls ≡ map (λ (l : ListedLine). l.mark) (lines_listing ls)
 marks_seen [] = refl
 marks_seen (l ∷ ls) = ap (λ ms. l.mark ∷ ms) (marks_seen ls)
 
 -- the marks after the first calls of a run are those of its listing
 pub marks_are : (n : ℕ) (cs : List ListedCall) → AreRight cs
-    → reverse (map (λ (l : MarkedEntry). l.mark) (marked_entries base_opened (run base_opened (calls_from (take n cs)))))
+    → reverse (map (λ (l : MarkedEntry). l.mark)
+    (marked_entries base_opened (run base_opened (calls_from (take n cs)))))
     ≡ reverse (map (λ (l : ListedLine). l.mark) (made_by (take n cs)).marked)
 unfolding made_by
 marks_are n cs right = ap reverse (marks_seen (marked_entries base_opened (run base_opened (calls_from (take n cs))))
@@ -95,18 +109,21 @@ number_is n cs right d = let s = state_at base_opened (run base_opened (calls_fr
 
 -- the record of a key there
 pub record_is : (n : ℕ) (cs : List ListedCall) → AreRight cs → (key : Key)
-    → get (state_at base_opened (run base_opened (calls_from (take n cs)))).config key ≡ find key_cmp key (left_by (take n cs)).records
+    → get (state_at base_opened (run base_opened (calls_from (take n cs)))).config key
+    ≡ find key_cmp key (left_by (take n cs)).records
 record_is n cs right key = record_at_is _ _ key (state_is n cs right)
 
 -- the live record of a subchannel there
 pub live_is : (n : ℕ) (cs : List ListedCall) → AreRight cs → (x : SubId)
-    → get (state_at base_opened (run base_opened (calls_from (take n cs)))).lives x ≡ find sub_id_cmp x (left_by (take n cs)).lives
+    → get (state_at base_opened (run base_opened (calls_from (take n cs)))).lives x
+    ≡ find sub_id_cmp x (left_by (take n cs)).lives
 live_is n cs right x = live_at_is _ _ x (state_is n cs right)
 
 -- the cells of the entries after the first calls of a run, but the latest of these entries, are
 -- those of its listing
 pub cells_are : (n k : ℕ) (cs : List ListedCall) → AreRight cs
-    → store_listing (replay (store_of base_opened) (drop k (marked_entries base_opened (run base_opened (calls_from (take n cs))))))
+    → store_listing (replay (store_of base_opened)
+    (drop k (marked_entries base_opened (run base_opened (calls_from (take n cs))))))
     ≡ replay_lines (store_in base_listing) (drop k (made_by (take n cs)).marked)
 unfolding made_by
 cells_are n k cs right = let ls = marked_entries base_opened (run base_opened (calls_from (take n cs))) in
@@ -117,9 +134,13 @@ cells_are n k cs right = let ls = marked_entries base_opened (run base_opened (c
 
 -- the device of a number of channel subsystem 1 there
 pub device_is : (n k : ℕ) (cs : List ListedCall) → AreRight cs → (number : ℕ)
-    → device_of number (replay (store_of base_opened) (drop k (marked_entries base_opened (run base_opened (calls_from (take n cs)))))).numbers
-    ≡ find cell_cmp (record { css = 1; set = 0; number = number }) (replay_lines (store_in base_listing) (drop k (made_by (take n cs)).marked)).cells
+    → device_of number (replay (store_of base_opened)
+    (drop k (marked_entries base_opened (run base_opened (calls_from (take n cs)))))).numbers
+    ≡ find cell_cmp (record { css = 1; set = 0; number = number })
+    (replay_lines (store_in base_listing) (drop k (made_by (take n cs)).marked)).cells
 device_is n k cs right number =
-    get-entries (replay (store_of base_opened) (drop k (marked_entries base_opened (run base_opened (calls_from (take n cs)))))).numbers
+    get-entries (replay (store_of base_opened)
+    (drop k (marked_entries base_opened (run base_opened (calls_from (take n cs)))))).numbers
     (record { css = 1; set = 0; number = number })
-    ∙ ap (λ (m : ListedStore). find cell_cmp (record { css = 1; set = 0; number = number }) m.cells) (cells_are n k cs right)
+    ∙ ap (λ (m : ListedStore). find cell_cmp (record { css = 1; set = 0; number = number }) m.cells)
+    (cells_are n k cs right)

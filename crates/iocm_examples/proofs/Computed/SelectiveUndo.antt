@@ -2,14 +2,19 @@
 use Rattle.std.proofs.Common.{None, List, [], ◌∷◌, map, refl}
 use Rattle.iocm_types.specs.declared.order.Order.TheVariants.{Start, Store}
 use Rattle.iocm_model.specs.Change.Edit.{modify}
-use Rattle.iocm_examples.specs.BaseDeck.{lpa, lpb, path_record, css_path, online_record, device_on_1000, device_key, subchannel, unit_on}
+use Rattle.iocm_examples.specs.BaseDeck.{lpa, lpb, path_record, css_path, online_record, device_on_1000, device_key}
+use Rattle.iocm_examples.specs.BaseDeck.{subchannel, unit_on}
 use Rattle.iocm_examples.proofs.Listed.Trees.{in_group, no_parts, parts_listed}
 use Rattle.iocm_examples.proofs.Listed.States.{ListedEdit}
 use Rattle.iocm_examples.proofs.Listed.Histories.{ListedCall, activating, undoes, redoes, shows}
 use Rattle.iocm_examples.proofs.Computed.Edits.{plain_add, plain_delete, plain_modify}
-use Rattle.iocm_examples.proofs.Computed.Runs.{changes, ordered, enabled, made_by, AreRight, answers_are, marks_are, number_is, device_is}
+use Rattle.iocm_examples.proofs.Computed.Runs.{changes, ordered, enabled, made_by, AreRight, answers_are, marks_are}
+use Rattle.iocm_examples.proofs.Computed.Runs.{number_is, device_is}
 use Rattle.iocm_examples.specs.Histories.{GivesItsAnswers}
-use Rattle.iocm_examples.specs.SelectiveUndo.{CellsApart, paths_turned, an_address_taken, an_earlier_undone, stood_on_and_busy, not_last_and_busy, nothing_in_common, a_past_one, a_later_undone, put_back_at_once, unseen_device, a_number_in_common, unit_with, path_of_css_1, device_on_two, of_lpc, TwoNumbersForAWhile}
+use Rattle.iocm_examples.specs.SelectiveUndo.{CellsApart, paths_turned, an_address_taken, an_earlier_undone}
+use Rattle.iocm_examples.specs.SelectiveUndo.{stood_on_and_busy, not_last_and_busy, nothing_in_common, a_past_one}
+use Rattle.iocm_examples.specs.SelectiveUndo.{a_later_undone, put_back_at_once, unseen_device, a_number_in_common}
+use Rattle.iocm_examples.specs.SelectiveUndo.{unit_with, path_of_css_1, device_on_two, of_lpc, TwoNumbersForAWhile}
 
 abbrev cells_apart_calls : List ListedCall
 cells_apart_calls =

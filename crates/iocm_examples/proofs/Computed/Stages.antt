@@ -4,12 +4,15 @@ use Rattle.iocm_types.specs.declared.order.Order.TheVariants.{Start, Test, Store
 use Rattle.iocm_examples.specs.BaseDeck.{device_key, subchannel}
 use Rattle.iocm_examples.proofs.Listed.States.{ListedEdit, same_by_listing}
 use Rattle.iocm_examples.proofs.Listed.Trees.{one, in_group, in_choose, parts_listed}
-use Rattle.iocm_examples.proofs.Listed.Histories.{ListedCall, activating, beginning, advancing, committing, aborting, undoes, redoes, shows}
+use Rattle.iocm_examples.proofs.Listed.Histories.{ListedCall, activating, beginning, advancing, committing, aborting}
+use Rattle.iocm_examples.proofs.Listed.Histories.{undoes, redoes, shows}
 use Rattle.iocm_examples.proofs.Computed.Edits.{base_is, plain_delete}
-use Rattle.iocm_examples.proofs.Computed.Runs.{changes, ordered, ended, enabled, made_by, AreRight, answers_are, state_is, number_is, record_is}
+use Rattle.iocm_examples.proofs.Computed.Runs.{changes, ordered, ended, enabled, made_by, AreRight, answers_are}
+use Rattle.iocm_examples.proofs.Computed.Runs.{state_is, number_is, record_is}
 use Rattle.iocm_examples.specs.Edits.{base_opened}
 use Rattle.iocm_examples.specs.Histories.{GivesItsAnswers}
-use Rattle.iocm_examples.specs.Stages.{held_and_aborted, decided_at_begin, CountedDown, LeftStaged, held_before_they_are_there, AbortedAtEachStage, PastByACommit}
+use Rattle.iocm_examples.specs.Stages.{held_and_aborted, decided_at_begin, CountedDown, LeftStaged}
+use Rattle.iocm_examples.specs.Stages.{held_before_they_are_there, AbortedAtEachStage, PastByACommit}
 use Rattle.iocm_examples.proofs.Computed.Edits.{the_0fff}
 use Rattle.iocm_examples.proofs.Computed.Trees.{exchange_listed}
 
@@ -41,7 +44,8 @@ abbrev decided_at_begin_calls : List ListedCall
 decided_at_begin_calls =
     enabled (subchannel 1 0) 0x80 0
     ∷ ordered (subchannel 1 0) Start
-    ∷ beginning (in_choose (parts_listed (plain_delete (device_key 0x1000) ∷ plain_delete (device_key 0x1003) ∷ []))) (plain_delete (device_key 0x1003) ∷ [])
+    ∷ beginning (in_choose (parts_listed (plain_delete (device_key 0x1000) ∷ plain_delete (device_key 0x1003) ∷ [])))
+    (plain_delete (device_key 0x1003) ∷ [])
     ∷ ended (subchannel 1 0)
     ∷ ordered (subchannel 1 0) Test
     ∷ committing

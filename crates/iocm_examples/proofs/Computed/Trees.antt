@@ -4,18 +4,24 @@ use Rattle.iocm_types.specs.declared.sub_id.SubId.{SubId}
 use Rattle.iocm_types.specs.declared.key.Key.TheVariants as key
 use Rattle.iocm_model.specs.Change.Effect.{Cells}
 use Rattle.iocm_examples.specs.BaseDeck.{unit_on, subchannel, device_on_1000, device_key}
-use Rattle.iocm_examples.specs.Trees.{LimitsOfTrees, TakenBackLater, base_grown, started_elsewhere, started_there, AnExchange, NodesOfBreaches, WhereRulesHold, AfterAGroup, EmptyNodes}
+use Rattle.iocm_examples.specs.Trees.{LimitsOfTrees, TakenBackLater, base_grown, started_elsewhere, started_there}
+use Rattle.iocm_examples.specs.Trees.{AnExchange, NodesOfBreaches, WhereRulesHold, AfterAGroup, EmptyNodes}
 use Rattle.iocm_examples.specs.Edits.{started_at, base_started, base_opened}
 use Rattle.iocm_examples.proofs.OnLists.{on_lists}
 use Rattle.iocm_examples.proofs.Listed.States.{ListedState, listing, record_at_is, ListedEdit}
 use Rattle.iocm_examples.proofs.Listed.Effects.{state_after_all_listed, state_after_all_is, put_back, edits_cells_are}
-use Rattle.iocm_examples.proofs.Listed.Trees.{ListedPlan, ListedPlans, one, in_row, in_group, in_choose, no_parts, and_part, meaning_is, meaning_refused, parts_listed, taken_back, taken_back_at, inverse_refused}
-use Rattle.iocm_examples.proofs.Computed.Edits.{base_listing, base_is, plain_add, plain_delete, plain_modify, the_0fff, add_0fff_listed, one_for_another_listed, started_listed, started_is, started_listing, base_started_is}
+use Rattle.iocm_examples.proofs.Listed.Trees.{ListedPlan, ListedPlans, one, in_row, in_group, in_choose, no_parts}
+use Rattle.iocm_examples.proofs.Listed.Trees.{and_part, meaning_is, meaning_refused, parts_listed, taken_back}
+use Rattle.iocm_examples.proofs.Listed.Trees.{taken_back_at, inverse_refused}
+use Rattle.iocm_examples.proofs.Computed.Edits.{base_listing, base_is, plain_add, plain_delete, plain_modify, the_0fff}
+use Rattle.iocm_examples.proofs.Computed.Edits.{add_0fff_listed, one_for_another_listed, started_listed, started_is}
+use Rattle.iocm_examples.proofs.Computed.Edits.{started_listing, base_started_is}
 
 -- two devices exchange their unit addresses
 abbrev pub exchange_listed : List ListedEdit
 exchange_listed =
-    plain_modify (device_on_1000 0x1002 0x05) ∷ plain_modify (device_on_1000 0x1003 0x02) ∷ plain_modify (device_on_1000 0x1002 0x03) ∷ []
+    plain_modify (device_on_1000 0x1002 0x05) ∷ plain_modify (device_on_1000 0x1003 0x02)
+    ∷ plain_modify (device_on_1000 0x1002 0x03) ∷ []
 
 -- that they do
 pub an_exchange : AnExchange
@@ -47,26 +53,33 @@ nodes_of_breaches = record {
   in_leaf = meaning_refused (one the_unit) _ base_opened base_listing base_is refl;
   in_group = meaning_refused group_of_unit _ base_opened base_listing base_is refl;
   in_row = meaning_refused (in_row (parts_listed (the_0fff ∷ the_unit ∷ []))) _ base_opened base_listing base_is refl;
-  in_group_in_row = meaning_refused (in_row (and_part (one the_0fff) (and_part group_of_unit no_parts))) _ base_opened base_listing base_is refl;
-  in_group_after = meaning_refused (in_row (and_part (one the_unit) (and_part (in_group (parts_listed (the_0fff ∷ []))) no_parts)))
+  in_group_in_row = meaning_refused (in_row (and_part (one the_0fff) (and_part group_of_unit no_parts))) _ base_opened
+      base_listing base_is refl;
+  in_group_after = meaning_refused
+      (in_row (and_part (one the_unit) (and_part (in_group (parts_listed (the_0fff ∷ []))) no_parts)))
       _ base_opened base_listing base_is refl;
-  in_last_of_choose = meaning_refused (in_choose (parts_listed (delete_unit ∷ the_unit ∷ []))) _ base_opened base_listing base_is refl;
+  in_last_of_choose = meaning_refused (in_choose (parts_listed (delete_unit ∷ the_unit ∷ []))) _ base_opened
+      base_listing base_is refl;
 }
 
 -- where the rules hold in a tree
 pub where_rules_hold : WhereRulesHold
 unfolding on_lists base_listing
 where_rules_hold = record {
-  on_the_way = meaning_is (in_row (parts_listed (the_unit ∷ delete_unit ∷ []))) (the_unit ∷ delete_unit ∷ []) base_opened base_listing base_is refl;
-  in_group = meaning_refused (in_row (and_part group_of_unit (and_part (one delete_unit) no_parts))) _ base_opened base_listing base_is refl;
-  chosen = meaning_is (in_choose (parts_listed (the_unit ∷ the_0fff ∷ []))) (the_0fff ∷ []) base_opened base_listing base_is refl;
+  on_the_way = meaning_is (in_row (parts_listed (the_unit ∷ delete_unit ∷ []))) (the_unit ∷ delete_unit ∷ [])
+      base_opened base_listing base_is refl;
+  in_group = meaning_refused (in_row (and_part group_of_unit (and_part (one delete_unit) no_parts))) _ base_opened
+      base_listing base_is refl;
+  chosen = meaning_is (in_choose (parts_listed (the_unit ∷ the_0fff ∷ []))) (the_0fff ∷ []) base_opened base_listing
+      base_is refl;
 }
 
 -- the node after a Group
 pub after_a_group : AfterAGroup
 unfolding on_lists base_listing
 after_a_group = meaning_refused
-    (in_row (and_part (in_group (parts_listed one_for_another_listed)) (and_part (one (plain_add (device_on_1000 0x1000 0x04))) no_parts)))
+    (in_row (and_part (in_group (parts_listed one_for_another_listed))
+    (and_part (one (plain_add (device_on_1000 0x1000 0x04))) no_parts)))
     _ base_opened base_listing base_is refl
 
 -- nodes without parts
@@ -119,6 +132,7 @@ taken_back_later = record {
   elsewhere = taken_back_at add_0fff_listed base_opened started_elsewhere base_started
       base_listing (started_listed (subchannel 1 0) grown_listing) started_listing
       base_is (started_in_grown (subchannel 1 0)) base_started_is refl;
-  there = inverse_refused add_0fff_listed _ base_opened started_there base_listing (started_listed (subchannel 1 4) grown_listing)
+  there = inverse_refused add_0fff_listed _ base_opened started_there base_listing
+      (started_listed (subchannel 1 4) grown_listing)
       base_is (started_in_grown (subchannel 1 4)) refl;
 }

@@ -20,19 +20,24 @@ use Rattle.iocm_examples.proofs.Computed.Numbers.{base_entries, base_lookup, bas
 cell_of : ℕ → ℕ → NumberCell × ℕ
 cell_of number device = (record { css = 0; set = 0; number = number }, device)
 
-base_cells : entries (cells_of (opening (configuration_of base))) ≡ cell_of 0 0x1000 ∷ cell_of 1 0x1001 ∷ cell_of 2 0x1002 ∷ cell_of 3 0x1003 ∷ []
+base_cells : entries (cells_of (opening (configuration_of base)))
+    ≡ cell_of 0 0x1000 ∷ cell_of 1 0x1001 ∷ cell_of 2 0x1002 ∷ cell_of 3 0x1003 ∷ []
 unfolding cell_of
-base_cells = simp base_numbers (entries_in_order cell_cmp cells_total cells_exact (cell_of 0 0x1000 ∷ cell_of 1 0x1001 ∷ cell_of 2 0x1002 ∷ cell_of 3 0x1003 ∷ []) tt)
+base_cells = simp base_numbers
+    (entries_in_order cell_cmp cells_total cells_exact
+    (cell_of 0 0x1000 ∷ cell_of 1 0x1001 ∷ cell_of 2 0x1002 ∷ cell_of 3 0x1003 ∷ []) tt)
 
 -- the rows that these records and number cells give
 rows_from : Lookup → List (Key × Rec) → List (NumberCell × ℕ) → List (SubId × View)
-rows_from found records cells = flat_map (λ (i : ImageRecord). filter_map (row_at found i) (filter (λ (e : NumberCell × ℕ). e.0.css == i.css) cells))
+rows_from found records cells = flat_map
+    (λ (i : ImageRecord). filter_map (row_at found i) (filter (λ (e : NumberCell × ℕ). e.0.css == i.css) cells))
     (filter_map as_image (map (λ (e : Key × Rec). e.1) records))
 
 listed_cells : List (NumberCell × ℕ)
 listed_cells = cell_of 0 0x1000 ∷ cell_of 1 0x1001 ∷ cell_of 2 0x1002 ∷ cell_of 3 0x1003 ∷ []
 
-listed : views (configuration_of base) (opening (configuration_of base)) ≡ rows_from (found_in base) (with_keys base) listed_cells
+listed : views (configuration_of base) (opening (configuration_of base))
+    ≡ rows_from (found_in base) (with_keys base) listed_cells
 unfolding rows_from listed_cells
 listed = λ i. rows_from (λ key. base_lookup key i) (base_entries i) (base_cells i)
 

@@ -17,9 +17,12 @@ use Rattle.iocm_model.specs.Operation.State.{State}
 use Rattle.iocm_model.specs.Change.Edit.{Edit, action_key, state_after}
 use Rattle.iocm_model.specs.Change.Effect.{Cells, Effect, values_in, with_effect, no_cells, both_cells, cells_written}
 use Rattle.iocm_model.specs.Change.Runs.{cells_written_by_all, state_after_all, effect_of, inverses}
-use Rattle.iocm_examples.proofs.Listed.Maps.{put_cells, cells_found, keys_differing, entries-with_cells, entries-cells_at, differing_seen}
+use Rattle.iocm_examples.proofs.Listed.Maps.{put_cells, cells_found, keys_differing, entries-with_cells}
+use Rattle.iocm_examples.proofs.Listed.Maps.{entries-cells_at, differing_seen}
 use Rattle.iocm_examples.proofs.Listed.Views.{cells_listed, cells_seen, numbering_listed, numbering_seen}
-use Rattle.iocm_examples.proofs.Listed.States.{ListedState, listing, same_by_listing, ListedEdit, edit_from, state_after_listed, state_after_seen, altered_listed, altered_seen, inverse_listed, inverse_seen}
+use Rattle.iocm_examples.proofs.Listed.States.{ListedState, listing, same_by_listing, ListedEdit, edit_from}
+use Rattle.iocm_examples.proofs.Listed.States.{state_after_listed, state_after_seen, altered_listed, altered_seen}
+use Rattle.iocm_examples.proofs.Listed.States.{inverse_listed, inverse_seen}
 
 -- an effect as lists in order
 pub record ListedEffect : Type 0 where
@@ -58,7 +61,8 @@ with_effect_listed f x = record {
 }
 
 -- an effect does to a state what it does to its lists
-pub with_effect_seen : (f : Effect) (s : State) → listing (with_effect f s) ≡ with_effect_listed (effect_listing f) (listing s)
+pub with_effect_seen : (f : Effect) (s : State)
+    → listing (with_effect f s) ≡ with_effect_listed (effect_listing f) (listing s)
 unfolding with_effect_listed
 with_effect_seen f s = λ i. record {
   records = entries-with_cells keys_total keys_exact (entries f.records) s.config i;
@@ -102,10 +106,12 @@ state_after_all_listed [] x = x
 state_after_all_listed (e ∷ es) x = state_after_all_listed es (state_after_listed e x)
 
 -- edits do to a state what they do to its lists
-pub state_after_all_seen : (es : List ListedEdit) (s : State) → listing (state_after_all (edits_from es) s) ≡ state_after_all_listed es (listing s)
+pub state_after_all_seen : (es : List ListedEdit) (s : State)
+    → listing (state_after_all (edits_from es) s) ≡ state_after_all_listed es (listing s)
 unfolding state_after_all_listed
 state_after_all_seen [] s = refl
-state_after_all_seen (e ∷ es) s = state_after_all_seen es (state_after (edit_from e) s) ∙ ap (state_after_all_listed es) (state_after_seen e s)
+state_after_all_seen (e ∷ es) s =
+    state_after_all_seen es (state_after (edit_from e) s) ∙ ap (state_after_all_listed es) (state_after_seen e s)
 
 -- the cells that edits write, one after the other
 unfoldable pub edits_cells_listed : List ListedEdit → ListedState → Cells
@@ -113,18 +119,21 @@ edits_cells_listed [] x = no_cells
 edits_cells_listed (e ∷ es) x = both_cells (edit_cells_listed e x) (edits_cells_listed es (state_after_listed e x))
 
 -- edits write in a state the cells that they write in its lists
-pub edits_cells_seen : (es : List ListedEdit) (s : State) → cells_written_by_all (edits_from es) s ≡ edits_cells_listed es (listing s)
+pub edits_cells_seen : (es : List ListedEdit) (s : State)
+    → cells_written_by_all (edits_from es) s ≡ edits_cells_listed es (listing s)
 unfolding edits_cells_listed
 edits_cells_seen [] s = refl
 edits_cells_seen (e ∷ es) s =
-    λ i. both_cells (edit_cells_seen e s i) ((edits_cells_seen es (state_after (edit_from e) s) ∙ ap (edits_cells_listed es) (state_after_seen e s)) i)
+    λ i. both_cells (edit_cells_seen e s i)
+    ((edits_cells_seen es (state_after (edit_from e) s) ∙ ap (edits_cells_listed es) (state_after_seen e s)) i)
 
 -- the effect of edits
 abbrev pub effect_listed : List ListedEdit → ListedState → ListedEffect
 effect_listed es x = values_listed (state_after_all_listed es x) (edits_cells_listed es x)
 
 -- the effect of edits in a state is that in its lists
-pub effect_seen : (es : List ListedEdit) (s : State) → effect_listing (effect_of (edits_from es) s) ≡ effect_listed es (listing s)
+pub effect_seen : (es : List ListedEdit) (s : State)
+    → effect_listing (effect_of (edits_from es) s) ≡ effect_listed es (listing s)
 effect_seen es s = values_seen (state_after_all (edits_from es) s) (cells_written_by_all (edits_from es) s)
     ∙ (λ i. values_listed (state_after_all_seen es s i) (edits_cells_seen es s i))
 
@@ -151,14 +160,18 @@ put_back es s x is computed =
     ∙ computed ∙ sym is)
 
 -- what edits do is what their effect writes
-pub replayed : (es : List ListedEdit) (s : State) (x : ListedState) → listing s ≡ x → with_effect_listed (effect_listed es x) x ≡ state_after_all_listed es x
+pub replayed : (es : List ListedEdit) (s : State) (x : ListedState) → listing s ≡ x
+    → with_effect_listed (effect_listed es x) x ≡ state_after_all_listed es x
     → with_effect (effect_of (edits_from es) s) s ≡ state_after_all (edits_from es) s
-replayed es s x is computed = same_by_listing (with_effect (effect_of (edits_from es) s) s) (state_after_all (edits_from es) s)
-    (with_effect_seen (effect_of (edits_from es) s) s ∙ (λ i. with_effect_listed ((effect_seen es s ∙ ap (effect_listed es) is) i) (is i))
+replayed es s x is computed = same_by_listing (with_effect (effect_of (edits_from es) s) s)
+    (state_after_all (edits_from es) s)
+    (with_effect_seen (effect_of (edits_from es) s) s
+    ∙ (λ i. with_effect_listed ((effect_seen es s ∙ ap (effect_listed es) is) i) (is i))
     ∙ computed ∙ sym (state_after_all_is es s x is))
 
 -- the effect of edits of a state that is listed
-pub effect_is : (es : List ListedEdit) (s : State) (x : ListedState) → listing s ≡ x → effect_listing (effect_of (edits_from es) s) ≡ effect_listed es x
+pub effect_is : (es : List ListedEdit) (s : State) (x : ListedState) → listing s ≡ x
+    → effect_listing (effect_of (edits_from es) s) ≡ effect_listed es x
 effect_is es s x is = effect_seen es s ∙ ap (effect_listed es) is
 
 -- the inverses of edits, the last first
@@ -172,9 +185,12 @@ edits_from-append [] fs = refl
 edits_from-append (e ∷ es) fs = ap (λ rest. edit_from e ∷ rest) (edits_from-append es fs)
 
 -- the inverses of edits in a state are those in its lists
-pub inverses_seen : (es : List ListedEdit) (s : State) → inverses (edits_from es) s ≡ edits_from (inverses_listed es (listing s))
+pub inverses_seen : (es : List ListedEdit) (s : State)
+    → inverses (edits_from es) s ≡ edits_from (inverses_listed es (listing s))
 unfolding inverses_listed
 inverses_seen [] s = refl
 inverses_seen (e ∷ es) s =
-    (λ i. (inverses_seen es (state_after (edit_from e) s) ∙ ap (λ x. edits_from (inverses_listed es x)) (state_after_seen e s)) i ++ (inverse_seen e s i ∷ []))
-    ∙ sym (edits_from-append (inverses_listed es (state_after_listed e (listing s))) (inverse_listed e (listing s) ∷ []))
+    (λ i. (inverses_seen es (state_after (edit_from e) s)
+    ∙ ap (λ x. edits_from (inverses_listed es x)) (state_after_seen e s)) i ++ (inverse_seen e s i ∷ []))
+    ∙ sym (edits_from-append (inverses_listed es (state_after_listed e (listing s)))
+    (inverse_listed e (listing s) ∷ []))

@@ -1,9 +1,11 @@
 -- Marked entries with their effects as lists: what striking, restoring and replaying them does.
-use Rattle.std.proofs.Common.{◌≡◌, ℕ, ◌==◌, Bool, true, false, Option, Some, None, List, [], ◌∷◌, map, if◌then◌else◌, refl, ap, ◌∙◌}
+use Rattle.std.proofs.Common.{◌≡◌, ℕ, ◌==◌, Bool, true, false, Option, Some, None, List, [], ◌∷◌, map, if◌then◌else◌}
+use Rattle.std.proofs.Common.{refl, ap, ◌∙◌}
 use Rattle.std.specs.Option.{option_map}
 use Rattle.std.specs.FinMap.{put, entries, empty, entries-insert}
 use Rattle.iocm_types.specs.declared.answer.Answer.{Answer}
-use Rattle.iocm_types.specs.declared.answer.Answer.TheVariants.{Changed, Undone, Redone, Shown, Refused, Io, Begun, Ended, Held, Staged, Left, Aborted}
+use Rattle.iocm_types.specs.declared.answer.Answer.TheVariants.{Changed, Undone, Redone, Shown, Refused, Io, Begun}
+use Rattle.iocm_types.specs.declared.answer.Answer.TheVariants.{Ended, Held, Staged, Left, Aborted}
 use Rattle.iocm_types.specs.declared.live.Live.{Live}
 use Rattle.iocm_types.specs.declared.sub_id.SubId.{SubId}
 use Rattle.iocm_types.specs.Key.{key_cmp}
@@ -16,10 +18,16 @@ use Rattle.iocm_model.specs.Operation.Step.{Step}
 use Rattle.iocm_history.specs.Entry.{no_effect}
 use Rattle.iocm_history.specs.Store.{Store, store_of, state_of, store_with}
 use Rattle.iocm_history.specs.Change.{Change, effect_of_change}
-use Rattle.iocm_history.specs.MarkedEntry.{Act, step, change, undoing, nothing, Mark, kept, undone_with, lost, MarkedEntry, effect_of_act, effect_if_kept, effect_of_entry, is_change, is_undo, is_step_on, change_or, change_at, altered_if, altered_by_change, struck_mark, struck_if, strike, unstruck_mark, taken_back, restore, entries_after}
+use Rattle.iocm_history.specs.MarkedEntry.{Act, step, change, undoing, nothing, Mark, kept, undone_with, lost}
+use Rattle.iocm_history.specs.MarkedEntry.{MarkedEntry, effect_of_act, effect_if_kept, effect_of_entry, is_change}
+use Rattle.iocm_history.specs.MarkedEntry.{is_undo, is_step_on, change_or, change_at, altered_if, altered_by_change}
+use Rattle.iocm_history.specs.MarkedEntry.{struck_mark, struck_if, strike, unstruck_mark, taken_back, restore}
+use Rattle.iocm_history.specs.MarkedEntry.{entries_after}
 use Rattle.iocm_history.specs.Account.{replay}
-use Rattle.iocm_examples.proofs.Listed.Maps.{put_all, put_cells, cond_seen, entries-empty, entries-with_cells, entries-from_entries}
-use Rattle.iocm_examples.proofs.Listed.Views.{Records, CellList, cells_listed, cells_seen, numbering_listed, numbering_seen}
+use Rattle.iocm_examples.proofs.Listed.Maps.{put_all, put_cells, cond_seen, entries-empty, entries-with_cells}
+use Rattle.iocm_examples.proofs.Listed.Maps.{entries-from_entries}
+use Rattle.iocm_examples.proofs.Listed.Views.{Records, CellList, cells_listed, cells_seen, numbering_listed}
+use Rattle.iocm_examples.proofs.Listed.Views.{numbering_seen}
 use Rattle.iocm_examples.proofs.Listed.States.{LiveList, ListedState, listing, ListedEdit}
 use Rattle.iocm_examples.proofs.Listed.Effects.{ListedEffect, effect_listing, edits_from, effect_listed, effect_seen}
 use Rattle.iocm_examples.proofs.Listed.Fits.{edits_listing}
@@ -31,21 +39,26 @@ pub record ListedChange : Type 0 where
   pub effect : ListedEffect
 
 abbrev pub change_listing : Change → ListedChange
-change_listing c = record { edits = edits_listing c.edits; from = listing c.from; effect = effect_listing (effect_of_change c) }
+change_listing c = record
+    { edits = edits_listing c.edits; from = listing c.from; effect = effect_listing (effect_of_change c) }
 
 -- edits with their live records in order
 abbrev pub edits_in_order : List ListedEdit → List ListedEdit
-edits_in_order es = map (λ (e : ListedEdit). record { action = e.action; places = e.places; lives = put_all sub_id_cmp e.lives }) es
+edits_in_order es = map (λ (e : ListedEdit).
+    record { action = e.action; places = e.places; lives = put_all sub_id_cmp e.lives }) es
 
 in_order : (es : List ListedEdit) → edits_listing (edits_from es) ≡ edits_in_order es
 in_order [] = refl
-in_order (e ∷ es) = λ i. record { action = e.action; places = e.places; lives = entries-from_entries sub_ids_total sub_ids_exact e.lives i } ∷ in_order es i
+in_order (e ∷ es) = λ i.
+    record { action = e.action; places = e.places; lives = entries-from_entries sub_ids_total sub_ids_exact e.lives i }
+    ∷ in_order es i
 
 -- a change by these edits in a state
 abbrev pub changed_by : List ListedEdit → ListedState → ListedChange
 changed_by es y = record { edits = edits_in_order es; from = y; effect = effect_listed es y }
 
-pub changed_is : (es : List ListedEdit) (s : State) → change_listing (record { edits = edits_from es; from = s }) ≡ changed_by es (listing s)
+pub changed_is : (es : List ListedEdit) (s : State)
+    → change_listing (record { edits = edits_from es; from = s }) ≡ changed_by es (listing s)
 changed_is es s = λ i. record { edits = in_order es i; from = listing s; effect = effect_seen es s i }
 
 -- what an entry did, with its effect as lists
@@ -118,13 +131,15 @@ abbrev pub change_in : ℕ → List ListedLine → Option ListedChange
 change_in n [] = None
 change_in n (l ∷ ls) = change_or_line n l.act (change_in n ls)
 
-or_seen : (n : ℕ) (a : Act) (o : Option Change) → option_map change_listing (change_or n a o) ≡ change_or_line n (act_listing a) (option_map change_listing o)
+or_seen : (n : ℕ) (a : Act) (o : Option Change)
+    → option_map change_listing (change_or n a o) ≡ change_or_line n (act_listing a) (option_map change_listing o)
 or_seen n (step x s l) o = refl
 or_seen n (change m c) o = cond_seen (option_map change_listing) (n == m) (Some c) o
 or_seen n (undoing m) o = refl
 or_seen n nothing o = refl
 
-pub change_seen : (n : ℕ) (ls : List MarkedEntry) → option_map change_listing (change_at n ls) ≡ change_in n (lines_listing ls)
+pub change_seen : (n : ℕ) (ls : List MarkedEntry)
+    → option_map change_listing (change_at n ls) ≡ change_in n (lines_listing ls)
 change_seen n [] = refl
 change_seen n (l ∷ ls) = or_seen n l.act (change_at n ls) ∙ ap (change_or_line n (act_listing l.act)) (change_seen n ls)
 
@@ -154,7 +169,8 @@ struck_line_if true by l = struck_line by l
 struck_line_if false by l = l
 
 -- a line is struck as its listing is
-struck_seen : (b : Bool) (by : Mark) (l : MarkedEntry) → line_listing (struck_if b by l) ≡ struck_line_if b by (line_listing l)
+struck_seen : (b : Bool) (by : Mark) (l : MarkedEntry)
+    → line_listing (struck_if b by l) ≡ struck_line_if b by (line_listing l)
 struck_seen true by l = refl
 struck_seen false by l = refl
 
@@ -165,7 +181,8 @@ strike_lines xs n (l ∷ ls) = if changes_at n l.act then struck_line (undone_wi
     else struck_line_if (steps_on xs l.act) (undone_with n) l ∷ strike_lines xs n ls
 
 -- an undo strikes the same listed lines
-strike_seen : (xs : List SubId) (n : ℕ) (ls : List MarkedEntry) → lines_listing (strike xs n ls) ≡ strike_lines xs n (lines_listing ls)
+strike_seen : (xs : List SubId) (n : ℕ) (ls : List MarkedEntry)
+    → lines_listing (strike xs n ls) ≡ strike_lines xs n (lines_listing ls)
 unfolding strike strike_lines
 strike_seen xs n [] = refl
 strike_seen xs n (l ∷ ls) = cond_seen lines_listing (is_change n l.act) _ _
@@ -180,7 +197,8 @@ back_lines n ls = map (λ (l : ListedLine). record { act = l.act; mark = unstruc
 -- the same listed lines come back
 back_seen : (n : ℕ) (ls : List MarkedEntry) → lines_listing (taken_back n ls) ≡ back_lines n (lines_listing ls)
 back_seen n [] = refl
-back_seen n (l ∷ ls) = ap (λ rest. record { act = act_listing l.act; mark = unstruck_mark n l.mark } ∷ rest) (back_seen n ls)
+back_seen n (l ∷ ls) = ap (λ rest. record { act = act_listing l.act; mark = unstruck_mark n l.mark } ∷ rest)
+    (back_seen n ls)
 
 -- a redo of this change on listed lines
 unfoldable pub restore_lines : List SubId → ℕ → List ListedLine → List ListedLine
@@ -189,7 +207,8 @@ restore_lines xs n (l ∷ ls) = if undoes_at n l.act then l ∷ back_lines n ls
     else struck_line_if (steps_on xs l.act) lost l ∷ restore_lines xs n ls
 
 -- a redo strikes and takes back the same listed lines
-restore_seen : (xs : List SubId) (n : ℕ) (ls : List MarkedEntry) → lines_listing (restore xs n ls) ≡ restore_lines xs n (lines_listing ls)
+restore_seen : (xs : List SubId) (n : ℕ) (ls : List MarkedEntry)
+    → lines_listing (restore xs n ls) ≡ restore_lines xs n (lines_listing ls)
 unfolding restore restore_lines
 restore_seen xs n [] = refl
 restore_seen xs n (l ∷ ls) = cond_seen lines_listing (is_undo n l.act) _ _
@@ -204,9 +223,12 @@ remarked_lines (Redone n) ls = restore_lines (altered_in n ls) n ls
 remarked_lines _ ls = ls
 
 -- an answer leaves the same listed lines
-pub remarked_seen : (a : Answer) (ls : List MarkedEntry) → lines_listing (entries_after a ls) ≡ remarked_lines a (lines_listing ls)
-remarked_seen (Undone n) ls = strike_seen (altered_by_change n ls) n ls ∙ ap (λ xs. strike_lines xs n (lines_listing ls)) (altered_seen n ls)
-remarked_seen (Redone n) ls = restore_seen (altered_by_change n ls) n ls ∙ ap (λ xs. restore_lines xs n (lines_listing ls)) (altered_seen n ls)
+pub remarked_seen : (a : Answer) (ls : List MarkedEntry)
+    → lines_listing (entries_after a ls) ≡ remarked_lines a (lines_listing ls)
+remarked_seen (Undone n) ls =
+    strike_seen (altered_by_change n ls) n ls ∙ ap (λ xs. strike_lines xs n (lines_listing ls)) (altered_seen n ls)
+remarked_seen (Redone n) ls =
+    restore_seen (altered_by_change n ls) n ls ∙ ap (λ xs. restore_lines xs n (lines_listing ls)) (altered_seen n ls)
 remarked_seen (Io a) ls = refl
 remarked_seen (Begun a) ls = refl
 remarked_seen (Ended a) ls = refl
@@ -240,7 +262,8 @@ store_in_seen : (s : State) → store_listing (store_of s) ≡ store_in (listing
 store_in_seen s = λ i. record { records = entries s.config; cells = cells_seen s.numbers i; lives = entries s.lives }
 
 state_from_seen : (m : Store) → listing (state_of m) ≡ state_from (store_listing m)
-state_from_seen m = λ i. record { records = entries m.records; numbers = numbering_seen m.numbers i; lives = entries m.lives }
+state_from_seen m = λ i.
+    record { records = entries m.records; numbers = numbering_seen m.numbers i; lives = entries m.lives }
 
 -- cells overwritten
 abbrev pub store_with_listed : ListedEffect → ListedStore → ListedStore
@@ -250,7 +273,8 @@ store_with_listed f m = record {
   lives = put_cells sub_id_cmp f.lives m.lives;
 }
 
-store_with_seen : (f : Effect) (m : Store) → store_listing (store_with f m) ≡ store_with_listed (effect_listing f) (store_listing m)
+store_with_seen : (f : Effect) (m : Store)
+    → store_listing (store_with f m) ≡ store_with_listed (effect_listing f) (store_listing m)
 store_with_seen f m = λ i. record {
   records = entries-with_cells keys_total keys_exact (entries f.records) m.records i;
   cells = entries-with_cells cells_total cells_exact (entries f.numbers) m.numbers i;
@@ -282,13 +306,15 @@ act_writes_seen : (a : Act) → effect_listing (effect_of_act a) ≡ act_writes 
 act_writes_seen (step x s l) = λ i. record {
   records = entries-empty keys_total keys_exact i;
   numbers = entries-empty cells_total cells_exact i;
-  lives = (entries-insert sub_ids_total empty x l ∙ ap (put sub_id_cmp x l) (entries-empty sub_ids_total sub_ids_exact)) i;
+  lives = (entries-insert sub_ids_total empty x l ∙ ap (put sub_id_cmp x l) (entries-empty sub_ids_total sub_ids_exact))
+      i;
 }
 act_writes_seen (change n c) = refl
 act_writes_seen (undoing n) = none_seen
 act_writes_seen nothing = none_seen
 
-line_writes_seen : (mark : Mark) (f : Effect) → effect_listing (effect_if_kept mark f) ≡ line_writes mark (effect_listing f)
+line_writes_seen : (mark : Mark) (f : Effect)
+    → effect_listing (effect_if_kept mark f) ≡ line_writes mark (effect_listing f)
 line_writes_seen kept f = refl
 line_writes_seen (undone_with n) f = none_seen
 line_writes_seen lost f = none_seen
@@ -298,18 +324,24 @@ unfoldable pub replay_lines : ListedStore → List ListedLine → ListedStore
 replay_lines m [] = m
 replay_lines m (l ∷ ls) = store_with_listed (line_writes l.mark (act_writes l.act)) (replay_lines m ls)
 
-replay_seen : (m : Store) (ls : List MarkedEntry) → store_listing (replay m ls) ≡ replay_lines (store_listing m) (lines_listing ls)
+replay_seen : (m : Store) (ls : List MarkedEntry)
+    → store_listing (replay m ls) ≡ replay_lines (store_listing m) (lines_listing ls)
 unfolding replay_lines
 replay_seen m [] = refl
 replay_seen m (l ∷ ls) = store_with_seen (effect_of_entry l) (replay m ls)
-    ∙ (λ i. store_with_listed ((line_writes_seen l.mark (effect_of_act l.act) ∙ ap (line_writes l.mark) (act_writes_seen l.act)) i) (replay_seen m ls i))
+    ∙ (λ i. store_with_listed
+    ((line_writes_seen l.mark (effect_of_act l.act) ∙ ap (line_writes l.mark) (act_writes_seen l.act)) i)
+    (replay_seen m ls i))
 
 -- the state that lines give
 abbrev pub state_by : ListedState → List ListedLine → ListedState
 state_by y ls = state_from (replay_lines (store_in y) ls)
 
-pub store_by_seen : (opening : State) (ls : List MarkedEntry) → store_listing (replay (store_of opening) ls) ≡ replay_lines (store_in (listing opening)) (lines_listing ls)
-store_by_seen opening ls = replay_seen (store_of opening) ls ∙ ap (λ m. replay_lines m (lines_listing ls)) (store_in_seen opening)
+pub store_by_seen : (opening : State) (ls : List MarkedEntry)
+    → store_listing (replay (store_of opening) ls) ≡ replay_lines (store_in (listing opening)) (lines_listing ls)
+store_by_seen opening ls =
+    replay_seen (store_of opening) ls ∙ ap (λ m. replay_lines m (lines_listing ls)) (store_in_seen opening)
 
-pub state_by_seen : (opening : State) (ls : List MarkedEntry) → listing (state_of (replay (store_of opening) ls)) ≡ state_by (listing opening) (lines_listing ls)
+pub state_by_seen : (opening : State) (ls : List MarkedEntry)
+    → listing (state_of (replay (store_of opening) ls)) ≡ state_by (listing opening) (lines_listing ls)
 state_by_seen opening ls = state_from_seen (replay (store_of opening) ls) ∙ ap state_from (store_by_seen opening ls)

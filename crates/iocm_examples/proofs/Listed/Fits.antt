@@ -1,5 +1,6 @@
 -- Whether a change fits a state, on lists.
-use Rattle.std.proofs.Common.{◌≡◌, ◌==◌, Bool, false, ◌&&◌, ◌||◌, not, is_some, Option, None, Some, List, [], ◌∷◌, ◌++◌, map, if◌then◌else◌, refl, sym, ap, ◌∙◌}
+use Rattle.std.proofs.Common.{◌≡◌, ◌==◌, Bool, false, ◌&&◌, ◌||◌, not, is_some, Option, None, Some, List, [], ◌∷◌, ◌++◌}
+use Rattle.std.proofs.Common.{map, if◌then◌else◌, refl, sym, ap, ◌∙◌}
 use Rattle.std.specs.List.{list_all}
 use Rattle.std.specs.Option.{option_map, option_and_then}
 use Rattle.std.specs.declared.cmp.Ordering.{Ordering}
@@ -13,16 +14,21 @@ use Rattle.iocm_model.specs.Operation.State.{State, views_in}
 use Rattle.iocm_model.specs.Change.Edit.{Edit, action_key, config_after, same_view, state_after}
 use Rattle.iocm_model.specs.Change.Inverse.{inverse_of}
 use Rattle.iocm_model.specs.Change.Refusal.{refusal_by_key}
-use Rattle.iocm_history.specs.Fits.{goes_back_at, goes_back, is_barred, goes_back_in, state_before, state_before_all, keeps_the_rules, fits}
+use Rattle.iocm_history.specs.Fits.{goes_back_at, goes_back, is_barred, goes_back_in, state_before, state_before_all}
+use Rattle.iocm_history.specs.Fits.{keeps_the_rules, fits}
 use Rattle.iocm_history.specs.Change.{Change}
 use Rattle.iocm_examples.proofs.Listed.Maps.{cond_seen, same_by_entries, entries_in_order}
 use Rattle.iocm_examples.proofs.Listed.Views.{cells_listed, cells_seen, views_seen}
 use Rattle.iocm_examples.proofs.Listed.Rules.{first_breach_listed, first_breach_seen}
-use Rattle.iocm_examples.proofs.Listed.States.{ListedState, listing, views_at, ListedEdit, edit_from, records_after_listed, records_seen, taken_listed, taken_seen, state_after_listed, state_after_seen, inverse_to, inverse_listed, inverse_seen}
+use Rattle.iocm_examples.proofs.Listed.States.{ListedState, listing, views_at, ListedEdit, edit_from}
+use Rattle.iocm_examples.proofs.Listed.States.{records_after_listed, records_seen, taken_listed, taken_seen}
+use Rattle.iocm_examples.proofs.Listed.States.{state_after_listed, state_after_seen, inverse_to, inverse_listed}
+use Rattle.iocm_examples.proofs.Listed.States.{inverse_seen}
 use Rattle.iocm_examples.proofs.Listed.Effects.{edits_from}
 
 -- cells go back, on lists
-abbrev goes_back_on : {K X : Type 0} → (K → K → Ordering) → (X → X → Bool) → List (K × X) → List (K × X) → List (K × X) → List (K × X) → Bool
+abbrev goes_back_on : {K X : Type 0} → (K → K → Ordering) → (X → X → Bool) → List (K × X) → List (K × X) → List (K × X)
+    → List (K × X) → Bool
 goes_back_on R same old new here there =
     list_all (λ key. goes_back_at same (find R key old) (find R key new) (find R key here) (find R key there))
     (map (λ e. e.0) old ++ (map (λ e. e.0) new ++ (map (λ e. e.0) here ++ map (λ e. e.0) there)))
@@ -31,8 +37,10 @@ goes_back_on R same old new here there =
 goes_back_seen : {K X : Type 0} {R : K → K → Ordering} (same : X → X → Bool) (old new here there : FinMap R X)
     → goes_back same old new here there ≡ goes_back_on R same (entries old) (entries new) (entries here) (entries there)
 goes_back_seen same old new here there = λ i.
-    list_all (λ key. goes_back_at same (get-entries old key i) (get-entries new key i) (get-entries here key i) (get-entries there key i))
-    (map (λ e. e.0) (entries old) ++ (map (λ e. e.0) (entries new) ++ (map (λ e. e.0) (entries here) ++ map (λ e. e.0) (entries there))))
+    list_all (λ key. goes_back_at same (get-entries old key i) (get-entries new key i) (get-entries here key i)
+    (get-entries there key i))
+    (map (λ e. e.0) (entries old)
+    ++ (map (λ e. e.0) (entries new) ++ (map (λ e. e.0) (entries here) ++ map (λ e. e.0) (entries there))))
 
 -- an edit is refused though every subchannel be quiet
 abbrev barred_listed : ListedEdit → ListedState → Bool
@@ -49,7 +57,8 @@ barred_seen e s =
 -- states before and after that
 abbrev back_between : ListedState → ListedState → ListedEdit → ListedState → ListedState → Bool
 back_between x t f y z = not (barred_listed f y)
-    && goes_back_on cell_cmp ◌==◌ (cells_listed x.numbers) (cells_listed t.numbers) (cells_listed y.numbers) (cells_listed z.numbers)
+    && goes_back_on cell_cmp ◌==◌ (cells_listed x.numbers) (cells_listed t.numbers) (cells_listed y.numbers)
+    (cells_listed z.numbers)
     && goes_back_on sub_id_cmp same_view (views_at x) (views_at t) (views_at y) (views_at z)
 
 abbrev before_between : ListedState → ListedState → ListedEdit → ListedState → ListedState → Option ListedState
@@ -65,7 +74,8 @@ before_from e x t y = before_by x t (inverse_to e x t) y
 unfoldable pub before_listed : ListedEdit → ListedState → ListedState → Option ListedState
 before_listed e x y = before_from e x (state_after_listed e x) y
 
-before_seen : (e : ListedEdit) (s u : State) → option_map listing (state_before (edit_from e) s u) ≡ before_listed e (listing s) (listing u)
+before_seen : (e : ListedEdit) (s u : State)
+    → option_map listing (state_before (edit_from e) s u) ≡ before_listed e (listing s) (listing u)
 unfolding before_listed inverse_listed
 before_seen e s u =
     let t = state_after (edit_from e) s in let f = inverse_listed e (listing s) in
@@ -73,16 +83,20 @@ before_seen e s u =
     let inverse = inverse_seen e s in
     let kept : goes_back_in (edit_from e) s u ≡ back_between (listing s) (listing t) f (listing u) (listing z) =
     (λ i. not (is_barred (inverse i) u)
-    && goes_back ◌==◌ (cells_of s.numbers) (cells_of t.numbers) (cells_of u.numbers) (cells_of (state_after (inverse i) u).numbers)
+    && goes_back ◌==◌ (cells_of s.numbers) (cells_of t.numbers) (cells_of u.numbers)
+    (cells_of (state_after (inverse i) u).numbers)
     && goes_back same_view (views_in s) (views_in t) (views_in u) (views_in (state_after (inverse i) u)))
     ∙ (λ i. not (barred_seen f u i)
     && goes_back_seen ◌==◌ (cells_of s.numbers) (cells_of t.numbers) (cells_of u.numbers) (cells_of z.numbers) i
     && goes_back_seen same_view (views_in s) (views_in t) (views_in u) (views_in z) i)
     ∙ (λ i. not (barred_listed f (listing u))
-    && goes_back_on cell_cmp ◌==◌ (cells_seen s.numbers i) (cells_seen t.numbers i) (cells_seen u.numbers i) (cells_seen z.numbers i)
-    && goes_back_on sub_id_cmp same_view (views_seen s.config s.numbers i) (views_seen t.config t.numbers i) (views_seen u.config u.numbers i)
+    && goes_back_on cell_cmp ◌==◌ (cells_seen s.numbers i) (cells_seen t.numbers i) (cells_seen u.numbers i)
+    (cells_seen z.numbers i)
+    && goes_back_on sub_id_cmp same_view (views_seen s.config s.numbers i) (views_seen t.config t.numbers i)
+    (views_seen u.config u.numbers i)
     (views_seen z.config z.numbers i)) in
-    cond_seen (option_map listing) (goes_back_in (edit_from e) s u) (Some (state_after (inverse_of (edit_from e) s) u)) None
+    cond_seen (option_map listing) (goes_back_in (edit_from e) s u) (Some (state_after (inverse_of (edit_from e) s) u))
+    None
     ∙ (λ i. if kept i then Some (listing (state_after (inverse i) u)) else None)
     ∙ (λ i. before_between (listing s) (state_after_seen e s i) f (listing u) (state_after_seen f u i))
 
@@ -92,11 +106,13 @@ before_all_listed [] x y = Some y
 before_all_listed (e ∷ es) x y = option_and_then (before_listed e x) (before_all_listed es (state_after_listed e x) y)
 
 then_seen : (e : ListedEdit) (s : State) (o : Option State)
-    → option_map listing (option_and_then (state_before (edit_from e) s) o) ≡ option_and_then (before_listed e (listing s)) (option_map listing o)
+    → option_map listing (option_and_then (state_before (edit_from e) s) o)
+    ≡ option_and_then (before_listed e (listing s)) (option_map listing o)
 then_seen e s None = refl
 then_seen e s (Some u) = before_seen e s u
 
-before_all_seen : (es : List ListedEdit) (s u : State) → option_map listing (state_before_all (edits_from es) s u) ≡ before_all_listed es (listing s) (listing u)
+before_all_seen : (es : List ListedEdit) (s u : State)
+    → option_map listing (state_before_all (edits_from es) s u) ≡ before_all_listed es (listing s) (listing u)
 unfolding before_all_listed
 before_all_seen [] s u = refl
 before_all_seen (e ∷ es) s u =

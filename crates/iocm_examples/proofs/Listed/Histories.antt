@@ -1,11 +1,13 @@
 -- Histories as lists: what each call makes of the lines, of what is staged, of the book and of the
 -- answers so far.
-use Rattle.std.proofs.Common.{◌≡◌, ℕ, zero, suc, ◌+◌, ◌-◌, Bool, true, false, Ok, Err, Option, Some, None, List, [], ◌∷◌, map, length, take, refl, sym, ap, subst, ◌∙◌}
+use Rattle.std.proofs.Common.{◌≡◌, ℕ, zero, suc, ◌+◌, ◌-◌, Bool, true, false, Ok, Err, Option, Some, None, List, []}
+use Rattle.std.proofs.Common.{◌∷◌, map, length, take, refl, sym, ap, subst, ◌∙◌}
 use Rattle.std.specs.List.{fold}
 use Rattle.std.specs.Option.{option_map}
 use Rattle.std.specs.FinMap.{find, get-entries, len-entries}
 use Rattle.iocm_types.specs.declared.answer.Answer.{Answer}
-use Rattle.iocm_types.specs.declared.answer.Answer.TheVariants.{Changed, Undone, Redone, Shown, Refused, Io, Begun, Ended, Held, Staged, Left, Aborted}
+use Rattle.iocm_types.specs.declared.answer.Answer.TheVariants.{Changed, Undone, Redone, Shown, Refused, Io, Begun}
+use Rattle.iocm_types.specs.declared.answer.Answer.TheVariants.{Ended, Held, Staged, Left, Aborted}
 use Rattle.iocm_types.specs.declared.refused.At.TheVariants.{Nothing}
 use Rattle.iocm_types.specs.declared.rule.Rule.{Rule}
 use Rattle.iocm_types.specs.declared.rule.Rule.TheVariants.{O1, O2}
@@ -15,20 +17,27 @@ use Rattle.iocm_model.specs.Operation.State.{State, views_in, is_among}
 use Rattle.iocm_model.specs.Change.Refusal.{refusal_at, first_not_quiet}
 use Rattle.iocm_model.specs.Change.Meaning.{Outcome, meaning}
 use Rattle.iocm_model.specs.Operation.Step.{Step, order, device_begin, device_end, after_step, answer_in}
-use Rattle.iocm_history.specs.Entry.{Call, at, activate, begin, advance, commit, abort, undo, redo, show, Entry, History, plain_entry}
+use Rattle.iocm_history.specs.Entry.{Call, at, activate, begin, advance, commit, abort, undo, redo, show, Entry}
+use Rattle.iocm_history.specs.Entry.{History, plain_entry}
 use Rattle.iocm_history.specs.Change.{change_of}
 use Rattle.iocm_history.specs.MarkedEntry.{kept, MarkedEntry, altered_by_change}
 use Rattle.iocm_history.specs.Stage.{Stage, advanced, is_held}
 use Rattle.iocm_history.specs.Account.{committed, act_of, Account, account_after, account, marked_entries, state_at}
 use Rattle.iocm_history.specs.StandsOn.{stands_on}
 use Rattle.iocm_history.specs.Journal.{Journal, journal_after, journal_of}
-use Rattle.iocm_history.specs.Legal.{unless_held, unless_staged, activated, begun, advance_answer, commit_entry, abort_answer, undo_answer, redo_answer, show_answer, not_quiet_of, entry_of}
+use Rattle.iocm_history.specs.Legal.{unless_held, unless_staged, activated, begun, advance_answer, commit_entry}
+use Rattle.iocm_history.specs.Legal.{abort_answer, undo_answer, redo_answer, show_answer, not_quiet_of, entry_of}
 use Rattle.iocm_history.specs.Run.{run, answers_of}
 use Rattle.iocm_examples.proofs.Listed.Views.{views_seen}
-use Rattle.iocm_examples.proofs.Listed.States.{ListedState, listing, views_at, ListedEdit, busy_listed, busy_seen, answer_listed, answer_seen, after_step_listed, after_step_seen}
+use Rattle.iocm_examples.proofs.Listed.States.{ListedState, listing, views_at, ListedEdit, busy_listed, busy_seen}
+use Rattle.iocm_examples.proofs.Listed.States.{answer_listed, answer_seen, after_step_listed, after_step_seen}
 use Rattle.iocm_examples.proofs.Listed.Effects.{edits_from}
-use Rattle.iocm_examples.proofs.Listed.Trees.{ListedPlan, plan_from, ListedOutcome, outcome_listing, meaning_listed, meaning_seen}
-use Rattle.iocm_examples.proofs.Listed.Entries.{ListedChange, change_listing, changed_by, changed_is, ListedAct, a_step, a_change, an_undo, no_act, act_listing, ListedLine, lines_listing, altered_in, altered_seen, remarked_lines, remarked_seen, state_by, state_by_seen}
+use Rattle.iocm_examples.proofs.Listed.Trees.{ListedPlan, plan_from, ListedOutcome, outcome_listing, meaning_listed}
+use Rattle.iocm_examples.proofs.Listed.Trees.{meaning_seen}
+use Rattle.iocm_examples.proofs.Listed.Entries.{ListedChange, change_listing, changed_by, changed_is, ListedAct, a_step}
+use Rattle.iocm_examples.proofs.Listed.Entries.{a_change, an_undo, no_act, act_listing, ListedLine, lines_listing}
+use Rattle.iocm_examples.proofs.Listed.Entries.{altered_in, altered_seen, remarked_lines, remarked_seen, state_by}
+use Rattle.iocm_examples.proofs.Listed.Entries.{state_by_seen}
 use Rattle.iocm_examples.proofs.Listed.StandsOn.{stands_on_lines, stands_on_seen}
 
 -- ---- accounts
@@ -124,7 +133,8 @@ held_by x None = false
 
 abbrev step_lines : Bool → SubId → Step → ListedState → ListedHistory → ListedHistory
 step_lines true x s y m = made Held no_act m.stage m
-step_lines false x s y m = made (answer_listed y x s) (a_step x s (find sub_id_cmp x (after_step_listed x s y).lives)) m.stage m
+step_lines false x s y m =
+    made (answer_listed y x s) (a_step x s (find sub_id_cmp x (after_step_listed x s y).lives)) m.stage m
 
 -- an activation with this outcome, as the change of this number or refused
 abbrev activated_lines : List ListedEdit → ℕ → ListedState → ListedOutcome → ListedHistory → ListedHistory
@@ -137,7 +147,8 @@ activate_lines None p es y m = activated_lines es (m.journal.count + 1) y (meani
 
 -- a Begin
 abbrev begun_lines : List ListedEdit → ListedState → ListedOutcome → ListedHistory → ListedHistory
-begun_lines es y (Ok r) m = made (Staged (length es)) no_act (Some (record { change = changed_by es y; edits = length es; advances = 0 })) m
+begun_lines es y (Ok r) m =
+    made (Staged (length es)) no_act (Some (record { change = changed_by es y; edits = length es; advances = 0 })) m
 begun_lines es y (Err why) m = made (Refused why) no_act m.stage m
 
 abbrev begin_lines : Option ListedStage → ListedPlan → List ListedEdit → ListedState → ListedHistory → ListedHistory
@@ -170,7 +181,8 @@ undone_lines a m = made a (undo_act a) m.stage m
 
 abbrev undo_lines : Option ListedStage → ℕ → ListedState → ListedHistory → ListedHistory
 undo_lines (Some g) n y m = refused_lines O1 m
-undo_lines None n y m = undone_lines (undo_answer n m.journal.standing (stands_on_lines n m.marked y) (busy_listed y.lives (altered_in n m.marked))) m
+undo_lines None n y m = undone_lines
+    (undo_answer n m.journal.standing (stands_on_lines n m.marked y) (busy_listed y.lives (altered_in n m.marked))) m
 
 abbrev redo_lines : Option ListedStage → ℕ → ListedState → ListedHistory → ListedHistory
 redo_lines (Some g) n y m = refused_lines O1 m
@@ -179,7 +191,12 @@ redo_lines None n y m = made (redo_answer n m.journal (busy_listed y.lives (alte
 -- what a machine counts, of a listed state
 abbrev show_answer_listed : ListedState → Journal → Answer
 show_answer_listed y b =
-    Shown (record { records = length y.records; subchannels = length (views_at y); standing = length b.standing; undone = length b.undone })
+    Shown (record {
+      records = length y.records;
+      subchannels = length (views_at y);
+      standing = length b.standing;
+      undone = length b.undone;
+    })
 
 abbrev show_lines : Option ListedStage → ListedState → ListedHistory → ListedHistory
 show_lines (Some g) y m = refused_lines O1 m
@@ -265,7 +282,8 @@ right_first (redoes n) y rest now later = later
 right_first shows y rest now later = later
 
 -- the state of a history
-state_seen : (opening : State) (h : History) → listing (state_at opening h) ≡ state_by (listing opening) (history_listing opening h).marked
+state_seen : (opening : State) (h : History)
+    → listing (state_at opening h) ≡ state_by (listing opening) (history_listing opening h).marked
 state_seen opening h = state_by_seen opening (marked_entries opening h)
 
 -- the first subchannel of a change that isn't quiet is that of the listing
@@ -292,7 +310,8 @@ IsGiven (Ok r) = Unit {0}
 IsGiven (Err why) = ⊥
 
 -- the change that an accepted tree means
-meant_is : (es : List ListedEdit) (o : Outcome) (s : State) → HasEdits es (outcome_listing o) → IsGiven o → change_listing (change_of o s) ≡ changed_by es (listing s)
+meant_is : (es : List ListedEdit) (o : Outcome) (s : State) → HasEdits es (outcome_listing o) → IsGiven o
+    → change_listing (change_of o s) ≡ changed_by es (listing s)
 meant_is es (Ok r) s right given = ap (λ fs. change_listing (record { edits = fs; from = s })) right ∙ changed_is es s
 meant_is es (Err why) s right given = absurd given
 
@@ -320,55 +339,84 @@ module _ (opening : State) (h : History) where
   abbrev after : Entry → ListedHistory
   after e = history_listing opening (e ∷ h)
 
-  step_is : (x : SubId) (p : Step) (b : Bool) → after (plain_entry (at x p) (unless_held b (answer_in s x p))) ≡ step_lines b x p y m
+  step_is : (x : SubId) (p : Step) (b : Bool)
+      → after (plain_entry (at x p) (unless_held b (answer_in s x p))) ≡ step_lines b x p y m
   step_is x p true = made_seen opening (plain_entry (at x p) Held) h no_act m.stage refl refl
   step_is x (order o) false = made_seen opening (plain_entry (at x (order o)) (answer_in s x (order o))) h
       (a_step x (order o) (find sub_id_cmp x (after_step_listed x (order o) y).lives)) m.stage
-      (ap (a_step x (order o)) (get-entries (after_step x (order o) s).lives x ∙ ap (λ (z : ListedState). find sub_id_cmp x z.lives) (after_step_seen x (order o) s))) refl
-      ∙ ap (λ r. made r (a_step x (order o) (find sub_id_cmp x (after_step_listed x (order o) y).lives)) m.stage m) (answer_seen s x (order o))
+      (ap (a_step x (order o))
+      (get-entries (after_step x (order o) s).lives x
+      ∙ ap (λ (z : ListedState). find sub_id_cmp x z.lives) (after_step_seen x (order o) s))) refl
+      ∙ ap (λ r. made r (a_step x (order o) (find sub_id_cmp x (after_step_listed x (order o) y).lives)) m.stage m)
+      (answer_seen s x (order o))
   step_is x device_begin false = made_seen opening (plain_entry (at x device_begin) (answer_in s x device_begin)) h
       (a_step x device_begin (find sub_id_cmp x (after_step_listed x device_begin y).lives)) m.stage
-      (ap (a_step x device_begin) (get-entries (after_step x device_begin s).lives x ∙ ap (λ (z : ListedState). find sub_id_cmp x z.lives) (after_step_seen x device_begin s))) refl
-      ∙ ap (λ r. made r (a_step x device_begin (find sub_id_cmp x (after_step_listed x device_begin y).lives)) m.stage m) (answer_seen s x device_begin)
+      (ap (a_step x device_begin)
+      (get-entries (after_step x device_begin s).lives x
+      ∙ ap (λ (z : ListedState). find sub_id_cmp x z.lives) (after_step_seen x device_begin s))) refl
+      ∙ ap (λ r. made r (a_step x device_begin (find sub_id_cmp x (after_step_listed x device_begin y).lives)) m.stage
+      m) (answer_seen s x device_begin)
   step_is x device_end false = made_seen opening (plain_entry (at x device_end) (answer_in s x device_end)) h
       (a_step x device_end (find sub_id_cmp x (after_step_listed x device_end y).lives)) m.stage
-      (ap (a_step x device_end) (get-entries (after_step x device_end s).lives x ∙ ap (λ (z : ListedState). find sub_id_cmp x z.lives) (after_step_seen x device_end s))) refl
-      ∙ ap (λ r. made r (a_step x device_end (find sub_id_cmp x (after_step_listed x device_end y).lives)) m.stage m) (answer_seen s x device_end)
+      (ap (a_step x device_end)
+      (get-entries (after_step x device_end s).lives x
+      ∙ ap (λ (z : ListedState). find sub_id_cmp x z.lives) (after_step_seen x device_end s))) refl
+      ∙ ap (λ r. made r (a_step x device_end (find sub_id_cmp x (after_step_listed x device_end y).lives)) m.stage m)
+      (answer_seen s x device_end)
 
-  activated_is : (p : ListedPlan) (es : List ListedEdit) (o : Outcome) → meaning (plan_from p) s ≡ o → HasEdits es (outcome_listing o)
+  activated_is : (p : ListedPlan) (es : List ListedEdit) (o : Outcome) → meaning (plan_from p) s ≡ o
+      → HasEdits es (outcome_listing o)
       → after (activated (plan_from p) n s o) ≡ activated_lines es n y (outcome_listing o) m
-  activated_is p es (Ok r) is right = made_seen opening (activated (plan_from p) n s (Ok r)) h (a_change n (changed_by es y)) m.stage
+  activated_is p es (Ok r) is right = made_seen opening (activated (plan_from p) n s (Ok r)) h
+      (a_change n (changed_by es y)) m.stage
       (ap (a_change n) (ap (λ o. change_listing (change_of o s)) is ∙ meant_is es (Ok r) s right tt)) refl
-  activated_is p es (Err why) is right = made_seen opening (activated (plan_from p) n s (Err why)) h no_act m.stage refl refl
+  activated_is p es (Err why) is right =
+      made_seen opening (activated (plan_from p) n s (Err why)) h no_act m.stage refl refl
 
-  activate_is : (p : ListedPlan) (es : List ListedEdit) (g : Option Stage) → a.stage ≡ g → HasEdits es (outcome_listing (meaning (plan_from p) s))
-      → after (unless_staged g (activate (plan_from p)) (activated (plan_from p) n s (meaning (plan_from p) s))) ≡ activate_lines (stages_listing g) p es y m
-  activate_is p es (Some g) is right = made_seen opening (plain_entry (activate (plan_from p)) (Refused (refusal_at O1 Nothing))) h no_act m.stage refl refl
-  activate_is p es None is right = activated_is p es (meaning (plan_from p) s) refl right ∙ ap (λ o. activated_lines es n y o m) (meaning_seen p s)
+  activate_is : (p : ListedPlan) (es : List ListedEdit) (g : Option Stage) → a.stage ≡ g
+      → HasEdits es (outcome_listing (meaning (plan_from p) s))
+      → after (unless_staged g (activate (plan_from p)) (activated (plan_from p) n s (meaning (plan_from p) s)))
+      ≡ activate_lines (stages_listing g) p es y m
+  activate_is p es (Some g) is right =
+      made_seen opening (plain_entry (activate (plan_from p)) (Refused (refusal_at O1 Nothing))) h no_act m.stage refl
+      refl
+  activate_is p es None is right =
+      activated_is p es (meaning (plan_from p) s) refl right ∙ ap (λ o. activated_lines es n y o m) (meaning_seen p s)
 
-  begun_is : (p : ListedPlan) (es : List ListedEdit) (o : Outcome) → meaning (plan_from p) s ≡ o → HasEdits es (outcome_listing o)
+  begun_is : (p : ListedPlan) (es : List ListedEdit) (o : Outcome) → meaning (plan_from p) s ≡ o
+      → HasEdits es (outcome_listing o)
       → after (begun (plan_from p) o) ≡ begun_lines es y (outcome_listing o) m
   begun_is p es (Ok r) is right =
       let change_is = ap (λ o. change_listing (change_of o s)) is ∙ meant_is es (Ok r) s right tt in
       let count : length r.edits ≡ length es = ap length right ∙ length_is es in
-      let edits : length (change_of (meaning (plan_from p) s) s).edits ≡ length es = ap (λ o. length (change_of o s).edits) is ∙ count in
-      made_seen opening (begun (plan_from p) (Ok r)) h no_act (Some (record { change = changed_by es y; edits = length es; advances = 0 })) refl
+      let edits : length (change_of (meaning (plan_from p) s) s).edits ≡ length es =
+      ap (λ o. length (change_of o s).edits) is ∙ count in
+      made_seen opening (begun (plan_from p) (Ok r)) h no_act
+      (Some (record { change = changed_by es y; edits = length es; advances = 0 })) refl
       (λ i. Some (record { change = change_is i; edits = edits i; advances = 0 }))
-      ∙ ap (λ k. made (Staged k) no_act (Some (record { change = changed_by es y; edits = length es; advances = 0 })) m) count
+      ∙ ap (λ k. made (Staged k) no_act (Some (record { change = changed_by es y; edits = length es; advances = 0 })) m)
+      count
   begun_is p es (Err why) is right = made_seen opening (begun (plan_from p) (Err why)) h no_act m.stage refl refl
 
-  begin_is : (p : ListedPlan) (es : List ListedEdit) (g : Option Stage) → HasEdits es (outcome_listing (meaning (plan_from p) s))
-      → after (unless_staged g (begin (plan_from p)) (begun (plan_from p) (meaning (plan_from p) s))) ≡ begin_lines (stages_listing g) p es y m
-  begin_is p es (Some g) right = made_seen opening (plain_entry (begin (plan_from p)) (Refused (refusal_at O1 Nothing))) h no_act m.stage refl refl
-  begin_is p es None right = begun_is p es (meaning (plan_from p) s) refl right ∙ ap (λ o. begun_lines es y o m) (meaning_seen p s)
+  begin_is : (p : ListedPlan) (es : List ListedEdit) (g : Option Stage)
+      → HasEdits es (outcome_listing (meaning (plan_from p) s))
+      → after (unless_staged g (begin (plan_from p)) (begun (plan_from p) (meaning (plan_from p) s)))
+      ≡ begin_lines (stages_listing g) p es y m
+  begin_is p es (Some g) right =
+      made_seen opening (plain_entry (begin (plan_from p)) (Refused (refusal_at O1 Nothing))) h no_act m.stage refl refl
+  begin_is p es None right =
+      begun_is p es (meaning (plan_from p) s) refl right ∙ ap (λ o. begun_lines es y o m) (meaning_seen p s)
 
-  advance_is : (g : Option Stage) → a.stage ≡ g → after (plain_entry advance (advance_answer g)) ≡ advance_lines (stages_listing g) m
-  advance_is (Some g) is = made_seen opening (plain_entry advance (advance_answer (Some g))) h no_act (Some (more_lines (stage_listing g))) refl
+  advance_is : (g : Option Stage) → a.stage ≡ g
+      → after (plain_entry advance (advance_answer g)) ≡ advance_lines (stages_listing g) m
+  advance_is (Some g) is = made_seen opening (plain_entry advance (advance_answer (Some g))) h no_act
+      (Some (more_lines (stage_listing g))) refl
       (ap (λ o. stages_listing (advanced o)) is)
   advance_is None is = made_seen opening (plain_entry advance (advance_answer None)) h no_act m.stage refl refl
 
   commit_is : (g : Option Stage) → a.stage ≡ g → after (commit_entry n g) ≡ commit_lines (stages_listing g) m
-  commit_is (Some g) is = made_seen opening (commit_entry n (Some g)) h (a_change n (change_listing g.change)) None (ap (λ o. act_listing (committed n o)) is) refl
+  commit_is (Some g) is = made_seen opening (commit_entry n (Some g)) h (a_change n (change_listing g.change)) None
+      (ap (λ o. act_listing (committed n o)) is) refl
   commit_is None is = made_seen opening (commit_entry n None) h no_act m.stage refl refl
 
   abort_is : (g : Option Stage) → after (plain_entry abort (abort_answer g)) ≡ abort_lines (stages_listing g) m
@@ -390,29 +438,39 @@ module _ (opening : State) (h : History) where
   undone_is k (Refused r) = made_seen opening (plain_entry (undo k) (Refused r)) h no_act m.stage refl refl
 
   undo_is : (k : ℕ) (g : Option Stage)
-      → after (unless_staged g (undo k) (plain_entry (undo k) (undo_answer k (journal_of h).standing (stands_on k a.entries s) (not_quiet_of k s a))))
+      → after (unless_staged g (undo k)
+      (plain_entry (undo k) (undo_answer k (journal_of h).standing (stands_on k a.entries s) (not_quiet_of k s a))))
       ≡ undo_lines (stages_listing g) k y m
-  undo_is k (Some g) = made_seen opening (plain_entry (undo k) (Refused (refusal_at O1 Nothing))) h no_act m.stage refl refl
+  undo_is k (Some g) = made_seen opening (plain_entry (undo k) (Refused (refusal_at O1 Nothing))) h no_act m.stage refl
+      refl
   undo_is k None = undone_is k (undo_answer k (journal_of h).standing (stands_on k a.entries s) (not_quiet_of k s a))
-      ∙ (λ i. undone_lines (undo_answer k (journal_of h).standing (stands_on_seen k a.entries s i) (busy_is s k a.entries y refl i)) m)
+      ∙ (λ i. undone_lines (undo_answer k (journal_of h).standing (stands_on_seen k a.entries s i)
+      (busy_is s k a.entries y refl i)) m)
 
   redo_is : (k : ℕ) (g : Option Stage)
-      → after (unless_staged g (redo k) (plain_entry (redo k) (redo_answer k (journal_of h) (not_quiet_of k s a)))) ≡ redo_lines (stages_listing g) k y m
-  redo_is k (Some g) = made_seen opening (plain_entry (redo k) (Refused (refusal_at O1 Nothing))) h no_act m.stage refl refl
-  redo_is k None = made_seen opening (plain_entry (redo k) (redo_answer k (journal_of h) (not_quiet_of k s a))) h no_act m.stage refl refl
+      → after (unless_staged g (redo k) (plain_entry (redo k) (redo_answer k (journal_of h) (not_quiet_of k s a))))
+      ≡ redo_lines (stages_listing g) k y m
+  redo_is k (Some g) = made_seen opening (plain_entry (redo k) (Refused (refusal_at O1 Nothing))) h no_act m.stage refl
+      refl
+  redo_is k None = made_seen opening (plain_entry (redo k) (redo_answer k (journal_of h) (not_quiet_of k s a))) h no_act
+      m.stage refl refl
       ∙ ap (λ busy. made (redo_answer k (journal_of h) busy) no_act m.stage m) (busy_is s k a.entries y refl)
 
-  show_is : (g : Option Stage) → after (unless_staged g show (plain_entry show (show_answer s (journal_of h)))) ≡ show_lines (stages_listing g) y m
+  show_is : (g : Option Stage)
+      → after (unless_staged g show (plain_entry show (show_answer s (journal_of h))))
+      ≡ show_lines (stages_listing g) y m
   show_is (Some g) = made_seen opening (plain_entry show (Refused (refusal_at O1 Nothing))) h no_act m.stage refl refl
   show_is None = made_seen opening (plain_entry show (show_answer s (journal_of h))) h no_act m.stage refl refl
       ∙ ap (λ r. made r no_act m.stage m) (show_answer_is s (journal_of h))
 
-  right_seen : (p : ListedPlan) (es : List ListedEdit) → HasEdits es (meaning_listed p y) → HasEdits es (outcome_listing (meaning (plan_from p) s))
+  right_seen : (p : ListedPlan) (es : List ListedEdit) → HasEdits es (meaning_listed p y)
+      → HasEdits es (outcome_listing (meaning (plan_from p) s))
   right_seen p es right = subst (HasEdits es) (sym (meaning_seen p s)) right
 
   -- what a call makes after a history that is listed
   called_is : (c : ListedCall) → ComesRight c y → after (entry_of opening h (call_from c)) ≡ called c y m
-  called_is (stepping x p) right = step_is x p (is_held x a.stage) ∙ ap (λ b. step_lines b x p y m) (held_seen x a.stage)
+  called_is (stepping x p) right =
+      step_is x p (is_held x a.stage) ∙ ap (λ b. step_lines b x p y m) (held_seen x a.stage)
   called_is (activating p es) right = activate_is p es a.stage refl (right_seen p es right)
   called_is (beginning p es) right = begin_is p es a.stage (right_seen p es right)
   called_is advancing right = advance_is a.stage refl
@@ -428,11 +486,13 @@ call_is : (opening : State) (y : ListedState) → listing opening ≡ y → (c :
     → history_listing opening (entry_of opening h (call_from c) ∷ h) ≡ call_listed y c m
 unfolding call_listed
 call_is opening y is c h m so right =
-    let state : listing (state_at opening h) ≡ state_by y m.marked = state_seen opening h ∙ (λ i. state_by (is i) (so i).marked) in
+    let state : listing (state_at opening h) ≡ state_by y m.marked =
+    state_seen opening h ∙ (λ i. state_by (is i) (so i).marked) in
     called_is opening h c (subst (ComesRight c) (sym state) right) ∙ (λ i. called c (state i) (so i))
 
 -- what calls make, one after the other
-calls_are : (opening : State) (y : ListedState) → listing opening ≡ y → (cs : List ListedCall) (h : History) (m : ListedHistory)
+calls_are : (opening : State) (y : ListedState) → listing opening ≡ y
+    → (cs : List ListedCall) (h : History) (m : ListedHistory)
     → history_listing opening h ≡ m → ComeRight y cs m
     → history_listing opening (fold (λ g call. entry_of opening g call ∷ g) h (calls_from cs)) ≡ calls_listed y cs m
 unfolding calls_listed ComeRight
@@ -440,11 +500,17 @@ calls_are opening y is [] h m so right = so
 calls_are opening y is (c ∷ cs) h m so right =
     let rest = ComeRight y cs (call_listed y c m) in
     let now = right_now c (state_by y m.marked) rest right in
-    calls_are opening y is cs _ (call_listed y c m) (call_is opening y is c h m so now) (right_later c (state_by y m.marked) rest right)
+    calls_are opening y is cs _ (call_listed y c m) (call_is opening y is c h m so now)
+    (right_later c (state_by y m.marked) rest right)
 
 -- nothing was called
 abbrev pub uncalled : ListedHistory
-uncalled = record { marked = []; stage = None; journal = record { count = 0; standing = []; undone = [] }; answers = [] }
+uncalled = record {
+  marked = [];
+  stage = None;
+  journal = record { count = 0; standing = []; undone = [] };
+  answers = [];
+}
 
 -- the empty history is listed so
 nothing_called : (opening : State) → history_listing opening [] ≡ uncalled
@@ -452,18 +518,21 @@ unfolding account
 nothing_called opening = refl
 
 -- the history of a run, listed
-pub run_is : (opening : State) (y : ListedState) → listing opening ≡ y → (cs : List ListedCall) → ComeRight y cs uncalled
+pub run_is : (opening : State) (y : ListedState) → listing opening ≡ y → (cs : List ListedCall)
+    → ComeRight y cs uncalled
     → history_listing opening (run opening (calls_from cs)) ≡ calls_listed y cs uncalled
 run_is opening y is cs right = calls_are opening y is cs [] uncalled (nothing_called opening) right
 
 -- its last state, listed
-pub last_state_is : (opening : State) (y : ListedState) → listing opening ≡ y → (cs : List ListedCall) → ComeRight y cs uncalled
+pub last_state_is : (opening : State) (y : ListedState) → listing opening ≡ y → (cs : List ListedCall)
+    → ComeRight y cs uncalled
     → listing (state_at opening (run opening (calls_from cs))) ≡ state_by y (calls_listed y cs uncalled).marked
 last_state_is opening y is cs right = state_seen opening (run opening (calls_from cs))
     ∙ (λ i. state_by (is i) (run_is opening y is cs right i).marked)
 
 -- the first calls come right where all do
-pub first_come_right : (y : ListedState) (n : ℕ) (cs : List ListedCall) (m : ListedHistory) → ComeRight y cs m → ComeRight y (take n cs) m
+pub first_come_right : (y : ListedState) (n : ℕ) (cs : List ListedCall) (m : ListedHistory) → ComeRight y cs m
+    → ComeRight y (take n cs) m
 unfolding ComeRight
 first_come_right y zero cs m right = tt
 first_come_right y (suc n) [] m right = tt
@@ -471,4 +540,5 @@ first_come_right y (suc n) (c ∷ cs) m right =
     let now = state_by y m.marked in
     let next = call_listed y c m in
     let rest = ComeRight y cs next in
-    right_first c now (ComeRight y (take n cs) next) (right_now c now rest right) (first_come_right y n cs next (right_later c now rest right))
+    right_first c now (ComeRight y (take n cs) next) (right_now c now rest right)
+    (first_come_right y n cs next (right_later c now rest right))

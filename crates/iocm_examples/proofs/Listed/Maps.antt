@@ -1,9 +1,12 @@
 -- Finite maps seen as lists of entries in the order of their keys: what each operation does to the
 -- list.
-use Rattle.std.proofs.Common.{◌≡◌, List, T, sym, ap, ◌∙◌, Bool, true, false, cond, not, Option, None, Some, [], ◌∷◌, ◌++◌, map, filter, refl}
+use Rattle.std.proofs.Common.{◌≡◌, List, T, sym, ap, ◌∙◌, Bool, true, false, cond, not, Option, None, Some, [], ◌∷◌}
+use Rattle.std.proofs.Common.{◌++◌, map, filter, refl}
 use Rattle.std.specs.declared.cmp.Ordering.{Ordering}
 use Rattle.std.specs.Cmp.{IsTotalOrder, eq_by_cmp_equiv}
-use Rattle.std.specs.FinMap.{IsAntisymmetric, is_sorted, entries, from_entries, same_map, get-from_entries, get-from_sorted, entries-from_sorted, FinMap, find, put, entries_sorted, get, remove, retain_keys, empty, get-entries, get-empty, get-remove, get-retain_keys, entries-insert}
+use Rattle.std.specs.FinMap.{IsAntisymmetric, is_sorted, entries, from_entries, same_map, get-from_entries}
+use Rattle.std.specs.FinMap.{get-from_sorted, entries-from_sorted, FinMap, find, put, entries_sorted, get, remove}
+use Rattle.std.specs.FinMap.{retain_keys, empty, get-entries, get-empty, get-remove, get-retain_keys, entries-insert}
 use Rattle.std.specs.List.{fold}
 use Rattle.std.specs.Option.{option_eq}
 use Rattle.std.specs.Ordering.{eq_by_cmp}
@@ -12,13 +15,16 @@ use Rattle.std.specs.FinMap.Entries.{where_key, is_sorted-where_key, find-where_
 use Rattle.iocm_model.specs.Change.Maps.{with_value, with_cells, cells_at, differing}
 
 -- the entries of a map that is made of a list in order are that list
-pub entries_in_order : {K X : Type 0} (R : K → K → Ordering) → IsTotalOrder R → IsAntisymmetric R → (es : List (K × X)) → T (is_sorted R es)
+pub entries_in_order : {K X : Type 0} (R : K → K → Ordering) → IsTotalOrder R → IsAntisymmetric R → (es : List (K × X))
+    → T (is_sorted R es)
     → entries (from_entries {R = R} es) ≡ es
 entries_in_order R total exact es sorted =
-    ap entries (same_map total exact _ _ (λ q. get-from_entries total es q ∙ sym (get-from_sorted R es q sorted))) ∙ entries-from_sorted R es sorted
+    ap entries (same_map total exact _ _ (λ q. get-from_entries total es q ∙ sym (get-from_sorted R es q sorted)))
+    ∙ entries-from_sorted R es sorted
 
 -- a function of the first items of a fold is the fold of its steps
-pub fold_seen : {A B X : Type 0} (see : A → B) (f : A → X → A) (g : B → X → B) → ((a : A) (x : X) → see (f a x) ≡ g (see a) x)
+pub fold_seen : {A B X : Type 0} (see : A → B) (f : A → X → A) (g : B → X → B)
+    → ((a : A) (x : X) → see (f a x) ≡ g (see a) x)
     → (a : A) (xs : List X) → see (fold f a xs) ≡ fold g (see a) xs
 fold_seen see f g step a [] = refl
 fold_seen see f g step a (x ∷ xs) = fold_seen see f g step (f a x) xs ∙ ap (λ b. fold g b xs) (step a x)
@@ -60,11 +66,13 @@ module _ {K X : Type 0} (R : K → K → Ordering) where
 
   -- the keys at which two lists differ
   abbrev pub keys_differing : (X → X → Bool) → List (K × X) → List (K × X) → List K
-  keys_differing same es fs = filter (λ key. not (option_eq same (find R key es) (find R key fs))) (map (λ e. e.0) (put_all (es ++ fs)))
+  keys_differing same es fs =
+      filter (λ key. not (option_eq same (find R key es) (find R key fs))) (map (λ e. e.0) (put_all (es ++ fs)))
 
 module _ {K X : Type 0} {R : K → K → Ordering} (total : IsTotalOrder R) (exact : IsAntisymmetric R) where
   -- a list in order that answers as a map does has its entries
-  pub entries_found : (m : FinMap R X) (es : List (K × X)) → T (is_sorted R es) → ((q : K) → get m q ≡ find R q es) → entries m ≡ es
+  pub entries_found : (m : FinMap R X) (es : List (K × X)) → T (is_sorted R es) → ((q : K) → get m q ≡ find R q es)
+      → entries m ≡ es
   entries_found m es sorted found =
       same_entries R total exact (entries m) es (entries_sorted m) sorted (λ q. sym (get-entries m q) ∙ found q)
 
@@ -79,19 +87,23 @@ module _ {K X : Type 0} {R : K → K → Ordering} (total : IsTotalOrder R) (exa
   -- the entries of a map that is made of a list
   pub entries-from_entries : (es : List (K × X)) → entries (from_entries {R = R} es) ≡ put_all R es
   entries-from_entries [] = entries-empty
-  entries-from_entries (e ∷ es) = entries-insert total (from_entries es) e.0 e.1 ∙ ap (put R e.0 e.1) (entries-from_entries es)
+  entries-from_entries (e ∷ es) =
+      entries-insert total (from_entries es) e.0 e.1 ∙ ap (put R e.0 e.1) (entries-from_entries es)
 
   -- the entries of a map whose keys pass a test
   pub entries-retain_keys : (m : FinMap R X) (p : K → Bool) → entries (retain_keys m p) ≡ where_key R p (entries m)
-  entries-retain_keys m p = entries_found (retain_keys m p) (where_key R p (entries m)) (is_sorted-where_key R p (entries m) (entries_sorted m))
-      (λ q. get-retain_keys m p q (alike q) ∙ ap (λ o. cond (p q) o None) (get-entries m q) ∙ sym (find-where_key R p q (alike q) (entries m)))
+  entries-retain_keys m p = entries_found (retain_keys m p) (where_key R p (entries m))
+      (is_sorted-where_key R p (entries m) (entries_sorted m))
+      (λ q. get-retain_keys m p q (alike q) ∙ ap (λ o. cond (p q) o None) (get-entries m q)
+      ∙ sym (find-where_key R p q (alike q) (entries m)))
     where
       alike : (q x : K) → R q x ≡ Equal → p x ≡ p q
       alike q x is = ap p (sym (exact q x is))
 
   -- the entries of a map without a key
   pub entries-remove : (m : FinMap R X) (key : K) → entries (remove m key) ≡ without R key (entries m)
-  entries-remove m key = entries_found (remove m key) (without R key (entries m)) (is_sorted-where_key R other (entries m) (entries_sorted m))
+  entries-remove m key = entries_found (remove m key) (without R key (entries m))
+      (is_sorted-where_key R other (entries m) (entries_sorted m))
       (λ q. get-remove total m key q ∙ ap (λ b. cond b None (get m q)) ((eq_by_cmp_equiv total).symm q key)
       ∙ turned (eq_by_cmp R key q) None (get m q)
       ∙ ap (λ o. cond (other q) o None) (get-entries m q) ∙ sym (find-where_key R other q (alike q) (entries m)))
@@ -103,17 +115,21 @@ module _ {K X : Type 0} {R : K → K → Ordering} (total : IsTotalOrder R) (exa
       alike q x is = ap other (sym (exact q x is))
 
   -- the entries of a map with this at a key
-  pub entries-with_value : (m : FinMap R X) (key : K) (o : Option X) → entries (with_value m key o) ≡ put_or_without R key o (entries m)
+  pub entries-with_value : (m : FinMap R X) (key : K) (o : Option X)
+      → entries (with_value m key o) ≡ put_or_without R key o (entries m)
   entries-with_value m key (Some x) = entries-insert total m key x
   entries-with_value m key None = entries-remove m key
 
   -- the entries of a map with cells overwritten
-  pub entries-with_cells : (ws : List (K × Option X)) (m : FinMap R X) → entries (with_cells ws m) ≡ put_cells R ws (entries m)
+  pub entries-with_cells : (ws : List (K × Option X)) (m : FinMap R X)
+      → entries (with_cells ws m) ≡ put_cells R ws (entries m)
   entries-with_cells [] m = refl
-  entries-with_cells (w ∷ ws) m = entries-with_value (with_cells ws m) w.0 w.1 ∙ ap (put_or_without R w.0 w.1) (entries-with_cells ws m)
+  entries-with_cells (w ∷ ws) m =
+      entries-with_value (with_cells ws m) w.0 w.1 ∙ ap (put_or_without R w.0 w.1) (entries-with_cells ws m)
 
   -- two maps differ at the keys at which their entries do
-  pub differing_seen : (same : X → X → Bool) (m n : FinMap R X) → differing same m n ≡ keys_differing R same (entries m) (entries n)
+  pub differing_seen : (same : X → X → Bool) (m n : FinMap R X)
+      → differing same m n ≡ keys_differing R same (entries m) (entries n)
   differing_seen same m n = λ i. filter (λ key. not (option_eq same (get-entries m key i) (get-entries n key i)))
       (map (λ e. e.0) (entries-from_entries (entries m ++ entries n) i))
 

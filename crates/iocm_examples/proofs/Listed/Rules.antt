@@ -1,5 +1,6 @@
 -- The rules, from the entries of a configuration and of a numbering as lists.
-use Rattle.std.proofs.Common.{◌≡◌, ℕ, ◌+◌, ◌==◌, ◌&&◌, ◌||◌, nat_le, nat_lt, Bool, false, not, is_none, length, List, [], ◌∷◌, ◌++◌, map, Option, unwrap_or, refl, ap, ◌∙◌}
+use Rattle.std.proofs.Common.{◌≡◌, ℕ, ◌+◌, ◌==◌, ◌&&◌, ◌||◌, nat_le, nat_lt, Bool, false, not, is_none, length, List}
+use Rattle.std.proofs.Common.{[], ◌∷◌, ◌++◌, map, Option, unwrap_or, refl, ap, ◌∙◌}
 use Rattle.std.specs.List.{list_any, filter_map}
 use Rattle.std.specs.Option.{option_map_or}
 use Rattle.std.specs.FinMap.{get, find, entries, get-entries}
@@ -15,7 +16,9 @@ use Rattle.iocm_model.specs.Machine.Configuration.{Configuration, Lookup, lookup
 use Rattle.iocm_model.specs.Machine.PathList.{paths_in, path_list}
 use Rattle.iocm_model.specs.Machine.Sight.{record_lists}
 use Rattle.iocm_model.specs.Machine.Numbering.{Numbering, subsystems}
-use Rattle.iocm_model.specs.Rules.EachRule.{same_name, stands_before, has_twice, is_image_named, breaks_v3_by_kind, is_exclusive, is_online_at, links_in, has_overlap, lacks_address, answers_on, limit_or_default, answers_for}
+use Rattle.iocm_model.specs.Rules.EachRule.{same_name, stands_before, has_twice, is_image_named, breaks_v3_by_kind}
+use Rattle.iocm_model.specs.Rules.EachRule.{is_exclusive, is_online_at, links_in, has_overlap, lacks_address}
+use Rattle.iocm_model.specs.Rules.EachRule.{answers_on, limit_or_default, answers_for}
 use Rattle.iocm_model.specs.Rules.FirstBreach.{Breach, rules_of, first_breach_of, first_breach}
 use Rattle.iocm_examples.proofs.Listed.Views.{Records, Numbers, record_in, lookup_seen}
 
@@ -30,7 +33,8 @@ v1_by rs _ = false
 
 abbrev v2_by : List ImageRecord → Rec → Bool
 v2_by images (path p) =
-    list_any (λ name. not (list_any (λ (i : ImageRecord). i.css == p.css && same_name name i.name) images)) (p.access ++ p.candidates)
+    list_any (λ name. not (list_any (λ (i : ImageRecord). i.css == p.css && same_name name i.name) images))
+    (p.access ++ p.candidates)
 v2_by images _ = false
 
 abbrev v3_by : Rec → Bool
@@ -72,11 +76,13 @@ v10_by rs (device d) = some_of rs (device d) (answers_on d.unit_address d.units)
 v10_by rs _ = false
 
 abbrev v11_by : Lookup → Rec → Bool
-v11_by at (device d) = list_any (λ css. let paths = path_list at css d.units in nat_lt 8 (length paths) || has_twice paths) subsystems
+v11_by at (device d) = list_any
+    (λ css. let paths = path_list at css d.units in nat_lt 8 (length paths) || has_twice paths) subsystems
 v11_by at _ = false
 
 abbrev v12_by : List ImageRecord → Rec → Bool
-v12_by images (device d) = list_any (λ name. not (list_any (λ (i : ImageRecord). same_name name i.name) images)) (unwrap_or d.candidates [])
+v12_by images (device d) =
+    list_any (λ name. not (list_any (λ (i : ImageRecord). same_name name i.name) images)) (unwrap_or d.candidates [])
 v12_by images _ = false
 
 abbrev v13_by : Lookup → (Place → Option ℕ) → Rec → Bool
@@ -90,12 +96,14 @@ v14_by rs _ = false
 
 -- the rules in their order, each with the records that break it
 abbrev pub rules_by : Lookup → List Rec → List ImageRecord → (Place → Option ℕ) → List (Rule × (Rec → Bool))
-rules_by at rs images number_at = (V1, v1_by rs) ∷ (V2, v2_by images) ∷ (V3, v3_by) ∷ (V4, v4_by at rs) ∷ (V5, v5_by at) ∷ (V6, v6_by)
+rules_by at rs images number_at =
+    (V1, v1_by rs) ∷ (V2, v2_by images) ∷ (V3, v3_by) ∷ (V4, v4_by at rs) ∷ (V5, v5_by at) ∷ (V6, v6_by)
     ∷ (V7, v7_by) ∷ (V8, v8_by at) ∷ (V9, v9_by at) ∷ (V10, v10_by rs) ∷ (V11, v11_by at) ∷ (V12, v12_by images)
     ∷ (V13, v13_by at number_at) ∷ (V14, v14_by rs) ∷ []
 
 -- the rules of a configuration and a numbering are these
-pub rules_seen : (c : Configuration) (n : Numbering) → rules_of c n ≡ rules_by (lookup_of c) (records_of c) (filter_map as_image (records_of c)) (get n)
+pub rules_seen : (c : Configuration) (n : Numbering)
+    → rules_of c n ≡ rules_by (lookup_of c) (records_of c) (filter_map as_image (records_of c)) (get n)
 rules_seen c n = refl
 
 -- the first breach by the look-up, the numbers and the records
@@ -107,7 +115,8 @@ unfoldable pub first_breach_listed : Records → Numbers → Option Breach
 first_breach_listed es n = breach_by (record_in es) (λ p. find place_cmp p n) (map (λ e. e.1) es)
 
 -- the first breach of a configuration and a numbering is that of their entries
-pub first_breach_seen : (c : Configuration) (n : Numbering) → first_breach c n ≡ first_breach_listed (entries c) (entries n)
+pub first_breach_seen : (c : Configuration) (n : Numbering)
+    → first_breach c n ≡ first_breach_listed (entries c) (entries n)
 unfolding first_breach_listed
 first_breach_seen c n = ap (λ rules. first_breach_of rules (records_of c)) (rules_seen c n)
     ∙ (λ i. breach_by (lookup_seen c i) (λ p. get-entries n p i) (records_of c))

@@ -1,8 +1,10 @@
 -- States as lists: what edits and steps do to them, and when an edit is refused.
-use Rattle.std.proofs.Common.{◌≡◌, ℕ, ◌&&◌, ◌||◌, Bool, not, is_some, Option, None, Some, List, map, filter, if◌then◌else◌, refl, sym, ap, ◌∙◌}
+use Rattle.std.proofs.Common.{◌≡◌, ℕ, ◌&&◌, ◌||◌, Bool, not, is_some, Option, None, Some, List, map, filter}
+use Rattle.std.proofs.Common.{if◌then◌else◌, refl, sym, ap, ◌∙◌}
 use Rattle.std.specs.List.{filter_map, list_any}
 use Rattle.std.specs.Option.{option_map, option_or, option_eq, option_zip}
-use Rattle.std.specs.FinMap.{get, find, put, entries, entries_sorted, from_entries, retain_keys, get-entries, entries-insert}
+use Rattle.std.specs.FinMap.{get, find, put, entries, entries_sorted, from_entries, retain_keys, get-entries}
+use Rattle.std.specs.FinMap.{entries-insert}
 use Rattle.std.specs.FinMap.Entries.{where_key, is_sorted-where_key}
 use Rattle.std.specs.List as lists
 use Rattle.iocm_types.specs.declared.key.Key.{Key}
@@ -23,12 +25,19 @@ use Rattle.iocm_model.specs.Machine.Numbering.{Numbering, opening, is_reached_at
 use Rattle.iocm_model.specs.Change.Renumbering.{numbers_after}
 use Rattle.iocm_model.specs.Machine.View.{views}
 use Rattle.iocm_model.specs.Operation.State.{State, seen_in, Lives, Views, views_of, views_in, fresh_row, opening_state}
-use Rattle.iocm_model.specs.Change.Edit.{Action, Edit, action_key, record_after, config_after, same_view, live_after_edit, lives_after_edit, state_after, altered_between, is_altered}
-use Rattle.iocm_model.specs.Change.Refusal.{refusal_at, refusal_by_key, same_cell, has_cell_twice, is_number_taken, is_not_quiet, first_not_quiet, refusal_by_subchannel, refusal_of}
+use Rattle.iocm_model.specs.Change.Edit.{Action, Edit, action_key, record_after, config_after, same_view}
+use Rattle.iocm_model.specs.Change.Edit.{live_after_edit, lives_after_edit, state_after, altered_between, is_altered}
+use Rattle.iocm_model.specs.Change.Refusal.{refusal_at, refusal_by_key, same_cell, has_cell_twice, is_number_taken}
+use Rattle.iocm_model.specs.Change.Refusal.{is_not_quiet, first_not_quiet, refusal_by_subchannel, refusal_of}
 use Rattle.iocm_model.specs.Change.Inverse.{action_back, inverse_of}
-use Rattle.iocm_model.specs.Operation.Step.{Step, subchannel_in, step_answer, answer_in, live_after_step, lives_after_step, after_step}
-use Rattle.iocm_examples.proofs.Listed.Maps.{entries_in_order, put_all, put_or_without, keys_differing, same_by_entries, entries-from_entries, entries-retain_keys, entries-with_value, differing_seen}
-use Rattle.iocm_examples.proofs.Listed.Views.{Records, Numbers, ViewList, is_place_in, places_listed, places_seen, opening_listed, opening_seen, rows_listed, rows_seen, views_listed, views_seen, numbers_after_listed, numbers_after_seen}
+use Rattle.iocm_model.specs.Operation.Step.{Step, subchannel_in, step_answer, answer_in, live_after_step}
+use Rattle.iocm_model.specs.Operation.Step.{lives_after_step, after_step}
+use Rattle.iocm_examples.proofs.Listed.Maps.{entries_in_order, put_all, put_or_without, keys_differing, same_by_entries}
+use Rattle.iocm_examples.proofs.Listed.Maps.{entries-from_entries, entries-retain_keys, entries-with_value}
+use Rattle.iocm_examples.proofs.Listed.Maps.{differing_seen}
+use Rattle.iocm_examples.proofs.Listed.Views.{Records, Numbers, ViewList, is_place_in, places_listed, places_seen}
+use Rattle.iocm_examples.proofs.Listed.Views.{opening_listed, opening_seen, rows_listed, rows_seen, views_listed}
+use Rattle.iocm_examples.proofs.Listed.Views.{views_seen, numbers_after_listed, numbers_after_seen}
 
 -- live records as a list
 abbrev pub LiveList : Type 0
@@ -58,7 +67,8 @@ views_at x = views_listed x.records x.numbers
 
 -- a state at opening
 abbrev opening_state_with : Records → Numbers → ListedState
-opening_state_with es n = record { records = es; numbers = n; lives = put_all sub_id_cmp (map fresh_row (rows_listed es n)) }
+opening_state_with es n =
+    record { records = es; numbers = n; lives = put_all sub_id_cmp (map fresh_row (rows_listed es n)) }
 
 -- the state at opening of these records
 unfoldable pub opening_state_listed : Records → ListedState
@@ -71,7 +81,8 @@ opening_state_seen c = λ i. record {
   records = entries c;
   numbers = opening_seen c i;
   lives = (entries-from_entries sub_ids_total sub_ids_exact (map fresh_row (views c (opening c)))
-      ∙ ap (λ rows. put_all sub_id_cmp (map fresh_row rows)) (rows_seen c (opening c) ∙ ap (rows_listed (entries c)) (opening_seen c))) i;
+      ∙ ap (λ rows. put_all sub_id_cmp (map fresh_row rows))
+      (rows_seen c (opening c) ∙ ap (rows_listed (entries c)) (opening_seen c))) i;
 }
 
 -- an edit with its live records in a list
@@ -87,17 +98,21 @@ edit_from e = record { action = e.action; places = e.places; lives = from_entrie
 -- the live records after the views have changed
 abbrev lives_by : (SubId → Option View) → ViewList → (SubId → Option Live) → (SubId → Option Live) → LiveList
 lives_by old new carried lives = put_all sub_id_cmp (filter_map
-    (λ (e : SubId × View). option_map (λ (l : Live). (e.0, l)) (live_after_edit (old e.0) e.1 (carried e.0) (lives e.0))) new)
+    (λ (e : SubId × View). option_map (λ (l : Live). (e.0, l))
+    (live_after_edit (old e.0) e.1 (carried e.0) (lives e.0))) new)
 
 -- the live records after the views have changed, on lists
 abbrev pub lives_listed : ViewList → ViewList → LiveList → LiveList → LiveList
-lives_listed old new carried lives = lives_by (λ x. find sub_id_cmp x old) new (λ x. find sub_id_cmp x carried) (λ x. find sub_id_cmp x lives)
+lives_listed old new carried lives =
+    lives_by (λ x. find sub_id_cmp x old) new (λ x. find sub_id_cmp x carried) (λ x. find sub_id_cmp x lives)
 
 -- live records change as their entries do
 lives_seen : (old new : Views) (carried lives : Lives)
-    → entries (lives_after_edit old new carried lives) ≡ lives_listed (entries old) (entries new) (entries carried) (entries lives)
+    → entries (lives_after_edit old new carried lives)
+    ≡ lives_listed (entries old) (entries new) (entries carried) (entries lives)
 lives_seen old new carried lives = entries-from_entries sub_ids_total sub_ids_exact _
-    ∙ (λ i. lives_by (λ x. get-entries old x i) (entries new) (λ x. get-entries carried x i) (λ x. get-entries lives x i))
+    ∙ (λ i. lives_by (λ x. get-entries old x i) (entries new) (λ x. get-entries carried x i)
+    (λ x. get-entries lives x i))
 
 -- the records after an action, and the state after an edit
 abbrev pub records_after_listed : Action → Records → Records
@@ -105,7 +120,12 @@ records_after_listed a es = put_or_without key_cmp (action_key a) (record_after 
 
 -- a state after an edit, with these records and numbers
 abbrev state_after_with : ListedEdit → ListedState → Records → Numbers → ListedState
-state_after_with e x es n = record { records = es; numbers = n; lives = lives_listed (views_at x) (views_listed es n) (put_all sub_id_cmp e.lives) x.lives }
+state_after_with e x es n =
+    record {
+      records = es;
+      numbers = n;
+      lives = lives_listed (views_at x) (views_listed es n) (put_all sub_id_cmp e.lives) x.lives;
+    }
 
 -- a state after an edit, with these records
 abbrev state_after_from : ListedEdit → ListedState → Records → ListedState
@@ -120,13 +140,15 @@ pub records_seen : (a : Action) (c : Configuration) → entries (config_after a 
 records_seen a c = entries-with_value keys_total keys_exact c (action_key a) (record_after a)
 
 -- an edit does to the numbers of a state what it does to their entries
-numbers_seen : (e : ListedEdit) (s : State) → entries (numbers_after (config_after e.action s.config) e.places s.numbers)
+numbers_seen : (e : ListedEdit) (s : State)
+    → entries (numbers_after (config_after e.action s.config) e.places s.numbers)
     ≡ numbers_after_listed (records_after_listed e.action (entries s.config)) e.places (entries s.numbers)
 numbers_seen e s = numbers_after_seen (config_after e.action s.config) e.places s.numbers
     ∙ ap (λ es. numbers_after_listed es e.places (entries s.numbers)) (records_seen e.action s.config)
 
 -- an edit does to a state what it does to its lists
-pub state_after_seen : (e : ListedEdit) (s : State) → listing (state_after (edit_from e) s) ≡ state_after_listed e (listing s)
+pub state_after_seen : (e : ListedEdit) (s : State)
+    → listing (state_after (edit_from e) s) ≡ state_after_listed e (listing s)
 unfolding state_after_listed
 state_after_seen e s =
     let c = config_after e.action s.config in
@@ -160,7 +182,8 @@ taken_by places number_at staying carried =
 
 -- among these numbers
 abbrev taken_in : Numbers → List (Place × ℕ) → List Place → Bool
-taken_in n carried places = taken_by places (λ p. find place_cmp p n) (where_key place_cmp (is_place_in places) n) carried
+taken_in n carried places =
+    taken_by places (λ p. find place_cmp p n) (where_key place_cmp (is_place_in places) n) carried
 
 -- among these numbers, once the records are these
 abbrev pub taken_listed : Records → Numbers → List (Place × ℕ) → Bool
@@ -170,7 +193,8 @@ taken_listed es n carried = taken_in n carried (places_listed es)
 pub taken_seen : (c : Configuration) (n : Numbering) (carried : List (Place × ℕ))
     → is_number_taken c n carried ≡ taken_listed (entries c) (entries n) carried
 taken_seen c n carried =
-    (λ i. taken_by (reached_places c) (λ p. get-entries n p i) (entries-retain_keys places_total places_exact n (is_reached_at c) i) carried)
+    (λ i. taken_by (reached_places c) (λ p. get-entries n p i)
+    (entries-retain_keys places_total places_exact n (is_reached_at c) i) carried)
     ∙ ap (taken_in (entries n) carried) (places_seen c)
 
 -- the first subchannel that isn't quiet
@@ -193,7 +217,8 @@ refusal_by a there taken busy = option_or (refusal_by_key a there)
 -- why an edit is refused in a state, on lists
 unfoldable pub refusal_listed : ListedEdit → ListedState → Option Refused
 refusal_listed e x = refusal_by e.action (is_some (find key_cmp (action_key e.action) x.records))
-    (taken_listed (records_after_listed e.action x.records) x.numbers e.places) (busy_listed x.lives (altered_listed x (state_after_listed e x)))
+    (taken_listed (records_after_listed e.action x.records) x.numbers e.places)
+    (busy_listed x.lives (altered_listed x (state_after_listed e x)))
 
 -- an edit is refused in a state as it is in its lists
 pub refusal_seen : (e : ListedEdit) (s : State) → refusal_of (edit_from e) s ≡ refusal_listed e (listing s)
@@ -228,12 +253,16 @@ inverse_listed e x = inverse_to e x (state_after_listed e x)
 
 -- the live records of the subchannels that are altered
 kept_seen : (s t : State)
-    → retain_keys s.lives (is_altered s t) ≡ from_entries (kept_listed (views_at (listing s)) (views_at (listing t)) (entries s.lives))
-kept_seen s t = same_by_entries sub_ids_total sub_ids_exact _ _ (entries-retain_keys sub_ids_total sub_ids_exact s.lives (is_altered s t)
+    → retain_keys s.lives (is_altered s t)
+    ≡ from_entries (kept_listed (views_at (listing s)) (views_at (listing t)) (entries s.lives))
+kept_seen s t = same_by_entries sub_ids_total sub_ids_exact _ _
+    (entries-retain_keys sub_ids_total sub_ids_exact s.lives (is_altered s t)
     ∙ sym (entries_in_order sub_id_cmp sub_ids_total sub_ids_exact _
     (is_sorted-where_key sub_id_cmp (is_altered s t) (entries s.lives) (entries_sorted s.lives))))
-    ∙ (λ i. from_entries (kept_by (λ x. get-entries (views_in s) x i) (λ x. get-entries (views_in t) x i) (entries s.lives)))
-    ∙ (λ i. from_entries (kept_listed (views_seen s.config s.numbers i) (views_seen t.config t.numbers i) (entries s.lives)))
+    ∙ (λ i. from_entries (kept_by (λ x. get-entries (views_in s) x i) (λ x. get-entries (views_in t) x i)
+    (entries s.lives)))
+    ∙ (λ i. from_entries (kept_listed (views_seen s.config s.numbers i) (views_seen t.config t.numbers i)
+    (entries s.lives)))
 
 -- the inverse of an edit in a state is that in its lists
 pub inverse_seen : (e : ListedEdit) (s : State) → inverse_of (edit_from e) s ≡ edit_from (inverse_listed e (listing s))
@@ -253,23 +282,28 @@ subchannel_listed x at = option_zip (find sub_id_cmp at (views_at x)) (find sub_
 -- a subchannel is in a state as it is in its lists
 pub subchannel_seen : (s : State) (x : SubId) → subchannel_in s x ≡ subchannel_listed (listing s) x
 subchannel_seen s x =
-    λ i. option_zip ((get-entries (views_in s) x ∙ ap (find sub_id_cmp x) (views_seen s.config s.numbers)) i) (get-entries s.lives x i)
+    λ i. option_zip ((get-entries (views_in s) x ∙ ap (find sub_id_cmp x) (views_seen s.config s.numbers)) i)
+    (get-entries s.lives x i)
 
 -- what is seen at a subchannel, and its live record, in a state that is listed
-pub seen_at_is : (s : State) (y : ListedState) (x : SubId) → listing s ≡ y → seen_in s x ≡ find sub_id_cmp x (views_at y)
+pub seen_at_is : (s : State) (y : ListedState) (x : SubId) → listing s ≡ y
+    → seen_in s x ≡ find sub_id_cmp x (views_at y)
 seen_at_is s y x is =
-    get-entries (views_in s) x ∙ ap (find sub_id_cmp x) (views_seen s.config s.numbers) ∙ ap (λ z. find sub_id_cmp x (views_at z)) is
+    get-entries (views_in s) x ∙ ap (find sub_id_cmp x) (views_seen s.config s.numbers)
+    ∙ ap (λ z. find sub_id_cmp x (views_at z)) is
 
 -- the live record at a subchannel, in a state that is listed
 pub live_at_is : (s : State) (y : ListedState) (x : SubId) → listing s ≡ y → get s.lives x ≡ find sub_id_cmp x y.lives
 live_at_is s y x is = get-entries s.lives x ∙ ap (λ (z : ListedState). find sub_id_cmp x z.lives) is
 
 -- the record of a key, in a state that is listed
-pub record_at_is : (s : State) (y : ListedState) (key : Key) → listing s ≡ y → get s.config key ≡ find key_cmp key y.records
+pub record_at_is : (s : State) (y : ListedState) (key : Key) → listing s ≡ y
+    → get s.config key ≡ find key_cmp key y.records
 record_at_is s y key is = get-entries s.config key ∙ ap (λ (z : ListedState). find key_cmp key z.records) is
 
 -- the number of a place, in a state that is listed
-pub number_at_is : (s : State) (y : ListedState) (p : Place) → listing s ≡ y → get s.numbers p ≡ find place_cmp p y.numbers
+pub number_at_is : (s : State) (y : ListedState) (p : Place) → listing s ≡ y
+    → get s.numbers p ≡ find place_cmp p y.numbers
 number_at_is s y p is = get-entries s.numbers p ∙ ap (λ (z : ListedState). find place_cmp p z.numbers) is
 
 -- the answer to a step
@@ -288,7 +322,12 @@ lives_after_step_listed at step None lives = lives
 
 -- the lists of a state after a step
 unfoldable pub after_step_listed : SubId → Step → ListedState → ListedState
-after_step_listed at step x = record { records = x.records; numbers = x.numbers; lives = lives_after_step_listed at step (subchannel_listed x at) x.lives }
+after_step_listed at step x =
+    record {
+      records = x.records;
+      numbers = x.numbers;
+      lives = lives_after_step_listed at step (subchannel_listed x at) x.lives;
+    }
 
 -- a step does to live records what it does to their entries
 lives_after_step_seen : (x : SubId) (step : Step) (o : Option (View × Live)) (lives : Lives)
@@ -297,18 +336,22 @@ lives_after_step_seen x step (Some p) lives = entries-insert sub_ids_total lives
 lives_after_step_seen x step None lives = refl
 
 -- a step does to a state what it does to its lists
-pub after_step_seen : (x : SubId) (step : Step) (s : State) → listing (after_step x step s) ≡ after_step_listed x step (listing s)
+pub after_step_seen : (x : SubId) (step : Step) (s : State)
+    → listing (after_step x step s) ≡ after_step_listed x step (listing s)
 unfolding after_step_listed
 after_step_seen x step s = λ i. record {
   records = entries s.config;
   numbers = entries s.numbers;
-  lives = (lives_after_step_seen x step (subchannel_in s x) s.lives ∙ ap (λ o. lives_after_step_listed x step o (entries s.lives)) (subchannel_seen s x)) i;
+  lives = (lives_after_step_seen x step (subchannel_in s x) s.lives
+      ∙ ap (λ o. lives_after_step_listed x step o (entries s.lives)) (subchannel_seen s x)) i;
 }
 
 -- an answer and a step, in a state that is listed
-pub answer_is : (s : State) (y : ListedState) (x : SubId) (step : Step) → listing s ≡ y → answer_in s x step ≡ answer_listed y x step
+pub answer_is : (s : State) (y : ListedState) (x : SubId) (step : Step) → listing s ≡ y
+    → answer_in s x step ≡ answer_listed y x step
 answer_is s y x step is = answer_seen s x step ∙ ap (λ z. answer_listed z x step) is
 
 -- a step, in a state that is listed
-pub after_step_is : (x : SubId) (step : Step) (s : State) (y : ListedState) → listing s ≡ y → listing (after_step x step s) ≡ after_step_listed x step y
+pub after_step_is : (x : SubId) (step : Step) (s : State) (y : ListedState) → listing s ≡ y
+    → listing (after_step x step s) ≡ after_step_listed x step y
 after_step_is x step s y is = after_step_seen x step s ∙ ap (after_step_listed x step) is

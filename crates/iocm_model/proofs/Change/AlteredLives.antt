@@ -21,7 +21,8 @@ left_carried v new l own other = rw other refl
 -- an own live record stays as it was where the path list does
 own_same : (old new : View) (l : Live) → old.paths ≡ new.paths → own_live old new l ≡ l
 own_same old new l same =
-    let is : pointwise nat_eq old.paths new.paths ≡ true = ap (pointwise nat_eq old.paths) (sym same) ∙ nat_list_eq_equiv.refl old.paths in rw is refl
+    let is : pointwise nat_eq old.paths new.paths ≡ true =
+    ap (pointwise nat_eq old.paths) (sym same) ∙ nat_list_eq_equiv.refl old.paths in rw is refl
 
 own_other : (b : Bool) (old new : View) (l : Live) → pointwise nat_eq old.paths new.paths ≡ b → old.paths ≢ new.paths
     → cond b l (record l { lpm = new.pim }) ≡ record l { lpm = new.pim }
@@ -29,7 +30,8 @@ own_other true old new l is other = absurd (other (same_text old.paths new.paths
 own_other false old new l is other = refl
 
 -- an own live record is left where nothing comes along
-left_own : (old new : View) (l : Live) → same_view old new ≡ false → left_at (Some old) (Some new) None (Some l) ≡ Some (own_live old new l)
+left_own : (old new : View) (l : Live) → same_view old new ≡ false
+    → left_at (Some old) (Some new) None (Some l) ≡ Some (own_live old new l)
 left_own old new l other = rw other refl
 
 not_true : (b : Bool) → not b ≡ true → b ≡ false
@@ -41,13 +43,17 @@ altered_have_their_lives e s x among =
     let t = state_after e s in
     let is : get t.lives x ≡ left_at (seen_in s x) (seen_in t x) (get e.lives x) (get s.lives x)
     = lives_after_edit_at (views_in s) (views_in t) e.lives s.lives x in
-    let other : option_eq same_view (seen_in s x) (seen_in t x) ≡ false = not_true _ (sym (among_altered s t x) ∙ among) in record {
+    let other : option_eq same_view (seen_in s x) (seen_in t x) ≡ false =
+    not_true _ (sym (among_altered s t x) ∙ among) in record {
       gone = λ none. is ∙ ap (λ w. left_at (seen_in s x) w (get e.lives x) (get s.lives x)) none;
       carried = λ new l seen here. is ∙ (λ i. left_at (seen_in s x) (seen i) (here i) (get s.lives x))
-          ∙ left_carried (seen_in s x) new l (get s.lives x) (ap (option_eq same_view (seen_in s x)) (sym seen) ∙ other);
+          ∙ left_carried (seen_in s x) new l (get s.lives x)
+          (ap (option_eq same_view (seen_in s x)) (sym seen) ∙ other);
       fresh = λ new none seen without. is ∙ (λ i. left_at (none i) (seen i) (without i) (get s.lives x));
       same_paths = λ old new l was seen same without own. is ∙ (λ i. left_at (was i) (seen i) (without i) (own i))
-          ∙ left_own old new l (sym (λ i. option_eq same_view (was i) (seen i)) ∙ other) ∙ ap Some (own_same old new l same);
+          ∙ left_own old new l (sym (λ i. option_eq same_view (was i) (seen i)) ∙ other)
+          ∙ ap Some (own_same old new l same);
       other_paths = λ old new l was seen differ without own. is ∙ (λ i. left_at (was i) (seen i) (without i) (own i))
-          ∙ left_own old new l (sym (λ i. option_eq same_view (was i) (seen i)) ∙ other) ∙ ap Some (own_other _ old new l refl differ);
+          ∙ left_own old new l (sym (λ i. option_eq same_view (was i) (seen i)) ∙ other)
+          ∙ ap Some (own_other _ old new l refl differ);
     }

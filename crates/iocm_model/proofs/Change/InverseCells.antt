@@ -1,5 +1,6 @@
 -- The inverses of edits write the same cells as the edits.
-use Rattle.std.proofs.Common.{◌≡◌, ℕ, Bool, true, false, not, ◌||◌, nat_eq, eq-eqb, eqb-true, List, [], ◌∷◌, ◌++◌, Option, Some, None, refl, sym, ap, ◌∙◌}
+use Rattle.std.proofs.Common.{◌≡◌, ℕ, Bool, true, false, not, ◌||◌, nat_eq, eq-eqb, eqb-true, List, [], ◌∷◌, ◌++◌}
+use Rattle.std.proofs.Common.{Option, Some, None, refl, sym, ap, ◌∙◌}
 use Rattle.std.specs.List.{list_any}
 use Rattle.std.specs.Option.{option_eq}
 use Rattle.std.specs.Ordering.{eq_by_cmp}
@@ -65,7 +66,9 @@ regrouped : (w a m b c f : Bool) → w ≡ (a || m) → m ≡ (b || c) → f ≡
 regrouped w a m b c f all more front = all ∙ ap (λ z. a || z) more ∙ sym (or_assoc a b c) ∙ ap (λ z. z || c) (sym front)
 
 -- the cells of a run and then an edit
-last_cells : (es : List Edit) (f : Edit) (u : State) → IsOfBoth (cells_written_by_all (es ++ (f ∷ [])) u) (cells_written_by_all es u) (cells_written f (state_after_all es u))
+last_cells : (es : List Edit) (f : Edit) (u : State)
+    → IsOfBoth (cells_written_by_all (es ++ (f ∷ [])) u) (cells_written_by_all es u)
+    (cells_written f (state_after_all es u))
 last_cells [] f u =
     let all = joined_cells (cells_written f u) no_cells in
     record {
@@ -75,15 +78,21 @@ last_cells [] f u =
     }
 last_cells (e ∷ es) f u =
     let first = cells_written e u in let most = cells_written_by_all (es ++ (f ∷ [])) (state_after e u) in
-    let middle = cells_written_by_all es (state_after e u) in let last = cells_written f (state_after_all es (state_after e u)) in
-    let all = joined_cells first most in let more = last_cells es f (state_after e u) in let front = joined_cells first middle in
+    let middle = cells_written_by_all es (state_after e u) in let last =
+    cells_written f (state_after_all es (state_after e u)) in
+    let all = joined_cells first most in let more = last_cells es f (state_after e u) in let front =
+    joined_cells first middle in
     record {
-      keys = λ k. regrouped (in_keys k (both_cells first most)) (in_keys k first) (in_keys k most) (in_keys k middle) (in_keys k last)
+      keys = λ k. regrouped (in_keys k (both_cells first most)) (in_keys k first) (in_keys k most) (in_keys k middle)
+          (in_keys k last)
           (in_keys k (both_cells first middle)) (all.keys k) (more.keys k) (front.keys k);
-      numbers = λ c. regrouped (in_numbers c (both_cells first most)) (in_numbers c first) (in_numbers c most) (in_numbers c middle) (in_numbers c last)
+      numbers = λ c. regrouped (in_numbers c (both_cells first most)) (in_numbers c first) (in_numbers c most)
+          (in_numbers c middle) (in_numbers c last)
           (in_numbers c (both_cells first middle)) (all.numbers c) (more.numbers c) (front.numbers c);
-      subchannels = λ x. regrouped (in_subchannels x (both_cells first most)) (in_subchannels x first) (in_subchannels x most) (in_subchannels x middle)
-          (in_subchannels x last) (in_subchannels x (both_cells first middle)) (all.subchannels x) (more.subchannels x) (front.subchannels x);
+      subchannels = λ x. regrouped (in_subchannels x (both_cells first most)) (in_subchannels x first)
+          (in_subchannels x most) (in_subchannels x middle)
+          (in_subchannels x last) (in_subchannels x (both_cells first middle)) (all.subchannels x) (more.subchannels x)
+          (front.subchannels x);
     }
 
 -- ---- one inverse
@@ -103,19 +112,25 @@ same_turned (Some x) (Some y) = by (nat_eq x y) refl
         turn true f = let other : nat_eq x y ≡ true = eq-eqb x y (sym (eqb-true y x f)) in cc
 
 numbers_turned : (n m : Numbering) (c : NumberCell)
-    → list_any (eq_by_cmp cell_cmp c) (differing nat_eq (cells_of n) (cells_of m)) ≡ list_any (eq_by_cmp cell_cmp c) (differing nat_eq (cells_of m) (cells_of n))
+    → list_any (eq_by_cmp cell_cmp c) (differing nat_eq (cells_of n) (cells_of m))
+    ≡ list_any (eq_by_cmp cell_cmp c) (differing nat_eq (cells_of m) (cells_of n))
 numbers_turned n m c = in_differing cells_total cells_exact nat_eq (cells_of n) (cells_of m) c
-    ∙ ap not (same_turned (get (cells_of n) c) (get (cells_of m) c)) ∙ sym (in_differing cells_total cells_exact nat_eq (cells_of m) (cells_of n) c)
+    ∙ ap not (same_turned (get (cells_of n) c) (get (cells_of m) c))
+    ∙ sym (in_differing cells_total cells_exact nat_eq (cells_of m) (cells_of n) c)
 
 -- the inverse of an edit writes what the edit wrote
-inverse_cells : (e : Edit) (s v : State) → IsSound s → HasConfigAndNumbersOf v (state_after e s) → HasSameCells (cells_written (inverse_of e s) v) (cells_written e s)
+inverse_cells : (e : Edit) (s v : State) → IsSound s → HasConfigAndNumbersOf v (state_after e s)
+    → HasSameCells (cells_written (inverse_of e s) v) (cells_written e s)
 inverse_cells e s v sound like =
     let t = state_after e s in let k = action_key e.action in
     let there : state_after (inverse_of e s) v ≡ given s s.lives (altered_between s t) v = one_back e s v sound like in
-    let key : action_key (inverse_of e s).action ≡ k = back_key k (get s.config k) (record_after e.action) (keyed_own s.config sound.keyed k) in
+    let key : action_key (inverse_of e s).action ≡ k =
+    back_key k (get s.config k) (record_after e.action) (keyed_own s.config sound.keyed k) in
     record {
       keys = λ q i. list_any (eq_by_cmp key_cmp q) (key i ∷ []);
-      numbers = λ c. (λ i. list_any (eq_by_cmp cell_cmp c) (differing nat_eq (cells_of (like.numbers i)) (cells_of (there i).numbers))) ∙ numbers_turned t.numbers s.numbers c;
+      numbers = λ c. (λ i. list_any (eq_by_cmp cell_cmp c)
+          (differing nat_eq (cells_of (like.numbers i)) (cells_of (there i).numbers)))
+          ∙ numbers_turned t.numbers s.numbers c;
       subchannels = λ x. among_altered v (state_after (inverse_of e s) v) x
           ∙ (λ i. not (option_eq same_view (get (views_of (like.config i) (like.numbers i)) x) (seen_in (there i) x)))
           ∙ ap not (sight_turned (seen_in t x) (seen_in s x)) ∙ sym (among_altered s t x);
@@ -127,7 +142,8 @@ turned_over : (w a b c d f : Bool) → w ≡ (a || b) → a ≡ c → b ≡ d �
 turned_over w a b c d f all front last forth = all ∙ (λ i. front i || last i) ∙ or_turned c d ∙ sym forth
 
 pub inverses_write_the_same : InversesWriteTheSame
-inverses_write_the_same [] s u sound free like = record { keys = λ k. refl; numbers = λ c. refl; subchannels = λ x. refl }
+inverses_write_the_same [] s u sound free like =
+    record { keys = λ k. refl; numbers = λ c. refl; subchannels = λ x. refl }
 inverses_write_the_same (e ∷ es) s u sound free like =
     let t = state_after e s in let sound_t = sound_after e s sound free.0 in
     let later = (cells_written_by_all es t).subchannels in
@@ -140,14 +156,23 @@ inverses_write_the_same (e ∷ es) s u sound free like =
     let forth = joined_cells (cells_written e s) (cells_written_by_all es t) in
     let back = cells_written (inverse_of e s) (state_after_all (inverses es t) u) in
     record {
-      keys = λ k. turned_over (in_keys k (cells_written_by_all (inverses (e ∷ es) s) u)) (in_keys k (cells_written_by_all (inverses es t) u)) (in_keys k back)
-          (in_keys k (cells_written_by_all es t)) (in_keys k (cells_written e s)) (in_keys k (both_cells (cells_written e s) (cells_written_by_all es t)))
-          (all.keys k) (front.keys k) ((λ i. in_keys k (cells_written (inverse_of e s) (there i))) ∙ last.keys k) (forth.keys k);
-      numbers = λ c. turned_over (in_numbers c (cells_written_by_all (inverses (e ∷ es) s) u)) (in_numbers c (cells_written_by_all (inverses es t) u)) (in_numbers c back)
-          (in_numbers c (cells_written_by_all es t)) (in_numbers c (cells_written e s)) (in_numbers c (both_cells (cells_written e s) (cells_written_by_all es t)))
-          (all.numbers c) (front.numbers c) ((λ i. in_numbers c (cells_written (inverse_of e s) (there i))) ∙ last.numbers c) (forth.numbers c);
-      subchannels = λ x. turned_over (in_subchannels x (cells_written_by_all (inverses (e ∷ es) s) u)) (in_subchannels x (cells_written_by_all (inverses es t) u))
+      keys = λ k. turned_over (in_keys k (cells_written_by_all (inverses (e ∷ es) s) u))
+          (in_keys k (cells_written_by_all (inverses es t) u)) (in_keys k back)
+          (in_keys k (cells_written_by_all es t)) (in_keys k (cells_written e s))
+          (in_keys k (both_cells (cells_written e s) (cells_written_by_all es t)))
+          (all.keys k) (front.keys k) ((λ i. in_keys k (cells_written (inverse_of e s) (there i))) ∙ last.keys k)
+          (forth.keys k);
+      numbers = λ c. turned_over (in_numbers c (cells_written_by_all (inverses (e ∷ es) s) u))
+          (in_numbers c (cells_written_by_all (inverses es t) u)) (in_numbers c back)
+          (in_numbers c (cells_written_by_all es t)) (in_numbers c (cells_written e s))
+          (in_numbers c (both_cells (cells_written e s) (cells_written_by_all es t)))
+          (all.numbers c) (front.numbers c)
+          ((λ i. in_numbers c (cells_written (inverse_of e s) (there i))) ∙ last.numbers c) (forth.numbers c);
+      subchannels = λ x. turned_over (in_subchannels x (cells_written_by_all (inverses (e ∷ es) s) u))
+          (in_subchannels x (cells_written_by_all (inverses es t) u))
           (in_subchannels x back) (in_subchannels x (cells_written_by_all es t)) (in_subchannels x (cells_written e s))
           (in_subchannels x (both_cells (cells_written e s) (cells_written_by_all es t)))
-          (all.subchannels x) (front.subchannels x) ((λ i. in_subchannels x (cells_written (inverse_of e s) (there i))) ∙ last.subchannels x) (forth.subchannels x);
+          (all.subchannels x) (front.subchannels x)
+          ((λ i. in_subchannels x (cells_written (inverse_of e s) (there i))) ∙ last.subchannels x)
+          (forth.subchannels x);
     }

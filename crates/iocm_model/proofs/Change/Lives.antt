@@ -19,10 +19,12 @@ left_at v w k l = option_and_then (λ (z : View). live_after_edit v z k l) w
 pub lives_after_edit_at : (old new : Views) (carried lives : Lives) (x : SubId)
     → get (lives_after_edit old new carried lives) x ≡ left_at (get old x) (get new x) (get carried x) (get lives x)
 lives_after_edit_at old new carried lives x =
-    get_each sub_ids_total sub_ids_exact (λ (y : SubId) (w : View). live_after_edit (get old y) w (get carried y) (get lives y)) new x
+    get_each sub_ids_total sub_ids_exact
+    (λ (y : SubId) (w : View). live_after_edit (get old y) w (get carried y) (get lives y)) new x
 
 -- where the same is seen, the record stays
-pub same_keeps : (v w : Option View) (k l : Option Live) → option_eq same_view v w ≡ true → is_some l ≡ is_some v → left_at v w k l ≡ l
+pub same_keeps : (v w : Option View) (k l : Option Live) → option_eq same_view v w ≡ true → is_some l ≡ is_some v
+    → left_at v w k l ≡ l
 same_keeps None None k l same there = sym (absent l there)
 same_keeps None (Some b) k l same there = cc
 same_keeps (Some a) None k l same there = cc
@@ -60,5 +62,6 @@ left_back (Some a) None None l ul there here kept = absurd (nothing (kept ∙ th
     nothing e = cc
 left_back (Some a) None (Some y) l ul there here kept = refl
 left_back (Some a) (Some c) k l ul there here kept =
-    back_by (same_view c a) a c k ul refl (λ other. kept ∙ ap (λ b. is_some (cond (not b) l None)) (sight_turned (Some a) (Some c) ∙ other) ∙ there)
+    back_by (same_view c a) a c k ul refl
+    (λ other. kept ∙ ap (λ b. is_some (cond (not b) l None)) (sight_turned (Some a) (Some c) ∙ other) ∙ there)
     ∙ ap (λ b. cond (not b) k ul) (sight_turned (Some c) (Some a))

@@ -2,10 +2,12 @@
 use Rattle.std.proofs.Common.{◌≡◌, ℕ, ◌+◌, ◌*◌, ◌≤◌, max, Bool, true, false, nat_eq, cond, arith, refl}
 use Rattle.std.proofs.Math.Nat.{mul-le-mul_right}
 use Rattle.std.proofs.lemmas.Bool.{eqb-true, eqb-false}
-use Rattle.iocm_model.specs.Change.Tree.{ChangeTree, Parts, leaf, row, group, choose, none, part, leaves_of, leaves_in, depth_of, depth_in, nodes_of, nodes_in, or_one}
+use Rattle.iocm_model.specs.Change.Tree.{ChangeTree, Parts, leaf, row, group, choose, none, part, leaves_of, leaves_in}
+use Rattle.iocm_model.specs.Change.Tree.{depth_of, depth_in, nodes_of, nodes_in, or_one}
 use Rattle.iocm_model.specs.Laws.Trees.{NodesAreBounded}
 
-over_at : (b : Bool) (nodes depth leaves : ℕ) → nat_eq leaves 0 ≡ b → nodes ≤ depth * leaves → nodes + 1 ≤ (depth + 1) * cond b 1 leaves
+over_at : (b : Bool) (nodes depth leaves : ℕ) → nat_eq leaves 0 ≡ b → nodes ≤ depth * leaves
+    → nodes + 1 ≤ (depth + 1) * cond b 1 leaves
 over_at true nodes depth leaves is h =
     let empty : leaves ≡ 0 = eqb-true leaves 0 is in
     let few : nodes ≤ depth * 0 = rw (← empty) h in
@@ -34,7 +36,9 @@ mutual
 
   bounded_in : (ps : Parts) → nodes_in ps ≤ depth_in ps * leaves_in ps
   bounded_in none = omega arith
-  bounded_in (part p ps) = before_parts (nodes_of p) (depth_of p) (leaves_of p) (nodes_in ps) (depth_in ps) (leaves_in ps) (bounded p) (bounded_in ps)
+  bounded_in (part p ps) =
+      before_parts (nodes_of p) (depth_of p) (leaves_of p) (nodes_in ps) (depth_in ps) (leaves_in ps) (bounded p)
+      (bounded_in ps)
 
 pub nodes_are_bounded : NodesAreBounded
 nodes_are_bounded = bounded

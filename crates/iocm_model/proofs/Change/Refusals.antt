@@ -30,7 +30,8 @@ record IsLast (by_key : Option Refused) (taken : Bool) (found : Option SubId) (w
 
 comes_last : (by_key : Option Refused) (taken : Bool) (key : Key) (found : Option SubId) (why : Refused)
     → (by_key ≡ Some why → why.rule ≡ B1 → ⊥)
-    → option_or by_key (option_or (if taken then Some (refusal_at E4 (at.Key key)) else None) (refusal_by_subchannel found)) ≡ Some why
+    → option_or by_key (option_or (if taken then Some (refusal_at E4 (at.Key key)) else None)
+    (refusal_by_subchannel found)) ≡ Some why
     → why.rule ≡ B1 → IsLast by_key taken found why
 comes_last (Some r) taken key found why other h is = absurd (other h is)
 comes_last None true key found why other h is = let same : E4 ≡ why.rule = cc in let bad : E4 ≡ B1 = same ∙ is in cc

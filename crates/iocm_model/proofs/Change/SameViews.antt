@@ -11,10 +11,16 @@ use Rattle.iocm_model.specs.Change.Edit.{same_view}
 view_is : (a b : View) → same_view a b ≡ true → a ≡ b
 view_is a b h =
     let p = and_parts _ _ h in let q = and_parts _ _ p.0 in let r = and_parts _ _ q.0 in
-    λ i. record { device = eqb-true a.device b.device r.0 i; paths = same_text a.paths b.paths (sym r.1) i; pim = eqb-true a.pim b.pim q.1 i; pam = eqb-true a.pam b.pam p.1 i }
+    λ i. record {
+      device = eqb-true a.device b.device r.0 i;
+      paths = same_text a.paths b.paths (sym r.1) i;
+      pim = eqb-true a.pim b.pim q.1 i;
+      pam = eqb-true a.pam b.pam p.1 i;
+    }
 
 own_view : (a : View) → same_view a a ≡ true
-own_view a = both_true (both_true (both_true (eq-eqb a.device a.device refl) (nat_list_eq_equiv.refl a.paths)) (eq-eqb a.pim a.pim refl)) (eq-eqb a.pam a.pam refl)
+own_view a = both_true (both_true (both_true (eq-eqb a.device a.device refl) (nat_list_eq_equiv.refl a.paths))
+    (eq-eqb a.pim a.pim refl)) (eq-eqb a.pam a.pam refl)
 
 -- what is seen is equal where the test holds
 pub sight_is : (v w : Option View) → option_eq same_view v w ≡ true → v ≡ w

@@ -18,7 +18,8 @@ use Rattle.iocm_model.specs.Machine.View.{views}
 use Rattle.iocm_model.specs.Change.Effect.{Cells, values_in, with_effect}
 use Rattle.iocm_model.specs.Change.Runs.{state_after_all, cells_written_by_all, effect_of}
 use Rattle.iocm_model.specs.Laws.Runs.{OpeningIsSound}
-use Rattle.iocm_model.specs.Laws.Steps.{StepsStaySound, Passes, StepsElsewherePass, StepsElsewherePassBack, OverwrittenStepsVanish}
+use Rattle.iocm_model.specs.Laws.Steps.{StepsStaySound, Passes, StepsElsewherePass, StepsElsewherePassBack}
+use Rattle.iocm_model.specs.Laws.Steps.{OverwrittenStepsVanish}
 use Rattle.iocm_model.specs.Operation.Step.{Step, subchannel_in, live_after_step, lives_after_step, step_answer}
 use Rattle.iocm_model.proofs.Maps.Cells.{get_with_cells_as}
 use Rattle.iocm_model.proofs.Numbers.Cells.{cells_give_numbers}
@@ -28,11 +29,13 @@ use Rattle.iocm_model.proofs.Change.RunsGoBack.{off_keys, off_cells, off_sight, 
 
 -- ---- the state at opening
 
-fresh_there : (rows : List (SubId × View)) (x : SubId) → is_some (find sub_id_cmp x (map fresh_row rows)) ≡ is_some (find sub_id_cmp x rows)
+fresh_there : (rows : List (SubId × View)) (x : SubId)
+    → is_some (find sub_id_cmp x (map fresh_row rows)) ≡ is_some (find sub_id_cmp x rows)
 fresh_there [] x = refl
 fresh_there (row ∷ rows) x = by (eq_by_cmp sub_id_cmp x row.0) (fresh_row row).1 row.1 _ _ (fresh_there rows x)
   where
-    by : (b : Bool) (l : Live) (v : View) (m : Option Live) (o : Option View) → is_some m ≡ is_some o → is_some (cond b (Some l) m) ≡ is_some (cond b (Some v) o)
+    by : (b : Bool) (l : Live) (v : View) (m : Option Live) (o : Option View) → is_some m ≡ is_some o
+        → is_some (cond b (Some l) m) ≡ is_some (cond b (Some v) o)
     by true l v m o e = refl
     by false l v m o e = e
 
@@ -40,7 +43,8 @@ pub opening_is_sound : OpeningIsSound
 opening_is_sound c own = record {
   keyed = own;
   numbered = opening_are_numbers c;
-  lived = λ x. ap is_some (get-from_entries sub_ids_total (map fresh_row (views c (opening c))) x) ∙ fresh_there (views c (opening c)) x
+  lived = λ x. ap is_some (get-from_entries sub_ids_total (map fresh_row (views c (opening c))) x)
+      ∙ fresh_there (views c (opening c)) x
       ∙ ap is_some (sym (get-from_entries sub_ids_total (views c (opening c)) x));
 }
 
@@ -56,7 +60,8 @@ swapped false b x y z apart = refl
 
 -- a record that is put at a subchannel off some may be put before these are overwritten, or after
 put_elsewhere : (from lives : Lives) (xs : List SubId) (x : SubId) (l : Live) → is_among x xs ≡ false
-    → insert (with_cells (entries (cells_at from xs)) lives) x l ≡ with_cells (entries (cells_at from xs)) (insert lives x l)
+    → insert (with_cells (entries (cells_at from xs)) lives) x l
+    ≡ with_cells (entries (cells_at from xs)) (insert lives x l)
 put_elsewhere from lives xs x l off = same_map sub_ids_total sub_ids_exact _ _ (λ y.
     get-insert sub_ids_total (with_cells (entries (cells_at from xs)) lives) x l y
     ∙ ap (cond (eq_by_cmp sub_id_cmp y x) (Some l)) (get_with_cells_as sub_ids_total sub_ids_exact from xs lives y)
@@ -65,8 +70,10 @@ put_elsewhere from lives xs x l off = same_map sub_ids_total sub_ids_exact _ _ (
     ∙ ap (cond (list_any (eq_by_cmp sub_id_cmp y) xs) (get from y)) (sym (get-insert sub_ids_total lives x l y))
     ∙ sym (get_with_cells_as sub_ids_total sub_ids_exact from xs (insert lives x l) y))
 
-step_elsewhere : (from lives : Lives) (xs : List SubId) (x : SubId) (step : Step) (p : Option (View × Live)) → is_among x xs ≡ false
-    → lives_after_step x step p (with_cells (entries (cells_at from xs)) lives) ≡ with_cells (entries (cells_at from xs)) (lives_after_step x step p lives)
+step_elsewhere : (from lives : Lives) (xs : List SubId) (x : SubId) (step : Step) (p : Option (View × Live))
+    → is_among x xs ≡ false
+    → lives_after_step x step p (with_cells (entries (cells_at from xs)) lives)
+    ≡ with_cells (entries (cells_at from xs)) (lives_after_step x step p lives)
 step_elsewhere from lives xs x step None off = refl
 step_elsewhere from lives xs x step (Some p) off = put_elsewhere from lives xs x (live_after_step step p.0 p.1) off
 
@@ -76,10 +83,12 @@ passes : (x : SubId) (step : Step) (from u : State) (w : Cells) → is_among x w
     → seen_in (with_effect (values_in from w) u) x ≡ seen_in u x → Passes x step (values_in from w) u
 passes x step from u w off seen =
     let v = with_effect (values_in from w) u in
-    let live : get v.lives x ≡ get u.lives x = get_with_cells_as sub_ids_total sub_ids_exact from.lives w.subchannels u.lives x
+    let live : get v.lives x ≡ get u.lives x =
+    get_with_cells_as sub_ids_total sub_ids_exact from.lives w.subchannels u.lives x
     ∙ ap (λ b. cond b (get from.lives x) (get u.lives x)) off in
     let same : subchannel_in v x ≡ subchannel_in u x = λ i. option_zip (seen i) (live i) in
-    let lives = ap (λ p. lives_after_step x step p v.lives) same ∙ step_elsewhere from.lives u.lives w.subchannels x step (subchannel_in u x) off in
+    let lives = ap (λ p. lives_after_step x step p v.lives) same
+    ∙ step_elsewhere from.lives u.lives w.subchannels x step (subchannel_in u x) off in
     record {
       state = λ i. record { config = v.config; numbers = v.numbers; lives = lives i };
       answer = ap (step_answer step) same;
@@ -90,20 +99,26 @@ steps_elsewhere_pass es s u x step sound free config numbers off =
     let t = state_after_all es s in let w = cells_written_by_all es s in let v = with_effect (effect_of es s) u in
     let config_is : v.config ≡ t.config = ap (with_cells (entries (cells_at t.config w.keys))) config
     ∙ with_cells_is keys_total keys_exact s.config t.config w.keys (λ q o. sym (off_keys es s q o)) in
-    let numbers_is : v.numbers ≡ t.numbers = (λ i. numbering_of (with_cells (entries (cells_at (cells_of t.numbers) w.numbers)) (cells_of (numbers i))))
-    ∙ ap numbering_of (with_cells_is cells_total cells_exact (cells_of s.numbers) (cells_of t.numbers) w.numbers (λ q o. sym (off_cells es s q o)))
+    let numbers_is : v.numbers ≡ t.numbers =
+    (λ i. numbering_of (with_cells (entries (cells_at (cells_of t.numbers) w.numbers)) (cells_of (numbers i))))
+    ∙ ap numbering_of (with_cells_is cells_total cells_exact (cells_of s.numbers) (cells_of t.numbers) w.numbers
+    (λ q o. sym (off_cells es s q o)))
     ∙ cells_give_numbers t.config t.numbers (stays_sound es s sound free).numbered in
-    passes x step t u w off ((λ i. get (views_of (config_is i) (numbers_is i)) x) ∙ off_sight es s x off ∙ (λ i. get (views_of (sym config i) (sym numbers i)) x))
+    passes x step t u w off ((λ i. get (views_of (config_is i) (numbers_is i)) x) ∙ off_sight es s x off
+    ∙ (λ i. get (views_of (sym config i) (sym numbers i)) x))
 
 pub steps_elsewhere_pass_back : StepsElsewherePassBack
 steps_elsewhere_pass_back es s u x step sound config numbers off =
     let t = state_after_all es s in let w = cells_written_by_all es s in let v = with_effect (values_in s w) u in
     let config_is : v.config ≡ s.config = ap (with_cells (entries (cells_at s.config w.keys))) config
     ∙ with_cells_is keys_total keys_exact t.config s.config w.keys (off_keys es s) in
-    let numbers_is : v.numbers ≡ s.numbers = (λ i. numbering_of (with_cells (entries (cells_at (cells_of s.numbers) w.numbers)) (cells_of (numbers i))))
-    ∙ ap numbering_of (with_cells_is cells_total cells_exact (cells_of t.numbers) (cells_of s.numbers) w.numbers (off_cells es s))
+    let numbers_is : v.numbers ≡ s.numbers =
+    (λ i. numbering_of (with_cells (entries (cells_at (cells_of s.numbers) w.numbers)) (cells_of (numbers i))))
+    ∙ ap numbering_of (with_cells_is cells_total cells_exact (cells_of t.numbers) (cells_of s.numbers) w.numbers
+    (off_cells es s))
     ∙ cells_give_numbers s.config s.numbers sound.numbered in
-    passes x step s u w off ((λ i. get (views_of (config_is i) (numbers_is i)) x) ∙ sym (off_sight es s x off) ∙ (λ i. get (views_of (sym config i) (sym numbers i)) x))
+    passes x step s u w off ((λ i. get (views_of (config_is i) (numbers_is i)) x) ∙ sym (off_sight es s x off)
+    ∙ (λ i. get (views_of (sym config i) (sym numbers i)) x))
 
 -- ---- steps on cells that are overwritten
 
@@ -115,8 +130,10 @@ hidden false true x y z in_both = absurd (no (in_both refl))
     no e = cc
 hidden false false x y z in_both = refl
 
-step_with_cells : (from lives : Lives) (xs : List SubId) (x : SubId) (step : Step) (p : Option (View × Live)) → is_among x xs ≡ true
-    → with_cells (entries (cells_at from xs)) (lives_after_step x step p lives) ≡ with_cells (entries (cells_at from xs)) lives
+step_with_cells : (from lives : Lives) (xs : List SubId) (x : SubId) (step : Step) (p : Option (View × Live))
+    → is_among x xs ≡ true
+    → with_cells (entries (cells_at from xs)) (lives_after_step x step p lives)
+    ≡ with_cells (entries (cells_at from xs)) lives
 step_with_cells from lives xs x step None among = refl
 step_with_cells from lives xs x step (Some p) among = same_map sub_ids_total sub_ids_exact _ _ (λ y.
     get_with_cells_as sub_ids_total sub_ids_exact from xs (insert lives x (live_after_step step p.0 p.1)) y
@@ -134,7 +151,8 @@ overwritten_steps_vanish s u w x step among = λ i. record {
 
 -- ---- steps leave a sound state
 
-lived_by : (b : Bool) (l : Live) (old : Option Live) (seen : Option View) → (b ≡ true → is_some seen ≡ true) → is_some old ≡ is_some seen
+lived_by : (b : Bool) (l : Live) (old : Option Live) (seen : Option View) → (b ≡ true → is_some seen ≡ true)
+    → is_some old ≡ is_some seen
     → is_some (cond b (Some l) old) ≡ is_some seen
 lived_by true l old seen there lived = sym (there refl)
 lived_by false l old seen there lived = lived
@@ -150,7 +168,8 @@ lived_after_step x step s None e lived y = lived y
 lived_after_step x step s (Some p) e lived y =
     ap is_some (get-insert sub_ids_total s.lives x (live_after_step step p.0 p.1) y)
     ∙ lived_by (eq_by_cmp sub_id_cmp y x) (live_after_step step p.0 p.1) (get s.lives y) (seen_in s y)
-    (λ h. ap (λ z. is_some (seen_in s z)) (same_key sub_id_cmp sub_ids_exact y x h) ∙ zipped (seen_in s x) (get s.lives x) p e) (lived y)
+    (λ h. ap (λ z. is_some (seen_in s z)) (same_key sub_id_cmp sub_ids_exact y x h)
+    ∙ zipped (seen_in s x) (get s.lives x) p e) (lived y)
 
 pub steps_stay_sound : StepsStaySound
 steps_stay_sound x step s sound = record {

@@ -1,5 +1,6 @@
 -- The bits of a mask, along the paths.
-use Rattle.std.proofs.Common.{◌≡◌, ℕ, zero, suc, ◌+◌, ◌-◌, ◌*◌, ◌/◌, ◌^◌, ◌<◌, ◌≤◌, Bool, true, false, cond, List, [], ◌∷◌, refl, ap, ◌∙◌, arith}
+use Rattle.std.proofs.Common.{◌≡◌, ℕ, zero, suc, ◌+◌, ◌-◌, ◌*◌, ◌/◌, ◌^◌, ◌<◌, ◌≤◌, Bool, true, false, cond, List, []}
+use Rattle.std.proofs.Common.{◌∷◌, refl, ap, ◌∙◌, arith}
 use Rattle.std.specs.Int.{bit_at}
 use Rattle.std.proofs.lemmas.Nat.{pow_pos}
 use Rattle.std.proofs.lemmas.Nat.Bits.{bit_at-zero, bit_at_cat_low, bit_at_cat_high}
@@ -48,7 +49,8 @@ module _ (test : ℕ → Bool) where
   -- the first bit is that of the first path
   first_bit : (b : Bool) (k r : ℕ) → r < 2 ^ k → bit_at (cond b (2 ^ k) 0 + r) (k - 0) ≡ cond b 1 0
   first_bit b k r low =
-      let here : bit_at (cond b 1 0 * 2 ^ k + r) k ≡ bit_at (cond b 1 0) (k - k) = bit_at_cat_high (cond b 1 0) k r k low (omega arith) in
+      let here : bit_at (cond b 1 0 * 2 ^ k + r) k ≡ bit_at (cond b 1 0) (k - k) =
+      bit_at_cat_high (cond b 1 0) k r k low (omega arith) in
       let none : k - k ≡ 0 = omega arith in
       let all : k - 0 ≡ k = omega arith in
       rw all (rw (so_many b (2 ^ k)) (here ∙ ap (bit_at (cond b 1 0)) none ∙ itself b))
@@ -62,14 +64,16 @@ module _ (test : ℕ → Bool) where
   later_bit b k i r low = rw (so_many b (2 ^ k)) (bit_at_cat_low (cond b 1 0) k r i low)
 
   -- each bit of a mask is that of its path
-  bits : (k : ℕ) (ps : List ℕ) (j : ℕ) → j ≤ k → bit_at (mask_from (2 ^ k) test ps) (k - j) ≡ cond (passes_at test ps j) 1 0
+  bits : (k : ℕ) (ps : List ℕ) (j : ℕ) → j ≤ k
+      → bit_at (mask_from (2 ^ k) test ps) (k - j) ≡ cond (passes_at test ps j) 1 0
   bits k [] j low = bit_at-zero (k - j)
   bits k (p ∷ ps) zero low = first_bit (test p) k (mask_from (2 ^ k / 2) test ps) (rest_below k ps)
   bits zero (p ∷ ps) (suc j) low = absurd (omega arith)
   bits (suc k) (p ∷ ps) (suc j) low =
       let there : suc k - suc j ≡ k - j = omega arith in
       let within : k - j < suc k = omega arith in
-      rw there (later_bit (test p) (suc k) (k - j) (mask_from (2 ^ suc k / 2) test ps) within ∙ rw (half k) (bits k ps j (omega arith)))
+      rw there (later_bit (test p) (suc k) (k - j) (mask_from (2 ^ suc k / 2) test ps) within
+      ∙ rw (half k) (bits k ps j (omega arith)))
 
 -- the bits of the path-installed mask
 pub installed_bits : InstalledBits

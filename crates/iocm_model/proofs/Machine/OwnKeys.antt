@@ -10,20 +10,24 @@ use Rattle.iocm_types.proofs.Tests.{first_holds, second_holds}
 use Rattle.iocm_model.specs.Machine.Record.{Rec, key_of}
 use Rattle.iocm_model.specs.Machine.Configuration.{Configuration, IsKeyed, with_keys, records_of}
 
-found_by : (b : Bool) (k : Key) (x r : Rec) (rest : Option Rec) → eq_by_cmp key_cmp k (key_of x) ≡ b → (rest ≡ Some r → key_of r ≡ k)
+found_by : (b : Bool) (k : Key) (x r : Rec) (rest : Option Rec) → eq_by_cmp key_cmp k (key_of x) ≡ b
+    → (rest ≡ Some r → key_of r ≡ k)
     → cond b (Some x) rest ≡ Some r → key_of r ≡ k
-found_by true k x r rest e more h = let same : x ≡ r = cc in ap key_of (sym same) ∙ sym (same_key key_cmp keys_exact k (key_of x) e)
+found_by true k x r rest e more h = let same : x ≡ r = cc in
+    ap key_of (sym same) ∙ sym (same_key key_cmp keys_exact k (key_of x) e)
 found_by false k x r rest e more h = more h
 
 found_own : (rs : List Rec) (k : Key) (r : Rec) → find key_cmp k (with_keys rs) ≡ Some r → key_of r ≡ k
 found_own [] k r h = cc
-found_own (x ∷ rs) k r h = found_by (eq_by_cmp key_cmp k (key_of x)) k x r (find key_cmp k (with_keys rs)) refl (found_own rs k r) h
+found_own (x ∷ rs) k r h =
+    found_by (eq_by_cmp key_cmp k (key_of x)) k x r (find key_cmp k (with_keys rs)) refl (found_own rs k r) h
 
 -- what is found stands under its own key
 pub keyed_own : (c : Configuration) → IsKeyed c → (k : Key) (r : Rec) → get c k ≡ Some r → key_of r ≡ k
 keyed_own c own k r h = found_own (records_of c) k r (ap (find key_cmp k) (sym own) ∙ sym (get-entries c k) ∙ h)
 
-entries_own : (es : List (Key × Rec)) → T (is_sorted key_cmp es) → ((k : Key) (r : Rec) → find key_cmp k es ≡ Some r → key_of r ≡ k)
+entries_own : (es : List (Key × Rec)) → T (is_sorted key_cmp es)
+    → ((k : Key) (r : Rec) → find key_cmp k es ≡ Some r → key_of r ≡ k)
     → es ≡ with_keys (map (λ e. e.1) es)
 entries_own [] up own = refl
 entries_own (e ∷ es) up own =

@@ -1,6 +1,7 @@
 -- No number comes twice in a channel subsystem and set: not after a change whose carried numbers
 -- are free.
-use Rattle.std.proofs.Common.{◌≡◌, ℕ, Bool, true, false, cond, not, ◌&&◌, ◌||◌, nat_eq, eq-eqb, List, [], ◌∷◌, map, Some, None, is_some, refl, sym, ap, ◌∙◌}
+use Rattle.std.proofs.Common.{◌≡◌, ℕ, Bool, true, false, cond, not, ◌&&◌, ◌||◌, nat_eq, eq-eqb, List, [], ◌∷◌, map}
+use Rattle.std.proofs.Common.{Some, None, is_some, refl, sym, ap, ◌∙◌}
 use Rattle.std.proofs.lemmas.Bool.{or_parts, true_from_ne_false}
 use Rattle.std.specs.List.{filter, fold, list_any}
 use Rattle.std.specs.Ordering.{eq_by_cmp}
@@ -19,19 +20,23 @@ use Rattle.iocm_model.specs.Laws.Numbers.{is_used, NumbersAfterAreNumbers}
 use Rattle.iocm_model.specs.Change.Refusal.{same_cell, has_cell_twice, is_number_taken}
 use Rattle.iocm_model.proofs.Numbers.Lowest.{lowest_free_is_free}
 use Rattle.iocm_model.proofs.Numbers.Cells.{IsApart, cell, has_cell}
-use Rattle.iocm_model.proofs.Numbers.Changed.{comes_new, comes_reached, get_without, stays, before_lowest, numbers_after_are_exact}
+use Rattle.iocm_model.proofs.Numbers.Changed.{comes_new, comes_reached, get_without, stays, before_lowest}
+use Rattle.iocm_model.proofs.Numbers.Changed.{numbers_after_are_exact}
 
 -- ---- one number more
 
 module _ (n : Numbering) (apart : IsApart n) (p : Place) (number : ℕ)
     (unused : (q : Place) → q.css ≡ p.css → q.set ≡ p.set → get n q ≡ Some number → ⊥) where
   -- `insert_apart`, by which of the two places was given the number
-  apart_by : (a b : Place) (k : ℕ) (s t : Bool) → eq_by_cmp place_cmp a p ≡ s → eq_by_cmp place_cmp b p ≡ t → a.css ≡ b.css → a.set ≡ b.set
+  apart_by : (a b : Place) (k : ℕ) (s t : Bool) → eq_by_cmp place_cmp a p ≡ s → eq_by_cmp place_cmp b p ≡ t
+      → a.css ≡ b.css → a.set ≡ b.set
       → cond s (Some number) (get n a) ≡ Some k → cond t (Some number) (get n b) ≡ Some k → a ≡ b
-  apart_by a b k true true e f css set is was = same_key place_cmp places_exact a p e ∙ sym (same_key place_cmp places_exact b p f)
+  apart_by a b k true true e f css set is was =
+      same_key place_cmp places_exact a p e ∙ sym (same_key place_cmp places_exact b p f)
   apart_by a b k true false e f css set is was =
       let same : a ≡ p = same_key place_cmp places_exact a p e in
-      absurd (unused b (sym css ∙ ap (λ (q : Place). q.css) same) (sym set ∙ ap (λ (q : Place). q.set) same) (was ∙ sym is))
+      absurd (unused b (sym css ∙ ap (λ (q : Place). q.css) same) (sym set ∙ ap (λ (q : Place). q.set) same)
+      (was ∙ sym is))
   apart_by a b k false true e f css set is was =
       let same : b ≡ p = same_key place_cmp places_exact b p f in
       absurd (unused a (css ∙ ap (λ (q : Place). q.css) same) (set ∙ ap (λ (q : Place). q.set) same) (is ∙ sym was))
@@ -55,7 +60,8 @@ any_by test g x xs false = refl
 pub any_kept : {A B : Type 0} (test : B → Bool) (g : A → B) (keep : A → Bool) (xs : List A)
     → list_any test (map g (filter keep xs)) ≡ list_any (λ x. keep x && test (g x)) xs
 any_kept test g keep [] = refl
-any_kept test g keep (x ∷ xs) = any_by test g x (filter keep xs) (keep x) ∙ ap (λ b. (keep x && test (g x)) || b) (any_kept test g keep xs)
+any_kept test g keep (x ∷ xs) =
+    any_by test g x (filter keep xs) (keep x) ∙ ap (λ b. (keep x && test (g x)) || b) (any_kept test g keep xs)
 
 module _ (n : Numbering) (p : Place) (k : ℕ) where
   -- a cell of this channel subsystem and set
@@ -69,11 +75,13 @@ module _ (n : Numbering) (p : Place) (k : ℕ) where
   -- a number that has a cell isn't unused
   not_unused : (d : ℕ) → get (cells_of n) (cell p k) ≡ Some d → is_used n p.css p.set k ≡ false → ⊥
   not_unused d is e =
-      let here : is_here (cell p k, d) ≡ true = (λ i. (eq-eqb p.css p.css refl i && eq-eqb p.set p.set refl i) && eq-eqb k k refl i) in
+      let here : is_here (cell p k, d) ≡ true =
+      (λ i. (eq-eqb p.css p.css refl i && eq-eqb p.set p.set refl i) && eq-eqb k k refl i) in
       let none : list_any is_here (entries (cells_of n)) ≡ false =
       sym (any_kept (nat_eq k) (λ (c : NumberCell × ℕ). c.0.number) in_set (entries (cells_of n))) ∙ e in
       let gone : is_here (cell p k, d) ≡ false =
-      found_fails cell_cmp cells_total cells_exact is_here (entries (cells_of n)) (cell p k) d none (sym (get-entries (cells_of n) (cell p k)) ∙ is) in
+      found_fails cell_cmp cells_total cells_exact is_here (entries (cells_of n)) (cell p k) d none
+      (sym (get-entries (cells_of n) (cell p k)) ∙ is) in
       cc
 
   -- a number that is given away is used
@@ -83,15 +91,18 @@ module _ (n : Numbering) (p : Place) (k : ℕ) where
       true_from_ne_false (is_used n p.css p.set k) (not_unused there.0 there.1)
 
 -- no place has the lowest free number
-lowest_unused : (n : Numbering) (p q : Place) → q.css ≡ p.css → q.set ≡ p.set → get n q ≡ Some (lowest_free n p.css p.set) → ⊥
+lowest_unused : (n : Numbering) (p q : Place) → q.css ≡ p.css → q.set ≡ p.set
+    → get n q ≡ Some (lowest_free n p.css p.set) → ⊥
 lowest_unused n p q css set has =
     let number = lowest_free n p.css p.set in
-    let used : is_used n p.css p.set number ≡ true = (λ i. is_used n (sym css i) (sym set i) number) ∙ is_used_there n q number has in
+    let used : is_used n p.css p.set number ≡ true =
+    (λ i. is_used n (sym css i) (sym set i) number) ∙ is_used_there n q number has in
     let free : is_used n p.css p.set number ≡ false = (lowest_free_is_free n p.css p.set).free in
     cc
 
 -- the step of `lowest_apart`, by whether the place has a number
-lowest_apart_by : (n : Numbering) (p : Place) (b : Bool) → IsApart n → IsApart (cond b n (insert n p (lowest_free n p.css p.set)))
+lowest_apart_by : (n : Numbering) (p : Place) (b : Bool) → IsApart n
+    → IsApart (cond b n (insert n p (lowest_free n p.css p.set)))
 lowest_apart_by n p true apart = apart
 lowest_apart_by n p false apart = insert_apart n apart p (lowest_free n p.css p.set) (lowest_unused n p)
 
@@ -109,17 +120,20 @@ one_cell a b css set number =
 
 -- the order of the two doesn't matter
 pub either_way : (a b : Place × ℕ) → same_cell a b ≡ same_cell b a
-either_way a b = λ i. nat_eq_equiv.symm a.0.css b.0.css i && nat_eq_equiv.symm a.0.set b.0.set i && nat_eq_equiv.symm a.1 b.1 i
+either_way a b = λ i. nat_eq_equiv.symm a.0.css b.0.css i && nat_eq_equiv.symm a.0.set b.0.set i
+    && nat_eq_equiv.symm a.1 b.1 i
 
 -- ---- carried numbers
 
 -- a test that fails at all fails at all behind the first
-any_behind : {A : Type 0} (test : A → Bool) (x : A) (xs : List A) (b : Bool) → list_any test (cond b (x ∷ xs) xs) ≡ false → list_any test xs ≡ false
+any_behind : {A : Type 0} (test : A → Bool) (x : A) (xs : List A) (b : Bool)
+    → list_any test (cond b (x ∷ xs) xs) ≡ false → list_any test xs ≡ false
 any_behind test x xs true none = (or_parts _ _ none).1
 any_behind test x xs false none = none
 
 -- where none comes twice none does behind the first
-twice_behind : (x : Place × ℕ) (xs : List (Place × ℕ)) (b : Bool) → has_cell_twice (cond b (x ∷ xs) xs) ≡ false → has_cell_twice xs ≡ false
+twice_behind : (x : Place × ℕ) (xs : List (Place × ℕ)) (b : Bool) → has_cell_twice (cond b (x ∷ xs) xs) ≡ false
+    → has_cell_twice xs ≡ false
 twice_behind x xs true once = (or_parts _ _ once).1
 twice_behind x xs false once = once
 
@@ -138,7 +152,8 @@ module _ (c : Configuration) (n : Numbering) where
 
   -- a number that is there after one was carried in isn't carried again, by whether it is that
   -- one's place
-  still_free_by : (m : Numbering) (x : Place × ℕ) (xs : List (Place × ℕ)) (q : Place) (k : ℕ) (b : Bool) → eq_by_cmp place_cmp q x.0 ≡ b
+  still_free_by : (m : Numbering) (x : Place × ℕ) (xs : List (Place × ℕ)) (q : Place) (k : ℕ) (b : Bool)
+      → eq_by_cmp place_cmp q x.0 ≡ b
       → list_any (same_cell x) xs ≡ false → (get m q ≡ Some k → list_any (same_cell (q, k)) xs ≡ false)
       → cond b (Some x.1) (get m q) ≡ Some k → list_any (same_cell (q, k)) xs ≡ false
   still_free_by m x xs q k true e once free is =
@@ -156,24 +171,29 @@ module _ (c : Configuration) (n : Numbering) where
 
   -- what is free for the carried places is free for the rest after the first, by whether that comes
   -- in
-  pub step_by : (m : Numbering) (x : Place × ℕ) (xs : List (Place × ℕ)) (b : Bool) → (is_reached_at c x.0 && not (contains_key m x.0)) ≡ b
+  pub step_by : (m : Numbering) (x : Place × ℕ) (xs : List (Place × ℕ)) (b : Bool)
+      → (is_reached_at c x.0 && not (contains_key m x.0)) ≡ b
       → IsFreeFor m (x ∷ xs) → IsFreeFor (cond b (insert m x.0 x.1) m) xs
   step_by m x xs true e h =
       let in_reach : is_reached_at c x.0 ≡ true = comes_reached c m x e in
       let new : contains_key n x.0 ≡ false = h.old x.0 in_reach (comes_new c m x e) in
       let comes : comes_in c n x ≡ true = (λ i. in_reach i && not (new i)) in
       let first : arriving (x ∷ xs) ≡ x ∷ arriving xs = ap (λ b. cond b (x ∷ arriving xs) (arriving xs)) comes in
-      let once : (list_any (same_cell x) (arriving xs) || has_cell_twice (arriving xs)) ≡ false = sym (ap has_cell_twice first) ∙ h.once in
+      let once : (list_any (same_cell x) (arriving xs) || has_cell_twice (arriving xs)) ≡ false =
+      sym (ap has_cell_twice first) ∙ h.once in
       record {
         apart = insert_apart m h.apart x.0 x.1 (λ q css set has.
-            let none : same_cell (q, x.1) x ≡ false = (or_parts _ _ (sym (ap (list_any (same_cell (q, x.1))) first) ∙ h.free q x.1 has)).0 in
+            let none : same_cell (q, x.1) x ≡ false =
+            (or_parts _ _ (sym (ap (list_any (same_cell (q, x.1))) first) ∙ h.free q x.1 has)).0 in
             let all : same_cell (q, x.1) x ≡ true = one_cell (q, x.1) x css set refl in cc);
         free = λ q k has.
             still_free_by m x (arriving xs) q k (eq_by_cmp place_cmp q x.0) refl (or_parts _ _ once).0
-            (λ is. (or_parts _ _ (sym (ap (list_any (same_cell (q, k))) first) ∙ h.free q k is)).1) (sym (get-insert places_total m x.0 x.1 q) ∙ has);
+            (λ is. (or_parts _ _ (sym (ap (list_any (same_cell (q, k))) first) ∙ h.free q k is)).1)
+            (sym (get-insert places_total m x.0 x.1 q) ∙ has);
         once = (or_parts _ _ once).1;
         old = λ p state_reached none.
-            h.old p state_reached (still_old_by m x p (eq_by_cmp place_cmp p x.0) refl (sym (ap is_some (get-insert places_total m x.0 x.1 p)) ∙ none));
+            h.old p state_reached (still_old_by m x p (eq_by_cmp place_cmp p x.0) refl
+            (sym (ap is_some (get-insert places_total m x.0 x.1 p)) ∙ none));
       }
   step_by m x xs false e h = record {
     apart = h.apart;
@@ -185,10 +205,12 @@ module _ (c : Configuration) (n : Numbering) where
   -- no number comes twice when free ones are carried in
   pub carried_apart : (m : Numbering) (xs : List (Place × ℕ)) → IsFreeFor m xs → IsApart (fold (with_carried c) m xs)
   carried_apart m [] h = h.apart
-  carried_apart m (x ∷ xs) h = carried_apart (with_carried c m x) xs (step_by m x xs (is_reached_at c x.0 && not (contains_key m x.0)) refl h)
+  carried_apart m (x ∷ xs) h =
+      carried_apart (with_carried c m x) xs (step_by m x xs (is_reached_at c x.0 && not (contains_key m x.0)) refl h)
 
   -- `had`, by whether the place is reached
-  had_by : (p : Place) (k : ℕ) (b : Bool) → is_reached_at c p ≡ b → cond b (get n p) None ≡ Some k → (is_reached_at c p ≡ true) × (get n p ≡ Some k)
+  had_by : (p : Place) (k : ℕ) (b : Bool) → is_reached_at c p ≡ b → cond b (get n p) None ≡ Some k
+      → (is_reached_at c p ≡ true) × (get n p ≡ Some k)
   had_by p k true e is = (e, is)
   had_by p k false e is = cc
 
@@ -198,16 +220,19 @@ module _ (c : Configuration) (n : Numbering) where
 
   -- a number of a place that stays isn't among those that come in
   free_of : (q : Place) (k : ℕ) (xs : List (Place × ℕ)) → get (without_leavers c n) q ≡ Some k
-      → list_any (λ x. list_any (same_cell x) (entries (without_leavers c n))) xs ≡ false → list_any (same_cell (q, k)) xs ≡ false
+      → list_any (λ x. list_any (same_cell x) (entries (without_leavers c n))) xs ≡ false
+      → list_any (same_cell (q, k)) xs ≡ false
   free_of q k [] has none = refl
   free_of q k (x ∷ xs) has none =
       let staying = without_leavers c n in
       let first : same_cell (q, k) x ≡ false = either_way (q, k) x
-      ∙ found_fails place_cmp places_total places_exact (same_cell x) (entries staying) q k (or_parts _ _ none).0 (sym (get-entries staying q) ∙ has) in
+      ∙ found_fails place_cmp places_total places_exact (same_cell x) (entries staying) q k (or_parts _ _ none).0
+      (sym (get-entries staying q) ∙ has) in
       rw first (free_of q k xs has (or_parts _ _ none).1)
 
   -- the carried numbers are free where none is taken
-  pub free_for_carried : IsApart n → (xs : List (Place × ℕ)) → is_number_taken c n xs ≡ false → IsFreeFor (without_leavers c n) xs
+  pub free_for_carried : IsApart n → (xs : List (Place × ℕ)) → is_number_taken c n xs ≡ false
+      → IsFreeFor (without_leavers c n) xs
   free_for_carried apart xs none = record {
     apart = λ p q k css set is was. apart p q k css set (had p k is).1 (had q k was).1;
     free = λ q k has. free_of q k (arriving xs) has (or_parts _ _ none).0;

@@ -14,12 +14,15 @@ use Rattle.iocm_model.specs.Laws.Numbers.{RenumberingGoesBack}
 use Rattle.iocm_model.proofs.Numbers.Changed.{numbers_after_are_exact, stayers_keep_theirs, carried_come_back}
 
 -- the freed places have what they had
-pub get_freed : (n there : Numbering) (p : Place) → find place_cmp p (freed_numbers n there) ≡ cond (not (contains_key there p)) (get n p) None
+pub get_freed : (n there : Numbering) (p : Place)
+    → find place_cmp p (freed_numbers n there) ≡ cond (not (contains_key there p)) (get n p) None
 get_freed n there p =
-    find-where_key place_cmp (λ x. not (contains_key there x)) p (λ x e. ap (λ q. not (contains_key there q)) (sym (places_exact p x e))) (entries n)
+    find-where_key place_cmp (λ x. not (contains_key there x)) p
+    (λ x e. ap (λ q. not (contains_key there q)) (sym (places_exact p x e))) (entries n)
     ∙ ap (λ o. cond (not (contains_key there p)) o None) (sym (get-entries n p))
 
-module _ (before after : Configuration) (carried : List (Place × ℕ)) (n : Numbering) (numbers : AreNumbersOf before n) where
+module _ (before after : Configuration) (carried : List (Place × ℕ)) (n : Numbering)
+    (numbers : AreNumbersOf before n) where
   -- the numbers after the change
   abbrev there : Numbering
   there = numbers_after after carried n
@@ -29,11 +32,14 @@ module _ (before after : Configuration) (carried : List (Place × ℕ)) (n : Num
   again = numbers_after before (freed_numbers n there) there
 
   -- a place of a device that was reached, by whether it still was after the change
-  came_back : (p : Place) (k : ℕ) (b : Bool) → is_reached_at before p ≡ true → get n p ≡ Some k → is_reached_at after p ≡ b → get again p ≡ Some k
-  came_back p k true was has e = stayers_keep_theirs before (freed_numbers n there) there p k was (stayers_keep_theirs after carried n p k e has)
+  came_back : (p : Place) (k : ℕ) (b : Bool) → is_reached_at before p ≡ true → get n p ≡ Some k
+      → is_reached_at after p ≡ b → get again p ≡ Some k
+  came_back p k true was has e =
+      stayers_keep_theirs before (freed_numbers n there) there p k was (stayers_keep_theirs after carried n p k e has)
   came_back p k false was has e =
       let gone : contains_key there p ≡ false = numbers_after_are_exact after carried n p ∙ e in
-      carried_come_back before (freed_numbers n there) there p k was (absent _ gone) (get_freed n there p ∙ ap (λ b. cond (not b) (get n p) None) gone ∙ has)
+      carried_come_back before (freed_numbers n there) there p k was (absent _ gone)
+      (get_freed n there p ∙ ap (λ b. cond (not b) (get n p) None) gone ∙ has)
 
   -- at each place they are the old ones, by whether the place was reached
   same_by : (p : Place) (b : Bool) → is_reached_at before p ≡ b → get again p ≡ get n p
@@ -41,7 +47,8 @@ module _ (before after : Configuration) (carried : List (Place × ℕ)) (n : Num
       let has = present (get n p) (numbers.exact p ∙ e) in
       came_back p has.0 (is_reached_at after p) e has.1 refl ∙ sym has.1
   same_by p false e =
-      absent _ (numbers_after_are_exact before (freed_numbers n there) there p ∙ e) ∙ sym (absent _ (numbers.exact p ∙ e))
+      absent _ (numbers_after_are_exact before (freed_numbers n there) there p ∙ e)
+      ∙ sym (absent _ (numbers.exact p ∙ e))
 
   -- they are the old ones
   same_again : again ≡ n

@@ -1,5 +1,6 @@
 -- None of the numbers that a change freed is taken when it is taken back.
-use Rattle.std.proofs.Common.{◌≡◌, ℕ, Bool, true, false, cond, not, ◌&&◌, ◌||◌, nat_eq, eqb-true, List, [], ◌∷◌, Some, None, is_some, T, refl, sym, ap, ◌∙◌}
+use Rattle.std.proofs.Common.{◌≡◌, ℕ, Bool, true, false, cond, not, ◌&&◌, ◌||◌, nat_eq, eqb-true, List, [], ◌∷◌, Some}
+use Rattle.std.proofs.Common.{None, is_some, T, refl, sym, ap, ◌∙◌}
 use Rattle.std.proofs.lemmas.Bool.{and_parts, or_from, false_from_ne_true}
 use Rattle.std.specs.List.{filter, list_any}
 use Rattle.std.specs.FinMap.{find, get, contains_key, entries, entries_sorted, is_sorted, get-entries}
@@ -27,14 +28,18 @@ module _ (n : Numbering) (apart : IsApart n) where
   one_place p q j k is was same =
       let parts = and_parts _ _ same in
       let first = and_parts (nat_eq p.css q.css) (nat_eq p.set q.set) parts.0 in
-      apart p q j (eqb-true p.css q.css first.0) (eqb-true p.set q.set first.1) is (was ∙ ap Some (sym (eqb-true j k parts.1)))
+      apart p q j (eqb-true p.css q.css first.0) (eqb-true p.set q.set first.1) is
+      (was ∙ ap Some (sym (eqb-true j k parts.1)))
 
   -- numbers of two places are two cells
-  not_one_cell : (p q : Place) (j k : ℕ) → get n p ≡ Some j → get n q ≡ Some k → (p ≡ q → ⊥) → same_cell (p, j) (q, k) ≡ false
-  not_one_cell p q j k is was other = false_from_ne_true (same_cell (p, j) (q, k)) (λ same. other (one_place p q j k is was same))
+  not_one_cell : (p q : Place) (j k : ℕ) → get n p ≡ Some j → get n q ≡ Some k → (p ≡ q → ⊥)
+      → same_cell (p, j) (q, k) ≡ false
+  not_one_cell p q j k is was other =
+      false_from_ne_true (same_cell (p, j) (q, k)) (λ same. other (one_place p q j k is was same))
 
   -- no cell comes twice among entries of the numbers
-  no_cell_twice : (es : List (Place × ℕ)) → T (is_sorted place_cmp es) → ((q : Place) (k : ℕ) → find place_cmp q es ≡ Some k → get n q ≡ Some k)
+  no_cell_twice : (es : List (Place × ℕ)) → T (is_sorted place_cmp es)
+      → ((q : Place) (k : ℕ) → find place_cmp q es ≡ Some k → get n q ≡ Some k)
       → has_cell_twice es ≡ false
   no_cell_twice [] up own = refl
   no_cell_twice (e ∷ es) up own =
@@ -47,7 +52,8 @@ module _ (n : Numbering) (apart : IsApart n) where
       rw first (no_cell_twice es (second_holds _ _ up)
       (λ q k is. own q k (found_later place_cmp places_total places_exact q e es k (first_holds _ _ up) is)))
 
-module _ (before after : Configuration) (carried : List (Place × ℕ)) (n : Numbering) (numbers : AreNumbersOf before n) where
+module _ (before after : Configuration) (carried : List (Place × ℕ)) (n : Numbering)
+    (numbers : AreNumbersOf before n) where
   -- the numbers after the change
   abbrev there : Numbering
   there = numbers_after after carried n
@@ -70,17 +76,20 @@ module _ (before after : Configuration) (carried : List (Place × ℕ)) (n : Num
       (is_sorted-where_key place_cmp (λ p. not (contains_key there p)) (entries n) (entries_sorted n))
 
   -- `arrived`, by the two tests that one passes
-  arrived_by : (q : Place) (k : ℕ) (a b : Bool) → contains_key there q ≡ b → cond (a && not b) (cond (not b) (get n q) None) None ≡ Some k
+  arrived_by : (q : Place) (k : ℕ) (a b : Bool) → contains_key there q ≡ b
+      → cond (a && not b) (cond (not b) (get n q) None) None ≡ Some k
       → (contains_key there q ≡ false) × (get n q ≡ Some k)
   arrived_by q k true true e is = cc
   arrived_by q k true false e is = (e, is)
   arrived_by q k false b e is = cc
 
   -- one that comes in has no number there, and had this one
-  arrived : (q : Place) (k : ℕ) → find place_cmp q arriving ≡ Some k → (contains_key there q ≡ false) × (get n q ≡ Some k)
+  arrived : (q : Place) (k : ℕ) → find place_cmp q arriving ≡ Some k
+      → (contains_key there q ≡ false) × (get n q ≡ Some k)
   arrived q k is =
       arrived_by q k (is_reached_at before q) (contains_key there q) refl
-      (sym (find-where_key place_cmp comes_back q (λ x e. ap comes_back (sym (places_exact q x e))) (freed_numbers n there)
+      (sym (find-where_key place_cmp comes_back q (λ x e. ap comes_back (sym (places_exact q x e)))
+      (freed_numbers n there)
       ∙ ap (λ o. cond (comes_back q) o None) (get_freed n there q)) ∙ is)
 
   -- a number that stays there is the one that its place had
@@ -88,14 +97,16 @@ module _ (before after : Configuration) (carried : List (Place × ℕ)) (n : Num
   stayed q k is =
       let has = had before there q k is in
       let old = present (get n q) (numbers.exact q ∙ has.0) in
-      let in_reach : is_reached_at after q ≡ true = sym (numbers_after_are_exact after carried n q) ∙ ap is_some has.1 in
+      let in_reach : is_reached_at after q ≡ true =
+      sym (numbers_after_are_exact after carried n q) ∙ ap is_some has.1 in
       (ap is_some has.1, old.1 ∙ sym (stayers_keep_theirs after carried n q old.0 in_reach old.1) ∙ has.1)
 
   -- none of their numbers is held by a place that stays
   none_held : list_any (λ p. list_any (same_cell p) (entries staying)) arriving ≡ false
   none_held =
       none_passes place_cmp places_total places_exact (λ p. list_any (same_cell p) (entries staying)) arriving rising
-      (λ p j is. none_passes place_cmp places_total places_exact (same_cell (p, j)) (entries staying) (entries_sorted staying)
+      (λ p j is. none_passes place_cmp places_total places_exact (same_cell (p, j)) (entries staying)
+      (entries_sorted staying)
       (λ q k was.
       let here = stayed q k (get-entries staying q ∙ was) in
       not_one_cell n numbers.apart p q j k (arrived p j is).1 here.1

@@ -1,6 +1,7 @@
 -- Opening is renumbering from none: in both each number below that of a place is held by one of a
 -- smaller device number, and there is one such numbering.
-use Rattle.std.proofs.Common.{◌≡◌, ℕ, zero, suc, ◌+◌, ◌<◌, ◌≤◌, Bool, true, false, cond, ◌||◌, ◌⊎◌, inl, inr, nat_eq, eq-eqb, List, [], ◌∷◌, Option, Some, None, is_some, refl, sym, ap, subst, ◌∙◌, arith}
+use Rattle.std.proofs.Common.{◌≡◌, ℕ, zero, suc, ◌+◌, ◌<◌, ◌≤◌, Bool, true, false, cond, ◌||◌, ◌⊎◌, inl, inr, nat_eq}
+use Rattle.std.proofs.Common.{eq-eqb, List, [], ◌∷◌, Option, Some, None, is_some, refl, sym, ap, subst, ◌∙◌, arith}
 use Rattle.std.proofs.lemmas.Bool.{cases_lt, or_right}
 use Rattle.std.proofs.Math.Nat.{eq-or-lt_of_le}
 use Rattle.std.specs.List.{list_any}
@@ -12,11 +13,13 @@ use Rattle.iocm_types.specs.KeyOrder.{places_total, places_exact}
 use Rattle.iocm_types.proofs.Found.{ties_itself}
 use Rattle.iocm_types.proofs.Parts.{untied, part_there}
 use Rattle.iocm_model.specs.Machine.Configuration.{Configuration, IsKeyed}
-use Rattle.iocm_model.specs.Machine.Numbering.{Numbering, reached_devices, reached_places, numbers_from, opening, subsystems, sets}
+use Rattle.iocm_model.specs.Machine.Numbering.{Numbering, reached_devices, reached_places, numbers_from, opening}
+use Rattle.iocm_model.specs.Machine.Numbering.{subsystems, sets}
 use Rattle.iocm_model.specs.Change.Renumbering.{without_leavers, numbers_after}
 use Rattle.iocm_model.specs.Laws.Numbers.{OpeningIsFromNone}
 use Rattle.iocm_model.proofs.Numbers.Cells.{IsApart}
-use Rattle.iocm_model.proofs.Numbers.First.{at, of_set, of_css, all, css_alone, set_alone, in_set, in_sets, in_all, opening_apart}
+use Rattle.iocm_model.proofs.Numbers.First.{at, of_set, of_css, all, css_alone, set_alone, in_set, in_sets, in_all}
+use Rattle.iocm_model.proofs.Numbers.First.{opening_apart}
 use Rattle.iocm_model.proofs.Numbers.Opening.{opening_exact}
 use Rattle.iocm_model.proofs.Numbers.Changed.{none_stays, numbers_after_are_exact}
 use Rattle.iocm_model.proofs.Numbers.Apart.{lowest_apart}
@@ -40,16 +43,19 @@ IsGapless n = (p : Place) (number k : ℕ) → get n p ≡ Some number → k < n
 module _ (n m : Numbering) (apart : IsApart n) (gapless : IsGapless m) where
   -- a place doesn't have a smaller number in one than in the other, where all of smaller device
   -- numbers have the same
-  not_smaller : (p : Place) (a b : ℕ) → ((q : Place) → q.device < p.device → get n q ≡ get m q) → get n p ≡ Some a → get m p ≡ Some b → a < b → ⊥
+  not_smaller : (p : Place) (a b : ℕ) → ((q : Place) → q.device < p.device → get n q ≡ get m q) → get n p ≡ Some a
+      → get m p ≡ Some b → a < b → ⊥
   not_smaller p a b same is was low =
       let w = gapless p b a was low in
       let here : p ≡ w.place = apart p w.place a (sym w.css_is) (sym w.set_is) is (same w.place w.less ∙ w.has) in
       let bad : w.place.device < w.place.device = subst (λ (q : Place). w.place.device < q.device) here w.less in
       absurd (omega arith)
 
-module _ (n m : Numbering) (exact : (p : Place) → contains_key n p ≡ contains_key m p) (apart : IsApart n) (other_apart : IsApart m)
+module _ (n m : Numbering) (exact : (p : Place) → contains_key n p ≡ contains_key m p) (apart : IsApart n)
+    (other_apart : IsApart m)
     (gapless : IsGapless n) (other_gapless : IsGapless m) where
-  same_number : (p : Place) (a b : ℕ) → ((q : Place) → q.device < p.device → get n q ≡ get m q) → get n p ≡ Some a → get m p ≡ Some b → a ≡ b
+  same_number : (p : Place) (a b : ℕ) → ((q : Place) → q.device < p.device → get n q ≡ get m q) → get n p ≡ Some a
+      → get m p ≡ Some b → a ≡ b
   same_number p a b same is was = by (cases_lt a b)
     where
       or_less : (b ≡ a) ⊎ (b < a) → a ≡ b
@@ -60,7 +66,8 @@ module _ (n m : Numbering) (exact : (p : Place) → contains_key n p ≡ contain
       by (inl low) = absurd (not_smaller n m apart other_gapless p a b same is was low)
       by (inr high) = or_less (eq-or-lt_of_le high)
 
-  same_option : (p : Place) (o r : Option ℕ) → get n p ≡ o → get m p ≡ r → ((q : Place) → q.device < p.device → get n q ≡ get m q) → is_some o ≡ is_some r → o ≡ r
+  same_option : (p : Place) (o r : Option ℕ) → get n p ≡ o → get m p ≡ r
+      → ((q : Place) → q.device < p.device → get n q ≡ get m q) → is_some o ≡ is_some r → o ≡ r
   same_option p None None is was same there = refl
   same_option p None (Some b) is was same there = cc
   same_option p (Some a) None is was same there = cc
@@ -86,26 +93,32 @@ record IsSmaller (css set n : ℕ) (ds : List ℕ) (x k : ℕ) : Type 0 where
   there : list_any (nat_eq device) ds ≡ true
   less : device < x
 
-in_list : (css set n x b : ℕ) (ds : List ℕ) → find place_cmp (at css set x) (numbers_from css set n ds) ≡ Some b → list_any (nat_eq x) ds ≡ true
+in_list : (css set n x b : ℕ) (ds : List ℕ) → find place_cmp (at css set x) (numbers_from css set n ds) ≡ Some b
+    → list_any (nat_eq x) ds ≡ true
 in_list css set n x b ds is = sym (in_set css set n x ds) ∙ ap is_some is
 
-smaller : (css set n : ℕ) (ds : List ℕ) → Rises ds → (x b k : ℕ) → find place_cmp (at css set x) (numbers_from css set n ds) ≡ Some b
+smaller : (css set n : ℕ) (ds : List ℕ) → Rises ds → (x b k : ℕ)
+    → find place_cmp (at css set x) (numbers_from css set n ds) ≡ Some b
     → n ≤ k → k < b → IsSmaller css set n ds x k
 smaller css set n [] rise x b k is from low = cc
 smaller css set n (d ∷ ds) rise x b k is from low =
-    by (eq_by_cmp place_cmp (at css set x) (at css set d)) is (λ rest above. smaller css set (n + 1) ds rise.1 x b k rest above low)
+    by (eq_by_cmp place_cmp (at css set x) (at css set d)) is
+    (λ rest above. smaller css set (n + 1) ds rise.1 x b k rest above low)
   where
-    behind : list_any (nat_eq x) ds ≡ true → (n ≡ k) ⊎ (n < k) → (n + 1 ≤ k → IsSmaller css set (n + 1) ds x k) → IsSmaller css set n (d ∷ ds) x k
+    behind : list_any (nat_eq x) ds ≡ true → (n ≡ k) ⊎ (n < k) → (n + 1 ≤ k → IsSmaller css set (n + 1) ds x k)
+        → IsSmaller css set n (d ∷ ds) x k
     behind there (inl e) more = record {
       device = d;
-      found = ap (λ t. cond t (Some n) (find place_cmp (at css set d) (numbers_from css set (n + 1) ds))) (ties_itself place_cmp places_total (at css set d)) ∙ ap Some e;
+      found = ap (λ t. cond t (Some n) (find place_cmp (at css set d) (numbers_from css set (n + 1) ds)))
+          (ties_itself place_cmp places_total (at css set d)) ∙ ap Some e;
       there = ap (λ t. t || list_any (nat_eq d) ds) (eq-eqb d d refl);
       less = rise.0 x there;
     }
     behind there (inr above) more =
         let rest = more (omega arith) in
         let greater : d < rest.device = rise.0 rest.device rest.there in
-        let apart : eq_by_cmp place_cmp (at css set rest.device) (at css set d) ≡ false = untied place_cmp places_exact (at css set rest.device) (at css set d)
+        let apart : eq_by_cmp place_cmp (at css set rest.device) (at css set d) ≡ false =
+        untied place_cmp places_exact (at css set rest.device) (at css set d)
         (λ same. let e : rest.device ≡ d = ap (λ (q : Place). q.device) same in omega arith) in record {
           device = rest.device;
           found = rw apart rest.found;
@@ -114,7 +127,8 @@ smaller css set n (d ∷ ds) rise x b k is from low =
         }
 
     by : (t : Bool) → cond t (Some n) (find place_cmp (at css set x) (numbers_from css set (n + 1) ds)) ≡ Some b
-        → (find place_cmp (at css set x) (numbers_from css set (n + 1) ds) ≡ Some b → n + 1 ≤ k → IsSmaller css set (n + 1) ds x k)
+        → (find place_cmp (at css set x) (numbers_from css set (n + 1) ds) ≡ Some b → n + 1 ≤ k
+        → IsSmaller css set (n + 1) ds x k)
         → IsSmaller css set n (d ∷ ds) x k
     by true is more = let same : n ≡ b = cc in absurd (omega arith)
     by false is more = behind (in_list css set (n + 1) x b ds is) (eq-or-lt_of_le from) (more is)
@@ -155,7 +169,8 @@ module _ (c : Configuration) where
         less = by h.place h.before;
       }
     where
-      by : (q : Place) → ((contains_key (empty {X = ℕ} {R = place_cmp}) q ≡ true) ⊎ ((is_some (find {X = ℕ} place_cmp q []) ≡ true) ⊎ (q.device < p.device)))
+      by : (q : Place) → ((contains_key (empty {X = ℕ} {R = place_cmp}) q ≡ true)
+          ⊎ ((is_some (find {X = ℕ} place_cmp q []) ≡ true) ⊎ (q.device < p.device)))
           → q.device < p.device
       by q (inl there) = let bad : false ≡ true = sym (ap is_some (get-empty {X = ℕ} place_cmp q)) ∙ there in cc
       by q (inr (inl there)) = cc
@@ -163,5 +178,6 @@ module _ (c : Configuration) where
 
 pub opening_is_from_none : OpeningIsFromNone
 opening_is_from_none c keyed =
-    one_numbering (numbers_after c [] empty) (opening c) (λ p. numbers_after_are_exact c [] empty p ∙ sym (opening_exact c p))
+    one_numbering (numbers_after c [] empty) (opening c)
+    (λ p. numbers_after_are_exact c [] empty p ∙ sym (opening_exact c p))
     (from_none_apart c) (opening_apart c) (from_none_gapless c keyed) (opening_gapless c keyed)

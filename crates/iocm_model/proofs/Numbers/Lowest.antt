@@ -1,5 +1,6 @@
 -- The first gap in rising numbers.
-use Rattle.std.proofs.Common.{◌≡◌, ℕ, ◌+◌, ◌<◌, ◌≤◌, ◌==◌, ◌&&◌, nat_eq, Bool, true, false, cond, T, List, [], ◌∷◌, length, map, filter, refl, sym, ◌∙◌, arith}
+use Rattle.std.proofs.Common.{◌≡◌, ℕ, ◌+◌, ◌<◌, ◌≤◌, ◌==◌, ◌&&◌, nat_eq, Bool, true, false, cond, T, List, [], ◌∷◌}
+use Rattle.std.proofs.Common.{length, map, filter, refl, sym, ◌∙◌, arith}
 use Rattle.std.proofs.lemmas.Bool.{and_parts, eqb-true, eqb-false}
 use Rattle.std.specs.List.{list_any}
 use Rattle.std.specs.Ordering.{nat_cmp, is_lt}
@@ -63,7 +64,8 @@ unfolding gap_from rises_from
 gap_free n [] r = refl
 gap_free n (x ∷ xs) r = free_at (nat_eq x n) n x xs refl r.0 r.1 (gap_free (n + 1) xs)
 
-used_at : (b c : Bool) (n x k : ℕ) (xs : List ℕ) → nat_eq x n ≡ b → nat_eq k x ≡ c → n ≤ k → k < cond b (gap_from (n + 1) xs) n
+used_at : (b c : Bool) (n x k : ℕ) (xs : List ℕ) → nat_eq x n ≡ b → nat_eq k x ≡ c → n ≤ k
+    → k < cond b (gap_from (n + 1) xs) n
     → (n + 1 ≤ k → k < gap_from (n + 1) xs → list_any (nat_eq k) xs ≡ true) → list_any (nat_eq k) (x ∷ xs) ≡ true
 used_at true true n x k xs is here le lt later = rw here refl
 used_at true false n x k xs is here le lt later =
@@ -78,7 +80,8 @@ unfolding gap_from
 gap_lowest n [] k le lt = absurd (omega arith)
 gap_lowest n (x ∷ xs) k le lt = used_at (nat_eq x n) (nat_eq k x) n x k xs refl refl le lt (gap_lowest (n + 1) xs k)
 
-most_at : (b : Bool) (n m : ℕ) (xs : List ℕ) → gap_from (n + 1) xs ≤ n + 1 + m → cond b (gap_from (n + 1) xs) n ≤ n + (m + 1)
+most_at : (b : Bool) (n m : ℕ) (xs : List ℕ) → gap_from (n + 1) xs ≤ n + 1 + m
+    → cond b (gap_from (n + 1) xs) n ≤ n + (m + 1)
 most_at true n m xs later = omega arith
 most_at false n m xs later = omega arith
 
@@ -115,26 +118,32 @@ unfolding AtLeast is_in
 from_first css set x [] here h = tt
 from_first css set x (e ∷ es) here h = (
   (λ there. let p = and_parts _ _ here in let q = and_parts _ _ there in
-      let w = smaller_number x.0 e.0 (eqb-true x.0.css css p.0 ∙ sym (eqb-true e.0.css css q.0)) (eqb-true x.0.set set p.1 ∙ sym (eqb-true e.0.set set q.1))
+      let w = smaller_number x.0 e.0 (eqb-true x.0.css css p.0 ∙ sym (eqb-true e.0.css css q.0))
+      (eqb-true x.0.set set p.1 ∙ sym (eqb-true e.0.set set q.1))
       (first_holds _ _ h) in omega arith),
   from_first css set x es here (second_holds _ _ h),
 )
 
 numbers_of : ℕ → ℕ → List (NumberCell × ℕ) → List ℕ
-numbers_of css set es = map (λ (e : NumberCell × ℕ). e.0.number) (filter (λ (e : NumberCell × ℕ). e.0.css == css && e.0.set == set) es)
+numbers_of css set es = map (λ (e : NumberCell × ℕ). e.0.number)
+    (filter (λ (e : NumberCell × ℕ). e.0.css == css && e.0.set == set) es)
 
 rises_at : (b : Bool) (css set m : ℕ) (x : NumberCell × ℕ) (es : List (NumberCell × ℕ)) → is_in css set x ≡ b
     → (is_in css set x ≡ true → m ≤ x.0.number) → T (below_all cell_cmp x.0 es) → AtLeast css set m es
-    → ((k : ℕ) → AtLeast css set k es → rises_from k (numbers_of css set es)) → rises_from m (numbers_of css set (x ∷ es))
+    → ((k : ℕ) → AtLeast css set k es → rises_from k (numbers_of css set es))
+    → rises_from m (numbers_of css set (x ∷ es))
 unfolding rises_from numbers_of is_in
-rises_at true css set m x es is first below rest later = rw is (first is, later (x.0.number + 1) (from_first css set x es is below))
+rises_at true css set m x es is first below rest later =
+    rw is (first is, later (x.0.number + 1) (from_first css set x es is below))
 rises_at false css set m x es is first below rest later = rw is (later m rest)
 
-rises_all : (css set m : ℕ) (es : List (NumberCell × ℕ)) → T (is_sorted cell_cmp es) → AtLeast css set m es → rises_from m (numbers_of css set es)
+rises_all : (css set m : ℕ) (es : List (NumberCell × ℕ)) → T (is_sorted cell_cmp es) → AtLeast css set m es
+    → rises_from m (numbers_of css set es)
 unfolding AtLeast numbers_of rises_from
 rises_all css set m [] sorted rest = tt
 rises_all css set m (x ∷ es) sorted rest =
-    rises_at (is_in css set x) css set m x es refl rest.0 (first_holds _ _ sorted) rest.1 (λ k at. rises_all css set k es (second_holds _ _ sorted) at)
+    rises_at (is_in css set x) css set m x es refl rest.0 (first_holds _ _ sorted) rest.1
+    (λ k at. rises_all css set k es (second_holds _ _ sorted) at)
 
 from_zero : (css set : ℕ) (es : List (NumberCell × ℕ)) → AtLeast css set 0 es
 unfolding AtLeast
@@ -143,7 +152,8 @@ from_zero css set (e ∷ es) = ((λ h. omega arith), from_zero css set es)
 
 rising : (n : Numbering) (css set : ℕ) → rises_from 0 (numbers_in n css set)
 unfolding numbers_of
-rising n css set = rises_all css set 0 (entries (cells_of n)) (entries_sorted (cells_of n)) (from_zero css set (entries (cells_of n)))
+rising n css set = rises_all css set 0 (entries (cells_of n)) (entries_sorted (cells_of n))
+    (from_zero css set (entries (cells_of n)))
 
 pub lowest_free_is_free : LowestFreeIsFree
 lowest_free_is_free n css set = record {

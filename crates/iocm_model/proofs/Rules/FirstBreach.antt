@@ -34,17 +34,20 @@ found_at false is_so x xs r is e later = let rest = later e in record {
   none_before = rw is rest.none_before;
 }
 
-first_found : (is_so : Rec → Bool) (records : List Rec) (r : Rec) → first_record is_so records ≡ Some r → IsFirstRecord is_so records r
+first_found : (is_so : Rec → Bool) (records : List Rec) (r : Rec) → first_record is_so records ≡ Some r
+    → IsFirstRecord is_so records r
 unfolding first_record
 first_found is_so [] r e = cc
 first_found is_so (x ∷ xs) r e = found_at (is_so x) is_so x xs r refl e (first_found is_so xs r)
 
-none_at : (b : Bool) (is_so : Rec → Bool) (x : Rec) (xs : List Rec) → is_so x ≡ b → cond b (Some x) (first_record is_so xs) ≡ None
+none_at : (b : Bool) (is_so : Rec → Bool) (x : Rec) (xs : List Rec) → is_so x ≡ b
+    → cond b (Some x) (first_record is_so xs) ≡ None
     → (first_record is_so xs ≡ None → list_any is_so xs ≡ false) → list_any is_so (x ∷ xs) ≡ false
 none_at true is_so x xs is e later = cc
 none_at false is_so x xs is e later = rw is (later e)
 
-none_found : (is_so : Rec → Bool) (records : List Rec) → first_record is_so records ≡ None → list_any is_so records ≡ false
+none_found : (is_so : Rec → Bool) (records : List Rec) → first_record is_so records ≡ None
+    → list_any is_so records ≡ false
 unfolding first_record
 none_found is_so [] e = refl
 none_found is_so (x ∷ xs) e = none_at (is_so x) is_so x xs refl e (none_found is_so xs)
@@ -54,13 +57,15 @@ kept_at : (b : Bool) (is_so : Rec → Bool) (x : Rec) (xs : List Rec) → is_so 
 kept_at true is_so x xs is e later = let bad : true ≡ false = rw is at e in cc
 kept_at false is_so x xs is e later = later (rw is at e)
 
-none_there : (is_so : Rec → Bool) (records : List Rec) → list_any is_so records ≡ false → first_record is_so records ≡ None
+none_there : (is_so : Rec → Bool) (records : List Rec) → list_any is_so records ≡ false
+    → first_record is_so records ≡ None
 unfolding first_record
 none_there is_so [] e = refl
 none_there is_so (x ∷ xs) e = kept_at (is_so x) is_so x xs refl e (none_there is_so xs)
 
 -- the breach that a rule answers, or that a further rule does
-answered_at : (o : Option Rec) (law : Law) (laws : List Law) (records : List Rec) (b : Breach) → first_record law.1 records ≡ o
+answered_at : (o : Option Rec) (law : Law) (laws : List Law) (records : List Rec) (b : Breach)
+    → first_record law.1 records ≡ o
     → breach_or law.0 o (first_breach_of laws records) ≡ Some b
     → (first_breach_of laws records ≡ Some b → IsFirst laws records b) → IsFirst (law ∷ laws) records b
 answered_at (Some r) law laws records b is e later =
@@ -96,10 +101,12 @@ answered_at None law laws records b is e later = let rest = later e in record {
   kept_in_front = rest.kept_in_front;
 }
 
-pub answered : (laws : List Law) (records : List Rec) (b : Breach) → first_breach_of laws records ≡ Some b → IsFirst laws records b
+pub answered : (laws : List Law) (records : List Rec) (b : Breach) → first_breach_of laws records ≡ Some b
+    → IsFirst laws records b
 unfolding first_breach_of
 answered [] records b e = cc
-answered (law ∷ laws) records b e = answered_at (first_record law.1 records) law laws records b refl e (answered laws records b)
+answered (law ∷ laws) records b e =
+    answered_at (first_record law.1 records) law laws records b refl e (answered laws records b)
 
 silent_at : (o : Option Rec) (law : Law) (laws : List Law) (records : List Rec) → first_record law.1 records ≡ o
     → breach_or law.0 o (first_breach_of laws records) ≡ None

@@ -14,7 +14,8 @@ finish-requires g c = record {
 }
 
 pub returns-in-Ok-clause-means : goal.returns-in-Ok-clause-means
-returns-in-Ok-clause-means g c = on_ok_then c.finish.result c.finish.ensures.done (means_now c.in-Ok.ensures.accepted c.finish.new.plant)
+returns-in-Ok-clause-means g c =
+    on_ok_then c.finish.result c.finish.ensures.done (means_now c.in-Ok.ensures.accepted c.finish.new.plant)
 
 pub returns-in-Ok-clause-kept : goal.returns-in-Ok-clause-kept
 returns-in-Ok-clause-kept g c =

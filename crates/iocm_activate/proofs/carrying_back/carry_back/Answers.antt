@@ -6,7 +6,8 @@ use Rattle.iocm_plant.specs.declared.touched.Applied.{Applied}
 use Rattle.std.proofs.Common.{List, reverse}
 use Rattle.iocm_activate.specs.CarryingBack.{are_turned_back}
 use Rattle.iocm_activate.proofs.CarryingBack.{fitted}
-use Rattle.iocm_activate.proofs.Whole.{can_take_all_back, leads_back, walked, means_now, inverse_now, takes_back_now, kept_by}
+use Rattle.iocm_activate.proofs.Whole.{can_take_all_back, leads_back, walked, means_now, inverse_now, takes_back_now}
+use Rattle.iocm_activate.proofs.Whole.{kept_by}
 use Rattle.iocm_activate.proofs.carrying_back.carry_back.Goals as goal
 
 pub returns-in-Err-clause-kept : goal.returns-in-Err-clause-kept
@@ -21,7 +22,9 @@ returns-then-not-are_turned_back-clause-back g c =
 
 pub returns-then-not-are_turned_back-clause-kept : goal.returns-then-not-are_turned_back-clause-kept
 returns-then-not-are_turned_back-clause-kept g c =
-    subst KeepsTheRules (sym (c.take_all_back.ensures.undone c.args.plant.now.state (leads_back (walked c.in-Ok.ensures.accepted)))) c.requires.kept
+    subst KeepsTheRules (sym
+    (c.take_all_back.ensures.undone c.args.plant.now.state (leads_back (walked c.in-Ok.ensures.accepted))))
+    c.requires.kept
 
 pub give_way_back-requires : goal.give_way_back-requires
 give_way_back-requires g c = record { back = can_take_all_back (walked c.in-Ok.ensures.accepted) }
@@ -41,7 +44,8 @@ returns-in-Ok-give_way_back-clause-back g c =
 
 pub returns-in-Ok-give_way_back-clause-kept : goal.returns-in-Ok-give_way_back-clause-kept
 returns-in-Ok-give_way_back-clause-kept g c =
-    subst (λ (p : Operating). KeepsTheRules p.state) (sym c.in-Ok-give_way_back.ensures.done) (kept_by c.in-Ok.ensures.accepted)
+    subst (λ (p : Operating). KeepsTheRules p.state) (sym c.in-Ok-give_way_back.ensures.done)
+    (kept_by c.in-Ok.ensures.accepted)
 
 pub returns-in-Err-give_way_back-clause-back : goal.returns-in-Err-give_way_back-clause-back
 returns-in-Err-give_way_back-clause-back g c =
@@ -49,4 +53,6 @@ returns-in-Err-give_way_back-clause-back g c =
 
 pub returns-in-Err-give_way_back-clause-kept : goal.returns-in-Err-give_way_back-clause-kept
 returns-in-Err-give_way_back-clause-kept g c =
-    subst KeepsTheRules (sym (c.in-Err-give_way_back.ensures.undone c.args.plant.now.state (leads_back (walked c.in-Ok.ensures.accepted)))) c.requires.kept
+    subst KeepsTheRules (sym
+    (c.in-Err-give_way_back.ensures.undone c.args.plant.now.state (leads_back (walked c.in-Ok.ensures.accepted))))
+    c.requires.kept

@@ -10,7 +10,9 @@ pub give_way_back-requires : goal.give_way_back-requires
 give_way_back-requires g c = record { back = can_take_all_back (walked c.in-Ok.ensures.accepted) }
 
 pub returns-in-Ok-clause-means : goal.returns-in-Ok-clause-means
-returns-in-Ok-clause-means g c = on_ok_then c.give_way_back.result c.give_way_back.ensures.done (means_now c.in-Ok.ensures.accepted c.give_way_back.new.plant)
+returns-in-Ok-clause-means g c =
+    on_ok_then c.give_way_back.result c.give_way_back.ensures.done
+    (means_now c.in-Ok.ensures.accepted c.give_way_back.new.plant)
 
 pub returns-in-Ok-clause-kept : goal.returns-in-Ok-clause-kept
 returns-in-Ok-clause-kept g c =

@@ -7,7 +7,8 @@ loop-applied-init c = turns_first c.args.done.items c.args.parts c.requires.part
 
 pub push_reserved-requires : goal.push_reserved-requires
 push_reserved-requires c =
-    let room = has_room c.args.done.items c.loop-applied.leaves c.loop-applied.done.items c.pop.new.self.items c.in-Some.applied
+    let room = has_room c.args.done.items c.loop-applied.leaves c.loop-applied.done.items c.pop.new.self.items
+    c.in-Some.applied
     c.loop-applied.invariant c.in-Some.ensures.items in
     grind (arith, room, c.loop-applied.leaves.ok.0)
 
@@ -18,5 +19,6 @@ loop-applied-preserved c = one_turned c.args.done.items c.loop-applied.leaves c.
 
 pub returns : goal.returns
 returns c =
-    let none : c.loop-applied.done.items ≡ [] = grind (c.in_default.ensures.variant, c.in_default.is, c.loop-applied.done.ok.0, arith) in
+    let none : c.loop-applied.done.items ≡ [] =
+    grind (c.in_default.ensures.variant, c.in_default.is, c.loop-applied.done.ok.0, arith) in
     row_told c.args.done.items c.loop-applied.leaves c.loop-applied.done.items c.loop-applied.invariant none

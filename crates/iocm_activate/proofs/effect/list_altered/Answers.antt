@@ -9,15 +9,18 @@ pub loop-applied-preserved : goal.loop-applied-preserved
 loop-applied-preserved c =
     let later = subchannels_told (map told_in (drop (c.loop-applied.applied-index + 1) c.args.done.now)) in
     let here = subchannels_changed c.applied-item.result.touched.subchannels.items in
-    ap (λ xs. xs ++ later) (c.in_ok-list_subchannels.ensures ∙ ap (λ cs. c.loop-applied.listed.items ++ subchannels_changed cs) c.as_slice.ensures.value)
+    ap (λ xs. xs ++ later) (c.in_ok-list_subchannels.ensures
+    ∙ ap (λ cs. c.loop-applied.listed.items ++ subchannels_changed cs) c.as_slice.ensures.value)
     ∙ append_assoc c.loop-applied.listed.items here later
     ∙ ap (λ ds. c.loop-applied.listed.items ++ subchannels_told (map told_in ds))
-    (sym (drop-item c.args.done.now c.loop-applied.applied-index c.applied-item.result c.loop-applied-test.true c.applied-item.is))
+    (sym (drop-item c.args.done.now c.loop-applied.applied-index c.applied-item.result c.loop-applied-test.true
+    c.applied-item.is))
     ∙ c.loop-applied.invariant
 
 pub returns : goal.returns
 returns c =
     let past : length c.args.done.now ≤ c.loop-applied.applied-index = omega (arith, c.loop-applied-test.false) in
     sym (append-nil c.loop-applied.listed.items)
-    ∙ sym (ap (λ ds. c.loop-applied.listed.items ++ subchannels_told (map told_in ds)) (drop_all c.loop-applied.applied-index c.args.done.now past))
+    ∙ sym (ap (λ ds. c.loop-applied.listed.items ++ subchannels_told (map told_in ds))
+    (drop_all c.loop-applied.applied-index c.args.done.now past))
     ∙ c.loop-applied.invariant

@@ -5,4 +5,6 @@ use Rattle.iocm_activate.specs.Told.{told_in}
 use Rattle.iocm_activate.proofs.effect.list_altered.Given as goal
 
 abbrev pub invariant-loop-applied : goal.invariant-loop-applied
-invariant-loop-applied l = l.listed.items ++ subchannels_told (map told_in (drop l.applied-index l.done)) ≡ subchannels_told (map told_in l.done)
+invariant-loop-applied l =
+    l.listed.items ++ subchannels_told (map told_in (drop l.applied-index l.done))
+    ≡ subchannels_told (map told_in l.done)

@@ -5,4 +5,5 @@ use Rattle.iocm_activate.specs.Told.{told_in}
 use Rattle.iocm_activate.proofs.effect.list_changed.Given as goal
 
 abbrev pub invariant-loop-applied : goal.invariant-loop-applied
-invariant-loop-applied l = l.listed.items ++ numbers_told (map told_in (drop l.applied-index l.done)) ≡ numbers_told (map told_in l.done)
+invariant-loop-applied l =
+    l.listed.items ++ numbers_told (map told_in (drop l.applied-index l.done)) ≡ numbers_told (map told_in l.done)

@@ -8,7 +8,8 @@ use Rattle.iocm_activate.proofs.Values.{listed_cells, values_rise, with_values}
 use Rattle.iocm_activate.proofs.effect.written_records.Goals as goal
 
 pub of-requires : goal.of-requires
-of-requires c = values_rise c.args.config.now.records c.as_slice.result.now c.in_ok-once.once.items c.in_ok-listed.listed.items
+of-requires c = values_rise c.args.config.now.records c.as_slice.result.now c.in_ok-once.once.items
+    c.in_ok-listed.listed.items
     c.in_ok-listed.ensures c.as_slice.ensures.value c.in_ok-once.ensures.order
 
 pub returns : goal.returns

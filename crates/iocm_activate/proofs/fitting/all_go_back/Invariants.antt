@@ -5,5 +5,6 @@ use Rattle.iocm_activate.proofs.Next.{from}
 use Rattle.iocm_activate.proofs.fitting.all_go_back.Given as goal
 
 abbrev pub invariant-loop-part : goal.invariant-loop-part
-invariant-loop-part g l = IsOnTheWay (gone_back_along (plain_parts (parts_of l.parts.items)) (reverse l.performed) l.initial.plant.state)
+invariant-loop-part g l = IsOnTheWay
+    (gone_back_along (plain_parts (parts_of l.parts.items)) (reverse l.performed) l.initial.plant.state)
     (from l.part-items l.part-index) l.left l.initial.plant l.initial.log l.plant l.log

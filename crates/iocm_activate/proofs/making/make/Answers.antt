@@ -10,7 +10,9 @@ pub finish_made-requires : goal.finish_made-requires
 finish_made-requires g c = record { back = can_take_all_back (walked c.in-Ok.ensures.accepted) }
 
 pub returns-in-Ok-clause-means : goal.returns-in-Ok-clause-means
-returns-in-Ok-clause-means g c = on_ok_then c.finish_made.result c.finish_made.ensures.done (means_now c.in-Ok.ensures.accepted c.finish_made.new.plant)
+returns-in-Ok-clause-means g c =
+    on_ok_then c.finish_made.result c.finish_made.ensures.done
+    (means_now c.in-Ok.ensures.accepted c.finish_made.new.plant)
 
 pub returns-in-Ok-clause-kept : goal.returns-in-Ok-clause-kept
 returns-in-Ok-clause-kept g c =

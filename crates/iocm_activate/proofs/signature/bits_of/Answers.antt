@@ -9,5 +9,7 @@ pub returns : goal.returns
 returns g c =
     let past : length c.args.cells.now ≤ c.loop-cell.cell-index = omega (arith, c.loop-cell-test.false) in
     subst (λ bits. AreSigned g.K.CellKey.number bits (keys_of c.args.cells.now))
-    (sym c.loop-cell.invariant ∙ ap (λ es. with_bits g.K.CellKey.number c.loop-cell.bits (keys_of es)) (drop_all c.loop-cell.cell-index c.args.cells.now past))
+    (sym c.loop-cell.invariant
+    ∙ ap (λ es. with_bits g.K.CellKey.number c.loop-cell.bits (keys_of es))
+    (drop_all c.loop-cell.cell-index c.args.cells.now past))
     (all_signed g.K.CellKey.number 0 (keys_of c.args.cells.now))

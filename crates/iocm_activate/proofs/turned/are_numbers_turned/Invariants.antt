@@ -4,4 +4,5 @@ use Rattle.iocm_activate.specs.Fitting.{is_turned_number}
 use Rattle.iocm_activate.proofs.turned.are_numbers_turned.Given as goal
 
 abbrev pub invariant-loop-i : goal.invariant-loop-i
-invariant-loop-i l = pointwise is_turned_number l.now l.was ≡ pointwise is_turned_number (drop l.i l.now) (drop l.i l.was)
+invariant-loop-i l = pointwise is_turned_number l.now l.was
+    ≡ pointwise is_turned_number (drop l.i l.now) (drop l.i l.was)

@@ -22,11 +22,13 @@ decreases-walk_first g l = 4 * nodes_among (map tree_of l.parts.now.items) + 3
 
 -- how far a walk through parts in order has come
 abbrev pub invariant-walk_all-loop-part : goal.invariant-walk_all-loop-part
-invariant-walk_all-loop-part g l = WalksOn (parts_meaning (plain_parts (parts_of l.parts.items)) l.node l.initial.plant.state)
+invariant-walk_all-loop-part g l =
+    WalksOn (parts_meaning (plain_parts (parts_of l.parts.items)) l.node l.initial.plant.state)
     l.part-items l.part-index l.next l.initial.plant l.initial.log l.plant l.log
 
 -- and how far one through the parts of a Choose
 abbrev pub invariant-walk_first-loop-part : goal.invariant-walk_first-loop-part
 invariant-walk_first-loop-part g l =
-    TriesOn (choice_meaning (plain_parts (parts_of l.parts.items)) (l.node + 1) (without_parts l.node) l.initial.plant.state)
+    TriesOn (choice_meaning (plain_parts (parts_of l.parts.items)) (l.node + 1) (without_parts l.node)
+    l.initial.plant.state)
     l.part-items l.part-index l.next l.last l.initial.plant l.initial.log l.plant l.log

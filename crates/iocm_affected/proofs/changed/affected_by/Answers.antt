@@ -21,32 +21,41 @@ unfolding IsStrictlySortedBy
 nothing_rises R = tt
 
 -- the record that a key gets has this key
-own_key : (o : Option (Bor Rec)) (k : Key) → ForSome o (λ entry. key_of entry.now ≡ k) → (r : Rec) → option_copied o ≡ Some r → key_of r ≡ k
+own_key : (o : Option (Bor Rec)) (k : Key) → ForSome o (λ entry. key_of entry.now ≡ k) → (r : Rec)
+    → option_copied o ≡ Some r → key_of r ≡ k
 own_key None k has r is = cc
 own_key (Some entry) k has r is = let same : entry.now ≡ r = cc in ap key_of (sym same) ∙ has entry refl
 
 pub returns-clause-all : goal.returns-clause-all
 returns-clause-all g c =
-    all_affected c.args.config.now.records c.args.key.now (option_copied c.args.after) c.has_own_keys.ensures (own_key c.args.after c.args.key.now c.requires.key)
+    all_affected c.args.config.now.records c.args.key.now (option_copied c.args.after) c.has_own_keys.ensures
+    (own_key c.args.after c.args.key.now c.requires.key)
     c.args.index.now c.requires.index c.in_ok-places.places.items c.in_ok-images.images.items
     (λ p. c.in_ok-places.ensures.same p ∙ c.in_ok-list_led.ensures p ∙ ap (list_any (eq_by_cmp place_cmp p))
-    (ap (λ ps. ps ++ led_places c.args.index.now c.args.key.now (option_copied c.get-before.result) (option_copied c.args.after)) c.new-listed.ensures.items
+    (ap (λ ps. ps ++ led_places c.args.index.now c.args.key.now (option_copied c.get-before.result)
+    (option_copied c.args.after)) c.new-listed.ensures.items
     ∙ ap (λ o. led_places c.args.index.now c.args.key.now o (option_copied c.args.after)) c.get-before.ensures))
-    (c.in_ok-images.ensures.images ∙ ap (λ o. led_images c.args.config.now.records c.args.key.now o (option_copied c.args.after)) c.get-before.ensures)
+    (c.in_ok-images.ensures.images
+    ∙ ap (λ o. led_images c.args.config.now.records c.args.key.now o (option_copied c.args.after))
+    c.get-before.ensures)
 
 -- a device that keeps its control units and candidates affects nothing
 pub returns-then-are_seen_alike-clause-all : goal.returns-then-are_seen_alike-clause-all
 returns-then-are_seen_alike-clause-all g c =
     let alike = c.are_seen_alike.ensures c.if-are_seen_alike.true in
-    let none = none_affected c.args.config.now.records c.args.key.now (option_copied c.args.after) c.has_own_keys.ensures
+    let none = none_affected c.args.config.now.records c.args.key.now (option_copied c.args.after)
+    c.has_own_keys.ensures
     (own_key c.args.after c.args.key.now c.requires.key) alike.alike.before alike.alike.after
-    (sym c.get-before.ensures ∙ alike.was_there ∙ ap Some alike.alike.old_is) (alike.is_there ∙ ap Some alike.alike.new_is)
+    (sym c.get-before.ensures ∙ alike.was_there ∙ ap Some alike.alike.old_is)
+    (alike.is_there ∙ ap Some alike.alike.new_is)
     alike.alike.units alike.alike.candidates in
-    subst₂ (AreAllAffected c.args.config.now.records (with_value c.args.config.now.records c.args.key.now (option_copied c.args.after)))
+    subst₂ (AreAllAffected c.args.config.now.records
+    (with_value c.args.config.now.records c.args.key.now (option_copied c.args.after)))
     (sym c.new.ensures.items) (sym c.new-then-are_seen_alike.ensures.items) none
 
 pub returns-then-are_seen_alike-clause-places_rise : goal.returns-then-are_seen_alike-clause-places_rise
-returns-then-are_seen_alike-clause-places_rise g c = subst (IsStrictlySortedBy place_cmp) (sym c.new.ensures.items) (nothing_rises place_cmp)
+returns-then-are_seen_alike-clause-places_rise g c =
+    subst (IsStrictlySortedBy place_cmp) (sym c.new.ensures.items) (nothing_rises place_cmp)
 
 pub returns-then-are_seen_alike-clause-images_rise : goal.returns-then-are_seen_alike-clause-images_rise
 returns-then-are_seen_alike-clause-images_rise g c =

@@ -19,7 +19,8 @@ module _ (t : Stored Naming (Unit {0})) (k : Key) (before after : Option Rec) wh
   of_path : (css n : ℕ) → k ≡ key.Path css n → places_of_path t css k ≡ led_places t k before after
   of_path css n is = ap (places_of_path t css) is ∙ sym (ap (λ q. led_places t q before after) is)
 
-  of_online : (css n : ℕ) (name : List ℕ) → k ≡ key.Online css n name → places_of_path t css (key.Path css n) ≡ led_places t k before after
+  of_online : (css n : ℕ) (name : List ℕ) → k ≡ key.Online css n name
+      → places_of_path t css (key.Path css n) ≡ led_places t k before after
   of_online css n name is = sym (ap (λ q. led_places t q before after) is)
 
 pub returns-in-Unit : goal.returns-in-Unit
@@ -27,15 +28,18 @@ returns-in-Unit g c =
     let within : c.as_slice-in-Unit.result.now ≡ subsystems = cc in
     on_ok_weaker c.list_on_unit.result (λ is. same_lists _ _ (is ∙ ap (λ ps. c.args.listed.now.items ++ ps)
     (ap (λ w. places_on_unit c.args.index.now w c.args.key.now) within
-    ∙ of_unit c.args.index.now c.args.key.now (option_copied c.args.before) (option_copied c.args.after) c.in-Unit.field-0 c.in-Unit.is))) c.list_on_unit.ensures
+    ∙ of_unit c.args.index.now c.args.key.now (option_copied c.args.before) (option_copied c.args.after)
+    c.in-Unit.field-0 c.in-Unit.is))) c.list_on_unit.ensures
 
 pub returns-in-Path : goal.returns-in-Path
 returns-in-Path g c =
     on_ok_weaker c.list_of_path.result (λ is. same_lists _ _ (is ∙ ap (λ ps. c.args.listed.now.items ++ ps)
-    (of_path c.args.index.now c.args.key.now (option_copied c.args.before) (option_copied c.args.after) c.in-Path.css c.in-Path.field-1 c.in-Path.is))) c.list_of_path.ensures
+    (of_path c.args.index.now c.args.key.now (option_copied c.args.before) (option_copied c.args.after) c.in-Path.css
+    c.in-Path.field-1 c.in-Path.is))) c.list_of_path.ensures
 
 pub returns-in-Online : goal.returns-in-Online
 returns-in-Online g c =
     on_ok_weaker c.list_of_path-in-Online.result (λ is. same_lists _ _ (is ∙ ap (λ ps. c.args.listed.now.items ++ ps)
-    (of_online c.args.index.now c.args.key.now (option_copied c.args.before) (option_copied c.args.after) c.in-Online.css c.in-Online.path c.in-Online.field-2 c.in-Online.is)))
+    (of_online c.args.index.now c.args.key.now (option_copied c.args.before) (option_copied c.args.after)
+    c.in-Online.css c.in-Online.path c.in-Online.field-2 c.in-Online.is)))
     c.list_of_path-in-Online.ensures

@@ -12,5 +12,6 @@ returns g c =
     on_ok_weaker c.list_on_units.result
     (λ is p. same_lists _ _ (is ∙ ap (λ us. here ++ places_on_units c.args.index.now c.args.css us) slice) p
     ∙ same_behind here _ (places_of_name c.args.index.now c.args.css c.args.name)
-    (same_parts (places_on_unit c.args.index.now (c.args.css ∷ [])) c.in_ok-users.users.items (users_of_name c.args.index.now c.args.css c.args.name) c.in_ok-users.ensures) p)
+    (same_parts (places_on_unit c.args.index.now (c.args.css ∷ [])) c.in_ok-users.users.items
+    (users_of_name c.args.index.now c.args.css c.args.name) c.in_ok-users.ensures) p)
     c.list_on_units.ensures

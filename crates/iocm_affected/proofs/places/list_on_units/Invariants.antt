@@ -5,5 +5,6 @@ use Rattle.iocm_affected.specs.Listing.{places_on_unit}
 use Rattle.iocm_affected.proofs.places.list_on_units.Given as goal
 
 abbrev pub invariant-loop-unit : goal.invariant-loop-unit
-invariant-loop-unit g l = l.listed.items ++ flat_map (places_on_unit l.index (l.fn.css ∷ [])) (drop l.unit-index l.units)
+invariant-loop-unit g l =
+    l.listed.items ++ flat_map (places_on_unit l.index (l.fn.css ∷ [])) (drop l.unit-index l.units)
     ≡ l.initial.listed.items ++ flat_map (places_on_unit l.index (l.fn.css ∷ [])) l.units

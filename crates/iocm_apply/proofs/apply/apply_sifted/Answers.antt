@@ -21,5 +21,7 @@ returns-in-Ok-clause-text g c =
     (record { inverse = c.in-Ok.ensures.inverse; performed = c.in-Ok.ensures.performed }))
 
 pub returns-clause-text : goal.returns-clause-text
-returns-clause-text g c = says_due g.W.Write.contents c.args.output.now c.refuse_change.new.output c.args.asked.now c.refuse_change.result
-    c.args.plant.state (meaning (plain_tree (tree_of c.args.tree.now)) c.args.plant.state) c.in-Err.why c.in-Err.ensures.refused c.refuse_change.ensures.text
+returns-clause-text g c =
+    says_due g.W.Write.contents c.args.output.now c.refuse_change.new.output c.args.asked.now c.refuse_change.result
+    c.args.plant.state (meaning (plain_tree (tree_of c.args.tree.now)) c.args.plant.state) c.in-Err.why
+    c.in-Err.ensures.refused c.refuse_change.ensures.text

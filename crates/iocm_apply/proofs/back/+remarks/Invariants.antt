@@ -11,4 +11,6 @@ abbrev pub decreases-put_parts : goal.decreases-put_parts
 decreases-put_parts g l = 2 * nodes_among (map tree_of l.parts.now.items) + 1
 
 abbrev pub invariant-put_parts-loop-part : goal.invariant-put_parts-loop-part
-invariant-put_parts-loop-part g l = l.text.items ++ remarks_among (plain_parts (parts_of (drop l.part-index l.part-items))) ≡ l.fn.text.items ++ remarks_among (plain_parts (parts_of l.parts.items))
+invariant-put_parts-loop-part g l =
+    l.text.items ++ remarks_among (plain_parts (parts_of (drop l.part-index l.part-items))) ≡ l.fn.text.items
+    ++ remarks_among (plain_parts (parts_of l.parts.items))

@@ -22,5 +22,7 @@ returns-in-Ok-clause-text g c =
     (c.print_wanted.ensures.text c.numbers.result.now.numbers (c.in-Ok.ensures.cells ∙ c.cells.ensures))
 
 pub returns-in-Err-clause-text : goal.returns-in-Err-clause-text
-returns-in-Err-clause-text g c = says_memory g.W.Write.contents c.args.output.now c.refuse.new.output c.refuse.result c.from.result
-    (shows c.args.altered (wanted_table c.args.filters.now c.args.plant.now.state.config c.args.plant.now.state.numbers)) c.from.ensures c.refuse.ensures.text
+returns-in-Err-clause-text g c = says_memory g.W.Write.contents c.args.output.now c.refuse.new.output c.refuse.result
+    c.from.result
+    (shows c.args.altered (wanted_table c.args.filters.now c.args.plant.now.state.config
+    c.args.plant.now.state.numbers)) c.from.ensures c.refuse.ensures.text

@@ -37,7 +37,9 @@ pub returns-in-Table-clause-text : goal.returns-in-Table-clause-text
 returns-in-Table-clause-text g c w es s fits made =
     let t = c.args.plant.now.state in
     says_named g.W.Write.contents c.args.output.now c.print_table.new.output c.print_table.result
-    (table_below (count_altered es s) (wanted_table c.filters.result.now t.config t.numbers)) (reported c.args.report w es s t)
+    (table_below (count_altered es s) (wanted_table c.filters.result.now t.config t.numbers))
+    (reported c.args.report w es s t)
     (ap (λ r. reported r w es s t) c.in-Table.is
-    ∙ ap (λ v. table_below (count_altered es s) (wanted_table v t.config t.numbers)) (sym (c.filters.ensures ∙ fits.asked)))
+    ∙ ap (λ v. table_below (count_altered es s) (wanted_table v t.config t.numbers))
+    (sym (c.filters.ensures ∙ fits.asked)))
     (c.print_table.ensures.text es s (told _ _ _ c.as_slice-performed.ensures.value made.performed))

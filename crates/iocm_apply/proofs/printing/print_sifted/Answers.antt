@@ -5,5 +5,8 @@ use Rattle.iocm_apply.proofs.Applying.{says_then}
 use Rattle.iocm_apply.proofs.printing.print_sifted.Goals as goal
 
 pub returns-clause-text : goal.returns-clause-text
-returns-clause-text g c = says_then g.W.Write.contents c.args.output.now c.write_sifted.new.output c.changed.new.self c.write_sifted.result
-    (changed_text c.args.altered ++ 10 ∷ []) (sifted_at c.args.sieve.now c.args.cells.now.records c.args.cells.now.cells) c.in_ok-changed.ensures.text c.write_sifted.ensures.text
+returns-clause-text g c = says_then g.W.Write.contents c.args.output.now c.write_sifted.new.output c.changed.new.self
+    c.write_sifted.result
+    (changed_text c.args.altered ++ 10 ∷ [])
+    (sifted_at c.args.sieve.now c.args.cells.now.records c.args.cells.now.cells) c.in_ok-changed.ensures.text
+    c.write_sifted.ensures.text

@@ -13,6 +13,8 @@ returns-in-Ok-clause-text g c es s told =
     (ap (λ n. table_below n table) (sym (c.in-Ok.ensures es s told))) c.print_machine.ensures.text
 
 pub returns-in-Err-clause-text : goal.returns-in-Err-clause-text
-returns-in-Err-clause-text g c es s told = says_memory g.W.Write.contents c.args.output.now c.refuse.new.output c.refuse.result c.from.result
-    (table_below (count_altered es s) (wanted_table c.args.filters.now c.args.plant.now.state.config c.args.plant.now.state.numbers))
+returns-in-Err-clause-text g c es s told = says_memory g.W.Write.contents c.args.output.now c.refuse.new.output
+    c.refuse.result c.from.result
+    (table_below (count_altered es s)
+    (wanted_table c.args.filters.now c.args.plant.now.state.config c.args.plant.now.state.numbers))
     c.from.ensures c.refuse.ensures.text

@@ -18,7 +18,8 @@ returns-then-is_none-clause-text g c n places =
     let cells = c.args.cells.now in
     let records = c.args.config.now.records in
     says_as g.W.Write.contents c.args.output.now c.print_lines.new.output c.print_lines.result
-    (shows c.args.altered (table_at cells.records cells.cells).text) (shows c.args.altered (wanted_table c.args.filters.now records n))
+    (shows c.args.altered (table_at cells.records cells.cells).text)
+    (shows c.args.altered (wanted_table c.args.filters.now records n))
     (ap (shows c.args.altered) (table_of_cells cells records n c.requires places
     ∙ whole_table c.args.filters.now records n (sym c.is_none.ensures ∙ c.if-is_none.true)))
     c.print_lines.ensures.text
@@ -28,10 +29,14 @@ returns-in-Ok-clause-text g c n places =
     let cells = c.args.cells.now in
     let records = c.args.config.now.records in
     says_as g.W.Write.contents c.args.output.now c.print_sifted.new.output c.print_sifted.result
-    (shows c.args.altered (sifted_at c.in-Ok.sieve cells.records cells.cells).text) (shows c.args.altered (wanted_table c.args.filters.now records n))
-    (ap (shows c.args.altered) (sifted_table cells records n c.in-Ok.sieve c.args.filters.now c.requires places c.in-Ok.ensures))
+    (shows c.args.altered (sifted_at c.in-Ok.sieve cells.records cells.cells).text)
+    (shows c.args.altered (wanted_table c.args.filters.now records n))
+    (ap (shows c.args.altered)
+    (sifted_table cells records n c.in-Ok.sieve c.args.filters.now c.requires places c.in-Ok.ensures))
     c.print_sifted.ensures.text
 
 pub returns-in-Err-clause-text : goal.returns-in-Err-clause-text
-returns-in-Err-clause-text g c n places = says_memory g.W.Write.contents c.args.output.now c.refuse.new.output c.refuse.result c.from.result
-    (shows c.args.altered (wanted_table c.args.filters.now c.args.config.now.records n)) c.from.ensures c.refuse.ensures.text
+returns-in-Err-clause-text g c n places = says_memory g.W.Write.contents c.args.output.now c.refuse.new.output
+    c.refuse.result c.from.result
+    (shows c.args.altered (wanted_table c.args.filters.now c.args.config.now.records n)) c.from.ensures
+    c.refuse.ensures.text

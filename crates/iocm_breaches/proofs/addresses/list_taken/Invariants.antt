@@ -1,6 +1,6 @@
 -- The breaches so far, with those of the records that are left, are all; and addresses have eight
 -- bits.
-use Rattle.std.proofs.Common.{◌≡◌, ℕ, false, ◌++◌}
+use Rattle.std.proofs.Common.{◌≡◌, false, ◌++◌}
 use Rattle.iocm_model.specs.Machine.Configuration.{records_of}
 use Rattle.iocm_lookup.specs.Entries.{in_entries}
 use Rattle.iocm_breaches.specs.Addresses.{is_met, listed_from, HaveBytes}

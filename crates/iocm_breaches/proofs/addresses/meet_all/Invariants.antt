@@ -6,5 +6,6 @@ use Rattle.iocm_breaches.specs.Addresses.{is_met}
 use Rattle.iocm_breaches.proofs.addresses.meet_all.Given as goal
 
 abbrev pub invariant-loop-unit : goal.invariant-loop-unit
-invariant-loop-unit g l = (n : ℕ) → (list_any (nat_eq n) (numbers_of l.address (drop l.unit-index l.units)) || is_met l.met n)
+invariant-loop-unit g l =
+    (n : ℕ) → (list_any (nat_eq n) (numbers_of l.address (drop l.unit-index l.units)) || is_met l.met n)
     ≡ (list_any (nat_eq n) (numbers_of l.address l.units) || is_met l.fn.met n)

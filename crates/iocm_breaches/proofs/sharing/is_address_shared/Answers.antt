@@ -11,5 +11,6 @@ use Rattle.iocm_breaches.proofs.sharing.is_address_shared.Goals as goal
 
 pub returns : goal.returns
 returns g c = c.is_shared_on_any.ensures
-    ∙ ap (list_any (clashes_on (lookup_of c.args.config.now.records) (rows naming_cmp c.args.index.now) (unit_of c.args.fields.now))) c.as_slice.ensures
+    ∙ ap (list_any (clashes_on (lookup_of c.args.config.now.records) (rows naming_cmp c.args.index.now)
+    (unit_of c.args.fields.now))) c.as_slice.ensures
     ∙ shared_is c.args.config.now.records c.args.index.now c.has_own_keys.ensures c.requires (unit_of c.args.fields.now)

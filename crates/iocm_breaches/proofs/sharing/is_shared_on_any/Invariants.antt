@@ -10,5 +10,6 @@ use Rattle.iocm_breaches.proofs.sharing.is_shared_on_any.Given as goal
 
 abbrev pub invariant-loop-path : goal.invariant-loop-path
 invariant-loop-path g l =
-    list_any (clashes_on (lookup_of l.config.records) (rows naming_cmp l.index) (unit_of l.fields)) (drop l.path-index l.paths)
+    list_any (clashes_on (lookup_of l.config.records) (rows naming_cmp l.index) (unit_of l.fields))
+    (drop l.path-index l.paths)
     ≡ list_any (clashes_on (lookup_of l.config.records) (rows naming_cmp l.index) (unit_of l.fields)) l.paths

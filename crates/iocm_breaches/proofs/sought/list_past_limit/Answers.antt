@@ -8,5 +8,9 @@ use Rattle.iocm_breaches.proofs.NotBroken.{nothing_behind}
 use Rattle.iocm_breaches.proofs.sought.list_past_limit.Goals as goal
 
 pub returns-then-is_none : goal.returns-then-is_none
-returns-then-is_none g c = nothing_behind V13 (breaks_v13 c.args.config.now.records (opening c.args.config.now.records)) c.args.config.now.records
-    c.args.breaches.now.items (sym c.in_ok-first_past_limit_at_opening.ensures ∙ absent c.in_ok-first_past_limit_at_opening.field-0 c.if-is_none.ensures)
+returns-then-is_none g c =
+    nothing_behind V13 (breaks_v13 c.args.config.now.records (opening c.args.config.now.records))
+    c.args.config.now.records
+    c.args.breaches.now.items
+    (sym c.in_ok-first_past_limit_at_opening.ensures
+    ∙ absent c.in_ok-first_past_limit_at_opening.field-0 c.if-is_none.ensures)

@@ -5,4 +5,5 @@ use Rattle.iocm_change_records.specs.Table.{is_key_bare}
 use Rattle.iocm_change_records.proofs.table.is_one_bare.Given as goal
 
 abbrev pub invariant-loop-row : goal.invariant-loop-row
-invariant-loop-row l = list_any (is_key_bare l.operands) (map seen_row (drop l.row-index l.rows)) ≡ list_any (is_key_bare l.operands) (map seen_row l.rows)
+invariant-loop-row l = list_any (is_key_bare l.operands) (map seen_row (drop l.row-index l.rows))
+    ≡ list_any (is_key_bare l.operands) (map seen_row l.rows)

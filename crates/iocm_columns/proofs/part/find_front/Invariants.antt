@@ -1,4 +1,4 @@
-use Rattle.std.proofs.Common.{◌≡◌, Bool, ◌++◌, List, take, drop}
+use Rattle.std.proofs.Common.{◌≡◌, ◌++◌, take, drop}
 use Rattle.std.specs.List.{fold}
 use Rattle.iocm_columns.specs.Part.{front, switched}
 use Rattle.iocm_columns.proofs.part.find_front.Given as goal

@@ -7,4 +7,5 @@ pub returns : goal.returns
 returns c =
     let none : length c.loop-first.rest.now ≡ 0 = c.in_default.ensures.cases in
     let done = c.loop-first.statements.items in
-    sym (append-nil done) ∙ ap (λ gs. done ++ map statement_of gs) (sym (groups_of_none c.loop-first.rest.now none)) ∙ c.loop-first.invariant
+    sym (append-nil done) ∙ ap (λ gs. done ++ map statement_of gs) (sym (groups_of_none c.loop-first.rest.now none))
+    ∙ c.loop-first.invariant

@@ -9,5 +9,6 @@ pub returns-clause-app : goal.returns-clause-app
 returns-clause-app c = IfOk-weaker c.with_filter.result
     (λ made. app_of made ≡ with_filter (app_of c.in_ok-command-2.command) (codes "paths-online"))
     (λ made. app_of made ≡ with_filters (app_of c.args.command))
-    (λ made same. same ∙ ap (λ a. with_filter a (codes "paths-online")) (c.in_ok-command-2.ensures.app ∙ ap (λ a. with_ways a) c.in_ok-command.ensures.app))
+    (λ made same. same ∙ ap (λ a. with_filter a (codes "paths-online"))
+    (c.in_ok-command-2.ensures.app ∙ ap (λ a. with_ways a) c.in_ok-command.ensures.app))
     c.with_filter.ensures.app

@@ -14,10 +14,13 @@ pub returns-in-Ok-clause-text : goal.returns-in-Ok-clause-text
 returns-in-Ok-clause-text g c w fits =
     let cells = c.in-Ok.cells in
     says_as g.W.Write.contents c.args.output.now c.write_sifted.new.output c.write_sifted.result
-    (sifted_at c.args.sieve.now cells.records cells.cells) (wanted_done w c.args.config.now.records (opening c.args.config.now.records))
-    (ap shows (sifted_table cells c.args.config.now.records (opening c.args.config.now.records) c.args.sieve.now w c.in-Ok.ensures.records c.in-Ok.ensures.cells fits))
+    (sifted_at c.args.sieve.now cells.records cells.cells)
+    (wanted_done w c.args.config.now.records (opening c.args.config.now.records))
+    (ap shows (sifted_table cells c.args.config.now.records (opening c.args.config.now.records) c.args.sieve.now w
+    c.in-Ok.ensures.records c.in-Ok.ensures.cells fits))
     c.write_sifted.ensures.text
 
 pub returns-in-Err-clause-text : goal.returns-in-Err-clause-text
-returns-in-Err-clause-text g c w fits = says_memory g.W.Write.contents c.args.output.now c.refuse.new.output c.refuse.result c.from.result
+returns-in-Err-clause-text g c w fits = says_memory g.W.Write.contents c.args.output.now c.refuse.new.output
+    c.refuse.result c.from.result
     (wanted_done w c.args.config.now.records (opening c.args.config.now.records)) c.from.ensures c.refuse.ensures.text

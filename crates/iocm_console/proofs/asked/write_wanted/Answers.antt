@@ -17,12 +17,15 @@ returns-then-is_none-clause-text g c =
     let records = c.args.config.now.records in
     says_named g.W.Write.contents c.args.output.now c.write_table.new.output c.write_table.result
     (table_done records (opening records)) (wanted_done c.args.filters.now records (opening records))
-    (ap shows (sym (whole_table c.args.filters.now records (opening records) (sym c.is_none.ensures ∙ c.if-is_none.true))))
+    (ap shows (sym (whole_table c.args.filters.now records (opening records)
+    (sym c.is_none.ensures ∙ c.if-is_none.true))))
     c.write_table.ensures.text
 
 pub returns-in-Ok-clause-text : goal.returns-in-Ok-clause-text
 returns-in-Ok-clause-text g c = c.write_passing.ensures.text c.args.filters.now c.in-Ok.ensures
 
 pub returns-in-Err-clause-text : goal.returns-in-Err-clause-text
-returns-in-Err-clause-text g c = says_memory g.W.Write.contents c.args.output.now c.refuse.new.output c.refuse.result c.from.result
-    (wanted_done c.args.filters.now c.args.config.now.records (opening c.args.config.now.records)) c.from.ensures c.refuse.ensures.text
+returns-in-Err-clause-text g c = says_memory g.W.Write.contents c.args.output.now c.refuse.new.output c.refuse.result
+    c.from.result
+    (wanted_done c.args.filters.now c.args.config.now.records (opening c.args.config.now.records)) c.from.ensures
+    c.refuse.ensures.text

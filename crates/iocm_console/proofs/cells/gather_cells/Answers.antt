@@ -18,9 +18,11 @@ loop-cell-preserved g c =
           ∙ ap (λ xs. xs ++ c.next.new.self) (map-append (λ (e : CellDevice). (e.cell, e.device)) old (more ∷ []))
           ∙ append_assoc (celled old) (celled (more ∷ [])) c.next.new.self
           ∙ (λ i. celled old ++ (c.compared.ensures.cell i, c.compared.ensures.device i) ∷ c.next.new.self)
-          ∙ ap (λ xs. celled old ++ xs) (sym (rest_more deref_pair _ _ _ (c.in-Some.cell, c.in-Some.device) c.in-Some.is c.next.ensures.steps))
+          ∙ ap (λ xs. celled old ++ xs)
+          (sym (rest_more deref_pair _ _ _ (c.in-Some.cell, c.in-Some.device) c.in-Some.is c.next.ensures.steps))
           ∙ c.loop-cell.invariant.cells;
-      alike = rw c.in_ok-push.ensures.items (All-push (IsAlike (lookup_of c.args.config.now.records)) old more c.loop-cell.invariant.alike
+      alike = rw c.in_ok-push.ensures.items
+          (All-push (IsAlike (lookup_of c.args.config.now.records)) old more c.loop-cell.invariant.alike
           (subst (λ m. IsAlike (lookup_of m) more) c.loop-cell.invariant.records c.compared.ensures.alike));
       there = c.compared.ensures.there;
       records = c.compared.ensures.records ∙ c.loop-cell.invariant.records;

@@ -14,7 +14,8 @@ loop-row-preserved g c = let old = c.loop-row.cells.items in let more = c.compar
       ∙ (λ i. c.loop-row.invariant.cells i ++ (c.compared.ensures.cell i, c.compared.ensures.device i) ∷ [])
       ∙ sym (take_more c.args.taken.now c.loop-row.row-index c.row-item.result c.loop-row-test.true
       ∙ ap (λ e. take c.loop-row.row-index c.args.taken.now ++ e ∷ []) (sym c.row-item.is));
-  alike = rw c.in_ok-push.ensures.items (All-push (IsAlike (lookup_of c.args.config.now.records)) old more c.loop-row.invariant.alike
+  alike = rw c.in_ok-push.ensures.items
+      (All-push (IsAlike (lookup_of c.args.config.now.records)) old more c.loop-row.invariant.alike
       (subst (λ m. IsAlike (lookup_of m) more) c.loop-row.invariant.records c.compared.ensures.alike));
   there = c.compared.ensures.there;
   records = c.compared.ensures.records ∙ c.loop-row.invariant.records;

@@ -15,9 +15,11 @@ loop-breach-preserved g c =
     let b = c.breach-item.result in
     record {
       text = appends_as _ _ _ _ (appends_then _ _ _ _ _ c.loop-breach.invariant.text c.in_ok-breach.ensures.text)
-          (ap (λ xs. flat_map breach_line (take c.loop-breach.breach-index c.args.breaches.now) ++ xs) (sym (append-nil (breach_line b)))
+          (ap (λ xs. flat_map breach_line (take c.loop-breach.breach-index c.args.breaches.now) ++ xs)
+          (sym (append-nil (breach_line b)))
           ∙ sym (flat_map-append breach_line (take c.loop-breach.breach-index c.args.breaches.now) (b ∷ []))
-          ∙ ap (flat_map breach_line) (ap (λ (y : Breach). take c.loop-breach.breach-index c.args.breaches.now ++ y ∷ []) c.breach-item.is
+          ∙ ap (flat_map breach_line)
+          (ap (λ (y : Breach). take c.loop-breach.breach-index c.args.breaches.now ++ y ∷ []) c.breach-item.is
           ∙ sym (take_more c.args.breaches.now c.loop-breach.breach-index b c.loop-breach-test.true)));
       works = c.in_ok-breach.ensures.works ∙ c.loop-breach.invariant.works;
     }

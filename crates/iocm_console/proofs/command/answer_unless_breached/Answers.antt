@@ -8,16 +8,23 @@ use Rattle.iocm_console.proofs.Showing.{says_memory}
 use Rattle.iocm_console.proofs.command.answer_unless_breached.Goals as goal
 
 pub returns-in-Ok-None-clause-text : goal.returns-in-Ok-None-clause-text
-returns-in-Ok-None-clause-text g c = says_named g.W.Write.contents c.args.output.now c.answer_kept.new.output c.answer_kept.result
-    (shown_by c.args.command c.args.config.now.records (opening c.args.config.now.records)) (opened (shown_by c.args.command) c.args.config.now.records)
-    (opened_is (shown_by c.args.command) c.args.config.now.records None (let e = c.in-Ok-None.is in let f = c.in-Ok-None.ensures in cc)) c.answer_kept.ensures.text
+returns-in-Ok-None-clause-text g c = says_named g.W.Write.contents c.args.output.now c.answer_kept.new.output
+    c.answer_kept.result
+    (shown_by c.args.command c.args.config.now.records (opening c.args.config.now.records))
+    (opened (shown_by c.args.command) c.args.config.now.records)
+    (opened_is (shown_by c.args.command) c.args.config.now.records None
+    (let e = c.in-Ok-None.is in let f = c.in-Ok-None.ensures in cc)) c.answer_kept.ensures.text
 
 pub returns-in-Ok-Some-clause-text : goal.returns-in-Ok-Some-clause-text
-returns-in-Ok-Some-clause-text g c = says_named g.W.Write.contents c.args.output.now c.refuse_breach.new.output c.refuse_breach.result
+returns-in-Ok-Some-clause-text g c = says_named g.W.Write.contents c.args.output.now c.refuse_breach.new.output
+    c.refuse_breach.result
     (breached c.in-Ok-Some.breach) (opened (shown_by c.args.command) c.args.config.now.records)
-    (opened_is (shown_by c.args.command) c.args.config.now.records (Some c.in-Ok-Some.breach) (let e = c.in-Ok-Some.is in let f = c.in-Ok-Some.ensures in cc))
-    (says_surely g.W.Write.contents c.args.output.now c.refuse_breach.new.output c.refuse_breach.result (breached c.in-Ok-Some.breach) c.refuse_breach.ensures.text)
+    (opened_is (shown_by c.args.command) c.args.config.now.records (Some c.in-Ok-Some.breach)
+    (let e = c.in-Ok-Some.is in let f = c.in-Ok-Some.ensures in cc))
+    (says_surely g.W.Write.contents c.args.output.now c.refuse_breach.new.output c.refuse_breach.result
+    (breached c.in-Ok-Some.breach) c.refuse_breach.ensures.text)
 
 pub returns-in-Err-clause-text : goal.returns-in-Err-clause-text
-returns-in-Err-clause-text g c = says_memory g.W.Write.contents c.args.output.now c.refuse.new.output c.refuse.result c.from.result
+returns-in-Err-clause-text g c = says_memory g.W.Write.contents c.args.output.now c.refuse.new.output c.refuse.result
+    c.from.result
     (opened (shown_by c.args.command) c.args.config.now.records) c.from.ensures c.refuse.ensures.text

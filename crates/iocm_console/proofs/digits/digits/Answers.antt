@@ -7,6 +7,8 @@ use Rattle.iocm_console.proofs.digits.digits.Goals as goal
 pub returns : goal.returns
 returns c =
     let small = c.ranges.value.fits in
-    let high = c.pair_digit.ensures ∙ ap (λ v. get_or PAIRS (2 * v) 0) c.from-at.ensures ∙ high_digit c.args.value small in
-    let low = c.pair_digit-2.ensures ∙ ap (λ v. get_or PAIRS (2 * v + 1) 0) c.from-at.ensures ∙ low_digit c.args.value small in
+    let high = c.pair_digit.ensures ∙ ap (λ v. get_or PAIRS (2 * v) 0) c.from-at.ensures
+    ∙ high_digit c.args.value small in
+    let low = c.pair_digit-2.ensures ∙ ap (λ v. get_or PAIRS (2 * v + 1) 0) c.from-at.ensures
+    ∙ low_digit c.args.value small in
     λ i. high i ∷ low i ∷ []

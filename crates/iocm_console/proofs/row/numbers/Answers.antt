@@ -21,4 +21,5 @@ returns c =
       c.bits.ensures,
       c.bits-2.ensures,
     )
-    (line_by_places c.args.id c.args.view.now (omega arith) (omega arith) (omega arith) (omega arith) (omega arith) (omega arith) (omega arith))
+    (line_by_places c.args.id c.args.view.now (omega arith) (omega arith) (omega arith) (omega arith) (omega arith)
+    (omega arith) (omega arith))

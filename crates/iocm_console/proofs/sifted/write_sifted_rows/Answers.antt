@@ -13,20 +13,26 @@ use Rattle.iocm_console.proofs.SiftedRows.{sifted_record_lines_more, sifted_reco
 use Rattle.iocm_console.proofs.sifted.write_sifted_rows.Goals as goal
 
 pub loop-entry-init : goal.loop-entry-init
-loop-entry-init g c = record { text = appends_as _ _ _ _ (appends_nothing _) (sifted_record_lines-nil _ _ _); works = refl }
+loop-entry-init g c = record
+    { text = appends_as _ _ _ _ (appends_nothing _) (sifted_record_lines-nil _ _ _); works = refl }
 
 pub loop-entry-preserved : goal.loop-entry-preserved
 loop-entry-preserved g c = record {
-  text = appends_as _ _ _ _ (appends_then _ _ _ _ _ c.loop-entry.invariant.text c.in_ok-write_sifted_record.ensures.text)
-      (sifted_record_lines_more c.args.sieve.now (lookup_of c.args.config.now.records) (celled c.args.cells.now) deref_pair c.loop-entry.yielded
+  text = appends_as _ _ _ _
+      (appends_then _ _ _ _ _ c.loop-entry.invariant.text c.in_ok-write_sifted_record.ensures.text)
+      (sifted_record_lines_more c.args.sieve.now (lookup_of c.args.config.now.records) (celled c.args.cells.now)
+      deref_pair c.loop-entry.yielded
       (c.in-Some.field-0-0, c.in-Some.entry));
   works = c.in_ok-write_sifted_record.ensures.works ∙ c.loop-entry.invariant.works;
 }
 
 pub returns-clause-text : goal.returns-clause-text
 returns-clause-text g c =
-    let all = iter_end deref_pair (entries c.args.config.now.records) c.loop-entry.yielded c.into_iter-entry-iterator.result c.loop-entry.entry-iterator c.next.new.self c.next.result
-    (c.into_iter-entry-iterator.ensures.into_iter_gives ∙ c.walk-entry-items.ensures.entries) c.loop-entry.yielded_by c.in-None.is c.next.ensures.steps in
+    let all = iter_end deref_pair (entries c.args.config.now.records) c.loop-entry.yielded
+    c.into_iter-entry-iterator.result c.loop-entry.entry-iterator c.next.new.self c.next.result
+    (c.into_iter-entry-iterator.ensures.into_iter_gives ∙ c.walk-entry-items.ensures.entries) c.loop-entry.yielded_by
+    c.in-None.is c.next.ensures.steps in
     subst (λ (es : List (Key × Rec)). Prints g.W.Write.contents c.args.output.now c.loop-entry.output
-    (sifted_record_lines c.args.sieve.now (lookup_of c.args.config.now.records) (celled c.args.cells.now) (map (λ (e : Key × Rec). e.1) es)))
+    (sifted_record_lines c.args.sieve.now (lookup_of c.args.config.now.records) (celled c.args.cells.now)
+    (map (λ (e : Key × Rec). e.1) es)))
     all.0 c.loop-entry.invariant.text

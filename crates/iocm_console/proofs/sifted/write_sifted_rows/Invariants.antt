@@ -10,6 +10,7 @@ use Rattle.iocm_console.proofs.sifted.write_sifted_rows.Given as goal
 
 abbrev pub invariant-loop-entry : goal.invariant-loop-entry
 invariant-loop-entry g l = record {
-  text : Prints g.W.Write.contents l.initial.output l.output (sifted_record_lines l.sieve (lookup_of l.config.records) (celled l.cells) (records_in deref_pair l.yielded));
+  text : Prints g.W.Write.contents l.initial.output l.output
+      (sifted_record_lines l.sieve (lookup_of l.config.records) (celled l.cells) (records_in deref_pair l.yielded));
   works : has_failed l.output ≡ has_failed l.initial.output;
 }

@@ -6,7 +6,8 @@ pub loop-last-preserved : goal.loop-last-preserved
 loop-last-preserved c = record {
   lines = without_last c.args.css c.in-Some.last.now c.loop-last.rest.now c.in-Some.more.now c.args.cells.now
       c.in-Some.ensures.cases.0 (sym c.eq.ensures ∙ c.if-eq.false) c.loop-last.invariant.lines;
-  alike = alike_before_last c.in-Some.last.now c.loop-last.rest.now c.in-Some.more.now c.args.cells.now c.in-Some.ensures.cases.0 c.loop-last.invariant.alike;
+  alike = alike_before_last c.in-Some.last.now c.loop-last.rest.now c.in-Some.more.now c.args.cells.now
+      c.in-Some.ensures.cases.0 c.loop-last.invariant.alike;
 }
 
 pub returns-then-eq-clause-alike : goal.returns-then-eq-clause-alike

@@ -7,12 +7,16 @@ use Rattle.iocm_console.proofs.Rows.{record_lines-image, record_lines-other, no_
 use Rattle.iocm_console.proofs.table.write_record.Goals as goal
 
 pub returns-in-Image-clause-text : goal.returns-in-Image-clause-text
-returns-in-Image-clause-text g c = on_ok_weaker c.write_image.result (λ h. appends_as _ _ _ _ h (record_lines-image _ _ _ _ (sym c.body.ensures ∙ ap record_of c.in-Image.is))) c.write_image.ensures.text
+returns-in-Image-clause-text g c =
+    on_ok_weaker c.write_image.result
+    (λ h. appends_as _ _ _ _ h (record_lines-image _ _ _ _ (sym c.body.ensures ∙ ap record_of c.in-Image.is)))
+    c.write_image.ensures.text
 
 pub returns-in_default : goal.returns-in_default
 returns-in_default g c = record {
   text = appends_as _ _ _ _ (appends_nothing _)
-      (sym (record_lines-other _ _ _ (ap as_image (sym c.body.ensures) ∙ no_image c.body.result.now c.in_default.not-Image)));
+      (sym (record_lines-other _ _ _
+      (ap as_image (sym c.body.ensures) ∙ no_image c.body.result.now c.in_default.not-Image)));
   works = refl;
   fault = tt;
 }

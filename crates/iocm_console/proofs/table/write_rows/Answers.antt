@@ -26,13 +26,17 @@ loop-entry-preserved g c =
     let css = c.css_of_image-css.result in
     let now : AreNear all c.if-ne.near × (c.if-ne.near.css ≡ css) = elim c.if-ne.branch [
       | then-ne w ↦ rw w.near-is (w.of-near-then-ne.ensures.near, w.of-near-then-ne.ensures.css)
-      | else-ne w ↦ rw w.near-is (c.loop-entry.invariant.near, sym (same_css css c.loop-entry.near.css (sym c.ne.ensures ∙ w.if-ne.false)))
+      | else-ne w ↦ rw w.near-is
+          (c.loop-entry.invariant.near, sym (same_css css c.loop-entry.near.css (sym c.ne.ensures ∙ w.if-ne.false)))
     ] in
-    let same = near_lines (lookup_of c.args.config.now.records) c.if-ne.near all _ now.0 (λ i is. c.css_of_image-css.ensures i is ∙ sym now.1) in
+    let same = near_lines (lookup_of c.args.config.now.records) c.if-ne.near all _ now.0
+    (λ i is. c.css_of_image-css.ensures i is ∙ sym now.1) in
     record {
       text = appends_as _ _ _ _ (appends_then _ _ _ _ _ c.loop-entry.invariant.text
-          (subst (Prints g.W.Write.contents c.loop-entry.output c.write_record.new.output) same c.in_ok-write_record.ensures.text))
-          (record_lines_more (lookup_of c.args.config.now.records) all deref_pair c.loop-entry.yielded (c.in-Some.field-0-0, c.in-Some.entry));
+          (subst (Prints g.W.Write.contents c.loop-entry.output c.write_record.new.output) same
+          c.in_ok-write_record.ensures.text))
+          (record_lines_more (lookup_of c.args.config.now.records) all deref_pair c.loop-entry.yielded
+          (c.in-Some.field-0-0, c.in-Some.entry));
       works = c.in_ok-write_record.ensures.works ∙ c.loop-entry.invariant.works;
       near = now.0;
       alike = elim c.if-ne.branch [
@@ -43,8 +47,10 @@ loop-entry-preserved g c =
 
 pub returns-clause-text : goal.returns-clause-text
 returns-clause-text g c =
-    let all = iter_end deref_pair (entries c.args.config.now.records) c.loop-entry.yielded c.into_iter-entry-iterator.result c.loop-entry.entry-iterator c.next.new.self c.next.result
-    (c.into_iter-entry-iterator.ensures.into_iter_gives ∙ c.walk-entry-items.ensures.entries) c.loop-entry.yielded_by c.in-None.is c.next.ensures.steps in
+    let all = iter_end deref_pair (entries c.args.config.now.records) c.loop-entry.yielded
+    c.into_iter-entry-iterator.result c.loop-entry.entry-iterator c.next.new.self c.next.result
+    (c.into_iter-entry-iterator.ensures.into_iter_gives ∙ c.walk-entry-items.ensures.entries) c.loop-entry.yielded_by
+    c.in-None.is c.next.ensures.steps in
     subst (λ (es : List (Key × Rec)). Prints g.W.Write.contents c.args.output.now c.loop-entry.output
     (record_lines (lookup_of c.args.config.now.records) (celled c.args.cells.now) (map (λ (e : Key × Rec). e.1) es)))
     all.0 c.loop-entry.invariant.text

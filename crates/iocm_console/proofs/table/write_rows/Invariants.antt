@@ -11,7 +11,8 @@ use Rattle.iocm_console.proofs.table.write_rows.Given as goal
 
 abbrev pub invariant-loop-entry : goal.invariant-loop-entry
 invariant-loop-entry g l = record {
-  text : Prints g.W.Write.contents l.initial.output l.output (record_lines (lookup_of l.config.records) (celled l.cells) (records_in deref_pair l.yielded));
+  text : Prints g.W.Write.contents l.initial.output l.output
+      (record_lines (lookup_of l.config.records) (celled l.cells) (records_in deref_pair l.yielded));
   works : has_failed l.output ≡ has_failed l.initial.output;
   near : AreNear (celled l.cells) l.near;
   alike : All (IsAlike (lookup_of l.config.records)) l.near.cells.now;

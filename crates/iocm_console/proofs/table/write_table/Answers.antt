@@ -15,9 +15,11 @@ returns-in-Ok-clause-text g c =
     let cells = c.in-Ok.cells in
     says_as g.W.Write.contents c.args.output.now c.write_lines.new.output c.write_lines.result
     (table_at cells.records cells.cells) (table_done c.args.config.now.records (opening c.args.config.now.records))
-    (ap shows (table_of_cells cells c.args.config.now.records (opening c.args.config.now.records) c.in-Ok.ensures.records c.in-Ok.ensures.cells))
+    (ap shows (table_of_cells cells c.args.config.now.records (opening c.args.config.now.records)
+    c.in-Ok.ensures.records c.in-Ok.ensures.cells))
     c.write_lines.ensures.text
 
 pub returns-in-Err-clause-text : goal.returns-in-Err-clause-text
-returns-in-Err-clause-text g c = says_memory g.W.Write.contents c.args.output.now c.refuse.new.output c.refuse.result c.from.result
+returns-in-Err-clause-text g c = says_memory g.W.Write.contents c.args.output.now c.refuse.new.output c.refuse.result
+    c.from.result
     (table_done c.args.config.now.records (opening c.args.config.now.records)) c.from.ensures c.refuse.ensures.text

@@ -6,4 +6,5 @@ pub returns : goal.returns
 returns g c =
     let all : c.loop-entry.entry-iterator ≡ [] = grind (arith, c.next.ensures, c.in-None.is) in
     let same : c.into_iter-entry-iterator.result ≡ c.args.walk = grind (arith, c.into_iter-entry-iterator.ensures) in
-    sym (append-nil _) ∙ ap (λ rest. map (λ k. k.now) c.loop-entry.records.items ++ map (λ row. row.1) rest) (sym all) ∙ c.loop-entry.invariant ∙ ap (map (λ row. row.1)) same
+    sym (append-nil _) ∙ ap (λ rest. map (λ k. k.now) c.loop-entry.records.items ++ map (λ row. row.1) rest) (sym all)
+    ∙ c.loop-entry.invariant ∙ ap (map (λ row. row.1)) same

@@ -9,10 +9,13 @@ pub loop-number-preserved : goal.loop-number-preserved
 loop-number-preserved c =
     c.in_ok-put_places.ensures
     ∙ ap (λ items. items ++ places_in c.args.limits.now c.subsystem.result) c.loop-number.invariant
-    ∙ ap (λ css. flat_map (places_in c.args.limits.now) (range_with_len 0 c.loop-number.number) ++ places_in c.args.limits.now css) c.subsystem.ensures
+    ∙ ap (λ css. flat_map (places_in c.args.limits.now) (range_with_len 0 c.loop-number.number)
+    ++ places_in c.args.limits.now css) c.subsystem.ensures
     ∙ sym (flat_map_more (places_in c.args.limits.now) 0 c.loop-number.number c.loop-number.number (omega arith))
 
 pub returns : goal.returns
 returns c =
     let all : c.loop-number.number ≡ 6 = omega (arith, c.loop-number-test.false, c.loop-number.auto.number-end) in
-    c.in_ok-text.ensures ∙ ap by_css_text (c.deref.ensures.value ∙ c.loop-number.invariant ∙ ap (λ n. flat_map (places_in c.args.limits.now) (range_with_len 0 n)) all)
+    c.in_ok-text.ensures ∙ ap by_css_text
+    (c.deref.ensures.value ∙ c.loop-number.invariant
+    ∙ ap (λ n. flat_map (places_in c.args.limits.now) (range_with_len 0 n)) all)

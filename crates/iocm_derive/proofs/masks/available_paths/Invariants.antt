@@ -7,6 +7,9 @@ use Rattle.iocm_derive.proofs.masks.available_paths.Given as goal
 abbrev pub invariant-loop-path : goal.invariant-loop-path
 invariant-loop-path g l = record {
   small : l.bits + 2 * l.bit ≤ 256;
-  rest : l.bits + mask_from l.bit (is_online (lookup_of (g.R.Reach.records l.reach)) (g.R.Reach.subsystem l.reach) (g.R.Reach.called l.reach)) (drop l.path-index l.path-items)
-      ≡ mask_from 128 (is_online (lookup_of (g.R.Reach.records l.reach)) (g.R.Reach.subsystem l.reach) (g.R.Reach.called l.reach)) l.path-items;
+  rest : l.bits + mask_from l.bit
+      (is_online (lookup_of (g.R.Reach.records l.reach)) (g.R.Reach.subsystem l.reach) (g.R.Reach.called l.reach))
+      (drop l.path-index l.path-items)
+      ≡ mask_from 128 (is_online (lookup_of (g.R.Reach.records l.reach)) (g.R.Reach.subsystem l.reach)
+      (g.R.Reach.called l.reach)) l.path-items;
 }

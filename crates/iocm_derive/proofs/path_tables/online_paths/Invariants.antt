@@ -7,4 +7,6 @@ use Rattle.iocm_derive.proofs.Tables.{IsFilling}
 use Rattle.iocm_derive.proofs.path_tables.online_paths.Given as goal
 
 abbrev pub invariant-loop-key : goal.invariant-loop-key
-invariant-loop-key g l = IsFilling (Online l.css 0 l.name) (λ n. Online l.css n l.name) is_some (is_online (lookup_of l.config.records) l.css l.name) l.online l.key-iterator
+invariant-loop-key g l =
+    IsFilling (Online l.css 0 l.name) (λ n. Online l.css n l.name) is_some
+    (is_online (lookup_of l.config.records) l.css l.name) l.online l.key-iterator

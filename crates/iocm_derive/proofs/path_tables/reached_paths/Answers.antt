@@ -12,21 +12,28 @@ use Rattle.iocm_derive.proofs.Tables.{fill_begins, fill_more, fill_stops}
 use Rattle.iocm_derive.proofs.path_tables.reached_paths.Goals as goal
 
 pub loop-key-init : goal.loop-key-init
-loop-key-init g c = fill_begins (Path c.args.css 0) (Path c.args.css) (record_lists c.args.name) refl c.args.config.now.records
+loop-key-init g c = fill_begins (Path c.args.css 0) (Path c.args.css) (record_lists c.args.name) refl
+    c.args.config.now.records
     (reaches (lookup_of c.args.config.now.records) c.args.css c.args.name) (first_path c.args.css) (λ n. refl) _
     (c.into_iter-key-iterator.ensures.into_iter_gives ∙ c.walk_from-key-items.ensures.entries
     ∙ ap (λ n. rows_from key_cmp (Path c.args.css n) (entries c.args.config.now.records)) c.new.ensures)
 
 pub returns-in_default : goal.returns-in_default
 returns-in_default g c = fill_stops (Path c.args.css 0) (Path c.args.css) (record_lists c.args.name) refl
-    (reaches (lookup_of c.args.config.now.records) c.args.css c.args.name) c.loop-key.reached (c.in-Some.key.now, c.in-Some.entry.now) c.loop-key.key-iterator c.next.new.self
-    c.loop-key.invariant c.in-Some.ensures.steps (λ n. behind_paths c.args.css n c.in-Some.key.now (sym c.path_of.ensures ∙ c.in_default.is))
+    (reaches (lookup_of c.args.config.now.records) c.args.css c.args.name) c.loop-key.reached
+    (c.in-Some.key.now, c.in-Some.entry.now) c.loop-key.key-iterator c.next.new.self
+    c.loop-key.invariant c.in-Some.ensures.steps
+    (λ n. behind_paths c.args.css n c.in-Some.key.now (sym c.path_of.ensures ∙ c.in_default.is))
 
 pub loop-key-preserved : goal.loop-key-preserved
 loop-key-preserved g c = fill_more (Path c.args.css 0) (Path c.args.css) (record_lists c.args.name) refl
-    (reaches (lookup_of c.args.config.now.records) c.args.css c.args.name) c.loop-key.reached _ (c.in-Some.key.now, c.in-Some.entry.now) c.loop-key.key-iterator c.next.new.self
-    c.from.result c.lists_image.result c.loop-key.invariant c.in-Some.ensures.steps (omega (arith, c.from.ensures, c.number.type_inv)) refl
+    (reaches (lookup_of c.args.config.now.records) c.args.css c.args.name) c.loop-key.reached _
+    (c.in-Some.key.now, c.in-Some.entry.now) c.loop-key.key-iterator c.next.new.self
+    c.from.result c.lists_image.result c.loop-key.invariant c.in-Some.ensures.steps
+    (omega (arith, c.from.ensures, c.number.type_inv)) refl
     (λ n. ap (λ b. b && record_lists c.args.name (Some c.in-Some.entry.now))
-    (ties_with_path c.args.css c.in-Some-path_of.path c.in-Some.key.now (sym c.path_of.ensures ∙ c.in-Some-path_of.is) n)
-    ∙ ap (λ p. nat_eq n p && record_lists c.args.name (Some c.in-Some.entry.now)) (sym (c.from.ensures ∙ c.number.ensures))
+    (ties_with_path c.args.css c.in-Some-path_of.path c.in-Some.key.now (sym c.path_of.ensures ∙ c.in-Some-path_of.is)
+    n)
+    ∙ ap (λ p. nat_eq n p && record_lists c.args.name (Some c.in-Some.entry.now))
+    (sym (c.from.ensures ∙ c.number.ensures))
     ∙ ap (λ b. nat_eq n c.from.result && b) (sym c.lists_image.ensures))

@@ -6,4 +6,6 @@ use Rattle.iocm_derive.proofs.Tables.{IsFilling}
 use Rattle.iocm_derive.proofs.path_tables.reached_paths.Given as goal
 
 abbrev pub invariant-loop-key : goal.invariant-loop-key
-invariant-loop-key g l = IsFilling (Path l.css 0) (Path l.css) (record_lists l.name) (reaches (lookup_of l.config.records) l.css l.name) l.reached l.key-iterator
+invariant-loop-key g l =
+    IsFilling (Path l.css 0) (Path l.css) (record_lists l.name) (reaches (lookup_of l.config.records) l.css l.name)
+    l.reached l.key-iterator

@@ -6,5 +6,6 @@ use Rattle.iocm_derive.proofs.paths.add_paths.Given as goal
 abbrev pub invariant-loop-path : goal.invariant-loop-path
 invariant-loop-path l = record {
   short : length l.paths ≤ 8;
-  rest : take 8 (l.paths ++ paths_in l.css (drop l.path-index l.more)) ≡ take 8 (l.initial.paths ++ paths_in l.css l.more);
+  rest : take 8 (l.paths ++ paths_in l.css (drop l.path-index l.more))
+      ≡ take 8 (l.initial.paths ++ paths_in l.css l.more);
 }

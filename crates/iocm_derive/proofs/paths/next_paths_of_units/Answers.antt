@@ -13,13 +13,18 @@ loop-unit-preserved g c = record {
   short = c.add_paths.ensures.short;
   rest = take_more 8 c.loop-unit.paths _ _ c.add_paths.new.paths c.add_paths.ensures.paths
       ∙ ap (λ ps. take 8 (c.loop-unit.paths ++ ps))
-      (sym (units_opened (lookup_of c.args.records.now) c.args.css c.args.units.now c.loop-unit.unit-index c.unit-item.result c.paths_in.result.now
-      c.loop-unit-test.true c.unit-item.is (c.paths_in.ensures ∙ ap all_paths (c.find.ensures.record ∙ ap (λ (m : Configuration). lookup_of m (Unit c.unit-item.result)) c.loop-unit.invariant.same))))
+      (sym (units_opened (lookup_of c.args.records.now) c.args.css c.args.units.now c.loop-unit.unit-index
+      c.unit-item.result c.paths_in.result.now
+      c.loop-unit-test.true c.unit-item.is
+      (c.paths_in.ensures ∙ ap all_paths
+      (c.find.ensures.record ∙ ap (λ (m : Configuration). lookup_of m (Unit c.unit-item.result))
+      c.loop-unit.invariant.same))))
       ∙ c.loop-unit.invariant.rest;
 }
 
 pub returns-clause-paths : goal.returns-clause-paths
 returns-clause-paths g c =
     take_done 8 c.loop-unit.paths _ c.loop-unit.invariant.short
-    (units_past (lookup_of c.args.records.now) c.args.css c.args.units.now c.loop-unit.unit-index c.loop-unit-test.false)
+    (units_past (lookup_of c.args.records.now) c.args.css c.args.units.now c.loop-unit.unit-index
+    c.loop-unit-test.false)
     ∙ c.loop-unit.invariant.rest

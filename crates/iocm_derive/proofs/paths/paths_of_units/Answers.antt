@@ -10,7 +10,8 @@ loop-unit-preserved g c = record {
   short = c.add_paths.ensures.short;
   rest = take_more 8 c.loop-unit.paths _ _ c.add_paths.new.paths c.add_paths.ensures.paths
       ∙ ap (λ ps. take 8 (c.loop-unit.paths ++ ps))
-      (sym (units_opened (lookup_of c.args.config.now.records) c.args.css c.args.units.now c.loop-unit.unit-index c.unit-item.result c.find_paths.result.now
+      (sym (units_opened (lookup_of c.args.config.now.records) c.args.css c.args.units.now c.loop-unit.unit-index
+      c.unit-item.result c.find_paths.result.now
       c.loop-unit-test.true c.unit-item.is c.find_paths.ensures))
       ∙ c.loop-unit.invariant.rest;
 }
@@ -18,5 +19,6 @@ loop-unit-preserved g c = record {
 pub returns : goal.returns
 returns g c =
     take_done 8 c.loop-unit.paths _ c.loop-unit.invariant.short
-    (units_past (lookup_of c.args.config.now.records) c.args.css c.args.units.now c.loop-unit.unit-index c.loop-unit-test.false)
+    (units_past (lookup_of c.args.config.now.records) c.args.css c.args.units.now c.loop-unit.unit-index
+    c.loop-unit-test.false)
     ∙ c.loop-unit.invariant.rest

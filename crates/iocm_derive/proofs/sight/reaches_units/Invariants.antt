@@ -8,5 +8,8 @@ use Rattle.iocm_derive.proofs.sight.reaches_units.Given as goal
 
 abbrev pub invariant-loop-unit : goal.invariant-loop-unit
 invariant-loop-unit g l =
-    list_any (reaches (lookup_of (g.R.Reach.records l.reach)) (g.R.Reach.subsystem l.reach) (g.R.Reach.called l.reach)) (path_list (lookup_of (g.R.Reach.records l.reach)) (g.R.Reach.subsystem l.reach) (drop l.unit-index l.units))
-    ≡ list_any (reaches (lookup_of (g.R.Reach.records l.reach)) (g.R.Reach.subsystem l.reach) (g.R.Reach.called l.reach)) (path_list (lookup_of (g.R.Reach.records l.reach)) (g.R.Reach.subsystem l.reach) l.units)
+    list_any (reaches (lookup_of (g.R.Reach.records l.reach)) (g.R.Reach.subsystem l.reach) (g.R.Reach.called l.reach))
+    (path_list (lookup_of (g.R.Reach.records l.reach)) (g.R.Reach.subsystem l.reach) (drop l.unit-index l.units))
+    ≡ list_any (reaches (lookup_of (g.R.Reach.records l.reach)) (g.R.Reach.subsystem l.reach)
+    (g.R.Reach.called l.reach))
+    (path_list (lookup_of (g.R.Reach.records l.reach)) (g.R.Reach.subsystem l.reach) l.units)

@@ -10,7 +10,8 @@ own_numbers (x ∷ xs) = rw (eq-eqb x x refl) (own_numbers xs)
 
 -- lists that a test tells apart differ
 told_apart : (xs ys : List ℕ) → pointwise nat_eq xs ys ≡ false → xs ≡ ys → ⊥
-told_apart xs ys differ same = let yes = subst (λ (zs : List ℕ). pointwise nat_eq xs zs ≡ true) same (own_numbers xs) in cc
+told_apart xs ys differ same = let yes = subst (λ (zs : List ℕ). pointwise nat_eq xs zs ≡ true) same (own_numbers xs) in
+    cc
 
 told : (b : Bool) (xs ys : List ℕ) → b ≡ pointwise nat_eq xs ys → IsTrue b ↔ (xs ≡ ys)
 told true xs ys is = (λ _. same_text xs ys is, λ _. refl)

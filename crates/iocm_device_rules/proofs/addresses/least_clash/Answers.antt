@@ -9,5 +9,7 @@ use Rattle.iocm_device_rules.specs.Addresses.{clash_of}
 use Rattle.iocm_device_rules.proofs.addresses.least_clash.Goals as goal
 
 pub loop-entry-init : goal.loop-entry-init
-loop-entry-init g c = ap (λ es. least_of (clash_of (lookup_of c.args.config.now.records) (rows naming_cmp c.args.index.now)) None (in_entries es))
+loop-entry-init g c = ap
+    (λ es. least_of (clash_of (lookup_of c.args.config.now.records) (rows naming_cmp c.args.index.now)) None
+    (in_entries es))
     (c.into_iter-entry-iterator.ensures.into_iter_gives ∙ c.walk-entry-items.ensures.entries)

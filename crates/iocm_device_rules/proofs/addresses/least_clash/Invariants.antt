@@ -9,5 +9,6 @@ use Rattle.iocm_device_rules.specs.Addresses.{clash_of}
 use Rattle.iocm_device_rules.proofs.addresses.least_clash.Given as goal
 
 abbrev pub invariant-loop-entry : goal.invariant-loop-entry
-invariant-loop-entry g l = least_of (clash_of (lookup_of l.config.records) (rows naming_cmp l.index)) l.least (in_entries l.entry-iterator)
+invariant-loop-entry g l =
+    least_of (clash_of (lookup_of l.config.records) (rows naming_cmp l.index)) l.least (in_entries l.entry-iterator)
     ≡ least_of (clash_of (lookup_of l.config.records) (rows naming_cmp l.index)) None (records_of l.config.records)

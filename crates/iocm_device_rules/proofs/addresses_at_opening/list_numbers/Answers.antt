@@ -11,7 +11,9 @@ use Rattle.iocm_device_rules.proofs.addresses_at_opening.list_numbers.Goals as g
 
 pub loop-entry-init : goal.loop-entry-init
 loop-entry-init g c =
-    (λ i. c.in_ok-listed.ensures.items i ++ flat_map unit_numbers ((c.into_iter-entry-iterator.ensures.into_iter_gives ∙ c.records_of_kind-entry-items.ensures.records) i))
+    (λ i. c.in_ok-listed.ensures.items i
+    ++ flat_map unit_numbers
+    ((c.into_iter-entry-iterator.ensures.into_iter_gives ∙ c.records_of_kind-entry-items.ensures.records) i))
     ∙ given_by_kind 6 unit_numbers only_devices_give (records_of c.args.config.now.records)
 
 pub loop-entry-preserved : goal.loop-entry-preserved
@@ -25,5 +27,6 @@ loop-entry-preserved g c =
 pub returns : goal.returns
 returns g c =
     sym (append-nil c.loop-entry.listed.items)
-    ∙ ap (λ es. c.loop-entry.listed.items ++ flat_map unit_numbers es) (sym (rest_all _ _ _ _ c.in-None.is c.next.ensures.steps))
+    ∙ ap (λ es. c.loop-entry.listed.items ++ flat_map unit_numbers es)
+    (sym (rest_all _ _ _ _ c.in-None.is c.next.ensures.steps))
     ∙ c.loop-entry.invariant

@@ -6,4 +6,5 @@ use Rattle.iocm_device_rules.specs.OnUnits.{unit_numbers}
 use Rattle.iocm_device_rules.proofs.addresses_at_opening.list_numbers.Given as goal
 
 abbrev pub invariant-loop-entry : goal.invariant-loop-entry
-invariant-loop-entry g l = l.listed.items ++ flat_map unit_numbers l.entry-iterator ≡ flat_map unit_numbers (records_of l.config.records)
+invariant-loop-entry g l =
+    l.listed.items ++ flat_map unit_numbers l.entry-iterator ≡ flat_map unit_numbers (records_of l.config.records)

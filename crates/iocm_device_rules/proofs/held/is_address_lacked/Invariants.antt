@@ -11,6 +11,7 @@ use Rattle.iocm_device_rules.proofs.held.is_address_lacked.Given as goal
 abbrev pub invariant-loop-unit : goal.invariant-loop-unit
 invariant-loop-unit g l = record {
   there : ForSome l.last (λ r. IsThere l.config.records r.now);
-  rest : list_any (λ number. lacks_address l.address (lookup_of l.config.records (Unit number))) (drop l.unit-index l.units)
+  rest : list_any (λ number. lacks_address l.address (lookup_of l.config.records (Unit number)))
+      (drop l.unit-index l.units)
       ≡ list_any (λ number. lacks_address l.address (lookup_of l.config.records (Unit number))) l.units;
 }

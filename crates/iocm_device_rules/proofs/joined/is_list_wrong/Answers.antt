@@ -12,6 +12,7 @@ returns-then-not-join_paths g c =
     let w = c.join_paths.ensures.wrong c.if-not-join_paths.true in
     sym (some_subsystem (λ css. is_wrong_list (path_list look css c.args.units.now)) w.css w.within
     (ap is_wrong_list (sym (ap (λ ps. get_or c.loop-unit.lists w.css [] ++ ps)
-    (sym (units_opened look w.css c.args.units.now c.loop-unit.unit-index c.unit-item.result c.find_paths.result.now c.loop-unit-test.true c.unit-item.is c.find_paths.ensures))
+    (sym (units_opened look w.css c.args.units.now c.loop-unit.unit-index c.unit-item.result c.find_paths.result.now
+    c.loop-unit-test.true c.unit-item.is c.find_paths.ensures))
     ∙ c.loop-unit.invariant.rest w.css w.within))
     ∙ w.wrong (path_list look w.css (drop (c.loop-unit.unit-index + 1) c.args.units.now))))

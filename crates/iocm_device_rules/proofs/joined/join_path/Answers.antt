@@ -11,5 +11,6 @@ returns-in-None-clause-wrong c _ =
     let at : c.from-place.result ≡ c.args.path.css = omega arith in
     wrong_with_path c.args.lists.now c.args.path (omega arith)
     (ap (λ ps. is_wrong_list (ps ++ c.args.path.path ∷ []))
-    (ap (λ n. get_or c.args.lists.now n []) (sym at) ∙ get_or_default c.args.lists.now c.from-place.result [] c.index-lists-place.result within)
+    (ap (λ n. get_or c.args.lists.now n []) (sym at)
+    ∙ get_or_default c.args.lists.now c.from-place.result [] c.index-lists-place.result within)
     ∙ c.in-None.ensures.wrong refl)

@@ -19,27 +19,34 @@ is_below limit shown number is h = grind (arith, nat_tests)
 pub loop-cell-init : goal.loop-cell-init
 loop-cell-init g c = record {
   known = c.first_limit-last.ensures;
-  rest = ap (list_any (is_past (lookup_of c.args.config.now.records))) (c.into_iter-cell-iterator.ensures.into_iter_gives ∙ c.cells-cell-items.ensures);
+  rest = ap (list_any (is_past (lookup_of c.args.config.now.records)))
+      (c.into_iter-cell-iterator.ensures.into_iter_gives ∙ c.cells-cell-items.ensures);
 }
 
 pub returns-then-last-cell : goal.returns-then-last-cell
 returns-then-last-cell g c =
     sym (sym c.loop-cell.invariant.rest
-    ∙ ap (list_any (is_past (lookup_of c.args.config.now.records))) (rest_more deref_pair _ _ _ (c.in-Some.cell, c.in-Some.field-0-1) c.in-Some.is c.next.ensures.steps)
+    ∙ ap (list_any (is_past (lookup_of c.args.config.now.records)))
+    (rest_more deref_pair _ _ _ (c.in-Some.cell, c.in-Some.field-0-1) c.in-Some.is c.next.ensures.steps)
     ∙ ap (λ b. b || list_any (is_past (lookup_of c.args.config.now.records)) c.next.new.self)
-    (is_at_least _ c.limit_of_cell-last.result.limit c.in-Some.cell.now.number c.limit_of_cell-last.ensures.limit c.if-last-cell.true))
+    (is_at_least _ c.limit_of_cell-last.result.limit c.in-Some.cell.now.number c.limit_of_cell-last.ensures.limit
+    c.if-last-cell.true))
 
 pub loop-cell-preserved : goal.loop-cell-preserved
 loop-cell-preserved g c = record {
   known = c.limit_of_cell-last.ensures.limit ∙ (λ i. limit_or_default (sym c.limit_of_cell-last.ensures.set i)
-      (lookup_of c.args.config.now.records (Limit (sym c.limit_of_cell-last.ensures.css i) (sym c.limit_of_cell-last.ensures.set i))));
-  rest = sym (ap (list_any (is_past (lookup_of c.args.config.now.records))) (rest_more deref_pair _ _ _ (c.in-Some.cell, c.in-Some.field-0-1) c.in-Some.is c.next.ensures.steps)
+      (lookup_of c.args.config.now.records
+      (Limit (sym c.limit_of_cell-last.ensures.css i) (sym c.limit_of_cell-last.ensures.set i))));
+  rest = sym (ap (list_any (is_past (lookup_of c.args.config.now.records)))
+      (rest_more deref_pair _ _ _ (c.in-Some.cell, c.in-Some.field-0-1) c.in-Some.is c.next.ensures.steps)
       ∙ ap (λ b. b || list_any (is_past (lookup_of c.args.config.now.records)) c.next.new.self)
-      (is_below _ c.limit_of_cell-last.result.limit c.in-Some.cell.now.number c.limit_of_cell-last.ensures.limit c.if-last-cell.false))
+      (is_below _ c.limit_of_cell-last.result.limit c.in-Some.cell.now.number c.limit_of_cell-last.ensures.limit
+      c.if-last-cell.false))
       ∙ c.loop-cell.invariant.rest;
 }
 
 pub returns : goal.returns
 returns g c =
     sym (sym c.loop-cell.invariant.rest
-    ∙ ap (list_any (is_past (lookup_of c.args.config.now.records))) (rest_all deref_pair _ _ _ c.in-None.is c.next.ensures.steps))
+    ∙ ap (list_any (is_past (lookup_of c.args.config.now.records)))
+    (rest_all deref_pair _ _ _ c.in-None.is c.next.ensures.steps))

@@ -12,5 +12,6 @@ use Rattle.iocm_device_rules.proofs.limits.is_any_past_limit.Given as goal
 abbrev pub invariant-loop-cell : goal.invariant-loop-cell
 invariant-loop-cell g l = record {
   known : l.last.limit ≡ limit_or_default l.last.set (lookup_of l.config.records (Limit l.last.css l.last.set));
-  rest : list_any (is_past (lookup_of l.config.records)) l.cell-iterator ≡ list_any (is_past (lookup_of l.config.records)) (entries (cells_of l.numbers.numbers));
+  rest : list_any (is_past (lookup_of l.config.records)) l.cell-iterator
+      ≡ list_any (is_past (lookup_of l.config.records)) (entries (cells_of l.numbers.numbers));
 }

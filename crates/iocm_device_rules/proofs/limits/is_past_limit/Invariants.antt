@@ -11,5 +11,8 @@ use Rattle.iocm_device_rules.proofs.limits.is_past_limit.Given as goal
 
 abbrev pub invariant-loop-css : goal.invariant-loop-css
 invariant-loop-css g l =
-    list_any (λ css. option_map_or (nat_le (limit_or_default l.set (lookup_of l.config.records (Limit css l.set)))) (get l.numbers.numbers (record { css = css; set = l.set; device = l.device })) false) (drop l.css-index l.css-items)
-    ≡ list_any (λ css. option_map_or (nat_le (limit_or_default l.set (lookup_of l.config.records (Limit css l.set)))) (get l.numbers.numbers (record { css = css; set = l.set; device = l.device })) false) subsystems
+    list_any (λ css. option_map_or (nat_le (limit_or_default l.set (lookup_of l.config.records (Limit css l.set))))
+    (get l.numbers.numbers (record { css = css; set = l.set; device = l.device })) false)
+    (drop l.css-index l.css-items)
+    ≡ list_any (λ css. option_map_or (nat_le (limit_or_default l.set (lookup_of l.config.records (Limit css l.set))))
+    (get l.numbers.numbers (record { css = css; set = l.set; device = l.device })) false) subsystems

@@ -12,12 +12,16 @@ use Rattle.iocm_device_rules.proofs.limits_at_opening.first_past_limit_at_openin
 
 pub returns-then-not-is_any_set_over : goal.returns-then-not-is_any_set_over
 returns-then-not-is_any_set_over g c =
-    none_past_limit_at_opening c.args.config.now.records (none_over c.args.config.now.records (sym c.is_any_set_over.ensures ∙ c.if-not-is_any_set_over.true))
+    none_past_limit_at_opening c.args.config.now.records
+    (none_over c.args.config.now.records (sym c.is_any_set_over.ensures ∙ c.if-not-is_any_set_over.true))
 
 pub returns-then-not-branch : goal.returns-then-not-branch
 returns-then-not-branch g c =
-    none_past_limit_at_opening c.args.config.now.records (sym c.in_ok-is_any_past_at_opening.ensures ∙ c.if-not-branch.true)
+    none_past_limit_at_opening c.args.config.now.records
+    (sym c.in_ok-is_any_past_at_opening.ensures ∙ c.if-not-branch.true)
 
 pub returns : goal.returns
 returns g c = c.first_past_limit.ensures
-    ∙ ap (λ n. option_map key_of (first_record (breaks_v13 c.args.config.now.records n) (records_of c.args.config.now.records))) c.in_ok-numbers.ensures
+    ∙ ap (λ n. option_map key_of
+    (first_record (breaks_v13 c.args.config.now.records n) (records_of c.args.config.now.records)))
+    c.in_ok-numbers.ensures

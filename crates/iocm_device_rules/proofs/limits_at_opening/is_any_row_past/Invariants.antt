@@ -10,5 +10,6 @@ use Rattle.iocm_device_rules.proofs.limits_at_opening.is_any_row_past.Given as g
 abbrev pub invariant-loop-row : goal.invariant-loop-row
 invariant-loop-row g l = record {
   known : l.last.limit ≡ limit_or_default l.last.set (lookup_of l.config.records (Limit l.last.css l.last.set));
-  rest : list_any (is_row_past (lookup_of l.config.records)) (drop l.row-index l.rows) ≡ list_any (is_row_past (lookup_of l.config.records)) l.rows;
+  rest : list_any (is_row_past (lookup_of l.config.records)) (drop l.row-index l.rows)
+      ≡ list_any (is_row_past (lookup_of l.config.records)) l.rows;
 }

@@ -21,4 +21,6 @@ returns-clause-text c =
     ∙ ap (difference_text old) (their_actions (difference c.args.old.now.records c.args.new.now.records))
 
 pub returns-clause-count : goal.returns-clause-count
-returns-clause-count c = ap length (c.as_slice.ensures.value ∙ c.in_ok-edits.ensures) ∙ length-map (difference c.args.old.now.records c.args.new.now.records) bare
+returns-clause-count c =
+    ap length (c.as_slice.ensures.value ∙ c.in_ok-edits.ensures)
+    ∙ length-map (difference c.args.old.now.records c.args.new.now.records) bare

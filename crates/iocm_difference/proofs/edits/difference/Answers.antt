@@ -24,5 +24,6 @@ pub returns : goal.returns
 returns g c =
     let between = actions_between c.args.old.now.records c.args.new.now.records in
     let all : passes_in c.loop-met.passes ≡ with_all no_passes between =
-    sym (ap (λ pairs. with_all (passes_in c.loop-met.passes) (filter_map action_at pairs)) c.in_default.ensures.0) ∙ c.loop-met.invariant in
+    sym (ap (λ pairs. with_all (passes_in c.loop-met.passes) (filter_map action_at pairs)) c.in_default.ensures.0)
+    ∙ c.loop-met.invariant in
     IfOk-weaker c.joined.result _ _ (λ es is. is ∙ ap joined all ∙ joined_all between) c.joined.ensures

@@ -5,4 +5,6 @@ use Rattle.iocm_difference.proofs.same.are_same_operands.Given as goal
 
 -- from the index on they are the same exactly where all are
 abbrev pub invariant-loop-index : goal.invariant-loop-index
-invariant-loop-index g l = (length l.old ≡ length l.new) × (pointwise same_operand (drop l.index l.old) (drop l.index l.new) ≡ pointwise same_operand l.old l.new)
+invariant-loop-index g l =
+    (length l.old ≡ length l.new)
+    × (pointwise same_operand (drop l.index l.old) (drop l.index l.new) ≡ pointwise same_operand l.old l.new)

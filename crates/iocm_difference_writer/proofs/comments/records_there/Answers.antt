@@ -12,4 +12,5 @@ loop-edit-preserved g c =
 pub returns : goal.returns
 returns g c =
     let past : length c.args.run.now ≤ c.loop-edit.edit-index = omega (arith, c.loop-edit-test.false) in
-    gives_all (was_there c.args.old.now.records) c.args.run.now c.loop-edit.edit-index (map (λ k. k.now) c.loop-edit.records.items) past c.loop-edit.invariant
+    gives_all (was_there c.args.old.now.records) c.args.run.now c.loop-edit.edit-index
+    (map (λ k. k.now) c.loop-edit.records.items) past c.loop-edit.invariant

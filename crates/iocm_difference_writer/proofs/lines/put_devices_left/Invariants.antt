@@ -5,4 +5,5 @@ use Rattle.iocm_difference_writer.proofs.lines.put_devices_left.Given as goal
 
 abbrev pub invariant-loop-statement : goal.invariant-loop-statement
 invariant-loop-statement g l =
-    l.deck.items ≡ l.fn.deck.items ++ map line_to_write (map (line_with l.verb) (take l.statement-index l.statement-items))
+    l.deck.items ≡ l.fn.deck.items
+    ++ map line_to_write (map (line_with l.verb) (take l.statement-index l.statement-items))

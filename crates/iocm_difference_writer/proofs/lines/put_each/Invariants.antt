@@ -4,4 +4,5 @@ use Rattle.iocm_difference_writer.specs.Runs.{actions_in}
 use Rattle.iocm_difference_writer.proofs.lines.put_each.Given as goal
 
 abbrev pub invariant-loop-edit : goal.invariant-loop-edit
-invariant-loop-edit g l = l.deck.items ≡ l.fn.deck.items ++ map line_to_write (map action_line (actions_in (take l.edit-index l.run)))
+invariant-loop-edit g l =
+    l.deck.items ≡ l.fn.deck.items ++ map line_to_write (map action_line (actions_in (take l.edit-index l.run)))

@@ -23,4 +23,5 @@ each_alone (key.Online css path name) verb run no_device no_pair = absurd (no_pa
 pub returns-in_default : goal.returns-in_default
 returns-in_default g c =
     subst (λ ls. OnOk c.put_each.result (c.put_each.new.deck.items ≡ c.args.deck.now.items ++ map line_to_write ls))
-    (each_alone c.args.key c.args.verb (actions_in c.args.run.now) c.in_default.not-Device c.in_default.not-Online) c.put_each.ensures
+    (each_alone c.args.key c.args.verb (actions_in c.args.run.now) c.in_default.not-Device c.in_default.not-Online)
+    c.put_each.ensures

@@ -30,11 +30,16 @@ returns g c =
     elim c.match-first.branch [
       | in-Some+in_ok-put_run w ↦
           ap (λ deck. deck.items) w.deck-is ∙ w.in_ok-put_run.ensures
-          ∙ ap (λ done. done ++ map line_to_write (lines_by w.key.result w.verb.result actions)) c.new-deck.ensures.items
+          ∙ ap (λ done. done ++ map line_to_write (lines_by w.key.result w.verb.result actions))
+          c.new-deck.ensures.items
           ∙ ap (λ k. map line_to_write (lines_by k w.verb.result actions)) w.key.ensures
           ∙ ap (λ v. map line_to_write (lines_by (action_key (action_in w.in-Some.first.now)) v actions)) w.verb.ensures
-          ∙ ap (map line_to_write) (lines_of_first c.args.run.now w.in-Some.first.now (sym (ap option_copied w.in-Some.is) ∙ c.first.ensures.value))
+          ∙ ap (map line_to_write)
+          (lines_of_first c.args.run.now w.in-Some.first.now
+          (sym (ap option_copied w.in-Some.is) ∙ c.first.ensures.value))
       | in_default w ↦
           ap (λ deck. deck.items) w.deck-is ∙ c.new-deck.ensures.items
-          ∙ ap (map line_to_write) (lines_of_none c.args.run.now (sym (ap option_copied (no_value c.first.result w.in_default.not-Some)) ∙ c.first.ensures.value))
+          ∙ ap (map line_to_write)
+          (lines_of_none c.args.run.now
+          (sym (ap option_copied (no_value c.first.result w.in_default.not-Some)) ∙ c.first.ensures.value))
     ]

@@ -1,5 +1,6 @@
 -- Each run is computed on histories as lists.
-use Rattle.iocm_examples.proofs.Computed.Starts.{taken_back_answers, ended_before_it_began_answers, in_the_way_answers, held_when_staged_answers}
+use Rattle.iocm_examples.proofs.Computed.Starts.{taken_back_answers, ended_before_it_began_answers, in_the_way_answers}
+use Rattle.iocm_examples.proofs.Computed.Starts.{held_when_staged_answers}
 use Rattle.iocm_examples.proofs.histories.pending_starts_are_as_worked.Goals as goal
 
 pub returns-clause-taken_back : goal.returns-clause-taken_back

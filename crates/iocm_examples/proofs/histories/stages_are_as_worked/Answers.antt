@@ -1,5 +1,7 @@
 -- Each run is computed on histories as lists.
-use Rattle.iocm_examples.proofs.Computed.Stages.{held_and_aborted_answers, decided_at_begin_answers, counted_down_is, left_staged_is, held_before_they_are_there_answers, aborted_at_each_stage_is, past_by_a_commit_is}
+use Rattle.iocm_examples.proofs.Computed.Stages.{held_and_aborted_answers, decided_at_begin_answers, counted_down_is}
+use Rattle.iocm_examples.proofs.Computed.Stages.{left_staged_is, held_before_they_are_there_answers}
+use Rattle.iocm_examples.proofs.Computed.Stages.{aborted_at_each_stage_is, past_by_a_commit_is}
 use Rattle.iocm_examples.proofs.histories.stages_are_as_worked.Goals as goal
 
 pub returns-clause-aborted : goal.returns-clause-aborted

@@ -1,5 +1,7 @@
 -- Each run is computed on histories as lists.
-use Rattle.iocm_examples.proofs.Computed.Histories.{a_path_comes_online_answers, a_path_undone_is, a_path_in_use_answers, a_busy_undo_is, a_busy_redo_is, undone_in_turn_is}
+use Rattle.iocm_examples.proofs.Computed.Histories.{a_path_comes_online_answers, a_path_undone_is}
+use Rattle.iocm_examples.proofs.Computed.Histories.{a_path_in_use_answers, a_busy_undo_is, a_busy_redo_is}
+use Rattle.iocm_examples.proofs.Computed.Histories.{undone_in_turn_is}
 use Rattle.iocm_examples.proofs.histories.steps_on_altered_subchannels_are_as_worked.Goals as goal
 
 pub returns-clause-online : goal.returns-clause-online

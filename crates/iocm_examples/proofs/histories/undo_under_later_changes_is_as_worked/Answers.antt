@@ -1,5 +1,7 @@
 -- Each run is computed on histories as lists.
-use Rattle.iocm_examples.proofs.Computed.SelectiveUndo.{cells_apart_is, paths_turned_answers, an_address_taken_answers, an_earlier_undone_answers, stood_on_and_busy_answers, not_last_and_busy_answers, nothing_in_common_answers}
+use Rattle.iocm_examples.proofs.Computed.SelectiveUndo.{cells_apart_is, paths_turned_answers, an_address_taken_answers}
+use Rattle.iocm_examples.proofs.Computed.SelectiveUndo.{an_earlier_undone_answers, stood_on_and_busy_answers}
+use Rattle.iocm_examples.proofs.Computed.SelectiveUndo.{not_last_and_busy_answers, nothing_in_common_answers}
 use Rattle.iocm_examples.proofs.histories.undo_under_later_changes_is_as_worked.Goals as goal
 
 pub returns-clause-apart : goal.returns-clause-apart

@@ -1,5 +1,7 @@
 -- Each run is computed on histories as lists.
-use Rattle.iocm_examples.proofs.Computed.SelectiveUndo.{a_past_one_answers, a_later_undone_answers, put_back_at_once_answers, a_number_in_common_answers, two_numbers_for_a_while_is}
+use Rattle.iocm_examples.proofs.Computed.SelectiveUndo.{a_past_one_answers, a_later_undone_answers}
+use Rattle.iocm_examples.proofs.Computed.SelectiveUndo.{put_back_at_once_answers, a_number_in_common_answers}
+use Rattle.iocm_examples.proofs.Computed.SelectiveUndo.{two_numbers_for_a_while_is}
 use Rattle.iocm_examples.proofs.histories.what_is_in_the_way_is_as_worked.Goals as goal
 
 pub returns-clause-past : goal.returns-clause-past

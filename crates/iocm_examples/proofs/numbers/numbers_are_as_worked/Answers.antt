@@ -1,5 +1,6 @@
 -- Each is computed once the maps are listed.
-use Rattle.iocm_examples.proofs.Computed.Numbers.{base_numbers, a_device_comes_in, a_number_is_used_again, a_number_comes_along, a_second_subsystem}
+use Rattle.iocm_examples.proofs.Computed.Numbers.{base_numbers, a_device_comes_in, a_number_is_used_again}
+use Rattle.iocm_examples.proofs.Computed.Numbers.{a_number_comes_along, a_second_subsystem}
 use Rattle.iocm_examples.proofs.numbers.numbers_are_as_worked.Goals as goal
 
 pub returns-clause-opening : goal.returns-clause-opening

@@ -1,5 +1,7 @@
 -- Each is computed once the maps are listed.
-use Rattle.iocm_examples.proofs.Computed.Rules.{base_keeps_the_rules, a_dedicated_path_of_two, a_unit_on_nine_paths, a_device_of_nine_units, a_limit_of_three, the_other_rules, at_the_bounds}
+use Rattle.iocm_examples.proofs.Computed.Rules.{base_keeps_the_rules, a_dedicated_path_of_two, a_unit_on_nine_paths}
+use Rattle.iocm_examples.proofs.Computed.Rules.{a_device_of_nine_units, a_limit_of_three, the_other_rules}
+use Rattle.iocm_examples.proofs.Computed.Rules.{at_the_bounds}
 use Rattle.iocm_examples.proofs.rules.rules_are_as_worked.Goals as goal
 
 pub returns-clause-base : goal.returns-clause-base

@@ -1,5 +1,6 @@
 -- Each run meets the premises of a law.
-use Rattle.iocm_examples.proofs.WhereMet.{a_deletion_undone, a_path_redone, a_deletion_redone, a_deletion_in_stages_is, a_deletion_given_up_is, under_a_later_change}
+use Rattle.iocm_examples.proofs.WhereMet.{a_deletion_undone, a_path_redone, a_deletion_redone, a_deletion_in_stages_is}
+use Rattle.iocm_examples.proofs.WhereMet.{a_deletion_given_up_is, under_a_later_change}
 use Rattle.iocm_examples.proofs.runs.premises_are_met.Goals as goal
 
 pub returns-clause-undone : goal.returns-clause-undone

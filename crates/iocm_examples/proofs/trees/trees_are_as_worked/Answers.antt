@@ -1,5 +1,6 @@
 -- Each is computed on states as lists.
-use Rattle.iocm_examples.proofs.Computed.Trees.{an_exchange, nodes_of_breaches, where_rules_hold, after_a_group, empty_nodes, limits_of_trees, taken_back_later}
+use Rattle.iocm_examples.proofs.Computed.Trees.{an_exchange, nodes_of_breaches, where_rules_hold, after_a_group}
+use Rattle.iocm_examples.proofs.Computed.Trees.{empty_nodes, limits_of_trees, taken_back_later}
 use Rattle.iocm_examples.proofs.trees.trees_are_as_worked.Goals as goal
 
 pub returns-clause-exchange : goal.returns-clause-exchange

@@ -5,5 +5,6 @@ use Rattle.iocm_faults.specs.Faults.{fault_elsewhere, with_others}
 use Rattle.iocm_faults.proofs.records.with_others.Given as goal
 
 abbrev pub invariant-loop-statement : goal.invariant-loop-statement
-invariant-loop-statement l = l.faults.items ++ filter_map (fault_elsewhere l.first.line l.images.items) (drop l.statement-index l.statements)
+invariant-loop-statement l =
+    l.faults.items ++ filter_map (fault_elsewhere l.first.line l.images.items) (drop l.statement-index l.statements)
     ≡ with_others l.first l.statements

@@ -8,4 +8,5 @@ use Rattle.iocm_faults.proofs.texts.text_fault.Goals as goal
 
 pub returns : goal.returns
 returns c = subst (λ fault. IfOk c.parse_fault.result (λ told. told ≡ fault))
-    (ap (λ (js : List Joined). fault_of (parsed js)) c.from_ref.ensures.value ∙ parsed_alone c.args.joined.now) c.parse_fault.ensures
+    (ap (λ (js : List Joined). fault_of (parsed js)) c.from_ref.ensures.value ∙ parsed_alone c.args.joined.now)
+    c.parse_fault.ensures

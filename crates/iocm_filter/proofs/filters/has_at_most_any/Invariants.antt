@@ -5,4 +5,5 @@ use Rattle.iocm_filter.specs.Wanted.{has_at_most}
 use Rattle.iocm_filter.proofs.filters.has_at_most_any.Given as goal
 
 abbrev pub invariant-loop-number : goal.invariant-loop-number
-invariant-loop-number l = list_any (has_at_most l.view) (drop l.number-index l.most) ≡ list_any (has_at_most l.view) l.most
+invariant-loop-number l =
+    list_any (has_at_most l.view) (drop l.number-index l.most) ≡ list_any (has_at_most l.view) l.most

@@ -5,4 +5,5 @@ use Rattle.iocm_filter.specs.Wanted.{is_within}
 use Rattle.iocm_filter.proofs.filters.is_in_any.Given as goal
 
 abbrev pub invariant-loop-range : goal.invariant-loop-range
-invariant-loop-range l = list_any (is_within l.set l.number) (drop l.range-index l.ranges) ≡ list_any (is_within l.set l.number) l.ranges
+invariant-loop-range l =
+    list_any (is_within l.set l.number) (drop l.range-index l.ranges) ≡ list_any (is_within l.set l.number) l.ranges

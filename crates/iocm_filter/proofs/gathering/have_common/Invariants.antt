@@ -5,4 +5,5 @@ use Rattle.iocm_filter.proofs.gathering.have_common.Given as goal
 
 abbrev pub invariant-loop-unit : goal.invariant-loop-unit
 invariant-loop-unit l =
-    list_any (λ unit. list_any (nat_eq unit) l.others) (drop l.unit-index l.units) ≡ list_any (λ unit. list_any (nat_eq unit) l.others) l.units
+    list_any (λ unit. list_any (nat_eq unit) l.others) (drop l.unit-index l.units)
+    ≡ list_any (λ unit. list_any (nat_eq unit) l.others) l.units

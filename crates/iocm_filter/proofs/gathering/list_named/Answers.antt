@@ -13,7 +13,8 @@ loop-entry-init g c =
 pub loop-entry-preserved : goal.loop-entry-preserved
 loop-entry-preserved g c =
     ap (λ l. l ++ flat_map (image_named c.args.name) c.next.new.self) c.in_ok-list_if_named.ensures
-    ∙ append_assoc c.loop-entry.images.items (image_named c.args.name c.in-Some.entry.now) (flat_map (image_named c.args.name) c.next.new.self)
+    ∙ append_assoc c.loop-entry.images.items (image_named c.args.name c.in-Some.entry.now)
+    (flat_map (image_named c.args.name) c.next.new.self)
     ∙ ap (λ es. c.loop-entry.images.items ++ flat_map (image_named c.args.name) es)
     (sym (rest_more _ _ _ _ c.in-Some.entry c.in-Some.is c.next.ensures.steps))
     ∙ c.loop-entry.invariant
@@ -21,5 +22,6 @@ loop-entry-preserved g c =
 pub returns : goal.returns
 returns g c =
     sym (append-nil c.loop-entry.images.items)
-    ∙ ap (λ es. c.loop-entry.images.items ++ flat_map (image_named c.args.name) es) (sym (rest_all _ _ _ _ c.in-None.is c.next.ensures.steps))
+    ∙ ap (λ es. c.loop-entry.images.items ++ flat_map (image_named c.args.name) es)
+    (sym (rest_all _ _ _ _ c.in-None.is c.next.ensures.steps))
     ∙ c.loop-entry.invariant

@@ -12,7 +12,8 @@ use Rattle.iocm_filter.proofs.gathering.users_of.Goals as goal
 pub loop-entry-init : goal.loop-entry-init
 loop-entry-init g c =
     ap (λ m. fold (with_user c.args.units.now) m c.into_iter-entry-iterator.result) c.new-users.ensures.rows
-    ∙ ap (fold (with_user c.args.units.now) _) (c.into_iter-entry-iterator.ensures.into_iter_gives ∙ c.records_of_kind-entry-items.ensures.records)
+    ∙ ap (fold (with_user c.args.units.now) _)
+    (c.into_iter-entry-iterator.ensures.into_iter_gives ∙ c.records_of_kind-entry-items.ensures.records)
 
 pub loop-entry-preserved : goal.loop-entry-preserved
 loop-entry-preserved g c =
@@ -23,7 +24,8 @@ loop-entry-preserved g c =
 
 pub returns : goal.returns
 returns g c =
-    ap (fold (with_user c.args.units.now) (rows key_cmp c.loop-entry.users)) (sym (rest_all _ _ _ _ c.in-None.is c.next.ensures.steps))
+    ap (fold (with_user c.args.units.now) (rows key_cmp c.loop-entry.users))
+    (sym (rest_all _ _ _ _ c.in-None.is c.next.ensures.steps))
     ∙ c.loop-entry.invariant
 
 pub returns-then-is_empty : goal.returns-then-is_empty

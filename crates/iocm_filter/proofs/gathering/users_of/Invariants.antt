@@ -6,4 +6,5 @@ use Rattle.iocm_filter.specs.Sieves.{with_user, users_of}
 use Rattle.iocm_filter.proofs.gathering.users_of.Given as goal
 
 abbrev pub invariant-loop-entry : goal.invariant-loop-entry
-invariant-loop-entry g l = fold (with_user l.units) (rows key_cmp l.users) l.entry-iterator ≡ users_of l.config.records l.units
+invariant-loop-entry g l =
+    fold (with_user l.units) (rows key_cmp l.users) l.entry-iterator ≡ users_of l.config.records l.units

@@ -13,9 +13,12 @@ returns-in_err-slots g c = (
   record {
     writes_back = tt;
     value = ap option_copied_mut c.from_residual-in_err-slots.ensures
-        ∙ no_slots c.args.levels.now c.args.key.now c.index_of-index.ensures.in_range c.from-css.result c.from-set.result c.index_of-index.result
-        (c.from-css.ensures ∙ c.number.ensures.value) (c.from-set.ensures ∙ c.number-2.ensures.value) c.index_of-index.ensures.index
-        c.in_ok-sets.sets.now c.in_ok-sets.ensures.value (ap option_copied_mut (sym c.in_err-slots.was) ∙ c.get_mut-2.ensures.value);
+        ∙ no_slots c.args.levels.now c.args.key.now c.index_of-index.ensures.in_range c.from-css.result
+        c.from-set.result c.index_of-index.result
+        (c.from-css.ensures ∙ c.number.ensures.value) (c.from-set.ensures ∙ c.number-2.ensures.value)
+        c.index_of-index.ensures.index
+        c.in_ok-sets.sets.now c.in_ok-sets.ensures.value
+        (ap option_copied_mut (sym c.in_err-slots.was) ∙ c.get_mut-2.ensures.value);
     in_range = c.index_of-index.ensures.in_range;
   },
 )
@@ -24,18 +27,25 @@ pub returns : goal.returns
 returns g c = (
   (
     refl,
-    (λ w. lent_written c.args.levels.now c.args.key.now c.index_of-index.ensures.in_range c.from-css.result c.from-set.result c.index_of-index.result
-        (c.from-css.ensures ∙ c.number.ensures.value) (c.from-set.ensures ∙ c.number-2.ensures.value) c.index_of-index.ensures.index
-        c.in_ok-sets.sets.now c.in_ok-sets.ensures.value c.in_ok-slots.slots.now c.in_ok-slots.ensures.value c.get_mut-3.result c.get_mut-3.ensures.value w),
-    lent_nothing c.args.levels.now c.args.key.now c.index_of-index.ensures.in_range c.from-css.result c.from-set.result c.index_of-index.result
-        (c.from-css.ensures ∙ c.number.ensures.value) (c.from-set.ensures ∙ c.number-2.ensures.value) c.index_of-index.ensures.index
+    (λ w. lent_written c.args.levels.now c.args.key.now c.index_of-index.ensures.in_range c.from-css.result
+        c.from-set.result c.index_of-index.result
+        (c.from-css.ensures ∙ c.number.ensures.value) (c.from-set.ensures ∙ c.number-2.ensures.value)
+        c.index_of-index.ensures.index
+        c.in_ok-sets.sets.now c.in_ok-sets.ensures.value c.in_ok-slots.slots.now c.in_ok-slots.ensures.value
+        c.get_mut-3.result c.get_mut-3.ensures.value w),
+    lent_nothing c.args.levels.now c.args.key.now c.index_of-index.ensures.in_range c.from-css.result c.from-set.result
+        c.index_of-index.result
+        (c.from-css.ensures ∙ c.number.ensures.value) (c.from-set.ensures ∙ c.number-2.ensures.value)
+        c.index_of-index.ensures.index
         c.in_ok-sets.sets.now c.in_ok-sets.ensures.value c.in_ok-slots.slots.now c.in_ok-slots.ensures.value,
   ),
   record {
     writes_back = tt;
     value = c.get_mut-3.ensures.value
-        ∙ slot_is c.args.levels.now c.args.key.now c.index_of-index.ensures.in_range c.from-css.result c.from-set.result c.index_of-index.result
-        (c.from-css.ensures ∙ c.number.ensures.value) (c.from-set.ensures ∙ c.number-2.ensures.value) c.index_of-index.ensures.index
+        ∙ slot_is c.args.levels.now c.args.key.now c.index_of-index.ensures.in_range c.from-css.result c.from-set.result
+        c.index_of-index.result
+        (c.from-css.ensures ∙ c.number.ensures.value) (c.from-set.ensures ∙ c.number-2.ensures.value)
+        c.index_of-index.ensures.index
         c.in_ok-sets.sets.now c.in_ok-sets.ensures.value c.in_ok-slots.slots.now c.in_ok-slots.ensures.value;
     in_range = c.index_of-index.ensures.in_range;
   },

@@ -13,8 +13,10 @@ use Rattle.iocm_headline.proofs.closing.close_and_tell.Goals as goal
 pub returns-clause-undone : goal.returns-clause-undone
 returns-clause-undone c n h is =
     let opening = c.args.core.opening in
-    subst (λ (s : State). LeavesTheRunWithout opening h n s) (ap (state_at opening) (sym is) ∙ sym c.close.ensures.state)
-    (leaves opening h n c.is_legal.ensures.used (subst (λ (g : History). IsLegal opening g) is c.is_legal.ensures.legal))
+    subst (λ (s : State). LeavesTheRunWithout opening h n s)
+    (ap (state_at opening) (sym is) ∙ sym c.close.ensures.state)
+    (leaves opening h n c.is_legal.ensures.used
+    (subst (λ (g : History). IsLegal opening g) is c.is_legal.ensures.legal))
 
 pub returns-clause-answered : goal.returns-clause-answered
 returns-clause-answered c later h e n is call =
@@ -24,4 +26,5 @@ returns-clause-answered c later h e n is call =
 
 pub returns-clause-taken_back : goal.returns-clause-taken_back
 returns-clause-taken_back c n undone there =
-    inverses_of_changes_take_back c.args.core.opening c.args.core.history n undone c.is_legal.ensures.used c.is_legal.ensures.legal there
+    inverses_of_changes_take_back c.args.core.opening c.args.core.history n undone c.is_legal.ensures.used
+    c.is_legal.ensures.legal there

@@ -8,4 +8,5 @@ use Rattle.iocm_headline.proofs.in_a_history.an_undo_in_a_legal_history.Goals as
 
 pub returns : goal.returns
 returns c opening whole used legal later h n is =
-    leaves opening h n used (legal_before opening later (undo_entry n ∷ h) (subst (λ (g : History). IsLegal opening g) is legal))
+    leaves opening h n used (legal_before opening later (undo_entry n ∷ h)
+    (subst (λ (g : History). IsLegal opening g) is legal))

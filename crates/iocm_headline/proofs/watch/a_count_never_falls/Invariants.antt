@@ -3,4 +3,5 @@ use Rattle.iocm_headline.proofs.watch.a_count_never_falls.Given as goal
 
 -- the last count is one that the caller has seen
 abbrev pub invariant-loop : goal.invariant-loop
-invariant-loop g l = (l.last ≤ l.me.seen) × (l.rises ≡ true) × (l.me.tag ≡ l.initial.me.tag) × (l.me.names ≡ l.initial.me.names)
+invariant-loop g l = (l.last ≤ l.me.seen) × (l.rises ≡ true) × (l.me.tag ≡ l.initial.me.tag)
+    × (l.me.names ≡ l.initial.me.names)

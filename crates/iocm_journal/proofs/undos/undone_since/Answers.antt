@@ -13,4 +13,5 @@ returns-else-undos-left c =
 
 pub returns-after-loop-left : goal.returns-after-loop-left
 returns-after-loop-left c =
-    sym (none_at_all c.args.kept.now c.args.undos.now c.args.place c.loop-left.left c.loop-left-test.false c.loop-left.invariant.1)
+    sym (none_at_all c.args.kept.now c.args.undos.now c.args.place c.loop-left.left c.loop-left-test.false
+    c.loop-left.invariant.1)

@@ -4,4 +4,5 @@ use Rattle.iocm_keywords.specs.Known.{is_missing, seen_row}
 use Rattle.iocm_keywords.proofs.known.is_one_missing.Given as goal
 
 abbrev pub invariant-loop-row : goal.invariant-loop-row
-invariant-loop-row l = list_any (is_missing l.operands) (map seen_row (drop l.row-index l.rows)) ≡ list_any (is_missing l.operands) (map seen_row l.rows)
+invariant-loop-row l = list_any (is_missing l.operands) (map seen_row (drop l.row-index l.rows))
+    ≡ list_any (is_missing l.operands) (map seen_row l.rows)

@@ -4,4 +4,5 @@ use Rattle.iocm_lookup.proofs.among.first_wanted_among.Goals as goal
 
 pub returns : goal.returns
 returns g c = let all = c.args.config.now.records in
-    c.least_wanted.ensures ∙ least_wanted_is_first all (g.W.Wanted.wants c.args.wanted.now all) c.has_own_keys.ensures c.args.keys.now c.requires.only
+    c.least_wanted.ensures ∙ least_wanted_is_first all (g.W.Wanted.wants c.args.wanted.now all) c.has_own_keys.ensures
+    c.args.keys.now c.requires.only

@@ -10,5 +10,7 @@ use Rattle.iocm_lookup.specs.Entries.{in_entries}
 use Rattle.iocm_lookup.proofs.indexing.index_of.Given as goal
 
 abbrev pub invariant-loop-entry : goal.invariant-loop-entry
-invariant-loop-entry g l = (n : Naming) → (list_any (λ r. is_naming_of r n) (in_entries l.entry-iterator) || list_any (eq_by_cmp naming_cmp n) l.namings.items)
+invariant-loop-entry g l =
+    (n : Naming) → (list_any (λ r. is_naming_of r n) (in_entries l.entry-iterator)
+    || list_any (eq_by_cmp naming_cmp n) l.namings.items)
     ≡ list_any (λ r. is_naming_of r n) (records_of l.config.records)

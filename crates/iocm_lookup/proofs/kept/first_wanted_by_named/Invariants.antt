@@ -7,5 +7,6 @@ use Rattle.iocm_lookup.proofs.Walks.{IsLeft}
 use Rattle.iocm_lookup.proofs.kept.first_wanted_by_named.Given as goal
 
 abbrev pub invariant-loop-key : goal.invariant-loop-key
-invariant-loop-key g l = IsLeft (g.W.WantedByNamed.wants l.wanted l.config.records) (records_of l.config.records) l.key-iterator
+invariant-loop-key g l =
+    IsLeft (g.W.WantedByNamed.wants l.wanted l.config.records) (records_of l.config.records) l.key-iterator
     × ForSome l.last (λ r. IsThere l.config.records r.now)

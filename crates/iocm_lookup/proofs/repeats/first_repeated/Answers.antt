@@ -12,11 +12,14 @@ use Rattle.iocm_lookup.proofs.repeats.first_repeated.Goals as goal
 
 pub loop-user-init : goal.loop-user-init
 loop-user-init g c = let records = c.args.config.now.records in
-    let address : Key → Option ℕ = λ k. address_in (g.D.Addressed.address_of c.args.addressed.now) (lookup_of records k) in
+    let address : Key → Option ℕ =
+    λ k. address_in (g.D.Addressed.address_of c.args.addressed.now) (lookup_of records k) in
     let wanted : Key → Bool = is_so_at (g.D.Addressed.wants c.args.addressed.now records) (lookup_of records) in (
       c.new-records.ensures,
-      ap (λ (met : ℕ → Bool). first_repeated address wanted met c.into_iter-user-iterator.result) (λ i a. none_met 256 a i)
-          ∙ ap (first_repeated address wanted (λ a. false)) (c.into_iter-user-iterator.ensures.into_iter_gives ∙ c.users_of-user-items.ensures.users),
+      ap (λ (met : ℕ → Bool). first_repeated address wanted met c.into_iter-user-iterator.result)
+          (λ i a. none_met 256 a i)
+          ∙ ap (first_repeated address wanted (λ a. false))
+          (c.into_iter-user-iterator.ensures.into_iter_gives ∙ c.users_of-user-items.ensures.users),
     )
 
 pub loop-user-preserved : goal.loop-user-preserved
@@ -34,6 +37,7 @@ loop-user-preserved g c = let records = c.args.config.now.records in
           (ap (λ (o : Option Rec). is_met met (address_in of o) && option_map_or wants o false) (sym there)
           ∙ sym c.is_repeated.ensures.repeated ∙ c.if-is_repeated.false)
           (λ b. c.is_repeated.ensures.noted b ∙ ap (λ (o : Option Rec). met_with (address_in of o) met b) there)
-          ∙ ap (first_repeated address wanted met) (sym (rest_more (λ (q : Key). q) _ _ _ user c.in-Some.is c.next.ensures.steps))
+          ∙ ap (first_repeated address wanted met)
+          (sym (rest_more (λ (q : Key). q) _ _ _ user c.in-Some.is c.next.ensures.steps))
           ∙ c.loop-user.invariant.1,
     )

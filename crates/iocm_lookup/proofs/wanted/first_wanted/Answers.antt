@@ -10,33 +10,47 @@ use Rattle.iocm_lookup.proofs.wanted.first_wanted.Goals as goal
 
 pub loop-key-init : goal.loop-key-init
 loop-key-init g c = let wants = g.W.Wanted.wants c.args.wanted.now c.args.config.now.records in (
-  subst (IsLeft wants (records_of c.args.config.now.records)) (sym (c.into_iter-key-iterator.ensures.into_iter_gives ∙ c.walk_from-key-items.ensures.entries))
-      (left_at_first wants g.W.Wanted.place c.first.result (subst (IsBeforeKind c.first.result) c.kind-kind.ensures c.first.ensures.first)
-      (g.met.W.Wanted.of_kind c.args.wanted.now c.args.config.now.records) c.args.config.now.records c.has_own_keys.ensures),
+  subst (IsLeft wants (records_of c.args.config.now.records))
+      (sym (c.into_iter-key-iterator.ensures.into_iter_gives ∙ c.walk_from-key-items.ensures.entries))
+      (left_at_first wants g.W.Wanted.place c.first.result
+      (subst (IsBeforeKind c.first.result) c.kind-kind.ensures c.first.ensures.first)
+      (g.met.W.Wanted.of_kind c.args.wanted.now c.args.config.now.records) c.args.config.now.records
+      c.has_own_keys.ensures),
   λ other is. cc,
 )
 
 pub returns-then-is_past : goal.returns-then-is_past
 returns-then-is_past g c = let wants = g.W.Wanted.wants c.args.wanted.now c.args.config.now.records in
-    none_past wants g.W.Wanted.place (g.met.W.Wanted.of_kind c.args.wanted.now c.args.config.now.records) (records_of c.args.config.now.records)
+    none_past wants g.W.Wanted.place (g.met.W.Wanted.of_kind c.args.wanted.now c.args.config.now.records)
+    (records_of c.args.config.now.records)
     (c.in-Some.key.now, c.in-Some.entry.now) c.next.new.self
-    (subst (λ (p : ℕ). nat_lt p (kind_of c.in-Some.key.now) ≡ true) c.kind-kind.ensures (sym c.is_past.ensures ∙ c.if-is_past.true))
-    (subst (IsLeft wants (records_of c.args.config.now.records)) (rest_more deref_pair _ _ _ (c.in-Some.key, c.in-Some.entry) c.in-Some.is c.next.ensures.steps) c.loop-key.invariant.0)
+    (subst (λ (p : ℕ). nat_lt p (kind_of c.in-Some.key.now) ≡ true) c.kind-kind.ensures
+    (sym c.is_past.ensures ∙ c.if-is_past.true))
+    (subst (IsLeft wants (records_of c.args.config.now.records))
+    (rest_more deref_pair _ _ _ (c.in-Some.key, c.in-Some.entry) c.in-Some.is c.next.ensures.steps)
+    c.loop-key.invariant.0)
 
 pub returns-then-is_wanted_after : goal.returns-then-is_wanted_after
 returns-then-is_wanted_after g c = let wants = g.W.Wanted.wants c.args.wanted.now c.args.config.now.records in
-    found_here wants (records_of c.args.config.now.records) (c.in-Some.key.now, c.in-Some.entry.now) c.next.new.self (sym c.is_wanted_after.ensures ∙ c.if-is_wanted_after.true)
-    (subst (IsLeft wants (records_of c.args.config.now.records)) (rest_more deref_pair _ _ _ (c.in-Some.key, c.in-Some.entry) c.in-Some.is c.next.ensures.steps) c.loop-key.invariant.0)
+    found_here wants (records_of c.args.config.now.records) (c.in-Some.key.now, c.in-Some.entry.now) c.next.new.self
+    (sym c.is_wanted_after.ensures ∙ c.if-is_wanted_after.true)
+    (subst (IsLeft wants (records_of c.args.config.now.records))
+    (rest_more deref_pair _ _ _ (c.in-Some.key, c.in-Some.entry) c.in-Some.is c.next.ensures.steps)
+    c.loop-key.invariant.0)
 
 pub loop-key-preserved : goal.loop-key-preserved
 loop-key-preserved g c = let wants = g.W.Wanted.wants c.args.wanted.now c.args.config.now.records in
     let not = sym c.is_wanted_after.ensures ∙ c.if-is_wanted_after.false in (
-      passed_by wants (records_of c.args.config.now.records) (c.in-Some.key.now, c.in-Some.entry.now) c.next.new.self not
-          (subst (IsLeft wants (records_of c.args.config.now.records)) (rest_more deref_pair _ _ _ (c.in-Some.key, c.in-Some.entry) c.in-Some.is c.next.ensures.steps) c.loop-key.invariant.0),
+      passed_by wants (records_of c.args.config.now.records) (c.in-Some.key.now, c.in-Some.entry.now) c.next.new.self
+          not
+          (subst (IsLeft wants (records_of c.args.config.now.records))
+          (rest_more deref_pair _ _ _ (c.in-Some.key, c.in-Some.entry) c.in-Some.is c.next.ensures.steps)
+          c.loop-key.invariant.0),
       λ other is. let same : c.in-Some.entry ≡ other = cc in ap (λ o. wants o.now) (sym same) ∙ not,
     )
 
 pub returns : goal.returns
 returns g c = let wants = g.W.Wanted.wants c.args.wanted.now c.args.config.now.records in
     none_left wants (records_of c.args.config.now.records)
-    (subst (IsLeft wants (records_of c.args.config.now.records)) (rest_all deref_pair _ _ _ c.in-None.is c.next.ensures.steps) c.loop-key.invariant.0)
+    (subst (IsLeft wants (records_of c.args.config.now.records))
+    (rest_all deref_pair _ _ _ c.in-None.is c.next.ensures.steps) c.loop-key.invariant.0)

@@ -7,5 +7,6 @@ use Rattle.iocm_numbers.proofs.first_cells.opening_cells.Goals as goal
 
 pub returns : goal.returns
 returns g c = subst (λ all. IfOk c.list_cells.result (λ cells. cells.items ≡ all))
-    (ap cells_in (c.as_slice.ensures.value ∙ c.in_ok-rows.ensures) ∙ opening_cells_are c.args.config.now.records c.has_own_keys.ensures)
+    (ap cells_in (c.as_slice.ensures.value ∙ c.in_ok-rows.ensures)
+    ∙ opening_cells_are c.args.config.now.records c.has_own_keys.ensures)
     c.list_cells.ensures

@@ -8,4 +8,5 @@ use Rattle.iocm_numbers.proofs.first_numbers.number_set.Given as goal
 
 abbrev pub invariant-loop-device : goal.invariant-loop-device
 invariant-loop-device g l =
-    IsSoFar l.css l.set (numbered l.css l.set (drop l.device-index l.devices)) (l.fn.rows.items ++ numbers_from l.css l.set 0 (numbered l.css l.set l.devices)) l.rows.items l.next
+    IsSoFar l.css l.set (numbered l.css l.set (drop l.device-index l.devices))
+    (l.fn.rows.items ++ numbers_from l.css l.set 0 (numbered l.css l.set l.devices)) l.rows.items l.next

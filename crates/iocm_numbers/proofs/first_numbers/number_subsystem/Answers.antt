@@ -12,11 +12,13 @@ of_set css devices set = numbers_from css set 0 (numbered css set devices)
 
 pub loop-number-preserved : goal.loop-number-preserved
 loop-number-preserved g c =
-    part_more (of_set c.args.css c.args.devices.now) sets c.loop-number.number c.loop-number.rows.items c.number_set.new.rows.items c.in-Some.set
+    part_more (of_set c.args.css c.args.devices.now) sets c.loop-number.number c.loop-number.rows.items
+    c.number_set.new.rows.items c.in-Some.set
     (set_at c.loop-number.number c.loop-number-test.true) c.in-Some.ensures.value c.in_ok-number_set.ensures
     ∙ c.loop-number.invariant
 
 pub returns : goal.returns
 returns g c =
-    sym (part_end (of_set c.args.css c.args.devices.now) sets c.loop-number.number c.loop-number.rows.items c.loop-number-test.false)
+    sym (part_end (of_set c.args.css c.args.devices.now) sets c.loop-number.number c.loop-number.rows.items
+    c.loop-number-test.false)
     ∙ c.loop-number.invariant

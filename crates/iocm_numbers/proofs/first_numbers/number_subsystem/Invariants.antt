@@ -7,4 +7,5 @@ use Rattle.iocm_numbers.proofs.first_numbers.number_subsystem.Given as goal
 
 abbrev pub invariant-loop-number : goal.invariant-loop-number
 invariant-loop-number g l =
-    l.rows.items ++ flat_map (λ set. numbers_from l.css set 0 (numbered l.css set l.devices)) (drop l.number sets) ≡ l.fn.rows.items ++ rows_of l.css l.devices
+    l.rows.items ++ flat_map (λ set. numbers_from l.css set 0 (numbered l.css set l.devices)) (drop l.number sets)
+    ≡ l.fn.rows.items ++ rows_of l.css l.devices

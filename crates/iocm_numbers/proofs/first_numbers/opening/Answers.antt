@@ -12,8 +12,10 @@ use Rattle.iocm_numbers.proofs.first_numbers.opening.Goals as goal
 
 pub from_rows-requires-clause-places : goal.from_rows-requires-clause-places
 from_rows-requires-clause-places g c =
-    subst (λ (es : List (Place × ℕ)). IsDistinct (eq_by_cmp place_cmp) (keys_of es)) (sym c.in_ok-rows.ensures) (places_distinct c.args.config.now.records c.has_own_keys.ensures)
+    subst (λ (es : List (Place × ℕ)). IsDistinct (eq_by_cmp place_cmp) (keys_of es)) (sym c.in_ok-rows.ensures)
+    (places_distinct c.args.config.now.records c.has_own_keys.ensures)
 
 pub from_rows-requires-clause-apart : goal.from_rows-requires-clause-apart
 from_rows-requires-clause-apart g c =
-    subst (λ (es : List (Place × ℕ)). HasNoNumberTwice (from_entries es)) (sym c.in_ok-rows.ensures) (numbers_apart c.args.config.now.records)
+    subst (λ (es : List (Place × ℕ)). HasNoNumberTwice (from_entries es)) (sym c.in_ok-rows.ensures)
+    (numbers_apart c.args.config.now.records)

@@ -8,4 +8,5 @@ use Rattle.iocm_numbers.proofs.first_numbers.opening_rows.Given as goal
 
 abbrev pub invariant-loop-number : goal.invariant-loop-number
 invariant-loop-number g l =
-    l.rows.items ++ flat_map (λ css. rows_of css (gathered l.config.records)) (drop l.number subsystems) ≡ rows_at_opening l.config.records
+    l.rows.items ++ flat_map (λ css. rows_of css (gathered l.config.records)) (drop l.number subsystems)
+    ≡ rows_at_opening l.config.records

@@ -7,5 +7,7 @@ use Rattle.iocm_numbers.proofs.gathered.gather_devices.Goals as goal
 pub loop-entry-init : goal.loop-entry-init
 loop-entry-init g c = record {
   known = refl;
-  rest = rw c.new-devices.ensures.items (ap (gathered_from (lookup_of c.args.config.now.records)) (c.into_iter-entry-iterator.ensures.into_iter_gives ∙ c.walk-entry-items.ensures.entries));
+  rest = rw c.new-devices.ensures.items
+      (ap (gathered_from (lookup_of c.args.config.now.records))
+      (c.into_iter-entry-iterator.ensures.into_iter_gives ∙ c.walk-entry-items.ensures.entries));
 }

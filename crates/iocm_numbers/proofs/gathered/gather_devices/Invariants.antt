@@ -9,5 +9,6 @@ use Rattle.iocm_numbers.proofs.gathered.gather_devices.Given as goal
 abbrev pub invariant-loop-entry : goal.invariant-loop-entry
 invariant-loop-entry g l = record {
   known : l.last.reached ≡ reach_by (lookup_of l.config.records) l.last.units.now;
-  rest : l.devices.items ++ gathered_from (lookup_of l.config.records) l.entry-iterator ≡ map (reach_of (lookup_of l.config.records)) (devices_of l.config.records);
+  rest : l.devices.items ++ gathered_from (lookup_of l.config.records) l.entry-iterator
+      ≡ map (reach_of (lookup_of l.config.records)) (devices_of l.config.records);
 }

@@ -8,5 +8,6 @@ use Rattle.iocm_numbers.proofs.gathered.look_up.Goals as goal
 
 pub returns : goal.returns
 returns g c =
-    fill_by_all (λ css. not (is_empty (path_list (lookup_of c.args.config.now.records) css c.args.units.now))) c.loop-number.reached 6 false c.loop-number.invariant.six
+    fill_by_all (λ css. not (is_empty (path_list (lookup_of c.args.config.now.records) css c.args.units.now)))
+    c.loop-number.reached 6 false c.loop-number.invariant.six
     (λ k low. c.loop-number.invariant.so_far k (omega arith))

@@ -8,5 +8,6 @@ use Rattle.iocm_numbers.proofs.gathered.look_up.Given as goal
 abbrev pub invariant-loop-number : goal.invariant-loop-number
 invariant-loop-number g l = record {
   six : length l.reached ≡ 6;
-  so_far : (css : ℕ) → css < l.number → get_or l.reached css false ≡ not (is_empty (path_list (lookup_of l.config.records) css l.units));
+  so_far : (css : ℕ) → css < l.number
+      → get_or l.reached css false ≡ not (is_empty (path_list (lookup_of l.config.records) css l.units));
 }

@@ -7,4 +7,5 @@ use Rattle.iocm_numbers.proofs.gathered.reached_by.Goals as goal
 
 pub returns-then-eq : goal.returns-then-eq
 returns-then-eq g c =
-    c.requires ∙ ap (reach_by (lookup_of c.args.config.now.records)) (sym (same_text _ _ (sym (sym c.eq.ensures ∙ c.if-eq.true))))
+    c.requires ∙ ap (reach_by (lookup_of c.args.config.now.records))
+    (sym (same_text _ _ (sym (sym c.eq.ensures ∙ c.if-eq.true))))

@@ -16,10 +16,12 @@ returns-then-has_path-clause-reached g c =
     let seen = ◌∙◌ {b = paths (option_copied c.find.result)} c.has_path.ensures (ap paths (c.find.ensures.record
     ∙ ap (λ (m : Configuration). lookup_of m (Unit c.unit-item.result)) c.loop-unit.invariant.0)) in
     sym (some_unit (lookup_of c.args.units.now) c.args.css c.args.numbers.now ∙ sym c.loop-unit.invariant.1
-    ∙ any_stops (has_path (lookup_of c.args.units.now) c.args.css) c.args.numbers.now c.loop-unit.unit-index c.unit-item.result c.loop-unit-test.true
+    ∙ any_stops (has_path (lookup_of c.args.units.now) c.args.css) c.args.numbers.now c.loop-unit.unit-index
+    c.unit-item.result c.loop-unit-test.true
     c.unit-item.is (sym seen ∙ c.if-has_path.true))
 
 pub returns-clause-reached : goal.returns-clause-reached
 returns-clause-reached g c =
     sym (some_unit (lookup_of c.args.units.now) c.args.css c.args.numbers.now ∙ sym c.loop-unit.invariant.1
-    ∙ any_done (has_path (lookup_of c.args.units.now) c.args.css) c.args.numbers.now c.loop-unit.unit-index c.loop-unit-test.false)
+    ∙ any_done (has_path (lookup_of c.args.units.now) c.args.css) c.args.numbers.now c.loop-unit.unit-index
+    c.loop-unit-test.false)

@@ -7,7 +7,8 @@ use Rattle.iocm_numbers.proofs.reached.is_one_in.Goals as goal
 pub returns-then-eq : goal.returns-then-eq
 returns-then-eq c =
     sym (some_path c.args.css c.args.paths.now ∙ sym c.loop-path.invariant
-    ∙ any_stops (λ p. nat_eq p.css c.args.css) c.args.paths.now c.loop-path.path-index c.path-item.result c.loop-path-test.true c.path-item.is (sym c.eq.ensures ∙ c.if-eq.true))
+    ∙ any_stops (λ p. nat_eq p.css c.args.css) c.args.paths.now c.loop-path.path-index c.path-item.result
+    c.loop-path-test.true c.path-item.is (sym c.eq.ensures ∙ c.if-eq.true))
 
 pub returns : goal.returns
 returns c =

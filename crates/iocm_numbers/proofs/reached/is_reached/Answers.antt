@@ -11,10 +11,13 @@ use Rattle.iocm_numbers.proofs.reached.is_reached.Goals as goal
 pub returns-then-has_path : goal.returns-then-has_path
 returns-then-has_path g c =
     sym (some_unit (lookup_of c.args.config.now.records) c.args.css c.args.units.now ∙ sym c.loop-unit.invariant
-    ∙ any_stops (has_path (lookup_of c.args.config.now.records) c.args.css) c.args.units.now c.loop-unit.unit-index c.unit-item.result c.loop-unit-test.true c.unit-item.is
-    (ap (λ (o : Option Rec). not (is_empty (unit_record_paths c.args.css o))) (sym c.get.ensures) ∙ sym c.has_path.ensures ∙ c.if-has_path.true))
+    ∙ any_stops (has_path (lookup_of c.args.config.now.records) c.args.css) c.args.units.now c.loop-unit.unit-index
+    c.unit-item.result c.loop-unit-test.true c.unit-item.is
+    (ap (λ (o : Option Rec). not (is_empty (unit_record_paths c.args.css o))) (sym c.get.ensures)
+    ∙ sym c.has_path.ensures ∙ c.if-has_path.true))
 
 pub returns : goal.returns
 returns g c =
     sym (some_unit (lookup_of c.args.config.now.records) c.args.css c.args.units.now ∙ sym c.loop-unit.invariant
-    ∙ any_done (has_path (lookup_of c.args.config.now.records) c.args.css) c.args.units.now c.loop-unit.unit-index c.loop-unit-test.false)
+    ∙ any_done (has_path (lookup_of c.args.config.now.records) c.args.css) c.args.units.now c.loop-unit.unit-index
+    c.loop-unit-test.false)

@@ -7,4 +7,5 @@ use Rattle.iocm_numbers.proofs.reached.is_reached.Given as goal
 
 abbrev pub invariant-loop-unit : goal.invariant-loop-unit
 invariant-loop-unit g l =
-    list_any (has_path (lookup_of l.config.records) l.css) (drop l.unit-index l.units) ≡ list_any (has_path (lookup_of l.config.records) l.css) l.units
+    list_any (has_path (lookup_of l.config.records) l.css) (drop l.unit-index l.units)
+    ≡ list_any (has_path (lookup_of l.config.records) l.css) l.units

@@ -1,4 +1,5 @@
-use Rattle.iocm_operands.proofs.Given.{path_given, number_given, cuadd_given, first_address_given, set_given, devices_given, units_given, ranges_given}
+use Rattle.iocm_operands.proofs.Given.{path_given, number_given, cuadd_given, first_address_given, set_given}
+use Rattle.iocm_operands.proofs.Given.{devices_given, units_given, ranges_given}
 use Rattle.iocm_operands.proofs.Maxdev.{limits_given}
 use Rattle.iocm_operands.proofs.Readings.{candidates_given, partition_given, paths_given, links_given, images_given}
 use Rattle.iocm_operands.proofs.laws.what_is_read_can_be_written.Goals as goal

@@ -7,7 +7,8 @@ returns-in_ok-push-in-Some c =
     let es = c.args.entries.now in
     let e = c.in-Some.entry.now in
     adds_answer es c.args.place.now e c.args.answers.now.items c.push.new.self.items
-    (entry_there es c.args.place.now.number e c.in-Some.ensures.lookup.0 c.in-Some.ensures.lookup.1) c.in_ok-push-in-Some.ensures.items
+    (entry_there es c.args.place.now.number e c.in-Some.ensures.lookup.0 c.in-Some.ensures.lookup.1)
+    c.in_ok-push-in-Some.ensures.items
 
 pub returns-in-None : goal.returns-in-None
 returns-in-None c =

@@ -10,9 +10,11 @@ use Rattle.iocm_operation.proofs.asking.copied.Goals as goal
 pub returns-in-Some : goal.returns-in-Some
 returns-in-Some c =
     copied_is c.copy_in.result c.in-Some.tree.now (tree_at (trees_in c.args.trees.now) c.args.number) c.copy_in.ensures
-    (tree_there c.args.trees.now c.args.number c.saturating_sub.result c.in-Some.tree.now c.saturating_sub.ensures c.in-Some.ensures.lookup.0 c.in-Some.ensures.lookup.1)
+    (tree_there c.args.trees.now c.args.number c.saturating_sub.result c.in-Some.tree.now c.saturating_sub.ensures
+    c.in-Some.ensures.lookup.0 c.in-Some.ensures.lookup.1)
 
 pub returns-in-None : goal.returns-in-None
 returns-in-None c =
     ap plain_tree (tree-Row c.new.result ∙ ap (λ ts. row (parts_from (map tree_of ts))) c.new.ensures.items)
-    ∙ sym (no_tree_there c.args.trees.now c.args.number c.saturating_sub.result c.saturating_sub.ensures c.in-None.ensures.lookup.0)
+    ∙ sym (no_tree_there c.args.trees.now c.args.number c.saturating_sub.result c.saturating_sub.ensures
+    c.in-None.ensures.lookup.0)

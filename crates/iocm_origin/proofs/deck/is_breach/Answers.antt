@@ -12,9 +12,11 @@ use Rattle.iocm_origin.proofs.deck.is_breach.Goals as goal
 
 pub returns-then-is_same_key : goal.returns-then-is_same_key
 returns-then-is_same_key c =
-    let key : c.found.inside.key ≡ c.breach.inside.key = same_key key_cmp keys_exact _ _ (sym c.is_same_key.ensures ∙ c.if-is_same_key.true) in (
+    let key : c.found.inside.key ≡ c.breach.inside.key =
+    same_key key_cmp keys_exact _ _ (sym c.is_same_key.ensures ∙ c.if-is_same_key.true) in (
       λ is.
-          let rule : c.found.inside.rule ≡ c.breach.inside.rule = same_true the_type (search rules) _ _ (sym c.eq.ensures ∙ is) in
+          let rule : c.found.inside.rule ≡ c.breach.inside.rule =
+          same_true the_type (search rules) _ _ (sym c.eq.ensures ∙ is) in
           let their_rules : c.in-Breach.found.rule ≡ c.args.breach.rule =
           sym (ap (λ (b : Breach). b.rule) c.found.view_is) ∙ rule ∙ ap (λ (b : Breach). b.rule) c.breach.view_is in
           let their_keys : c.in-Breach.found.key ≡ c.args.breach.key =
@@ -23,7 +25,8 @@ returns-then-is_same_key c =
       λ same.
           let one : c.in-Breach.found ≡ c.args.breach = let was = c.in-Breach.is in cc in
           let rule : c.found.inside.rule ≡ c.breach.inside.rule =
-          ap (λ (b : Breach). b.rule) c.found.view_is ∙ ap (λ (b : Breach). b.rule) one ∙ sym (ap (λ (b : Breach). b.rule) c.breach.view_is) in
+          ap (λ (b : Breach). b.rule) c.found.view_is ∙ ap (λ (b : Breach). b.rule) one
+          ∙ sym (ap (λ (b : Breach). b.rule) c.breach.view_is) in
           c.eq.ensures ∙ true_same the_type _ _ rule,
     )
 
@@ -33,6 +36,8 @@ returns-else-is_same_key c = (
   λ same.
       let one : c.in-Breach.found ≡ c.args.breach = let was = c.in-Breach.is in cc in
       let key : c.found.inside.key ≡ c.breach.inside.key =
-      ap (λ (b : Breach). b.key) c.found.view_is ∙ ap (λ (b : Breach). b.key) one ∙ sym (ap (λ (b : Breach). b.key) c.breach.view_is) in
-      c.is_same_key.ensures ∙ ap (eq_by_cmp key_cmp c.found.inside.key) (sym key) ∙ ties_itself key_cmp keys_total c.found.inside.key,
+      ap (λ (b : Breach). b.key) c.found.view_is ∙ ap (λ (b : Breach). b.key) one
+      ∙ sym (ap (λ (b : Breach). b.key) c.breach.view_is) in
+      c.is_same_key.ensures ∙ ap (eq_by_cmp key_cmp c.found.inside.key) (sym key)
+      ∙ ties_itself key_cmp keys_total c.found.inside.key,
 )

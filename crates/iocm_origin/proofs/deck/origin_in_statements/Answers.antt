@@ -3,7 +3,8 @@ use Rattle.std.proofs.Common.{◌≡◌, ◌∙◌, IfSome, IsSome, Some, ap, sy
 use Rattle.std.proofs.lemmas.Option.{IfSome_then}
 use Rattle.std.proofs.lemmas.Result.{IfOk-weaker}
 use Rattle.iocm_model.specs.Machine.Configuration.{configuration_of}
-use Rattle.iocm_origin.specs.Origin.{IsPlacedInDeck, fault_or, place_in_statements, refusal_of_opening, refusal_of_statements}
+use Rattle.iocm_origin.specs.Origin.{IsPlacedInDeck, fault_or, place_in_statements, refusal_of_opening}
+use Rattle.iocm_origin.specs.Origin.{refusal_of_statements}
 use Rattle.iocm_origin.proofs.deck.origin_in_statements.Goals as goal
 
 pub returns-in_ok-config-in-Ok-clause-some : goal.returns-in_ok-config-in-Ok-clause-some

@@ -16,16 +16,19 @@ pub seat-requires-clause-seen : goal.seat-requires-clause-seen
 seat-requires-clause-seen c =
     let seen = views_seated c.args.seats.now.seats in
     let now = views_of c.args.config.now.records c.args.numbers.now.numbers in
-    subst (AreSeen seen) (sym (c.as_slice-2.ensures.value ∙ c.in_ok-changes.ensures.changes)) (all_seen seen (get now) (differing same_view seen now))
+    subst (AreSeen seen) (sym (c.as_slice-2.ensures.value ∙ c.in_ok-changes.ensures.changes))
+    (all_seen seen (get now) (differing same_view seen now))
 
 pub returns-in-Ok-clause-told : goal.returns-in-Ok-clause-told
 returns-in-Ok-clause-told c = record {
-  settled = subst (λ (chs : List ViewChange). TellsOfSettling c.args.seats.now.seats chs c.in-Ok.seated.kept.items c.in-Ok.seated.meets.items)
+  settled = subst (λ (chs : List ViewChange).
+      TellsOfSettling c.args.seats.now.seats chs c.in-Ok.seated.kept.items c.in-Ok.seated.meets.items)
       (c.as_slice-2.ensures.value ∙ c.in_ok-changes.ensures.changes) c.in-Ok.ensures.told;
   subchannels = c.in_ok-changes.ensures.changes;
 }
 
 pub returns-clause-refused : goal.returns-clause-refused
 returns-clause-refused c = subst (λ (chs : List ViewChange). Hinders (refusal_by_quiet c.args.brought.quiet
-    (first_not_quiet (lives_seated c.args.seats.now.seats) (map (λ (ch : ViewChange). ch.subchannel) chs))) c.in-Err.obstacle)
+    (first_not_quiet (lives_seated c.args.seats.now.seats) (map (λ (ch : ViewChange). ch.subchannel) chs)))
+    c.in-Err.obstacle)
     (c.as_slice-2.ensures.value ∙ c.in_ok-changes.ensures.changes) c.in-Err.ensures.refused

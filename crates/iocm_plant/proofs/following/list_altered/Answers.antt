@@ -16,5 +16,6 @@ list_changes-requires-clause-all c =
     subst (λ (xs : List Image × List NumberCell). AreCandidates (get (views_seated c.args.seats.now.seats))
     (view_at c.args.config.now.records c.args.numbers.now.numbers) (candidates xs.0 xs.1))
     (sym (λ i. (c.as_slice.ensures.value i, c.as_slice-2.ensures.value i)))
-    (all_looked_at c.args.config.now.records c.args.numbers.now.numbers c.args.seats.now.seats c.args.at c.args.given.now c.in_ok-cells.cells.items c.requires.changed
+    (all_looked_at c.args.config.now.records c.args.numbers.now.numbers c.args.seats.now.seats c.args.at
+    c.args.given.now c.in_ok-cells.cells.items c.requires.changed
     (λ cell. c.in_ok-cells.ensures.same cell ∙ ap (list_any (eq_by_cmp cell_cmp cell)) c.in_ok-list_given.ensures))

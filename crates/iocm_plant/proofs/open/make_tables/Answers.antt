@@ -5,12 +5,14 @@ use Rattle.iocm_plant.proofs.open.make_tables.Goals as goal
 
 pub returns-clause-operating : goal.returns-clause-operating
 returns-clause-operating c =
-    opens c.args.config.now.records c.in_ok-numbers.numbers.numbers c.in_ok-index.index c.in_ok-seats.seats.seats c.has_own_keys.ensures
+    opens c.args.config.now.records c.in_ok-numbers.numbers.numbers c.in_ok-index.index c.in_ok-seats.seats.seats
+    c.has_own_keys.ensures
     c.in_ok-numbers.ensures c.in_ok-index.ensures c.in_ok-seats.ensures
 
 pub returns-clause-state : goal.returns-clause-state
 returns-clause-state c =
-    opening_is c.args.config.now.records c.in_ok-numbers.numbers.numbers c.in_ok-index.index c.in_ok-seats.seats.seats c.has_own_keys.ensures
+    opening_is c.args.config.now.records c.in_ok-numbers.numbers.numbers c.in_ok-index.index c.in_ok-seats.seats.seats
+    c.has_own_keys.ensures
     c.in_ok-numbers.ensures c.in_ok-index.ensures c.in_ok-seats.ensures
 
 pub returns-in-Some-clause-refused : goal.returns-in-Some-clause-refused

@@ -12,7 +12,8 @@ use Rattle.iocm_plant.proofs.record.relink_record.Goals as goal
 
 pub returns-in-Alike-clause-index : goal.returns-in-Alike-clause-index
 returns-in-Alike-clause-index c =
-    put_alike_linked c.args.config.now.records c.args.index.now c.args.entry.now (c.requires.alike c.in-Alike.is) c.requires.index
+    put_alike_linked c.args.config.now.records c.args.index.now c.args.entry.now (c.requires.alike c.in-Alike.is)
+    c.requires.index
 
 pub link-requires : goal.link-requires
 link-requires c = subst (λ (ps : List Naming). AllByRecursion (HasPlaceIn naming_cmp ps) (namings_of c.args.entry.now))
@@ -20,5 +21,6 @@ link-requires c = subst (λ (ps : List Naming). AllByRecursion (HasPlaceIn namin
 
 pub returns-clause-index : goal.returns-clause-index
 returns-clause-index c = linked c.args.config.now.records c.unlink_record.new.index c.link.new.self c.args.entry.now
-    (subst (λ (k : Key). IsIndexOf (remove c.args.config.now.records k) c.unlink_record.new.index) c.key-key.ensures c.unlink_record.ensures.index)
+    (subst (λ (k : Key). IsIndexOf (remove c.args.config.now.records k) c.unlink_record.new.index) c.key-key.ensures
+    c.unlink_record.ensures.index)
     c.link.ensures.linked

@@ -7,8 +7,10 @@ use Rattle.iocm_plant.proofs.seating.first_in_the_way.Goals as goal
 
 pub returns-in-Wanted : goal.returns-in-Wanted
 returns-in-Wanted c = λ lives changes is. c.first_not_quiet.ensures lives changes is
-    ∙ sym (ap (λ (q : Quiet). first_in_the_way q (first_not_quiet lives (map (λ (ch : ViewChange). ch.subchannel) changes))) c.in-Wanted.is)
+    ∙ sym (ap (λ (q : Quiet).
+    first_in_the_way q (first_not_quiet lives (map (λ (ch : ViewChange). ch.subchannel) changes))) c.in-Wanted.is)
 
 pub returns-in-Whatever : goal.returns-in-Whatever
 returns-in-Whatever c = λ lives changes is.
-    sym (ap (λ (q : Quiet). first_in_the_way q (first_not_quiet lives (map (λ (ch : ViewChange). ch.subchannel) changes))) c.in-Whatever.is)
+    sym (ap (λ (q : Quiet). first_in_the_way q
+    (first_not_quiet lives (map (λ (ch : ViewChange). ch.subchannel) changes))) c.in-Whatever.is)

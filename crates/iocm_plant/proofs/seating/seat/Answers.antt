@@ -6,4 +6,5 @@ use Rattle.iocm_plant.proofs.seating.seat.Goals as goal
 
 pub returns-clause-seats : goal.returns-clause-seats
 returns-clause-seats c = c.settle_all.ensures.seats
-    ∙ (λ i. settled_all (from_sorted {R = sub_id_cmp} c.args.kept.now) (c.in_ok-make_places.ensures.seats i) c.args.changes.now)
+    ∙ (λ i. settled_all (from_sorted {R = sub_id_cmp} c.args.kept.now) (c.in_ok-make_places.ensures.seats i)
+    c.args.changes.now)

@@ -5,4 +5,5 @@ use Rattle.iocm_queue.proofs.taking.take_all.Given as goal
 
 -- the items are all that was taken
 abbrev pub invariant-loop : goal.invariant-loop
-invariant-loop g l = (l.worker.channel ≡ l.initial.worker.channel) × IfOk l.items (λ items. map message_of items.items ≡ l.worker.taken)
+invariant-loop g l = (l.worker.channel ≡ l.initial.worker.channel)
+    × IfOk l.items (λ items. map message_of items.items ≡ l.worker.taken)

@@ -21,20 +21,25 @@ loop-key-init g c = marks_begin c.args.config.now.records c.args.range.now c.arg
 pub returns-in_default : goal.returns-in_default
 returns-in_default g c = marks_stop c.args.config.now.records c.args.range.now c.args.names.now c.requires
     (Path c.args.range.now.css c.args.range.now.first) (λ p n. Path c.args.range.now.css p) record_lists (λ n. refl)
-    c.loop-key.listed (c.in-Some.key.now, c.in-Some.entry.now) c.loop-key.key-iterator c.next.new.self c.loop-key.invariant c.in-Some.ensures.steps
-    (λ le p n low. behind_paths c.args.range.now c.in-Some.key.now (sym c.path_within.ensures ∙ c.in_default.is) le p low)
+    c.loop-key.listed (c.in-Some.key.now, c.in-Some.entry.now) c.loop-key.key-iterator c.next.new.self
+    c.loop-key.invariant c.in-Some.ensures.steps
+    (λ le p n low. behind_paths c.args.range.now c.in-Some.key.now (sym c.path_within.ensures ∙ c.in_default.is) le p
+    low)
 
 pub loop-key-preserved : goal.loop-key-preserved
 loop-key-preserved g c = marks_more c.args.config.now.records c.args.range.now c.args.names.now c.requires
     (Path c.args.range.now.css c.args.range.now.first) (λ p n. Path c.args.range.now.css p) record_lists (λ n. refl)
-    c.loop-key.listed c.mark_listed.new.listed (c.in-Some.key.now, c.in-Some.entry.now) c.loop-key.key-iterator c.next.new.self
+    c.loop-key.listed c.mark_listed.new.listed (c.in-Some.key.now, c.in-Some.entry.now) c.loop-key.key-iterator
+    c.next.new.self
     c.in-Some-path_within.path (λ (n : List ℕ). record_lists n (Some c.in-Some.entry.now))
     c.loop-key.invariant c.in-Some.ensures.steps c.mark_listed.ensures
     (λ p n. ap (λ b. b && record_lists n (Some c.in-Some.entry.now))
-    (ties_with_path c.args.range.now c.in-Some-path_within.path c.in-Some.key.now (sym c.path_within.ensures ∙ c.in-Some-path_within.is) p))
+    (ties_with_path c.args.range.now c.in-Some-path_within.path c.in-Some.key.now
+    (sym c.path_within.ensures ∙ c.in-Some-path_within.is) p))
 
 pub returns : goal.returns
 returns g c = marks_end c.args.config.now.records c.args.range.now c.args.names.now c.requires
     (Path c.args.range.now.css c.args.range.now.first) (λ p n. Path c.args.range.now.css p) record_lists (λ n. refl)
-    c.loop-key.listed (subst (IsMarking c.args.config.now.records c.args.range.now (Path c.args.range.now.css c.args.range.now.first)
+    c.loop-key.listed (subst
+    (IsMarking c.args.config.now.records c.args.range.now (Path c.args.range.now.css c.args.range.now.first)
     (λ p n. Path c.args.range.now.css p) record_lists c.loop-key.listed) c.in-None.ensures.steps.0 c.loop-key.invariant)

@@ -10,12 +10,20 @@ use Rattle.iocm_reach.proofs.names.names_of.Goals as goal
 pub loop-number-preserved : goal.loop-number-preserved
 loop-number-preserved g c = record {
   same = c.name_of.ensures.same ∙ c.loop-number.invariant.same;
-  so_far = right_more (λ m. 0 < m) (λ m. m) (λ mif. name_at (lookup_of c.args.config.now.records) (image_in c.args.css mif)) c.loop-number.names None
-      c.name_of.result c.from.result c.loop-number.number c.from.ensures (omega arith) (λ m other. rw c.from.ensures other) c.loop-number.invariant.so_far
-      (c.name_of.ensures.name ∙ ap (λ (m : Configuration). name_at (lookup_of m) (image_in c.args.css c.loop-number.number)) c.loop-number.invariant.same);
-  valid = valid_more (λ mif. IfSome (name_at (lookup_of c.args.config.now.records) (image_in c.args.css mif)) (λ name. IsTrue (is_name name))) c.loop-number.number c.loop-number.invariant.valid
+  so_far = right_more (λ m. 0 < m) (λ m. m)
+      (λ mif. name_at (lookup_of c.args.config.now.records) (image_in c.args.css mif)) c.loop-number.names None
+      c.name_of.result c.from.result c.loop-number.number c.from.ensures (omega arith)
+      (λ m other. rw c.from.ensures other) c.loop-number.invariant.so_far
+      (c.name_of.ensures.name ∙ ap
+      (λ (m : Configuration). name_at (lookup_of m) (image_in c.args.css c.loop-number.number))
+      c.loop-number.invariant.same);
+  valid = valid_more (λ mif.
+      IfSome (name_at (lookup_of c.args.config.now.records) (image_in c.args.css mif)) (λ name. IsTrue (is_name name)))
+      c.loop-number.number c.loop-number.invariant.valid
       (subst (λ (o : Option (List ℕ)). IfSome o (λ name. IsTrue (is_name name)))
-      (c.name_of.ensures.name ∙ ap (λ (m : Configuration). name_at (lookup_of m) (image_in c.args.css c.loop-number.number)) c.loop-number.invariant.same) c.name_of.ensures.valid);
+      (c.name_of.ensures.name ∙ ap
+      (λ (m : Configuration). name_at (lookup_of m) (image_in c.args.css c.loop-number.number))
+      c.loop-number.invariant.same) c.name_of.ensures.valid);
 }
 
 pub returns : goal.returns

@@ -9,6 +9,8 @@ use Rattle.iocm_reach.proofs.names.names_of.Given as goal
 abbrev pub invariant-loop-number : goal.invariant-loop-number
 invariant-loop-number g l = record {
   same : l.images ≡ l.config.records;
-  so_far : (mif : ℕ) → 0 < mif → mif < l.number → get_or l.names mif None ≡ name_at (lookup_of l.config.records) (image_in l.css mif);
-  valid : (mif : ℕ) → 0 < mif → mif < l.number → IfSome (name_at (lookup_of l.config.records) (image_in l.css mif)) (λ name. IsTrue (is_name name));
+  so_far : (mif : ℕ) → 0 < mif → mif < l.number
+      → get_or l.names mif None ≡ name_at (lookup_of l.config.records) (image_in l.css mif);
+  valid : (mif : ℕ) → 0 < mif → mif < l.number
+      → IfSome (name_at (lookup_of l.config.records) (image_in l.css mif)) (λ name. IsTrue (is_name name));
 }

@@ -24,20 +24,24 @@ loop-key-init g c = marks_begin c.args.config.now.records c.args.range.now c.arg
 pub returns-in_default : goal.returns-in_default
 returns-in_default g c = marks_stop c.args.config.now.records c.args.range.now c.args.names.now c.requires
     (Online c.args.range.now.css c.args.range.now.first least) (Online c.args.range.now.css) (λ n. is_some) (λ n. refl)
-    c.loop-key.online (c.in-Some.key.now, c.in-Some.field-0-1.now) c.loop-key.key-iterator c.next.new.self c.loop-key.invariant c.in-Some.ensures.steps
+    c.loop-key.online (c.in-Some.key.now, c.in-Some.field-0-1.now) c.loop-key.key-iterator c.next.new.self
+    c.loop-key.invariant c.in-Some.ensures.steps
     (behind_online c.args.range.now c.in-Some.key.now (sym c.online_within.ensures ∙ c.in_default.is))
 
 pub loop-key-preserved : goal.loop-key-preserved
 loop-key-preserved g c = marks_more c.args.config.now.records c.args.range.now c.args.names.now c.requires
     (Online c.args.range.now.css c.args.range.now.first least) (Online c.args.range.now.css) (λ n. is_some) (λ n. refl)
-    c.loop-key.online c.mark_online.new.online (c.in-Some.key.now, c.in-Some.field-0-1.now) c.loop-key.key-iterator c.next.new.self
+    c.loop-key.online c.mark_online.new.online (c.in-Some.key.now, c.in-Some.field-0-1.now) c.loop-key.key-iterator
+    c.next.new.self
     c.in-Some-online_within.row.path (λ (n : List ℕ). pointwise nat_eq n c.in-Some-online_within.row.name)
     c.loop-key.invariant c.in-Some.ensures.steps c.mark_online.ensures
     (λ p n. ends (eq_by_cmp key_cmp (Online c.args.range.now.css p n) c.in-Some.key.now)
-    ∙ ties_with_online c.args.range.now c.in-Some-online_within.row c.in-Some.key.now (sym c.online_within.ensures ∙ c.in-Some-online_within.is) p n)
+    ∙ ties_with_online c.args.range.now c.in-Some-online_within.row c.in-Some.key.now
+    (sym c.online_within.ensures ∙ c.in-Some-online_within.is) p n)
 
 pub returns : goal.returns
 returns g c = marks_end c.args.config.now.records c.args.range.now c.args.names.now c.requires
     (Online c.args.range.now.css c.args.range.now.first least) (Online c.args.range.now.css) (λ n. is_some) (λ n. refl)
-    c.loop-key.online (subst (IsMarking c.args.config.now.records c.args.range.now (Online c.args.range.now.css c.args.range.now.first least)
+    c.loop-key.online (subst
+    (IsMarking c.args.config.now.records c.args.range.now (Online c.args.range.now.css c.args.range.now.first least)
     (Online c.args.range.now.css) (λ n. is_some) c.loop-key.online) c.in-None.ensures.steps.0 c.loop-key.invariant)

@@ -6,4 +6,6 @@ use Rattle.iocm_reach.proofs.Marked.{IsMarking}
 use Rattle.iocm_reach.proofs.online.online_images.Given as goal
 
 abbrev pub invariant-loop-key : goal.invariant-loop-key
-invariant-loop-key g l = IsMarking l.config.records l.range (Online l.range.css l.range.first least) (Online l.range.css) (λ n. is_some) l.online l.key-iterator
+invariant-loop-key g l =
+    IsMarking l.config.records l.range (Online l.range.css l.range.first least) (Online l.range.css) (λ n. is_some)
+    l.online l.key-iterator

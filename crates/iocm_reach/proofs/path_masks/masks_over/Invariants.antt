@@ -9,8 +9,10 @@ abbrev pub invariant-loop-path : goal.invariant-loop-path
 invariant-loop-path g l = record {
   small_pim : l.pim + 2 * l.bit ≤ 256;
   small_pam : l.pam + 2 * l.bit ≤ 256;
-  rest_pim : l.pim + mask_from l.bit (reaches (lookup_of l.image.records) l.image.image.css l.image.image.name) (drop l.path-index l.path-items)
+  rest_pim : l.pim + mask_from l.bit (reaches (lookup_of l.image.records) l.image.image.css l.image.image.name)
+      (drop l.path-index l.path-items)
       ≡ mask_from 128 (reaches (lookup_of l.image.records) l.image.image.css l.image.image.name) l.path-items;
-  rest_pam : l.pam + mask_from l.bit (is_online (lookup_of l.image.records) l.image.image.css l.image.image.name) (drop l.path-index l.path-items)
+  rest_pam : l.pam + mask_from l.bit (is_online (lookup_of l.image.records) l.image.image.css l.image.image.name)
+      (drop l.path-index l.path-items)
       ≡ mask_from 128 (is_online (lookup_of l.image.records) l.image.image.css l.image.image.name) l.path-items;
 }

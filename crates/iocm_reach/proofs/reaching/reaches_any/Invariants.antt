@@ -8,5 +8,7 @@ use Rattle.iocm_reach.proofs.reaching.reaches_any.Given as goal
 
 abbrev pub invariant-loop-path : goal.invariant-loop-path
 invariant-loop-path g l =
-    list_any (reaches (lookup_of l.image.records) l.image.image.css l.image.image.name) (paths_in l.image.image.css (drop l.path-index l.paths))
-    ≡ list_any (reaches (lookup_of l.image.records) l.image.image.css l.image.image.name) (paths_in l.image.image.css l.paths)
+    list_any (reaches (lookup_of l.image.records) l.image.image.css l.image.image.name)
+    (paths_in l.image.image.css (drop l.path-index l.paths))
+    ≡ list_any (reaches (lookup_of l.image.records) l.image.image.css l.image.image.name)
+    (paths_in l.image.image.css l.paths)

@@ -8,5 +8,7 @@ use Rattle.iocm_reach.proofs.reaching.reaches_units.Given as goal
 
 abbrev pub invariant-loop-unit : goal.invariant-loop-unit
 invariant-loop-unit g l =
-    list_any (reaches (lookup_of l.image.records) l.image.image.css l.image.image.name) (path_list (lookup_of l.image.records) l.image.image.css (drop l.unit-index l.units))
-    ≡ list_any (reaches (lookup_of l.image.records) l.image.image.css l.image.image.name) (path_list (lookup_of l.image.records) l.image.image.css l.units)
+    list_any (reaches (lookup_of l.image.records) l.image.image.css l.image.image.name)
+    (path_list (lookup_of l.image.records) l.image.image.css (drop l.unit-index l.units))
+    ≡ list_any (reaches (lookup_of l.image.records) l.image.image.css l.image.image.name)
+    (path_list (lookup_of l.image.records) l.image.image.css l.units)

@@ -6,7 +6,8 @@ use Rattle.iocm_reach.proofs.table.set_all.Goals as goal
 
 pub loop-number-preserved : goal.loop-number-preserved
 loop-number-preserved g c = record {
-  so_far = rows_more (lookup_of c.args.config.now.records) _ c.loop-number.number c.loop-number.table c.set_rows.new.table c.in-Some.ensures.value
+  so_far = rows_more (lookup_of c.args.config.now.records) _ c.loop-number.number c.loop-number.table
+      c.set_rows.new.table c.in-Some.ensures.value
       c.new-in-loop-number.ensures c.new-in-loop-number-2.ensures c.set_rows.ensures c.loop-number.invariant.so_far;
   long = c.set_rows.ensures.long ∙ c.loop-number.invariant.long;
 }

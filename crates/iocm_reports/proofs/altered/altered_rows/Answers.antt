@@ -20,7 +20,8 @@ returns-clause-rows c =
 
 pub returns-clause-order : goal.returns-clause-order
 returns-clause-order c =
-    let rise = subst (λ rows. IsStrictlySortedBy sub_id_cmp (keys_of rows)) (sym c.as_slice.ensures.value) c.in_ok-first.ensures.order in
+    let rise = subst (λ rows. IsStrictlySortedBy sub_id_cmp (keys_of rows)) (sym c.as_slice.ensures.value)
+    c.in_ok-first.ensures.order in
     IfOk-weaker c.list_rows.result _ _
     (λ listed is. subst AreInOrder (sym is) (made_in_order c.as_slice.result.now c.args.plant.now.state rise))
     c.list_rows.ensures

@@ -14,9 +14,11 @@ pub returns-in-len1 : goal.returns-in-len1
 returns-in-len1 c = λ es s told.
     let touched = c.touched-item.result in
     let one = one_item c.args.performed.now touched c.in-len1.len_at_least c.in-len1.len_below c.touched-item.is in
-    c.len.ensures ∙ touched.subchannels.ok.0 ∙ one_is_counted touched es s (subst (λ ds. AreToldBy ds (told_of_all es s)) one told)
+    c.len.ensures ∙ touched.subchannels.ok.0
+    ∙ one_is_counted touched es s (subst (λ ds. AreToldBy ds (told_of_all es s)) one told)
 
 pub returns : goal.returns
 returns c = λ es s told.
     c.len-2.ensures ∙ c.in_ok-first.first.ok.0
-    ∙ seen_are_counted c.args.performed.now c.in_ok-first.first.items c.in_ok-first.ensures.order c.in_ok-first.ensures.first es s told
+    ∙ seen_are_counted c.args.performed.now c.in_ok-first.first.items c.in_ok-first.ensures.order
+    c.in_ok-first.ensures.first es s told

@@ -7,4 +7,5 @@ use Rattle.iocm_reports.specs.Listed.{pair_of, GivesToo}
 use Rattle.iocm_reports.proofs.deck.list_images.Given as goal
 
 abbrev pub invariant-loop-name : goal.invariant-loop-name
-invariant-loop-name l = GivesToo (rows key_cmp l.initial.listed) (rows key_cmp l.listed) (map (pair_of (path_of l.path)) (take l.name-index l.name-items))
+invariant-loop-name l = GivesToo (rows key_cmp l.initial.listed) (rows key_cmp l.listed)
+    (map (pair_of (path_of l.path)) (take l.name-index l.name-items))

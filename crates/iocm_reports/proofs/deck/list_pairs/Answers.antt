@@ -12,6 +12,8 @@ use Rattle.iocm_reports.proofs.deck.list_pairs.Goals as goal
 pub returns-in-Path : goal.returns-in-Path
 returns-in-Path c =
     let p = path_of c.deref.result.now in
-    let is : path p ≡ c.args.entry.now = ap (λ q. path (path_of q)) c.deref.ensures ∙ ap record_of (sym c.in-Path.is) ∙ c.body.ensures in
-    on_ok_weaker c.list_images.result (λ h. subst (GivesToo (rows key_cmp c.args.listed.now) (rows key_cmp c.list_images.new.listed))
+    let is : path p ≡ c.args.entry.now =
+    ap (λ q. path (path_of q)) c.deref.ensures ∙ ap record_of (sym c.in-Path.is) ∙ c.body.ensures in
+    on_ok_weaker c.list_images.result
+    (λ h. subst (GivesToo (rows key_cmp c.args.listed.now) (rows key_cmp c.list_images.new.listed))
     (sym (pairs_of_path p p.access) ∙ ap (λ r. map key_of (online_by r)) is) h) c.list_images.ensures

@@ -24,15 +24,20 @@ loop-entry-init c = λ pair.
 
 pub loop-entry-preserved : goal.loop-entry-preserved
 loop-entry-preserved c = λ pair.
-    let next = rest_more deref_pair c.loop-entry.entry-iterator c.next.new.self c.next.result (c.in-Some.field-0-0, c.in-Some.entry) c.in-Some.is c.next.ensures.steps in
-    one_more_record (rows key_cmp c.loop-entry.listed) (rows key_cmp c.list_pairs.new.listed) (c.in-Some.field-0-0.now, c.in-Some.entry.now)
+    let next = rest_more deref_pair c.loop-entry.entry-iterator c.next.new.self c.next.result
+    (c.in-Some.field-0-0, c.in-Some.entry) c.in-Some.is c.next.ensures.steps in
+    one_more_record (rows key_cmp c.loop-entry.listed) (rows key_cmp c.list_pairs.new.listed)
+    (c.in-Some.field-0-0.now, c.in-Some.entry.now)
     c.next.new.self c.loop-entry.entry-iterator next c.in_ok-list_pairs.ensures pair
     ∙ c.loop-entry.invariant pair
 
 pub returns : goal.returns
 returns c = λ pair.
-    let none : c.loop-entry.entry-iterator ≡ [] = rest_all deref_pair c.loop-entry.entry-iterator c.next.new.self c.next.result c.in-None.is c.next.ensures.steps in
-    let all : c.into_iter-entry-iterator.result ≡ entries c.args.config.now.records = c.into_iter-entry-iterator.ensures.into_iter_gives ∙ c.walk-entry-items.ensures.entries in
+    let none : c.loop-entry.entry-iterator ≡ [] =
+    rest_all deref_pair c.loop-entry.entry-iterator c.next.new.self c.next.result c.in-None.is
+    c.next.ensures.steps in
+    let all : c.into_iter-entry-iterator.result ≡ entries c.args.config.now.records =
+    c.into_iter-entry-iterator.ensures.into_iter_gives ∙ c.walk-entry-items.ensures.entries in
     or_none (contains_key (rows key_cmp c.loop-entry.listed) pair)
     ∙ ap (λ es. contains_key (rows key_cmp c.loop-entry.listed) pair || among pair es) (sym none)
     ∙ c.loop-entry.invariant pair

@@ -11,5 +11,6 @@ use Rattle.iocm_reports.proofs.deck.pairs_listed.Given as goal
 
 abbrev pub invariant-loop-entry : goal.invariant-loop-entry
 invariant-loop-entry l = (pair : Key)
-    → (contains_key (rows key_cmp l.listed) pair || list_any (eq_by_cmp key_cmp pair) (pairs_listed (map (λ row. row.1) l.entry-iterator)))
+    → (contains_key (rows key_cmp l.listed) pair
+    || list_any (eq_by_cmp key_cmp pair) (pairs_listed (map (λ row. row.1) l.entry-iterator)))
     ≡ list_any (eq_by_cmp key_cmp pair) (pairs_listed (map (λ row. row.1) l.initial.entry-iterator))

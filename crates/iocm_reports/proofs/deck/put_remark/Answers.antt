@@ -5,4 +5,5 @@ use Rattle.iocm_reports.proofs.deck.put_remark.Goals as goal
 
 pub returns-in_default : goal.returns-in_default
 returns-in_default c = sym (append-nil c.args.text.now.items)
-    ∙ ap (λ line. c.args.text.now.items ++ line) (sym (no_remark c.args.config.now.records c.args.pair.now c.in_default.not-Online))
+    ∙ ap (λ line. c.args.text.now.items ++ line)
+    (sym (no_remark c.args.config.now.records c.args.pair.now c.in_default.not-Online))

@@ -14,4 +14,6 @@ if_so R false more h = tt
 
 pub returns : goal.returns
 returns c = if_so _ c.is_sorted_by.result (neighbours_rise sub_id_cmp sub_ids_total c.args.rows.now)
-    (c.is_sorted_by.ensures.cases (is_below sub_id_cmp sub_ids_total) (answers_always _ (λ a r. r ≡ is_below sub_id_cmp sub_ids_total a.0.now a.1.0.now) _ (λ f a r f' k. search rules)))
+    (c.is_sorted_by.ensures.cases (is_below sub_id_cmp sub_ids_total)
+    (answers_always _ (λ a r. r ≡ is_below sub_id_cmp sub_ids_total a.0.now a.1.0.now) _
+    (λ f a r f' k. search rules)))

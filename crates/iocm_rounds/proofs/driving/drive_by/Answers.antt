@@ -8,7 +8,8 @@ use Rattle.iocm_rounds.proofs.Sends.{office_send, office_task_send}
 use Rattle.iocm_rounds.proofs.driving.drive_by.Goals as goal
 
 pub join-office-requires-send-F : goal.join-office-requires-send-F
-join-office-requires-send-F g c κs within = search (office_task_send, system_sync, crossing.send, crossing.sync, c.type_bounds, crosses, sendable) depth 40
+join-office-requires-send-F g c κs within =
+    search (office_task_send, system_sync, crossing.send, crossing.sync, c.type_bounds, crosses, sendable) depth 40
 
 pub join-office-requires-send-A : goal.join-office-requires-send-A
 join-office-requires-send-A g c κs within = search (office_send, crosses, sendable) depth 20

@@ -8,7 +8,8 @@ use Rattle.iocm_rules.proofs.first_breach.first_from_v9.Goals as goal
 
 pub returns : goal.returns
 returns g c n is = c.first_of.ensures ∙ found_is
-    ((V9, c.first_wanted_by_named.result) ∷ (V10, c.args.searched.now.twice) ∷ (V11, c.args.devices.now.path_list) ∷ (V12, c.args.devices.now.candidates)
+    ((V9, c.first_wanted_by_named.result) ∷ (V10, c.args.searched.now.twice) ∷ (V11, c.args.devices.now.path_list)
+    ∷ (V12, c.args.devices.now.candidates)
     ∷ (V13, c.args.searched.now.past) ∷ (V14, c.args.searched.now.shared) ∷ [])
     (from_v9 c.args.config.now.records n) (records_of c.args.config.now.records) (
       refl,

@@ -8,8 +8,10 @@ use Rattle.iocm_rules.proofs.first_breach.first_to_v8.Goals as goal
 
 pub returns : goal.returns
 returns g c = c.first_of.ensures ∙ found_is
-    ((V1, c.first_wanted.result) ∷ (V2, c.first_wanted-2.result) ∷ (V3, c.first_wanted-3.result) ∷ (V4, c.first_wanted_by_named.result)
-    ∷ (V5, c.first_wanted-4.result) ∷ (V6, c.first_wanted-5.result) ∷ (V7, c.first_wanted-6.result) ∷ (V8, c.args.devices.now.units) ∷ [])
+    ((V1, c.first_wanted.result) ∷ (V2, c.first_wanted-2.result) ∷ (V3, c.first_wanted-3.result)
+    ∷ (V4, c.first_wanted_by_named.result)
+    ∷ (V5, c.first_wanted-4.result) ∷ (V6, c.first_wanted-5.result) ∷ (V7, c.first_wanted-6.result)
+    ∷ (V8, c.args.devices.now.units) ∷ [])
     (to_v8 c.args.config.now.records) (records_of c.args.config.now.records) (
       refl,
       (
@@ -26,7 +28,19 @@ returns g c = c.first_of.ensures ∙ found_is
                   refl,
                   (
                     c.first_wanted_by_named.ensures,
-                    (refl, (c.first_wanted-4.ensures, (refl, (c.first_wanted-5.ensures, (refl, (c.first_wanted-6.ensures, (refl, (c.requires, tt)))))))),
+                    (
+                      refl,
+                      (
+                        c.first_wanted-4.ensures,
+                        (
+                          refl,
+                          (
+                            c.first_wanted-5.ensures,
+                            (refl, (c.first_wanted-6.ensures, (refl, (c.requires, tt)))),
+                          ),
+                        ),
+                      ),
+                    ),
                   ),
                 ),
               ),

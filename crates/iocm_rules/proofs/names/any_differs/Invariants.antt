@@ -5,4 +5,5 @@ use Rattle.iocm_model.specs.Rules.EachRule.{same_name}
 use Rattle.iocm_rules.proofs.names.any_differs.Given as goal
 
 abbrev pub invariant-loop-name : goal.invariant-loop-name
-invariant-loop-name l = list_any (λ a. list_any (λ b. not (same_name a b)) l.others) (drop l.name-index l.names) ≡ list_any (λ a. list_any (λ b. not (same_name a b)) l.others) l.names
+invariant-loop-name l = list_any (λ a. list_any (λ b. not (same_name a b)) l.others) (drop l.name-index l.names)
+    ≡ list_any (λ a. list_any (λ b. not (same_name a b)) l.others) l.names

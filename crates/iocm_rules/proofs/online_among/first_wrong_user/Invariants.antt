@@ -12,4 +12,5 @@ use Rattle.iocm_rules.proofs.online_among.first_wrong_user.Given as goal
 
 abbrev pub invariant-loop-user : goal.invariant-loop-user
 invariant-loop-user g l = first_so (breaks_v4 l.config.records) (lookup_of l.config.records) l.user-iterator
-    ≡ first_so (breaks_v4 l.config.records) (lookup_of l.config.records) (users_in (Record (Path l.fn.css l.fn.path)) (rows naming_cmp l.index))
+    ≡ first_so (breaks_v4 l.config.records) (lookup_of l.config.records)
+    (users_in (Record (Path l.fn.css l.fn.path)) (rows naming_cmp l.index))

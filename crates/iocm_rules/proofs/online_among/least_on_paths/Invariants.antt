@@ -9,5 +9,8 @@ use Rattle.iocm_rules.specs.Onlines.{first_on_path}
 use Rattle.iocm_rules.proofs.online_among.least_on_paths.Given as goal
 
 abbrev pub invariant-loop-key : goal.invariant-loop-key
-invariant-loop-key g l = least_of (first_on_path (breaks_v4 l.config.records) (lookup_of l.config.records) (rows naming_cmp l.index)) l.least (drop l.key-index l.keys)
-    ≡ least_of (first_on_path (breaks_v4 l.config.records) (lookup_of l.config.records) (rows naming_cmp l.index)) None l.keys
+invariant-loop-key g l =
+    least_of (first_on_path (breaks_v4 l.config.records) (lookup_of l.config.records) (rows naming_cmp l.index)) l.least
+    (drop l.key-index l.keys)
+    ≡ least_of (first_on_path (breaks_v4 l.config.records) (lookup_of l.config.records) (rows naming_cmp l.index)) None
+    l.keys

@@ -14,9 +14,12 @@ returns-in-Ok-clause-text g c =
     let cells = c.in-Ok.cells in
     says_as g.W.Write.contents c.args.output.now c.print_lines.new.output c.print_lines.result (ran_at o cells) (ran o)
     (ap (λ text. with_answers o (record { text = text; status = Done }))
-    (table_of_cells cells c.config.result.now.records c.numbers.result.now.numbers c.in-Ok.ensures.records (c.in-Ok.ensures.cells ∙ c.cells.ensures)
+    (table_of_cells cells c.config.result.now.records c.numbers.result.now.numbers c.in-Ok.ensures.records
+    (c.in-Ok.ensures.cells ∙ c.cells.ensures)
     ∙ (λ j. table_of (c.config.ensures j) (c.numbers.ensures j))))
     c.print_lines.ensures.text
 
 pub returns-in-Err-clause-text : goal.returns-in-Err-clause-text
-returns-in-Err-clause-text g c = says_memory g.W.Write.contents c.args.output.now c.refuse.new.output c.refuse.result c.from.result (ran c.args.operated.now) c.from.ensures c.refuse.ensures.text
+returns-in-Err-clause-text g c =
+    says_memory g.W.Write.contents c.args.output.now c.refuse.new.output c.refuse.result c.from.result
+    (ran c.args.operated.now) c.from.ensures c.refuse.ensures.text

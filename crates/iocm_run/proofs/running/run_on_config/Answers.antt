@@ -10,13 +10,16 @@ use Rattle.iocm_run.proofs.running.run_on_config.Goals as goal
 pub returns-in-Ok-open-clause-text : goal.returns-in-Ok-open-clause-text
 returns-in-Ok-open-clause-text g c ts rounds trees script =
     let config = c.args.config.records in
-    subst (λ b. IfOk c.run_on_core.result (SaysOne g.W.Write.contents c.args.output.now c.run_on_core.new.output (IsUnlessBreached b config ts rounds)))
-    (sym (none_breached (first_breach config (opening config)) c.in-Ok-open.ensures.kept)) (c.run_on_core.ensures.text config _ ts rounds c.in-Ok-open.ensures.opened trees script)
+    subst (λ b. IfOk c.run_on_core.result
+    (SaysOne g.W.Write.contents c.args.output.now c.run_on_core.new.output (IsUnlessBreached b config ts rounds)))
+    (sym (none_breached (first_breach config (opening config)) c.in-Ok-open.ensures.kept))
+    (c.run_on_core.ensures.text config _ ts rounds c.in-Ok-open.ensures.opened trees script)
 
 pub returns-in-Err-open-clause-text : goal.returns-in-Err-open-clause-text
 returns-in-Err-open-clause-text g c ts rounds trees script =
     let config = c.args.config.records in
-    says_unopened g.W.Write.contents c.args.output.now c.refuse_change.new.output c.refuse_change.result (first_breach config (opening config)) config ts rounds
+    says_unopened g.W.Write.contents c.args.output.now c.refuse_change.new.output c.refuse_change.result
+    (first_breach config (opening config)) config ts rounds
     c.in-Err-open.unopened.why c.in-Err-open.ensures.refused c.refuse_change.ensures.text
 
 pub returns-in-Ok-open-clause-first : goal.returns-in-Ok-open-clause-first

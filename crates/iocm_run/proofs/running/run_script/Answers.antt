@@ -16,11 +16,15 @@ returns-in-Ok-clause-text g c =
     let cards = c.in-Ok.cards in
     let some = c.in-Ok.ensures.some_bytes in
     let deck = picked (λ text. cards_of text ≡ Ok cards.items) known
-    (IfSome_then known c.in-Ok.ensures.known_bytes (λ text gives. there (λ v. v.items) (Ok cards) cards (cards_of text) refl gives))
+    (IfSome_then known c.in-Ok.ensures.known_bytes
+    (λ text gives. there (λ v. v.items) (Ok cards) cards (cards_of text) refl gives))
     (some.0, there (λ v. v.items) (Ok cards) cards (cards_of some.0) refl some.1) in
     let decks = c.read_changes-trees.ensures.texts in
-    let count = c.len-count.ensures ∙ c.args.changes.ok.0 ∙ sym (texts_are_as_many g.C.Read.remaining c.args.changes.items decks.0 decks.1) in
-    let lines = picked (λ text. GivesIfReadable (λ s. s) c.read_script-script.result (script_in c.len-count.result text)) (g.S.Read.remaining (reader_of c.args.script.now))
+    let count = c.len-count.ensures ∙ c.args.changes.ok.0
+    ∙ sym (texts_are_as_many g.C.Read.remaining c.args.changes.items decks.0 decks.1) in
+    let lines = picked (λ text.
+    GivesIfReadable (λ s. s) c.read_script-script.result (script_in c.len-count.result text))
+    (g.S.Read.remaining (reader_of c.args.script.now))
     c.read_script-script.ensures.known_bytes c.read_script-script.ensures.some_bytes in
     let says = c.run_on_deck.ensures.text (trees_read decks.0) (script_in c.len-count.result lines.0) decks.2 lines.2 in (
       deck.0,
@@ -29,14 +33,18 @@ returns-in-Ok-clause-text g c =
       deck.1,
       decks.1,
       lines.1,
-      says_of_texts g.W.Write.contents c.args.output.now c.run_on_deck.new.output c.run_on_deck.result deck.0 decks.0 lines.0 cards.items c.len-count.result count deck.2 says,
+      says_of_texts g.W.Write.contents c.args.output.now c.run_on_deck.new.output c.run_on_deck.result deck.0 decks.0
+          lines.0 cards.items c.len-count.result count deck.2 says,
     )
 
 pub returns-in-Err-clause-text : goal.returns-in-Err-clause-text
 returns-in-Err-clause-text g c =
-    let deck = picked (λ text. GivesIfReadable (λ v. v.items) (Err c.in-Err.fault) (cards_of text)) (g.R.Read.remaining (reader_of c.args.deck.now)) c.in-Err.ensures.known_bytes c.in-Err.ensures.some_bytes in
+    let deck = picked (λ text. GivesIfReadable (λ v. v.items) (Err c.in-Err.fault) (cards_of text))
+    (g.R.Read.remaining (reader_of c.args.deck.now)) c.in-Err.ensures.known_bytes c.in-Err.ensures.some_bytes in
     let decks = c.read_changes-trees.ensures.texts in
-    let lines = picked (λ text. GivesIfReadable (λ s. s) c.read_script-script.result (script_in c.len-count.result text)) (g.S.Read.remaining (reader_of c.args.script.now))
+    let lines = picked (λ text.
+    GivesIfReadable (λ s. s) c.read_script-script.result (script_in c.len-count.result text))
+    (g.S.Read.remaining (reader_of c.args.script.now))
     c.read_script-script.ensures.known_bytes c.read_script-script.ensures.some_bytes in (
       deck.0,
       decks.0,
@@ -44,7 +52,8 @@ returns-in-Err-clause-text g c =
       deck.1,
       decks.1,
       lines.1,
-      says_no_lines g.W.Write.contents c.args.output.now c.answer_unread.new.output (λ v. v.items) c.answer_unread.result deck.0 decks.0 lines.0 c.in-Err.fault c.answer_unread.ensures.readable deck.2
+      says_no_lines g.W.Write.contents c.args.output.now c.answer_unread.new.output (λ v. v.items)
+          c.answer_unread.result deck.0 decks.0 lines.0 c.in-Err.fault c.answer_unread.ensures.readable deck.2
           c.answer_unread.ensures.text,
     )
 
@@ -52,7 +61,8 @@ returns-in-Err-clause-text g c =
 pub returns-in-Err-clause-first : goal.returns-in-Err-clause-first
 returns-in-Err-clause-first g c =
     IfSome_then (g.R.Read.remaining (reader_of c.args.deck.now)) c.in-Err.ensures.known_bytes (λ bytes read bad short.
-    let same : c.in-Err.fault ≡ unreadable = c.answer_unread.ensures.unreadable short in c.in-Err.ensures.unreadable (cc))
+    let same : c.in-Err.fault ≡ unreadable = c.answer_unread.ensures.unreadable short in
+    c.in-Err.ensures.unreadable (cc))
 
 -- and one whose lines were read is refused by them
 pub returns-in-Ok-clause-first : goal.returns-in-Ok-clause-first

@@ -14,17 +14,21 @@ loop-card-preserved c =
     let goes_on = card_goes_on c.args.changes c.loop-card.lines.items cards i c.loop-card.operators c.card-item.result s
     within c.card-item.is c.loop-card.invariant.counted c.in_ok-read_card.ensures.spoken in
     record {
-      gathered = ap (λ items. after_front items (each (reader c.args.changes cards) (i + 1) (drop (i + 1) cards))) c.in_ok-push.ensures.items
+      gathered = ap (λ items. after_front items (each (reader c.args.changes cards) (i + 1) (drop (i + 1) cards)))
+          c.in_ok-push.ensures.items
           ∙ sym goes_on ∙ c.loop-card.invariant.gathered;
       counted = c.in_ok-read_card.ensures.count
-          ∙ one_card_more cards i c.card-item.result s c.loop-card.operators within c.card-item.is c.in_ok-read_card.ensures.said c.loop-card.invariant.counted;
+          ∙ one_card_more cards i c.card-item.result s c.loop-card.operators within c.card-item.is
+          c.in_ok-read_card.ensures.said c.loop-card.invariant.counted;
       few = omega (arith, c.in_ok-read_card.ensures.most, c.loop-card.invariant.few);
     }
 
 pub returns-in_err-read_card : goal.returns-in_err-read_card
 returns-in_err-read_card c =
     let within : c.loop-card.card-index < length c.args.cards.now = omega arith in
-    let refused = card_refused c.args.changes c.loop-card.lines.items c.args.cards.now c.loop-card.card-index c.loop-card.operators c.card-item.result
-    c.in_err-read_card.field-0.0 (lines_of c.args.changes c.args.cards.now) within c.card-item.is c.loop-card.invariant.counted
+    let refused = card_refused c.args.changes c.loop-card.lines.items c.args.cards.now c.loop-card.card-index
+    c.loop-card.operators c.card-item.result
+    c.in_err-read_card.field-0.0 (lines_of c.args.changes c.args.cards.now) within c.card-item.is
+    c.loop-card.invariant.counted
     c.loop-card.invariant.gathered c.in_err-read_card.ensures.spoken in
     search (rules, refused)

@@ -12,4 +12,5 @@ two_or_more line first (w ∷ ws) d some =
     ap (λ ws. actors_line line first w.now (map (λ w. w.now) ws)) (take_all (length (w ∷ ws) - 1) ws (omega arith))
 
 pub returns-in-len1-up : goal.returns-in-len1-up
-returns-in-len1-up c = c.actors_line.ensures ∙ two_or_more c.args.line c.args.first.now c.args.rest.now _ c.in-len1-up.len_at_least
+returns-in-len1-up c = c.actors_line.ensures
+    ∙ two_or_more c.args.line c.args.first.now c.args.rest.now _ c.in-len1-up.len_at_least

@@ -5,4 +5,5 @@ use Rattle.iocm_script.specs.Verbs.{seen_row}
 use Rattle.iocm_script.proofs.verb.verb_in.Given as goal
 
 abbrev pub invariant-loop-row : goal.invariant-loop-row
-invariant-loop-row l = lookup (bytes_eq l.word) (map seen_row (drop l.row-index l.rows)) ≡ lookup (bytes_eq l.word) (map seen_row l.rows)
+invariant-loop-row l = lookup (bytes_eq l.word) (map seen_row (drop l.row-index l.rows))
+    ≡ lookup (bytes_eq l.word) (map seen_row l.rows)

@@ -18,7 +18,8 @@ returns-in_ok-list_seated-in-Some-clause-changes g c =
     let after = c.view_there-after.result in
     let found : get seats x ≡ Some c.in-Some.seat.now = sym c.get.ensures ∙ ap option_copied c.in-Some.is in
     c.in_ok-list_seated-in-Some.ensures.changes ∙ ap (λ xs. c.args.altered.now.changes.items ++ xs) (sym
-    (change_there (get (views_seated seats)) c.args.tried.now.config.now.records c.args.tried.now.numbers.now.numbers c.requires.keyed
+    (change_there (get (views_seated seats)) c.args.tried.now.config.now.records c.args.tried.now.numbers.now.numbers
+    c.requires.keyed
     c.args.named.now.image c.args.sight.now c.cell-cell.result c.requires.sight c.cell-cell.ensures
     (ap (λ (x : NumberCell). x.css) c.cell-cell.ensures ∙ c.requires.own)
     c.view_there-after.result c.view_there-after.ensures (change_from (Some c.in-Some.seat.now.view) after x)
@@ -29,9 +30,12 @@ returns-in_ok-list_seated-in-Some-clause-met g c =
     let seats = c.args.tried.now.seats.now.seats in
     let x = subchannel_at c.args.named.now.image c.cell-cell.result in
     let found : get seats x ≡ Some c.in-Some.seat.now = sym c.get.ensures ∙ ap option_copied c.in-Some.is in
-    met_more (lives_seated seats) c.args.altered.now.changes.items (cons_option (change_from (Some c.in-Some.seat.now.view) c.view_there-after.result x) [])
-    c.list_seated.new.altered.changes.items c.args.altered.now.met.items _ c.list_seated.new.altered.met.items c.requires.met
-    c.in_ok-list_seated-in-Some.ensures.changes c.in_ok-list_seated-in-Some.ensures.met (met_there seats x c.in-Some.seat.now found c.view_there-after.result)
+    met_more (lives_seated seats) c.args.altered.now.changes.items
+    (cons_option (change_from (Some c.in-Some.seat.now.view) c.view_there-after.result x) [])
+    c.list_seated.new.altered.changes.items c.args.altered.now.met.items _ c.list_seated.new.altered.met.items
+    c.requires.met
+    c.in_ok-list_seated-in-Some.ensures.changes c.in_ok-list_seated-in-Some.ensures.met
+    (met_there seats x c.in-Some.seat.now found c.view_there-after.result)
 
 pub returns-in_ok-list_new-in-None-clause-changes : goal.returns-in_ok-list_new-in-None-clause-changes
 returns-in_ok-list_new-in-None-clause-changes g c =
@@ -40,7 +44,8 @@ returns-in_ok-list_new-in-None-clause-changes g c =
     let after = c.view_there-after.result in
     let found : get seats x ≡ None = sym c.get.ensures ∙ ap option_copied c.in-None.is in
     c.in_ok-list_new-in-None.ensures.changes ∙ ap (λ xs. c.args.altered.now.changes.items ++ xs) (sym
-    (change_there (get (views_seated seats)) c.args.tried.now.config.now.records c.args.tried.now.numbers.now.numbers c.requires.keyed
+    (change_there (get (views_seated seats)) c.args.tried.now.config.now.records c.args.tried.now.numbers.now.numbers
+    c.requires.keyed
     c.args.named.now.image c.args.sight.now c.cell-cell.result c.requires.sight c.cell-cell.ensures
     (ap (λ (x : NumberCell). x.css) c.cell-cell.ensures ∙ c.requires.own)
     c.view_there-after.result c.view_there-after.ensures (change_from None after x)
@@ -51,6 +56,8 @@ returns-in_ok-list_new-in-None-clause-met g c =
     let seats = c.args.tried.now.seats.now.seats in
     let x = subchannel_at c.args.named.now.image c.cell-cell.result in
     let found : get seats x ≡ None = sym c.get.ensures ∙ ap option_copied c.in-None.is in
-    met_more (lives_seated seats) c.args.altered.now.changes.items (cons_option (change_from None c.view_there-after.result x) [])
+    met_more (lives_seated seats) c.args.altered.now.changes.items
+    (cons_option (change_from None c.view_there-after.result x) [])
     c.list_new.new.altered.changes.items c.args.altered.now.met.items [] c.list_new.new.altered.met.items c.requires.met
-    c.in_ok-list_new-in-None.ensures.changes (c.list_new.ensures.met ∙ sym (append-nil c.args.altered.now.met.items)) (met_nowhere seats x found c.view_there-after.result)
+    c.in_ok-list_new-in-None.ensures.changes (c.list_new.ensures.met ∙ sym (append-nil c.args.altered.now.met.items))
+    (met_nowhere seats x found c.view_there-after.result)

@@ -11,9 +11,12 @@ use Rattle.iocm_seats.proofs.changes.list_at_cells.Given as goal
 
 abbrev pub invariant-loop-sight : goal.invariant-loop-sight
 invariant-loop-sight g l =
-    let change = change_at (get (views_seated l.tried.seats.now.seats)) (view_at l.tried.config.now.records l.tried.numbers.now.numbers) in record {
-      left : l.altered.changes.items ++ filter_map change (candidates (l.named.image ∷ []) (cells_of_sights (drop l.sight-index l.sights)))
-          ≡ l.initial.altered.changes.items ++ filter_map change (candidates (l.named.image ∷ []) (cells_of_sights l.sights));
+    let change = change_at (get (views_seated l.tried.seats.now.seats))
+    (view_at l.tried.config.now.records l.tried.numbers.now.numbers) in record {
+      left : l.altered.changes.items
+          ++ filter_map change (candidates (l.named.image ∷ []) (cells_of_sights (drop l.sight-index l.sights)))
+          ≡ l.initial.altered.changes.items
+          ++ filter_map change (candidates (l.named.image ∷ []) (cells_of_sights l.sights));
       met : l.altered.met.items ≡ lives_met (lives_seated l.tried.seats.now.seats) l.altered.changes.items;
       own : AllByRecursion (IsIn l.named.image.css) (drop l.sight-index l.sights);
       name : AllByRecursion (IsNamedAt l.named.image l.named.name) (drop l.sight-index l.sights);

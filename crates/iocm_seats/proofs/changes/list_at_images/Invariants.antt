@@ -11,8 +11,11 @@ use Rattle.iocm_seats.proofs.changes.list_at_images.Given as goal
 
 abbrev pub invariant-loop-image : goal.invariant-loop-image
 invariant-loop-image g l =
-    let change = change_at (get (views_seated l.tried.seats.now.seats)) (view_at l.tried.config.now.records l.tried.numbers.now.numbers) in record {
-      left : l.altered.changes.items ++ filter_map change (candidates (drop l.image-index l.images) (cells_of_sights l.sights)) ≡ filter_map change (candidates l.images (cells_of_sights l.sights));
+    let change = change_at (get (views_seated l.tried.seats.now.seats))
+    (view_at l.tried.config.now.records l.tried.numbers.now.numbers) in record {
+      left : l.altered.changes.items
+          ++ filter_map change (candidates (drop l.image-index l.images) (cells_of_sights l.sights))
+          ≡ filter_map change (candidates l.images (cells_of_sights l.sights));
       own : l.own.sights.now ≡ sights_in l.own.css l.sights;
       names : l.names ≡ l.tried.config.now.records;
       met : l.altered.met.items ≡ lives_met (lives_seated l.tried.seats.now.seats) l.altered.changes.items;

@@ -1,4 +1,5 @@
-use Rattle.std.proofs.Common.{◌≡◌, ℕ, nat_eq, eqb-true, eq-eqb, ne_eqb, Bool, true, false, ◌||◌, List, [], ◌∷◌, refl, sym, ◌∙◌}
+use Rattle.std.proofs.Common.{◌≡◌, ℕ, nat_eq, eqb-true, eq-eqb, ne_eqb, Bool, true, false, ◌||◌, List, [], ◌∷◌, refl}
+use Rattle.std.proofs.Common.{sym, ◌∙◌}
 use Rattle.std.specs.List.{list_any}
 use Rattle.iocm_seats.proofs.image_subsystems.has_subsystem.Goals as goal
 

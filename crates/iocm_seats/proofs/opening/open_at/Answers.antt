@@ -6,5 +6,6 @@ use Rattle.iocm_seats.proofs.Listed.{none_there}
 use Rattle.iocm_seats.proofs.opening.open_at.Goals as goal
 
 pub returns-in_default-clause-seats : goal.returns-in_default-clause-seats
-returns-in_default-clause-seats g c = sym (ap (fold with_seat c.args.seats.now.seats) (none_there c.args.at.now c.args.sights.now c.requires
+returns-in_default-clause-seats g c = sym
+    (ap (fold with_seat c.args.seats.now.seats) (none_there c.args.at.now c.args.sights.now c.requires
     (sym c.fields.ensures ∙ ap (λ o. option_map device_of (option_copied o)) c.in_default.is)))

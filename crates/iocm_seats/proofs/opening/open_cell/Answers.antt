@@ -30,7 +30,9 @@ returns-clause-seats g c =
     let seen = ap (option_and_then (view_if_seen at i.css i.name)) (sym c.requires.taken ∙ c.requires.fields)
     ∙ sym c.view_of.ensures.view ∙ c.in-Some.is in
     on_ok_weaker c.add.result (λ given. given ∙ ap (fold with_seat c.args.seats.now.seats)
-    ((λ z. row_of ((c.image.ensures ∙ ap image_in c.view_of.ensures.same) z) (c.cell-cell.ensures z) ((c.new.ensures ∙ ap seat_of c.fresh-live.ensures) z) ∷ []) ∙ sym (one_view at i e c.in-Some.view seen))) c.add.ensures.seats
+    ((λ z. row_of ((c.image.ensures ∙ ap image_in c.view_of.ensures.same) z) (c.cell-cell.ensures z)
+    ((c.new.ensures ∙ ap seat_of c.fresh-live.ensures) z) ∷ []) ∙ sym (one_view at i e c.in-Some.view seen)))
+    c.add.ensures.seats
   where
     image_in : Sighted → Image
     image_in s = record { css = s.image.css; mif = s.image.mif }

@@ -11,7 +11,8 @@ use Rattle.iocm_seats.proofs.Opened.{opened_all}
 use Rattle.iocm_seats.proofs.opening.open_seats.Goals as goal
 
 pub loop-css-init : goal.loop-css-init
-loop-css-init g c = let of = subsystem_seats c.args.config.now.records (entries (cells_of c.args.numbers.now.numbers)) in
+loop-css-init g c = let of =
+    subsystem_seats c.args.config.now.records (entries (cells_of c.args.numbers.now.numbers)) in
     ap (λ (m : Seats). fold with_seat m (flat_map of c.as_slice-css-items.result.now)) c.new-seats.ensures.seats
 
 pub loop-css-preserved : goal.loop-css-preserved
@@ -29,7 +30,9 @@ pub returns : goal.returns
 returns g c =
     let of = subsystem_seats c.args.config.now.records (entries (cells_of c.args.numbers.now.numbers)) in
     let items = c.as_slice-css-items.result.now in
-    sym (ap (λ subsystems. fold with_seat c.loop-css.seats.seats (flat_map of subsystems)) (drop_of_length-le items c.loop-css-test.false))
+    sym (ap (λ subsystems. fold with_seat c.loop-css.seats.seats (flat_map of subsystems))
+    (drop_of_length-le items c.loop-css-test.false))
     ∙ c.loop-css.invariant
     ∙ opened_all c.args.config.now.records c.args.numbers.now.numbers c.has_own_keys.ensures items
-    (subst (AreSubsystemsOf (records_of c.args.config.now.records)) (sym c.as_slice-css-items.ensures.value) c.in_ok-subsystems.ensures)
+    (subst (AreSubsystemsOf (records_of c.args.config.now.records)) (sym c.as_slice-css-items.ensures.value)
+    c.in_ok-subsystems.ensures)

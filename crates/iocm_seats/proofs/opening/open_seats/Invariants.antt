@@ -8,4 +8,5 @@ use Rattle.iocm_seats.proofs.opening.open_seats.Given as goal
 
 abbrev pub invariant-loop-css : goal.invariant-loop-css
 invariant-loop-css g l = let of = subsystem_seats l.config.records (entries (cells_of l.numbers.numbers)) in
-    fold with_seat l.seats.seats (flat_map of (drop l.css-index l.css-items)) ≡ fold with_seat empty (flat_map of l.css-items)
+    fold with_seat l.seats.seats (flat_map of (drop l.css-index l.css-items))
+    ≡ fold with_seat empty (flat_map of l.css-items)

@@ -13,15 +13,23 @@ pub open_cells-requires : goal.open_cells-requires
 open_cells-requires g c =
     let at = c.args.config.now.records in
     let images = images_among c.args.css (records_of at) in
-    λ place t within. subst (AllByRecursion (λ (s : Sighted). IsTaken (lookup_of s.records) (get_or c.as_slice-2.result.now place t))) (sym (c.as_mut_slice.ensures.value ∙ c.in_ok-sights.ensures))
-    (of_made (λ (s : Sighted). IsTaken (lookup_of s.records) (get_or c.as_slice-2.result.now place t)) (λ (i : ImageRecord). record { records = at; image = i }) images
-    (of_any (λ i. IsTaken (lookup_of at) (get_or c.as_slice-2.result.now place t)) (λ i. (subst (All (IsTaken (lookup_of at))) (sym c.as_slice-2.ensures.value) c.in_ok-cells.ensures.devices) place t within) images))
+    λ place t within. subst (AllByRecursion
+    (λ (s : Sighted). IsTaken (lookup_of s.records) (get_or c.as_slice-2.result.now place t)))
+    (sym (c.as_mut_slice.ensures.value ∙ c.in_ok-sights.ensures))
+    (of_made (λ (s : Sighted). IsTaken (lookup_of s.records) (get_or c.as_slice-2.result.now place t))
+    (λ (i : ImageRecord). record { records = at; image = i }) images
+    (of_any (λ i. IsTaken (lookup_of at) (get_or c.as_slice-2.result.now place t))
+    (λ i. (subst (All (IsTaken (lookup_of at))) (sym c.as_slice-2.ensures.value) c.in_ok-cells.ensures.devices)
+    place t within) images))
 
 pub returns : goal.returns
 returns g c =
     let given = fold with_seat c.args.seats.now.seats in
     c.in_ok-open_cells.ensures.seats
-    ∙ ap (λ (m : Seats). fold with_seat m (cells_seats c.as_mut_slice.result.now (taken_of c.as_slice-2.result.now))) c.make_set_places.ensures.seats
-    ∙ ap (λ sights. given (cells_seats sights (taken_of c.as_slice-2.result.now))) (c.as_mut_slice.ensures.value ∙ c.in_ok-sights.ensures)
-    ∙ ap (λ cells. given (cells_seats (sights_of c.args.config.now.records (images_among c.args.css (records_of c.args.config.now.records))) cells))
+    ∙ ap (λ (m : Seats). fold with_seat m (cells_seats c.as_mut_slice.result.now (taken_of c.as_slice-2.result.now)))
+    c.make_set_places.ensures.seats
+    ∙ ap (λ sights. given (cells_seats sights (taken_of c.as_slice-2.result.now)))
+    (c.as_mut_slice.ensures.value ∙ c.in_ok-sights.ensures)
+    ∙ ap (λ cells. given (cells_seats
+    (sights_of c.args.config.now.records (images_among c.args.css (records_of c.args.config.now.records))) cells))
     (ap taken_of c.as_slice-2.ensures.value ∙ c.in_ok-cells.ensures.cells)

@@ -14,25 +14,31 @@ loop-place-preserved g c =
     let t = c.index-cells-place.result in
     let old = c.loop-place.seats in
     let ends : ends_set t.cell.set (slice_get cells (i + 1)) ≡ c.ends_set.result =
-    ap (λ (cell : NumberCell). ends_set cell.set (slice_get cells (i + 1))) (sym c.cell-cell.ensures) ∙ sym c.ends_set.ensures in
+    ap (λ (cell : NumberCell). ends_set cell.set (slice_get cells (i + 1))) (sym c.cell-cell.ensures)
+    ∙ sym c.ends_set.ensures in
     elim c.if-ends_set.branch [
       | then-ends_set+in_ok-room w ↦ record {
         seats = ap (λ (s : Seated). s.seats) w.seats-is ∙ w.room.ensures.seats ∙ c.loop-place.invariant.seats;
-        kept = λ x had. subst (λ s. HasPlace s x) (sym w.seats-is) (w.room.ensures.kept x (c.loop-place.invariant.kept x had));
+        kept = λ x had. subst (λ s. HasPlace s x) (sym w.seats-is)
+            (w.room.ensures.kept x (c.loop-place.invariant.kept x had));
         places = subst (λ s. Places cells s (i + 1)) (sym w.seats-is)
-            (more_places cells i t c.loop-place-test.true c.index-cells-place.is old w.room.new.self w.room.ensures.kept true (ends ∙ w.if-ends_set.true)
-            (λ e. subst (HasPlace w.room.new.self) (w.last_subchannel-last.ensures ∙ ap last_subchannel c.cell-cell.ensures) w.in_ok-room.ensures.ok)
+            (more_places cells i t c.loop-place-test.true c.index-cells-place.is old w.room.new.self w.room.ensures.kept
+            true (ends ∙ w.if-ends_set.true)
+            (λ e. subst (HasPlace w.room.new.self)
+            (w.last_subchannel-last.ensures ∙ ap last_subchannel c.cell-cell.ensures) w.in_ok-room.ensures.ok)
             c.loop-place.invariant.places);
       }
       | else-ends_set w ↦ record {
         seats = ap (λ (s : Seated). s.seats) w.seats-is ∙ c.loop-place.invariant.seats;
         kept = λ x had. subst (λ s. HasPlace s x) (sym w.seats-is) (c.loop-place.invariant.kept x had);
         places = subst (λ s. Places cells s (i + 1)) (sym w.seats-is)
-            (more_places cells i t c.loop-place-test.true c.index-cells-place.is old old (λ x had. had) false (ends ∙ w.if-ends_set.false)
+            (more_places cells i t c.loop-place-test.true c.index-cells-place.is old old (λ x had. had) false
+            (ends ∙ w.if-ends_set.false)
             (λ e. let bad : false ≡ true = e in cc) c.loop-place.invariant.places);
       }
     ]
 
 pub returns-clause-ok : goal.returns-clause-ok
 returns-clause-ok g c = c.loop-place.invariant.places c.loop-place.seats (λ x had. had)
-    (subst (λ ts. AllByRecursion (HasPlace c.loop-place.seats) (set_ends ts)) (sym (drop_of_length-le c.args.cells.now c.loop-place-test.false)) tt)
+    (subst (λ ts. AllByRecursion (HasPlace c.loop-place.seats) (set_ends ts))
+    (sym (drop_of_length-le c.args.cells.now c.loop-place-test.false)) tt)

@@ -9,7 +9,8 @@ use Rattle.iocm_seats.proofs.settling.live_brought.Goals as goal
 pub returns-then-is_none : goal.returns-then-is_none
 returns-then-is_none c old =
     let none : is_some c.args.change.now.after ≡ false = search rules in
-    none_needed old c.args.change.now.after None (get (from_sorted {R = sub_id_cmp} c.args.kept.now) c.args.change.now.subchannel) none
+    none_needed old c.args.change.now.after None
+    (get (from_sorted {R = sub_id_cmp} c.args.kept.now) c.args.change.now.subchannel) none
 
 pub returns : goal.returns
 returns c old = ap (λ (brought : Option Live). seat_after old c.args.change.now.after brought) c.live_near.ensures

@@ -8,7 +8,9 @@ use Rattle.iocm_seats.proofs.Loops.{opened}
 use Rattle.iocm_seats.proofs.settling.make_places.Goals as goal
 
 pub make_place-requires : goal.make_place-requires
-make_place-requires g c = (opened (λ (ch : ViewChange). ch.before ≡ get (views_seated c.args.seats.now.seats) ch.subchannel) c.args.changes.now c.loop-change.change-index
+make_place-requires g c =
+    (opened (λ (ch : ViewChange). ch.before ≡ get (views_seated c.args.seats.now.seats) ch.subchannel)
+    c.args.changes.now c.loop-change.change-index
     c.change-item.result c.loop-change-test.true c.change-item.is c.loop-change.invariant.seen).0
     ∙ ap (λ (m : Seats). get (views_seated m) c.change-item.result.subchannel) (sym c.loop-change.invariant.seats)
 
@@ -17,9 +19,12 @@ loop-change-preserved g c = record {
   seats = c.make_place.ensures.seats ∙ c.loop-change.invariant.seats;
   kept = λ x has. c.make_place.ensures.kept x (c.loop-change.invariant.kept x has);
   all = λ t more rest. c.loop-change.invariant.all t (λ x has. more x (c.make_place.ensures.kept x has))
-      (subst (HavePlaces t) (sym (drop-item c.args.changes.now c.loop-change.change-index c.change-item.result c.loop-change-test.true c.change-item.is))
+      (subst (HavePlaces t) (sym
+      (drop-item c.args.changes.now c.loop-change.change-index c.change-item.result c.loop-change-test.true
+      c.change-item.is))
       (more c.change-item.result.subchannel c.in_ok-make_place.ensures.ok, rest));
-  seen = (opened (λ (ch : ViewChange). ch.before ≡ get (views_seated c.args.seats.now.seats) ch.subchannel) c.args.changes.now c.loop-change.change-index
+  seen = (opened (λ (ch : ViewChange). ch.before ≡ get (views_seated c.args.seats.now.seats) ch.subchannel)
+      c.args.changes.now c.loop-change.change-index
       c.change-item.result c.loop-change-test.true c.change-item.is c.loop-change.invariant.seen).1;
 }
 

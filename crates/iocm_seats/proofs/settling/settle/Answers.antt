@@ -17,8 +17,10 @@ returns-clause-seats g c =
     let x = c.args.change.now.subchannel in
     let view = c.in-Some.view in
     let now = c.get_mut.follows.lender c.new-2.result in
-    let found : Some c.in-Some-get_mut.seat.now ≡ get seats x = sym (ap option_copied_mut c.in-Some-get_mut.is) ∙ c.get_mut.ensures.value in
-    (subst (λ o. OnSome o (IsChangedAt c.args.seats.now x now c.new-2.result)) c.in-Some-get_mut.is (c.get_mut.follows.holds c.new-2.result)).seats
+    let found : Some c.in-Some-get_mut.seat.now ≡ get seats x =
+    sym (ap option_copied_mut c.in-Some-get_mut.is) ∙ c.get_mut.ensures.value in
+    (subst (λ o. OnSome o (IsChangedAt c.args.seats.now x now c.new-2.result)) c.in-Some-get_mut.is
+    (c.get_mut.follows.holds c.new-2.result)).seats
     ∙ ap (insert seats x) c.new-2.ensures
     ∙ (λ i. insert seats x (seat_of view ((c.live_after-live-2.ensures ∙ ap (live_by view c.args.own) found) i)))
     ∙ (λ i. with_value seats x (seat_after (get seats x) (sym c.in-Some.is i) c.args.own))
@@ -27,10 +29,12 @@ returns-clause-seats g c =
     seat_of v l = record { view = v; live = l }
 
     live_by : View → Option Live → Option Seat → Live
-    live_by v own old = live_of_altered (option_map (λ (s : Seat). s.view) old) v own (option_map (λ (s : Seat). s.live) old)
+    live_by v own old = live_of_altered (option_map (λ (s : Seat). s.view) old) v own
+        (option_map (λ (s : Seat). s.live) old)
 
 pub returns-clause-places : goal.returns-clause-places
 returns-clause-places g c =
     let x = c.args.change.now.subchannel in
     let now = c.get_mut.follows.lender c.new-2.result in
-    (subst (λ o. OnSome o (IsChangedAt c.args.seats.now x now c.new-2.result)) c.in-Some-get_mut.is (c.get_mut.follows.holds c.new-2.result)).places
+    (subst (λ o. OnSome o (IsChangedAt c.args.seats.now x now c.new-2.result)) c.in-Some-get_mut.is
+    (c.get_mut.follows.holds c.new-2.result)).places

@@ -18,10 +18,14 @@ loop-change-preserved g c =
       left = ap (λ (m : Seats). fold (settled kept) m rest) (c.settle.ensures.seats
           ∙ ap (with_value c.loop-change.seats.seats c.change-item.result.subchannel)
           (c.live_brought-own.ensures (get c.loop-change.seats.seats c.change-item.result.subchannel)))
-          ∙ fold_open (settled kept) c.loop-change.seats.seats c.args.changes.now c.loop-change.change-index c.change-item.result c.loop-change-test.true c.change-item.is
+          ∙ fold_open (settled kept) c.loop-change.seats.seats c.args.changes.now c.loop-change.change-index
+          c.change-item.result c.loop-change-test.true c.change-item.is
           ∙ c.loop-change.invariant.left;
-      ready = subst (λ (ps : List SubId). AllByRecursion (λ (ch : ViewChange). T (list_any (eq_by_cmp sub_id_cmp ch.subchannel) ps)) rest) (sym c.settle.ensures.places)
-          (opened (λ (ch : ViewChange). HasPlace c.loop-change.seats ch.subchannel) c.args.changes.now c.loop-change.change-index c.change-item.result
+      ready = subst (λ (ps : List SubId).
+          AllByRecursion (λ (ch : ViewChange). T (list_any (eq_by_cmp sub_id_cmp ch.subchannel) ps)) rest)
+          (sym c.settle.ensures.places)
+          (opened (λ (ch : ViewChange). HasPlace c.loop-change.seats ch.subchannel) c.args.changes.now
+          c.loop-change.change-index c.change-item.result
           c.loop-change-test.true c.change-item.is c.loop-change.invariant.ready).1;
       places = c.settle.ensures.places ∙ c.loop-change.invariant.places;
     }

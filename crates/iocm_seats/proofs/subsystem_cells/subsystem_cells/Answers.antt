@@ -14,7 +14,8 @@ use Rattle.iocm_seats.proofs.subsystem_cells.subsystem_cells.Goals as goal
 pub loop-cell-init : goal.loop-cell-init
 loop-cell-init g c = record {
   cells = ap (λ xs. taken_of xs ++ cells_in c.args.css c.into_iter-cell-iterator.result) c.new-cells.ensures.items;
-  together = subst (StandTogether (IsPast c.args.css) (cells_in c.args.css)) (sym (c.into_iter-cell-iterator.ensures.into_iter_gives ∙ c.cells_from-cell-items.ensures))
+  together = subst (StandTogether (IsPast c.args.css) (cells_in c.args.css))
+      (sym (c.into_iter-cell-iterator.ensures.into_iter_gives ∙ c.cells_from-cell-items.ensures))
       (cells_together c.args.css (cells_of c.args.numbers.now.numbers));
   devices = rw c.new-cells.ensures.items (λ k d within. absurd (omega (arith, within)));
   same = c.new-devices.ensures;
@@ -29,12 +30,16 @@ loop-cell-preserved g c =
       cells = ap (λ xs. taken_of xs ++ cells_in css c.next.new.self) c.in_ok-push.ensures.items
           ∙ ap (λ xs. xs ++ cells_in css c.next.new.self) (map-append taken old (more ∷ []))
           ∙ append_assoc (taken_of old) (taken more ∷ []) (cells_in css c.next.new.self)
-          ∙ ap (λ xs. taken_of old ++ xs) (ap (λ xs. xs ++ cells_in css c.next.new.self) (sym c.in-Some-taken_in.ensures.cell)
+          ∙ ap (λ xs. taken_of old ++ xs)
+          (ap (λ xs. xs ++ cells_in css c.next.new.self) (sym c.in-Some-taken_in.ensures.cell)
           ∙ sym (cells_in-more css e c.next.new.self) ∙ ap (cells_in css) (sym c.in-Some.ensures.steps))
           ∙ c.loop-cell.invariant.cells;
-      together = still_together (IsPast css) (cells_in css) e c.next.new.self c.loop-cell.cell-iterator c.in-Some.ensures.steps c.loop-cell.invariant.together;
-      devices = rw c.in_ok-push.ensures.items (All-push (IsTaken (lookup_of c.args.config.now.records)) old more c.loop-cell.invariant.devices
-          (subst (λ (m : Configuration). IsTaken (lookup_of m) more) c.loop-cell.invariant.same c.in-Some-taken_in.ensures.device));
+      together = still_together (IsPast css) (cells_in css) e c.next.new.self c.loop-cell.cell-iterator
+          c.in-Some.ensures.steps c.loop-cell.invariant.together;
+      devices = rw c.in_ok-push.ensures.items
+          (All-push (IsTaken (lookup_of c.args.config.now.records)) old more c.loop-cell.invariant.devices
+          (subst (λ (m : Configuration). IsTaken (lookup_of m) more) c.loop-cell.invariant.same
+          c.in-Some-taken_in.ensures.device));
       same = c.taken_in.ensures.same ∙ c.loop-cell.invariant.same;
     }
 
@@ -45,7 +50,8 @@ returns-in_default g c =
     let e : NumberCell × ℕ = (c.in-Some.cell.now, c.in-Some.device.now) in record {
       cells = sym (append-nil (taken_of c.loop-cell.cells.items))
           ∙ ap (λ xs. taken_of c.loop-cell.cells.items ++ xs)
-          (sym (none_left (IsPast css) (cells_in css) e c.next.new.self c.loop-cell.cell-iterator c.in-Some.ensures.steps c.loop-cell.invariant.together c.in_default.ensures.cell))
+          (sym (none_left (IsPast css) (cells_in css) e c.next.new.self c.loop-cell.cell-iterator
+          c.in-Some.ensures.steps c.loop-cell.invariant.together c.in_default.ensures.cell))
           ∙ c.loop-cell.invariant.cells
           ∙ ap (cells_in css) (c.into_iter-cell-iterator.ensures.into_iter_gives ∙ c.cells_from-cell-items.ensures)
           ∙ all_cells css (entries (cells_of c.args.numbers.now.numbers));

@@ -13,12 +13,15 @@ use Rattle.iocm_statements.proofs.keying.keyed_by_map.Goals as goal
 pub returns-then-is_some : goal.returns-then-is_some
 returns-then-is_some c =
     let given = c.into_iter-key-iterator.ensures.into_iter_gives in
-    let road = YieldsList-from_vec {s = c.into_iter-key-iterator.result} c.args.operands.items given.0 (given.1 ∙ c.args.operands.ok.0) in
-    let here = YieldsList-turn road c.loop-key.yielded c.loop-key.key-iterator c.loop-key.yielded_by c.next.result c.next.new.self (c.in-Some.key, c.in-Some.text) c.in-Some.is c.next.ensures.steps in
+    let road = YieldsList-from_vec {s = c.into_iter-key-iterator.result} c.args.operands.items given.0
+    (given.1 ∙ c.args.operands.ok.0) in
+    let here = YieldsList-turn road c.loop-key.yielded c.loop-key.key-iterator c.loop-key.yielded_by c.next.result
+    c.next.new.self (c.in-Some.key, c.in-Some.text) c.in-Some.is c.next.ensures.steps in
     let front = YieldsList-so_far road c.loop-key.yielded c.loop-key.key-iterator c.loop-key.yielded_by in
     let found : is_some (lookup (derived.ghosts.eq c.in-Some.key) c.loop-key.yielded) ≡ true =
     rw (← c.loop-key.invariant.kept) (ap is_some (sym c.in_ok-insert.ensures.old) ∙ sym c.if-is_some.ensures) in
-    let twins : has_twins c.args.operands.items ≡ true = twin_found c.args.operands.items c.loop-key.yielded c.in-Some.key c.in-Some.text front here found in
+    let twins : has_twins c.args.operands.items ≡ true =
+    twin_found c.args.operands.items c.loop-key.yielded c.in-Some.key c.in-Some.text front here found in
     inr (rw twins refl)
 
 pub loop-key-preserved : goal.loop-key-preserved
@@ -29,5 +32,6 @@ loop-key-preserved c =
       kept = c.in_ok-insert.ensures.entries
           ∙ insert_entry-new derived.ghosts.eq c.loop-key.map c.in-Some.key c.in-Some.text (absent _ unused)
           ∙ ap (λ (es : List Operand). es ++ (c.in-Some.key, c.in-Some.text) ∷ []) c.loop-key.invariant.kept;
-      distinct = stays_distinct c.loop-key.yielded c.in-Some.key c.in-Some.text c.loop-key.invariant.distinct (rw (← c.loop-key.invariant.kept) unused);
+      distinct = stays_distinct c.loop-key.yielded c.in-Some.key c.in-Some.text c.loop-key.invariant.distinct
+          (rw (← c.loop-key.invariant.kept) unused);
     }

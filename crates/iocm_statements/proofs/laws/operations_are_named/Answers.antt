@@ -1,5 +1,6 @@
 use Rattle.std.proofs.Common.{refl}
-use Rattle.iocm_statements.specs.declared.operation.Operation.TheVariants.{Id, Resource, Chpid, Cntlunit, Iodevice, Online, Row, Group, Choose, End}
+use Rattle.iocm_statements.specs.declared.operation.Operation.TheVariants.{Id, Resource, Chpid, Cntlunit, Iodevice}
+use Rattle.iocm_statements.specs.declared.operation.Operation.TheVariants.{Online, Row, Group, Choose, End}
 use Rattle.iocm_statements.specs.Operation.{IsNamedByItsName}
 use Rattle.iocm_statements.proofs.laws.operations_are_named.Goals as goal
 

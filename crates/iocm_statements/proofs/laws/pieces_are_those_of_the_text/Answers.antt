@@ -3,4 +3,9 @@ use Rattle.iocm_statements.proofs.Relation.{finds_pieces, finds_no_others, cuts_
 use Rattle.iocm_statements.proofs.laws.pieces_are_those_of_the_text.Goals as goal
 
 pub returns : goal.returns
-returns c = record { found = finds_pieces; only = finds_no_others; balanced = cuts_balanced; unbalanced = cuts_no_others }
+returns c = record {
+  found = finds_pieces;
+  only = finds_no_others;
+  balanced = cuts_balanced;
+  unbalanced = cuts_no_others;
+}

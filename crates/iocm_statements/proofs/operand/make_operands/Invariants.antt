@@ -6,4 +6,5 @@ use Rattle.iocm_statements.proofs.operand.make_operands.Given as goal
 
 abbrev pub invariant-loop-place : goal.invariant-loop-place
 invariant-loop-place l =
-    after_front l.operands.items (each (operand_of l.malformed) l.place (map (λ k. k.now) (drop l.place l.texts))) ≡ each (operand_of l.malformed) 0 (map (λ k. k.now) l.texts)
+    after_front l.operands.items (each (operand_of l.malformed) l.place (map (λ k. k.now) (drop l.place l.texts)))
+    ≡ each (operand_of l.malformed) 0 (map (λ k. k.now) l.texts)

@@ -6,4 +6,5 @@ use Rattle.iocm_statements.proofs.parser.parse.Given as goal
 
 abbrev pub invariant-loop-statement : goal.invariant-loop-statement
 invariant-loop-statement l =
-    after_front l.statements.items (each (λ _ joined. statement_of joined) l.statement-index (drop l.statement-index l.joined)) ≡ parsed l.joined
+    after_front l.statements.items
+    (each (λ _ joined. statement_of joined) l.statement-index (drop l.statement-index l.joined)) ≡ parsed l.joined

@@ -9,6 +9,8 @@ use Rattle.iocm_tree_reader.proofs.leaves.additions.Goals as goal
 pub returns : goal.returns
 returns g c =
     let given = c.into_iter-entry-iterator.ensures.into_iter_gives in
-    let road = YieldsList-from_vec {s = c.into_iter-entry-iterator.result} c.args.records.items given.0 (given.1 ∙ c.args.records.ok.0) in
-    let all = YieldsList-end road c.loop-entry.yielded c.loop-entry.entry-iterator c.loop-entry.yielded_by c.next.result c.next.new.self c.in-None.is c.next.ensures.steps in
+    let road = YieldsList-from_vec {s = c.into_iter-entry-iterator.result} c.args.records.items given.0
+    (given.1 ∙ c.args.records.ok.0) in
+    let all = YieldsList-end road c.loop-entry.yielded c.loop-entry.entry-iterator c.loop-entry.yielded_by c.next.result
+    c.next.new.self c.in-None.is c.next.ensures.steps in
     of_all (map (λ r. bare (add r))) _ c.loop-entry.yielded c.args.records.items c.loop-entry.invariant all.0

@@ -8,4 +8,5 @@ pub returns : goal.returns
 returns g c =
     let top = nodes_seen c.args.reading.now.top in
     let os = stack_seen c.args.reading.now.stack.items in
-    c.over_with.ensures ∙ ap (λ s. over (size_with s top os)) c.size_of_empty.ensures ∙ over_opened c.args.kind c.args.line top os
+    c.over_with.ensures ∙ ap (λ s. over (size_with s top os)) c.size_of_empty.ensures
+    ∙ over_opened c.args.kind c.args.line top os

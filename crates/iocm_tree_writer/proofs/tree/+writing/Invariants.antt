@@ -14,4 +14,6 @@ abbrev pub decreases-put_parts : goal.decreases-put_parts
 decreases-put_parts g l = 3 * nodes_among (map tree_of l.parts.now.items) + 1
 
 abbrev pub invariant-put_parts-loop-part : goal.invariant-put_parts-loop-part
-invariant-put_parts-loop-part g l = l.deck.items ++ written_in (plain_parts (parts_of (drop l.part-index l.part-items))) ≡ l.fn.deck.items ++ written_in (plain_parts (parts_of l.parts.items))
+invariant-put_parts-loop-part g l =
+    l.deck.items ++ written_in (plain_parts (parts_of (drop l.part-index l.part-items))) ≡ l.fn.deck.items
+    ++ written_in (plain_parts (parts_of l.parts.items))

@@ -13,4 +13,5 @@ returns-in-Ok g c =
 pub returns-in-Err : goal.returns-in-Err
 returns-in-Err g c =
     get_in_gap g.met.K.TableKey.is_cmp g.met.K.Ord.total g.met.K.TableKey.exact c.args.rows.now c.requires
-    c.args.key.now c.in-Err._place (c.in-Err.ensures.position (λ e. e.0) (answers_always _ _ _ (λ f a r h called. search rules)))
+    c.args.key.now c.in-Err._place
+    (c.in-Err.ensures.position (λ e. e.0) (answers_always _ _ _ (λ f a r h called. search rules)))

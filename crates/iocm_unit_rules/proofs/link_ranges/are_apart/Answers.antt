@@ -6,7 +6,8 @@ use Rattle.iocm_unit_rules.proofs.RangesApart.{range_key, apart_in_order, follow
 use Rattle.iocm_unit_rules.proofs.link_ranges.are_apart.Goals as goal
 
 pub returns-clause-apart : goal.returns-clause-apart
-returns-clause-apart g c apart = apart_in_order c.args.ranges.items c.sort_by_key.new.self.items c.in_ok-sort_by_key.ensures.permutation
+returns-clause-apart g c apart = apart_in_order c.args.ranges.items c.sort_by_key.new.self.items
+    c.in_ok-sort_by_key.ensures.permutation
     (ap do_follow (sym c.as_slice.ensures.value) ∙ sym c.do_follow.ensures ∙ apart)
 
 pub returns-clause-seen : goal.returns-clause-seen

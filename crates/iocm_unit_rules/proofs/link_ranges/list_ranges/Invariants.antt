@@ -6,4 +6,5 @@ use Rattle.iocm_unit_rules.specs.LinkRanges.{link_ranges}
 use Rattle.iocm_unit_rules.proofs.link_ranges.list_ranges.Given as goal
 
 abbrev pub invariant-loop-entry : goal.invariant-loop-entry
-invariant-loop-entry g l = l.listed.items ++ flat_map link_ranges l.entry-iterator ≡ flat_map link_ranges (records_of l.config.records)
+invariant-loop-entry g l =
+    l.listed.items ++ flat_map link_ranges l.entry-iterator ≡ flat_map link_ranges (records_of l.config.records)

@@ -8,4 +8,5 @@ use Rattle.iocm_unit_rules.proofs.link_ranges.ranges_of_unit.Given as goal
 
 abbrev pub invariant-loop-link : goal.invariant-loop-link
 invariant-loop-link g l =
-    l.listed.items ++ flat_map (ranges_on l.fields.ranges) (drop l.link-index l.link-items) ≡ l.fn.listed.items ++ link_ranges (unit (unit_of l.fields))
+    l.listed.items ++ flat_map (ranges_on l.fields.ranges) (drop l.link-index l.link-items) ≡ l.fn.listed.items
+    ++ link_ranges (unit (unit_of l.fields))

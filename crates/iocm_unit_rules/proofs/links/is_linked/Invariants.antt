@@ -10,6 +10,7 @@ use Rattle.iocm_unit_rules.proofs.links.is_linked.Given as goal
 abbrev pub invariant-loop-path : goal.invariant-loop-path
 invariant-loop-path g l = record {
   small : l.ordinal ≤ l.path-index;
-  rest : list_any (λ (q : ℕ × Link). (l.number == q.0) && same_link l.link q.1) (with_links (paths_in l.css (drop l.path-index l.path-items)) (drop l.ordinal (links_in l.css l.fields.links)))
+  rest : list_any (λ (q : ℕ × Link). (l.number == q.0) && same_link l.link q.1)
+      (with_links (paths_in l.css (drop l.path-index l.path-items)) (drop l.ordinal (links_in l.css l.fields.links)))
       ≡ list_any (λ (q : ℕ × Link). (l.number == q.0) && same_link l.link q.1) (linked_paths l.css (unit_of l.fields));
 }

@@ -12,6 +12,8 @@ abbrev pub invariant-loop-own : goal.invariant-loop-own
 invariant-loop-own g l = record {
   small : l.ordinal ≤ l.own-index;
   rest : list_any (λ (p : ℕ × Link). (l.path.path == p.0) && is_on_link l.path.css (unit_of l.other) p)
-      (with_links (paths_in l.path.css (drop l.own-index l.own-items)) (drop l.ordinal (links_in l.path.css l.fields.links)))
-      ≡ list_any (λ (p : ℕ × Link). (l.path.path == p.0) && is_on_link l.path.css (unit_of l.other) p) (linked_paths l.path.css (unit_of l.fields));
+      (with_links (paths_in l.path.css (drop l.own-index l.own-items))
+      (drop l.ordinal (links_in l.path.css l.fields.links)))
+      ≡ list_any (λ (p : ℕ × Link). (l.path.path == p.0) && is_on_link l.path.css (unit_of l.other) p)
+      (linked_paths l.path.css (unit_of l.fields));
 }

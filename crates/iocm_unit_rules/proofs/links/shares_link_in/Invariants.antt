@@ -10,7 +10,10 @@ use Rattle.iocm_unit_rules.proofs.links.shares_link_in.Given as goal
 abbrev pub invariant-loop-path : goal.invariant-loop-path
 invariant-loop-path g l = record {
   small : l.ordinal ≤ l.path-index;
-  rest : list_any (λ (p : ℕ × Link). list_any (λ (q : ℕ × Link). (p.0 == q.0) && same_link p.1 q.1) (linked_paths l.css (unit_of l.other)))
+  rest : list_any (λ (p : ℕ × Link).
+      list_any (λ (q : ℕ × Link). (p.0 == q.0) && same_link p.1 q.1) (linked_paths l.css (unit_of l.other)))
       (with_links (paths_in l.css (drop l.path-index l.path-items)) (drop l.ordinal (links_in l.css l.fields.links)))
-      ≡ list_any (λ (p : ℕ × Link). list_any (λ (q : ℕ × Link). (p.0 == q.0) && same_link p.1 q.1) (linked_paths l.css (unit_of l.other))) (linked_paths l.css (unit_of l.fields));
+      ≡ list_any (λ (p : ℕ × Link).
+      list_any (λ (q : ℕ × Link). (p.0 == q.0) && same_link p.1 q.1) (linked_paths l.css (unit_of l.other)))
+      (linked_paths l.css (unit_of l.fields));
 }

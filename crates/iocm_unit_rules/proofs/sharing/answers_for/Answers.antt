@@ -16,10 +16,13 @@ overlaps a b = list_any (λ r. list_any (overlap r) b.ranges) a.ranges
 
 pub returns-then-answers_on_one_link : goal.returns-then-answers_on_one_link
 returns-then-answers_on_one_link g c = let a = unit_of c.args.fields.now in let b = unit_of c.args.other.now in
-    c.shares_links.ensures ∙ all_four (share_link_on c.args.path.now.css c.args.path.now.path a b) (share_link a b) (same_cuadd a b) (overlaps a b)
+    c.shares_links.ensures ∙ all_four (share_link_on c.args.path.now.css c.args.path.now.path a b) (share_link a b)
+    (same_cuadd a b) (overlaps a b)
     (sym c.answers_on_one_link.ensures ∙ c.if-answers_on_one_link.true)
 
 pub returns-else-answers_on_one_link : goal.returns-else-answers_on_one_link
 returns-else-answers_on_one_link g c = let a = unit_of c.args.fields.now in let b = unit_of c.args.other.now in
-    c.if-answers_on_one_link.false ∙ not_all_four (share_link_on c.args.path.now.css c.args.path.now.path a b) (share_link a b) (same_cuadd a b) (overlaps a b)
+    c.if-answers_on_one_link.false
+    ∙ not_all_four (share_link_on c.args.path.now.css c.args.path.now.path a b) (share_link a b) (same_cuadd a b)
+    (overlaps a b)
     (sym c.answers_on_one_link.ensures ∙ c.if-answers_on_one_link.false)

@@ -16,6 +16,7 @@ use Rattle.iocm_unit_rules.proofs.sharing.is_shared_on.Given as goal
 abbrev pub invariant-loop-user : goal.invariant-loop-user
 invariant-loop-user g l = record {
   rest : list_any (clashes_before (lookup_of l.config.records) (unit_of l.fields) l.fn.path) l.user-iterator
-      ≡ list_any (clashes_before (lookup_of l.config.records) (unit_of l.fields) l.fn.path) (users_in (Record (Path l.fn.path.css l.fn.path.path)) (rows naming_cmp l.index));
+      ≡ list_any (clashes_before (lookup_of l.config.records) (unit_of l.fields) l.fn.path)
+      (users_in (Record (Path l.fn.path.css l.fn.path.path)) (rows naming_cmp l.index));
   order : IsStrictlySortedBy key_cmp l.user-iterator;
 }

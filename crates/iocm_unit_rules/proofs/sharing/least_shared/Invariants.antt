@@ -9,5 +9,6 @@ use Rattle.iocm_unit_rules.specs.Sharing.{shared_of}
 use Rattle.iocm_unit_rules.proofs.sharing.least_shared.Given as goal
 
 abbrev pub invariant-loop-entry : goal.invariant-loop-entry
-invariant-loop-entry g l = least_of (shared_of (lookup_of l.config.records) (rows naming_cmp l.index)) l.least (in_entries l.entry-iterator)
+invariant-loop-entry g l =
+    least_of (shared_of (lookup_of l.config.records) (rows naming_cmp l.index)) l.least (in_entries l.entry-iterator)
     ≡ least_of (shared_of (lookup_of l.config.records) (rows naming_cmp l.index)) None (records_of l.config.records)

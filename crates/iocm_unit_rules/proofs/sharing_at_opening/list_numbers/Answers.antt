@@ -11,7 +11,9 @@ use Rattle.iocm_unit_rules.proofs.sharing_at_opening.list_numbers.Goals as goal
 
 pub loop-entry-init : goal.loop-entry-init
 loop-entry-init g c =
-    (λ i. c.new-listed.ensures.items i ++ flat_map link_numbers ((c.into_iter-entry-iterator.ensures.into_iter_gives ∙ c.records_of_kind-entry-items.ensures.records) i))
+    (λ i. c.new-listed.ensures.items i
+    ++ flat_map link_numbers
+    ((c.into_iter-entry-iterator.ensures.into_iter_gives ∙ c.records_of_kind-entry-items.ensures.records) i))
     ∙ given_by_kind 5 link_numbers only_units_give (records_of c.args.config.now.records)
 
 pub loop-entry-preserved : goal.loop-entry-preserved
@@ -25,5 +27,6 @@ loop-entry-preserved g c =
 pub returns : goal.returns
 returns g c =
     sym (append-nil c.loop-entry.listed.items)
-    ∙ ap (λ es. c.loop-entry.listed.items ++ flat_map link_numbers es) (sym (rest_all _ _ _ _ c.in-None.is c.next.ensures.steps))
+    ∙ ap (λ es. c.loop-entry.listed.items ++ flat_map link_numbers es)
+    (sym (rest_all _ _ _ _ c.in-None.is c.next.ensures.steps))
     ∙ c.loop-entry.invariant

@@ -6,4 +6,5 @@ use Rattle.iocm_unit_rules.specs.LinkNumbers.{link_numbers}
 use Rattle.iocm_unit_rules.proofs.sharing_at_opening.list_numbers.Given as goal
 
 abbrev pub invariant-loop-entry : goal.invariant-loop-entry
-invariant-loop-entry g l = l.listed.items ++ flat_map link_numbers l.entry-iterator ≡ flat_map link_numbers (records_of l.config.records)
+invariant-loop-entry g l =
+    l.listed.items ++ flat_map link_numbers l.entry-iterator ≡ flat_map link_numbers (records_of l.config.records)

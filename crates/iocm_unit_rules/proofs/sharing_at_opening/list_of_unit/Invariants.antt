@@ -8,4 +8,5 @@ use Rattle.iocm_unit_rules.proofs.sharing_at_opening.list_of_unit.Given as goal
 
 abbrev pub invariant-loop-css : goal.invariant-loop-css
 invariant-loop-css g l =
-    l.listed.items ++ flat_map (numbers_in (unit_of l.fields)) (drop l.css-index l.css-items) ≡ l.fn.listed.items ++ flat_map (numbers_in (unit_of l.fields)) subsystems
+    l.listed.items ++ flat_map (numbers_in (unit_of l.fields)) (drop l.css-index l.css-items) ≡ l.fn.listed.items
+    ++ flat_map (numbers_in (unit_of l.fields)) subsystems

@@ -5,4 +5,5 @@ use Rattle.iocm_types.specs.declared.link.CssLink.{CssLink}
 use Rattle.iocm_unit_rules.proofs.units.count_links.Goals as goal
 
 pub returns : goal.returns
-returns c = c.count_of_css.ensures ∙ sym (length-map (filter (λ (l : CssLink). l.css == c.args.css) c.args.links.now) (λ (l : CssLink). l.link))
+returns c = c.count_of_css.ensures
+    ∙ sym (length-map (filter (λ (l : CssLink). l.css == c.args.css) c.args.links.now) (λ (l : CssLink). l.link))

@@ -8,5 +8,7 @@ use Rattle.iocm_unit_rules.proofs.units.has_wrong_links.Given as goal
 
 abbrev pub invariant-loop-css : goal.invariant-loop-css
 invariant-loop-css l =
-    list_any (λ css. not (length (links_in css l.links) == 0) && not (length (links_in css l.links) == length (paths_in css l.paths))) (drop l.css-index l.css-items)
-    ≡ list_any (λ css. not (length (links_in css l.links) == 0) && not (length (links_in css l.links) == length (paths_in css l.paths))) subsystems
+    list_any (λ css. not (length (links_in css l.links) == 0)
+    && not (length (links_in css l.links) == length (paths_in css l.paths))) (drop l.css-index l.css-items)
+    ≡ list_any (λ css. not (length (links_in css l.links) == 0)
+    && not (length (links_in css l.links) == length (paths_in css l.paths))) subsystems

@@ -7,4 +7,5 @@ use Rattle.iocm_model.specs.Rules.EachRule.{has_twice}
 use Rattle.iocm_unit_rules.proofs.units.is_path_twice.Given as goal
 
 abbrev pub invariant-loop-css : goal.invariant-loop-css
-invariant-loop-css l = list_any (λ css. has_twice (paths_in css l.paths)) (drop l.css-index l.css-items) ≡ list_any (λ css. has_twice (paths_in css l.paths)) subsystems
+invariant-loop-css l = list_any (λ css. has_twice (paths_in css l.paths)) (drop l.css-index l.css-items)
+    ≡ list_any (λ css. has_twice (paths_in css l.paths)) subsystems

@@ -1,4 +1,4 @@
-use Rattle.std.proofs.Common.{◌≡◌, ◌∙◌, ◌++◌, arith, ap, sym}
+use Rattle.std.proofs.Common.{◌∙◌, ◌++◌, arith, ap, sym}
 use Rattle.std.specs.List.{flat_map, range_with_len}
 use Rattle.iocm_values.specs.Texts as meaning
 use Rattle.iocm_values.proofs.Joined.{flat_map_more}
@@ -8,5 +8,7 @@ pub loop-number-preserved : goal.loop-number-preserved
 loop-number-preserved c =
     c.in_ok-put_group.ensures
     ∙ ap (λ groups. groups ++ meaning.group_texts c.args.items.now c.subsystem.result) c.loop-number.invariant
-    ∙ ap (λ css. flat_map (meaning.group_texts c.args.items.now) (range_with_len 0 c.loop-number.number) ++ meaning.group_texts c.args.items.now css) c.subsystem.ensures
-    ∙ sym (flat_map_more (meaning.group_texts c.args.items.now) 0 c.loop-number.number c.loop-number.number (omega arith))
+    ∙ ap (λ css. flat_map (meaning.group_texts c.args.items.now) (range_with_len 0 c.loop-number.number)
+    ++ meaning.group_texts c.args.items.now css) c.subsystem.ensures
+    ∙ sym (flat_map_more (meaning.group_texts c.args.items.now) 0 c.loop-number.number c.loop-number.number
+    (omega arith))

@@ -13,6 +13,8 @@ whole text mid new xs d some first others =
 
 pub returns : goal.returns
 returns c =
-    whole c.args.text.now.items c.put.new.text.items c.put_behind_commas.new.text.items c.args.items.now c.index-items-0.result (grind (arith, c.if-is_empty.ensures, c.is_empty.ensures))
+    whole c.args.text.now.items c.put.new.text.items c.put_behind_commas.new.text.items c.args.items.now
+    c.index-items-0.result (grind (arith, c.if-is_empty.ensures, c.is_empty.ensures))
     (c.in_ok-put.ensures ∙ ap (λ item. c.args.text.now.items ++ item) (c.as_slice.ensures ∙ c.index-items-0.is))
-    (c.in_ok-put_behind_commas.ensures ∙ ap (λ others. c.put.new.text.items ++ flat_map (λ y. 44 ∷ y) others) c.split_at.ensures.back)
+    (c.in_ok-put_behind_commas.ensures
+    ∙ ap (λ others. c.put.new.text.items ++ flat_map (λ y. 44 ∷ y) others) c.split_at.ensures.back)

@@ -5,7 +5,8 @@ use Rattle.iocm_values.proofs.word_list.words.Given as goal
 
 abbrev pub invariant-loop-index : goal.invariant-loop-index
 invariant-loop-index l = record {
-  found : map (λ k. k.now) l.found.items ++ words_from l.nesting (slice_range l.text l.from l.index) (drop l.index l.text) ≡ words l.text;
+  found : map (λ k. k.now) l.found.items
+      ++ words_from l.nesting (slice_range l.text l.from l.index) (drop l.index l.text) ≡ words l.text;
   begun : l.from ≤ l.index;
   depth : l.nesting.depth ≤ l.index;
 }

@@ -8,7 +8,8 @@ use Rattle.iocm_model.specs.Machine.Record.{Rec, key_of}
 use Rattle.iocm_where.specs.Lines.{keys_if_given}
 use Rattle.iocm_where.proofs.keys.does_bring.Goals as goal
 
-of_keys : (k : Key) (rs : List Rec) → list_any (λ r. eq_by_cmp key_cmp k (key_of r)) rs ≡ list_any (eq_by_cmp key_cmp k) (map key_of rs)
+of_keys : (k : Key) (rs : List Rec)
+    → list_any (λ r. eq_by_cmp key_cmp k (key_of r)) rs ≡ list_any (eq_by_cmp key_cmp k) (map key_of rs)
 of_keys k [] = refl
 of_keys k (r ∷ rs) = ap (λ b. eq_by_cmp key_cmp k (key_of r) || b) (of_keys k rs)
 

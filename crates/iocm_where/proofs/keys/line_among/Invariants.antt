@@ -4,4 +4,5 @@ use Rattle.iocm_where.specs.Lines.{line_among}
 use Rattle.iocm_where.proofs.keys.line_among.Given as goal
 
 abbrev pub invariant-loop-statement : goal.invariant-loop-statement
-invariant-loop-statement l = line_among l.images l.fn.key (drop l.statement-index l.statements) ≡ line_among l.images l.fn.key l.statements
+invariant-loop-statement l =
+    line_among l.images l.fn.key (drop l.statement-index l.statements) ≡ line_among l.images l.fn.key l.statements

@@ -1,5 +1,6 @@
 -- The laws are proved of the definitions.
-use Rattle.iocm_where.proofs.PlacedNodes.{nodes_are_placed, nodes_come_from_their_lines, none_is_past_the_last, given_nodes_have_the_line}
+use Rattle.iocm_where.proofs.PlacedNodes.{nodes_are_placed, nodes_come_from_their_lines, none_is_past_the_last}
+use Rattle.iocm_where.proofs.PlacedNodes.{given_nodes_have_the_line}
 use Rattle.iocm_where.proofs.laws.nodes_come_from_their_lines.Goals as goal
 
 pub returns-clause-placed : goal.returns-clause-placed

@@ -8,9 +8,12 @@ use Rattle.iocm_activate.proofs.signature.Signature.of.Goals as goal
 
 pub returns : goal.returns
 returns c = record {
-  records = subst (λ cells. AreSigned number_in c.bits_of.result (keys_of cells)) c.cells-3.ensures.entries c.bits_of.ensures;
+  records = subst (λ cells. AreSigned number_in c.bits_of.result (keys_of cells)) c.cells-3.ensures.entries
+      c.bits_of.ensures;
   numbers = λ k d within. either_set _ _ _
-      (subst (λ cells. AreSigned (λ (x : NumberCell). x.number) c.bits_of-numbers.result (keys_of cells)) c.cells.ensures.entries c.bits_of-numbers.ensures k d within);
+      (subst (λ cells. AreSigned (λ (x : NumberCell). x.number) c.bits_of-numbers.result (keys_of cells))
+      c.cells.ensures.entries c.bits_of-numbers.ensures k d within);
   lives = λ k d within. other_set _ _ _
-      (subst (λ cells. AreSigned (λ (x : SubId). x.number) c.bits_of-lives.result (keys_of cells)) c.cells-2.ensures.entries c.bits_of-lives.ensures k d within);
+      (subst (λ cells. AreSigned (λ (x : SubId). x.number) c.bits_of-lives.result (keys_of cells))
+      c.cells-2.ensures.entries c.bits_of-lives.ensures k d within);
 }

@@ -7,5 +7,6 @@ use Rattle.iocm_activate.proofs.written.Written.have_common.Goals as goal
 
 pub returns : goal.returns
 returns g c = c.has_one_of-2.ensures
-    ∙ common_both (subst IsTotalOrder g.met.K.TableKey.is_cmp g.met.K.Ord.total) (subst IsAntisymmetric g.met.K.TableKey.is_cmp g.met.K.TableKey.exact)
+    ∙ common_both (subst IsTotalOrder g.met.K.TableKey.is_cmp g.met.K.Ord.total)
+    (subst IsAntisymmetric g.met.K.TableKey.is_cmp g.met.K.TableKey.exact)
     (cells_in g.K.TableKey.order c.args.self.now) (cells_in g.K.TableKey.order c.args.other.now)

@@ -12,6 +12,7 @@ compare_exchange_with-requires g c =
       c.me.invariant.0 ∙ ap g.B.Identity.table (ap (λ (h : Held). h.tag) c.me.view_is ∙ c.requires.mine) ∙ sym b.named,
       omega (arith, one),
       publishes b.table.shared.key b.table.shared.table_id.slots p.id c.args.count p.me c.args.entry.now
-          (ap (λ (h : Held). h.view.keeps) c.me.view_is ∙ c.requires.keeps) (named.0, named.1, ap (λ (h : Held). h.view.names) c.me.view_is ∙ named.2)
+          (ap (λ (h : Held). h.view.keeps) c.me.view_is ∙ c.requires.keeps)
+          (named.0, named.1, ap (λ (h : Held). h.view.names) c.me.view_is ∙ named.2)
           (c.requires.count ∙ sym (ap (λ (h : Held). length h.view.list) c.me.view_is)),
     )

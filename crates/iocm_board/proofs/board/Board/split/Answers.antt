@@ -9,7 +9,9 @@ split_seat-requires g c =
     let one = b.one in
     let p = c.seat.inside.place in
     let named = c.requires.names in (
-      c.seat.invariant.0 ∙ ap g.B.Identity.table (ap (λ (h : Held). h.tag) c.seat.view_is ∙ c.requires.mine) ∙ sym b.named,
+      c.seat.invariant.0 ∙ ap g.B.Identity.table (ap (λ (h : Held). h.tag) c.seat.view_is ∙ c.requires.mine)
+          ∙ sym b.named,
       omega (arith, one),
-      splits b.table.shared.key p.id p.me.0 (named.0, named.1, ap (λ (h : Held). h.view.names) c.seat.view_is ∙ named.2),
+      splits b.table.shared.key p.id p.me.0
+          (named.0, named.1, ap (λ (h : Held). h.view.names) c.seat.view_is ∙ named.2),
     )

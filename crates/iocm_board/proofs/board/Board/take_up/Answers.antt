@@ -14,5 +14,6 @@ join_seat-requires g c =
       c.list.invariant.0 ∙ ap g.B.Identity.table (ap (λ (h : Held). h.tag) list ∙ c.requires.keepers) ∙ sym b.named,
       c.list.invariant.1,
       omega (arith, one),
-      takes_up b.table.shared.key p.id q.id p.me.0 q.me.0 (ap (λ (h : Held). h.view.keeps) list ∙ c.requires.keeps) (ap (λ (h : Held). h.view.names) list),
+      takes_up b.table.shared.key p.id q.id p.me.0 q.me.0 (ap (λ (h : Held). h.view.keeps) list ∙ c.requires.keeps)
+          (ap (λ (h : Held). h.view.names) list),
     )

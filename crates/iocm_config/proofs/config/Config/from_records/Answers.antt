@@ -12,7 +12,8 @@ use Rattle.iocm_config.proofs.OnlineLast.{same_configuration, keys_stay_apart}
 use Rattle.iocm_config.proofs.config.Config.from_records.Goals as goal
 
 pub from_rows-requires : goal.from_rows-requires
-from_rows-requires g c = subst (λ (es : List (Key × Rec)). IsDistinct (eq_by_cmp key_cmp) (keys_of es)) (sym c.in_ok-listed.ensures)
+from_rows-requires g c = subst (λ (es : List (Key × Rec)). IsDistinct (eq_by_cmp key_cmp) (keys_of es))
+    (sym c.in_ok-listed.ensures)
     (keys_stay_apart (with_keys c.args.records.items) (keys_apart c.args.records.items c.requires))
 
 pub returns : goal.returns

@@ -14,8 +14,12 @@ returns g c =
     record {
       asked = refl;
       images = λ i. ap (λ b. not (asks asked.images) || b)
-          (ap (list_any (is_same i)) (c.in_ok-images.ensures ∙ ap (flat_map (images_meant c.args.config.now.records)) c.images.ensures) ∙ any_meant c.args.config.now.records i asked.images);
-      devices = λ set number. ap (λ b. one_if_asked (is_within set number) asked.devices && (not (asks asked.units) || b))
-          (ap (λ (m : Devices). contains_key m (Device set number)) (c.in_ok-users.ensures ∙ ap (users_of c.args.config.now.records) c.units.ensures)
+          (ap (list_any (is_same i))
+          (c.in_ok-images.ensures ∙ ap (flat_map (images_meant c.args.config.now.records)) c.images.ensures)
+          ∙ any_meant c.args.config.now.records i asked.images);
+      devices = λ set number. ap
+          (λ b. one_if_asked (is_within set number) asked.devices && (not (asks asked.units) || b))
+          (ap (λ (m : Devices). contains_key m (Device set number))
+          (c.in_ok-users.ensures ∙ ap (users_of c.args.config.now.records) c.units.ensures)
           ∙ is_user_there c.args.config.now.records asked.units set number);
     }

@@ -19,26 +19,31 @@ is_at x places = T (list_any (eq_by_cmp sub_id_cmp x) places)
 -- where the subchannel has no place, the grid is as it was
 pub returns-in_err-room-clause-kept : goal.returns-in_err-room-clause-kept
 returns-in_err-room-clause-kept g c x had =
-    c.room.ensures.kept x (subst (λ s. HasPlace s x) (sym (ap gridded c.slot_mut.follows.holds-at-none ∙ c.self.view_is)) had)
+    c.room.ensures.kept x (subst (λ s. HasPlace s x)
+    (sym (ap gridded c.slot_mut.follows.holds-at-none ∙ c.self.view_is)) had)
 
 pub returns-in_default-clause-kept : goal.returns-in_default-clause-kept
 returns-in_default-clause-kept g c x had = subst (is_at x) (sym c.put.ensures.places)
-    (c.room.ensures.kept x (subst (λ s. HasPlace s x) (sym (ap gridded c.slot_mut.follows.holds-at-none ∙ c.self.view_is)) had))
+    (c.room.ensures.kept x (subst (λ s. HasPlace s x)
+    (sym (ap gridded c.slot_mut.follows.holds-at-none ∙ c.self.view_is)) had))
 
 pub overflow_add-self : goal.overflow_add-self
 overflow_add-self g c =
-    let few = few_rows _ c.self.invariant.in_range in let counted = c.self.invariant.counted in omega (arith, c.one_if.ensures.small)
+    let few = few_rows _ c.self.invariant.in_range in let counted = c.self.invariant.counted in
+    omega (arith, c.one_if.ensures.small)
 
 pub invariant_of-self-2 : goal.invariant_of-self-2
 invariant_of-self-2 g c =
     let levels = c.self.inside.levels in
-    let found : slot_at levels c.args.key.now ≡ Some c.replace-had.result = sym (ap Some c.replace-had.ensures.value ∙ c.in-Some.ensures.value) in
+    let found : slot_at levels c.args.key.now ≡ Some c.replace-had.result =
+    sym (ap Some c.replace-had.ensures.value ∙ c.in-Some.ensures.value) in
     let now = c.slot_mut.follows.lender c.replace-had.new.self in
     let is_now : now ≡ written levels c.args.key.now (Some c.args.row) =
     given c.slot_mut.result c.in-Some.own c.in-Some.is (c.slot_mut.follows.holds c.replace-had.new.self)
     ∙ ap (written levels c.args.key.now) c.replace-had.ensures.after in
     subst (λ n. IsCounted now (c.self.inside.len + n)) (sym c.one_if.ensures.value)
-    (row_counted levels now c.args.key.now c.slot_mut.ensures.in_range c.replace-had.result found c.self.inside.len c.self.invariant
+    (row_counted levels now c.args.key.now c.slot_mut.ensures.in_range c.replace-had.result found c.self.inside.len
+    c.self.invariant
     c.args.row c.is_none.result c.is_none.ensures is_now)
 
 pub returns-clause-before : goal.returns-clause-before
@@ -59,8 +64,10 @@ pub returns-clause-ok : goal.returns-clause-ok
 returns-clause-ok g c =
     let levels = c.self.inside.levels in
     let now = c.slot_mut.follows.lender c.replace-had.new.self in
-    let found : slot_at levels c.args.key.now ≡ Some c.replace-had.result = sym (ap Some c.replace-had.ensures.value ∙ c.in-Some.ensures.value) in
-    let stay = places_stay levels now c.args.key.now c.slot_mut.ensures.in_range c.replace-had.result found c.self.inside.len c.self.invariant c.replace-had.new.self
+    let found : slot_at levels c.args.key.now ≡ Some c.replace-had.result =
+    sym (ap Some c.replace-had.ensures.value ∙ c.in-Some.ensures.value) in
+    let stay = places_stay levels now c.args.key.now c.slot_mut.ensures.in_range c.replace-had.result found
+    c.self.inside.len c.self.invariant c.replace-had.new.self
     (given c.slot_mut.result c.in-Some.own c.in-Some.is (c.slot_mut.follows.holds c.replace-had.new.self)) in
     subst (is_at c.args.key.now) (sym stay) (has_place levels c.args.key.now (ap is_some found))
 
@@ -68,7 +75,9 @@ pub returns-clause-kept : goal.returns-clause-kept
 returns-clause-kept g c x had =
     let levels = c.self.inside.levels in
     let now = c.slot_mut.follows.lender c.replace-had.new.self in
-    let found : slot_at levels c.args.key.now ≡ Some c.replace-had.result = sym (ap Some c.replace-had.ensures.value ∙ c.in-Some.ensures.value) in
-    let stay = places_stay levels now c.args.key.now c.slot_mut.ensures.in_range c.replace-had.result found c.self.inside.len c.self.invariant c.replace-had.new.self
+    let found : slot_at levels c.args.key.now ≡ Some c.replace-had.result =
+    sym (ap Some c.replace-had.ensures.value ∙ c.in-Some.ensures.value) in
+    let stay = places_stay levels now c.args.key.now c.slot_mut.ensures.in_range c.replace-had.result found
+    c.self.inside.len c.self.invariant c.replace-had.new.self
     (given c.slot_mut.result c.in-Some.own c.in-Some.is (c.slot_mut.follows.holds c.replace-had.new.self)) in
     subst (is_at x) (sym stay) (subst (λ s. HasPlace s x) (sym c.self.view_is) had)

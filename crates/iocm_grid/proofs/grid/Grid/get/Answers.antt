@@ -5,7 +5,9 @@ use Rattle.iocm_grid.proofs.Looking.{row_at}
 use Rattle.iocm_grid.proofs.grid.Grid.get.Goals as goal
 
 pub returns-in_err-slot : goal.returns-in_err-slot
-returns-in_err-slot g c = ap option_copied c.from_residual.ensures ∙ ap option_flatten (ap option_copied (sym c.in_err-slot.was) ∙ c.slot.ensures)
+returns-in_err-slot g c =
+    ap option_copied c.from_residual.ensures
+    ∙ ap option_flatten (ap option_copied (sym c.in_err-slot.was) ∙ c.slot.ensures)
     ∙ sym (row_at c.self.inside.levels c.args.key.now) ∙ ap (λ s. get s.rows c.args.key.now) c.self.view_is
 
 pub returns : goal.returns

@@ -18,19 +18,26 @@ returns-in_err-row g c = (
   ),
   record {
     writes_back = tt;
-    value = ap option_copied_mut c.from_residual.ensures ∙ ap option_flatten (ap option_copied_mut (sym c.in_err-row.was) ∙ c.slot_mut.ensures.value)
+    value = ap option_copied_mut c.from_residual.ensures
+        ∙ ap option_flatten (ap option_copied_mut (sym c.in_err-row.was) ∙ c.slot_mut.ensures.value)
         ∙ sym (row_at c.self.inside.levels c.args.key.now) ∙ ap (λ s. get s.rows c.args.key.now) c.self.view_is;
   },
 )
 
 pub invariant_of-self-lent : goal.invariant_of-self-lent
-invariant_of-self-lent g c = rw c.in-Some.is (λ w. lent_counted c.self.inside.levels (c.slot_mut.follows.lender (Some w)) c.args.key.now c.slot_mut.ensures.in_range
-    c.args.self.now c.self.view_is c.self.inside.len c.self.invariant c.in-Some.row w (sym (ap Some (sym c.in-Some.is) ∙ c.in_ok-row.ensures.value))
+invariant_of-self-lent g c =
+    rw c.in-Some.is (λ w. lent_counted c.self.inside.levels (c.slot_mut.follows.lender (Some w)) c.args.key.now
+    c.slot_mut.ensures.in_range
+    c.args.self.now c.self.view_is c.self.inside.len c.self.invariant c.in-Some.row w
+    (sym (ap Some (sym c.in-Some.is) ∙ c.in_ok-row.ensures.value))
     (given c.slot_mut.result c.in_ok-row.field-0 c.in_ok-row.was (c.slot_mut.follows.holds (Some w))))
 
 pub invariant_of-self-in-None : goal.invariant_of-self-in-None
-invariant_of-self-in-None g c = rw c.in-None.is (none_counted c.self.inside.levels (c.slot_mut.follows.lender None) c.args.key.now c.slot_mut.ensures.in_range
-    c.args.self.now c.self.view_is c.self.inside.len c.self.invariant (sym (ap Some (sym c.in-None.is) ∙ c.in_ok-row.ensures.value))
+invariant_of-self-in-None g c =
+    rw c.in-None.is (none_counted c.self.inside.levels (c.slot_mut.follows.lender None) c.args.key.now
+    c.slot_mut.ensures.in_range
+    c.args.self.now c.self.view_is c.self.inside.len c.self.invariant
+    (sym (ap Some (sym c.in-None.is) ∙ c.in_ok-row.ensures.value))
     (given c.slot_mut.result c.in_ok-row.field-0 c.in_ok-row.was (c.slot_mut.follows.holds None)))
 
 pub returns-in-Some : goal.returns-in-Some
@@ -39,14 +46,16 @@ returns-in-Some g c =
     rw c.in-Some.is (
       (
         refl,
-        (λ w. lent_changed c.self.inside.levels (c.slot_mut.follows.lender (Some w)) c.args.key.now c.slot_mut.ensures.in_range
+        (λ w. lent_changed c.self.inside.levels (c.slot_mut.follows.lender (Some w)) c.args.key.now
+            c.slot_mut.ensures.in_range
             c.args.self.now c.self.view_is c.self.inside.len c.self.invariant c.in-Some.row w (sym found)
             (given c.slot_mut.result c.in_ok-row.field-0 c.in_ok-row.was (c.slot_mut.follows.holds (Some w)))),
         record { rows = refl; places = refl },
       ),
       record {
         writes_back = tt;
-        value = ap option_flatten found ∙ sym (row_at c.self.inside.levels c.args.key.now) ∙ ap (λ s. get s.rows c.args.key.now) c.self.view_is;
+        value = ap option_flatten found ∙ sym (row_at c.self.inside.levels c.args.key.now)
+            ∙ ap (λ s. get s.rows c.args.key.now) c.self.view_is;
       },
     )
 
@@ -63,6 +72,7 @@ returns-in-None g c =
       ),
       record {
         writes_back = tt;
-        value = ap option_flatten found ∙ sym (row_at c.self.inside.levels c.args.key.now) ∙ ap (λ s. get s.rows c.args.key.now) c.self.view_is;
+        value = ap option_flatten found ∙ sym (row_at c.self.inside.levels c.args.key.now)
+            ∙ ap (λ s. get s.rows c.args.key.now) c.self.view_is;
       },
     )

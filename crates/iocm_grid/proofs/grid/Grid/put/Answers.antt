@@ -10,25 +10,29 @@ use Rattle.iocm_grid.proofs.grid.Grid.put.Goals as goal
 
 pub unreachable-requires : goal.unreachable-requires
 unreachable-requires g c =
-    let found = has_slot c.self.inside.levels c.args.key.now (subst (λ s. HasPlace s c.args.key.now) (sym c.self.view_is) c.requires) in
+    let found = has_slot c.self.inside.levels c.args.key.now
+    (subst (λ s. HasPlace s c.args.key.now) (sym c.self.view_is) c.requires) in
     let none : is_some (slot_at c.self.inside.levels c.args.key.now) ≡ false =
     ap is_some (sym c.slot_mut.ensures.value ∙ ap option_copied_mut c.in_default.is) in
     let bad : false ≡ true = sym none ∙ found in cc
 
 pub overflow_add-self : goal.overflow_add-self
 overflow_add-self g c =
-    let few = few_rows _ c.self.invariant.in_range in let counted = c.self.invariant.counted in omega (arith, c.one_if.ensures.small)
+    let few = few_rows _ c.self.invariant.in_range in let counted = c.self.invariant.counted in
+    omega (arith, c.one_if.ensures.small)
 
 pub invariant_of-self : goal.invariant_of-self
 invariant_of-self g c =
     let levels = c.self.inside.levels in
-    let found : slot_at levels c.args.key.now ≡ Some c.replace-before.result = sym (ap Some c.replace-before.ensures.value ∙ c.in-Some.ensures.value) in
+    let found : slot_at levels c.args.key.now ≡ Some c.replace-before.result =
+    sym (ap Some c.replace-before.ensures.value ∙ c.in-Some.ensures.value) in
     let now = c.slot_mut.follows.lender c.replace-before.new.self in
     let is_now : now ≡ written levels c.args.key.now (Some c.args.row) =
     given c.slot_mut.result c.in-Some.slot c.in-Some.is (c.slot_mut.follows.holds c.replace-before.new.self)
     ∙ ap (written levels c.args.key.now) c.replace-before.ensures.after in
     subst (λ n. IsCounted now (c.self.inside.len + n)) (sym c.one_if.ensures.value)
-    (row_counted levels now c.args.key.now c.slot_mut.ensures.in_range c.replace-before.result found c.self.inside.len c.self.invariant
+    (row_counted levels now c.args.key.now c.slot_mut.ensures.in_range c.replace-before.result found c.self.inside.len
+    c.self.invariant
     c.args.row c.is_none.result c.is_none.ensures is_now)
 
 pub returns-clause-before : goal.returns-clause-before
@@ -40,7 +44,8 @@ returns-clause-rows g c =
     let levels = c.self.inside.levels in
     let now = c.slot_mut.follows.lender c.replace-before.new.self in
     row_written levels now c.args.key.now c.slot_mut.ensures.in_range c.replace-before.result
-    (sym (ap Some c.replace-before.ensures.value ∙ c.in-Some.ensures.value)) c.self.inside.len c.self.invariant c.args.row
+    (sym (ap Some c.replace-before.ensures.value ∙ c.in-Some.ensures.value)) c.self.inside.len c.self.invariant
+    c.args.row
     (given c.slot_mut.result c.in-Some.slot c.in-Some.is (c.slot_mut.follows.holds c.replace-before.new.self)
     ∙ ap (written levels c.args.key.now) c.replace-before.ensures.after)
     ∙ ap (λ s. insert s.rows c.args.key.now c.args.row) c.self.view_is
@@ -50,6 +55,7 @@ returns-clause-places g c =
     let levels = c.self.inside.levels in
     let now = c.slot_mut.follows.lender c.replace-before.new.self in
     places_stay levels now c.args.key.now c.slot_mut.ensures.in_range c.replace-before.result
-    (sym (ap Some c.replace-before.ensures.value ∙ c.in-Some.ensures.value)) c.self.inside.len c.self.invariant c.replace-before.new.self
+    (sym (ap Some c.replace-before.ensures.value ∙ c.in-Some.ensures.value)) c.self.inside.len c.self.invariant
+    c.replace-before.new.self
     (given c.slot_mut.result c.in-Some.slot c.in-Some.is (c.slot_mut.follows.holds c.replace-before.new.self))
     ∙ ap (λ s. s.places) c.self.view_is

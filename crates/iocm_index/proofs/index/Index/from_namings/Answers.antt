@@ -10,10 +10,13 @@ use Rattle.iocm_index.proofs.index.Index.from_namings.Goals as goal
 
 pub from_rows-requires : goal.from_rows-requires
 from_rows-requires g c =
-    subst (λ rs. IsDistinct (eq_by_cmp naming_cmp) (keys_of rs)) (sym (c.in_ok-listed.ensures ∙ ap (map as_row) c.as_slice.ensures.value))
+    subst (λ rs. IsDistinct (eq_by_cmp naming_cmp) (keys_of rs))
+    (sym (c.in_ok-listed.ensures ∙ ap (map as_row) c.as_slice.ensures.value))
     (apart c.in_ok-distinct.distinct.items c.in_ok-distinct.ensures.order)
 
 pub returns-clause-linked : goal.returns-clause-linked
 returns-clause-linked g c n =
-    ap (λ m. contains_key m n) (c.in_ok-from_rows.ensures.rows ∙ ap from_entries (c.in_ok-listed.ensures ∙ ap (map as_row) c.as_slice.ensures.value))
+    ap (λ m. contains_key m n)
+    (c.in_ok-from_rows.ensures.rows
+    ∙ ap from_entries (c.in_ok-listed.ensures ∙ ap (map as_row) c.as_slice.ensures.value))
     ∙ in_rows c.in_ok-distinct.distinct.items n ∙ c.in_ok-distinct.ensures.same n

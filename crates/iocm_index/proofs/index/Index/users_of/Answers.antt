@@ -17,7 +17,11 @@ returns-clause-users g c = let now = rows naming_cmp c.args.self.now in
     ∙ users_stand_in_front c.args.named (entries now) (entries_sorted now)
 
 pub returns-clause-named : goal.returns-clause-named
-returns-clause-named g c k = ap (list_any (eq_by_cmp key_cmp k)) (returns-clause-users g c) ∙ users_name_it c.args.named (rows naming_cmp c.args.self.now) k
+returns-clause-named g c k =
+    ap (list_any (eq_by_cmp key_cmp k)) (returns-clause-users g c)
+    ∙ users_name_it c.args.named (rows naming_cmp c.args.self.now) k
 
 pub returns-clause-rise : goal.returns-clause-rise
-returns-clause-rise g c = subst (IsStrictlySortedBy key_cmp) (sym (returns-clause-users g c)) (users_in_order c.args.named (rows naming_cmp c.args.self.now))
+returns-clause-rise g c =
+    subst (IsStrictlySortedBy key_cmp) (sym (returns-clause-users g c))
+    (users_in_order c.args.named (rows naming_cmp c.args.self.now))

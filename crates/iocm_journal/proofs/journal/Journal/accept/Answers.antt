@@ -12,7 +12,8 @@ pub invariant_of-self : goal.invariant_of-self
 invariant_of-self c =
     let kept = newly_kept c.args.inverse c.args.performed in
     let items = c.push_reserved.ensures.items in (
-      ap (λ n. n + 1) c.self.invariant.0 ∙ sym (count_accepted c.self.inside.changes.items kept refl) ∙ sym (ap count_standing items),
+      ap (λ n. n + 1) c.self.invariant.0 ∙ sym (count_accepted c.self.inside.changes.items kept refl)
+          ∙ sym (ap count_standing items),
       subst (λ ks. AreNoted ks c.self.inside.undos.items) (sym items)
           (noted_accepted c.self.inside.changes.items c.self.inside.undos.items kept refl c.self.invariant.1),
     )

@@ -10,7 +10,8 @@ returns-in_err-place c = rw c.from_residual.ensures (λ at is. stands_past _ _ (
 pub returns-then-not-kept_at : goal.returns-then-not-kept_at
 returns-then-not-kept_at c = λ at is.
     ap (stands_at c.args.self.now.changes) (same at c.in_ok-place.place c.args.number is c.in_ok-place.ensures.0)
-    ∙ stands_item c.args.self.now.changes c.in_ok-place.place c.kept_at.result.now c.kept_at.ensures ∙ c.if-not-kept_at.true
+    ∙ stands_item c.args.self.now.changes c.in_ok-place.place c.kept_at.result.now c.kept_at.ensures
+    ∙ c.if-not-kept_at.true
   where
     same : (a b n : ℕ) → n ≡ a + 1 → n ≡ b + 1 → a ≡ b
     same a b n p q = omega (arith, p, q)
@@ -18,5 +19,6 @@ returns-then-not-kept_at c = λ at is.
 pub returns : goal.returns
 returns c = (
   c.in_ok-place.ensures.0,
-  stands_item c.args.self.now.changes c.in_ok-place.place c.kept_at.result.now c.kept_at.ensures ∙ c.if-not-kept_at.false,
+  stands_item c.args.self.now.changes c.in_ok-place.place c.kept_at.result.now c.kept_at.ensures
+      ∙ c.if-not-kept_at.false,
 )

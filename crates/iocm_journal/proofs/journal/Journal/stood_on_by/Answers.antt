@@ -23,7 +23,9 @@ returns-then-not-is_stood_on_if_unfit-clause-greatest c = λ k es s at inverse t
 pub returns-clause-greatest : goal.returns-clause-greatest
 returns-clause-greatest c = λ k es s at inverse told.
     let same = c.as_slice-kept.ensures.value ∙ ap (λ (v : Journaled). v.changes) c.self.view_is in
-    let is = (subst (λ (k : Kept). IsWhetherItFits k c.args.plant.now.state c.in_ok-is_fit.is_fit) (the_kept (sym c.kept_at.ensures ∙ at))
+    let is = (subst (λ (k : Kept). IsWhetherItFits k c.args.plant.now.state c.in_ok-is_fit.is_fit)
+    (the_kept (sym c.kept_at.ensures ∙ at))
     c.in_ok-is_fit.ensures.fits) es s inverse told in
     c.greatest_on.ensures.last ∙ sym (found_same c.args.changes.now.items c.args.place c.in_ok-is_fit.is_fit same)
-    ∙ ap (λ b. last_passing (is_on c.args.self.now.changes c.args.changes.now.items c.args.place b) (length c.args.self.now.changes)) is
+    ∙ ap (λ b. last_passing (is_on c.args.self.now.changes c.args.changes.now.items c.args.place b)
+    (length c.args.self.now.changes)) is

@@ -31,7 +31,8 @@ invariant_of-self-in-Ok c =
       stands_less same c.self.inside.standing c.self.invariant.0 place count k
           (read_there same place k c.requires.place c.index_mut-kept.ensures.value) c.requires.stands,
       subst (AreNoted (set ks place (no_more count k))) (sym noted)
-          (noted_undone ks us place count k (c.len-count.ensures ∙ c.self.inside.changes.ok.0) within c.self.invariant.1),
+          (noted_undone ks us place count k (c.len-count.ensures ∙ c.self.inside.changes.ok.0) within
+          c.self.invariant.1),
     )
 
 pub returns-in-Ok-clause-done : goal.returns-in-Ok-clause-done

@@ -23,8 +23,11 @@ returns-in-Ok-clause-next c = λ done opening h now.
     found_same fs place true same ∙ sym c.greatest_on.ensures.last
     ∙ nothing_there c.greatest_on.result (sym c.is_some.ensures ∙ c.if-is_some.false) in
     let greatest : IsGreatestOn ks fs place c.args.plant.now.state None = λ k es s at inverse told.
-    sym free ∙ ap (λ b. last_passing (is_on ks fs place b) (length ks)) (c.in-Ok.ensures.fits refl k at es s inverse told) in
-    let quiet = sym (nothing_there c.refused_for_not_quiet.result (sym c.is_some-2.ensures ∙ c.if-is_some-2.false)) ∙ c.refused_for_not_quiet.ensures in
+    sym free ∙ ap (λ b. last_passing (is_on ks fs place b) (length ks))
+    (c.in-Ok.ensures.fits refl k at es s inverse told) in
+    let quiet = sym (nothing_there c.refused_for_not_quiet.result (sym c.is_some-2.ensures ∙ c.if-is_some-2.false))
+    ∙ c.refused_for_not_quiet.ensures in
     let decided = waits_for now place c.requires.stands None greatest c.get.result.now None c.get.ensures refl quiet in
-    undo_performed now place decided c.requires.stands c.args.plant.now.state refl (Ok tt) c.take_back.new.self c.take_back.new.plant
+    undo_performed now place decided c.requires.stands c.args.plant.now.state refl (Ok tt) c.take_back.new.self
+    c.take_back.new.plant
     c.in-Ok.ensures.done tt tt tt

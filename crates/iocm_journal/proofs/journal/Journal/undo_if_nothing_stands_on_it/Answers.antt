@@ -23,4 +23,6 @@ returns-in-Ok-Some-clause-next c = λ opening h now.
     undo_stopped now c.undo_obstacle.new.plant c.in-Ok-Some.ensures.same (c.args.place + 1) c.in-Ok-Some.why decided
 
 pub returns-in-Err-clause-next : goal.returns-in-Err-clause-next
-returns-in-Err-clause-next c = λ opening h now. undo_lacks now c.undo_obstacle.new.plant c.undo_obstacle.ensures.same c.args.place c.requires.stands
+returns-in-Err-clause-next c =
+    λ opening h now. undo_lacks now c.undo_obstacle.new.plant c.undo_obstacle.ensures.same c.args.place
+    c.requires.stands

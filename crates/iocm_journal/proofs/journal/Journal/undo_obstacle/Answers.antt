@@ -9,11 +9,13 @@ use Rattle.iocm_journal.proofs.UndoCalls.{rules_now, stood_on, waits_for}
 use Rattle.iocm_journal.proofs.journal.Journal.undo_obstacle.Goals as goal
 
 pub stood_on_by-requires : goal.stood_on_by-requires
-stood_on_by-requires c = record { rules = rules_now c.requires.now; place = c.requires.place; changes = c.requires.now.now.journal.effects }
+stood_on_by-requires c =
+    record { rules = rules_now c.requires.now; place = c.requires.place; changes = c.requires.now.now.journal.effects }
 
 pub returns-in-Some-clause-decided : goal.returns-in-Some-clause-decided
 returns-in-Some-clause-decided c = λ opening h now.
-    stood_on now c.args.place c.requires.stands _ c.in_ok-on.ensures.greatest c.in-Some.other c.about.result c.in-Some.is c.about.ensures
+    stood_on now c.args.place c.requires.stands _ c.in_ok-on.ensures.greatest c.in-Some.other c.about.result
+    c.in-Some.is c.about.ensures
 
 pub returns-clause-decided : goal.returns-clause-decided
 returns-clause-decided c = λ opening h now.

@@ -11,7 +11,8 @@ use Rattle.iocm_numbers.proofs.numbers.Numbers.cells_from.Goals as goal
 pub returns : goal.returns
 returns g c =
     c.walk_from.ensures.entries
-    ∙ ap (λ (first : NumberCell). rows_from cell_cmp first (entries (rows cell_cmp c.self.inside.cells))) c.first_cell.ensures
+    ∙ ap (λ (first : NumberCell). rows_from cell_cmp first (entries (rows cell_cmp c.self.inside.cells)))
+    c.first_cell.ensures
     ∙ rows_are_cells c.args.css (entries (rows cell_cmp c.self.inside.cells))
     ∙ ap (λ (m : FinMap cell_cmp ℕ). cells_from c.args.css (entries m)) c.self.invariant.same
     ∙ ap (λ (n : Numbered). cells_from c.args.css (entries (cells_of n.numbers))) c.self.view_is

@@ -13,9 +13,12 @@ pub unreachable-requires : goal.unreachable-requires
 unreachable-requires g c =
     let p = c.args.place.now in
     let n = c.args.self.now.numbers in
-    let none : get n p ≡ None = absent (get n p) (comes_new c.args.walk.now n (p, 0) (sym c.comes_in.ensures.needs ∙ c.if-not-comes_in.false)) in
+    let none : get n p ≡ None =
+    absent (get n p) (comes_new c.args.walk.now n (p, 0) (sym c.comes_in.ensures.needs ∙ c.if-not-comes_in.false))
+    in
     let low : p.device < 65536 = omega (arith, c.number-device.ensures, c.number-device.type_inv) in
-    let found : false ≡ true = c.in_default.ensures.found (room_for_one n p.css p.set p refl refl none low c.are_apart.ensures.small) in cc
+    let found : false ≡ true =
+    c.in_default.ensures.found (room_for_one n p.css p.set p refl refl none low c.are_apart.ensures.small) in cc
 
 pub place-requires-clause-free : goal.place-requires-clause-free
 place-requires-clause-free g c =

@@ -15,7 +15,10 @@ invariant_of-self-2 g c =
     record { here = c.clear_bit.ensures.here; others = c.clear_bit.ensures.others; len = c.clear_bit.ensures.len } in
     subst (λ (ws : List ℕ). AreTied c.take.new.self c.take-2.new.self ws)
     (sym (take_at c.clear_bit.new.words _ c.self.inside.words.len (c.clear_bit.ensures.len ∙ c.deref_mut.ensures.len)))
-    (tied_without c.self.inside.places c.take.new.self c.self.inside.cells c.take-2.new.self c.self.inside.words.items c.clear_bit.new.words
-    c.args.place c.in_ok-number.number c.self.invariant c.cell_of-cell.result c.cell_of-cell.ensures c.bit_of.ensures.set c.bit_of.ensures.number
+    (tied_without c.self.inside.places c.take.new.self c.self.inside.cells c.take-2.new.self c.self.inside.words.items
+    c.clear_bit.new.words
+    c.args.place c.in_ok-number.number c.self.invariant c.cell_of-cell.result c.cell_of-cell.ensures
+    c.bit_of.ensures.set c.bit_of.ensures.number
     c.bit_of.result c.bit_of.ensures.value (sym c.in_ok-number.ensures.before) c.take.ensures.rows c.take-2.ensures.rows
-    (subst (λ (ws : List ℕ). IsWritten ws c.clear_bit.new.words c.bit_of.result false) c.deref_mut.ensures.value written))
+    (subst (λ (ws : List ℕ). IsWritten ws c.clear_bit.new.words c.bit_of.result false) c.deref_mut.ensures.value
+    written))

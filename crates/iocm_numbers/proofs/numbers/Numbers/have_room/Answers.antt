@@ -9,8 +9,10 @@ use Rattle.iocm_numbers.specs.Numbered.{Numbered, cell_at, HasRoom}
 use Rattle.iocm_numbers.proofs.numbers.Numbers.have_room.Goals as goal
 
 pub returns : goal.returns
-returns g c = subst (λ (s : Numbered). (p : Place) (k : ℕ) → get s.numbers p ≡ Some k → HasRoom s p k) c.self.view_is (λ p k has. record {
-  place_has = c.has_places.ensures p (ap is_some has);
-  cell_has = c.has_places-2.ensures (cell_at p k) (ap (λ (m : FinMap cell_cmp ℕ). contains_key m (cell_at p k)) c.self.invariant.same
-      ∙ has_cell (rows place_cmp c.self.inside.places) p k has);
-})
+returns g c = subst (λ (s : Numbered). (p : Place) (k : ℕ) → get s.numbers p ≡ Some k → HasRoom s p k) c.self.view_is
+    (λ p k has. record {
+      place_has = c.has_places.ensures p (ap is_some has);
+      cell_has = c.has_places-2.ensures (cell_at p k)
+          (ap (λ (m : FinMap cell_cmp ℕ). contains_key m (cell_at p k)) c.self.invariant.same
+          ∙ has_cell (rows place_cmp c.self.inside.places) p k has);
+    })

@@ -10,4 +10,6 @@ use Rattle.iocm_numbers.proofs.numbers.Numbers.is_one_held.Given as goal
 abbrev pub invariant-loop-row : goal.invariant-loop-row
 invariant-loop-row g l =
     (l.walk ≡ l.config.records)
-    × IsLooking (comes_in l.config.records l.self.numbers) (λ row. list_any (same_cell row) (entries (without_leavers l.config.records l.self.numbers))) l.carried l.row-index
+    × IsLooking (comes_in l.config.records l.self.numbers)
+    (λ row. list_any (same_cell row) (entries (without_leavers l.config.records l.self.numbers))) l.carried
+    l.row-index

@@ -15,15 +15,27 @@ loop-row-init g c = (
 )
 
 pub returns-then-branch-clause-twice : goal.returns-then-branch-clause-twice
-returns-then-branch-clause-twice g c = notes_again c.args.config.now.records c.args.self.now.numbers c.args.carried.now c.loop-row.row-index _ c.row-item.result
+returns-then-branch-clause-twice g c =
+    notes_again c.args.config.now.records c.args.self.now.numbers c.args.carried.now c.loop-row.row-index _
+    c.row-item.result
     c.loop-row-test.true c.row-item.is c.loop-row.invariant.1
-    (ap (λ (m : Configuration). comes_in m c.args.self.now.numbers c.row-item.result && is_noted (rows cell_cmp c.loop-row.seen) c.row-item.result) (sym c.loop-row.invariant.0) ∙ sym c.in_ok-note.ensures.again ∙ c.if-branch.true)
+    (ap (λ (m : Configuration).
+    comes_in m c.args.self.now.numbers c.row-item.result
+    && is_noted (rows cell_cmp c.loop-row.seen) c.row-item.result) (sym c.loop-row.invariant.0)
+    ∙ sym c.in_ok-note.ensures.again ∙ c.if-branch.true)
 
 pub loop-row-preserved : goal.loop-row-preserved
 loop-row-preserved g c = (
   c.note.ensures.same ∙ c.loop-row.invariant.0,
-  notes_one c.args.config.now.records c.args.self.now.numbers c.args.carried.now c.loop-row.row-index _ _ c.row-item.result
+  notes_one c.args.config.now.records c.args.self.now.numbers c.args.carried.now c.loop-row.row-index _ _
+      c.row-item.result
       c.loop-row-test.true c.row-item.is c.loop-row.invariant.1
-      (c.in_ok-note.ensures.noted ∙ ap (λ (m : Configuration). with_noted m c.args.self.now.numbers (rows cell_cmp c.loop-row.seen) c.row-item.result) c.loop-row.invariant.0)
-      (ap (λ (m : Configuration). comes_in m c.args.self.now.numbers c.row-item.result && is_noted (rows cell_cmp c.loop-row.seen) c.row-item.result) (sym c.loop-row.invariant.0) ∙ sym c.in_ok-note.ensures.again ∙ c.if-branch.false),
+      (c.in_ok-note.ensures.noted
+      ∙ ap (λ (m : Configuration).
+      with_noted m c.args.self.now.numbers (rows cell_cmp c.loop-row.seen) c.row-item.result)
+      c.loop-row.invariant.0)
+      (ap (λ (m : Configuration).
+      comes_in m c.args.self.now.numbers c.row-item.result
+      && is_noted (rows cell_cmp c.loop-row.seen) c.row-item.result) (sym c.loop-row.invariant.0)
+      ∙ sym c.in_ok-note.ensures.again ∙ c.if-branch.false),
 )

@@ -6,7 +6,8 @@ use Rattle.iocm_model.specs.Operation.Step as step
 use Rattle.iocm_model.specs.Operation.Step.{begins_function}
 use Rattle.iocm_seats.specs.Lent.{IsChangedAt}
 use Rattle.iocm_plant.proofs.Between.{same_places_are_kept}
-use Rattle.iocm_plant.proofs.Stepping.{FoundNone, FoundSeat, changed_seat, none_there, still_operating, state_still, same_room, one_there}
+use Rattle.iocm_plant.proofs.Stepping.{FoundNone, FoundSeat, changed_seat, none_there, still_operating, state_still}
+use Rattle.iocm_plant.proofs.Stepping.{same_room, one_there}
 use Rattle.iocm_plant.proofs.Stepping.{operating_after, state_after_step, room_as_before}
 use Rattle.iocm_plant.proofs.plant.Plant.device_begin.Goals as goal
 use Rattle.iocm_plant.proofs.plant.Plant.device_begin.Goals.{In_default, After-set_live}
@@ -22,13 +23,17 @@ none c = record {
 }
 
 -- its seat got that
-seat : (c : After-set_live) → FoundSeat c.args.self.now c.self.inside c.args.subchannel c.in-Some.seat.now c.device_begin-answer.new.live (c.get_mut.follows.lender c.set_live.new.self)
+seat : (c : After-set_live)
+    → FoundSeat c.args.self.now c.self.inside c.args.subchannel c.in-Some.seat.now c.device_begin-answer.new.live
+    (c.get_mut.follows.lender c.set_live.new.self)
 seat c = record {
   is = c.self.view_is;
   before = c.self.invariant.0;
   here = sym c.get_mut.ensures.value ∙ ap option_copied_mut c.in-Some.is;
-  changed = subst (IsChangedAt c.self.inside.seats c.args.subchannel (c.get_mut.follows.lender c.set_live.new.self)) c.set_live.ensures
-      (changed_seat c.get_mut.result c.in-Some.seat c.in-Some.is c.self.inside.seats c.args.subchannel (c.get_mut.follows.lender c.set_live.new.self) c.set_live.new.self
+  changed = subst (IsChangedAt c.self.inside.seats c.args.subchannel (c.get_mut.follows.lender c.set_live.new.self))
+      c.set_live.ensures
+      (changed_seat c.get_mut.result c.in-Some.seat c.in-Some.is c.self.inside.seats c.args.subchannel
+      (c.get_mut.follows.lender c.set_live.new.self) c.set_live.new.self
       (c.get_mut.follows.holds c.set_live.new.self));
 }
 
@@ -36,10 +41,12 @@ pub invariant_of-self : goal.invariant_of-self
 invariant_of-self c = (still_operating (none (goal.at.invariant_of-self c).In_default), c.self.invariant.1)
 
 pub returns-in_default-clause-answer : goal.returns-in_default-clause-answer
-returns-in_default-clause-answer c = sym (ap begins_function (none_there (none (goal.at.returns-in_default-clause-answer c).In_default)))
+returns-in_default-clause-answer c =
+    sym (ap begins_function (none_there (none (goal.at.returns-in_default-clause-answer c).In_default)))
 
 pub returns-in_default-clause-state : goal.returns-in_default-clause-state
-returns-in_default-clause-state c = state_still (none (goal.at.returns-in_default-clause-state c).In_default) step.device_begin
+returns-in_default-clause-state c =
+    state_still (none (goal.at.returns-in_default-clause-state c).In_default) step.device_begin
 
 pub returns-in_default-clause-room : goal.returns-in_default-clause-room
 returns-in_default-clause-room c = same_room (none (goal.at.returns-in_default-clause-room c).In_default)
@@ -48,7 +55,8 @@ pub invariant_of-self-2 : goal.invariant_of-self-2
 invariant_of-self-2 c = (operating_after (seat (goal.at.invariant_of-self-2 c).After-set_live), c.self.invariant.1)
 
 pub returns-clause-answer : goal.returns-clause-answer
-returns-clause-answer c = c.device_begin-answer.ensures.answer ∙ ap (λ (l : Live). orders.is_start_pending l.phase) c.live-record.ensures
+returns-clause-answer c =
+    c.device_begin-answer.ensures.answer ∙ ap (λ (l : Live). orders.is_start_pending l.phase) c.live-record.ensures
     ∙ sym (ap begins_function (one_there (seat (goal.at.returns-clause-answer c).After-set_live)))
 
 pub returns-clause-state : goal.returns-clause-state

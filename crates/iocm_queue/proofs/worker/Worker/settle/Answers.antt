@@ -11,5 +11,6 @@ learn_as-requires-clause-rule g c = learns _ _ (search rules) (search rules)
 
 pub returns-clause-all : goal.returns-clause-all
 returns-clause-all g c =
-    settles c.self.inside.pass c.done.inside.pass c.absorb.new.pass c.done.inside.number c.args.self.now c.args.done c.self.view_is c.done.view_is c.done.invariant.speaks c.absorb.ensures.rule
+    settles c.self.inside.pass c.done.inside.pass c.absorb.new.pass c.done.inside.number c.args.self.now c.args.done
+    c.self.view_is c.done.view_is c.done.invariant.speaks c.absorb.ensures.rule
     c.learn_as.ensures.rule c.requires.over

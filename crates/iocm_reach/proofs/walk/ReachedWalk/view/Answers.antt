@@ -6,6 +6,8 @@ use Rattle.iocm_reach.proofs.walk.ReachedWalk.view.Goals as goal
 
 pub returns-clause-view : goal.returns-clause-view
 returns-clause-view g c =
-    c.view_as.ensures.view ∙ ap (λ (w : Walked). seen_as w c.args.subchannel c.in_ok-name.name) c.in_ok-name.ensures.same
-    ∙ seen_named c.args.self.now (subst (λ (w : Walked). IsKeyed w.records) c.self.view_is c.has_own_keys.ensures) c.args.subchannel
+    c.view_as.ensures.view ∙ ap (λ (w : Walked). seen_as w c.args.subchannel c.in_ok-name.name)
+    c.in_ok-name.ensures.same
+    ∙ seen_named c.args.self.now (subst (λ (w : Walked). IsKeyed w.records) c.self.view_is c.has_own_keys.ensures)
+    c.args.subchannel
     c.in_ok-name.name c.in_ok-name.ensures.name

@@ -9,10 +9,12 @@ returns-in-InSet c =
 
 pub returns-in-Past : goal.returns-in-Past
 returns-in-Past c =
-    noted_claims c.args.self.now c.note.new.self c.args.earlier.now c.args.key c.in-Past.ensures c.note.ensures.keys c.note.ensures.lasts
+    noted_claims c.args.self.now c.note.new.self c.args.earlier.now c.args.key c.in-Past.ensures c.note.ensures.keys
+    c.note.ensures.lasts
 
 pub returns-in_ok-put_all-in-OutOfOrder : goal.returns-in_ok-put_all-in-OutOfOrder
 returns-in_ok-put_all-in-OutOfOrder c =
-    put_claims_after c.put-in-OutOfOrder.result c.args.self.now c.put_all.new.self c.put-in-OutOfOrder.new.self c.args.earlier.now c.args.key
+    put_claims_after c.put-in-OutOfOrder.result c.args.self.now c.put_all.new.self c.put-in-OutOfOrder.new.self
+    c.args.earlier.now c.args.key
     c.in_ok-put_all-in-OutOfOrder.ensures
     c.put-in-OutOfOrder.ensures.added c.put-in-OutOfOrder.ensures.keys c.put-in-OutOfOrder.ensures.lasts

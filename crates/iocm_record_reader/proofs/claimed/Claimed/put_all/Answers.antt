@@ -9,11 +9,13 @@ loop-entry-init c = none_in c.args.self.now.keys c.args.earlier.now
 
 pub loop-entry-preserved : goal.loop-entry-preserved
 loop-entry-preserved c =
-    one_in c.args.self.now.keys c.loop-entry.self.keys c.put.new.self.keys c.args.earlier.now c.loop-entry.entry-index c.entry-item.result c.key.result
+    one_in c.args.self.now.keys c.loop-entry.self.keys c.put.new.self.keys c.args.earlier.now c.loop-entry.entry-index
+    c.entry-item.result c.key.result
     c.loop-entry-test.true c.entry-item.is c.key.ensures c.in_ok-put.ensures.keys c.loop-entry.invariant
 
 pub returns : goal.returns
 returns c =
     all_opened c.args.self.now _ c.args.earlier.now
-    (subst (λ xs. AreIn c.args.self.now.keys c.loop-entry.self.keys xs c.args.earlier.now) (take_all c.loop-entry.entry-index c.args.earlier.now c.loop-entry-test.false) c.loop-entry.invariant)
+    (subst (λ xs. AreIn c.args.self.now.keys c.loop-entry.self.keys xs c.args.earlier.now)
+    (take_all c.loop-entry.entry-index c.args.earlier.now c.loop-entry-test.false) c.loop-entry.invariant)
     refl

@@ -8,8 +8,10 @@ pub returns : goal.returns
 returns g c = (
   (
     refl,
-    (λ w. seat_changed c.self.inside.grid (c.get_mut.follows.lender w) c.args.self.now c.self.view_is c.get_mut.result c.args.subchannel.now w (c.get_mut.follows.holds w)),
-    seats_unchanged c.self.inside.grid c.get_mut.follows.lender-at-none c.args.self.now c.self.view_is c.get_mut.follows.holds-at-none,
+    (λ w. seat_changed c.self.inside.grid (c.get_mut.follows.lender w) c.args.self.now c.self.view_is c.get_mut.result
+        c.args.subchannel.now w (c.get_mut.follows.holds w)),
+    seats_unchanged c.self.inside.grid c.get_mut.follows.lender-at-none c.args.self.now c.self.view_is
+        c.get_mut.follows.holds-at-none,
   ),
   record {
     writes_back = tt;

@@ -17,18 +17,33 @@ returns-in-CHOOSE c =
 
 pub returns-in-RESOURCE : goal.returns-in-RESOURCE
 returns-in-RESOURCE c =
-    let name : c.args.name.now ≡ codes "RESOURCE" = text_from_reads _ _ (omega arith)
-    (omega arith, (omega arith, (omega arith, (omega arith, (omega arith, (omega arith, (omega arith, (omega arith, tt)))))))) in
+    let name : c.args.name.now ≡ codes "RESOURCE" = text_from_reads _ _ (omega arith) (
+      omega arith,
+      (
+        omega arith,
+        (omega arith, (omega arith, (omega arith, (omega arith, (omega arith, (omega arith, tt)))))),
+      ),
+    ) in
     rw name refl
 
 pub returns-in-CNTLUNIT : goal.returns-in-CNTLUNIT
 returns-in-CNTLUNIT c =
-    let name : c.args.name.now ≡ codes "CNTLUNIT" = text_from_reads _ _ (omega arith)
-    (omega arith, (omega arith, (omega arith, (omega arith, (omega arith, (omega arith, (omega arith, (omega arith, tt)))))))) in
+    let name : c.args.name.now ≡ codes "CNTLUNIT" = text_from_reads _ _ (omega arith) (
+      omega arith,
+      (
+        omega arith,
+        (omega arith, (omega arith, (omega arith, (omega arith, (omega arith, (omega arith, tt)))))),
+      ),
+    ) in
     rw name refl
 
 pub returns-in-IODEVICE : goal.returns-in-IODEVICE
 returns-in-IODEVICE c =
-    let name : c.args.name.now ≡ codes "IODEVICE" = text_from_reads _ _ (omega arith)
-    (omega arith, (omega arith, (omega arith, (omega arith, (omega arith, (omega arith, (omega arith, (omega arith, tt)))))))) in
+    let name : c.args.name.now ≡ codes "IODEVICE" = text_from_reads _ _ (omega arith) (
+      omega arith,
+      (
+        omega arith,
+        (omega arith, (omega arith, (omega arith, (omega arith, (omega arith, (omega arith, tt)))))),
+      ),
+    ) in
     rw name refl

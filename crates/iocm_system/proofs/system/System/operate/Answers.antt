@@ -4,4 +4,5 @@ use Rattle.iocm_system.proofs.system.System.operate.Goals as goal
 
 pub returns-clause-made : goal.returns-clause-made
 returns-clause-made g c =
-    ok_made c.make.result c.me.inside.seat c.make.new.me c.args.me.now c.args.call c.me.view_is c.make.ensures.asked c.make.ensures.receipt
+    ok_made c.make.result c.me.inside.seat c.make.new.me c.args.me.now c.args.call c.me.view_is c.make.ensures.asked
+    c.make.ensures.receipt

@@ -9,7 +9,8 @@ pub returns-clause-entries : goal.returns-clause-entries
 returns-clause-entries g c = ap present (c.range.ensures.between tt)
     ∙ present_filter (λ q. is_le (g.K.Ord.cmp c.args.from.now q) && true) c.self.inside.slots.entries
     ∙ (λ i. filter (λ e. and_true (is_le (g.K.Ord.cmp c.args.from.now e.0)) i) (present c.self.inside.slots.entries))
-    ∙ rows_from_key g.met.K.TableKey.is_cmp c.self.inside.slots c.args.self.now c.self.view_is c.self.invariant.rise c.args.from.now
+    ∙ rows_from_key g.met.K.TableKey.is_cmp c.self.inside.slots c.args.self.now c.self.view_is c.self.invariant.rise
+    c.args.from.now
 
 pub returns-clause-fits : goal.returns-clause-fits
 returns-clause-fits g c = fits c.range.result c.range.ensures.fits

@@ -10,4 +10,6 @@ abbrev pub decreases-deepest_within : goal.decreases-deepest_within
 decreases-deepest_within g l = 2 * l.most + 1
 
 abbrev pub invariant-deepest_within-loop-part : goal.invariant-deepest_within-loop-part
-invariant-deepest_within-loop-part g l = max l.deepest (min l.most (depth_in (plain_parts (parts_of (drop l.part-index l.part-items))))) ≡ min l.most (depth_in (plain_parts (parts_of l.parts.items)))
+invariant-deepest_within-loop-part g l =
+    max l.deepest (min l.most (depth_in (plain_parts (parts_of (drop l.part-index l.part-items)))))
+    ≡ min l.most (depth_in (plain_parts (parts_of l.parts.items)))

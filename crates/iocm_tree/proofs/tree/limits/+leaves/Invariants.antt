@@ -15,4 +15,6 @@ decreases-leaves_among g l = 3 * nodes_among (map tree_of l.parts.now.items) + 1
 
 abbrev pub invariant-leaves_among-loop-part : goal.invariant-leaves_among-loop-part
 invariant-leaves_among-loop-part g l =
-    (l.left ≤ l.most) × (min l.most ((l.most - l.left) + leaves_in (plain_parts (parts_of (drop l.part-index l.part-items)))) ≡ min l.most (leaves_in (plain_parts (parts_of l.parts.items))))
+    (l.left ≤ l.most) × (min l.most
+    ((l.most - l.left) + leaves_in (plain_parts (parts_of (drop l.part-index l.part-items))))
+    ≡ min l.most (leaves_in (plain_parts (parts_of l.parts.items))))

@@ -11,4 +11,6 @@ abbrev pub decreases-count_among : goal.decreases-count_among
 decreases-count_among g l = 2 * nodes_among (map tree_of l.parts.now.items) + 1
 
 abbrev pub invariant-count_among-loop-part : goal.invariant-count_among-loop-part
-invariant-count_among-loop-part g l = l.count + nodes_in (plain_parts (parts_of (drop l.part-index l.part-items))) ≡ nodes_in (plain_parts (parts_of l.parts.items))
+invariant-count_among-loop-part g l =
+    l.count + nodes_in (plain_parts (parts_of (drop l.part-index l.part-items)))
+    ≡ nodes_in (plain_parts (parts_of l.parts.items))
