@@ -1,4 +1,4 @@
-"""The list of contracts: `page()` is the text of docs/CONTRACTS.md, made of the public functions in the src/ of all crates.
+"""The list of contracts: `page()` is the text of out/pages/CONTRACTS.md, made of the public functions in src/.
 
 A function has its premises (`requires`), its clauses (`ensures`) by their names, and the first sentence of its comment.
 """
@@ -11,7 +11,7 @@ HEAD = """# Contracts
 Written by `tests/pages --write` from the sources: change comments and clauses there, not here. Each
 public function has the first sentence of its comment, the names of its premises after *needs*, and
 the names of its clauses after *gives*. A clause without a name is in the source alone. A function
-that does nothing is a law. [PROMISES.md](PROMISES.md) is the page to begin with.
+that does nothing is a law. [PROMISES.md](../../docs/PROMISES.md) is the page to begin with.
 """
 OWNER = re.compile(r"^(?:impl|pub trait|trait)\b(?:<[^{]*?>)? (?:[\w:]+(?:<.*>)? for )?(\w+)")
 FUNCTION = re.compile(r"^ *pub fn (\w+)")
@@ -38,7 +38,7 @@ def clauses_after(lines):
 
 
 def contracts_in(text):
-    """Each public function of a source: its name after its type's, the first sentence of its comment, premises, clauses."""
+    """Each public function of a source: name after its type's, first sentence of its comment, premises, clauses."""
     lines, owner, comment = text.split("\n"), "", []
     for at, line in enumerate(lines):
         found = OWNER.match(line)
@@ -69,10 +69,14 @@ def line_of(name, said, premises, clauses):
     return tree.item("".join(parts))
 
 
+def of_crate(crate):
+    return [found for path in tree.files(f"crates/{crate}/src", ".rt") for found in contracts_in(tree.read(path))]
+
+
 def page():
     parts = [HEAD]
     for crate in tree.crates():
-        rows = [line_of(*found) for path in tree.files(f"crates/{crate}/src", ".rt") for found in contracts_in(tree.read(path))]
+        rows = [line_of(*found) for found in of_crate(crate)]
         if rows:
             parts.append(f"## {crate}\n\n" + "\n".join(rows) + "\n")
     return "\n".join(parts)

@@ -1,4 +1,7 @@
-"""The table of crates in docs/ARCHITECTURE.md: `text()`, from crates.txt and the first paragraph of each lib.rt or main.rt."""
+"""The table of crates in docs/ARCHITECTURE.md: `text()`.
+
+It is made of crates.txt and the first paragraph of each lib.rt or main.rt.
+"""
 from . import tree
 
 

@@ -1,4 +1,4 @@
-"""The index of definitions: `page()` is the text of docs/INDEX.md, made of the comments in the specs/ of all crates."""
+"""The index of definitions: `page()` is the text of out/pages/INDEX.md, made of the comments in specs/."""
 import re
 
 from . import tree
@@ -7,27 +7,42 @@ HEAD = """# Index of definitions
 
 Written by `tests/pages --write` from the comments in `specs/`: change them there, not here. Each
 file has what its head says, and then its definitions with the comment of each.
-[DEFINITIONS.md](DEFINITIONS.md) is the page to begin with.
+[DEFINITIONS.md](../../docs/DEFINITIONS.md) is the page to begin with.
 """
-DEFINED = re.compile(r"(?:(?:abbrev|unfoldable|irreducible|opaque) )*(?:pub )?(?:(?:record|data|mutual) )?(?:pub )?([^\s:({]+)")
-OPENS = ("abbrev pub ", "pub record ", "pub data ", "unfoldable pub ", "abbrev mutual pub ", "irreducible pub ", "opaque pub ")
+HOW = r"(?:(?:abbrev|unfoldable|irreducible|opaque) )*"
+DEFINED = re.compile(HOW + r"(?:pub )?(?:(?:record|data|mutual) )?(?:pub )?([^\s:({]+)")
+OPENS = (
+    "abbrev pub ",
+    "pub record ",
+    "pub data ",
+    "unfoldable pub ",
+    "abbrev mutual pub ",
+    "irreducible pub ",
+    "opaque pub ",
+)
 
 
-def name_in(line):
-    """The name that a line defines, or None."""
-    return DEFINED.match(line).group(1) if line.startswith(OPENS) else None
+def name_in(line, mutual):
+    """The name that a line defines, or None. Among mutual definitions one needs no word before `pub`."""
+    is_one = line.strip().startswith(OPENS) or (mutual and line.startswith("  pub "))
+    return DEFINED.match(line.strip()).group(1) if is_one else None
 
 
 def definitions_in(text):
-    """The head of a file of specs/, and its definitions: each name with its comment. Names that follow one comment share it."""
-    comment, head, found = [], None, []
+    """The head of a file of specs/, and its definitions: each name with its comment.
+
+    Names that follow one comment share it.
+    """
+    comment, head, found, mutual = [], None, [], False
     for line in text.split("\n"):
-        if line.startswith("-- "):
-            comment.append(line[3:])
+        if line.strip().startswith("-- "):
+            comment.append(line.strip()[3:])
             continue
         if head is None and (comment or line):
             head, comment = " ".join(comment), []
-        name = name_in(line)
+        if line and not line.startswith(" "):
+            mutual = line.endswith("mutual")
+        name = name_in(line, mutual)
         if name:
             found.append((name, " ".join(comment)))
         if line:
@@ -48,16 +63,23 @@ def escaped(comment):
     return re.sub(r"([*_<\[\]|])", r"\\\1", comment)
 
 
+def of_crate(crate):
+    """The files of a crate's specs/ that define something: each with its name there, its head and its definitions."""
+    room = f"crates/{crate}/specs"
+    for path in tree.files(room, ".antt"):
+        head, found = definitions_in(tree.read(path))
+        if found:
+            yield path[len(room) + 1 : -len(".antt")], head, found
+
+
 def page():
     parts = [HEAD]
     for crate in tree.crates():
-        room = f"crates/{crate}/specs"
-        listed = [(path, *definitions_in(tree.read(path))) for path in tree.files(room, ".antt")]
-        listed = [(path, head, found) for path, head, found in listed if found]
+        listed = list(of_crate(crate))
         if listed:
             parts.append(f"## {crate}\n")
-        for path, head, found in listed:
+        for file, head, found in listed:
             said = f" {escaped(head)}" if head else ""
-            head = tree.item(f"**{path[len(room) + 1 : -len('.antt')]}**{said}").replace("\n  ", "\n")
+            head = tree.item(f"**{file}**{said}").replace("\n  ", "\n")
             parts.append(head + "\n\n" + "\n".join(lines_of(found)) + "\n")
     return "\n".join(parts)

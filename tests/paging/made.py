@@ -1,9 +1,7 @@
-"""The pages as they are to be: `pages()` has the text of each page that has something made by a tool, by its path."""
-import os
-
+"""What a tool makes of the sources, by path: `pages()` are pages with their tables, `listings()` lists below out/."""
 from . import contracts, crate_table, definitions, minutes, promises, tree
 
-WHOLE = {"docs/INDEX.md": definitions.page, "docs/CONTRACTS.md": contracts.page}
+LISTINGS = {"out/pages/INDEX.md": definitions.page, "out/pages/CONTRACTS.md": contracts.page}
 BETWEEN_MARKS = {
     "docs/ARCHITECTURE.md": ("crates", crate_table.text),
     "docs/PROMISES.md": ("promises", promises.text),
@@ -40,20 +38,19 @@ def replaced(page, name, text):
 
 
 def pages():
-    made = {path: page() for path, page in WHOLE.items()}
-    for path, (name, text) in BETWEEN_MARKS.items():
-        made[path] = replaced(tree.read(path), name, text())
-    return made
+    return {path: replaced(tree.read(path), name, text()) for path, (name, text) in BETWEEN_MARKS.items()}
+
+
+def listings():
+    return {path: page() for path, page in LISTINGS.items()}
 
 
 def by_hand(path):
     """What is written by hand of a page."""
-    if path in WHOLE:
-        return ""
     name = BETWEEN_MARKS.get(path, ("",))[0]
     return without_made(tree.read(path), name) if name else tree.read(path)
 
 
-def write(path, text):
-    with open(os.path.join(tree.TOP, path), "w", encoding="utf-8") as file:
-        file.write(text)
+def write_all():
+    for path, text in {**pages(), **listings()}.items():
+        tree.write(path, text)

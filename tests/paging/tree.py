@@ -1,4 +1,7 @@
-"""Where files are, and how they are read: `read(PATH)`, with paths from the top of the repository; `crates()` in their order."""
+"""Where files are, and how they are read and written: `read(PATH)`, with paths from the top of the repository.
+
+`crates()` are in their order.
+"""
 import os
 import textwrap
 
@@ -12,6 +15,14 @@ def read(path):
         return ""
     with open(where, encoding="utf-8") as file:
         return file.read()
+
+
+def write(path, text):
+    """Writes a file, and makes its folder if it isn't there."""
+    where = os.path.join(TOP, path)
+    os.makedirs(os.path.dirname(where), exist_ok=True)
+    with open(where, "w", encoding="utf-8") as file:
+        file.write(text)
 
 
 def files(folder, suffix):
@@ -28,7 +39,10 @@ def groups():
 
 
 def groups_in(text):
-    """The groups of a text like crates.txt. The line before a group's crates says what it is; a paragraph without crates is none."""
+    """The groups of a text like crates.txt. The line before a group's crates says what it is.
+
+    A paragraph without crates is none.
+    """
     found = []
     for paragraph in text.split("\n\n"):
         lines = paragraph.strip().split("\n")
