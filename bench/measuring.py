@@ -1,4 +1,5 @@
-"""What the measuring programs of `bench/tables`, `bench/edits` and `bench/calls` share: how they are built, run and read."""
+"""What the measuring programs of `bench/tables`, `bench/edits` and `bench/calls` share:
+how they are built, run and read."""
 import os
 import shutil
 import statistics
@@ -32,7 +33,8 @@ def run_rt(words, folder):
 
 
 def copy_program(program, home):
-    """Copies a measuring program to its home, without the `.txt` that keeps `rt ci` from taking its files for stray ones."""
+    """Copies a measuring program to its home, without the `.txt` that keeps `rt ci` from taking its
+    files for stray ones."""
     source = os.path.join(TOP, "bench", f"{program}-program")
     for folder, _, names in os.walk(source):
         target = os.path.join(home, os.path.relpath(folder, source))
@@ -42,8 +44,8 @@ def copy_program(program, home):
 
 
 def built(room, program, stands_on, words, shared=None):
-    """Proves and builds a measuring program in a copy of the crates that it stands on, and runs it with these words; the path of what
-    was built. It may share files with another program, which is named first."""
+    """Proves and builds a measuring program in a copy of the crates that it stands on, and runs it with these words;
+    the path of what was built. It may share files with another program, which is named first."""
     below = crates_below(stands_on)
     for crate in below:
         run_rt(["lib"], os.path.join(TOP, "crates", crate))
@@ -59,7 +61,8 @@ def built(room, program, stands_on, words, shared=None):
     copy_program(program, home)
     other, files = shared or (program, ())
     for name in files:
-        shutil.copy(os.path.join(TOP, "bench", f"{other}-program", "src", f"{name}.rt.txt"), os.path.join(home, "src", f"{name}.rt"))
+        source = os.path.join(TOP, "bench", f"{other}-program", "src", f"{name}.rt.txt")
+        shutil.copy(source, os.path.join(home, "src", f"{name}.rt"))
     shutil.copy(os.path.join(TOP, "HANDLES"), room)
     with open(os.path.join(room, "crates.txt"), "w", encoding="utf-8") as file:
         file.writelines(below.values())

@@ -39,13 +39,15 @@ def end_cleanly():
 
 @contextlib.contextmanager
 def started(words, **how):
-    """A command in a session of its own, so that a Ctrl-C comes to us alone, and without standard input; it is ended at the end.
+    """A command in a session of its own, so that a Ctrl-C comes to us alone,
+    and without standard input; it is ended at the end.
 
     No signal leaves between the start and our knowledge of it, or before the command has ended.
     """
     child, ENDING.is_held = None, True
     try:
-        child = subprocess.Popen(words, stdin=subprocess.DEVNULL, stderr=subprocess.STDOUT, start_new_session=True, **how)
+        how = {"stdin": subprocess.DEVNULL, "stderr": subprocess.STDOUT, "start_new_session": True, **how}
+        child = subprocess.Popen(words, **how)
         ENDING.release()
         yield child
     finally:
@@ -93,7 +95,8 @@ class Steps:
 
     def begin(self, text):
         self.end()
-        self.done, self.text, self.since = self.done + 1, f"{text} ({self.done + 1} of {self.number}) ..", time.monotonic()
+        self.done, self.since = self.done + 1, time.monotonic()
+        self.text = f"{text} ({self.done} of {self.number}) .."
         if self.is_seen:
             self.tick()
         else:

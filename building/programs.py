@@ -1,4 +1,5 @@
-"""The folder in the user's cache where programs are kept, each under the number of its sources, so that no name leads to another."""
+"""The folder in the user's cache where programs are kept, each under the number of its sources,
+so that no name leads to another."""
 import os
 
 from .answers import Refused
@@ -29,7 +30,8 @@ class Programs:
             os.makedirs(self.folder, mode=0o700, exist_ok=True)
             at = os.stat(self.folder)
         except OSError as error:
-            raise Refused(f"{self.folder} can't be made, and programs are kept there ({error.strerror}): {ANOTHER}") from error
+            why = f"programs are kept there ({error.strerror}): {ANOTHER}"
+            raise Refused(f"{self.folder} can't be made, and {why}") from error
         if at.st_uid != os.geteuid():
             raise Refused(f"{self.folder} isn't yours, and programs are kept there: {ANOTHER}")
         if at.st_mode & 0o077:

@@ -1,7 +1,7 @@
 """Proves the program's crates by `rt ci`, on a copy of them, and builds the program.
 
-What `rt ci` proves it keeps on this machine, crate by crate. So a run that was stopped goes on where it was, sources may be edited
-meanwhile, and what is proved here counts for the gate too.
+What `rt ci` proves it keeps on this machine, crate by crate. So a run that was stopped goes on where it was,
+sources may be edited meanwhile, and what is proved here counts for the gate too.
 """
 import os
 import re
@@ -58,7 +58,8 @@ class Progress:
             return
         size, passed = self.left.pop(name), time.monotonic() - self.begun
         self.proved += 0 if is_kept else size
-        text = f"{name} {'was proved before' if is_kept else 'is proved'}: {len(self.sizes) - len(self.left)} of {len(self.sizes)}"
+        done = f"{len(self.sizes) - len(self.left)} of {len(self.sizes)}"
+        text = f"{name} {'was proved before' if is_kept else 'is proved'}: {done}"
         text += f", after {in_words(passed)}"
         if self.proved and self.left:
             text += f", about {in_words(passed * sum(self.left.values()) / self.proved)} left"
@@ -69,7 +70,8 @@ def build(top, kit, sources, room):
     """The path of the program that `rt ci` proved and built."""
     to = f"{room}/tree"
     if shutil.disk_usage(room).free < DISK:
-        raise Refused(f"fewer than 3 GB are free in {room}, and proofs need them: set XDG_CACHE_HOME to a folder on another disk")
+        hint = "set XDG_CACHE_HOME to a folder on another disk"
+        raise Refused(f"fewer than 3 GB are free in {room}, and proofs need them: {hint}")
     copy_sources(top, sources, to)
     say(f"proving {len(sources.crates)} crates but those that are proved on this machine; {HINT}")
     progress = Progress({name: bytes_below(f"{to}/crates/{name}") for name in sources.crates})

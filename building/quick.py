@@ -1,8 +1,9 @@
 """Builds the program without proofs, with the checks at run time that `rt try` puts in.
 
-`rt try` reads all crates and the kit's libraries as source, makes one module of LLVM of them, has clang compile it slowly with a
-sanitizer, and keeps nothing. So it runs here in a stand-in for the kit whose clang keeps the module and ends it there. The module is
-then compiled whole, by the kit's clang, with the words that `rt try` had for it but for the level and the sanitizer.
+`rt try` reads all crates and the kit's libraries as source, makes one module of LLVM of them, has clang compile
+it slowly with a sanitizer, and keeps nothing. So it runs here in a stand-in for the kit whose clang keeps the
+module and ends it there. The module is then compiled whole, by the kit's clang, with the words that `rt try` had
+for it but for the level and the sanitizer.
 """
 import os
 import shlex
@@ -49,8 +50,8 @@ def links(source, target, but):
 def stand_in(kit, room):
     """A kit that is the other but for three commands, and its `rt`.
 
-    Of `rt` and its library it has copies, since they find their kit by their real path. `rattle` does nothing: `rt try` starts it
-    beside, for a hint on names alone. clang is the one that keeps the module.
+    Of `rt` and its library it has copies, since they find their kit by their real path. `rattle` does nothing:
+    `rt try` starts it beside, for a hint on names alone. clang is the one that keeps the module.
     """
     to = os.path.join(room, "kit")
     links(kit.folder, to, ("bin", "toolchain"))

@@ -1,4 +1,5 @@
-"""Rooms in the cache, where programs are built, and how a built one comes to its name: whole, by one renaming, or not at all."""
+"""Rooms in the cache, where programs are built, and how a built one comes to its name:
+whole, by one renaming, or not at all."""
 import contextlib
 import fcntl
 import os

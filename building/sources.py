@@ -1,7 +1,8 @@
 """Which files the program is made of, and the numbers that tell one state of them from another.
 
-The number of the `code` is that of all that a program without proofs is built from, the number of the `proofs` that of all that is
-read where it is proved. Each is a sum of names and texts, so a change that is taken back has the old number again.
+The number of the `code` is that of all that a program without proofs is built from, the number of the
+`proofs` that of all that is read where it is proved. Each is a sum of names and texts, so a change
+that is taken back has the old number again.
 """
 import os
 import time
@@ -15,7 +16,8 @@ SETTLED = 2_000_000_000
 
 
 def crates_of(text, name=PROGRAM):
-    """The lines of crates.txt that a crate needs, by name, in their order there: its own and those of all crates below it."""
+    """The lines of crates.txt that a crate needs, by name, in their order there:
+    its own and those of all crates below it."""
     lines = {}
     for line in text.splitlines():
         head, colon, below = line.partition("#")[0].partition(":")
@@ -63,9 +65,11 @@ class Sources:
         return sorted(found)
 
     def number(self, of, kept):
-        """The number of the code or of the proofs as they are now; `kept` has that of the last listing, if no file has changed since.
+        """The number of the code or of the proofs as they are now;
+        `kept` has that of the last listing, if no file has changed since.
 
-        A listing has ctime too, since `cp -p`, `tar` and `touch -d` set the other time back, and this file, which says how is counted.
+        A listing has ctime too, since `cp -p`, `tar` and `touch -d` set the other time back, and this file,
+        which says how is counted.
         """
         found, lines = self.files(of), "".join(self.crates.values())
         listed = [*found, (__file__, os.stat(__file__))]

@@ -1,10 +1,14 @@
-"""Which declarations there are below crates/, and which of them nothing cites: `read_all(top)`, then `dead_among(texts)`."""
+"""Which declarations there are below crates/, and which of them nothing cites:
+`read_all(top)`, then `dead_among(texts)`."""
 import collections
 import os
 import re
 
 TOKEN = re.compile(r"[^\s()\[\]{},;.]+")
-SIGNATURE = re.compile(r"^( *)(?:abbrev )?(?:pub )?(?:abbrev )?(?:unfoldable )?(?:opaque )?(?:pub )?([^\s:(){},;]+) :(?: |$)")
+SIGNATURE = re.compile(
+    r"^( *)(?:abbrev )?(?:pub )?(?:abbrev )?(?:unfoldable )?(?:opaque )?(?:pub )?"
+    r"([^\s:(){},;]+) :(?: |$)"
+)
 KEYWORD = re.compile(r"^( *)(?:pub |abbrev |unfoldable )*(data|record|module|use|variable|ruleset|open|infix\w*|mod)\b")
 # what the kit looks for by itself
 ENTRIES = ("Answers.antt", "Invariants.antt", "Proof.antt", "Lib.antt")
@@ -68,8 +72,9 @@ def declared_in(path, text):
             elif not word and at[2] != "where":
                 now, depth = Declared(path, at[2], number), indent
                 found.append(now)
-        elif now is not None and line.strip() and indent <= depth and "◌" not in now.name and not goes_on(line, now.name):
-            now = None
+        elif now is not None and line.strip() and indent <= depth:
+            if "◌" not in now.name and not goes_on(line, now.name):
+                now = None
         if now is not None:
             now.lines.append(line)
             if line.strip():
@@ -78,7 +83,8 @@ def declared_in(path, text):
 
 
 def cited_in(plain):
-    """How often each word is cited: in all texts, plain imports left out. A name that is passed on to other crates is cited."""
+    """How often each word is cited: in all texts, plain imports left out.
+    A name that is passed on to other crates is cited."""
     cited = collections.Counter()
     for path, text in plain.items():
         cited.update(words_of(text))

@@ -1,7 +1,7 @@
 """Takes lemmas out of the texts of proofs: `remove(texts, dead)` changes the texts, and says which crates changed.
 
-With a lemma go its comments, the imports that name it, a module that declares nothing then, and a file that has nothing left, with
-its `mod` line.
+With a lemma go its comments, the imports that name it, a module that declares nothing then,
+and a file that has nothing left, with its `mod` line.
 """
 import collections
 import os

@@ -10,8 +10,8 @@ LARGEST_HEAP = ("--heap", "16777216")
 
 
 class Case:
-    """The files and the runs of a case. A property is tried by `need`, which keeps what is wrong. Of a deck all commands are
-    tried, or `check` alone."""
+    """The files and the runs of a case. A property is tried by `need`, which keeps what is wrong.
+    Of a deck all commands are tried, or `check` alone."""
 
     def __init__(self, program, tally, dice, is_check_alone=False):
         self.program, self.tally, self.dice, self.is_check_alone = program, tally, dice, is_check_alone

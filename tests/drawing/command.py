@@ -85,7 +85,8 @@ class Worker:
         self.printed += 1
         case.keep(folder)
         checks = f" {CHECKS}" if self.options[CHECKS] else ""
-        lines = [f"case {number} failed: tests/drawn {self.binary}{checks} --seed {seed} --only {number}", f"  files: {folder}"]
+        again = f"tests/drawn {self.binary}{checks} --seed {seed} --only {number}"
+        lines = [f"case {number} failed: {again}", f"  files: {folder}"]
         lines += [f"  {name}: {text}" for name, text in case.faults[:3]]
         print("\n".join(lines), flush=True)
 

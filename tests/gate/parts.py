@@ -1,7 +1,7 @@
 """The table of parts: what each runs, and how its counts are told.
 
-A part prints a line of its word, as `cases: N passed, M failed`. Processor time is told by kind. The longest come first, so that the
-last to end isn't one that has only begun.
+A part prints a line of its word, as `cases: N passed, M failed`. Processor time is told by kind.
+The longest come first, so that the last to end isn't one that has only begun.
 """
 from collections import namedtuple
 

@@ -1,6 +1,7 @@
 """The gate: proves all, tries planted mistakes, and runs all other parts on the program that the proof left.
 
-It tells the processor minutes of each kind of work, and writes them to out/gate.tsv. More of them than the budget is a failure.
+It tells the processor minutes of each kind of work, and writes them to out/gate.tsv.
+More of them than the budget is a failure.
 """
 import os
 

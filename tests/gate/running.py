@@ -53,7 +53,8 @@ class Running:
 
 
 def side_by_side(parts, room, program, lanes):
-    """The result of each part, as soon as it is there; at most so many run at once. A signal to end is looked for in each round."""
+    """The result of each part, as soon as it is there; at most so many run at once.
+    A signal to end is looked for in each round."""
     waiting, running, ENDING.is_held = list(parts), {}, True
     try:
         while (waiting or running) and not ENDING.number:

@@ -42,7 +42,8 @@ def parts_in(room):
 
 
 def counts_side_by_side(room):
-    got = {result.part.name: (result.passed, result.failed) for result in running.side_by_side(parts_in(room), room, "", 3)}
+    results = running.side_by_side(parts_in(room), room, "", 3)
+    got = {result.part.name: (result.passed, result.failed) for result in results}
     return got == {name: (passed, failed) for name, (_, passed, failed) in PRINTS.items()} or got
 
 
@@ -87,7 +88,8 @@ def ends_what_runs_when_it_is_told_to(room):
 
 def runs_no_more_at_once_than_it_may(room):
     """Each part counts those that run beside it."""
-    text = 'cd "$(dirname "$0")"; touch running-$$; ls | grep -c running- >>most; sleep 0.2; rm running-$$; echo some: 1 passed, 0 failed'
+    counted = "touch running-$$; ls | grep -c running- >>most; sleep 0.2; rm running-$$"
+    text = f'cd "$(dirname "$0")"; {counted}; echo some: 1 passed, 0 failed'
     parts = [Part(f"p{number}", script(room, f"p{number}", text), "some: ", "cases") for number in range(6)]
     list(running.side_by_side(parts, room, "", 2))
     with open(os.path.join(room, "most"), encoding="utf-8") as file:
@@ -112,11 +114,13 @@ def gives_each_part_the_program(room):
 
 
 def proves_first(room):
-    """Then come the other parts, on the program that was left; minutes are told by kind, and more than the budget is a failure."""
+    """Then come the other parts, on the program that was left;
+    minutes are told by kind, and more than the budget is a failure."""
     counts = "echo some: 1 passed, 0 failed"
     note, program = os.path.join(room, "out", "gate.tsv"), os.path.join(room, "left")
-    alone = Part("proofs", script(room, "proves", f"echo '#!/bin/sh' >{program}; echo '{counts}' >>{program}; {counts}"), "some: ", "proofs")
-    given = {"ALONE": (alone,), "SIDE_BY_SIDE": (Part("cases", "sh {program}", "some: ", "cases"),), "PROVED": program, "NOTE": note}
+    proves = script(room, "proves", f"echo '#!/bin/sh' >{program}; echo '{counts}' >>{program}; {counts}")
+    alone, beside = Part("proofs", proves, "some: ", "proofs"), Part("cases", "sh {program}", "some: ", "cases")
+    given = {"ALONE": (alone,), "SIDE_BY_SIDE": (beside,), "PROVED": program, "NOTE": note}
     found, said = [], io.StringIO()
     for budget in (240, -1):
         with mock.patch.multiple(proved, BUDGET=budget, **given), contextlib.redirect_stdout(said):
@@ -131,8 +135,8 @@ def proves_first(room):
 def fails_without_a_program(room):
     """The count of what was proved stays."""
     alone = Part("proofs", script(room, "proves", "echo some: 7 passed, 2 failed"), "some: ", "proofs")
-    note = os.path.join(room, "out", "gate.tsv")
-    with mock.patch.multiple(proved, ALONE=(alone,), PROVED=os.path.join(room, "none"), NOTE=note), contextlib.redirect_stdout(io.StringIO()):
+    given = {"ALONE": (alone,), "PROVED": os.path.join(room, "none"), "NOTE": os.path.join(room, "out", "gate.tsv")}
+    with mock.patch.multiple(proved, **given), contextlib.redirect_stdout(io.StringIO()):
         got = proved.run(room, 2)
     return got == (7, 3) or got
 

@@ -58,7 +58,8 @@ def of_examples():
     words = [[*word, deck] for word in (["check"], ["check", "--all"], ["show"], ["write"]) for deck in decks]
     words += [["diff", *old, deck, "base.deck"] for old in ([], ["--old"]) for deck in decks]
     words += [["diff", *old, "base.deck", deck] for old in ([], ["--old"]) for deck in decks]
-    words += [["apply", "base.deck", change, *report] for change in changes for report in ([], *([it] for it in REPORTS))]
+    reports = [[], *([it] for it in REPORTS)]
+    words += [["apply", "base.deck", change, *report] for change in changes for report in reports]
     words += [["explain"], ["explain", "V14"], ["--help"], ["--version"], ["check", "--help"], ["check"]]
     return [Command(tuple(it), EXAMPLES) for it in words] + scripts()
 

@@ -101,7 +101,8 @@ long syscall(long asked, ...) {
     va_start(more, asked);
     for (int place = 0; place < 6; place++) of[place] = va_arg(more, long);
     va_end(more);
-    int asks = of[1] & FUTEX_CMD_MASK, does_wait = asked == SYS_futex && (asks == FUTEX_WAIT || asks == FUTEX_WAIT_BITSET);
+    int asks = of[1] & FUTEX_CMD_MASK;
+    int does_wait = asked == SYS_futex && (asks == FUTEX_WAIT || asks == FUTEX_WAIT_BITSET);
     return does_wait && is_refused('s', 0) ? -1 : real_syscall(asked, of[0], of[1], of[2], of[3], of[4], of[5]);
 }
 """

@@ -15,8 +15,8 @@ SHOWN = 200  # bytes of an output
 
 
 class Measured(NamedTuple):
-    """The exit status, how much was printed, its beginning and its last line; what was said on standard error; processor
-    seconds and the most memory in MB."""
+    """The exit status, how much was printed, its beginning and its last line; what was said on standard error;
+    processor seconds and the most memory in MB."""
 
     status: int
     count: int

@@ -22,6 +22,12 @@ FULL = "/dev/full"
 MANY = 30  # change decks
 FEW_DESCRIPTORS = 16
 SMALL_FILE = 64  # bytes
+ENDED_EARLY = (
+    ("explain",),
+    ("show", "grown.deck"),
+    ("check", "refused.deck"),
+    ("apply", "base.deck", "grown.change"),
+)
 
 
 def tried(program, tally, is_all):
@@ -55,7 +61,8 @@ def try_without_output(program, tally, right):
     tally.note(unwritten(right, got), command, "standard output is closed", got)
     got = program.run(command, preexec_fn=close_all, stdout=None, stderr=None)
     is_said = right.whole.out or right.whole.status == NOT_UNDERSTOOD
-    tally.note("L6" if got.status == (FAULT if is_said else right.whole.status) else None, command, "all three are closed", got)
+    wanted = FAULT if is_said else right.whole.status
+    tally.note("L6" if got.status == wanted else None, command, "all three are closed", got)
     with open(FULL, "wb") as full:
         got = program.run(command, stdout=full)
     tally.note(unwritten(right, got), command, "standard output is full", got)
@@ -125,13 +132,14 @@ def try_without_error(program, tally, right):
 
 def try_early_ends(program, tally):
     """The reader takes one line and ends, as `head -1`; or one byte."""
-    for words in (("explain",), ("show", "grown.deck"), ("check", "refused.deck"), ("apply", "base.deck", "grown.change")):
+    for words in ENDED_EARLY:
         command = Command(words, commands.EXAMPLES)
         right = Right(command, program.run(command))
         for taken in (1, 80):
             got = run_to_reader(program, command, taken)
             is_right = right.is_unwritten(got) or right.is_answer(got._replace(out=right.whole.out))
-            tally.note("L6 or answered" if is_right and right.whole.out.startswith(got.out) else None, command, "an early end", got)
+            way = "L6 or answered" if is_right and right.whole.out.startswith(got.out) else None
+            tally.note(way, command, "an early end", got)
 
 
 def run_to_reader(program, command, count):

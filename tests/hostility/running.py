@@ -56,9 +56,9 @@ class Program:
 def answer_of(words, command, how):
     """What some words answer in the folder of a command, and with its standard input."""
     given = {} if "stdin" in how else {"input": command.given} if command.given else {"stdin": subprocess.DEVNULL}
-    asked = {"cwd": command.room, "stdout": subprocess.PIPE, "stderr": subprocess.PIPE, "timeout": LONGEST, **given, **how}
+    asked = {"cwd": command.room, "stdout": subprocess.PIPE, "stderr": subprocess.PIPE, "timeout": LONGEST}
     try:
-        got = subprocess.run(words, **asked)
+        got = subprocess.run(words, **{**asked, **given, **how})
     except subprocess.TimeoutExpired as late:
         return Answer(NO_END, late.stdout or b"", late.stderr or b"")
     return Answer(got.returncode, got.stdout or b"", got.stderr or b"")

@@ -51,4 +51,5 @@ class Tally:
     def line(self):
         ways = ", ".join(f"{count:,} {way}" for way, count in sorted(self.ways.items()))
         seconds = processor_seconds() - self.begun
-        return f"{self.name}: {self.passed() + self.wrong:,} tried: {ways or 'none right'}; {self.wrong:,} wrong; {seconds:.0f} processor s"
+        tried = f"{self.passed() + self.wrong:,} tried: {ways or 'none right'}; {self.wrong:,} wrong"
+        return f"{self.name}: {tried}; {seconds:.0f} processor s"

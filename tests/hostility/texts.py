@@ -83,12 +83,18 @@ SMALL = (MB, 10 * MB)
 TABLE = rb"trace \d+\nCSS "
 LINE_1 = rb"refused S\d+ line 1\n"
 LINE_2 = rb"refused S\d line 2\n"
+BREACH = rb"refused V2 path 0.50\n"
+TOO_MANY = rb"refused C2 line 4097\n"
 DEVICE = b"         IODEVICE ADDRESS=1000,CUNUMBR=1000\n"
+FAULTY = b"         CHPID PATH=5G\n"
 DELETION = b"DELETE   IODEVICE ADDRESS=1003\n"
-STORE = b"A store 0.1.0.0000\n"
+STORE, STORED = b"A store 0.1.0.0000\n", rb"1 cc 0 dev 1000 "
 BLANKS = b" " * 80 + b"\n"
-ROUND = b"P activate 1\nQ show\n" * 7 + b"sync\n"
+ROUND, CHANGED = b"P activate 1\nQ show\n" * 7 + b"sync\n", rb"1 (change 1|refused)"
 REST = more(b"A")
+OPERAND = card(b"         RESOURCE A", b"A")
+IMAGE_LIST = card(b"         RESOURCE PARTITION=((LPA,1),")
+IMAGE_LIST_END = b" " * 15 + b"(LPA,1))\n"
 PATH = IMAGES + b"         CHPID PATH=(CSS(0),50),SHARED,PARTITION=((LPA),(LPA))\n"
 IMAGES_ON = card(b"         RESOURCE PARTITION=((LPA,1)),")
 NAMES = IMAGES + card(b"         CHPID PATH=50,SHARED,PARTITION=((LPA,")
@@ -101,38 +107,43 @@ TEXTS = (
     Text("the same of standard input", INPUT, b"", BLANKS, rb"accepted 0\n", BIG, BIGGER),
     Text("empty lines", CHECK, b"", b"\n", rb"accepted 0\n", SMALL, BIG),
     Text("comments", CHECK, b"", b"* a comment\n", rb"accepted 0\n", SMALL, BIG),
-    Text("a statement that isn't ended", CHECK, card(b"         RESOURCE A", b"A"), REST, rb"refused L4 line \d+\n", BIG, BIGGER),
+    Text("a statement that isn't ended", CHECK, OPERAND, REST, rb"refused L4 line \d+\n", BIG, BIGGER),
     Text("an operation", CHECK, card(b"         A", b"A"), REST, LINE_1, BIG, BIGGER, END),
-    Text("an operand", CHECK, card(b"         RESOURCE A", b"A"), REST, rb"accepted 1\n", BIG, BIGGER, END),
+    Text("an operand", CHECK, OPERAND, REST, rb"accepted 1\n", BIG, BIGGER, END),
     Text("a quote", CHECK, card(b"         ID MSG1='", b"A"), REST, LINE_1, BIG, BIGGER, END),
     Text("parentheses", CHECK, card(b"         RESOURCE A=", b"("), more(b"("), LINE_1, BIG, BIGGER, END),
-    Text("images", CHECK, card(b"         RESOURCE PARTITION=((LPA,1),"), more(b"(LPA,1),"), rb"refused S8 line 1\n", SMALL, BIG, b" " * 15 + b"(LPA,1))\n"),
+    Text("images", CHECK, IMAGE_LIST, more(b"(LPA,1),"), rb"refused S8 line 1\n", SMALL, BIG, IMAGE_LIST_END),
     Text("operands", CHECK, IMAGES_ON, more(b"A,"), rb"accepted 2\n", SMALL, BIG, END),
     Text("keywords", CHECK, IMAGES_ON, more(b"B=1,"), rb"refused S2 line 1\n", SMALL, BIG, END),
     Text("keywords that differ", CHECK, IMAGES_ON, differing(b"K%06X=1,", up), rb"accepted 2\n", SMALL, BIG, END),
     Text("the same downwards", CHECK, IMAGES_ON, differing(b"K%06X=1,", down), rb"accepted 2\n", SMALL, BIG, END),
     Text("names of a list", CHECK, NAMES, more(b"LPA,"), rb"accepted 3\n", SMALL, BIG, NAMES_END),
-    Text("names that differ", CHECK, NAMES, differing(b"N%06X,", up), rb"refused V2 path 0.50\n", SMALL, BIG, NAMES_END),
-    Text("the same downwards", CHECK, NAMES, differing(b"N%06X,", down), rb"refused V2 path 0.50\n", SMALL, BIG, NAMES_END),
+    Text("names that differ", CHECK, NAMES, differing(b"N%06X,", up), BREACH, SMALL, BIG, NAMES_END),
+    Text("the same downwards", CHECK, NAMES, differing(b"N%06X,", down), BREACH, SMALL, BIG, NAMES_END),
     Text("units of a path", CHECK, PATH, units_of_a_path, rb"accepted \d+\n", (MB // 10, MB), (MB, 9 * MB)),
     Text("one statement over and over", CHECK, IMAGES, DEVICE, rb"refused S8 line 3\n", SMALL, (43 * MB, 430 * MB)),
-    Text("statements with a fault", ("check", "text", "--all"), IMAGES, b"         CHPID PATH=5G\n", LINE_2, SMALL, (23 * MB, 230 * MB)),
+    Text("statements with a fault", (*CHECK, "--all"), IMAGES, FAULTY, LINE_2, SMALL, (23 * MB, 230 * MB)),
     Text("a change deck of blanks", APPLY, b"", BLANKS, rb"change 1 altered 0\n", BIG, BIGGER),
     Text("a change deck of a statement", APPLY, card(b"ADD      CHPID A", b"A"), REST, LINE_1, BIG, BIGGER, END),
-    Text("a change deck of statements", APPLY, b"", DELETION, rb"refused C2 line 4097\n", SMALL, (31 * MB, 310 * MB)),
-    Text("the same in a large heap", (*APPLY, "--heap", "16777216"), b"", DELETION, rb"refused C2 line 4097\n", SMALL, BIG),
+    Text("a change deck of statements", APPLY, b"", DELETION, TOO_MANY, SMALL, (31 * MB, 310 * MB)),
+    Text("the same in a large heap", (*APPLY, "--heap", "16777216"), b"", DELETION, TOO_MANY, SMALL, BIG),
     Text("a change deck of groups", APPLY, b"", b"         GROUP\n", rb"refused C1 line 33\n", SMALL, BIG),
     Text("a script of blanks", RUN, b"", BLANKS, TABLE, BIG, BIGGER),
-    Text("a script of an image", RUN, b"", STORE, rb"1 cc 0 dev 1000 ", (MB // 5, 2 * MB), (19 * MB, 190 * MB)),
-    Text("a script of short rounds", RUN, b"", STORE + b"sync\n", rb"1 cc 0 dev 1000 ", (2400, 24_000), (24_000, 240_000)),
-    Text("a script of full rounds", (*RUN, CHANGE), b"", ROUND, rb"1 (change 1|refused)", (14_000, 140_000), (140_000, 1_400_000)),
+    Text("a script of an image", RUN, b"", STORE, STORED, (MB // 5, 2 * MB), (19 * MB, 190 * MB)),
+    Text("a script of short rounds", RUN, b"", STORE + b"sync\n", STORED, (2400, 24_000), (24_000, 240_000)),
+    Text("a script of full rounds", (*RUN, CHANGE), b"", ROUND, CHANGED, (14_000, 140_000), (140_000, 1_400_000)),
 )
 MACHINES = (("1 15 4000", "1 15 40000"), ("6 15 26112", "6 15 261120"))
-MACHINE_WORDS = ((SHOW, rb"CSS IM "), (CHECK, rb"accepted \d+\n"), (("apply", "text", "change", "--test"), rb"change 1 altered \d+\n"))
+MACHINE_WORDS = (
+    (SHOW, rb"CSS IM "),
+    (CHECK, rb"accepted \d+\n"),
+    (("apply", "text", "change", "--test"), rb"change 1 altered \d+\n"),
+)
 
 
 def tried(program, tally, is_all):
-    print("| Text | Size | Bytes read and printed | Answer | Processor s | MB | ns a byte |\n|---|---|---|---|---|---|---|")
+    print("| Text | Size | Bytes read and printed | Answer | Processor s | MB | ns a byte |")
+    print("|---|---|---|---|---|---|---|")
     with tempfile.TemporaryDirectory() as room:
         for text in TEXTS:
             sizes = text.all_sizes if is_all else text.sizes
@@ -141,7 +152,8 @@ def tried(program, tally, is_all):
             file.write(b"DELETE   IODEVICE ADDRESS=0001\n")
         for words, wanted in MACHINE_WORDS:
             machine = Text("a large machine", words, b"", b"", wanted, (), ())
-            try_sizes(program, tally, room, machine, [(size, size) for size in MACHINES[is_all]], write_machine, devices_of)
+            sizes = [(size, size) for size in MACHINES[is_all]]
+            try_sizes(program, tally, room, machine, sizes, write_machine, devices_of)
         try_endless(program, tally, room)
 
 
@@ -192,7 +204,8 @@ def row(text, size, count, got):
     """A line of the table."""
     words = " ".join(os.path.basename(word) for word in text.words)
     answer = got.begins.split(b"\n")[0].decode("latin-1")[:24]
-    return f"| {text.name}, `{words}` | {size} | {count:,} | `{answer}` | {got.seconds:.2f} | {got.memory:,} | {got.seconds * 1e9 / count:.0f} |"
+    taken = f"{got.seconds:.2f} | {got.memory:,} | {got.seconds * 1e9 / count:.0f}"
+    return f"| {text.name}, `{words}` | {size} | {count:,} | `{answer}` | {taken} |"
 
 
 def way_of(wanted, got):
@@ -206,4 +219,5 @@ def try_endless(program, tally, room):
     """A file without an end, in little address space."""
     for name in ("/dev/zero", "-"):
         got = measured([program.binary, "check", name], room, LITTLE, "/dev/zero")
-        tally.note("M1" if got.status == 1 and got.begins == NO_MEMORY else None, Command(("check", name), room), "an endless file", got)
+        way = "M1" if got.status == 1 and got.begins == NO_MEMORY else None
+        tally.note(way, Command(("check", name), room), "an endless file", got)

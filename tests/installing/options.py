@@ -1,4 +1,5 @@
-"""Compares the manual page and the completions with what the program says of itself: commands, options of each, arguments of each."""
+"""Compares the manual page and the completions with what the program says of itself:
+commands, options of each, arguments of each."""
 import os
 import re
 import subprocess
@@ -25,7 +26,8 @@ def helped(binary):
         if command != HELP:
             text = said(command)
             usage = re.search(r"^Usage: iocm \w+(.*)", text, re.M)[1]
-            found[command] = set(OPTION.findall(text)), re.findall(r"[<\[]([A-Z]+)[>\]]", usage.replace("[OPTIONS]", ""))
+            arguments = re.findall(r"[<\[]([A-Z]+)[>\]]", usage.replace("[OPTIONS]", ""))
+            found[command] = set(OPTION.findall(text)), arguments
     return found
 
 
@@ -53,7 +55,8 @@ def completed(binary, *words):
     asked = f'source "$1"; shift; COMP_WORDS=(iocm "$@"); COMP_CWORD=$#; _iocm; printf "%s\\n" "${{COMPREPLY[@]}}"'
     path = os.pathsep.join([os.path.dirname(binary), os.environ["PATH"]])
     how = {"cwd": TOP, "env": {**os.environ, "PATH": path}, "stdout": subprocess.PIPE, "text": True, "check": True}
-    return set(subprocess.run(["bash", "-c", asked, "bash", os.path.join(MAN, "iocm.bash"), *words], **how).stdout.split())
+    call = ["bash", "-c", asked, "bash", os.path.join(MAN, "iocm.bash"), *words]
+    return set(subprocess.run(call, **how).stdout.split())
 
 
 def of_bash(binary, commands):
@@ -63,7 +66,8 @@ def of_bash(binary, commands):
 def of_zsh(commands):
     """By the text: the lists of options by name, and which of them each command takes."""
     text = page("_iocm")
-    lists = {name: set(re.findall(r"--([\w-]+)(?=[\[,}])", body)) for name, body in re.findall(r"^(\w+)=\((.*?)\)$", text, re.M | re.S)}
+    bodies = re.findall(r"^(\w+)=\((.*?)\)$", text, re.M | re.S)
+    lists = {name: set(re.findall(r"--([\w-]+)(?=[\[,}])", body)) for name, body in bodies}
     found = {}
     for command, line in re.findall(r"^  (\w+)\) _arguments (.*) ;;$", text, re.M):
         named = [lists[name] for name in re.findall(r"\$(\w+)", line)]
@@ -102,8 +106,9 @@ def cases(binary):
         yield f"options of {command} in the manual page", options, manual.get(command, (0, 0))[0]
         for shell, of in shells.items():
             yield f"options of {command} for {shell}", options, of[command]
-    rules = subprocess.run([binary, "explain"], stdout=subprocess.PIPE, text=True, check=True).stdout
-    yield "rules for bash", {line.partition(":")[0] for line in rules.splitlines()} | {f"--{HELP}"}, completed(binary, "explain", "")
+    listed = subprocess.run([binary, "explain"], stdout=subprocess.PIPE, text=True, check=True).stdout
+    rules = {line.partition(":")[0] for line in listed.splitlines()}
+    yield "rules for bash", {*rules, f"--{HELP}"}, completed(binary, "explain", "")
     yield "no file after the last one, for bash", set(), completed(binary, "show", "a deck", "")
     yield "a file after a filter's value, for bash", {"README.md"}, completed(binary, "show", "--path", "0.50", "READ")
     yield "no file for a filter's value, for bash", set(), completed(binary, "show", "--path", "READ")

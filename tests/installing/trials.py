@@ -1,4 +1,5 @@
-"""Installs, in a small tree with the stand-in for the kit: what is put where, what is refused, and what a removal leaves."""
+"""Installs, in a small tree with the stand-in for the kit:
+what is put where, what is refused, and what a removal leaves."""
 import os
 import shutil
 import subprocess
@@ -34,7 +35,8 @@ class Place(Tree):
 
     def says(self, *words, root=None):
         """What the installed program answers."""
-        ran = subprocess.run([os.path.join(root or self.prefix, "bin/iocm"), *words], capture_output=True, text=True, check=False)
+        program = os.path.join(root or self.prefix, "bin/iocm")
+        ran = subprocess.run([program, *words], capture_output=True, text=True, check=False)
         return ran.returncode, ran.stdout
 
     def files(self, folder=None):
@@ -59,7 +61,8 @@ def installs_no_other_unasked(place):
     place.run()
     ran = place.install()
     assert ran[:2] == (70, ""), ran
-    for text in ("isn't proved here: ./iocm --prove proves it; --unproved installs one that isn't", "nothing was installed"):
+    hint = "isn't proved here: ./iocm --prove proves it; --unproved installs one that isn't"
+    for text in (hint, "nothing was installed"):
         assert text in ran.said, (text, ran.said)
     assert not place.files(), place.files()
 

@@ -64,7 +64,9 @@ class Tree:
             file.write(mode)
         path = os.pathsep.join([os.path.join(self.state, "kit", "bin"), os.environ["PATH"]])
         given = {**os.environ, "PATH": path, "HOME": self.home, "STATE": self.state, **changes}
-        given = {name: text for name, text in given.items() if text is not None and (name != "XDG_CACHE_HOME" or name in changes)}
+        if "XDG_CACHE_HOME" not in changes:
+            given.pop("XDG_CACHE_HOME", None)
+        given = {name: text for name, text in given.items() if text is not None}
         how = {"stdin": subprocess.DEVNULL, "stdout": subprocess.PIPE, "stderr": subprocess.PIPE, "text": True}
         return subprocess.Popen([launcher or self.path("iocm"), *words], cwd=folder or self.top, env=given, **how)
 

@@ -208,8 +208,8 @@ def live_after(live, view, kept, change):
 
 
 def inverse_of(state, edit, after, altered):
-    """The edit that takes an edit back: the old record, the numbers that were freed, by device, and the live records that
-    altered subchannels had."""
+    """The edit that takes an edit back: the old record, the numbers that were freed, by device,
+    and the live records that altered subchannels had."""
     old = state.records.get(edit.key)
     action = {"add": "delete", "delete": "add", "modify": "modify"}[edit.action]
     numbered = {(css, number_set, device) for (css, number_set, _), device in after.numbers.items()}

@@ -1,6 +1,7 @@
 """The edits of a crate, read from crates/NAME/edits.txt and written there. docs/CONTRIBUTING.md says the form.
 
-Call `edits_of(crate)`, and `write(crate, edits)` to put back what has changed. A file that is not in the form is a Fault.
+Call `edits_of(crate)`, and `write(crate, edits)` to put back what has changed.
+A file that is not in the form is a Fault.
 """
 import os
 import re
@@ -76,7 +77,8 @@ def read(crate, text):
 
 
 def take(crate, line, edits, state):
-    """Adds a line to the edits that were read before it; the state has the file and the old text that are named last."""
+    """Adds a line to the edits that were read before it;
+    the state has the file and the old text that are named last."""
     word, colon, rest = line.partition(":")
     rest = rest.removeprefix(" ")
     head = HEAD.fullmatch(line)
@@ -112,7 +114,8 @@ def first_wrong(edits, state):
         if names.count(edit.name) > 1:
             return f"{edit.name} is there {names.count(edit.name)} times"
         if before and edit.place() < before.place():
-            return f"{edit.name} comes after {before.name}: blocks are in the order of their first files, and then of their names"
+            order = "blocks are in the order of their first files, and then of their names"
+            return f"{edit.name} comes after {before.name}: {order}"
     return None
 
 

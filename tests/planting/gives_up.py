@@ -1,9 +1,10 @@
-"""Plants "gives up with M1 at once" into ten functions that can give up, and sees that a case or a trial fails for each.
+"""Plants "gives up with M1 at once" into ten functions that can give up,
+and sees that a case or a trial fails for each.
 
-`main(words)`: the words are names of FUNCTIONS, or none for all. A body that always gives up meets most contracts, so only a run
-refuses it. Each is planted in a copy of the sources. The program is built without a proof there, and the cases are run on it; where
-all pass, the trials are. First all cases have to pass on the program as it is. Each build takes some four minutes of processor time.
-The last line is `gives up: N passed, M failed`.
+`main(words)`: the words are names of FUNCTIONS, or none for all. A body that always gives up meets most contracts, so
+only a run refuses it. Each is planted in a copy of the sources. The program is built without a proof there, and the
+cases are run on it; where all pass, the trials are. First all cases have to pass on the program as it is. Each build
+takes some four minutes of processor time. The last line is `gives up: N passed, M failed`.
 """
 import os
 import re
@@ -19,6 +20,7 @@ from trying import crate, program
 FAILED = re.compile(r"^cases: \d+ passed, (\d+) failed$", re.M)
 NO_ROOM = "std::alloc::AllocError"
 NO_MEMORY = "iocm_types::Fault::from(std::alloc::AllocError)"
+UNOPENED = "Unopened { why: iocm_types::Refused::NO_MEMORY, config }"
 # two functions of each layer: the crate's file, the line that begins the function, and why it gives up
 FUNCTIONS = {
     "Config::room": ("iocm_config/src/config.rt", "pub fn room(", NO_ROOM),
@@ -28,7 +30,7 @@ FUNCTIONS = {
     "all_breaches": ("iocm_breaches/src/all.rt", "pub fn all_breaches<", NO_ROOM),
     "keys_of": ("iocm_change_records/src/keys.rt", "pub fn keys_of(", NO_MEMORY),
     "Grid::add": ("iocm_grid/src/grid.rt", "pub fn add(", NO_ROOM),
-    "Plant::open": ("iocm_plant/src/open.rt", "pub fn open(", "Unopened { why: iocm_types::Refused::NO_MEMORY, config }"),
+    "Plant::open": ("iocm_plant/src/open.rt", "pub fn open(", UNOPENED),
     "queue": ("iocm_queue/src/opening.rt", "pub fn queue<", NO_ROOM),
     "Filters::of_words": ("iocm_filter/src/reading.rt", "pub fn of_words(", "iocm_statements::Unread::Memory"),
 }

@@ -1,12 +1,16 @@
 """What a check says that it couldn't prove, as an edit's `refused:` line has it: `Worker::next ensures taken`.
 
-The prover's names of goals say by which way through the body a goal is reached, and give the line. Both change with the file. What
-stays is the function, and what of it isn't proved: a clause that it ensures or that a call requires, a loop, an invariant.
+The prover's names of goals say by which way through the body a goal is reached, and give the line. Both
+change with the file. What stays is the function, and what of it isn't proved: a clause that it ensures or
+that a call requires, a loop, an invariant.
 """
 import re
 
 LINE = re.compile(r"^(?:note: )?(?:\./)?(\S+?):(\d+):\d+: (.*)")
-FORM = re.compile(r"has no field|is not in scope|has no `|was not admitted|ran out of|outgrew the memory limit|stopped at the step limit")
+FORM = re.compile(
+    r"has no field|is not in scope|has no `|was not admitted|"
+    r"ran out of|outgrew the memory limit|stopped at the step limit"
+)
 GOAL = re.compile(r"\(`([\w.+-]+)`\)|^error: `([\w.+-]+)`")
 LAW_OF = re.compile(r"`(\w+)`, which was rejected")
 BESIDE = re.compile(r"w(?:as|ere) not checked: (.*)")
@@ -43,7 +47,8 @@ class Told:
         return inside or function.has_proof_at(self.path)
 
     def is_of_form(self):
-        """Whether it says only that a proof names what isn't there any more, or that the prover met a limit of its own."""
+        """Whether it says only that a proof names what isn't there any more,
+        or that the prover met a limit of its own."""
         return bool(FORM.search(self.text))
 
     def goals(self):
@@ -82,7 +87,8 @@ def plainly(text):
 
 
 def goals_in(told):
-    """What isn't proved of a crate: the laws of its specs that are false, what its functions ensure, and then its lemmas."""
+    """What isn't proved of a crate: the laws of its specs that are false,
+    what its functions ensure, and then its lemmas."""
     laws, functions, lemmas = [], [], []
     for line in told:
         at = PROOF.match(line.path)

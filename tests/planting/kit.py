@@ -1,7 +1,8 @@
 """What the runner of edits takes of the kit's own command `rt`, which is read as a module.
 
-`rt check` would build every library anew, since `rt ci` leaves those that it built without the sums by which `rt check` knows them. So a
-crate is checked here as `rt ci` does it: a copy of its text, over the libraries in crates/*/out/rlib as they are.
+`rt check` would build every library anew, since `rt ci` leaves those that it built without the sums by
+which `rt check` knows them. So a crate is checked here as `rt ci` does it: a copy of its text, over the
+libraries in crates/*/out/rlib as they are.
 """
 import functools
 import importlib.machinery
@@ -53,8 +54,8 @@ def free():
 
 
 def check(crate, texts, functions=(), kept=None):
-    """What a check of a crate says with these texts in place of those of its files, and its status: of these functions alone, if they are
-    named, and from nothing, or over a copy of the kept work of a folder."""
+    """What a check of a crate says with these texts in place of those of its files, and its status:
+    of these functions alone, if they are named, and from nothing, or over a copy of the kept work of a folder."""
     flags = ["--jobs", "1", *(word for name in functions for word in ("--only", name))]
     with tempfile.TemporaryDirectory(prefix="mutants-") as room:
         if kept:
@@ -65,12 +66,14 @@ def check(crate, texts, functions=(), kept=None):
 
 @functools.cache
 def has_library(crate):
-    """Whether a crate's library is there: one that `rt ci` left, or one that `rt lib` built of the sources as they are."""
+    """Whether a crate's library is there: one that `rt ci` left,
+    or one that `rt lib` built of the sources as they are."""
     found = crates()[crate]
     return os.path.isdir(found.rlib) and (found.is_built() or not os.path.exists(f"{found.folder}/out/rlib/stamp"))
 
 
 def build(verb, crate):
     """Has `rt lib` or `rt check` work in a crate's folder; what it says if it fails, or None."""
-    ran = subprocess.run(["rt", verb], cwd=folder(crate), capture_output=True, text=True, errors="replace", stdin=subprocess.DEVNULL)
+    how = {"capture_output": True, "text": True, "errors": "replace", "stdin": subprocess.DEVNULL}
+    ran = subprocess.run(["rt", verb], cwd=folder(crate), **how)
     return f"{ran.stdout[-2000:]}{ran.stderr[-2000:]}" if ran.returncode else None

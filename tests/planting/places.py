@@ -32,7 +32,8 @@ class Function:
         return parts[0] == crate and (parts[-len(path) :] == path if self.owner else parts[1:] == path)
 
     def has_proof_at(self, path):
-        """Whether a file is of its proof: `proofs/table/Table/put/Answers.antt`; a recursion's folder begins with a `+`."""
+        """Whether a file is of its proof: `proofs/table/Table/put/Answers.antt`;
+        a recursion's folder begins with a `+`."""
         parts = path.replace("/+", "/").split("/")
         own = self.path()
         at = [it for it in range(1, len(parts)) if parts[it : it + len(own)] == own]
@@ -70,8 +71,9 @@ def functions_in(file, text):
 
 
 def places_of(edit, read):
-    """The functions in whose bodies an edit lies; None if a part lies elsewhere, or can't be found. A part that puts a function in the
-    place of a comment lies nowhere: another part calls it. No part makes a line more or less, so lines are those of the source."""
+    """The functions in whose bodies an edit lies; None if a part lies elsewhere, or can't be found. A part that
+    puts a function in the place of a comment lies nowhere: another part calls it. No part makes a line more or
+    less, so lines are those of the source."""
     found, texts = {}, {}
     for path, old, new in edit.pairs:
         source = read(path) if path.startswith("src/") else None

@@ -4,7 +4,10 @@ Call `failed()`: the number of trials, and what is wrong with each that failed.
 """
 from . import edits, goals, places, verdicts
 
-FILE = "== a: gate\n# why\nfile: src/x.rt\nold: one\nnew: two\nold: two\nnew:\nrefused: f ensures\n\n== b: release\nfile: src/x.rt\nold: c\nnew: d\n"
+FILE = (
+    "== a: gate\n# why\nfile: src/x.rt\nold: one\nnew: two\nold: two\nnew:\nrefused: f ensures\n\n"
+    "== b: release\nfile: src/x.rt\nold: c\nnew: d\n"
+)
 FAULTS = {
     "old: x\n": "line 1: a line before the first",
     "== a: never\n": "line 1: a line before the first",
@@ -36,7 +39,10 @@ PLACES = {
     (("two();", "one();"),): None,
     (("there", "here"),): None,
 }
-OPEN = "note: src/x.rt:2:5: it is not proved that what the function ensures holds when it returns (`returns-clause-size`)\n"
+OPEN = (
+    "note: src/x.rt:2:5: it is not proved that what the function ensures holds when it returns "
+    "(`returns-clause-size`)\n"
+)
 SHOWN = "fn own::x::low: proved\n"
 FORM = "./proofs/x/low/Answers.antt:3:1: error: `c.put` is not in scope\n"
 ELSEWHERE = OPEN.replace(":2:5", ":8:5")
@@ -50,9 +56,10 @@ JUDGED = {
 LAWS = (
     "./specs/Order.antt:7:1: error: 1 declaration that depends on `falls`, which was rejected\n"
     "./proofs/Back.antt:9:5: error: `run_back`: the two types differ\n"
-    "./proofs/laws/back/Answers.antt:4:5: error: 2 declarations that depend on `run_back`, which was not admitted, were not checked: "
-    "returns-clause-run (via goes), returns-clause-cells\n"
-    "fn own::laws::there: no proof: expected answers in ./proofs/laws/there/Answers.antt; `search` did not prove `returns`\n"
+    "./proofs/laws/back/Answers.antt:4:5: error: 2 declarations that depend on `run_back`, "
+    "which was not admitted, were not checked: returns-clause-run (via goes), returns-clause-cells\n"
+    "fn own::laws::there: no proof: expected answers in ./proofs/laws/there/Answers.antt; "
+    "`search` did not prove `returns`\n"
 )
 FALLEN = ["law falls", "laws::back ensures run", "laws::back ensures cells", "laws::there ensures", "lemma run_back"]
 

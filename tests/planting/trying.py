@@ -1,7 +1,8 @@
 """A try: one check of a crate with some of its edits planted, and what is to be tried after it.
 
-Edits in the bodies of different functions are tried by one check. The prover takes each function by itself, from the contracts of the
-others, so the mistake of one changes nothing that is proved of another. `tries_of(crate, edits, kept)` says what to begin with.
+Edits in the bodies of different functions are tried by one check. The prover takes each function by itself, from the
+contracts of the others, so the mistake of one changes nothing that is proved of another.
+`tries_of(crate, edits, kept)` says what to begin with.
 """
 import os
 
@@ -23,7 +24,8 @@ def reader(crate):
 
 
 class Together:
-    """A check of the functions in whose bodies some edits lie, no two in one function. Each edit has to be refused at its own."""
+    """A check of the functions in whose bodies some edits lie, no two in one function.
+    Each edit has to be refused at its own."""
 
     def __init__(self, crate, edits, kept):
         self.crate, self.edits, self.kept = crate, edits, kept
@@ -51,7 +53,8 @@ class Together:
         return told, [Together(self.crate, left, self.kept)] if told else self.halves()
 
     def halves(self):
-        """What is tried if nothing is known of any of the edits: half of them at a time, and one by a check of the whole crate."""
+        """What is tried if nothing is known of any of the edits:
+        half of them at a time, and one by a check of the whole crate."""
         half = len(self.edits) // 2
         if not half:
             return [Whole(self.crate, self.edits[0], self.kept)]
@@ -59,7 +62,8 @@ class Together:
 
 
 class Whole:
-    """A check of a whole crate with one edit. If the crate lets an edit of a definition stand, the worked examples may not."""
+    """A check of a whole crate with one edit. If the crate lets an edit of a definition stand,
+    the worked examples may not."""
 
     def __init__(self, crate, edit, kept, examples=None):
         self.crate, self.edit, self.kept, self.examples = crate, edit, kept, examples
@@ -87,12 +91,16 @@ class Untried:
         return 0
 
     def run(self):
-        why = f"NOT JUDGED: the library {self.library} isn't built of the sources as they are: run rt ci, or rt lib in its folder"
+        why = (
+            f"NOT JUDGED: the library {self.library} isn't built of the sources as they are: "
+            "run rt ci, or rt lib in its folder"
+        )
         return {it: verdicts.Verdict(False, why=why) for it in self.edits}, []
 
 
 def tries_of(crate, edits, kept, examples=None):
-    """The tries that a crate's edits begin with: as few checks as there can be, so that no two edits of one lie in one function."""
+    """The tries that a crate's edits begin with: as few checks as there can be,
+    so that no two edits of one lie in one function."""
     batches, tries = [], []
     for edit in edits:
         found = places.places_of(edit, reader(crate))

@@ -54,8 +54,9 @@ def on_crate(edit, output, status):
     if status == 0:
         return Verdict(False, why="NOT REFUSED: the crate is still proved with this edit")
     told = goals.told_in(output)
-    unread = next((it for it in told if it.path in edit.files() and not goals.LAW_OF.search(it.text) and UNREAD.search(it.text)), None)
-    refused = next((line for line in output.split("\n") if re.search(r"\berror\[[\w-]+\]", line)), unread and unread.text)
+    of_edit = (it.text for it in told if it.path in edit.files())
+    unread = next((text for text in of_edit if not goals.LAW_OF.search(text) and UNREAD.search(text)), None)
+    refused = next((line for line in output.split("\n") if re.search(r"\berror\[[\w-]+\]", line)), unread)
     if refused:
         return Verdict(False, why=f"BAD EDIT: the edited text can't be read: {refused[:200]}")
     if not has_ended(output):

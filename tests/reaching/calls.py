@@ -1,7 +1,7 @@
 """Which functions are called from where: `reached(roots, functions)`, found by name.
 
-`name(..)`, and `name` as a value, are all free functions of that name, `.name(..)` all methods of that name, and `Type::name` those
-of that type. So a function counts as called where one of its name is.
+`name(..)`, and `name` as a value, are all free functions of that name, `.name(..)` all methods of that name,
+and `Type::name` those of that type. So a function counts as called where one of its name is.
 """
 import collections
 import re

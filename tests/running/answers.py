@@ -1,4 +1,5 @@
-"""How the program is called, and what is wrong with its answer: `run(words, room)` and `differences(got, status, stdout)`."""
+"""How the program is called, and what is wrong with its answer:
+`run(words, room)` and `differences(got, status, stdout)`."""
 import os
 import re
 import subprocess
@@ -16,7 +17,8 @@ def read(folder, name, absent=b""):
 
 
 def run(words, room, output="", given=b"", source=""):
-    """What a command answers, given a standard input, or what to open for it, run in a folder, with its output as it is asked for."""
+    """What a command answers, given a standard input, or what to open for it, run in a folder,
+    with its output as it is asked for."""
     how = {"cwd": room, "stderr": subprocess.PIPE, "timeout": 60}
     if not source:
         return run_to(output, words, how | {"input": given})
@@ -56,7 +58,8 @@ def differences(got, status, stdout, stderr=b"", others=()):
 
 
 def faults_of_remark(got):
-    """What is wrong with what standard error says: beside a refusal its line, its number and which entry says more; else nothing, where all was done."""
+    """What is wrong with what standard error says: beside a refusal its line, its number and which entry says more;
+    else nothing, where all was done."""
     refused = REFUSED.match(got.stdout or b"")
     if got.returncode == 0 or "--quiet" in got.args:
         said = EDITS.sub(b"", got.stderr) if "diff" in got.args and "--quiet" not in got.args else got.stderr
@@ -64,5 +67,6 @@ def faults_of_remark(got):
     if not refused:
         return []
     rule, line = refused.groups()
-    wanted = [b" (" + rule + b")", b"\n  see: iocm explain " + rule + b"\n"] + ([b", line " + line + b": "] if line else [])
+    wanted = [b" (" + rule + b")", b"\n  see: iocm explain " + rule + b"\n"]
+    wanted += [b", line " + line + b": "] if line else []
     return [f"standard error says no {text!r}: {got.stderr[:400]!r}" for text in wanted if text not in got.stderr]

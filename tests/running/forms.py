@@ -1,13 +1,15 @@
-"""Forms of operands, one case a line of tests/forms: `cases()` gives each by a name, and `faults_of` says what is wrong with one.
+"""Forms of operands, one case a line of tests/forms: `cases()` gives each by a name,
+and `faults_of` says what is wrong with one.
 
-A file has the name of a statement. In each of its lines is an operand part. One that is refused comes after the number of the
-rule: the deck of that statement on line 2 is refused by this rule on this line. One that is accepted comes before ` = ` and what
-`write` prints of it, without the operation: ` & ` is between two statements, and `nothing` says that there is none. The deck has
-the statements of BEFORE in front, so that it keeps the rules; these are left out of what is printed.
+A file has the name of a statement. In each of its lines is an operand part. One that is refused comes after the
+number of the rule: the deck of that statement on line 2 is refused by this rule on this line. One that is
+accepted comes before ` = ` and what `write` prints of it, without the operation: ` & ` is between two
+statements, and `nothing` says that there is none. The deck has the statements of BEFORE in front, so that it
+keeps the rules; these are left out of what is printed.
 
-A file that has the name of a verb has lines of change decks: the operation and its operands. The statement is alone in a change of
-the deck of CHANGED. One that is refused is so on line 1; after ` = ` is what `apply --deck` prints otherwise than `write`: `- ` is
-before a statement that is gone, and `+ ` before one that came.
+A file that has the name of a verb has lines of change decks: the operation and its operands. The statement is alone
+in a change of the deck of CHANGED. One that is refused is so on line 1; after ` = ` is what `apply --deck` prints
+otherwise than `write`: `- ` is before a statement that is gone, and `+ ` before one that came.
 """
 import os
 import re
@@ -26,15 +28,26 @@ BEFORE = {"RESOURCE": [], "CHPID": [IMAGES], "CNTLUNIT": [IMAGES, *PATHS], "IODE
 # a deck of which each kind of record may be deleted, modified or added
 LISTS = ["CHPID PATH=50,SHARED,PARTITION=((LPA,LPB),(=))", "CHPID PATH=51,SHARED,PARTITION=((LPA),(LPA,LPB))"]
 SPARE = ["CHPID PATH=60", "CNTLUNIT CUNUMBR=10,PATH=(51),CUADD=2"]
-DEVICES = ["CNTLUNIT CUNUMBR=1000,PATH=(50)", "IODEVICE ADDRESS=(1000,4),CUNUMBR=1000", "IODEVICE ADDRESS=(FFFE,2),CUNUMBR=1000,SCHSET=2"]
+DEVICES = [
+    "CNTLUNIT CUNUMBR=1000,PATH=(50)",
+    "IODEVICE ADDRESS=(1000,4),CUNUMBR=1000",
+    "IODEVICE ADDRESS=(FFFE,2),CUNUMBR=1000,SCHSET=2",
+]
 ADDED_TO = ["RESOURCE PARTITION=((CSS(0),(LPA,1),(LPB,2)),(CSS(1),(LPC,1)))", *LISTS, *DEVICES]
-FULL = ["ID MSG1=OLD", "RESOURCE PARTITION=((LPA,1),(LPB,2),(LPD,3)),MAXDEV=((CSS(0),900,800,700),(CSS(1),,5)),NOTE=1", *LISTS, *SPARE, *DEVICES]
+FULL = [
+    "ID MSG1=OLD",
+    "RESOURCE PARTITION=((LPA,1),(LPB,2),(LPD,3)),MAXDEV=((CSS(0),900,800,700),(CSS(1),,5)),NOTE=1",
+    *LISTS,
+    *SPARE,
+    *DEVICES,
+]
 CHANGED = {"ADD": ADDED_TO, "MODIFY": FULL, "DELETE": FULL}
 LAST = 71  # column; what is in column 72 says that the next card goes on, in column 16
 
 
 class Form(NamedTuple):
-    """A line of a file of this name: what is before or after its answer, the rule that refuses it, or what is written of it."""
+    """A line of a file of this name: what is before or after its answer, the rule that refuses it,
+    or what is written of it."""
 
     file: str
     text: str

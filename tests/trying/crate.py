@@ -1,7 +1,8 @@
-"""Makes a crate of the trials, beside the crates that it stands on: `make(room, folders)` says where it is, and `run` runs it.
+"""Makes a crate of the trials, beside the crates that it stands on:
+`make(room, folders)` says where it is, and `run` runs it.
 
-A folder of tests/trials has the sources of a module, lib.rt.txt and others; tests/trials/folders lists the folders, each with
-the libraries that it names.
+A folder of tests/trials has the sources of a module, lib.rt.txt and others;
+tests/trials/folders lists the folders, each with the libraries that it names.
 """
 import os
 import re
@@ -34,7 +35,8 @@ def copy_module(name, home):
     os.makedirs(os.path.join(home, name))
     for file in os.listdir(source):
         to = file.removesuffix(".txt")
-        shutil.copy(os.path.join(source, file), os.path.join(home, f"{name}.rt" if to == "lib.rt" else os.path.join(name, to)))
+        place = f"{name}.rt" if to == "lib.rt" else os.path.join(name, to)
+        shutil.copy(os.path.join(source, file), os.path.join(home, place))
 
 
 def copy_sources(room):
@@ -47,7 +49,8 @@ def copy_sources(room):
 
 
 def make(room, folders=()):
-    """Makes a crate of these folders, or of all, in a room that has nothing yet, or isn't there. Where its tests are run."""
+    """Makes a crate of these folders, or of all, in a room that has nothing yet, or isn't there.
+    Where its tests are run."""
     copy_sources(room)
     listed = folders_listed()
     home = os.path.join(room, "crates", NAME)
@@ -64,9 +67,11 @@ def make(room, folders=()):
 
 
 def run(home, flags=()):
-    """Builds and runs the trials of a crate, with checks at run time: what was said, and how many passed and failed. None did where
-    the program didn't come so far."""
-    ran = subprocess.run(["rt", "try", "--test", "--seconds", str(SECONDS), *flags], cwd=home, stdout=subprocess.PIPE, stderr=subprocess.STDOUT, text=True, errors="replace")
+    """Builds and runs the trials of a crate, with checks at run time: what was said, and how many passed and failed.
+    None did where the program didn't come so far."""
+    words = ["rt", "try", "--test", "--seconds", str(SECONDS), *flags]
+    how = {"stdout": subprocess.PIPE, "stderr": subprocess.STDOUT, "text": True, "errors": "replace"}
+    ran = subprocess.run(words, cwd=home, **how)
     found = RESULT.search(ran.stdout)
     if not found:
         return ran.stdout, 0, 0

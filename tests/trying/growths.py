@@ -1,7 +1,7 @@
 """Refuses growths of memory under the trials: `stages()` between two marks, `trials()` one after the other.
 
-Both build the trials as one program without a sanitizer, and run each trial by itself under the library of tests/hostility. They
-print a line a trial, and give how many passed and failed.
+Both build the trials as one program without a sanitizer, and run each trial by itself under the library of
+tests/hostility. They print a line a trial, and give how many passed and failed.
 """
 import os
 import tempfile
@@ -99,7 +99,8 @@ def spread():
 
 
 def tried(program, name):
-    """How often a trial passes where a growth is refused, how often its own work has no memory, and how often it is wrong."""
+    """How often a trial passes where a growth is refused, how often its own work has no memory,
+    and how often it is wrong."""
     right, own, wrong = 0, 0, 0
     for turn, got in refused_in_turn(program, command(name), "m", "ENOMEM", turns=spread()):
         if got.status == 0:

@@ -1,7 +1,8 @@
-"""Builds a crate without proofs, as the launcher builds the program, and keeps what is built: `built(home, room, words)`.
+"""Builds a crate without proofs, as the launcher builds the program,
+and keeps what is built: `built(home, room, words)`.
 
-It has the checks of `rt try` (an index, a sum, a cast, a divisor), and no sanitizer: so a library can be loaded before it that
-refuses memory.
+It has the checks of `rt try` (an index, a sum, a cast, a divisor), and no sanitizer:
+so a library can be loaded before it that refuses memory.
 """
 import os
 import subprocess
@@ -16,7 +17,8 @@ from building.kit import Kit
 
 def ran(words, folder, **how):
     """What a command of the build said; the run ends here where it failed."""
-    done = subprocess.run(words, cwd=folder, stdin=subprocess.DEVNULL, stdout=subprocess.PIPE, stderr=subprocess.STDOUT, text=True, errors="replace", **how)
+    how |= {"stdin": subprocess.DEVNULL, "stdout": subprocess.PIPE, "stderr": subprocess.STDOUT}
+    done = subprocess.run(words, cwd=folder, text=True, errors="replace", **how)
     return done.returncode, done.stdout
 
 
