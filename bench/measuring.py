@@ -7,23 +7,8 @@ import subprocess
 import sys
 
 TOP = os.path.dirname(os.path.dirname(os.path.abspath(__file__)))
-
-
-def crates_below(names):
-    """These crates and all that they stand on, in the order of crates.txt, each with its line there."""
-    lines = {}
-    with open(os.path.join(TOP, "crates.txt"), encoding="utf-8") as file:
-        for line in file:
-            head, colon, deps = line.partition("#")[0].partition(":")
-            if colon:
-                lines[head.split()[0]] = (line, deps.split())
-    wanted, left = set(), list(names)
-    while left:
-        crate = left.pop()
-        if crate in lines and crate not in wanted:
-            wanted.add(crate)
-            left += lines[crate][1]
-    return {crate: line for crate, (line, _) in lines.items() if crate in wanted}
+sys.path.insert(0, TOP)
+from building.crates_list import needed
 
 
 def run_rt(words, folder):
@@ -46,7 +31,7 @@ def copy_program(program, home):
 def built(room, program, stands_on, words, shared=None):
     """Proves and builds a measuring program in a copy of the crates that it stands on, and runs it with these words;
     the path of what was built. It may share files with another program, which is named first."""
-    below = crates_below(stands_on)
+    below = needed(TOP, stands_on)
     for crate in below:
         run_rt(["lib"], os.path.join(TOP, "crates", crate))
 

@@ -8,28 +8,13 @@ import os
 import time
 from binascii import crc32
 
+from .crates_list import needed
+
 PROGRAM = "iocm"
 CODE, PROOFS = "code", "proofs"
 HANDLES = "HANDLES"
 PARTS = {CODE: (("src", ".rt"),), PROOFS: (("src", ".rt"), ("specs", ".antt"), ("proofs", ".antt"))}
 SETTLED = 2_000_000_000
-
-
-def crates_of(text, name=PROGRAM):
-    """The lines of crates.txt that a crate needs, by name, in their order there:
-    its own and those of all crates below it."""
-    lines = {}
-    for line in text.splitlines():
-        head, colon, below = line.partition("#")[0].partition(":")
-        if colon and head.split():
-            lines[head.split()[0]] = (f"{head.strip()}: {' '.join(below.split())}\n", below.split())
-    needed, left = set(), [name]
-    while left:
-        crate = left.pop()
-        if crate in lines and crate not in needed:
-            needed.add(crate)
-            left += lines[crate][1]
-    return {crate: line for crate, (line, _) in lines.items() if crate in needed}
 
 
 def gather(found, folder, ending):
@@ -46,9 +31,7 @@ class Sources:
     """The sources of the program in a tree, for the kit that builds it."""
 
     def __init__(self, top, kit):
-        self.top, self.kit = top, kit
-        with open(os.path.join(top, "crates.txt"), encoding="utf-8") as file:
-            self.crates = crates_of(file.read())
+        self.top, self.kit, self.crates = top, kit, needed(top, [PROGRAM])
 
     def files(self, of):
         """Each file of which a number is made, with what the system says of it, by name."""

@@ -4,5 +4,5 @@ has the kit check them, and judges what it says.
 `edits` reads and writes the files, `places` finds the functions in which an edit lies, `trying` plants edits and
 `lanes` runs the tries, `kit` calls the kit, `goals` and `verdicts` read what it says, and `examples` tries
 definitions on the worked examples. `trials` tries all this on texts that are written down. `gives_up` has functions
-give up, and needs the launcher's folder `building`.
+give up. `examples` and it need the launcher's folder `building`.
 """

@@ -10,6 +10,8 @@ import shutil
 import subprocess
 import tempfile
 
+from building.crates_list import needed
+
 from . import edits as files
 from . import kit, verdicts
 
@@ -84,7 +86,5 @@ def copy_tree(room, crate):
     for it in crates:
         shutil.copytree(kit.folder(it), os.path.join(room, "crates", it), ignore=left_out)
     shutil.copy(os.path.join(files.TOP, "HANDLES"), room)
-    with open(os.path.join(files.TOP, "crates.txt"), encoding="utf-8") as file:
-        lines = [line for line in file if line.partition(":")[0].split()[:1] in [[it] for it in crates]]
     with open(os.path.join(room, "crates.txt"), "w", encoding="utf-8") as file:
-        file.writelines(lines)
+        file.writelines(needed(files.TOP, [CRATE]).values())

@@ -8,8 +8,12 @@ import os
 import re
 import shutil
 import subprocess
+import sys
 
 TOP = os.path.dirname(os.path.dirname(os.path.dirname(os.path.abspath(__file__))))
+sys.path.insert(0, TOP)
+from building.crates_list import lines_in
+
 TRIALS = os.path.join(TOP, "tests", "trials")
 SHARED = "support"
 NAME = "trials"
@@ -20,13 +24,8 @@ RESULT = re.compile(r"test result: \w+\. (\d+) passed; (\d+) failed")
 
 def folders_listed():
     """The folders of trials, each with the libraries that it names."""
-    found = {}
     with open(os.path.join(TRIALS, "folders"), encoding="utf-8") as file:
-        for line in file:
-            name, colon, libraries = line.partition("#")[0].partition(":")
-            if colon:
-                found[name.strip()] = libraries.split()
-    return found
+        return {name: libraries for name, (_, libraries) in lines_in(file.read()).items()}
 
 
 def copy_module(name, home):
