@@ -30,5 +30,7 @@ SIDE_BY_SIDE = (
     Part("mutants-self", "tests/mutants --self", "mutants: ", "cases"),
     Part("messages", f"tests/messages {PROGRAM}", "messages: ", "cases"),
     Part("pages", "tests/pages", "pages: ", "cases"),
+    Part("layout", "tests/layout", "layout: ", "cases", "rattle"),
+    Part("layout-self", "tests/layout --self", "layout: ", "cases", "rattle"),
     Part("pages-self", "tests/pages --self", "pages: ", "cases"),
 )

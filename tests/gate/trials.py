@@ -4,7 +4,6 @@ import io
 import os
 import subprocess
 import sys
-import tempfile
 import time
 from unittest import mock
 
@@ -13,6 +12,7 @@ from launching.trees import is_running
 from . import proved, running
 from .parts import Part
 from .program import copied
+from .rooms import told
 
 PRINTS = {
     "passes": ("echo some: 3 passed, 0 failed", 3, 0),
@@ -155,12 +155,4 @@ TRIALS = (
 
 
 def main():
-    failed = 0
-    for trial in TRIALS:
-        with tempfile.TemporaryDirectory() as room:
-            got = trial(room)
-        if got is not True:
-            failed += 1
-            print(f"{trial.__name__}: {got}")
-    print(f"all: {len(TRIALS) - failed} passed, {failed} failed")
-    return 1 if failed else 0
+    return told("all", TRIALS)
