@@ -1,9 +1,10 @@
 """Builds the program without proofs, with the checks at run time that `rt try` puts in.
 
-`rt try` reads all crates and the kit's libraries as source, makes one module of LLVM of them, has clang compile
-it slowly with a sanitizer, and keeps nothing. So it runs here in a stand-in for the kit whose clang keeps the
-module and ends it there. The module is then compiled whole, by the kit's clang, with the words that `rt try` had
-for it but for the level and the sanitizer.
+`rt try` reads all crates and the kit's libraries as source, makes one module of LLVM of them, has
+clang compile it slowly with a sanitizer, and keeps nothing. So it runs here in a stand-in for the
+kit whose clang keeps the module and ends it there. Of the module most is never called. So the
+kit's linker is given it whole: it drops what `main` doesn't need, optimizes the rest, and makes
+objects of it side by side. Symbols of the kit's libraries are missing there; the last link has all.
 """
 import os
 import shlex
@@ -14,8 +15,10 @@ from .answers import Refused, say
 from .commands import Steps, run
 
 TARGET = "x86_64-unknown-linux-gnu"
+OBJECTS = ("part.o", "part.o1")
 LIBRARIES = ("c/libos_c.a", "c/liblibc_c.a")
 KILLED = "a command was killed, most likely for lack of memory: some 3 GB have to be free"
+MINUTES = "some three minutes if two processors are free"
 NOTHING_PROVED = "NOTHING IS PROVED HERE of this program: ./iocm --prove proves it, in some two hours of processor time"
 NOTHING_SAID = "run=none proved=no"
 
@@ -91,10 +94,13 @@ def module_words(top, kit, room, steps):
     return text_of(f"{room}/words").splitlines()
 
 
-def compiler_words(kit, words):
-    """The words for the kit's own clang, at a level that serves tests, and without the sanitizer."""
-    kept = [word for word in words if not word.startswith(("-fsanitize=", "--sysroot=", "-O"))]
-    return [kit.path("toolchain/bin/clang"), f"--sysroot={kit.path('toolchain')}", "-O1", *kept]
+def linker_words(kit, words):
+    """The words for the kit's linker, which makes objects of the module, with what clang was told of its back end."""
+    told = [word for pair in zip(words, words[1:]) if pair[0] == "-mllvm" for word in pair]
+    where = ["-m", "elf_x86_64", "-pie", "-e", "main", "-u", "main", "--unresolved-symbols=ignore-all"]
+    how = ["--lto-O2", f"--lto-partitions={len(OBJECTS)}", f"--threads={len(OBJECTS)}"]
+    made = [f"--lto-obj-path={OBJECTS[0]}", "-o", "parts"]
+    return [kit.path("toolchain/bin/ld.lld"), *where, *how, *told, *made, "module.bc"]
 
 
 def do(words, room, steps, **how):
@@ -108,15 +114,15 @@ def do(words, room, steps, **how):
 def build(top, kit, sources, room):
     """The path of a program that was built from the sources in this room."""
     steps = Steps(3)
-    say("no program of these sources is here yet: building one, once, in three to six minutes if a processor is free")
+    say(f"no program of these sources is here yet: building one, once, in {MINUTES}")
     try:
         steps.begin(f"reading {len(sources.crates)} crates and the kit's libraries")
         words = module_words(top, kit, room, steps)
         steps.begin("compiling them")
-        do(compiler_words(kit, words), room, steps)
+        do(linker_words(kit, words), room, steps)
         steps.begin("linking them, and trying the program")
         where = ["--target", TARGET, "--toolchain", kit.path("toolchain")]
-        do([kit.path("bin/rattle-link"), *where, "-o", "iocm", "module.o", *map(kit.path, LIBRARIES)], room, steps)
+        do([kit.path("bin/rattle-link"), *where, "-o", "iocm", *OBJECTS, *map(kit.path, LIBRARIES)], room, steps)
         do([f"{room}/iocm", "--help"], room, steps)
     finally:
         steps.end()
