@@ -13,6 +13,7 @@ import stat
 
 from .answers import Refused, say
 from .commands import Steps, run
+from .sources import PROGRAM
 
 TARGET = "x86_64-unknown-linux-gnu"
 OBJECTS = ("part.o", "part.o1")
@@ -94,13 +95,16 @@ def module_words(top, kit, room, steps):
     return text_of(f"{room}/words").splitlines()
 
 
-def linker_words(kit, words):
-    """The words for the kit's linker, which makes objects of the module, with what clang was told of its back end."""
+def makings(kit, words, program):
+    """The two commands that make a program of the module: the kit's linker makes objects of what main needs of it, with
+    what clang was told of its back end; and these are linked with the kit's libraries."""
     told = [word for pair in zip(words, words[1:]) if pair[0] == "-mllvm" for word in pair]
     where = ["-m", "elf_x86_64", "-pie", "-e", "main", "-u", "main", "--unresolved-symbols=ignore-all"]
     how = ["--lto-O2", f"--lto-partitions={len(OBJECTS)}", f"--threads={len(OBJECTS)}"]
     made = [f"--lto-obj-path={OBJECTS[0]}", "-o", "parts"]
-    return [kit.path("toolchain/bin/ld.lld"), *where, *how, *told, *made, "module.bc"]
+    objects = [kit.path("toolchain/bin/ld.lld"), *where, *how, *told, *made, "module.bc"]
+    linked = ["--target", TARGET, "--toolchain", kit.path("toolchain"), "-o", program]
+    return objects, [kit.path("bin/rattle-link"), *linked, *OBJECTS, *map(kit.path, LIBRARIES)]
 
 
 def do(words, room, steps, **how):
@@ -118,13 +122,13 @@ def build(top, kit, sources, room):
     try:
         steps.begin(f"reading {len(sources.crates)} crates and the kit's libraries")
         words = module_words(top, kit, room, steps)
+        objects, linked = makings(kit, words, PROGRAM)
         steps.begin("compiling them")
-        do(linker_words(kit, words), room, steps)
+        do(objects, room, steps)
         steps.begin("linking them, and trying the program")
-        where = ["--target", TARGET, "--toolchain", kit.path("toolchain")]
-        do([kit.path("bin/rattle-link"), *where, "-o", "iocm", *OBJECTS, *map(kit.path, LIBRARIES)], room, steps)
-        do([f"{room}/iocm", "--help"], room, steps)
+        do(linked, room, steps)
+        do([f"{room}/{PROGRAM}", "--help"], room, steps)
     finally:
         steps.end()
     say(f"built in {steps.seconds():.0f} s. {NOTHING_PROVED}")
-    return f"{room}/iocm"
+    return f"{room}/{PROGRAM}"

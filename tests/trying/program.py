@@ -37,9 +37,9 @@ def built(home, room, words):
     if not os.path.exists(os.path.join(room, "words")):
         sys.exit(said)
     with open(os.path.join(room, "words"), encoding="utf-8") as file:
-        must_run(quick.compiler_words(kit, file.read().splitlines()), room)
-    where = ["--target", quick.TARGET, "--toolchain", kit.path("toolchain")]
+        given = file.read().splitlines()
     # the name of the file is in the usage text, which cases compare
     program = os.path.join(room, os.path.basename(home))
-    must_run([kit.path("bin/rattle-link"), *where, "-o", program, "module.o", *map(kit.path, quick.LIBRARIES)], room)
+    for command in quick.makings(kit, given, program):
+        must_run(command, room)
     return program
