@@ -1,3 +1,5 @@
+mod Homes
 mod Leaving
 pub mod Inverses
 pub mod WayBack
+mod Watching

@@ -1,4 +1,5 @@
 pub mod Headline
 pub mod Splitting
+pub mod Watching
 pub mod KeptInverses
 pub mod WayBack

@@ -24,6 +24,6 @@ pub use closing::close_and_tell;
 pub use edits::{performed_edits_go_back_whole, unapplied_edits_go_back_whole};
 pub use in_a_history::an_undo_in_a_legal_history;
 pub use names_apart::{all_names_come_home, names_stay_apart};
-pub use one_system::a_caller_is_of_one_system;
+pub use one_system::{a_caller_is_of_one_system, opened_apart};
 pub use trees::{kept_inverses_take_back, told_inverses_take_back};
 pub use watch::a_count_never_falls;

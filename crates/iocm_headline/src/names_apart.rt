@@ -1,12 +1,8 @@
 ghost use Rattle.std.specs.Prelude.{◌≡◌};
-ghost use Rattle.iocm_board.specs.Views.{first_view};
-ghost use Rattle.iocm_headline.specs.Splitting.{after_all};
+ghost use Rattle.iocm_headline.specs.Splitting.{after_all, AllNamesComeHome};
 
-use iocm_board::{Blank, Identity};
-use iocm_core::Core;
-use iocm_system::{Caller, System, Unclosed};
-use std::alloc::Global;
-use std::marker::Brand;
+use iocm_board::Identity;
+use iocm_system::{Caller, System};
 
 /// Splits so many callers off, each off the one before, and joins all of them again: the one that
 /// is left bears the names of all, each once.
@@ -23,22 +19,8 @@ pub fn names_stay_apart<B: Identity>(system: &System<B>, mut me: Caller<B>, coun
     system.join(me, other)
 }
 
-/// The same on a board that is named: with all names home the system can be closed.
-fn closed_named<B: Identity>(alloc: Global, core: Core, blank: Blank) -> Result<Core, Unclosed>
-    requires table { blank.table.shared.table_id ≡ B.table 1 }
-    requires origin { blank.keeper.me.0.origin ≡ B.origin 1 }
-    requires blank { blank.keeper.me.0 ≡ first_view core }
-{
-    let (board, keeper) = blank.named::<B>(1);
-    let (system, me) = System::open(alloc, core, board, keeper);
-    let me = names_stay_apart(&system, me, 8);
-    system.close(me)
-}
-
-/// After eight splits and joins the caller bears all names that were lent, so the system can be
-/// closed: `close` requires that.
-pub fn all_names_come_home(alloc: Global, core: Core, blank: Blank) -> Result<Core, Unclosed>
-    requires blank { blank.keeper.me.0 ≡ first_view core }
-{
-    closed_named::<Brand>(alloc, core, blank)
-}
+/// If the first caller of a system is split so, however often, and all are joined again, then the
+/// caller that is left bears every name that was lent: so `System::close` may be called.
+pub fn all_names_come_home()
+    ensures { AllNamesComeHome }
+{}
