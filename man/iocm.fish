@@ -9,7 +9,7 @@ complete -c iocm -n __fish_use_subcommand -f -a explain -d 'Say what a refusal m
 complete -c iocm -n __fish_use_subcommand -f -a help -d 'Print help'
 complete -c iocm -n __fish_use_subcommand -s V -l version -d 'Print the version'
 complete -c iocm -n 'not __fish_seen_subcommand_from help' -s h -l help -d 'Print help'
-complete -c iocm -n '__fish_seen_subcommand_from check show write diff apply run' -l quiet -d 'Nothing on standard error beside a refusal'
+complete -c iocm -n '__fish_seen_subcommand_from check show write diff apply run' -s q -l quiet -d 'Nothing on standard error beside a refusal'
 complete -c iocm -n '__fish_seen_subcommand_from check' -l all -d 'Every breach of the rules'
 complete -c iocm -n '__fish_seen_subcommand_from diff' -l old -d 'What was there, in comments'
 complete -c iocm -n '__fish_seen_subcommand_from apply' -l altered -d 'Each altered subchannel, before and afterwards'

@@ -78,7 +78,7 @@ def of_zsh(commands):
 def of_fish(commands):
     """By the text: each line of an option says after which commands it is offered."""
     found = {command: {HELP} for command in commands}
-    for after, option in re.findall(r"'__fish_seen_subcommand_from ([\w ]+)' -l ([\w-]+)", page("iocm.fish")):
+    for after, option in re.findall(r"'__fish_seen_subcommand_from ([\w ]+)'(?: -s \w)? -l ([\w-]+)", page("iocm.fish")):
         for command in after.split():
             found[command].add(option)
     return found

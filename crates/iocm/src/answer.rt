@@ -6,12 +6,12 @@ ghost use Rattle.iocm_console.specs.declared.status.Status.TheVariants.{Done};
 ghost use Rattle.iocm_console.specs.Output.{has_failed, IsHandedOn};
 ghost use Rattle.iocm_console.specs.Opening.{refused, Says, SaysIfMemory};
 ghost use Rattle.iocm_apply.specs.Apply.{IsRefusedDeck};
-ghost use Rattle.iocm.specs.Answer.{printed};
+ghost use Rattle.iocm.specs.Answer.{checked_by, printed};
 ghost use Rattle.iocm_command.specs.CommandLine.{change_deck_of};
 
 use iocm_apply::{Asked, apply_change};
 use iocm_columns::Device;
-use iocm_command::Request;
+use iocm_command::{Breaches, Request};
 use iocm_console::{ConsoleError, DeckCommand, Output, Status, answer_deck};
 use std::alloc::Global;
 use std::io::{Read, Write};
@@ -59,13 +59,8 @@ pub fn print_answer<R: Read, S: Read, W: Write + Drop>(
     ensures unwritable { result ≡ Err ConsoleError.Write → has_failed output.new ≡ true }
 {
     match request {
-        Request::Check { all, .. } => {
-            let command = if *all {
-                DeckCommand::CheckAll
-            } else {
-                DeckCommand::Check
-            };
-            answer_deck(alloc, command, deck, limit, output)
+        Request::Check { breaches, .. } => {
+            answer_deck(alloc, checked_by(*breaches), deck, limit, output)
         }
         Request::Show { filters, .. } => {
             answer_deck(alloc, DeckCommand::Show(filters), deck, limit, output)
@@ -83,5 +78,15 @@ pub fn print_answer<R: Read, S: Read, W: Write + Drop>(
             };
             apply_change(alloc, *heap as usize, &asked, deck, change, limit, output)
         }
+    }
+}
+
+/// The command that prints these breaches of the rules.
+fn checked_by<'f>(breaches: Breaches) -> DeckCommand<'f>
+    ensures { result ≡ checked_by breaches }
+{
+    match breaches {
+        Breaches::First => DeckCommand::Check,
+        Breaches::All => DeckCommand::CheckAll,
     }
 }

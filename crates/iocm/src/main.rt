@@ -30,7 +30,7 @@ use answer::print_answer;
 use clap::error::ErrorKind;
 use files::{count_inputs, open, open_all, read_input};
 use iocm_columns::Device;
-use iocm_command::{Command, Request, Understood, command_of};
+use iocm_command::{Before, Command, Request, Understood, command_of};
 use iocm_console::{ConsoleError, Output, Status, Told, refuse};
 use iocm_diff::diff_decks;
 use iocm_explain::explain;
@@ -185,7 +185,7 @@ fn carry_out<R: Files + Print + Eprint + AllocGlobal + Threads + Wait + Sync>(
 ) -> Result<Outcome, ConsoleError> {
     match command {
         Command::Answer(request) => answer_files(rt, request, input),
-        Command::Diff { old, new, with_old } => diff_files(rt, *old, *new, *with_old, input),
+        Command::Diff { old, new, before } => diff_files(rt, *old, *new, *before, input),
         Command::Explain { rule } => Ok(without_refusal(explain_rule(rt, *rule)?)),
         Command::Run {
             deck,
@@ -227,7 +227,7 @@ fn diff_files<R: Files + Print + AllocGlobal>(
     rt: &R,
     old: &str,
     new: &str,
-    with_old: bool,
+    before: Before,
     input: &[u8],
 ) -> Result<Outcome, ConsoleError> {
     let old = open(rt, old, input)?;
@@ -239,7 +239,7 @@ fn diff_files<R: Files + Print + AllocGlobal>(
     let mut count = 0;
     let status = diff_decks(
         rt.alloc(),
-        with_old,
+        before == Before::Shown,
         &mut Device::new(old),
         &mut Device::new(new),
         MOST_READS,

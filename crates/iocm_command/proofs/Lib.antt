@@ -1,4 +1,6 @@
 pub mod Plain
 pub mod PlainApply
 pub mod PlainRun
+pub mod PlainWalk
 pub mod Reading
+pub mod Rows

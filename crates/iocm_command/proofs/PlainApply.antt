@@ -1,366 +1,29 @@
--- Command lines that name a deck, a change deck and options plainly.
-use Rattle.std.proofs.Common.{◌≡◌, ◌==◌, ◌∙◌, ℕ, Bool, List, [], ◌∷◌, ◌++◌, Option, Some, None, ◌⊎◌, arith, codes, refl}
-use Rattle.std.proofs.Common.{sym, ap, ap₂, subst, inl, inr, true, false}
+-- Words that name `apply`, a deck and a change deck plainly, with options or none.
+use Rattle.std.proofs.Common.{◌≡◌, ◌==◌, ℕ, Bool, List, [], ◌∷◌, ◌++◌, Option, Some, None, IfSome, arith, codes, refl}
+use Rattle.std.proofs.Common.{sym, ap, subst, true, false}
 use Rattle.std.proofs.lemmas.Bool.{eqb-true}
 use Rattle.std.specs.Str.Parse.{IsNumeral, without_leading_plus}
-use Rattle.clap.specs.Faults.{check_fault, defaults_fault, level_fault, settle_fault, walk_fault}
-use Rattle.clap.specs.Kinds.{or_else}
+use Rattle.clap.specs.Faults.{settle_fault}
+use Rattle.clap.specs.Kinds.{Kinds, or_else}
 use Rattle.clap.specs.Simple.{Shape, built_leaf}
 use Rattle.clap.specs.ValueTests.{accepts}
-use Rattle.clap.specs.Walk.{Held, finished, nothing_held, settled, walk, walk_from}
-use Rattle.clap.specs.Words.{App, Kinds, Row, Rule, Text, fault_of, reading_of, subcommand_of, with_rule}
-use Rattle.clap.specs.Words.{with_subcommand}
+use Rattle.clap.specs.Walk.{Held, Walk, nothing_held, option, walk_from}
+use Rattle.clap.specs.Words.{Row, Text, reading_of}
 use Rattle.clap.specs.declared.builder.value_parser.Reading.TheVariants.{AsWritten}
-use Rattle.clap.specs.declared.builder.value_parser.ValueParser.{ValueParser}
-use Rattle.clap.specs.declared.builder.value_parser.ValueParser.TheVariants.{Unsigned}
 use Rattle.clap.specs.declared.parser.matches.ValueSource.TheVariants.{CommandLine}
 use Rattle.clap.proofs.OnLiterals.{clap_on_literals}
-use Rattle.clap.proofs.ValueTestLemmas.{accepts-Accepts, Accepts-accepts}
 use Rattle.iocm_apply.specs.declared.report.Report.{Report}
 use Rattle.iocm_apply.specs.declared.report.Report.TheVariants.{Table, WayBack}
 use Rattle.iocm_filter.specs.Wanted.{nothing}
-use Rattle.iocm_command.specs.CommandLine.{mistakes, values_under, IsApplyOf, IsHeapOption, IsPlainName, IsSizeText}
-use Rattle.iocm_command.specs.CommandLine.{NamesApply, StatesApply}
-use Rattle.iocm_command.specs.Program.{deck_app, decks_app, diff_app, explain_app, file_rule, heap_rule, iocm_app}
-use Rattle.iocm_command.specs.Program.{run_app, with_filters, with_reports}
-use Rattle.iocm_command.proofs.Plain.{no_filters}
-
-abbrev pub size_parser : ValueParser
-size_parser = Unsigned 16 16777216
-
--- ---- without a size
-
--- no value is given to a filter
-abbrev HasNoFilters : Option (Text × List Row) → Type 0
-HasNoFilters named = (values_under (codes "image") named ≡ []) × (values_under (codes "device") named ≡ [])
-    × (values_under (codes "unit") named ≡ []) × (values_under (codes "path") named ≡ [])
-    × (values_under (codes "paths-online") named ≡ [])
-
--- what is named is `apply` with these arguments and no filter
-abbrev IsPlainApply : Text → Text → Text → Report → Option (Text × List Row) → Type 0
-IsPlainApply deck change size report named = IsApplyOf named deck change size report × HasNoFilters named
-
--- the words have no mistake, and state `apply` with these arguments
-abbrev IsReadAs : List Text → Text → Text → Text → Report → Type 0
-IsReadAs words deck change size report =
-    (mistakes words ≡ []) × IsPlainApply deck change size report (subcommand_of iocm_app words)
-
-pub default_is_size : IsSizeText (codes "262144")
-default_is_size = accepts-Accepts false size_parser (codes "262144") refl
-
--- ---- with a size
-
--- `apply` with any parser of the size, and the program with that
-abbrev apply_by : ValueParser → App
-apply_by p = with_filters
-    (with_reports (with_rule (with_rule (deck_app (codes "apply")) (file_rule (codes "CHANGE")))
-    (record heap_rule { parser = Some p })))
-
-abbrev iocm_by : ValueParser → App
-iocm_by p = with_subcommand
-    (with_subcommand (with_subcommand (with_subcommand decks_app diff_app.top) (apply_by p).top) run_app.top)
-    explain_app.top
-
-abbrev shape_by : ValueParser → Shape
-shape_by p = built_leaf (apply_by p).top
-
--- the mistakes in words after `apply` are those that it finds in them
-abbrev FindsBelow : ValueParser → Text → List Text → Type 0
-FindsBelow p program words =
-    fault_of (iocm_by p) (program ∷ codes "apply" ∷ words)
-    ≡ or_else (level_fault (shape_by p) [] nothing_held words false []) []
-
-two_below : (p : ValueParser) (program a b : Text) → FindsBelow p program (a ∷ b ∷ [])
-unfolding clap_on_literals
-two_below p program a b = refl
-
-three_below : (p : ValueParser) (program a b c : Text) → FindsBelow p program (a ∷ b ∷ c ∷ [])
-unfolding clap_on_literals
-three_below p program a b c = refl
-
-four_below : (p : ValueParser) (program a b c d : Text) → FindsBelow p program (a ∷ b ∷ c ∷ d ∷ [])
-unfolding clap_on_literals
-four_below p program a b c d = refl
-
-five_below : (p : ValueParser) (program a b c d e : Text) → FindsBelow p program (a ∷ b ∷ c ∷ d ∷ e ∷ [])
-unfolding clap_on_literals
-five_below p program a b c d e = refl
-
--- and the command that they name is `apply`, with what it makes of them
-abbrev NamesBelow : ValueParser → Text → List Text → Type 0
-NamesBelow p program words = subcommand_of (iocm_by p) (program ∷ codes "apply" ∷ words)
-    ≡ Some (codes "apply", finished (shape_by p).rules (walk (shape_by p).rules [] nothing_held words).held)
-
-two_named : (p : ValueParser) (program a b : Text) → NamesBelow p program (a ∷ b ∷ [])
-unfolding clap_on_literals
-two_named p program a b = refl
-
-three_named : (p : ValueParser) (program a b c : Text) → NamesBelow p program (a ∷ b ∷ c ∷ [])
-unfolding clap_on_literals
-three_named p program a b c = refl
-
-four_named : (p : ValueParser) (program a b c d : Text) → NamesBelow p program (a ∷ b ∷ c ∷ d ∷ [])
-unfolding clap_on_literals
-four_named p program a b c d = refl
-
-five_named : (p : ValueParser) (program a b c d e : Text) → NamesBelow p program (a ∷ b ∷ c ∷ d ∷ e ∷ [])
-unfolding clap_on_literals
-five_named p program a b c d e = refl
-
--- the mistakes by those of the walk and by what it ends with
-abbrev mistakes_by : Shape → Kinds → Held → Kinds
-mistakes_by s walked end = or_else walked (or_else (settle_fault s.rules s.args_override_self end)
-    (or_else (defaults_fault (settled s.rules end).rows s.rules) (check_fault s (finished s.rules end) false)))
-
-abbrev row : Text → Text → Row
-row id value = record { id = id; values = value ∷ []; count = None; source = Some CommandLine; reading = AsWritten }
-
--- that the flag is given
-abbrev flag : Row
-flag = row (codes "undo") (codes "true")
-
--- a walk over two files, further arguments and a size ends with these
-abbrev ended : Text → Text → List Row → Text → Held
-ended deck change more size = record {
-  rows = row (codes "DECK") deck ∷ row (codes "CHANGE") change ∷ more;
-  pending = Some (codes "heap", size ∷ []);
-  skip = 0;
-}
-
--- over two files, a size and the flag
-abbrev ended_by : ValueParser → Text → Text → Text → Held
-ended_by p deck change size = record {
-  rows = row (codes "DECK") deck ∷ row (codes "CHANGE") change
-      ∷ record (row (codes "heap") size) { reading = reading_of p } ∷ flag ∷ [];
-  pending = None;
-  skip = 0;
-}
-
-module _ (p : ValueParser) (d : ℕ) (ds : List ℕ) (c : ℕ) (cs : List ℕ) (s : ℕ) (ss : List ℕ)
-    (dh : (d == 45) ≡ false) (ch : (c == 45) ≡ false) (sh : (s == 45) ≡ false) where
-  -- the words with a size, with the flag behind it, and with the flag before it
-  abbrev sized_words : List Text
-  sized_words = (d ∷ ds) ∷ (c ∷ cs) ∷ codes "--heap" ∷ (s ∷ ss) ∷ []
-
-  abbrev flag_behind : List Text
-  flag_behind = (d ∷ ds) ∷ (c ∷ cs) ∷ codes "--heap" ∷ (s ∷ ss) ∷ codes "--undo" ∷ []
-
-  abbrev flag_before : List Text
-  flag_before = (d ∷ ds) ∷ (c ∷ cs) ∷ codes "--undo" ∷ codes "--heap" ∷ (s ∷ ss) ∷ []
-
-  walk_ends : (walk (shape_by p).rules [] nothing_held sized_words).held ≡ ended (d ∷ ds) (c ∷ cs) [] (s ∷ ss)
-  unfolding clap_on_literals
-  walk_ends = simp (dh, ch, sh)
-
-  walk_passes_on : walk_fault (shape_by p) [] (walk_from nothing_held) sized_words ≡ []
-  unfolding clap_on_literals
-  walk_passes_on = simp (dh, ch, sh)
-
-  -- at the end the size is settled, and then nothing is missing
-  end_settles : accepts false p (s ∷ ss) ≡ true
-      → settle_fault (shape_by p).rules (shape_by p).args_override_self (ended (d ∷ ds) (c ∷ cs) [] (s ∷ ss)) ≡ []
-  unfolding clap_on_literals
-  end_settles size = simp size
-
-  end_has_defaults : defaults_fault (settled (shape_by p).rules (ended (d ∷ ds) (c ∷ cs) [] (s ∷ ss))).rows
-      (shape_by p).rules ≡ []
-  unfolding clap_on_literals
-  end_has_defaults = refl
-
-  end_has_all : check_fault (shape_by p) (finished (shape_by p).rules (ended (d ∷ ds) (c ∷ cs) [] (s ∷ ss))) false ≡ []
-  unfolding clap_on_literals
-  end_has_all = refl
-
-  end_passes : accepts false p (s ∷ ss) ≡ true → mistakes_by (shape_by p) [] (ended (d ∷ ds) (c ∷ cs) [] (s ∷ ss)) ≡ []
-  end_passes size = λ j. or_else (end_settles size j) (or_else (end_has_defaults j) (end_has_all j))
-
-  before_ends : (walk (shape_by p).rules [] nothing_held flag_before).held
-      ≡ ended (d ∷ ds) (c ∷ cs) (flag ∷ []) (s ∷ ss)
-  unfolding clap_on_literals
-  before_ends = simp (dh, ch, sh)
-
-  before_passes_on : walk_fault (shape_by p) [] (walk_from nothing_held) flag_before ≡ []
-  unfolding clap_on_literals
-  before_passes_on = simp (dh, ch, sh)
-
-  before_settles : accepts false p (s ∷ ss) ≡ true
-      → settle_fault (shape_by p).rules (shape_by p).args_override_self (ended (d ∷ ds) (c ∷ cs) (flag ∷ []) (s ∷ ss))
-      ≡ []
-  unfolding clap_on_literals
-  before_settles size = simp size
-
-  before_has_defaults : defaults_fault (settled (shape_by p).rules (ended (d ∷ ds) (c ∷ cs) (flag ∷ []) (s ∷ ss))).rows
-      (shape_by p).rules ≡ []
-  unfolding clap_on_literals
-  before_has_defaults = refl
-
-  before_has_all : check_fault (shape_by p) (finished (shape_by p).rules (ended (d ∷ ds) (c ∷ cs) (flag ∷ []) (s ∷ ss)))
-      false ≡ []
-  unfolding clap_on_literals
-  before_has_all = refl
-
-  before_passes : accepts false p (s ∷ ss) ≡ true
-      → mistakes_by (shape_by p) [] (ended (d ∷ ds) (c ∷ cs) (flag ∷ []) (s ∷ ss)) ≡ []
-  before_passes size = λ j. or_else (before_settles size j) (or_else (before_has_defaults j) (before_has_all j))
-
-  behind_ends : (walk (shape_by p).rules [] nothing_held flag_behind).held ≡ ended_by p (d ∷ ds) (c ∷ cs) (s ∷ ss)
-  unfolding clap_on_literals
-  behind_ends = simp (dh, ch, sh)
-
-  behind_passes_on : accepts false p (s ∷ ss) ≡ true
-      → walk_fault (shape_by p) [] (walk_from nothing_held) flag_behind ≡ []
-  unfolding clap_on_literals
-  behind_passes_on size = simp (dh, ch, sh, size)
-
-  behind_passes : mistakes_by (shape_by p) [] (ended_by p (d ∷ ds) (c ∷ cs) (s ∷ ss)) ≡ []
-  unfolding clap_on_literals
-  behind_passes = refl
-
-  -- so a size that passes the parser is no mistake, alone and with the flag
-  size_passes : (program : Text) → accepts false p (s ∷ ss) ≡ true
-      → fault_of (iocm_by p) (program ∷ codes "apply" ∷ sized_words) ≡ []
-  size_passes program size = four_below p program (d ∷ ds) (c ∷ cs) (codes "--heap") (s ∷ ss)
-      ∙ ap (λ kinds. or_else kinds []) (ap₂ (mistakes_by (shape_by p)) walk_passes_on walk_ends ∙ end_passes size)
-
-  size_behind_passes : (program : Text) → accepts false p (s ∷ ss) ≡ true
-      → fault_of (iocm_by p) (program ∷ codes "apply" ∷ flag_before) ≡ []
-  size_behind_passes program size = five_below p program (d ∷ ds) (c ∷ cs) (codes "--undo") (codes "--heap") (s ∷ ss)
-      ∙ ap (λ kinds. or_else kinds [])
-      (ap₂ (mistakes_by (shape_by p)) before_passes_on before_ends ∙ before_passes size)
-
-  size_before_passes : (program : Text) → accepts false p (s ∷ ss) ≡ true
-      → fault_of (iocm_by p) (program ∷ codes "apply" ∷ flag_behind) ≡ []
-  size_before_passes program size = five_below p program (d ∷ ds) (c ∷ cs) (codes "--heap") (s ∷ ss) (codes "--undo")
-      ∙ ap (λ kinds. or_else kinds [])
-      (ap₂ (mistakes_by (shape_by p)) (behind_passes_on size) behind_ends ∙ behind_passes)
-
--- over two files and the flag, a walk ends so
-abbrev flagged : Text → Text → Held
-flagged deck change = record
-    { rows = row (codes "DECK") deck ∷ row (codes "CHANGE") change ∷ flag ∷ []; pending = None; skip = 0 }
-
--- over two files alone it ends so
-abbrev filed : Text → Text → Held
-filed deck change = record
-    { rows = row (codes "DECK") deck ∷ []; pending = Some (codes "CHANGE", change ∷ []); skip = 0 }
-
-module _ (program : Text) (d : ℕ) (ds : List ℕ) (c : ℕ) (cs : List ℕ) (dh : (d == 45) ≡ false)
-    (ch : (c == 45) ≡ false) where
-  abbrev rules : List Rule
-  rules = (shape_by size_parser).rules
-
-  -- the arguments that `apply` has where the walk over its words ends so
-  abbrev HasArguments : Held → Text → Report → Type 0
-  HasArguments h size report = IsPlainApply (d ∷ ds) (c ∷ cs) size report (Some (codes "apply", finished rules h))
-
-  abbrev flagged_words : List Text
-  flagged_words = (d ∷ ds) ∷ (c ∷ cs) ∷ codes "--undo" ∷ []
-
-  flagged_ends : (walk rules [] nothing_held flagged_words).held ≡ flagged (d ∷ ds) (c ∷ cs)
-  unfolding clap_on_literals
-  flagged_ends = simp (dh, ch)
-
-  flagged_passes_on : walk_fault (shape_by size_parser) [] (walk_from nothing_held) flagged_words ≡ []
-  unfolding clap_on_literals
-  flagged_passes_on = simp (dh, ch)
-
-  flagged_passes : mistakes_by (shape_by size_parser) [] (flagged (d ∷ ds) (c ∷ cs)) ≡ []
-  unfolding clap_on_literals
-  flagged_passes = refl
-
-  flagged_has : HasArguments (flagged (d ∷ ds) (c ∷ cs)) (codes "262144") WayBack
-  unfolding clap_on_literals
-  flagged_has = ((refl, refl, refl, (refl, refl, refl, refl, refl)), (refl, refl, refl, refl, refl))
-
-  -- words that name `apply`, of which the walk ends so
-  named_by : (words : List Text) (h : Held) (size : Text) (report : Report) → NamesBelow size_parser program words
-      → (walk rules [] nothing_held words).held ≡ h → HasArguments h size report
-      → IsPlainApply (d ∷ ds) (c ∷ cs) size report (subcommand_of iocm_app (program ∷ codes "apply" ∷ words))
-  named_by words h size report named ends has =
-      subst (IsPlainApply (d ∷ ds) (c ∷ cs) size report)
-      (sym (named ∙ ap (λ end. Some (codes "apply", finished rules end)) ends)) has
-
-  abbrev filed_words : List Text
-  filed_words = (d ∷ ds) ∷ (c ∷ cs) ∷ []
-
-  filed_ends : (walk rules [] nothing_held filed_words).held ≡ filed (d ∷ ds) (c ∷ cs)
-  unfolding clap_on_literals
-  filed_ends = simp (dh, ch)
-
-  filed_passes_on : walk_fault (shape_by size_parser) [] (walk_from nothing_held) filed_words ≡ []
-  unfolding clap_on_literals
-  filed_passes_on = simp (dh, ch)
-
-  filed_passes : mistakes_by (shape_by size_parser) [] (filed (d ∷ ds) (c ∷ cs)) ≡ []
-  unfolding clap_on_literals
-  filed_passes = refl
-
-  filed_has : HasArguments (filed (d ∷ ds) (c ∷ cs)) (codes "262144") Table
-  unfolding clap_on_literals
-  filed_has = ((refl, refl, refl, (refl, refl, refl, refl, refl)), (refl, refl, refl, refl, refl))
-
-  apply_is_read : IsReadAs (program ∷ codes "apply" ∷ filed_words) (d ∷ ds) (c ∷ cs) (codes "262144") Table
-  apply_is_read = (
-    two_below size_parser program (d ∷ ds) (c ∷ cs)
-        ∙ ap (λ kinds. or_else kinds [])
-        (ap₂ (mistakes_by (shape_by size_parser)) filed_passes_on filed_ends ∙ filed_passes),
-    named_by filed_words (filed (d ∷ ds) (c ∷ cs)) (codes "262144") Table
-        (two_named size_parser program (d ∷ ds) (c ∷ cs)) filed_ends filed_has,
-  )
-
-  undo_is_read : IsReadAs (program ∷ codes "apply" ∷ flagged_words) (d ∷ ds) (c ∷ cs) (codes "262144") WayBack
-  undo_is_read = (
-    three_below size_parser program (d ∷ ds) (c ∷ cs) (codes "--undo")
-        ∙ ap (λ kinds. or_else kinds [])
-        (ap₂ (mistakes_by (shape_by size_parser)) flagged_passes_on flagged_ends ∙ flagged_passes),
-    named_by flagged_words (flagged (d ∷ ds) (c ∷ cs)) (codes "262144") WayBack
-        (three_named size_parser program (d ∷ ds) (c ∷ cs) (codes "--undo")) flagged_ends flagged_has,
-  )
-
-  module _ (s : ℕ) (ss : List ℕ) (sh : (s == 45) ≡ false) (size : IsSizeText (s ∷ ss)) where
-    accepted : accepts false size_parser (s ∷ ss) ≡ true
-    accepted = Accepts-accepts false size_parser (s ∷ ss) size
-
-    sized_has : HasArguments (ended (d ∷ ds) (c ∷ cs) [] (s ∷ ss)) (s ∷ ss) Table
-    unfolding clap_on_literals
-    sized_has = ((refl, refl, refl, (refl, refl, refl, refl, refl)), (refl, refl, refl, refl, refl))
-
-    before_has : HasArguments (ended (d ∷ ds) (c ∷ cs) (flag ∷ []) (s ∷ ss)) (s ∷ ss) WayBack
-    unfolding clap_on_literals
-    before_has = ((refl, refl, refl, (refl, refl, refl, refl, refl)), (refl, refl, refl, refl, refl))
-
-    behind_has : HasArguments (ended_by size_parser (d ∷ ds) (c ∷ cs) (s ∷ ss)) (s ∷ ss) WayBack
-    unfolding clap_on_literals
-    behind_has = ((refl, refl, refl, (refl, refl, refl, refl, refl)), (refl, refl, refl, refl, refl))
-
-    sized_is_read : IsReadAs (program ∷ codes "apply" ∷ sized_words size_parser d ds c cs s ss dh ch sh) (d ∷ ds)
-        (c ∷ cs) (s ∷ ss) Table
-    sized_is_read = (
-      size_passes size_parser d ds c cs s ss dh ch sh program accepted,
-      named_by (sized_words size_parser d ds c cs s ss dh ch sh) (ended (d ∷ ds) (c ∷ cs) [] (s ∷ ss)) (s ∷ ss) Table
-          (four_named size_parser program (d ∷ ds) (c ∷ cs) (codes "--heap") (s ∷ ss))
-          (walk_ends size_parser d ds c cs s ss dh ch sh) sized_has,
-    )
-
-    undo_with_size_is_read : IsReadAs (program ∷ codes "apply" ∷ flag_before size_parser d ds c cs s ss dh ch sh)
-        (d ∷ ds) (c ∷ cs) (s ∷ ss) WayBack
-    undo_with_size_is_read = (
-      size_behind_passes size_parser d ds c cs s ss dh ch sh program accepted,
-      named_by (flag_before size_parser d ds c cs s ss dh ch sh) (ended (d ∷ ds) (c ∷ cs) (flag ∷ []) (s ∷ ss)) (s ∷ ss)
-          WayBack
-          (five_named size_parser program (d ∷ ds) (c ∷ cs) (codes "--undo") (codes "--heap") (s ∷ ss))
-          (before_ends size_parser d ds c cs s ss dh ch sh) before_has,
-    )
-
-    sized_undo_is_read : IsReadAs (program ∷ codes "apply" ∷ flag_behind size_parser d ds c cs s ss dh ch sh) (d ∷ ds)
-        (c ∷ cs) (s ∷ ss) WayBack
-    sized_undo_is_read = (
-      size_before_passes size_parser d ds c cs s ss dh ch sh program accepted,
-      named_by (flag_behind size_parser d ds c cs s ss dh ch sh) (ended_by size_parser (d ∷ ds) (c ∷ cs) (s ∷ ss))
-          (s ∷ ss) WayBack
-          (five_named size_parser program (d ∷ ds) (c ∷ cs) (codes "--heap") (s ∷ ss) (codes "--undo"))
-          (behind_ends size_parser d ds c cs s ss dh ch sh) behind_has,
-    )
+use Rattle.iocm_values.specs.Reading.{◌>>=◌, every}
+use Rattle.iocm_command.specs.CommandLine.{Stated, apply, number_of, IsSizeText}
+use Rattle.iocm_command.specs.Plain.{AppliesAreMeant, IsPlainName, MeanApply, MeansApply}
+use Rattle.iocm_command.specs.Program.{apply_row, command_app, heap_parser}
+use Rattle.iocm_command.proofs.Plain.{at_deck}
+use Rattle.iocm_command.proofs.PlainWalk.{Asks, Leads, Leaf, at, file, is_read, joined, mistakes_by, one_word}
+use Rattle.iocm_command.proofs.Reading.{size_found, size_passes}
+
+-- ---- the size of a heap
 
 hyphen_is_no_digit : (bs : List ℕ) → IsNumeral 10 (without_leading_plus (45 ∷ bs)) → ⊥
 hyphen_is_no_digit bs h = omega (arith, h.1.0)
@@ -375,61 +38,200 @@ size_is_plain (b ∷ bs) h = (b, bs, refl, go (b == 45) refl)
     go true e = absurd (hyphen_is_no_digit bs
         (subst (λ (x : ℕ). IsNumeral 10 (without_leading_plus (x ∷ bs))) (eqb-true b 45 e) h.0))
 
--- ---- all
+-- the default is one
+pub default_passes : accepts false heap_parser (codes "262144") ≡ true
+unfolding heap_parser
+default_passes = refl
 
--- words that are so read state `apply`
-read_states : (words same : List Text) (deck change size : Text) (report : Report) → words ≡ same
-    → IsReadAs same deck change size report → IsSizeText size
-    → StatesApply words
-read_states words same deck change size report is read sized =
-    let named = subcommand_of iocm_app same in
-    let (is_, ds, us, ps, os) = read.1.1 in
-    subst StatesApply (sym is)
-    (read.0, (deck, change, size, report, read.1.0, sized, nothing, no_filters named is_ ds us ps os))
+-- ---- the walk
+
+abbrev pub row : Text → Text → Row
+row id value = record { id = id; values = value ∷ []; count = None; source = Some CommandLine; reading = AsWritten }
+
+abbrev apply_shape : Shape
+apply_shape = built_leaf (command_app apply_row).top
+
+apply_leaf : Leaf (codes "apply") apply_shape
+unfolding clap_on_literals
+apply_leaf = record { walks = refl; passes = refl; found = refl; named = refl }
+
+-- after `--heap` with these rows before it, and after its size
+abbrev pub at_heap : List Row → Walk
+at_heap rows = record (walk_from (record { rows = rows; pending = Some (codes "heap", []); skip = 0 }))
+    { waiting = option (codes "heap"); position = 3 }
+
+abbrev pub at_size : List Row → Text → Walk
+at_size rows size = at (record { rows = rows; pending = Some (codes "heap", size ∷ []); skip = 0 }) false 3
+
+-- after `--undo`
+abbrev at_undo : List Row → Walk
+at_undo rows = at (record { rows = rows; pending = None; skip = 0 }) false 3
+
+abbrev Goes : Walk → List Text → Walk → Type 0
+Goes = Leads (codes "apply") apply_shape apply_leaf
+
+to_size : (rows : List Row) (z : ℕ) (zs : List ℕ) → (z == 45) ≡ false
+    → Goes (at_heap rows) ((z ∷ zs) ∷ []) (at_size rows (z ∷ zs))
+unfolding clap_on_literals
+to_size rows z zs zh = one_word (codes "apply") apply_shape apply_leaf (at_heap rows) (z ∷ zs)
+    (at_size rows (z ∷ zs)) (simp zh) (simp zh)
 
 module _ (program : Text) (d : ℕ) (ds : List ℕ) (c : ℕ) (cs : List ℕ) (dh : (d == 45) ≡ false)
     (ch : (c == 45) ≡ false) where
-  abbrev front : List Text → List Text
-  front options = program ∷ codes "apply" ∷ (d ∷ ds) ∷ (c ∷ cs) ∷ options
+  -- after both files
+  abbrev at_change : Walk
+  at_change = at
+      (record { rows = row (codes "DECK") (d ∷ ds) ∷ []; pending = Some (codes "CHANGE", (c ∷ cs) ∷ []); skip = 0 })
+      false 3
 
-  -- so such words state it, with each of the options
-  options_state : (options size : List Text) → IsHeapOption size
-      → (options ≡ size) ⊎ ((options ≡ size ++ codes "--undo" ∷ []) ⊎ (options ≡ codes "--undo" ∷ size))
-      → StatesApply (front options)
-  options_state options size (inl none) (inl is) =
-      read_states (front options) (front []) (d ∷ ds) (c ∷ cs) (codes "262144") Table (ap front (is ∙ none))
-      (apply_is_read program d ds c cs dh ch) default_is_size
-  options_state options size (inl none) (inr (inl is)) =
-      read_states (front options) (front (codes "--undo" ∷ [])) (d ∷ ds) (c ∷ cs) (codes "262144") WayBack
-      (ap front (is ∙ ap (λ o. o ++ codes "--undo" ∷ []) none)) (undo_is_read program d ds c cs dh ch) default_is_size
-  options_state options size (inl none) (inr (inr is)) =
-      read_states (front options) (front (codes "--undo" ∷ [])) (d ∷ ds) (c ∷ cs) (codes "262144") WayBack
-      (ap front (is ∙ ap (λ o. codes "--undo" ∷ o) none)) (undo_is_read program d ds c cs dh ch) default_is_size
-  options_state options size (inr (text, sized, o_is)) placed =
-      let (s, ss, s_is, sh) = size_is_plain text sized in
-      let sized_too : IsSizeText (s ∷ ss) = subst IsSizeText s_is sized in
-      let is : size ≡ codes "--heap" ∷ (s ∷ ss) ∷ [] = o_is ∙ ap (λ t. codes "--heap" ∷ t ∷ []) s_is in
-      go s ss sh sized_too is placed
-    where
-      go : (s : ℕ) (ss : List ℕ) → (s == 45) ≡ false → IsSizeText (s ∷ ss) → size ≡ codes "--heap" ∷ (s ∷ ss) ∷ []
-          → (options ≡ size) ⊎ ((options ≡ size ++ codes "--undo" ∷ []) ⊎ (options ≡ codes "--undo" ∷ size))
-          → StatesApply (front options)
-      go s ss sh sized_too is (inl o) =
-          read_states (front options) (front (codes "--heap" ∷ (s ∷ ss) ∷ [])) (d ∷ ds) (c ∷ cs) (s ∷ ss) Table
-          (ap front (o ∙ is))
-          (sized_is_read program d ds c cs dh ch s ss sh sized_too) sized_too
-      go s ss sh sized_too is (inr (inl o)) =
-          read_states (front options) (front (codes "--heap" ∷ (s ∷ ss) ∷ codes "--undo" ∷ [])) (d ∷ ds) (c ∷ cs)
-          (s ∷ ss) WayBack
-          (ap front (o ∙ ap (λ o. o ++ codes "--undo" ∷ []) is))
-          (sized_undo_is_read program d ds c cs dh ch s ss sh sized_too) sized_too
-      go s ss sh sized_too is (inr (inr o)) =
-          read_states (front options) (front (codes "--undo" ∷ codes "--heap" ∷ (s ∷ ss) ∷ [])) (d ∷ ds) (c ∷ cs)
-          (s ∷ ss) WayBack
-          (ap front (o ∙ ap (λ o. codes "--undo" ∷ o) is))
-          (undo_with_size_is_read program d ds c cs dh ch s ss sh sized_too) sized_too
+  to_files : Goes (walk_from nothing_held) ((d ∷ ds) ∷ (c ∷ cs) ∷ []) at_change
+  unfolding clap_on_literals
+  to_files = joined (codes "apply") apply_shape apply_leaf (walk_from nothing_held) (at_deck (d ∷ ds)) at_change
+      ((d ∷ ds) ∷ []) ((c ∷ cs) ∷ [])
+      (file (codes "apply") apply_shape apply_leaf nothing_held false 1 d ds (at_deck (d ∷ ds)) dh refl refl)
+      (file (codes "apply") apply_shape apply_leaf (at_deck (d ∷ ds)).held false 2 c cs at_change ch refl refl)
 
-pub states_apply : (words : List Text) → NamesApply words → StatesApply words
-states_apply words (program, deck, change, options, (d, ds, d_is, dh), (c, cs, c_is, ch), (size, heap, placed), same) =
-    subst StatesApply (sym (same ∙ ap₂ (λ x y. program ∷ codes "apply" ∷ x ∷ y ∷ options) d_is c_is))
-    (options_state program d ds c cs dh ch options size heap placed)
+  -- the rows of the files, with those of options
+  abbrev rows : List Row → List Row
+  rows more = row (codes "DECK") (d ∷ ds) ∷ row (codes "CHANGE") (c ∷ cs) ∷ more
+
+  abbrev undo : Row
+  undo = row (codes "undo") (codes "true")
+
+  abbrev heap : Text → Row
+  heap size = record (row (codes "heap") size) { reading = reading_of heap_parser }
+
+  to_undo : Goes at_change (codes "--undo" ∷ []) (at_undo (rows (undo ∷ [])))
+  unfolding clap_on_literals
+  to_undo = one_word (codes "apply") apply_shape apply_leaf at_change (codes "--undo") (at_undo (rows (undo ∷ [])))
+      refl refl
+
+  to_heap : Goes at_change (codes "--heap" ∷ []) (at_heap (rows []))
+  unfolding clap_on_literals
+  to_heap = one_word (codes "apply") apply_shape apply_leaf at_change (codes "--heap") (at_heap (rows [])) refl refl
+
+  undo_to_heap : Goes (at_undo (rows (undo ∷ []))) (codes "--heap" ∷ []) (at_heap (rows (undo ∷ [])))
+  unfolding clap_on_literals
+  undo_to_heap = one_word (codes "apply") apply_shape apply_leaf (at_undo (rows (undo ∷ []))) (codes "--heap")
+      (at_heap (rows (undo ∷ []))) refl refl
+
+  size_to_undo : (size : Text) → accepts false heap_parser size ≡ true
+      → Goes (at_size (rows []) size) (codes "--undo" ∷ []) (at_undo (rows (heap size ∷ undo ∷ [])))
+  unfolding clap_on_literals
+  size_to_undo size passes = one_word (codes "apply") apply_shape apply_leaf (at_size (rows []) size) (codes "--undo")
+      (at_undo (rows (heap size ∷ undo ∷ []))) refl (simp passes)
+
+  -- ---- where the words end
+
+  abbrev Means : List Text → ℕ → Report → Type 0
+  Means = MeanApply program (d ∷ ds) (c ∷ cs)
+
+  -- what is held there has no mistake, and asks for this
+  abbrev Ends : Held → ℕ → Report → Type 0
+  Ends held size report = (mistakes_by (codes "apply") apply_shape apply_leaf [] held ≡ [])
+      × Asks (codes "apply") apply_shape apply_leaf held (apply (d ∷ ds) (c ∷ cs) size report nothing)
+
+  read : (options : List Text) (end : Walk) (size : ℕ) (report : Report) → Goes at_change options end
+      → Ends end.held size report → Means options size report
+  read options end size report leads ends = is_read (codes "apply") apply_shape apply_leaf program
+      ((d ∷ ds) ∷ (c ∷ cs) ∷ options) end (apply (d ∷ ds) (c ∷ cs) size report nothing)
+      (joined (codes "apply") apply_shape apply_leaf (walk_from nothing_held) at_change end
+      ((d ∷ ds) ∷ (c ∷ cs) ∷ []) options to_files leads)
+      ends.0 ends.1
+
+  files_end : Ends at_change.held 262144 Table
+  unfolding clap_on_literals every heap_parser
+  files_end = (refl, refl)
+
+  undo_ends : Ends (at_undo (rows (undo ∷ []))).held 262144 WayBack
+  unfolding clap_on_literals every heap_parser
+  undo_ends = (refl, refl)
+
+  -- a size that passes its parser is no mistake, and is asked for
+  abbrev Settles : Held → Type 0
+  Settles held = settle_fault apply_shape.rules apply_shape.args_override_self held ≡ []
+
+  size_settles : (size : Text) → accepts false heap_parser size ≡ true → Settles (at_size (rows []) size).held
+  unfolding clap_on_literals
+  size_settles size passes = simp passes
+
+  undo_size_settles : (size : Text) → accepts false heap_parser size ≡ true
+      → Settles (at_size (rows (undo ∷ [])) size).held
+  unfolding clap_on_literals
+  undo_size_settles size passes = simp passes
+
+  abbrev asked : Report → Option ℕ → Option Stated
+  asked report size = (size >>= λ n. Some (apply (d ∷ ds) (c ∷ cs) n report nothing)) >>= λ command.
+      Some (record { command = command; quiet = false })
+
+  size_ends : (size : Text) → accepts false heap_parser size ≡ true
+      → Ends (at_size (rows []) size).held (number_of size) Table
+  unfolding clap_on_literals every
+  size_ends size passes = (
+    ap (λ (kinds : Kinds). or_else kinds []) (size_settles size passes),
+    ap (asked Table) (size_found size passes),
+  )
+
+  undo_size_ends : (size : Text) → accepts false heap_parser size ≡ true
+      → Ends (at_size (rows (undo ∷ [])) size).held (number_of size) WayBack
+  unfolding clap_on_literals every
+  undo_size_ends size passes = (
+    ap (λ (kinds : Kinds). or_else kinds []) (undo_size_settles size passes),
+    ap (asked WayBack) (size_found size passes),
+  )
+
+  size_undo_ends : (size : Text) → accepts false heap_parser size ≡ true
+      → Ends (at_undo (rows (heap size ∷ undo ∷ []))).held (number_of size) WayBack
+  unfolding clap_on_literals every
+  size_undo_ends size passes = (refl, ap (asked WayBack) (size_found size passes))
+
+  -- ---- all
+
+  abbrev join : (w between after : Walk) (xs ys : List Text) → Goes w xs between → Goes between ys after
+      → Goes w (xs ++ ys) after
+  join = joined (codes "apply") apply_shape apply_leaf
+
+  none_means : Means [] 262144 Table
+  none_means = read [] at_change 262144 Table (λ rest. (refl, refl)) files_end
+
+  undo_means : Means (codes "--undo" ∷ []) 262144 WayBack
+  undo_means = read (codes "--undo" ∷ []) (at_undo (rows (undo ∷ []))) 262144 WayBack to_undo undo_ends
+
+  module _ (z : ℕ) (zs : List ℕ) (zh : (z == 45) ≡ false) (passes : accepts false heap_parser (z ∷ zs) ≡ true) where
+    to_sized : Goes at_change (codes "--heap" ∷ (z ∷ zs) ∷ []) (at_size (rows []) (z ∷ zs))
+    to_sized = join at_change (at_heap (rows [])) (at_size (rows []) (z ∷ zs)) (codes "--heap" ∷ []) ((z ∷ zs) ∷ [])
+        to_heap (to_size (rows []) z zs zh)
+
+    size_means : Means (codes "--heap" ∷ (z ∷ zs) ∷ []) (number_of (z ∷ zs)) Table
+    size_means = read (codes "--heap" ∷ (z ∷ zs) ∷ []) (at_size (rows []) (z ∷ zs)) (number_of (z ∷ zs)) Table to_sized
+        (size_ends (z ∷ zs) passes)
+
+    size_undo_means : Means (codes "--heap" ∷ (z ∷ zs) ∷ codes "--undo" ∷ []) (number_of (z ∷ zs)) WayBack
+    size_undo_means = read (codes "--heap" ∷ (z ∷ zs) ∷ codes "--undo" ∷ [])
+        (at_undo (rows (heap (z ∷ zs) ∷ undo ∷ []))) (number_of (z ∷ zs)) WayBack
+        (join at_change (at_size (rows []) (z ∷ zs)) (at_undo (rows (heap (z ∷ zs) ∷ undo ∷ [])))
+        (codes "--heap" ∷ (z ∷ zs) ∷ []) (codes "--undo" ∷ []) to_sized (size_to_undo (z ∷ zs) passes))
+        (size_undo_ends (z ∷ zs) passes)
+
+    undo_size_means : Means (codes "--undo" ∷ codes "--heap" ∷ (z ∷ zs) ∷ []) (number_of (z ∷ zs)) WayBack
+    undo_size_means = read (codes "--undo" ∷ codes "--heap" ∷ (z ∷ zs) ∷ []) (at_size (rows (undo ∷ [])) (z ∷ zs))
+        (number_of (z ∷ zs)) WayBack
+        (join at_change (at_undo (rows (undo ∷ []))) (at_size (rows (undo ∷ [])) (z ∷ zs)) (codes "--undo" ∷ [])
+        (codes "--heap" ∷ (z ∷ zs) ∷ []) to_undo
+        (join (at_undo (rows (undo ∷ []))) (at_heap (rows (undo ∷ []))) (at_size (rows (undo ∷ [])) (z ∷ zs))
+        (codes "--heap" ∷ []) ((z ∷ zs) ∷ []) undo_to_heap (to_size (rows (undo ∷ [])) z zs zh)))
+        (undo_size_ends (z ∷ zs) passes)
+
+  all_mean : (size : Option Text) → IfSome size IsSizeText → MeansApply program (d ∷ ds) (c ∷ cs) size
+  all_mean None sized = (none_means, undo_means, undo_means)
+  all_mean (Some text) sized =
+      let (z, zs, is, zh) = size_is_plain text sized in
+      let passes = size_passes (z ∷ zs) (subst IsSizeText is sized) in
+      subst (λ (t : Text). MeansApply program (d ∷ ds) (c ∷ cs) (Some t)) (sym is)
+      (size_means z zs zh passes, size_undo_means z zs zh passes, undo_size_means z zs zh passes)
+
+pub applies_are_meant : AppliesAreMeant
+applies_are_meant program deck change size (d, ds, d_is, dh) (c, cs, c_is, ch) sized =
+    subst (λ (x : Text). MeansApply program x change size) (sym d_is)
+    (subst (λ (x : Text). MeansApply program (d ∷ ds) x size) (sym c_is)
+    (all_mean program d ds c cs dh ch size sized))

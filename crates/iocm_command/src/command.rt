@@ -1,18 +1,16 @@
-ghost use Rattle.std.specs.Prelude.{◌≡◌, [], List, Some, IfOk, IfErr, map, option_map};
-ghost use Rattle.clap.specs.Words.{HasKind, kind_of};
-ghost use Rattle.iocm_command.specs.CommandLine.{all_asked_of, change_deck_of, request_words, AsksQuiet};
-ghost use Rattle.iocm_command.specs.CommandLine.{mistakes, mistakes_or_others};
-ghost use Rattle.iocm_command.specs.CommandLine.{IsAsNamed, NamesApply, NamesDeck, NamesRun};
-ghost use Rattle.iocm_command.specs.CommandLine.{StatesApply, StatesArguments, StatesCommand, StatesDeck};
-ghost use Rattle.iocm_command.specs.CommandLine.{StatesOther, StatesRun};
+ghost use Rattle.std.specs.Prelude.{◌≡◌, ◌∷◌, [], Some, map, option_map};
+ghost use Rattle.clap.specs.Words.{HasKind};
+ghost use Rattle.iocm_command.specs.CommandLine.{all_asked_of, change_deck_of, commanded, deck_name_of, kinds_at};
+ghost use Rattle.iocm_command.specs.CommandLine.{Answers};
 
-use crate::matches::{command_in, has_one_report, is_quiet};
+use crate::matches::{has_one_report, understood_in};
 use crate::program::iocm;
 use clap::Error;
 use clap::error::ErrorKind;
 use iocm_apply::Report;
 use iocm_filter::Filters;
-use std::alloc::Global;
+use iocm_statements::Unread;
+use std::alloc::{AllocError, Global};
 use std::convert::AsStr;
 
 /// A command line that is understood.
@@ -34,7 +32,7 @@ pub enum Command<'a> {
     Diff {
         old: &'a str,
         new: &'a str,
-        with_old: bool,
+        before: Before,
     },
     /// Print what the refusal of this number means, or a list of all.
     Explain {
@@ -51,6 +49,24 @@ pub enum Command<'a> {
     },
 }
 
+/// Which breaches of the rules are printed.
+#[derive(Clone, Copy, Debug, PartialEq, Eq)]
+pub enum Breaches {
+    /// The first one alone.
+    First,
+    /// All.
+    All,
+}
+
+/// Whether what was there before each change is printed, as comments.
+#[derive(Clone, Copy, Debug, PartialEq, Eq)]
+pub enum Before {
+    /// It isn't.
+    LeftOut,
+    /// It is.
+    Shown,
+}
+
 /// What is asked of a deck.
 #[derive(Drop)]
 pub enum Request<'a> {
@@ -58,7 +74,7 @@ pub enum Request<'a> {
     /// breach, or all of them.
     Check {
         deck: &'a str,
-        all: bool,
+        breaches: Breaches,
     },
     /// Print the table of subchannels of the deck in this file, of those that are asked for.
     Show {
@@ -84,7 +100,7 @@ pub enum Request<'a> {
 impl<'a> Request<'a> {
     /// The name of the file that the deck is in.
     pub fn deck(&self) -> &'a str
-        ensures { (request_words self.now).1 ≡ Some result.now }
+        ensures { result.now ≡ deck_name_of self.now }
     {
         match self {
             Request::Check { deck, .. } => deck,
@@ -109,7 +125,11 @@ impl<'a> Request<'a> {
         ensures { option_map (λ deck. deck.now) result ≡ all_asked_of self.now }
     {
         match self {
-            Request::Check { deck, all } => { if *all { Some(deck) } else { None } }
+            Request::Check {
+                deck,
+                breaches: Breaches::All,
+            } => Some(deck),
+            Request::Check { .. } => None,
             Request::Show { .. } | Request::Write { .. } | Request::Apply { .. } => None,
         }
     }
@@ -126,45 +146,41 @@ const OTHER_FORM: &str =
 
 /// The command of the words of a command line, of which the first is the program's name.
 ///
-/// Help, the version and every mistake in the words are `clap`'s errors. Want of memory is one of
-/// the kind `OutOfMemory`, and nothing else keeps words that have no mistake and state a deck from
-/// being understood: `check`, `show` or `write` and a name that doesn't begin with a hyphen are
-/// such words, and `show -- -x.deck` too, and filters of their forms. So it is with `apply`, a deck,
-/// a change deck, the size of a heap, which `--heap` gives, or its default, at most one of `--undo`,
-/// `--altered`, `--count`, `--deck` and `--test`, and filters of their forms; with `diff` and
-/// `explain`; and with `run`, a deck, a script, change decks, as many as there are and in their
-/// order, and the size of a heap. Where the words name `run` and such files plainly, the command is
-/// `Run` with just these.
+/// Help, the version and every mistake in the words are `clap`'s errors, with its kinds. Words in
+/// which `clap` finds no mistake are understood, unless they ask for two reports of a change, or a
+/// filter has another form: these are an `ArgumentConflict` or a `ValueValidation`. Want of memory is
+/// an error of the kind `OutOfMemory`, which may come in place of each of these. What words mean
+/// that name a command and its files plainly is in `laws.rt`.
 ///
 /// Promise: the command that is done is the one that the words state.
 pub fn command_of<'a, S: AsStr>(alloc: Global, words: &'a [S]) -> Result<Understood<'a>, Error>
-    ensures command { IfOk result (λ u. StatesCommand (map S.text words.entry.now) u.command) }
-    ensures arguments { IfOk result (λ u. StatesArguments (map S.text words.entry.now) u.command) }
-    ensures as_named { IfOk result (λ u. IsAsNamed (map S.text words.entry.now) u.command) }
-    ensures quiet { IfOk result (λ u. AsksQuiet (map S.text words.entry.now) u.quiet) }
-    ensures accepted { IfOk result (λ _. mistakes (map S.text words.entry.now) ≡ []) }
-    ensures understood { IfErr result
-        (λ e. StatesDeck (map S.text words.entry.now) → kind_of e ≡ ErrorKind.OutOfMemory) }
-    ensures understood_apply { IfErr result
-        (λ e. StatesApply (map S.text words.entry.now) → kind_of e ≡ ErrorKind.OutOfMemory) }
-    ensures understood_other { IfErr result
-        (λ e. StatesOther (map S.text words.entry.now) → kind_of e ≡ ErrorKind.OutOfMemory) }
-    ensures understood_run { IfErr result (λ e.
-        StatesRun (map S.text words.entry.now) → kind_of e ≡ ErrorKind.OutOfMemory) }
-    ensures named { IfErr result (λ e. NamesDeck (map S.text words.entry.now) → kind_of e ≡ ErrorKind.OutOfMemory) }
-    ensures named_apply { IfErr result
-        (λ e. NamesApply (map S.text words.entry.now) → kind_of e ≡ ErrorKind.OutOfMemory) }
-    ensures named_run { IfErr result (λ e. NamesRun (map S.text words.entry.now) → kind_of e ≡ ErrorKind.OutOfMemory) }
-    ensures mistaken { IfErr result (HasKind (mistakes_or_others (map S.text words.entry.now))) }
+    ensures { Answers result (commanded (map S.text words.entry.now)) }
 {
     let mut iocm = iocm(alloc)?;
     let matches = iocm.try_get_matches_from_mut(words)?;
-    if let Some(command) = command_in(alloc, &matches)? {
-        let quiet = is_quiet(&matches);
-        return Ok(Understood { command, quiet });
+    match understood_in(alloc, &matches) {
+        Ok(understood) => Ok(understood),
+        Err(why) => Err(refusal(&mut iocm, why, has_one_report(&matches))),
     }
-    if !has_one_report(&matches) {
-        return Err(iocm.error(ErrorKind::ArgumentConflict, TWO_REPORTS)?);
+}
+
+/// The error of words in which `clap` finds no mistake, and which mean nothing.
+fn refusal(iocm: &mut clap::Command<'_>, why: Unread, has_one_report: bool) -> Error
+    ensures { HasKind (kinds_at why) result }
+{
+    match why {
+        Unread::Memory => Error::from(AllocError),
+        Unread::Malformed if has_one_report => said(iocm, ErrorKind::ValueValidation, OTHER_FORM),
+        Unread::Malformed => said(iocm, ErrorKind::ArgumentConflict, TWO_REPORTS),
     }
-    Err(iocm.error(ErrorKind::ValueValidation, OTHER_FORM)?)
+}
+
+/// The error of this kind that says this.
+fn said(iocm: &mut clap::Command<'_>, kind: ErrorKind, text: &str) -> Error
+    ensures { HasKind (kind ∷ []) result }
+{
+    match iocm.error(kind, text) {
+        Ok(error) => error,
+        Err(error) => Error::from(error),
+    }
 }

@@ -1,65 +1,57 @@
-ghost use Rattle.std.specs.Prelude.{◌≡◌, Bool, List, Option, Some, IsSome, IfOk, IfSome, codes, nat_eq};
+ghost use Rattle.std.specs.Prelude.{◌≡◌, IfOk, IfSome, IsSome, codes, nat_eq};
 ghost use Rattle.std.specs.Cmp.Lexicographic.{pointwise};
 ghost use Rattle.clap.specs.Walk.{texts};
-ghost use Rattle.clap.specs.Words.{Text, subcommand_rows_of};
-ghost use Rattle.iocm_apply.specs.declared.report.Report as report;
-ghost use Rattle.iocm_filter.specs.Wanted.{Wanted};
+ghost use Rattle.clap.specs.Words.{first_of, subcommand_rows_of};
 ghost use Rattle.iocm_statements.specs.Unread.{Reads};
-ghost use Rattle.iocm_command.specs.CommandLine.{argument_of, arguments_of, name_of};
-ghost use Rattle.iocm_command.specs.CommandLine.{asks_altered, asks_back, asks_count, asks_deck, asks_test};
-ghost use Rattle.iocm_command.specs.CommandLine.{AsksFor, AsksReport, GivesSize, HasArguments, HasChange};
-ghost use Rattle.iocm_command.specs.CommandLine.{HasCommand, HasFlag, HasQuiet, HasRequest, IsApply, IsApplyOf};
-ghost use Rattle.iocm_command.specs.CommandLine.{IsDiff, IsExplain, IsOnDeck, IsRun, IsSizeText};
+ghost use Rattle.iocm_command.specs.CommandLine as meaning;
+ghost use Rattle.iocm_command.specs.CommandLine.{GivesSize, IsSizeText, meant_of, rows_in, understood_of, values_under};
 
-use crate::command::{Command, Request};
-use crate::program::{LARGEST_HEAP, LEAST_HEAP};
+use crate::argument::{LARGEST_HEAP, LEAST_HEAP};
+use crate::command::{Before, Breaches, Command, Request, Understood};
 use clap::ArgMatches;
 use iocm_apply::Report;
 use iocm_filter::Filters;
 use iocm_statements::Unread;
 use std::alloc::{AllocError, Global};
 
-/// The value of an argument of the command `name`, where the words name that command.
-fn value_of<'a>(matches: &ArgMatches<'a>, name: &str, argument: &str) -> Option<&'a str>
-    ensures some { IfSome result
-        (λ value. argument_of argument.now (subcommand_rows_of matches.now) ≡ Some (name.now, Some value.now)) }
-    ensures only { (value : Text)
-        → argument_of argument.now (subcommand_rows_of matches.now) ≡ Some (name.now, Some value)
-        → IsSome result }
+/// The value of an argument.
+fn value_of<'a>(found: &ArgMatches<'a>, argument: &str) -> Result<&'a str, Unread>
+    ensures { Reads (λ v. v.now) result (first_of argument.now (rows_in found.now)) }
 {
-    matches.subcommand_matches(name)?.get_str(argument)
+    match found.get_str(argument) {
+        Some(value) => Ok(value),
+        None => Err(Unread::Malformed),
+    }
 }
 
-/// The deck of the command `name`, where the words name that command.
-fn deck_of<'a>(matches: &ArgMatches<'a>, name: &str) -> Option<&'a str>
-    ensures some { IfSome result
-        (λ deck. argument_of (codes "DECK") (subcommand_rows_of matches.now) ≡ Some (name.now, Some deck.now)) }
-    ensures only { (deck : Text)
-        → argument_of (codes "DECK") (subcommand_rows_of matches.now) ≡ Some (name.now, Some deck)
-        → IsSome result }
-{
-    value_of(matches, name, "DECK")
-}
-
-/// All values of an argument of the command `name`, in the order of the words, where the words name
-/// that command.
+/// All values of an argument, in the order of the words.
 fn values_of<'a>(
     alloc: Global,
-    matches: &ArgMatches<'a>,
-    name: &str,
+    found: &ArgMatches<'a>,
     argument: &str,
-) -> Result<Option<Vec<&'a str>>, AllocError>
-    ensures some { IfOk result (λ found. IfSome found (λ values.
-        arguments_of argument.now (subcommand_rows_of matches.now) ≡ Some (name.now, texts values.items))) }
-    ensures only { IfOk result (λ found. (values : List Text)
-        → arguments_of argument.now (subcommand_rows_of matches.now) ≡ Some (name.now, values) → IsSome found) }
+) -> Result<Vec<&'a str>, AllocError>
+    ensures { IfOk result (λ values. texts values.items ≡ values_under argument.now (rows_in found.now)) }
 {
-    let Some(found) = matches.subcommand_matches(name) else {
-        return Ok(None);
-    };
     let none: &[&str] = &[];
     let values = found.get_strs(argument).unwrap_or(none);
-    Ok(Some(Vec::from_slice(alloc, values)?))
+    Vec::from_slice(alloc, values)
+}
+
+/// Whether a flag is given.
+fn is_given(found: &ArgMatches<'_>, flag: &str) -> bool
+    ensures { result ≡ meaning.is_given flag.now (rows_in found.now) }
+{
+    match found.get_str(flag) {
+        Some(value) => is_true(value),
+        None => false,
+    }
+}
+
+/// Whether a value is that of a flag that is given.
+fn is_true(value: &str) -> bool
+    ensures { result ≡ pointwise nat_eq value.now (codes "true") }
+{
+    value == "true"
 }
 
 /// The size of a heap that a text gives, if it gives one.
@@ -73,287 +65,201 @@ fn heap_size(text: &str) -> Option<u32>
     }
 }
 
-/// Whether a flag of the command `name` is given, where the words name that command.
-fn flag_in(matches: &ArgMatches<'_>, name: &str, argument: &str) -> Option<bool>
-    ensures some { IfSome result (HasFlag (subcommand_rows_of matches.now) name.now argument.now) }
-    ensures only { (given : Bool)
-        → HasFlag (subcommand_rows_of matches.now) name.now argument.now given → IsSome result }
+/// The size of the heap that change trees are read in.
+fn heap_in(found: &ArgMatches<'_>) -> Result<u32, Unread>
+    ensures { Reads (λ size. size) result (meaning.heap_in (rows_in found.now)) }
 {
-    match value_of(matches, name, argument)? {
-        "false" => Some(false),
-        "true" => Some(true),
-        _ => None,
+    match heap_size(value_of(found, "heap")?) {
+        Some(size) => Ok(size),
+        None => Err(Unread::Malformed),
     }
 }
 
-/// Whether `--quiet` is given to the command that the words name.
-pub fn is_quiet(matches: &ArgMatches<'_>) -> bool
-    ensures { HasQuiet (subcommand_rows_of matches.now) result }
+/// Which breaches are asked for.
+fn breaches_in(found: &ArgMatches<'_>) -> Breaches
+    ensures { result ≡ meaning.breaches_in (rows_in found.now) }
 {
-    let Some((_, found)) = matches.subcommand() else {
-        return false;
-    };
-    match found.get_str("quiet") {
-        Some(value) => is_true(value),
-        None => false,
+    if is_given(found, "all") {
+        Breaches::All
+    } else {
+        Breaches::First
     }
 }
 
-/// Whether a value is that of a flag that is given.
-fn is_true(value: &str) -> bool
-    ensures { result ≡ pointwise nat_eq value.now (codes "true") }
+/// Whether what was there before is asked for.
+fn before_in(found: &ArgMatches<'_>) -> Before
+    ensures { result ≡ meaning.before_in (rows_in found.now) }
 {
-    value == "true"
+    if is_given(found, "old") {
+        Before::Shown
+    } else {
+        Before::LeftOut
+    }
 }
 
 /// The report that flags ask for, of which one is given at the most.
-fn report_of(back: bool, altered: bool, count: bool, deck: bool, test: bool) -> Option<Report>
-    ensures some { IfSome result (λ r. (back ≡ asks_back r) × (altered ≡ asks_altered r)
-        × (count ≡ asks_count r) × (deck ≡ asks_deck r) × (test ≡ asks_test r)) }
-    ensures only { (r : report.Report) → back ≡ asks_back r → altered ≡ asks_altered r
-        → count ≡ asks_count r → deck ≡ asks_deck r → test ≡ asks_test r → IsSome result }
+fn report_of(
+    back: bool,
+    altered: bool,
+    count: bool,
+    deck: bool,
+    test: bool,
+) -> Result<Report, Unread>
+    ensures { Reads (λ r. r) result (meaning.report_of back altered count deck test) }
 {
     match (back, altered, count, deck, test) {
-        (false, false, false, false, false) => Some(Report::Table),
-        (true, false, false, false, false) => Some(Report::WayBack),
-        (false, true, false, false, false) => Some(Report::Altered),
-        (false, false, true, false, false) => Some(Report::Count),
-        (false, false, false, true, false) => Some(Report::Deck),
-        (false, false, false, false, true) => Some(Report::Test),
-        _ => None,
+        (false, false, false, false, false) => Ok(Report::Table),
+        (true, false, false, false, false) => Ok(Report::WayBack),
+        (false, true, false, false, false) => Ok(Report::Altered),
+        (false, false, true, false, false) => Ok(Report::Count),
+        (false, false, false, true, false) => Ok(Report::Deck),
+        (false, false, false, false, true) => Ok(Report::Test),
+        _ => Err(Unread::Malformed),
     }
 }
 
-/// The report that the flags of `apply` ask for, where the words name it.
-fn report_in(matches: &ArgMatches<'_>) -> Option<Report>
-    ensures some { IfSome result (AsksReport (subcommand_rows_of matches.now)) }
-    ensures only { (r : report.Report) → AsksReport (subcommand_rows_of matches.now) r → IsSome result }
+/// The report that the flags of `apply` ask for.
+fn report_in(found: &ArgMatches<'_>) -> Result<Report, Unread>
+    ensures { Reads (λ r. r) result (meaning.report_in (rows_in found.now)) }
 {
-    let back = flag_in(matches, "apply", "undo")?;
-    let altered = flag_in(matches, "apply", "altered")?;
-    let count = flag_in(matches, "apply", "count")?;
-    let deck = flag_in(matches, "apply", "deck")?;
-    let test = flag_in(matches, "apply", "test")?;
+    let back = is_given(found, "undo");
+    let altered = is_given(found, "altered");
+    let count = is_given(found, "count");
+    let deck = is_given(found, "deck");
+    let test = is_given(found, "test");
     report_of(back, altered, count, deck, test)
 }
 
 /// Whether at most one report is asked for.
-pub fn has_one_report(matches: &ArgMatches<'_>) -> bool {
-    deck_of(matches, "apply").is_none() || report_in(matches).is_some()
-}
-
-/// The filters of the command `name`, where the words name that command and all have their form.
-fn filters_in(
-    alloc: Global,
-    matches: &ArgMatches<'_>,
-    name: &str,
-) -> Result<Option<Filters>, AllocError>
-    ensures some { IfOk result (λ found. IfSome found (AsksFor (subcommand_rows_of matches.now))) }
-    ensures only { IfOk result (λ found. (w : Wanted) → name_of (subcommand_rows_of matches.now) ≡ Some name.now
-        → AsksFor (subcommand_rows_of matches.now) w → IsSome found) }
-{
-    let Some(images) = values_of(alloc, matches, name, "image")? else {
-        return Ok(None);
-    };
-    let Some(devices) = values_of(alloc, matches, name, "device")? else {
-        return Ok(None);
-    };
-    let Some(units) = values_of(alloc, matches, name, "unit")? else {
-        return Ok(None);
-    };
-    let Some(paths) = values_of(alloc, matches, name, "path")? else {
-        return Ok(None);
-    };
-    let Some(online) = values_of(alloc, matches, name, "paths-online")? else {
-        return Ok(None);
-    };
-    filters_or_none(Filters::of_words(alloc, &images, &devices, &units, &paths, &online))
-}
-
-/// Filters that were read, or none where a word has another form.
-fn filters_or_none(read: Result<Filters, Unread>) -> Result<Option<Filters>, AllocError>
-    ensures { (asked : Option Wanted) → Reads (λ f. f) read asked → IfOk result (λ found. found ≡ asked) }
-{
-    match read {
-        Ok(filters) => Ok(Some(filters)),
-        Err(Unread::Malformed) => Ok(None),
-        Err(Unread::Memory) => Err(AllocError),
+pub(crate) fn has_one_report(matches: &ArgMatches<'_>) -> bool {
+    match matches.subcommand_matches("apply") {
+        Some(found) => report_in(found).is_ok(),
+        None => true,
     }
 }
 
-/// What `apply` has beside its filters.
-#[derive(Clone, Copy)]
-struct ApplyWords<'a> {
-    deck: &'a str,
-    change: &'a str,
-    heap: u32,
-    report: Report,
+/// The filters, if all have their forms.
+fn filters_in(alloc: Global, found: &ArgMatches<'_>) -> Result<Filters, Unread>
+    ensures { Reads (λ f. f) result (meaning.filters_in (rows_in found.now)) }
+{
+    let none: &[&str] = &[];
+    let images = found.get_strs("image").unwrap_or(none);
+    let devices = found.get_strs("device").unwrap_or(none);
+    let units = found.get_strs("unit").unwrap_or(none);
+    let paths = found.get_strs("path").unwrap_or(none);
+    let online = found.get_strs("paths-online").unwrap_or(none);
+    Filters::of_words(alloc, images, devices, units, paths, online)
 }
 
-/// What `apply` has, where the words name it: its decks, the size of its heap and its report.
-fn apply_words<'a>(matches: &ArgMatches<'a>) -> Option<ApplyWords<'a>>
-    ensures some { IfSome result (λ w. (size : Text)
-        × IsApplyOf (subcommand_rows_of matches.now) w.deck.now w.change.now size w.report × GivesSize size w.heap) }
-    ensures only { (deck change size : Text) (r : report.Report) → IsSizeText size
-        → IsApplyOf (subcommand_rows_of matches.now) deck change size r → IsSome result }
+/// What `check` asks for.
+fn check_in<'a>(found: &ArgMatches<'a>) -> Result<Command<'a>, Unread>
+    ensures { Reads meant_of result (meaning.check_in (rows_in found.now)) }
 {
-    let deck = deck_of(matches, "apply")?;
-    let change = value_of(matches, "apply", "CHANGE")?;
-    let heap = heap_size(value_of(matches, "apply", "heap")?)?;
-    let report = report_in(matches)?;
-    Some(ApplyWords {
+    let deck = value_of(found, "DECK")?;
+    let breaches = breaches_in(found);
+    Ok(Command::Answer(Request::Check { deck, breaches }))
+}
+
+/// What `show` asks for.
+fn show_in<'a>(alloc: Global, found: &ArgMatches<'a>) -> Result<Command<'a>, Unread>
+    ensures { Reads meant_of result (meaning.show_in (rows_in found.now)) }
+{
+    let deck = value_of(found, "DECK")?;
+    let filters = filters_in(alloc, found)?;
+    Ok(Command::Answer(Request::Show { deck, filters }))
+}
+
+/// What `write` asks for.
+fn write_in<'a>(found: &ArgMatches<'a>) -> Result<Command<'a>, Unread>
+    ensures { Reads meant_of result (meaning.write_in (rows_in found.now)) }
+{
+    let deck = value_of(found, "DECK")?;
+    Ok(Command::Answer(Request::Write { deck }))
+}
+
+/// What `diff` asks for.
+fn diff_in<'a>(found: &ArgMatches<'a>) -> Result<Command<'a>, Unread>
+    ensures { Reads meant_of result (meaning.diff_in (rows_in found.now)) }
+{
+    let old = value_of(found, "OLD")?;
+    let new = value_of(found, "NEW")?;
+    let before = before_in(found);
+    Ok(Command::Diff { old, new, before })
+}
+
+/// What `apply` asks for.
+fn apply_in<'a>(alloc: Global, found: &ArgMatches<'a>) -> Result<Command<'a>, Unread>
+    ensures { Reads meant_of result (meaning.apply_in (rows_in found.now)) }
+{
+    let deck = value_of(found, "DECK")?;
+    let change = value_of(found, "CHANGE")?;
+    let heap = heap_in(found)?;
+    let report = report_in(found)?;
+    let filters = filters_in(alloc, found)?;
+    Ok(Command::Answer(Request::Apply {
         deck,
         change,
         heap,
         report,
-    })
-}
-
-/// The request of `apply`, where the words name it, with its decks, the size of its heap, its report
-/// and its filters.
-fn apply_in<'a>(alloc: Global, matches: &ArgMatches<'a>) -> Result<Option<Request<'a>>, AllocError>
-    ensures some { IfOk result (λ found. IfSome found (HasRequest (subcommand_rows_of matches.now))) }
-    ensures change { IfOk result (λ found. IfSome found (HasChange (subcommand_rows_of matches.now))) }
-    ensures only { IfOk result (λ found. IsApply (subcommand_rows_of matches.now) → IsSome found) }
-{
-    let Some(words) = apply_words(matches) else {
-        return Ok(None);
-    };
-    let Some(filters) = filters_in(alloc, matches, "apply")? else {
-        return Ok(None);
-    };
-    Ok(Some(Request::Apply {
-        deck: words.deck,
-        change: words.change,
-        heap: words.heap,
-        report: words.report,
         filters,
     }))
 }
 
-/// The request of `check`, where the words name it.
-fn check_in<'a>(matches: &ArgMatches<'a>) -> Option<Request<'a>>
-    ensures some { IfSome result (HasRequest (subcommand_rows_of matches.now)) }
-    ensures change { IfSome result (HasChange (subcommand_rows_of matches.now)) }
-    ensures only { (deck : Text) (all : Bool)
-        → argument_of (codes "DECK") (subcommand_rows_of matches.now) ≡ Some (codes "check", Some deck)
-        → HasFlag (subcommand_rows_of matches.now) (codes "check") (codes "all") all → IsSome result }
+/// What `run` asks for.
+fn run_in<'a>(alloc: Global, found: &ArgMatches<'a>) -> Result<Command<'a>, Unread>
+    ensures { Reads meant_of result (meaning.run_in (rows_in found.now)) }
 {
-    let deck = deck_of(matches, "check")?;
-    let all = flag_in(matches, "check", "all")?;
-    Some(Request::Check { deck, all })
-}
-
-/// The request of `show`, where the words name it.
-fn show_in<'a>(alloc: Global, matches: &ArgMatches<'a>) -> Result<Option<Request<'a>>, AllocError>
-    ensures some { IfOk result (λ found. IfSome found (HasRequest (subcommand_rows_of matches.now))) }
-    ensures change { IfOk result (λ found. IfSome found (HasChange (subcommand_rows_of matches.now))) }
-    ensures only { IfOk result (λ found. (deck : Text) (w : Wanted)
-        → argument_of (codes "DECK") (subcommand_rows_of matches.now) ≡ Some (codes "show", Some deck)
-        → AsksFor (subcommand_rows_of matches.now) w → IsSome found) }
-{
-    let Some(deck) = deck_of(matches, "show") else {
-        return Ok(None);
-    };
-    let Some(filters) = filters_in(alloc, matches, "show")? else {
-        return Ok(None);
-    };
-    Ok(Some(Request::Show { deck, filters }))
-}
-
-/// The request that the words name, with its deck and what else it takes.
-fn request_in<'a>(
-    alloc: Global,
-    matches: &ArgMatches<'a>,
-) -> Result<Option<Request<'a>>, AllocError>
-    ensures some { IfOk result (λ found. IfSome found (HasRequest (subcommand_rows_of matches.now))) }
-    ensures change { IfOk result (λ found. IfSome found (HasChange (subcommand_rows_of matches.now))) }
-    ensures only { IfOk result (λ found. IsOnDeck (subcommand_rows_of matches.now) → IsSome found) }
-    ensures only_apply { IfOk result (λ found. IsApply (subcommand_rows_of matches.now) → IsSome found) }
-{
-    if let Some(request) = check_in(matches) {
-        return Ok(Some(request));
-    }
-    if let Some(request) = show_in(alloc, matches)? {
-        return Ok(Some(request));
-    }
-    if let Some(deck) = deck_of(matches, "write") {
-        return Ok(Some(Request::Write { deck }));
-    }
-    apply_in(alloc, matches)
-}
-
-/// The command `diff`, where the words name it, with its decks.
-fn diff_in<'a>(matches: &ArgMatches<'a>) -> Option<Command<'a>>
-    ensures some { IfSome result (HasCommand (subcommand_rows_of matches.now)) }
-    ensures arguments { IfSome result (HasArguments (subcommand_rows_of matches.now)) }
-    ensures only { IsDiff (subcommand_rows_of matches.now) → IsSome result }
-{
-    let old = value_of(matches, "diff", "OLD")?;
-    let new = value_of(matches, "diff", "NEW")?;
-    let with_old = flag_in(matches, "diff", "old")?;
-    Some(Command::Diff { old, new, with_old })
-}
-
-/// The command `explain`, where the words name it, with its word if it has one.
-fn explain_in<'a>(matches: &ArgMatches<'a>) -> Option<Command<'a>>
-    ensures some { IfSome result (HasCommand (subcommand_rows_of matches.now)) }
-    ensures arguments { IfSome result (HasArguments (subcommand_rows_of matches.now)) }
-    ensures only { IsExplain (subcommand_rows_of matches.now) → IsSome result }
-{
-    let found = matches.subcommand_matches("explain")?;
-    let rule = found.get_str("RULE");
-    Some(Command::Explain { rule })
-}
-
-/// The command `run`, where the words name it, with its deck, its script, its change decks and the
-/// size of their heaps.
-fn run_in<'a>(alloc: Global, matches: &ArgMatches<'a>) -> Result<Option<Command<'a>>, AllocError>
-    ensures some { IfOk result (λ found. IfSome found (HasCommand (subcommand_rows_of matches.now))) }
-    ensures arguments { IfOk result (λ found. IfSome found (HasArguments (subcommand_rows_of matches.now))) }
-    ensures only { IfOk result (λ found. IsRun (subcommand_rows_of matches.now) → IsSome found) }
-{
-    let Some(deck) = deck_of(matches, "run") else {
-        return Ok(None);
-    };
-    let Some(script) = value_of(matches, "run", "SCRIPT") else {
-        return Ok(None);
-    };
-    let Some(heap) = value_of(matches, "run", "heap").and_then(heap_size) else {
-        return Ok(None);
-    };
-    let Some(changes) = values_of(alloc, matches, "run", "CHANGE")? else {
-        return Ok(None);
-    };
-    Ok(Some(Command::Run {
+    let deck = value_of(found, "DECK")?;
+    let script = value_of(found, "SCRIPT")?;
+    let heap = heap_in(found)?;
+    let changes = values_of(alloc, found, "CHANGE")?;
+    Ok(Command::Run {
         deck,
         script,
         changes,
         heap,
-    }))
+    })
 }
 
-/// The command that the words name, with what it takes.
-pub fn command_in<'a>(
+/// What `explain` asks for.
+fn explain_in<'a>(found: &ArgMatches<'a>) -> Command<'a>
+    ensures { meant_of result ≡ meaning.explain_in (rows_in found.now) }
+{
+    let rule = found.get_str("RULE");
+    Command::Explain { rule }
+}
+
+/// What the command of this name asks for.
+fn command_in<'a>(alloc: Global, name: &str, found: &ArgMatches<'a>) -> Result<Command<'a>, Unread>
+    ensures { Reads meant_of result (meaning.command_in name.now (rows_in found.now)) }
+{
+    match name {
+        "check" => check_in(found),
+        "show" => show_in(alloc, found),
+        "write" => write_in(found),
+        "diff" => diff_in(found),
+        "apply" => apply_in(alloc, found),
+        "run" => run_in(alloc, found),
+        "explain" => Ok(explain_in(found)),
+        _ => Err(Unread::Malformed),
+    }
+}
+
+/// What the words ask for, by what `clap` found in them.
+pub(crate) fn understood_in<'a>(
     alloc: Global,
     matches: &ArgMatches<'a>,
-) -> Result<Option<Command<'a>>, AllocError>
-    ensures some { IfOk result (λ found. IfSome found (HasCommand (subcommand_rows_of matches.now))) }
-    ensures arguments { IfOk result (λ found. IfSome found (HasArguments (subcommand_rows_of matches.now))) }
-    ensures only { IfOk result (λ found. IsOnDeck (subcommand_rows_of matches.now) → IsSome found) }
-    ensures only_apply { IfOk result (λ found. IsApply (subcommand_rows_of matches.now) → IsSome found) }
-    ensures only_diff { IfOk result (λ found. IsDiff (subcommand_rows_of matches.now) → IsSome found) }
-    ensures only_explain { IfOk result (λ found. IsExplain (subcommand_rows_of matches.now) → IsSome found) }
-    ensures only_run { IfOk result (λ found. IsRun (subcommand_rows_of matches.now) → IsSome found) }
+) -> Result<Understood<'a>, Unread>
+    ensures { Reads understood_of result (meaning.understood_in (subcommand_rows_of matches.now)) }
 {
-    if let Some(request) = request_in(alloc, matches)? {
-        return Ok(Some(Command::Answer(request)));
+    match matches.subcommand() {
+        Some((name, found)) => {
+            let quiet = is_given(found, "quiet");
+            match command_in(alloc, name, found) {
+                Ok(command) => Ok(Understood { command, quiet }),
+                Err(why) => Err(why),
+            }
+        }
+        None => Err(Unread::Malformed),
     }
-    if let Some(command) = diff_in(matches) {
-        return Ok(Some(command));
-    }
-    if let Some(command) = explain_in(matches) {
-        return Ok(Some(command));
-    }
-    run_in(alloc, matches)
 }

@@ -1,9 +1,8 @@
-use Rattle.std.proofs.Common.{codes, refl}
+use Rattle.std.proofs.Common.{◌∙◌, ap, codes}
 use Rattle.clap.specs.Words.{found_of}
-use Rattle.iocm_command.proofs.Reading.{argument_is}
+use Rattle.clap.proofs.WalkLemmas.{first_value-rows}
+use Rattle.iocm_command.specs.CommandLine.{explain}
 use Rattle.iocm_command.proofs.matches.explain_in.Goals as goal
 
-pub returns-clause-arguments : goal.returns-clause-arguments
-returns-clause-arguments c = argument_is c.args.matches.now (found_of c.in_ok-found.found.now) (codes "explain")
-    (codes "RULE") _
-    (c.in_ok-found.ensures.found.0 refl) c.in_ok-found.ensures.rows c.get_str-rule.ensures
+pub returns : goal.returns
+returns c = ap explain (c.get_str-rule.ensures ∙ first_value-rows (found_of c.args.found.now) (codes "RULE"))

@@ -1,16 +1,15 @@
-use Rattle.std.proofs.Common.{◌∙◌, List, Some, ap, option_map, refl, sym}
-use Rattle.std.specs.Borrow.{Bor}
+use Rattle.std.proofs.Common.{◌≡◌, ◌∙◌, ap, refl}
+use Rattle.std.proofs.lemmas.Result.{IfOk-weaker}
 use Rattle.clap.specs.Walk.{texts}
-use Rattle.clap.specs.Words.{Text, found_of}
-use Rattle.iocm_command.proofs.Reading.{arguments_are, texts_or_none}
+use Rattle.clap.specs.Words.{found_of}
+use Rattle.iocm_command.specs.CommandLine.{rows_in, values_under}
+use Rattle.iocm_command.proofs.Reading.{texts_are}
 use Rattle.iocm_command.proofs.matches.values_of.Goals as goal
 
-pub returns-clause-some : goal.returns-clause-some
-returns-clause-some c =
-    let strs = c.get_strs.result in
-    arguments_are c.args.matches.now (found_of c.in-Some.found.now) c.args.name.now c.args.argument.now
-    (option_map (λ (s : Bor (List (Bor Text))). texts s.now) strs)
-    (c.in-Some.ensures.found.0 refl) c.in-Some.ensures.rows c.get_strs.ensures
-    ∙ ap (λ (values : List Text). Some (c.args.name.now, values)) (texts_or_none strs _ refl
-    ∙ ap (λ (s : Bor (List (Bor Text))). texts s.now) (sym c.unwrap_or-values.ensures)
-    ∙ ap texts (sym c.in_ok-from_slice.ensures.items))
+pub returns : goal.returns
+returns c = IfOk-weaker c.from_slice.result
+    (λ values. values.items ≡ c.unwrap_or-values.result.now)
+    (λ values. texts values.items ≡ values_under c.args.argument.now (rows_in c.args.found.now))
+    (λ values same. ap texts same ∙ texts_are (found_of c.args.found.now) c.args.argument.now c.get_strs.result _
+    c.unwrap_or-values.result refl c.unwrap_or-values.ensures c.get_strs.ensures)
+    c.from_slice.ensures.items
