@@ -33,7 +33,7 @@ use iocm_columns::Device;
 use iocm_command::{Before, Command, Request, Understood, command_of};
 use iocm_console::{ConsoleError, Output, Status, Told, refuse};
 use iocm_diff::diff_decks;
-use iocm_explain::explain;
+use iocm_explain::{Explained, explain};
 use iocm_run::run_script;
 use iocm_types::Fault;
 use remarks::{remark_on, remark_on_edits, remark_on_input, remark_on_others, remark_on_unread};
@@ -54,9 +54,6 @@ const USAGE: u8 = 2;
 
 /// What is said where two files are to be read from standard input.
 const ONE_INPUT: &str = "only one file can be read from standard input";
-
-/// What is said of a word that is no refusal's number.
-const NO_REFUSAL: &str = "no refusal has this number; 'iocm explain' lists all";
 
 /// The exit status after a fault of a device.
 const FAULT: u8 = 3;
@@ -186,7 +183,7 @@ fn carry_out<R: Files + Print + Eprint + AllocGlobal + Threads + Wait + Sync>(
     match command {
         Command::Answer(request) => answer_files(rt, request, input),
         Command::Diff { old, new, before } => diff_files(rt, *old, *new, *before, input),
-        Command::Explain { rule } => Ok(without_refusal(explain_rule(rt, *rule)?)),
+        Command::Explain { rule } => Ok(without_refusal(explain_rules(rt, rule.as_slice())?)),
         Command::Run {
             deck,
             script,
@@ -317,18 +314,26 @@ fn explain_line<R: Print + Eprint + AllocGlobal>(
     })
 }
 
-/// Prints what a refusal means, or a list of all.
-fn explain_rule<R: Print + Eprint + AllocGlobal>(
+/// Prints what these refusals mean, or a list of all.
+fn explain_rules<R: Print + Eprint + AllocGlobal>(
     rt: &R,
-    rule: Option<&str>,
+    rules: &[&str],
 ) -> Result<ExitCode, ConsoleError> {
     let Ok(writer) = BufWriter::new(rt.alloc(), io::writer(rt)) else {
         return refuse_memory(rt);
     };
     let mut output = Output::new(writer);
-    match explain(rule, &mut output)? {
-        Some(status) => Ok(ExitCode::from(status.code())),
-        None => explain_usage(rt, NO_REFUSAL),
+    match explain(rules, &mut output)? {
+        Explained::Printed => Ok(ExitCode::SUCCESS),
+        Explained::Unknown(word) => explain_unknown(rt, word),
+    }
+}
+
+/// Says that a word is no refusal's number.
+fn explain_unknown<R: Eprint>(rt: &R, word: &str) -> Result<ExitCode, ConsoleError> {
+    match eprintln!(rt; "error: no refusal has this number: {word}; 'iocm explain' lists all") {
+        Ok(()) => Ok(ExitCode::from(USAGE)),
+        Err(_) => Err(ConsoleError::Write),
     }
 }
 

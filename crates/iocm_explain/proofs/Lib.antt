@@ -1,1 +1,3 @@
+mod Capitals
 mod Finding
+mod Words

@@ -1,19 +1,19 @@
 -- Entries and words as they are worked by hand.
-use Rattle.std.specs.Prelude.{◌≡◌, [], ◌∷◌, None, Some, codes}
-use Rattle.std.specs.List.{flat_map}
-use Rattle.iocm_types.specs.declared.rule.Rule.TheVariants.{S10, E1, E2, M1}
-use Rattle.iocm_explain.specs.Entry.{heading_line, heading_of, whole}
-use Rattle.iocm_explain.specs.Named.{rule_named}
+use Rattle.std.specs.Prelude.{◌≡◌, ◌++◌, [], ◌∷◌, Err, Ok, codes}
+use Rattle.iocm_types.specs.declared.rule.Rule.TheVariants.{E2, O3}
+use Rattle.iocm_explain.specs.Explain.{explained}
+use Rattle.iocm_explain.specs.Printed.{entry_lines, heading_line, whole}
 
 pub record AsWorked : Type 0 where
-  pub heading : heading_of M1 ≡ codes "M1: not enough storage"
-  pub entry : whole S10 (codes "no verb") (codes "Explanation.\nResponse.")
+  pub entry : whole (codes "S10") (codes "no verb") (codes "Explanation.\nResponse.")
       ≡ codes "S10: no verb\n\nExplanation.\nResponse."
-  pub listed : flat_map heading_line (E1 ∷ E2 ∷ [])
-      ≡ codes "E1: what is to be added is there\nE2: what is to be deleted or modified isn't there\n"
-  pub two_digits : rule_named (codes "S10") ≡ Some S10
-  pub lower_case : rule_named (codes "e2") ≡ None
-  pub zero_before : rule_named (codes "E02") ≡ None
-  pub letter_alone : rule_named (codes "E") ≡ None
-  pub blank_after : rule_named (codes "E2 ") ≡ None
-  pub nothing : rule_named [] ≡ None
+  pub listed : heading_line E2 ≡ codes "E2: what is to be deleted or modified isn't there\n"
+  pub capital : explained (codes "O3" ∷ []) ≡ Ok (entry_lines O3)
+  pub small : explained (codes "o3" ∷ []) ≡ Ok (entry_lines O3)
+  pub two : explained (codes "o3" ∷ codes "E2" ∷ []) ≡ Ok (entry_lines O3 ++ (codes "\n" ++ entry_lines E2))
+  pub twice : explained (codes "E2" ∷ codes "E2" ∷ []) ≡ Ok (entry_lines E2 ++ (codes "\n" ++ entry_lines E2))
+  pub unknown : explained (codes "E2" ∷ codes "X9" ∷ codes "o4" ∷ []) ≡ Err (codes "X9")
+  pub zero_before : explained (codes "E02" ∷ []) ≡ Err (codes "E02")
+  pub letter_alone : explained (codes "E" ∷ []) ≡ Err (codes "E")
+  pub blank_after : explained (codes "E2 " ∷ []) ≡ Err (codes "E2 ")
+  pub nothing : explained ([] ∷ []) ≡ Err []

@@ -1,67 +1,91 @@
-ghost use Rattle.std.specs.Prelude.{◌≡◌, ◌++◌, ◌∷◌, [], IfOk, IfErr, OnOk};
+ghost use Rattle.std.specs.Prelude.{◌≡◌, IfOk, IfErr, OnOk, map};
 ghost use Rattle.std.specs.List.{flat_map};
-ghost use Rattle.std.specs.Option.{option_map};
-ghost use Rattle.iocm_console.specs.Opening.{Says};
-ghost use Rattle.iocm_console.specs.Output.{has_failed, IsHandedOn, Prints, FailedToWrite};
-ghost use Rattle.iocm_explain.specs.Entry.{heading_line};
-ghost use Rattle.iocm_explain.specs.Explain.{all_listed, explained, told, Answers, IsHandedOnIfAny};
+ghost use Rattle.iocm_console.specs.Output.{has_failed, Prints, FailedToWrite};
+ghost use Rattle.iocm_explain.specs.Explain.{all_told, explained, told, told_below, Answers};
+ghost use Rattle.iocm_explain.specs.Printed.{heading_line};
 
 use crate::entries::RULES;
+use crate::named::first_unknown;
 use crate::{Heading, entry_of, rule_named};
-use iocm_console::{ConsoleError, Output, Status};
+use iocm_console::{ConsoleError, Output};
 use iocm_types::Rule;
 use std::io::Write;
 
-/// Prints the entry of the refusal whose number the word is, or without a word a line for each
-/// refusal: its number and its title. A word that is no refusal's number is answered `None`, and
-/// nothing is printed. Can't run out of memory.
+/// What came of the words that were to be explained.
+#[derive(Clone, Copy, Debug)]
+pub enum Explained<'a> {
+    /// All is printed.
+    Printed,
+    /// Nothing is printed: this word, the first of its kind, is no refusal's number.
+    Unknown(&'a str),
+}
+
+/// Prints the entries of the refusals whose numbers the words are, in their order and with an empty
+/// line between, or without a word a line for each refusal: its number and its title. Small letters
+/// are read as capitals. Where a word is no refusal's number, it is answered, and nothing is
+/// printed. Can't run out of memory.
 ///
 /// L6 (`ConsoleError::Write`): a write failed; what is written up to there is not said.
 ///
-/// Promise: `explain` prints the entry of the refusal that is named, and lists each refusal once.
-pub fn explain<W: Write + Drop>(
-    word: Option<&str>,
+/// Promise: `explain` prints the entries of the refusals that are named, and lists each refusal once.
+pub fn explain<'a, W: Write + Drop>(
+    words: &[&'a str],
     output: &mut Output<W>,
-) -> Result<Option<Status>, ConsoleError>
+) -> Result<Explained<'a>, ConsoleError>
     ensures text { IfOk result (Answers W.contents output.old output.new
-        (explained (option_map (λ w. w.now) word.entry))) }
+        (explained (map (λ word. word.now) words.now))) }
     ensures works { OnOk result (has_failed output.new ≡ has_failed output.old) }
-    ensures handed_on { IfOk result (IsHandedOnIfAny output.new) }
     ensures fault { IfErr result (FailedToWrite output.new) }
 {
-    let Some(word) = word else {
-        let status = list(output)?;
-        return Ok(Some(status));
-    };
-    let Some(rule) = rule_named(word) else {
-        return Ok(None);
-    };
-    let status = tell(rule, output)?;
-    Ok(Some(status))
+    match first_unknown(words) {
+        Some(word) => Ok(Explained::Unknown(word)),
+        None => {
+            write_all(words, output)?;
+            output.flush()?;
+            Ok(Explained::Printed)
+        }
+    }
 }
 
-/// Prints the entry of a refusal.
-fn tell<W: Write + Drop>(rule: Rule, output: &mut Output<W>) -> Result<Status, ConsoleError>
-    ensures text { IfOk result (Says W.contents output.old output.new (told rule)) }
+/// Writes the entries of these words, or without a word the list.
+fn write_all<W: Write + Drop>(words: &[&str], output: &mut Output<W>) -> Result<(), ConsoleError>
+    ensures text { OnOk result (Prints W.contents output.old output.new (all_told (map (λ word. word.now) words.now))) }
     ensures works { OnOk result (has_failed output.new ≡ has_failed output.old) }
-    ensures handed_on { OnOk result (IsHandedOn output.new) }
     ensures fault { IfErr result (FailedToWrite output.new) }
 {
-    output.line(entry_of(rule))?;
-    output.flush()?;
-    Ok(Status::Done)
+    match words {
+        [] => write_headings(&RULES, output),
+        [first, rest @ ..] => {
+            write_entry(first, output)?;
+            write_below(rest, output)
+        }
+    }
 }
 
-/// Prints the number and the title of each refusal.
-fn list<W: Write + Drop>(output: &mut Output<W>) -> Result<Status, ConsoleError>
-    ensures text { IfOk result (Says W.contents output.old output.new all_listed) }
+/// Writes the entry of the refusal whose number this word is.
+fn write_entry<W: Write + Drop>(word: &str, output: &mut Output<W>) -> Result<(), ConsoleError>
+    ensures text { OnOk result (Prints W.contents output.old output.new (told word.now)) }
     ensures works { OnOk result (has_failed output.new ≡ has_failed output.old) }
-    ensures handed_on { OnOk result (IsHandedOn output.new) }
     ensures fault { IfErr result (FailedToWrite output.new) }
 {
-    write_headings(&RULES, output)?;
-    output.flush()?;
-    Ok(Status::Done)
+    match rule_named(word) {
+        Some(rule) => output.line(entry_of(rule)),
+        None => Ok(()),
+    }
+}
+
+/// Writes the entries of these words, each below an empty line.
+fn write_below<W: Write + Drop>(words: &[&str], output: &mut Output<W>) -> Result<(), ConsoleError>
+    ensures text { OnOk result (Prints W.contents output.old output.new
+        (flat_map (λ word. told_below word.now) words.now)) }
+    ensures works { OnOk result (has_failed output.new ≡ has_failed output.old) }
+    ensures fault { IfErr result (FailedToWrite output.new) }
+{
+    for word in words {
+        output.bytes(b"\n")?;
+        write_entry(word, output)?;
+    }
+    Ok(())
 }
 
 /// Writes the number and the title of each of these refusals, on a line of its own.
@@ -74,7 +98,7 @@ fn write_headings<W: Write + Drop>(
     ensures fault { IfErr result (FailedToWrite output.new) }
 {
     for rule in rules {
-        output.line(Heading(*rule))?;
+        output.line(Heading(entry_of(*rule)))?;
     }
     Ok(())
 }

@@ -2,7 +2,7 @@
 use Rattle.std.proofs.Common.{take, ◌≡◌}
 use Rattle.std.specs.List.{flat_map}
 use Rattle.iocm_console.specs.Output.{has_failed, Prints}
-use Rattle.iocm_explain.specs.Entry.{heading_line}
+use Rattle.iocm_explain.specs.Printed.{heading_line}
 use Rattle.iocm_explain.proofs.printing.write_headings.Given as goal
 
 abbrev pub invariant-loop-rule : goal.invariant-loop-rule
