@@ -31,10 +31,7 @@ _iocm() {
         diff) options+=" --quiet --old" most=2 ;;
         apply) options+=" --quiet --heap $reports $filters" most=2 ;;
         run) options+=" --quiet --heap" most=9999 ;;
-        explain)
-            most=0
-            ((files)) || options+=" $(iocm explain 2>/dev/null | cut -d: -f1)"
-            ;;
+        explain) options+=" $(iocm explain 2>/dev/null | cut -d: -f1)" most=0 ;;
         help) options=$commands most=0 ;;
         value) most=0 ;;
         *) return ;;

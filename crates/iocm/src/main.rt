@@ -183,7 +183,7 @@ fn carry_out<R: Files + Print + Eprint + AllocGlobal + Threads + Wait + Sync>(
     match command {
         Command::Answer(request) => answer_files(rt, request, input),
         Command::Diff { old, new, before } => diff_files(rt, *old, *new, *before, input),
-        Command::Explain { rule } => Ok(without_refusal(explain_rules(rt, rule.as_slice())?)),
+        Command::Explain { rules } => Ok(without_refusal(explain_rules(rt, rules.as_slice())?)),
         Command::Run {
             deck,
             script,

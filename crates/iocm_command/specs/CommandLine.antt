@@ -2,7 +2,7 @@
 use Rattle.std.specs.Prelude.{◌≡◌, ℕ, Bool, true, false, List, [], ◌∷◌, Option, Some, None, Result, Ok, Err}
 use Rattle.std.specs.Prelude.{MatchResult}
 use Rattle.std.specs.Prelude.{codes, unwrap_or, if◌then◌else◌}
-use Rattle.std.specs.Option.{option_map, option_map_or}
+use Rattle.std.specs.Option.{option_map_or}
 use Rattle.std.specs.Str.{bytes_eq}
 use Rattle.std.specs.Str.Parse.{digits_value, without_leading_plus}
 use Rattle.clap.specs.ValueTests.{accepts}
@@ -38,7 +38,7 @@ pub data Meant : Type 0 where
   diff : Text → Text → Before → Meant
   apply : Text → Text → ℕ → Report → Wanted → Meant
   run : Text → Text → List Text → ℕ → Meant
-  explain : Option Text → Meant
+  explain : List Text → Meant
 
 -- with whether standard error is to be quiet
 pub record Stated : Type 0 where
@@ -53,7 +53,7 @@ meant_of (Answer (Show deck filters)) = show deck.now filters
 meant_of (Answer (Write deck)) = write deck.now
 meant_of (Answer (Apply deck change heap report filters)) = apply deck.now change.now heap report filters
 meant_of (Diff old new before) = diff old.now new.now before
-meant_of (Explain rule) = explain (option_map (λ word. word.now) rule)
+meant_of (Explain rules) = explain (texts rules.items)
 meant_of (Run deck script changes heap) = run deck.now script.now (texts changes.items) heap
 
 abbrev pub understood_of : Understood → Stated
@@ -159,8 +159,8 @@ run_in rows =
     first_of (codes "DECK") rows >>= λ deck. first_of (codes "SCRIPT") rows >>= λ script.
     heap_in rows >>= λ heap. Some (run deck script (values_under (codes "CHANGE") rows) heap)
 
-abbrev pub explain_in : List Row → Meant
-explain_in rows = explain (first_of (codes "RULE") rows)
+abbrev pub explain_in : List Row → Option Meant
+explain_in rows = Some (explain (values_under (codes "RULE") rows))
 
 -- what the command of this name asks for
 abbrev pub command_in : Text → List Row → Option Meant
@@ -171,7 +171,7 @@ command_in name rows =
     else (if bytes_eq name (codes "diff") then diff_in rows
     else (if bytes_eq name (codes "apply") then apply_in rows
     else (if bytes_eq name (codes "run") then run_in rows
-    else (if bytes_eq name (codes "explain") then Some (explain_in rows) else None))))))
+    else (if bytes_eq name (codes "explain") then explain_in rows else None))))))
 
 -- what the command that the words name asks for
 abbrev pub understood_in : Option (Text × List Row) → Option Stated

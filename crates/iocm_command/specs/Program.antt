@@ -8,7 +8,7 @@ use Rattle.clap.specs.declared.builder.value_parser.ValueParser.{ValueParser}
 use Rattle.clap.specs.declared.builder.value_parser.ValueParser.TheVariants.{Unsigned}
 use Rattle.iocm_command.specs.declared.argument.Argument.{Argument}
 use Rattle.iocm_command.specs.declared.argument.Form.{Form}
-use Rattle.iocm_command.specs.declared.argument.Form.TheVariants.{File, Word, Files, Heap, Flag, Letter, Filter}
+use Rattle.iocm_command.specs.declared.argument.Form.TheVariants.{File, Words, Heap, Flag, Letter, Filter}
 use Rattle.iocm_command.specs.declared.program.Row.{Row}
 
 -- the size of a heap in bytes: 16 to 16777216
@@ -19,8 +19,7 @@ heap_parser = Unsigned 16 16777216
 -- size of a heap is 262144 where it isn't given, and a filter may be given several times
 abbrev pub rule_by : Text → Form → Rule
 rule_by name File = record (new_rule name) { required = true }
-rule_by name Word = new_rule name
-rule_by name Files = record (new_rule name) { action = Some Append }
+rule_by name Words = record (new_rule name) { action = Some Append }
 rule_by name Heap = record (new_rule name) {
   long = Some name;
   value_names = 1;
@@ -73,10 +72,10 @@ apply_row = (
 )
 
 abbrev pub run_row : Text × List (Text × Form)
-run_row = (codes "run", quiet ∷ deck ∷ (codes "SCRIPT", File) ∷ (codes "CHANGE", Files) ∷ heap ∷ [])
+run_row = (codes "run", quiet ∷ deck ∷ (codes "SCRIPT", File) ∷ (codes "CHANGE", Words) ∷ heap ∷ [])
 
 abbrev pub explain_row : Text × List (Text × Form)
-explain_row = (codes "explain", (codes "RULE", Word) ∷ [])
+explain_row = (codes "explain", (codes "RULE", Words) ∷ [])
 
 abbrev pub commands : List (Text × List (Text × Form))
 commands = check_row ∷ show_row ∷ write_row ∷ diff_row ∷ apply_row ∷ run_row ∷ explain_row ∷ []

@@ -30,10 +30,8 @@ pub(crate) struct Argument<'a> {
 pub(crate) enum Form {
     /// A file, which is required.
     File,
-    /// A word, which isn't required.
-    Word,
-    /// Files, which aren't required: each word names one.
-    Files,
+    /// Words, which aren't required, as many as there are.
+    Words,
     /// The size in bytes of the heap that a change tree is read in.
     Heap,
     /// A flag.
@@ -53,8 +51,7 @@ impl<'a> Argument<'a> {
         let argument = Arg::new(alloc, self.name).help(self.help);
         match self.form {
             Form::File => argument.required(true),
-            Form::Word => argument,
-            Form::Files => argument.action(ArgAction::Append),
+            Form::Words => argument.action(ArgAction::Append),
             Form::Heap => argument
                 .long(self.name)
                 .value_name(self.value)

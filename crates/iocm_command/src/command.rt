@@ -34,9 +34,9 @@ pub enum Command<'a> {
         new: &'a str,
         before: Before,
     },
-    /// Print what the refusal of this number means, or a list of all.
+    /// Print what the refusals of these numbers mean, or a list of all.
     Explain {
-        rule: Option<&'a str>,
+        rules: Vec<&'a str>,
     },
     /// Run the script in the second file on the machine of the deck in the first one, with the
     /// change decks in the others, in their order; each change tree is read in a heap of so many

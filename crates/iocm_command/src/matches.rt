@@ -222,11 +222,11 @@ fn run_in<'a>(alloc: Global, found: &ArgMatches<'a>) -> Result<Command<'a>, Unre
 }
 
 /// What `explain` asks for.
-fn explain_in<'a>(found: &ArgMatches<'a>) -> Command<'a>
-    ensures { meant_of result ≡ meaning.explain_in (rows_in found.now) }
+fn explain_in<'a>(alloc: Global, found: &ArgMatches<'a>) -> Result<Command<'a>, Unread>
+    ensures { Reads meant_of result (meaning.explain_in (rows_in found.now)) }
 {
-    let rule = found.get_str("RULE");
-    Command::Explain { rule }
+    let rules = values_of(alloc, found, "RULE")?;
+    Ok(Command::Explain { rules })
 }
 
 /// What the command of this name asks for.
@@ -240,7 +240,7 @@ fn command_in<'a>(alloc: Global, name: &str, found: &ArgMatches<'a>) -> Result<C
         "diff" => diff_in(found),
         "apply" => apply_in(alloc, found),
         "run" => run_in(alloc, found),
-        "explain" => Ok(explain_in(found)),
+        "explain" => explain_in(alloc, found),
         _ => Err(Unread::Malformed),
     }
 }

@@ -205,7 +205,7 @@ const SCRIPT: Argument<'static> = Argument {
 
 const CHANGES: Argument<'static> = Argument {
     name: "CHANGE",
-    form: Form::Files,
+    form: Form::Words,
     value: "",
     help: "A change deck, which the script names by its place, from 1: its file, or - for standard input",
 };
@@ -219,9 +219,9 @@ const HEAPS: Argument<'static> = Argument {
 
 const RULE: Argument<'static> = Argument {
     name: "RULE",
-    form: Form::Word,
+    form: Form::Words,
     value: "",
-    help: "The number of a refusal, as V14; where it is left out, all are listed",
+    help: "The numbers of refusals, as V14; if there is none, all are listed",
 };
 
 /// The commands.
