@@ -4,6 +4,7 @@ import os
 import re
 import subprocess
 
+QUIET = {"--quiet", "-q"}
 EDITS = re.compile(rb"^(no|\d+) edits?\b.*\n")
 REFUSED = re.compile(rb"refused ([A-Z]\d+)(?: line (\d+))?")
 
@@ -61,8 +62,9 @@ def faults_of_remark(got):
     """What is wrong with what standard error says: beside a refusal its line, its number and which entry says more;
     else nothing, where all was done."""
     refused = REFUSED.match(got.stdout or b"")
-    if got.returncode == 0 or "--quiet" in got.args:
-        said = EDITS.sub(b"", got.stderr) if "diff" in got.args and "--quiet" not in got.args else got.stderr
+    is_quiet = not QUIET.isdisjoint(got.args)
+    if got.returncode == 0 or is_quiet:
+        said = EDITS.sub(b"", got.stderr) if "diff" in got.args and not is_quiet else got.stderr
         return [f"standard error: {got.stderr[:400]!r}"] if said else []
     if not refused:
         return []
