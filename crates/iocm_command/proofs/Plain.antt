@@ -19,36 +19,36 @@ abbrev pub at_deck : Text → Walk
 at_deck deck = at (record { rows = []; pending = Some (codes "DECK", deck ∷ []); skip = 0 }) false 2
 
 -- a command with a deck in its first place means this of it
-deck_means : (name : Text) (shape : Shape) (leaf : Leaf name shape) (command : Text → Meant)
+deck_means : (shape : Shape) (leaf : Leaf shape) (command : Text → Meant)
     → ((deck : Text) → to_positional shape.rules (arg_by_index shape.rules 1) deck (at nothing_held false 1)
     nothing_held ≡ at_deck deck)
     → option_map_or (λ a. positional_fault shape.rules shape.args_override_self a nothing_held)
     (arg_by_index shape.rules 1) (stray_fault shape) ≡ []
-    → ((deck : Text) → mistakes_by name shape leaf [] (at_deck deck).held ≡ [])
-    → ((deck : Text) → Asks name shape leaf (at_deck deck).held (command deck))
-    → (program deck : Text) → IsPlainName deck → Mean (program ∷ name ∷ deck ∷ []) (command deck)
-deck_means name shape leaf command goes passes fits asks program deck (d, ds, is, dh) =
-    subst (λ (t : Text). Mean (program ∷ name ∷ t ∷ []) (command t)) (sym is)
-    (is_read name shape leaf program ((d ∷ ds) ∷ []) (at_deck (d ∷ ds)) (command (d ∷ ds))
-    (file name shape leaf nothing_held false 1 d ds (at_deck (d ∷ ds)) dh (goes (d ∷ ds)) passes) (fits (d ∷ ds))
+    → ((deck : Text) → mistakes_by shape leaf [] (at_deck deck).held ≡ [])
+    → ((deck : Text) → Asks shape leaf (at_deck deck).held (command deck))
+    → (program deck : Text) → IsPlainName deck → Mean (program ∷ shape.name ∷ deck ∷ []) (command deck)
+deck_means shape leaf command goes passes fits asks program deck (d, ds, is, dh) =
+    subst (λ (t : Text). Mean (program ∷ shape.name ∷ t ∷ []) (command t)) (sym is)
+    (is_read shape leaf program ((d ∷ ds) ∷ []) (at_deck (d ∷ ds)) (command (d ∷ ds))
+    (file shape leaf nothing_held false 1 d ds (at_deck (d ∷ ds)) dh (goes (d ∷ ds)) passes) (fits (d ∷ ds))
     (asks (d ∷ ds)))
 
 check_means : (program deck : Text) → IsPlainName deck → Mean (program ∷ codes "check" ∷ deck ∷ []) (check deck First)
 unfolding clap_on_literals
-check_means = deck_means (codes "check") (built_leaf (command_app check_row).top)
-    (record { walks = refl; passes = refl; found = refl; named = refl }) (λ deck. check deck First) (λ deck. refl) refl
+check_means = deck_means (built_leaf (command_app check_row).top)
+    (record { walks = refl; passes = refl; found = refl }) (λ deck. check deck First) (λ deck. refl) refl
     (λ deck. refl) (λ deck. refl)
 
 show_means : (program deck : Text) → IsPlainName deck → Mean (program ∷ codes "show" ∷ deck ∷ []) (show deck nothing)
 unfolding clap_on_literals every
-show_means = deck_means (codes "show") (built_leaf (command_app show_row).top)
-    (record { walks = refl; passes = refl; found = refl; named = refl }) (λ deck. show deck nothing) (λ deck. refl) refl
+show_means = deck_means (built_leaf (command_app show_row).top)
+    (record { walks = refl; passes = refl; found = refl }) (λ deck. show deck nothing) (λ deck. refl) refl
     (λ deck. refl) (λ deck. refl)
 
 write_means : (program deck : Text) → IsPlainName deck → Mean (program ∷ codes "write" ∷ deck ∷ []) (write deck)
 unfolding clap_on_literals
-write_means = deck_means (codes "write") (built_leaf (command_app write_row).top)
-    (record { walks = refl; passes = refl; found = refl; named = refl }) write (λ deck. refl) refl (λ deck. refl)
+write_means = deck_means (built_leaf (command_app write_row).top)
+    (record { walks = refl; passes = refl; found = refl }) write (λ deck. refl) refl (λ deck. refl)
     (λ deck. refl)
 
 pub decks_are_meant : DecksAreMeant

@@ -51,9 +51,9 @@ row id value = record { id = id; values = value ∷ []; count = None; source = S
 abbrev apply_shape : Shape
 apply_shape = built_leaf (command_app apply_row).top
 
-apply_leaf : Leaf (codes "apply") apply_shape
+apply_leaf : Leaf apply_shape
 unfolding clap_on_literals
-apply_leaf = record { walks = refl; passes = refl; found = refl; named = refl }
+apply_leaf = record { walks = refl; passes = refl; found = refl }
 
 -- after `--heap` with these rows before it, and after its size
 abbrev pub at_heap : List Row → Walk
@@ -68,12 +68,12 @@ abbrev at_undo : List Row → Walk
 at_undo rows = at (record { rows = rows; pending = None; skip = 0 }) false 3
 
 abbrev Goes : Walk → List Text → Walk → Type 0
-Goes = Leads (codes "apply") apply_shape apply_leaf
+Goes = Leads apply_shape apply_leaf
 
 to_size : (rows : List Row) (z : ℕ) (zs : List ℕ) → (z == 45) ≡ false
     → Goes (at_heap rows) ((z ∷ zs) ∷ []) (at_size rows (z ∷ zs))
 unfolding clap_on_literals
-to_size rows z zs zh = one_word (codes "apply") apply_shape apply_leaf (at_heap rows) (z ∷ zs)
+to_size rows z zs zh = one_word apply_shape apply_leaf (at_heap rows) (z ∷ zs)
     (at_size rows (z ∷ zs)) (simp zh) (simp zh)
 
 module _ (program : Text) (d : ℕ) (ds : List ℕ) (c : ℕ) (cs : List ℕ) (dh : (d == 45) ≡ false)
@@ -86,10 +86,10 @@ module _ (program : Text) (d : ℕ) (ds : List ℕ) (c : ℕ) (cs : List ℕ) (d
 
   to_files : Goes (walk_from nothing_held) ((d ∷ ds) ∷ (c ∷ cs) ∷ []) at_change
   unfolding clap_on_literals
-  to_files = joined (codes "apply") apply_shape apply_leaf (walk_from nothing_held) (at_deck (d ∷ ds)) at_change
+  to_files = joined apply_shape apply_leaf (walk_from nothing_held) (at_deck (d ∷ ds)) at_change
       ((d ∷ ds) ∷ []) ((c ∷ cs) ∷ [])
-      (file (codes "apply") apply_shape apply_leaf nothing_held false 1 d ds (at_deck (d ∷ ds)) dh refl refl)
-      (file (codes "apply") apply_shape apply_leaf (at_deck (d ∷ ds)).held false 2 c cs at_change ch refl refl)
+      (file apply_shape apply_leaf nothing_held false 1 d ds (at_deck (d ∷ ds)) dh refl refl)
+      (file apply_shape apply_leaf (at_deck (d ∷ ds)).held false 2 c cs at_change ch refl refl)
 
   -- the rows of the files, with those of options
   abbrev rows : List Row → List Row
@@ -103,22 +103,22 @@ module _ (program : Text) (d : ℕ) (ds : List ℕ) (c : ℕ) (cs : List ℕ) (d
 
   to_undo : Goes at_change (codes "--undo" ∷ []) (at_undo (rows (undo ∷ [])))
   unfolding clap_on_literals
-  to_undo = one_word (codes "apply") apply_shape apply_leaf at_change (codes "--undo") (at_undo (rows (undo ∷ [])))
+  to_undo = one_word apply_shape apply_leaf at_change (codes "--undo") (at_undo (rows (undo ∷ [])))
       refl refl
 
   to_heap : Goes at_change (codes "--heap" ∷ []) (at_heap (rows []))
   unfolding clap_on_literals
-  to_heap = one_word (codes "apply") apply_shape apply_leaf at_change (codes "--heap") (at_heap (rows [])) refl refl
+  to_heap = one_word apply_shape apply_leaf at_change (codes "--heap") (at_heap (rows [])) refl refl
 
   undo_to_heap : Goes (at_undo (rows (undo ∷ []))) (codes "--heap" ∷ []) (at_heap (rows (undo ∷ [])))
   unfolding clap_on_literals
-  undo_to_heap = one_word (codes "apply") apply_shape apply_leaf (at_undo (rows (undo ∷ []))) (codes "--heap")
+  undo_to_heap = one_word apply_shape apply_leaf (at_undo (rows (undo ∷ []))) (codes "--heap")
       (at_heap (rows (undo ∷ []))) refl refl
 
   size_to_undo : (size : Text) → accepts false heap_parser size ≡ true
       → Goes (at_size (rows []) size) (codes "--undo" ∷ []) (at_undo (rows (heap size ∷ undo ∷ [])))
   unfolding clap_on_literals
-  size_to_undo size passes = one_word (codes "apply") apply_shape apply_leaf (at_size (rows []) size) (codes "--undo")
+  size_to_undo size passes = one_word apply_shape apply_leaf (at_size (rows []) size) (codes "--undo")
       (at_undo (rows (heap size ∷ undo ∷ []))) refl (simp passes)
 
   -- ---- where the words end
@@ -128,14 +128,14 @@ module _ (program : Text) (d : ℕ) (ds : List ℕ) (c : ℕ) (cs : List ℕ) (d
 
   -- what is held there has no mistake, and asks for this
   abbrev Ends : Held → ℕ → Report → Type 0
-  Ends held size report = (mistakes_by (codes "apply") apply_shape apply_leaf [] held ≡ [])
-      × Asks (codes "apply") apply_shape apply_leaf held (apply (d ∷ ds) (c ∷ cs) size report nothing)
+  Ends held size report = (mistakes_by apply_shape apply_leaf [] held ≡ [])
+      × Asks apply_shape apply_leaf held (apply (d ∷ ds) (c ∷ cs) size report nothing)
 
   read : (options : List Text) (end : Walk) (size : ℕ) (report : Report) → Goes at_change options end
       → Ends end.held size report → Means options size report
-  read options end size report leads ends = is_read (codes "apply") apply_shape apply_leaf program
+  read options end size report leads ends = is_read apply_shape apply_leaf program
       ((d ∷ ds) ∷ (c ∷ cs) ∷ options) end (apply (d ∷ ds) (c ∷ cs) size report nothing)
-      (joined (codes "apply") apply_shape apply_leaf (walk_from nothing_held) at_change end
+      (joined apply_shape apply_leaf (walk_from nothing_held) at_change end
       ((d ∷ ds) ∷ (c ∷ cs) ∷ []) options to_files leads)
       ends.0 ends.1
 
@@ -189,7 +189,7 @@ module _ (program : Text) (d : ℕ) (ds : List ℕ) (c : ℕ) (cs : List ℕ) (d
 
   abbrev join : (w between after : Walk) (xs ys : List Text) → Goes w xs between → Goes between ys after
       → Goes w (xs ++ ys) after
-  join = joined (codes "apply") apply_shape apply_leaf
+  join = joined apply_shape apply_leaf
 
   none_means : Means [] 262144 Table
   none_means = read [] at_change 262144 Table (λ rest. (refl, refl)) files_end

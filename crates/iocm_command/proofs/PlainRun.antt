@@ -20,16 +20,16 @@ use Rattle.iocm_command.proofs.Reading.{size_passes}
 abbrev run_shape : Shape
 run_shape = built_leaf (command_app run_row).top
 
-run_leaf : Leaf (codes "run") run_shape
+run_leaf : Leaf run_shape
 unfolding clap_on_literals
-run_leaf = record { walks = refl; passes = refl; found = refl; named = refl }
+run_leaf = record { walks = refl; passes = refl; found = refl }
 
 abbrev Goes : Walk → List Text → Walk → Type 0
-Goes = Leads (codes "run") run_shape run_leaf
+Goes = Leads run_shape run_leaf
 
 abbrev join : (w between after : Walk) (xs ys : List Text) → Goes w xs between → Goes between ys after
     → Goes w (xs ++ ys) after
-join = joined (codes "run") run_shape run_leaf
+join = joined run_shape run_leaf
 
 module _ (program : Text) (d : ℕ) (ds : List ℕ) (s : ℕ) (ss : List ℕ) (dh : (d == 45) ≡ false)
     (sh : (s == 45) ≡ false) where
@@ -54,24 +54,24 @@ module _ (program : Text) (d : ℕ) (ds : List ℕ) (s : ℕ) (ss : List ℕ) (d
   to_files : Goes (walk_from nothing_held) ((d ∷ ds) ∷ (s ∷ ss) ∷ []) at_script
   unfolding clap_on_literals
   to_files = join (walk_from nothing_held) (at_deck (d ∷ ds)) at_script ((d ∷ ds) ∷ []) ((s ∷ ss) ∷ [])
-      (file (codes "run") run_shape run_leaf nothing_held false 1 d ds (at_deck (d ∷ ds)) dh refl refl)
-      (file (codes "run") run_shape run_leaf (at_deck (d ∷ ds)).held false 2 s ss at_script sh refl refl)
+      (file run_shape run_leaf nothing_held false 1 d ds (at_deck (d ∷ ds)) dh refl refl)
+      (file run_shape run_leaf (at_deck (d ∷ ds)).held false 2 s ss at_script sh refl refl)
 
   to_first : (c : Text) → IsPlainName c → Goes at_script (c ∷ []) (at_change [] c)
   unfolding clap_on_literals
   to_first c (x, xs, is, xh) = subst (λ (t : Text). Goes at_script (t ∷ []) (at_change [] t)) (sym is)
-      (file (codes "run") run_shape run_leaf at_script.held false 3 x xs (at_change [] (x ∷ xs)) xh refl refl)
+      (file run_shape run_leaf at_script.held false 3 x xs (at_change [] (x ∷ xs)) xh refl refl)
 
   to_next : (seen : List Text) (last : Text) (c : Text) → IsPlainName c
       → Goes (at_change seen last) (c ∷ []) (at_change (seen ++ last ∷ []) c)
   unfolding clap_on_literals
   to_next [] last c (x, xs, is, xh) =
       subst (λ (t : Text). Goes (at_change [] last) (t ∷ []) (at_change (last ∷ []) t)) (sym is)
-      (file (codes "run") run_shape run_leaf (at_change [] last).held true 3 x xs (at_change (last ∷ []) (x ∷ xs)) xh
+      (file run_shape run_leaf (at_change [] last).held true 3 x xs (at_change (last ∷ []) (x ∷ xs)) xh
       refl refl)
   to_next (y ∷ ys) last c (x, xs, is, xh) =
       subst (λ (t : Text). Goes (at_change (y ∷ ys) last) (t ∷ []) (at_change (y ∷ (ys ++ last ∷ [])) t)) (sym is)
-      (file (codes "run") run_shape run_leaf (at_change (y ∷ ys) last).held true 3 x xs
+      (file run_shape run_leaf (at_change (y ∷ ys) last).held true 3 x xs
       (at_change (y ∷ (ys ++ last ∷ [])) (x ∷ xs)) xh refl refl)
 
   -- change decks lead to the last of them
@@ -92,8 +92,8 @@ module _ (program : Text) (d : ℕ) (ds : List ℕ) (s : ℕ) (ss : List ℕ) (d
 
   -- what is held there has no mistake, and asks for this
   abbrev Ends : Held → List Text → ℕ → Type 0
-  Ends held changes size = (mistakes_by (codes "run") run_shape run_leaf [] held ≡ [])
-      × Asks (codes "run") run_shape run_leaf held (run (d ∷ ds) (s ∷ ss) changes size)
+  Ends held changes size = (mistakes_by run_shape run_leaf [] held ≡ [])
+      × Asks run_shape run_leaf held (run (d ∷ ds) (s ∷ ss) changes size)
 
   script_ends : accepts false heap_parser (codes "262144") ≡ true → Ends at_script.held [] 262144
   unfolding clap_on_literals
@@ -113,20 +113,20 @@ module _ (program : Text) (d : ℕ) (ds : List ℕ) (s : ℕ) (ss : List ℕ) (d
 
   script_to_heap : Goes at_script (codes "--heap" ∷ []) (at_heap (rows []))
   unfolding clap_on_literals
-  script_to_heap = one_word (codes "run") run_shape run_leaf at_script (codes "--heap") (at_heap (rows [])) refl refl
+  script_to_heap = one_word run_shape run_leaf at_script (codes "--heap") (at_heap (rows [])) refl refl
 
   change_to_heap : (before : List Text) (final : Text)
       → Goes (at_change before final) (codes "--heap" ∷ []) (at_heap (rows (before ++ final ∷ [])))
   unfolding clap_on_literals
-  change_to_heap [] final = one_word (codes "run") run_shape run_leaf (at_change [] final) (codes "--heap")
+  change_to_heap [] final = one_word run_shape run_leaf (at_change [] final) (codes "--heap")
       (at_heap (rows (final ∷ []))) refl refl
-  change_to_heap (x ∷ xs) final = one_word (codes "run") run_shape run_leaf (at_change (x ∷ xs) final) (codes "--heap")
+  change_to_heap (x ∷ xs) final = one_word run_shape run_leaf (at_change (x ∷ xs) final) (codes "--heap")
       (at_heap (rows (x ∷ (xs ++ final ∷ [])))) refl refl
 
   to_size : (changes : List Text) (z : ℕ) (zs : List ℕ) → (z == 45) ≡ false
       → Goes (at_heap (rows changes)) ((z ∷ zs) ∷ []) (at_size (rows changes) (z ∷ zs))
   unfolding clap_on_literals
-  to_size changes z zs zh = one_word (codes "run") run_shape run_leaf (at_heap (rows changes)) (z ∷ zs)
+  to_size changes z zs zh = one_word run_shape run_leaf (at_heap (rows changes)) (z ∷ zs)
       (at_size (rows changes) (z ∷ zs)) (simp zh) (simp zh)
 
   -- the walk may end after the files, or go on with the size of a heap
@@ -161,7 +161,7 @@ module _ (program : Text) (d : ℕ) (ds : List ℕ) (s : ℕ) (ss : List ℕ) (d
       let (end, (leads, ends, heap)) = ready changes plain in
       subst (λ (files : List Text). Mean (program ∷ codes "run" ∷ (d ∷ ds) ∷ (s ∷ ss) ∷ files)
       (run (d ∷ ds) (s ∷ ss) changes 262144)) (sym (append-nil changes))
-      (is_read (codes "run") run_shape run_leaf program ((d ∷ ds) ∷ (s ∷ ss) ∷ changes) end
+      (is_read run_shape run_leaf program ((d ∷ ds) ∷ (s ∷ ss) ∷ changes) end
       (run (d ∷ ds) (s ∷ ss) changes 262144) leads ends.0 ends.1)
   all_mean changes (Some text) plain sized =
       let (z, zs, is, zh) = size_is_plain text sized in
@@ -169,7 +169,7 @@ module _ (program : Text) (d : ℕ) (ds : List ℕ) (s : ℕ) (ss : List ℕ) (d
       let given : List Text = codes "--heap" ∷ (z ∷ zs) ∷ [] in
       let last = size_ends changes (z ∷ zs) (size_passes (z ∷ zs) (subst IsSizeText is sized)) in
       subst (λ (t : Text). Means changes (Some t)) (sym is)
-      (is_read (codes "run") run_shape run_leaf program ((d ∷ ds) ∷ (s ∷ ss) ∷ (changes ++ given))
+      (is_read run_shape run_leaf program ((d ∷ ds) ∷ (s ∷ ss) ∷ (changes ++ given))
       (at_size (rows changes) (z ∷ zs)) (run (d ∷ ds) (s ∷ ss) changes (number_of (z ∷ zs)))
       (join (walk_from nothing_held) end (at_size (rows changes) (z ∷ zs)) ((d ∷ ds) ∷ (s ∷ ss) ∷ changes) given leads
       (join end (at_heap (rows changes)) (at_size (rows changes) (z ∷ zs)) (codes "--heap" ∷ []) ((z ∷ zs) ∷ []) heap

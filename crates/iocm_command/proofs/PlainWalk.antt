@@ -29,12 +29,11 @@ names = names_of (built iocm_app)
 abbrev pub stopped_at : Text → List Text → Walk
 stopped_at name words = record (walk_from nothing_held) { stopped = Some (name, words) }
 
--- a command of the program has this name and this shape
-pub record Leaf (name : Text) (shape : Shape) : Type 0 where
-  pub walks : walked top.rules names (walk_from nothing_held) name ≡ stopped_at name []
-  pub passes : turn_fault top names (walk_from nothing_held) name ≡ []
-  pub found : find (λ s. answers_to name (label_of s)) (built iocm_app).subs ≡ Some shape
-  pub named : shape.name ≡ name
+-- a command of the program has this shape
+pub record Leaf (shape : Shape) : Type 0 where
+  pub walks : walked top.rules names (walk_from nothing_held) shape.name ≡ stopped_at shape.name []
+  pub passes : turn_fault top names (walk_from nothing_held) shape.name ≡ []
+  pub found : find (λ s. answers_to shape.name (label_of s)) (built iocm_app).subs ≡ Some shape
 
 -- where a walk is, after so many places of arguments: a word that is no option goes to the next place
 abbrev pub waits : Bool → Waiting
@@ -61,15 +60,15 @@ unfolding clap_on_literals
 plain_passes shape held false position d ds dh = simp dh
 plain_passes shape held true position d ds dh = simp dh
 
-module _ (name : Text) (shape : Shape) (leaf : Leaf name shape) where
-  top_walk : (words : List Text) → walk top.rules names nothing_held (name ∷ words) ≡ stopped_at name words
+module _ (shape : Shape) (leaf : Leaf shape) where
+  top_walk : (words : List Text) → walk top.rules names nothing_held (shape.name ∷ words) ≡ stopped_at shape.name words
   top_walk words = ap (λ (w : Walk). fold (walked top.rules names) w words) leaf.walks
-      ∙ sym (walk_stopped top.rules names (walk_from nothing_held) name [] words)
+      ∙ sym (walk_stopped top.rules names (walk_from nothing_held) shape.name [] words)
 
-  top_faults : (words : List Text) → walk_fault top names (walk_from nothing_held) (name ∷ words) ≡ []
+  top_faults : (words : List Text) → walk_fault top names (walk_from nothing_held) (shape.name ∷ words) ≡ []
   unfolding walk_fault
   top_faults words = ap₂ or_else leaf.passes (ap (λ (w : Walk). walk_fault top names w words) leaf.walks
-      ∙ stopped_fault top names (walk_from nothing_held) (name, []) words)
+      ∙ stopped_fault top names (walk_from nothing_held) (shape.name, []) words)
 
   -- the mistakes by those of the walk over the program's own words and by where that ends
   abbrev mistakes_above : Kinds → Walk → Kinds
@@ -88,7 +87,7 @@ module _ (name : Text) (shape : Shape) (leaf : Leaf name shape) where
 
   -- so the mistakes in words after the name are those that the command finds in them
   found_below : (program : Text) (words : List Text)
-      → fault_of iocm_app (program ∷ name ∷ words)
+      → fault_of iocm_app (program ∷ shape.name ∷ words)
       ≡ or_else (level_fault shape [] nothing_held words false []) []
   unfolding clap_on_literals
   found_below program words =
@@ -96,12 +95,11 @@ module _ (name : Text) (shape : Shape) (leaf : Leaf name shape) where
 
   -- and the command that they name is this one, with what it makes of them
   named_below : (program : Text) (words : List Text)
-      → subcommand_of iocm_app (program ∷ name ∷ words)
-      ≡ Some (name, finished shape.rules (walk shape.rules [] nothing_held words).held)
+      → subcommand_of iocm_app (program ∷ shape.name ∷ words)
+      ≡ Some (shape.name, finished shape.rules (walk shape.rules [] nothing_held words).held)
   unfolding clap_on_literals
   named_below program words = ap (λ (w : Walk). entered (built iocm_app) w.stopped) (top_walk words)
       ∙ ap (option_map (λ (s : Shape). rows_at s words)) leaf.found
-      ∙ ap (λ (n : Text). Some (n, finished shape.rules (walk shape.rules [] nothing_held words).held)) leaf.named
 
   -- ---- the words of the command
 
@@ -147,13 +145,13 @@ module _ (name : Text) (shape : Shape) (leaf : Leaf name shape) where
 
   -- what is held asks for this command
   abbrev pub Asks : Held → Meant → Type 0
-  Asks held command = understood_in (Some (name, finished shape.rules held))
+  Asks held command = understood_in (Some (shape.name, finished shape.rules held))
       ≡ Some (record { command = command; quiet = false })
 
   -- words of which the walk ends so mean it
   pub is_read : (program : Text) (words : List Text) (end : Walk) (command : Meant)
       → Leads (walk_from nothing_held) words end → mistakes_by [] end.held ≡ [] → Asks end.held command
-      → Mean (program ∷ name ∷ words) command
+      → Mean (program ∷ shape.name ∷ words) command
   unfolding walk_fault
   is_read program words end command leads passes asks =
       let ended : walk shape.rules [] nothing_held words ≡ end =
@@ -165,4 +163,4 @@ module _ (name : Text) (shape : Shape) (leaf : Leaf name shape) where
       (found_below program words
       ∙ ap (λ (kinds : Kinds). or_else kinds []) (ap₂ mistakes_by none (ap (λ (w : Walk). w.held) ended) ∙ passes))
       (ap understood_in (named_below program words
-      ∙ ap (λ (w : Walk). Some (name, finished shape.rules w.held)) ended) ∙ asks)
+      ∙ ap (λ (w : Walk). Some (shape.name, finished shape.rules w.held)) ended) ∙ asks)
