@@ -18,6 +18,8 @@ pub(crate) struct Row<'a> {
     pub(crate) about: &'a str,
     /// What it takes.
     pub(crate) arguments: &'a [Argument<'a>],
+    /// What its help ends with: two examples, and the page that says more.
+    pub(crate) examples: &'a str,
 }
 
 /// The commands, in the order in which help lists them.
@@ -27,24 +29,30 @@ const CHECK: Row<'static> = Row {
     name: "check",
     about: "Reads a configuration deck, checks its rules and says how many records it has",
     arguments: &[QUIET, DECK, ALL],
+    examples: "Examples:\n  iocm check my.deck\n  iocm check my.deck --all\n\nMore: docs/MESSAGES.md",
 };
 
 const SHOW: Row<'static> = Row {
     name: "show",
     about: "Reads a configuration deck and prints the table of its subchannels",
     arguments: &[QUIET, DECK, IMAGE, DEVICE, UNIT, PATH, ONLINE],
+    examples: "Examples:\n  iocm show my.deck\n  iocm show my.deck --image LPB --paths-online 1\n\n\
+               More: docs/DEFINITIONS.md",
 };
 
 const WRITE: Row<'static> = Row {
     name: "write",
     about: "Reads a configuration deck and prints it again in canonical order and forms",
     arguments: &[QUIET, DECK],
+    examples: "Examples:\n  iocm write my.deck\n  iocm write my.deck > canonical.deck\n\nMore: docs/CHANGES.md",
 };
 
 const DIFF: Row<'static> = Row {
     name: "diff",
     about: "Reads two configuration decks and prints the change deck that leads from one to the other",
     arguments: &[QUIET, OLD, NEW, BEFORE],
+    examples: "Examples:\n  iocm diff old.deck new.deck > my.change\n  iocm diff old.deck new.deck --old\n\n\
+               More: docs/CHANGES.md",
 };
 
 const APPLY: Row<'static> = Row {
@@ -55,6 +63,8 @@ const APPLY: Row<'static> = Row {
         QUIET, DECK, CHANGE, HEAP, UNDO, ALTERED, COUNT, AFTERWARDS, TEST, IMAGE, DEVICE, UNIT,
         PATH, ONLINE,
     ],
+    examples: "Examples:\n  iocm apply my.deck my.change --count\n  iocm apply my.deck my.change --undo > back.change\n\n\
+               More: docs/CHANGES.md",
 };
 
 const RUN: Row<'static> = Row {
@@ -62,12 +72,15 @@ const RUN: Row<'static> = Row {
     about: "Runs a script of images and operators on the machine of a configuration deck, and prints the answers \
             and the table afterwards",
     arguments: &[QUIET, DECK, SCRIPT, CHANGES, HEAPS],
+    examples: "Examples:\n  iocm run my.deck my.script\n  iocm run my.deck my.script first.change second.change\n\n\
+               More: docs/SCRIPTS.md",
 };
 
 const EXPLAIN: Row<'static> = Row {
     name: "explain",
     about: "Says what a refusal means and what to do, or lists all refusals",
     arguments: &[RULE],
+    examples: "Examples:\n  iocm explain\n  iocm explain V14 S5\n\nMore: docs/MESSAGES.md",
 };
 
 const QUIET: Argument<'static> = Argument {
@@ -255,7 +268,9 @@ fn told<'a>(alloc: Global, row: &Row<'a>) -> Result<clap::Command<'a>, AllocErro
     ensures app { IfOk result (λ c. app_of c ≡ meaning.command_app (meaning.seen_row row.now)) }
     ensures local { IfOk result (λ c. has_globals c ≡ false) }
 {
-    let command = clap::Command::new(alloc, row.name).about(row.about);
+    let command = clap::Command::new(alloc, row.name)
+        .about(row.about)
+        .after_help(row.examples);
     with_arguments(alloc, command, row.arguments)
 }
 
