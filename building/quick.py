@@ -19,7 +19,7 @@ TARGET = "x86_64-unknown-linux-gnu"
 OBJECTS = ("part.o", "part.o1")
 LIBRARIES = ("c/libos_c.a", "c/liblibc_c.a")
 KILLED = "a command was killed, most likely for lack of memory: some 3 GB have to be free"
-MINUTES = "some three minutes if two processors are free"
+MINUTES = "three to four minutes if two processors are free"
 NOTHING_PROVED = "NOTHING IS PROVED HERE of this program: ./iocm --prove proves it, in some two hours of processor time"
 NOTHING_SAID = "run=none proved=no"
 
