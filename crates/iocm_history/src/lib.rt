@@ -2,11 +2,11 @@
 //! undo and redo, changes in stages, the state that what is left gives, which changes stand on
 //! which, and which histories are legal.
 //!
-//! Each subject has one file in `specs/`; `docs/INDEX.md` goes through them, and
-//! `docs/UNDO.md` tells a system programmer what undo does. Each entry that is not struck
-//! overwrites cells, and what is left is read as a state. `specs/Reckoning.antt` has what a journal
-//! keeps beside a machine to answer undo and redo as histories say: the changes by their numbers,
-//! which of them stand, when each was last undone, and which cells they share.
+//! Each subject has one file in `specs/`; `docs/UNDO.md` tells a system programmer what undo does.
+//! Each entry that is not struck overwrites cells, and what is left is read as a state.
+//! `specs/Reckoning.antt` has what a journal keeps beside a machine to answer undo and redo as
+//! histories say: the changes by their numbers, which of them stand, when each was last undone, and
+//! which cells they share.
 //!
 //! The functions here have empty bodies: their contracts are laws of the definitions, and the
 //! layers above rely on these. Some of their proofs cite lemmas of `proofs/`, too: `iocm_activate`

@@ -4,8 +4,8 @@
 //! lists, which devices an image sees, the masks, subchannel numbers, views and the table),
 //! `Rules`, `Operation` (the state, the orders, the steps), `Change` (edits with their refusals and
 //! inverses, runs of edits, effects, change trees) and `Laws` (what all of these promise). They are
-//! pure: no allocator, capacity or pointer stands in them. A reviewer reads these files, which
-//! `docs/INDEX.md` lists, to know what is claimed.
+//! pure: no allocator, capacity or pointer stands in them. A reviewer reads these files to know
+//! what is claimed.
 //!
 //! The functions here have empty bodies: their contracts are the laws. Worked examples stand in
 //! `iocm_examples`. What names no source is our own.
