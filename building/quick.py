@@ -20,7 +20,7 @@ OBJECTS = ("part.o", "part.o1")
 LIBRARIES = ("c/libos_c.a", "c/liblibc_c.a")
 KILLED = "a command was killed, most likely for lack of memory: some 3 GB have to be free"
 MINUTES = "three to four minutes if two processors are free"
-NOTHING_PROVED = "NOTHING IS PROVED HERE of this program: ./iocm --prove proves it, in some two hours of processor time"
+NOTHING_PROVED = "NOTHING IS PROVED HERE of this program: ./iocm --prove proves it, in some three hours of processor time"
 NOTHING_SAID = "run=none proved=no"
 
 CLANG = """#!/bin/sh
