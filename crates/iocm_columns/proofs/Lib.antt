@@ -5,8 +5,7 @@ pub mod Finding
 pub mod Gathering
 pub mod Grouping
 pub mod Listing
-pub mod Refusing
-pub mod Walking
+pub mod Padding
 pub mod Scanning
 pub mod Showing
 pub mod Slicing

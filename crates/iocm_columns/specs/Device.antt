@@ -1,8 +1,8 @@
 -- What is known of a device that is read.
-use Rattle.std.specs.Prelude.{◌≡◌, ◌⊎◌, ℕ, Bool, true, false, Result, Err}
+use Rattle.std.specs.Prelude.{◌≡◌, ◌⊎◌, ℕ, Bool, true, false}
 use Rattle.iocm_types.specs.declared.fault.Fault.{Fault}
 use Rattle.iocm_types.specs.declared.rule.Rule.TheVariants.{L5}
-use Rattle.iocm_types.specs.Fault.{Gives, at, memory}
+use Rattle.iocm_types.specs.Fault.{at}
 use Rattle.iocm_columns.specs.declared.device.Device.{Device}
 
 -- the reader behind the device
@@ -36,11 +36,3 @@ IsWhole device = (has_ended device ≡ true) × (has_failed device ≡ false)
 -- a device that failed, or was read as often as is allowed and did not come to its end
 abbrev pub StopsShort : {R : Type 0} → Device R → ℕ → Type 0
 StopsShort device most = (has_failed device ≡ true) ⊎ ((reads_of device ≡ most) × (has_ended device ≡ false))
-
--- nothing is answered of what was read: memory is wanted, or the device cannot be read
-abbrev pub IsUnread : {X : Type 0} → Result X Fault → Type 0
-IsUnread result = (result ≡ Err memory) ⊎ (result ≡ Err unreadable)
-
--- unless the device cannot be read, what was to be read, as `Gives` says
-abbrev pub GivesIfReadable : {X Y : Type 0} → (X → Y) → Result X Fault → Result Y Fault → Type 0
-GivesIfReadable view result read = (result ≡ Err unreadable) ⊎ Gives view result read

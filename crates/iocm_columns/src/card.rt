@@ -1,55 +1,44 @@
-ghost use Rattle.std.specs.Prelude.{◌≡◌, ◌≤◌, length};
+ghost use Rattle.std.specs.Prelude.{◌≡◌};
 
-use crate::words::put_front;
 use std::marker::Model;
 
 /// A line of a deck: its number, counted from 1 over all lines, and all of its bytes without the
-/// line end. `read_cards` gives at most 80 of them, printable ASCII. Source: IOCP User's Guide,
-/// card images.
+/// line end. `cards` gives at most 80 of them, printable ASCII. Source: IOCP User's Guide, card
+/// images.
 #[derive(Drop)]
-pub struct Card {
+pub struct Card<'a> {
     /// The number of the line, from 1.
     pub line: usize,
     /// Columns 1 to 80, as far as the line has them.
-    pub bytes: CardBytes,
+    pub bytes: CardBytes<'a>,
 }
 
-/// The bytes of a line, 80 at most, in place: no line has memory of its own. Contracts see the list
-/// of the bytes.
+/// The bytes of a line, in the text that it was read from. Contracts see the list of the bytes.
 #[derive(Drop)]
-pub struct CardBytes {
-    bytes: [u8; 80],
-    len: usize,
+pub struct CardBytes<'a> {
+    bytes: &'a [u8],
 }
 
-impl Model for CardBytes {
-    ghost use Rattle.std.specs.Prelude.{List, ℕ, ◌≤◌, take};
+impl<'a> Model for CardBytes<'a> {
+    ghost use Rattle.std.specs.Prelude.{List, ℕ};
 
     ghost Value = { List ℕ };
 
-    ghost view = { λ c. take c.len c.bytes };
-
-    ghost invariant = { λ c. c.len ≤ 80 };
+    ghost view = { λ c. c.bytes.now };
 }
 
-impl CardBytes {
-    /// A copy of these bytes.
-    pub(crate) fn of(bytes: &[u8]) -> Self
-        requires { length bytes.now ≤ 80 }
+impl<'a> CardBytes<'a> {
+    /// These bytes.
+    pub(crate) fn of(bytes: &'a [u8]) -> Self
         ensures { result ≡ bytes.now }
     {
-        let mut columns = [b' '; 80];
-        put_front(&mut columns, bytes);
-        CardBytes {
-            bytes: columns,
-            len: bytes.len(),
-        }
+        CardBytes { bytes }
     }
 
     /// The bytes.
-    pub fn as_slice(&self) -> &[u8]
+    pub fn as_slice(&self) -> &'a [u8]
         ensures { result.now ≡ self.now }
     {
-        &self.bytes[..self.len]
+        self.bytes
     }
 }

@@ -62,10 +62,14 @@ impl<R> Device<R> {
 }
 
 impl<R: Read> Device<R> {
-    /// All bytes up to the end, by at most `limit` reads; L5 where a read failed or none gave the
-    /// end.
+    /// All bytes up to the end, by at most `limit` further reads; the read that gives the end is one
+    /// of them.
+    ///
+    /// L5: a read failed, or none of `limit` reads gave the end. M1 without memory. Source: own.
+    ///
+    /// Promise: a device is read to its end exactly, or L5 is answered.
     #[tactic(auto, using(crate::proofs::Consuming::consuming))]
-    pub(crate) fn read_to_end(&mut self, alloc: Global, limit: u64) -> Result<Vec<u8>, Fault>
+    pub fn read_to_end(&mut self, alloc: Global, limit: u64) -> Result<Vec<u8>, Fault>
         requires open { IsOpen self.old }
         requires room { reads_of self.old + limit < 2 ^ 64 }
         ensures reads { reads_of self.new ≤ reads_of self.old + limit }

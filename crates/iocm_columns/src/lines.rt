@@ -10,9 +10,19 @@ use iocm_types::{Fault, Rule};
 use memchr::memchr;
 use std::alloc::Global;
 
-/// All lines of `text` as cards, or the fault of the first line that is refused.
+/// The lines of the bytes of a deck.
+///
+/// The lines are checked in order, comments and blank lines and columns 73 to 80 too, each for L1
+/// (a byte that is not printable ASCII) before L2 (more than 80 bytes). A line ends at LF or where
+/// the bytes end, and none follows a last LF. One CR directly before an LF belongs to the line end
+/// and isn't counted; any other CR is L1.
+///
+/// Source: a card of 80 columns, as in the IOCP User's Guide, coding macroinstructions; the rest is
+/// own.
+///
+/// Promise: lines are read exactly, or the first of L1 and L2 is answered.
 #[tactic(auto, using(crate::proofs::Listing::first_steps))]
-pub(crate) fn cards(alloc: Global, text: &[u8]) -> Result<Vec<Card>, Fault>
+pub fn cards<'a>(alloc: Global, text: &'a [u8]) -> Result<Vec<Card<'a>>, Fault>
     ensures { Gives (λ v. v.items) result (cards_of text.now) }
 {
     let mut cards = Vec::new(alloc);
@@ -28,7 +38,7 @@ pub(crate) fn cards(alloc: Global, text: &[u8]) -> Result<Vec<Card>, Fault>
 
 /// The first line of `text` without its line end, and what follows it; none where no line is left.
 #[tactic(auto, using(crate::proofs::Cutting::first_lines))]
-fn next_line(text: &[u8]) -> Option<(&[u8], &[u8])>
+pub(crate) fn next_line(text: &[u8]) -> Option<(&[u8], &[u8])>
     ensures lines { MatchOption result (lines text.now ≡ [])
         (λ p. lines text.now ≡ p.0.now ∷ lines p.1.now) }
     ensures shorter { IfSome result (λ p. length p.1.now < length text.now) }
@@ -64,7 +74,8 @@ fn without_return(line: &[u8]) -> &[u8]
     }
 }
 
-fn make_card(line: usize, bytes: &[u8]) -> Result<Card, Fault>
+/// A line as a card, unless it is refused.
+pub(crate) fn make_card<'a>(line: usize, bytes: &'a [u8]) -> Result<Card<'a>, Fault>
     ensures { result ≡ card_of line bytes.now }
 {
     if !are_printable(bytes) {

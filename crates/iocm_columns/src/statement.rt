@@ -1,16 +1,21 @@
-ghost use Rattle.std.specs.Prelude.{◌≡◌, ◌≤◌, [], ◌∷◌, length, map, take, drop, IfOk};
+ghost use Rattle.std.specs.Prelude.{◌≡◌, ◌<◌, [], length, IfOk};
 ghost use Rattle.std.specs.List.{fold};
 ghost use Rattle.iocm_types.specs.Fault.{Gives};
 ghost use Rattle.iocm_columns.specs.Part.{part_after};
-ghost use Rattle.iocm_columns.specs.Statements.{groups, statement_of, statements_of, with_continuation};
+ghost use Rattle.iocm_columns.specs.StatementCards.{first_continuation_fault};
+ghost use Rattle.iocm_columns.specs.Statements.{joined_of, statement_of, unless_fault, with_continuation};
 
+use crate::Joined;
+use crate::columns::{continuation, words};
 use crate::part::Part;
-use crate::statement_card::{StatementCard, find_continuation_fault, statement_cards};
-use crate::{Card, Joined};
+use crate::statement_card::{StatementCard, continuation_fault, statement_cards};
 use iocm_types::{Fault, Text};
 use std::alloc::{AllocError, Global};
 
-/// The statements of a deck, each with its continuations joined.
+/// The statements of the bytes of a deck, each with its continuations joined.
+///
+/// All lines are checked first, as `cards` says: L1 and L2 of any line come before L3 and L4. Only
+/// the cards of statements are kept, so the memory doesn't grow with comments and blank lines.
 ///
 /// Cards that are blank in columns 1 to 72 or have an asterisk in column 1 are skipped, also
 /// between continuations and inside quotes. A card with a nonblank column 72 is continued by the
@@ -26,63 +31,49 @@ use std::alloc::{AllocError, Global};
 ///
 /// Source: IOCP User's Guide, coding macroinstructions, continuation; where a part goes on is own.
 ///
-/// Promise: lines are joined to statements exactly, or the first of L3 and L4 is answered.
-pub fn join(alloc: Global, cards: &[Card]) -> Result<Vec<Joined>, Fault>
-    ensures { Gives (λ v. v.items) result (statements_of cards.now) }
+/// Promise: a deck is joined to statements exactly, or its first fault of L1 to L4 is answered.
+pub fn join(alloc: Global, text: &[u8]) -> Result<Vec<Joined>, Fault>
+    ensures { Gives (λ v. v.items) result (joined_of text.now) }
 {
-    let rows = statement_cards(alloc, cards)?;
-    if let Some(fault) = find_continuation_fault(rows.as_slice()) {
-        return Err(fault);
-    }
-    Ok(statements(alloc, rows.as_slice())?)
+    let rows = statement_cards(alloc, text)?;
+    statements(alloc, &rows)
 }
 
-/// Each card with its continuations, as a statement.
+/// Each card with its continuations as a statement, or the first fault between two cards.
 #[tactic(auto, using(crate::proofs::Grouping::grouping))]
-fn statements(alloc: Global, rows: &[StatementCard]) -> Result<Vec<Joined>, AllocError>
-    ensures { IfOk result (λ v. v.items ≡ map statement_of (groups rows.now)) }
+fn statements<'a>(alloc: Global, rows: &[StatementCard<'a>]) -> Result<Vec<Joined>, Fault>
+    ensures { Gives (λ v. v.items) result (unless_fault (first_continuation_fault rows.now) rows.now) }
 {
     let mut statements = Vec::new(alloc);
-    let mut rest = rows;
-    while let Some((first, more)) = rest.split_first() {
-        let (continuations, others) = more.split_at(continuations_len(first, more));
-        statements.push(make_statement(alloc, first, continuations)?)?;
-        rest = others;
+    let mut first = 0;
+    for (place, row) in rows.iter().enumerate() {
+        let (so_far, more) = rows.split_at(place + 1);
+        if let Some(fault) = continuation_fault(row, more) {
+            return Err(fault);
+        }
+        if !row.columns.is_continued() {
+            let (_, cards) = so_far.split_at(first);
+            statements.push(make_statement(alloc, cards)?)?;
+            first = place + 1;
+        }
     }
     Ok(statements)
 }
 
-/// How many cards behind the first belong to it.
-#[tactic(auto, using(crate::proofs::Grouping::grouping))]
-fn continuations_len(first: &StatementCard, more: &[StatementCard]) -> usize
-    ensures within { result ≤ length more.now }
-    ensures groups { groups (first.now ∷ more.now)
-        ≡ (first.now ∷ take result more.now) ∷ groups (drop result more.now) }
+/// A card and its continuations as a statement.
+#[tactic(auto, using(crate::proofs::Grouping::statement_from_first))]
+fn make_statement<'a>(alloc: Global, cards: &[StatementCard<'a>]) -> Result<Joined, AllocError>
+    requires { 0 < length cards.now }
+    ensures { IfOk result (λ joined. joined ≡ statement_of cards.now) }
 {
-    if !first.columns.is_continued() {
-        return 0;
-    }
-    for (place, row) in more.iter().enumerate() {
-        if !row.columns.is_continued() {
-            return place + 1;
-        }
-    }
-    more.len()
-}
-
-fn make_statement(
-    alloc: Global,
-    first: &StatementCard,
-    more: &[StatementCard],
-) -> Result<Joined, AllocError>
-    ensures { IfOk result (λ joined. joined ≡ statement_of (first.now ∷ more.now)) }
-{
-    let (name, operation, columns) = first.columns.words();
+    let first = &cards[0];
+    let padded = first.columns.padded();
+    let (name, operation, columns) = words(&padded);
     Ok(Joined {
         line: first.line,
         name: Text::from_slice(alloc, name)?,
         operation: Text::from_slice(alloc, operation)?,
-        text: operands(alloc, columns, more)?,
+        text: operands(alloc, columns, &cards[1..])?,
     })
 }
 
@@ -93,7 +84,7 @@ fn operands(alloc: Global, columns: &[u8], more: &[StatementCard]) -> Result<Tex
 {
     let mut part = Part::begin(alloc, columns)?;
     for row in more {
-        part.go_on(row.columns.continuation())?;
+        part.go_on(continuation(&row.columns.padded()))?;
     }
     Ok(part.into_text())
 }

@@ -1,40 +1,44 @@
-ghost use Rattle.std.specs.Prelude.{◌≡◌, IfOk};
+ghost use Rattle.std.specs.Prelude.{◌≡◌};
 ghost use Rattle.iocm_types.specs.Fault.{Gives};
-ghost use Rattle.iocm_columns.specs.StatementCards.{continuation_fault, first_continuation_fault};
-ghost use Rattle.iocm_columns.specs.StatementCards.{margin_fault, statement_card};
-ghost use Rattle.iocm_columns.specs.StatementCards.{statement_cards};
+ghost use Rattle.iocm_columns.specs.StatementCards.{continuation_fault, margin_fault, rows_of, statement_card};
 
 use crate::Card;
 use crate::columns::Columns;
+use crate::lines::{make_card, next_line};
 use iocm_types::{Fault, Rule};
-use std::alloc::{AllocError, Global};
+use std::alloc::Global;
 
 /// A line that is no comment and not blank: its number and its columns.
 #[derive(Drop)]
-pub(crate) struct StatementCard {
+pub(crate) struct StatementCard<'a> {
     pub(crate) line: usize,
-    pub(crate) columns: Columns,
+    pub(crate) columns: Columns<'a>,
 }
 
-/// The cards that are no comments and not blank.
+/// The cards of a text that are no comments and not blank, or the fault of the first line that is
+/// refused. All lines are checked, and none but these is kept.
 #[tactic(auto, using(crate::proofs::Gathering::gathering))]
-pub(crate) fn statement_cards(
+pub(crate) fn statement_cards<'a>(
     alloc: Global,
-    cards: &[Card],
-) -> Result<Vec<StatementCard>, AllocError>
-    ensures { IfOk result (λ v. v.items ≡ statement_cards cards.now) }
+    text: &'a [u8],
+) -> Result<Vec<StatementCard<'a>>, Fault>
+    ensures { Gives (λ v. v.items) result (rows_of text.now) }
 {
     let mut found = Vec::new(alloc);
-    for card in cards {
-        let row = make_statement_card(card);
+    let mut rest = text;
+    let mut above = 0;
+    while let Some((line, more)) = next_line(rest) {
+        above += 1;
+        let row = make_statement_card(&make_card(above, line)?);
         if !row.columns.is_skipped() {
             found.push(row)?;
         }
+        rest = more;
     }
     Ok(found)
 }
 
-fn make_statement_card(card: &Card) -> StatementCard
+fn make_statement_card<'a>(card: &Card<'a>) -> StatementCard<'a>
     ensures { result ≡ statement_card card.now }
 {
     StatementCard {
@@ -43,23 +47,11 @@ fn make_statement_card(card: &Card) -> StatementCard
     }
 }
 
-/// The first fault between neighbours, if there is one.
-#[tactic(auto, using(crate::proofs::Walking::walking))]
-pub(crate) fn find_continuation_fault(rows: &[StatementCard]) -> Option<Fault>
-    ensures { result ≡ first_continuation_fault rows.now }
-{
-    let mut rest = rows;
-    while let Some((row, more)) = rest.split_first() {
-        if let Some(fault) = continuation_fault(row, more) {
-            return Some(fault);
-        }
-        rest = more;
-    }
-    None
-}
-
 /// The fault between a card and the next one, if there is one.
-fn continuation_fault(row: &StatementCard, more: &[StatementCard]) -> Option<Fault>
+pub(crate) fn continuation_fault<'a>(
+    row: &StatementCard<'a>,
+    more: &[StatementCard<'a>],
+) -> Option<Fault>
     ensures { result ≡ continuation_fault row.now more.now }
 {
     if !row.columns.is_continued() {

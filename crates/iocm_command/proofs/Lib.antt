@@ -1,5 +1,4 @@
 pub mod Plain
-pub mod PlainApply
 pub mod PlainRun
 pub mod PlainWalk
 pub mod Reading

@@ -1,23 +1,23 @@
--- How `clap` walks over words that name a command, files that don't begin with a hyphen, and options.
-use Rattle.std.proofs.Common.{◌≡◌, ◌==◌, ◌∙◌, ℕ, Bool, true, false, List, [], ◌∷◌, ◌++◌, Option, Some, append-nil}
-use Rattle.std.proofs.Common.{append_assoc, fold, is_some, option_map, sym, ap, ap₂}
+-- How `clap` walks over words that name a command, words that don't begin with a hyphen, and options.
+use Rattle.std.proofs.Common.{◌≡◌, ◌==◌, ◌∙◌, ℕ, Bool, true, false, List, [], ◌∷◌, ◌++◌, Option, None, Some, fold}
+use Rattle.std.proofs.Common.{is_some, map, option_map, refl, sym, ap, ap₂}
 use Rattle.std.specs.Option.{option_map_or}
-use Rattle.std.specs.Prelude.{find}
-use Rattle.clap.specs.Faults.{check_fault, defaults_fault, entered_fault, level_fault, positional_fault, settle_fault}
-use Rattle.clap.specs.Faults.{stray_fault, turn_fault, walk_fault}
+use Rattle.std.specs.Prelude.{find, if◌then◌else◌}
+use Rattle.clap.specs.Faults.{check_fault, defaults_fault, entered_fault, level_fault, settle_fault, step_fault}
+use Rattle.clap.specs.Faults.{turn_fault, walk_fault}
 use Rattle.clap.specs.Kinds.{or_else}
 use Rattle.clap.specs.Simple.{Shape, built, entered, label_of, names_of, rows_at}
-use Rattle.clap.specs.Walk.{Held, Names, Waiting, Walk, answers_to, arg_by_index, finished, idle, nothing_held}
-use Rattle.clap.specs.Walk.{positional, settled, to_positional, walk, walk_from, walked}
-use Rattle.clap.specs.Words.{Kinds, Text, fault_of, subcommand_of}
+use Rattle.clap.specs.Walk.{Held, Names, Rule, Step, Waiting, Walk, after_step, answers_to, finished, idle}
+use Rattle.clap.specs.Walk.{nothing_held}
+use Rattle.clap.specs.Walk.{plain_word, positional, settled, value, walk, walk_from, walked}
+use Rattle.clap.specs.Walk.{option as waits}
+use Rattle.clap.specs.Words.{Kinds, Row, Text, fault_of, subcommand_of}
 use Rattle.clap.proofs.FaultLemmas.{stopped_fault}
 use Rattle.clap.proofs.OnLiterals.{clap_on_literals}
 use Rattle.clap.proofs.WalkLemmas.{walk_stopped}
-use Rattle.iocm_command.specs.CommandLine.{Meant, outcome, understood_in}
-use Rattle.iocm_command.specs.Plain.{Mean}
+use Rattle.iocm_command.specs.CommandLine.{Meant, meant_by, outcome, understood_in}
+use Rattle.iocm_command.specs.Plain.{IsPlainName, Mean}
 use Rattle.iocm_command.specs.Program.{iocm_app}
-
--- ---- the program's own words
 
 abbrev pub top : Shape
 top = (built iocm_app).top
@@ -35,30 +35,94 @@ pub record Leaf (shape : Shape) : Type 0 where
   pub passes : turn_fault top names (walk_from nothing_held) shape.name ≡ []
   pub found : find (λ s. answers_to shape.name (label_of s)) (built iocm_app).subs ≡ Some shape
 
--- where a walk is, after so many places of arguments: a word that is no option goes to the next place
-abbrev pub waits : Bool → Waiting
-waits false = idle
-waits true = positional
+-- ---- words of a command
 
-abbrev pub at : Held → Bool → ℕ → Walk
-at held many position = record (walk_from held) { waiting = waits many; position = position }
+-- a word that doesn't begin with a hyphen, and an option that is written out
+pub data Said : Type 0 where
+  plain : Text → Said
+  option : Text → Said
 
--- a word that doesn't begin with a hyphen goes there
-plain_walks : (shape : Shape) (held : Held) (many : Bool) (position : ℕ) (d : ℕ) (ds : List ℕ) → (d == 45) ≡ false
-    → walked shape.rules [] (at held many position) (d ∷ ds)
-    ≡ to_positional shape.rules (arg_by_index shape.rules position) (d ∷ ds) (at held many position) held
+abbrev pub text_of : Said → Text
+text_of (plain text) = text
+text_of (option text) = text
+
+abbrev pub ArePlain : List Said → Type 0
+ArePlain [] = Unit {0}
+ArePlain (plain text ∷ words) = IsPlainName text × ArePlain words
+ArePlain (option text ∷ words) = ArePlain words
+
+-- what a plain word is met as: a value of the option that waits for one, or of an argument by its place
+abbrev met : List Rule → Walk → Text → Held × Step
+met rules w text = if w.is_trailing then (w.held, value) else plain_word rules w.waiting text w.held
+
+-- the walk after one more word, and its mistakes; what a plain word begins with isn't looked at
+abbrev went_on : List Rule → Option (Text × List Text) → Walk → Text → Walk
+went_on rules (Some p) w text = record w { stopped = Some (p.0, p.1 ++ text ∷ []) }
+went_on rules None w text = after_step rules text w (met rules w text).0 (met rules w text).1
+
+abbrev pub goes : List Rule → Walk → Said → Walk
+goes rules w (plain text) = went_on rules w.stopped w text
+goes rules w (option text) = walked rules [] w text
+
+abbrev fault_at : Shape → Walk → Said → Kinds
+fault_at s w (plain text) =
+    if is_some w.stopped then [] else step_fault s w.position (met s.rules w text).0 (met s.rules w text).1
+fault_at s w (option text) = turn_fault s [] w text
+
+abbrev pub faults : Shape → Walk → List Said → Kinds
+faults s w [] = []
+faults s w (word ∷ words) = or_else (fault_at s w word) (faults s (goes s.rules w word) words)
+
+-- a plain word is met in this way
+abbrev at : Held → Waiting → ℕ → Bool → Option (Text × List Text) → Walk
+at h waiting position trailing stopped =
+    record { held = h; waiting = waiting; position = position; is_trailing = trailing; stopped = stopped }
+
+plain_goes : (s : Shape) (h : Held) (waiting : Waiting) (position : ℕ) (trailing : Bool)
+    (stopped : Option (Text × List Text)) (d : ℕ) (ds : List ℕ) → (d == 45) ≡ false
+    → let w = at h waiting position trailing stopped in
+    (walked s.rules [] w (d ∷ ds) ≡ goes s.rules w (plain (d ∷ ds)))
+    × (turn_fault s [] w (d ∷ ds) ≡ fault_at s w (plain (d ∷ ds)))
 unfolding clap_on_literals
-plain_walks shape held false position d ds dh = simp dh
-plain_walks shape held true position d ds dh = simp dh
+plain_goes s h waiting position trailing (Some p) d ds dh = (refl, refl)
+plain_goes s h waiting position true None d ds dh = (refl, refl)
+plain_goes s h idle position false None d ds dh = (simp dh, simp dh)
+plain_goes s h (waits id) position false None d ds dh = (simp dh, simp dh)
+plain_goes s h positional position false None d ds dh = (simp dh, simp dh)
 
-plain_passes : (shape : Shape) (held : Held) (many : Bool) (position : ℕ) (d : ℕ) (ds : List ℕ)
-    → (d == 45) ≡ false
-    → turn_fault shape [] (at held many position) (d ∷ ds)
-    ≡ option_map_or (λ a. positional_fault shape.rules shape.args_override_self a held)
-    (arg_by_index shape.rules position) (stray_fault shape)
-unfolding clap_on_literals
-plain_passes shape held false position d ds dh = simp dh
-plain_passes shape held true position d ds dh = simp dh
+plain_is_met : (s : Shape) (w : Walk) (text : Text) → IsPlainName text
+    → (walked s.rules [] w text ≡ goes s.rules w (plain text)) × (turn_fault s [] w text ≡ fault_at s w (plain text))
+plain_is_met s w text (d, ds, is, dh) =
+    rw is (plain_goes s w.held w.waiting w.position w.is_trailing w.stopped d ds dh)
+
+-- and so are all words
+all_go : (s : Shape) (words : List Said) → ArePlain words → (w : Walk)
+    → (fold (walked s.rules []) w (map text_of words) ≡ fold (goes s.rules) w words)
+    × (walk_fault s [] w (map text_of words) ≡ faults s w words)
+unfolding walk_fault
+all_go s [] are w = (refl, refl)
+all_go s (plain text ∷ words) are w =
+    let (goes_on, passes) = plain_is_met s w text are.0 in
+    let rest = all_go s words are.1 (goes s.rules w (plain text)) in (
+      ap (λ (v : Walk). fold (walked s.rules []) v (map text_of words)) goes_on ∙ rest.0,
+      ap₂ or_else passes (ap (λ (v : Walk). walk_fault s [] v (map text_of words)) goes_on ∙ rest.1),
+    )
+all_go s (option text ∷ words) are w =
+    let rest = all_go s words are (walked s.rules [] w text) in
+    (rest.0, ap (or_else (turn_fault s [] w text)) rest.1)
+
+-- the mistakes from a place of the walk on, by those of the words and by what is held after them
+abbrev mistakes_by : Shape → Kinds → Held → Kinds
+mistakes_by s walked end = or_else walked (or_else (settle_fault s.rules s.args_override_self end)
+    (or_else (defaults_fault (settled s.rules end).rows s.rules) (check_fault s (finished s.rules end) false)))
+
+-- words from a place of the walk on have none, and ask for this command
+abbrev pub Asks : Shape → Walk → List Said → Meant → Type 0
+Asks s w words command = (mistakes_by s (faults s w words) (fold (goes s.rules) w words).held ≡ [])
+    × (understood_in (Some (s.name, finished s.rules (fold (goes s.rules) w words).held))
+    ≡ Some (record { command = command; quiet = false }))
+
+-- ---- a command and its words
 
 module _ (shape : Shape) (leaf : Leaf shape) where
   top_walk : (words : List Text) → walk top.rules names nothing_held (shape.name ∷ words) ≡ stopped_at shape.name words
@@ -101,66 +165,16 @@ module _ (shape : Shape) (leaf : Leaf shape) where
   named_below program words = ap (λ (w : Walk). entered (built iocm_app) w.stopped) (top_walk words)
       ∙ ap (option_map (λ (s : Shape). rows_at s words)) leaf.found
 
-  -- ---- the words of the command
+  -- words that ask for a command mean it
+  abbrev named : Walk → Option (Text × List Row)
+  named w = Some (shape.name, finished shape.rules w.held)
 
-  -- words lead from one place of the walk to another one, without a mistake, whatever comes after them
-  abbrev pub Leads : Walk → List Text → Walk → Type 0
-  Leads w words after = (rest : List Text)
-      → (fold (walked shape.rules []) w (words ++ rest) ≡ fold (walked shape.rules []) after rest)
-      × (walk_fault shape [] w (words ++ rest) ≡ walk_fault shape [] after rest)
-
-  -- one word does where it has no mistake
-  pub one_word : (w : Walk) (word : Text) (after : Walk) → walked shape.rules [] w word ≡ after
-      → turn_fault shape [] w word ≡ [] → Leads w (word ∷ []) after
-  unfolding walk_fault
-  one_word w word after is passes rest = (
-    ap (λ (v : Walk). fold (walked shape.rules []) v rest) is,
-    ap₂ or_else passes (ap (λ (v : Walk). walk_fault shape [] v rest) is),
-  )
-
-  -- a file does where it goes to the next place
-  pub file : (held : Held) (many : Bool) (position : ℕ) (d : ℕ) (ds : List ℕ) (after : Walk) → (d == 45) ≡ false
-      → to_positional shape.rules (arg_by_index shape.rules position) (d ∷ ds) (at held many position) held ≡ after
-      → option_map_or (λ a. positional_fault shape.rules shape.args_override_self a held)
-      (arg_by_index shape.rules position) (stray_fault shape) ≡ []
-      → Leads (at held many position) ((d ∷ ds) ∷ []) after
-  file held many position d ds after dh goes passes = one_word (at held many position) (d ∷ ds) after
-      (plain_walks shape held many position d ds dh ∙ goes) (plain_passes shape held many position d ds dh ∙ passes)
-
-  -- and words after words
-  pub joined : (w between after : Walk) (xs ys : List Text) → Leads w xs between → Leads between ys after
-      → Leads w (xs ++ ys) after
-  joined w between after xs ys first next rest = (
-    ap (λ (words : List Text). fold (walked shape.rules []) w words) (append_assoc xs ys rest) ∙ (first (ys ++ rest)).0
-        ∙ (next rest).0,
-    ap (λ (words : List Text). walk_fault shape [] w words) (append_assoc xs ys rest) ∙ (first (ys ++ rest)).1
-        ∙ (next rest).1,
-  )
-
-  -- the mistakes by those of the walk and by what it ends with
-  abbrev pub mistakes_by : Kinds → Held → Kinds
-  mistakes_by walked end = or_else walked (or_else (settle_fault shape.rules shape.args_override_self end)
-      (or_else (defaults_fault (settled shape.rules end).rows shape.rules)
-      (check_fault shape (finished shape.rules end) false)))
-
-  -- what is held asks for this command
-  abbrev pub Asks : Held → Meant → Type 0
-  Asks held command = understood_in (Some (shape.name, finished shape.rules held))
-      ≡ Some (record { command = command; quiet = false })
-
-  -- words of which the walk ends so mean it
-  pub is_read : (program : Text) (words : List Text) (end : Walk) (command : Meant)
-      → Leads (walk_from nothing_held) words end → mistakes_by [] end.held ≡ [] → Asks end.held command
-      → Mean (program ∷ shape.name ∷ words) command
-  unfolding walk_fault
-  is_read program words end command leads passes asks =
-      let ended : walk shape.rules [] nothing_held words ≡ end =
-      ap (λ (ws : List Text). walk shape.rules [] nothing_held ws) (sym (append-nil words)) ∙ (leads []).0 in
-      let none : walk_fault shape [] (walk_from nothing_held) words ≡ [] =
-      ap (λ (ws : List Text). walk_fault shape [] (walk_from nothing_held) ws) (sym (append-nil words))
-      ∙ (leads []).1 in
-      ap₂ outcome
-      (found_below program words
-      ∙ ap (λ (kinds : Kinds). or_else kinds []) (ap₂ mistakes_by none (ap (λ (w : Walk). w.held) ended) ∙ passes))
-      (ap understood_in (named_below program words
-      ∙ ap (λ (w : Walk). Some (shape.name, finished shape.rules w.held)) ended) ∙ asks)
+  pub is_read : (program : Text) (words : List Said) (command : Meant) → ArePlain words
+      → Asks shape (walk_from nothing_held) words command → Mean (program ∷ shape.name ∷ map text_of words) command
+  is_read program words command are asks =
+      let (ended, passes) = all_go shape words are (walk_from nothing_held) in
+      ap₂ meant_by
+      (found_below program (map text_of words) ∙ ap (λ (kinds : Kinds). or_else kinds [])
+      (ap₂ (mistakes_by shape) passes (ap (λ (w : Walk). w.held) ended) ∙ asks.0))
+      (named_below program (map text_of words) ∙ ap named ended)
+      ∙ ap (outcome [] (named (fold (goes shape.rules) (walk_from nothing_held) words))) asks.1

@@ -1,30 +1,25 @@
 -- What clap's clauses say of the command line.
 use Rattle.std.proofs.Common.{◌≡◌, ◌∙◌, ℕ, Bool, true, false, List, [], ◌∷◌, Option, None, Some, Result, Ok, Err}
-use Rattle.std.proofs.Common.{MatchResult, IsErr, option_map, unwrap_or, refl, sym, ap, subst, inl, inr}
+use Rattle.std.proofs.Common.{MatchResult, IsErr, option_map, refl, sym, ap, subst, inl, inr}
 use Rattle.std.proofs.lemmas.Bool.{false≢true}
 use Rattle.std.specs.Prelude.{Box, if◌then◌else◌}
 use Rattle.std.specs.Result.{IsErrAnd}
-use Rattle.std.specs.Borrow.{Bor}
 use Rattle.std.specs.Box.{box_value}
 use Rattle.clap.specs.ValueTests.{accepts}
-use Rattle.clap.specs.Walk.{texts}
-use Rattle.clap.specs.Words.{App, HasKind, HasMatchesOf, Kinds, Row, Text, fault_of, matched_of, raw_values, rows_of}
+use Rattle.clap.specs.Words.{App, HasKind, HasMatchesOf, Kinds, Row, Text, fault_of}
 use Rattle.clap.specs.Words.{subcommand_of, subcommand_rows, subcommand_rows_of, is_simple, is_simple_and_free}
 use Rattle.clap.specs.declared.builder.value_parser.ValueParser.TheVariants.{Unsigned}
 use Rattle.clap.specs.declared.parser.matches.ArgMatches.{ArgMatches}
 use Rattle.clap.specs.declared.parser.matches.ArgMatches.TheViews.{out-SubCommand}
 use Rattle.clap.specs.declared.parser.matches.SubCommand.{SubCommand}
-use Rattle.clap.specs.declared.parser.matches.Found.{Found}
 use Rattle.clap.specs.declared.error.Error.{Error}
 use Rattle.clap.proofs.OnLiterals.{clap_on_literals}
 use Rattle.clap.proofs.ValueTestLemmas.{Accepts-accepts, accepts-Accepts}
-use Rattle.clap.proofs.WalkLemmas.{raw_values-rows}
 use Rattle.iocm_statements.specs.Unread.{Refuses}
 use Rattle.iocm_statements.specs.declared.unread.Unread.{Unread}
 use Rattle.iocm_statements.specs.declared.unread.Unread.TheVariants.{Memory, Malformed}
 use Rattle.iocm_values.specs.Reading.{◌>>=◌}
-use Rattle.iocm_command.specs.CommandLine.{Stated, kinds_at, kinds_of, mistakes, number_of, outcome, size_of}
-use Rattle.iocm_command.specs.CommandLine.{values_under}
+use Rattle.iocm_command.specs.CommandLine.{kinds_of, meant_by, mistakes, number_of, size_of}
 use Rattle.iocm_command.specs.CommandLine.{GivesSize, IsSizeText}
 use Rattle.iocm_command.specs.Program.{heap_parser, iocm_app}
 
@@ -71,21 +66,6 @@ pub none_used : (o : Option (Text × List Row)) → None ≡ option_map (λ (p :
 none_used None is = refl
 none_used (Some p) is = cc
 
--- the texts of a list that was read, or none, are its texts, or none
-texts_or_none : (read : Option (Bor (List (Bor Text)))) (none : Bor (List (Bor Text))) → none.now ≡ []
-    → unwrap_or (option_map (λ (d : Bor (List (Bor Text))). texts d.now) read) [] ≡ texts (unwrap_or read none).now
-texts_or_none None none empty = sym (ap texts empty)
-texts_or_none (Some d) none empty = refl
-
--- so what was read of an option, or none, is all its values
-pub texts_are : (f : Found) (id : Text) (read : Option (Bor (List (Bor Text)))) (none given : Bor (List (Bor Text)))
-    → none.now ≡ [] → given ≡ unwrap_or read none
-    → option_map (λ (d : Bor (List (Bor Text))). texts d.now) read ≡ option_map raw_values (matched_of f id)
-    → texts given.now ≡ values_under id (rows_of f)
-texts_are f id read none given empty is found =
-    ap (λ (s : Bor (List (Bor Text))). texts s.now) is ∙ sym (texts_or_none read none empty)
-    ∙ ap (λ (o : Option (List Text)). unwrap_or o []) (found ∙ raw_values-rows f id)
-
 -- ---- the size of a heap
 
 -- a text that gives a size passes the parser
@@ -119,26 +99,12 @@ pub refuses_on : {A B : Type 0} (why : Unread) (read : Option A) (f : A → Opti
 refuses_on {A = A} Memory read f refuses = tt
 refuses_on {A = A} Malformed read f refuses = ap (λ (o : Option A). o >>= f) refuses
 
--- words that clap takes, and that mean nothing, have an error of these kinds
-pub is_refused : (words : List Text) (why : Unread) (read : Option Stated) (e : Error) → mistakes words ≡ []
-    → Refuses why read → HasKind (kinds_at why) e → HasKind (kinds_of (outcome (mistakes words) read)) e
-is_refused words why read e none refuses has =
-    subst (λ (kinds : Kinds). HasKind (kinds_of (outcome kinds read)) e) (sym none) (go why refuses has)
-  where
-    among_none : HasKind [] e → HasKind (kinds_of (outcome [] read)) e
-    among_none (inl memory) = inl memory
-    among_none (inr among) = elim among [ ]
-
-    go : (why : Unread) → Refuses why read → HasKind (kinds_at why) e → HasKind (kinds_of (outcome [] read)) e
-    go Memory refuses has = among_none has
-    go Malformed refuses has = subst (λ (o : Option Stated). HasKind (kinds_of (outcome [] o)) e) (sym refuses) has
-
 -- words that clap refuses have one of its kinds
-pub is_of_kind : (kinds : Kinds) (read : Option Stated) (e : Error) → HasKind kinds e
-    → HasKind (kinds_of (outcome kinds read)) e
-is_of_kind [] read e (inl memory) = inl memory
-is_of_kind [] read e (inr among) = elim among [ ]
-is_of_kind (kind ∷ kinds) read e has = has
+pub is_of_kind : (kinds : Kinds) (named : Option (Text × List Row)) (e : Error) → HasKind kinds e
+    → HasKind (kinds_of (meant_by kinds named)) e
+is_of_kind [] named e (inl memory) = inl memory
+is_of_kind [] named e (inr among) = elim among [ ]
+is_of_kind (kind ∷ kinds) named e has = has
 
 -- an error that a call passes on has what it had
 pub passed_on : {X : Type 0} (result : Result X Error) (given : Error) (P : X → Type 0) (Q : Error → Type 0) → Q given

@@ -12,13 +12,13 @@ use Rattle.clap.specs.Words.{all_of, fault_of, first_of, found_of, rows_of, subc
 use Rattle.clap.specs.declared.error.Error.{Error}
 use Rattle.clap.specs.declared.error.kind.ErrorKind.TheVariants.{ArgumentConflict, ValueValidation}
 use Rattle.clap.specs.declared.parser.matches.ArgMatches.{ArgMatches}
-use Rattle.iocm_statements.specs.declared.unread.Unread.{Unread}
-use Rattle.iocm_statements.specs.declared.unread.Unread.TheVariants.{Memory, Malformed}
 use Rattle.iocm_values.specs.Reading.{◌>>=◌}
 use Rattle.iocm_filter.specs.Wanted.{Wanted}
-use Rattle.iocm_filter.specs.Words.{filters_of}
-use Rattle.iocm_apply.specs.declared.report.Report.{Report}
-use Rattle.iocm_apply.specs.declared.report.Report.TheVariants.{Table, WayBack, Altered, Count, Deck, Test}
+use Rattle.iocm_filter.specs.Misread.{misread_of}
+use Rattle.iocm_filter.specs.Words.{Asking, filters_of}
+use Rattle.iocm_filter.specs.declared.misread.FilterOption.{FilterOption}
+use Rattle.iocm_reports.specs.declared.report.Report.{Report}
+use Rattle.iocm_reports.specs.declared.report.Report.TheVariants.{Table, WayBack, Altered, Count, Deck, Test}
 use Rattle.iocm_command.specs.Program.{heap_parser, iocm_app}
 use Rattle.iocm_command.specs.declared.command.Before.{Before}
 use Rattle.iocm_command.specs.declared.command.Before.TheVariants.{LeftOut, Shown}
@@ -36,8 +36,8 @@ pub data Meant : Type 0 where
   show : Text → Wanted → Meant
   write : Text → Meant
   diff : Text → Text → Before → Meant
-  apply : Text → Text → ℕ → Report → Wanted → Meant
-  run : Text → Text → List Text → ℕ → Meant
+  apply : Text → Text → Option ℕ → Report → Wanted → Meant
+  run : Text → Text → List Text → Option ℕ → Meant
   explain : List Text → Meant
 
 -- with whether standard error is to be quiet
@@ -99,12 +99,16 @@ number_of text = digits_value 10 (without_leading_plus text)
 abbrev pub GivesSize : Text → ℕ → Type 0
 GivesSize text size = IsSizeText text × (size ≡ number_of text)
 
--- the size of a heap
+-- the size of a heap, if one is given
 abbrev pub size_of : Text → Option ℕ
 size_of text = if accepts false heap_parser text then Some (number_of text) else None
 
-abbrev pub heap_in : List Row → Option ℕ
-heap_in rows = first_of (codes "heap") rows >>= size_of
+abbrev pub heap_by : Option Text → Option (Option ℕ)
+heap_by None = Some None
+heap_by (Some text) = size_of text >>= λ size. Some (Some size)
+
+abbrev pub heap_in : List Row → Option (Option ℕ)
+heap_in rows = heap_by (first_of (codes "heap") rows)
 
 -- which breaches are asked for, and whether what was there before is
 abbrev pub breaches_in : List Row → Breaches
@@ -128,10 +132,18 @@ abbrev pub report_in : List Row → Option Report
 report_in rows = report_of (is_given (codes "undo") rows) (is_given (codes "altered") rows)
     (is_given (codes "count") rows) (is_given (codes "deck") rows) (is_given (codes "test") rows)
 
--- what the filters ask for, if all have their forms
+-- the words of filters, and what they ask for, if all have their forms
+abbrev pub filter_words_in : List Row → Asking
+filter_words_in rows = record {
+  images = values_under (codes "image") rows;
+  devices = values_under (codes "device") rows;
+  units = values_under (codes "unit") rows;
+  paths = values_under (codes "path") rows;
+  online = values_under (codes "paths-online") rows;
+}
+
 abbrev pub filters_in : List Row → Option Wanted
-filters_in rows = filters_of (values_under (codes "image") rows) (values_under (codes "device") rows)
-    (values_under (codes "unit") rows) (values_under (codes "path") rows) (values_under (codes "paths-online") rows)
+filters_in rows = filters_of (filter_words_in rows)
 
 -- ---- what each command asks for
 
@@ -179,36 +191,38 @@ understood_in None = None
 understood_in (Some named) = command_in named.0 named.1 >>= λ command.
     Some (record { command = command; quiet = is_given (codes "quiet") named.1 })
 
+-- the first value of a filter that has another form, with its option
+abbrev pub misread_in : Option (Text × List Row) → Option (FilterOption × Text)
+misread_in named = named >>= λ command. misread_of (filter_words_in command.1)
+
 -- ---- what words mean
 
 -- the kinds of mistakes that clap finds in the words
 abbrev pub mistakes : List Text → Kinds
 mistakes words = fault_of iocm_app words
 
--- where clap finds none and the words mean nothing, they ask for two reports, or a filter has another
--- form
-abbrev pub others : Kinds
-others = ArgumentConflict ∷ ValueValidation ∷ []
+-- if clap finds none and the words mean nothing: a filter has a value of another form, or there are two reports
+abbrev pub others : Option (FilterOption × Text) → Kinds
+others (Some misread) = ValueValidation ∷ []
+others None = ArgumentConflict ∷ []
 
-abbrev pub outcome : Kinds → Option Stated → Result Stated Kinds
-outcome [] (Some stated) = Ok stated
-outcome [] None = Err others
-outcome (kind ∷ kinds) _ = Err (kind ∷ kinds)
+abbrev pub outcome : Kinds → Option (Text × List Row) → Option Stated → Result Stated Kinds
+outcome [] named (Some stated) = Ok stated
+outcome [] named None = Err (others (misread_in named))
+outcome (kind ∷ kinds) _ _ = Err (kind ∷ kinds)
 
 -- what words mean, or the kinds of their mistake
+abbrev pub meant_by : Kinds → Option (Text × List Row) → Result Stated Kinds
+meant_by kinds named = outcome kinds named (understood_in named)
+
 abbrev pub commanded : List Text → Result Stated Kinds
-commanded words = outcome (mistakes words) (understood_in (subcommand_of iocm_app words))
+commanded words = meant_by (mistakes words) (subcommand_of iocm_app words)
 
 -- ---- what a call answers
 
 abbrev pub kinds_of : Result Stated Kinds → Kinds
 kinds_of (Ok stated) = []
 kinds_of (Err kinds) = kinds
-
--- why words that clap takes mean nothing: memory ran out, or one of the others
-abbrev pub kinds_at : Unread → Kinds
-kinds_at Memory = []
-kinds_at Malformed = others
 
 -- just what is meant, or an error of one of these kinds; memory may run out always
 abbrev pub Answers : Result Understood Error → Result Stated Kinds → Type 0

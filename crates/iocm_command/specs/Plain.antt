@@ -1,10 +1,11 @@
 -- Words that name a command and its files plainly, and what they mean.
 use Rattle.std.specs.Prelude.{◌≡◌, ◌==◌, ℕ, false, List, [], ◌∷◌, ◌++◌, Option, Some, None, IfSome, Ok, codes}
+use Rattle.std.specs.Prelude.{option_map}
 use Rattle.std.specs.List.{All}
 use Rattle.clap.specs.Words.{Text}
 use Rattle.iocm_filter.specs.Wanted.{nothing}
-use Rattle.iocm_apply.specs.declared.report.Report.{Report}
-use Rattle.iocm_apply.specs.declared.report.Report.TheVariants.{Table, WayBack}
+use Rattle.iocm_reports.specs.declared.report.Report.{Report}
+use Rattle.iocm_reports.specs.declared.report.Report.TheVariants.{Table, WayBack}
 use Rattle.iocm_command.specs.CommandLine.{Meant, apply, check, commanded, number_of, run, show, write, IsSizeText}
 use Rattle.iocm_command.specs.declared.command.Breaches.TheVariants.{First}
 
@@ -23,17 +24,16 @@ DecksAreMeant = (program deck : Text) → IsPlainName deck
     × Mean (program ∷ codes "show" ∷ deck ∷ []) (show deck nothing)
     × Mean (program ∷ codes "write" ∷ deck ∷ []) (write deck)
 
--- the option with the text of a heap's size, if there is one, and the size: the default if there is none
+-- the option with the text of a heap's size, if there is one, and the size
 abbrev pub heap_words : Option Text → List Text
 heap_words None = []
 heap_words (Some size) = codes "--heap" ∷ size ∷ []
 
-abbrev pub heap_meant : Option Text → ℕ
-heap_meant None = 262144
-heap_meant (Some size) = number_of size
+abbrev pub heap_meant : Option Text → Option ℕ
+heap_meant = option_map number_of
 
 -- `apply` with these files and options means this size and this report
-abbrev pub MeanApply : Text → Text → Text → List Text → ℕ → Report → Type 0
+abbrev pub MeanApply : Text → Text → Text → List Text → Option ℕ → Report → Type 0
 MeanApply program deck change options heap report =
     Mean (program ∷ codes "apply" ∷ deck ∷ change ∷ options) (apply deck change heap report nothing)
 

@@ -15,15 +15,13 @@ use Rattle.iocm_command.specs.declared.program.Row.{Row}
 unfoldable pub heap_parser : ValueParser
 heap_parser = Unsigned 16 16777216
 
--- what `clap` is told of an argument of this name: a file is required, a word and files aren't, the
--- size of a heap is 262144 where it isn't given, and a filter may be given several times
+-- what `clap` is told of an argument: a file is required; words and a filter may be given several times
 abbrev pub rule_by : Text → Form → Rule
 rule_by name File = record (new_rule name) { required = true }
 rule_by name Words = record (new_rule name) { action = Some Append }
 rule_by name Heap = record (new_rule name) {
   long = Some name;
   value_names = 1;
-  defaults = codes "262144" ∷ [];
   parser = Some heap_parser;
 }
 rule_by name Flag = record (new_rule name) { long = Some name; action = Some SetTrue }

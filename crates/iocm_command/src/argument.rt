@@ -55,8 +55,7 @@ impl<'a> Argument<'a> {
             Form::Heap => argument
                 .long(self.name)
                 .value_name(self.value)
-                .value_parser(heap_parser())
-                .default_value("262144"),
+                .value_parser(heap_parser()),
             Form::Flag => argument.long(self.name).action(ArgAction::SetTrue),
             Form::Letter(letter) => argument
                 .long(self.name)

@@ -1,14 +1,15 @@
-ghost use Rattle.std.specs.Prelude.{◌≡◌, ◌∷◌, [], Some, map, option_map};
+ghost use Rattle.std.specs.Prelude.{◌≡◌, ◌∷◌, [], map, option_map};
 ghost use Rattle.clap.specs.Words.{HasKind};
-ghost use Rattle.iocm_command.specs.CommandLine.{all_asked_of, change_deck_of, commanded, deck_name_of, kinds_at};
+ghost use Rattle.iocm_filter.specs.Misread.{seen_misread};
+ghost use Rattle.iocm_command.specs.CommandLine.{all_asked_of, change_deck_of, commanded, deck_name_of, others};
 ghost use Rattle.iocm_command.specs.CommandLine.{Answers};
 
-use crate::matches::{has_one_report, understood_in};
+use crate::matches::{misread_in, understood_in};
 use crate::program::iocm;
 use clap::Error;
 use clap::error::ErrorKind;
-use iocm_apply::Report;
-use iocm_filter::Filters;
+use iocm_filter::{Filters, Misread};
+use iocm_reports::Report;
 use iocm_statements::Unread;
 use std::alloc::{AllocError, Global};
 use std::convert::AsStr;
@@ -40,12 +41,12 @@ pub enum Command<'a> {
     },
     /// Run the script in the second file on the machine of the deck in the first one, with the
     /// change decks in the others, in their order; each change tree is read in a heap of so many
-    /// bytes.
+    /// bytes, if that is given.
     Run {
         deck: &'a str,
         script: &'a str,
         changes: Vec<&'a str>,
-        heap: u32,
+        heap: Option<u32>,
     },
 }
 
@@ -87,11 +88,11 @@ pub enum Request<'a> {
     },
     /// Activate the change deck in the second file on the machine of the deck in the first one, and
     /// print this report of the subchannels that are asked for; the change tree is read in a heap of
-    /// so many bytes.
+    /// so many bytes, if that is given.
     Apply {
         deck: &'a str,
         change: &'a str,
-        heap: u32,
+        heap: Option<u32>,
         report: Report,
         filters: Filters,
     },
@@ -139,16 +140,11 @@ impl<'a> Request<'a> {
 const TWO_REPORTS: &str =
     "only one of '--undo', '--altered', '--count', '--deck' and '--test' can be used";
 
-/// What is said where the value of a filter has another form.
-const OTHER_FORM: &str =
-    "a filter has a value of another form: '--image' takes 0.2 or LPB, '--device' 1003, \
-     1000-100F or 1.1000-10FF, '--unit' 1000, '--path' 0.50, '--paths-online' 0 to 8";
-
 /// The command of the words of a command line, of which the first is the program's name.
 ///
 /// Help, the version and every mistake in the words are `clap`'s errors, with its kinds. Words in
-/// which `clap` finds no mistake are understood, unless they ask for two reports of a change, or a
-/// filter has another form: these are an `ArgumentConflict` or a `ValueValidation`. Want of memory is
+/// which `clap` finds no mistake are understood, unless a filter has a value of another form, a
+/// `ValueValidation`, or they ask for two reports of a change, an `ArgumentConflict`. Want of memory is
 /// an error of the kind `OutOfMemory`, which may come in place of each of these. What words mean
 /// that name a command and its files plainly is in `laws.rt`.
 ///
@@ -160,18 +156,21 @@ pub fn command_of<'a, S: AsStr>(alloc: Global, words: &'a [S]) -> Result<Underst
     let matches = iocm.try_get_matches_from_mut(words)?;
     match understood_in(alloc, &matches) {
         Ok(understood) => Ok(understood),
-        Err(why) => Err(refusal(&mut iocm, why, has_one_report(&matches))),
+        Err(Unread::Memory) => Err(Error::from(AllocError)),
+        Err(Unread::Malformed) => Err(refusal(alloc, &mut iocm, misread_in(&matches))),
     }
 }
 
 /// The error of words in which `clap` finds no mistake, and which mean nothing.
-fn refusal(iocm: &mut clap::Command<'_>, why: Unread, has_one_report: bool) -> Error
-    ensures { HasKind (kinds_at why) result }
+fn refusal(alloc: Global, iocm: &mut clap::Command<'_>, misread: Option<Misread<'_>>) -> Error
+    ensures { HasKind (others (option_map seen_misread misread.entry)) result }
 {
-    match why {
-        Unread::Memory => Error::from(AllocError),
-        Unread::Malformed if has_one_report => said(iocm, ErrorKind::ValueValidation, OTHER_FORM),
-        Unread::Malformed => said(iocm, ErrorKind::ArgumentConflict, TWO_REPORTS),
+    let Some(misread) = misread else {
+        return said(iocm, ErrorKind::ArgumentConflict, TWO_REPORTS);
+    };
+    match misread.to_string(alloc) {
+        Ok(text) => said(iocm, ErrorKind::ValueValidation, text.as_str()),
+        Err(error) => Error::from(error),
     }
 }
 

@@ -1,7 +1,9 @@
-ghost use Rattle.std.specs.Prelude.{◌≡◌, IfOk, IfSome, IsSome, codes, nat_eq};
+ghost use Rattle.std.specs.Prelude.{◌≡◌, IfOk, IfSome, IsSome, codes, nat_eq, option_map};
 ghost use Rattle.std.specs.Cmp.Lexicographic.{pointwise};
 ghost use Rattle.clap.specs.Walk.{texts};
 ghost use Rattle.clap.specs.Words.{first_of, subcommand_rows_of};
+ghost use Rattle.iocm_filter.specs.Misread.{seen_misread};
+ghost use Rattle.iocm_filter.specs.Words.{words_of};
 ghost use Rattle.iocm_statements.specs.Unread.{Reads};
 ghost use Rattle.iocm_command.specs.CommandLine as meaning;
 ghost use Rattle.iocm_command.specs.CommandLine.{GivesSize, IsSizeText, meant_of, rows_in, understood_of, values_under};
@@ -9,8 +11,8 @@ ghost use Rattle.iocm_command.specs.CommandLine.{GivesSize, IsSizeText, meant_of
 use crate::argument::{LARGEST_HEAP, LEAST_HEAP};
 use crate::command::{Before, Breaches, Command, Request, Understood};
 use clap::ArgMatches;
-use iocm_apply::Report;
-use iocm_filter::Filters;
+use iocm_filter::{FilterWords, Filters, Misread};
+use iocm_reports::Report;
 use iocm_statements::Unread;
 use std::alloc::{AllocError, Global};
 
@@ -25,6 +27,16 @@ fn value_of<'a>(found: &ArgMatches<'a>, argument: &str) -> Result<&'a str, Unrea
 }
 
 /// All values of an argument, in the order of the words.
+fn all_of<'m, 'a>(found: &'m ArgMatches<'a>, argument: &str) -> &'m [&'a str]
+    ensures { texts result.now ≡ values_under argument.now (rows_in found.now) }
+{
+    let Some(values) = found.get_strs(argument) else {
+        return Default::default();
+    };
+    values
+}
+
+/// A vector of them.
 fn values_of<'a>(
     alloc: Global,
     found: &ArgMatches<'a>,
@@ -32,9 +44,7 @@ fn values_of<'a>(
 ) -> Result<Vec<&'a str>, AllocError>
     ensures { IfOk result (λ values. texts values.items ≡ values_under argument.now (rows_in found.now)) }
 {
-    let none: &[&str] = &[];
-    let values = found.get_strs(argument).unwrap_or(none);
-    Vec::from_slice(alloc, values)
+    Vec::from_slice(alloc, all_of(found, argument))
 }
 
 /// Whether a flag is given.
@@ -65,12 +75,15 @@ fn heap_size(text: &str) -> Option<u32>
     }
 }
 
-/// The size of the heap that change trees are read in.
-fn heap_in(found: &ArgMatches<'_>) -> Result<u32, Unread>
+/// The size of the heap that change trees are read in, if one is given.
+fn heap_in(found: &ArgMatches<'_>) -> Result<Option<u32>, Unread>
     ensures { Reads (λ size. size) result (meaning.heap_in (rows_in found.now)) }
 {
-    match heap_size(value_of(found, "heap")?) {
-        Some(size) => Ok(size),
+    let Some(text) = found.get_str("heap") else {
+        return Ok(None);
+    };
+    match heap_size(text) {
+        Some(size) => Ok(Some(size)),
         None => Err(Unread::Malformed),
     }
 }
@@ -130,11 +143,16 @@ fn report_in(found: &ArgMatches<'_>) -> Result<Report, Unread>
     report_of(back, altered, count, deck, test)
 }
 
-/// Whether at most one report is asked for.
-pub(crate) fn has_one_report(matches: &ArgMatches<'_>) -> bool {
-    match matches.subcommand_matches("apply") {
-        Some(found) => report_in(found).is_ok(),
-        None => true,
+/// The words of filters.
+fn filter_words<'m, 'a>(found: &'m ArgMatches<'a>) -> FilterWords<'m, 'a>
+    ensures { words_of result ≡ meaning.filter_words_in (rows_in found.now) }
+{
+    FilterWords {
+        images: all_of(found, "image"),
+        devices: all_of(found, "device"),
+        units: all_of(found, "unit"),
+        paths: all_of(found, "path"),
+        online: all_of(found, "paths-online"),
     }
 }
 
@@ -142,13 +160,17 @@ pub(crate) fn has_one_report(matches: &ArgMatches<'_>) -> bool {
 fn filters_in(alloc: Global, found: &ArgMatches<'_>) -> Result<Filters, Unread>
     ensures { Reads (λ f. f) result (meaning.filters_in (rows_in found.now)) }
 {
-    let none: &[&str] = &[];
-    let images = found.get_strs("image").unwrap_or(none);
-    let devices = found.get_strs("device").unwrap_or(none);
-    let units = found.get_strs("unit").unwrap_or(none);
-    let paths = found.get_strs("path").unwrap_or(none);
-    let online = found.get_strs("paths-online").unwrap_or(none);
-    Filters::of_words(alloc, images, devices, units, paths, online)
+    Filters::of_words(alloc, &filter_words(found))
+}
+
+/// The first value of a filter that has another form.
+pub(crate) fn misread_in<'a>(matches: &ArgMatches<'a>) -> Option<Misread<'a>>
+    ensures { option_map seen_misread result ≡ meaning.misread_in (subcommand_rows_of matches.now) }
+{
+    match matches.subcommand() {
+        Some((_, found)) => filter_words(found).misread(),
+        None => None,
+    }
 }
 
 /// What `check` asks for.

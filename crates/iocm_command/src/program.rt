@@ -7,7 +7,7 @@ use crate::argument::{Argument, Form};
 use std::alloc::{AllocError, Global};
 
 /// The version of the program, which `--version` prints.
-const VERSION: &str = "0.3.0";
+const VERSION: &str = "0.4.0";
 
 /// A command.
 #[derive(Clone, Copy)]
@@ -71,7 +71,7 @@ const RUN: Row<'static> = Row {
     name: "run",
     about: "Runs a script of images and operators on the machine of a configuration deck, and prints the answers \
             and the table afterwards",
-    arguments: &[QUIET, DECK, SCRIPT, CHANGES, HEAPS],
+    arguments: &[QUIET, DECK, SCRIPT, CHANGES, HEAP],
     examples: "Examples:\n  iocm run my.deck my.script\n  iocm run my.deck my.script first.change second.change\n\n\
                More: docs/SCRIPTS.md",
 };
@@ -129,7 +129,7 @@ const PATH: Argument<'static> = Argument {
     name: "path",
     form: Form::Filter,
     value: "PATH",
-    help: "Only subchannels with this path: 0.50; may be given several times",
+    help: "Only subchannels with this path: 0.50, or 50 of every channel subsystem; may be given several times",
 };
 
 const ONLINE: Argument<'static> = Argument {
@@ -171,7 +171,7 @@ const HEAP: Argument<'static> = Argument {
     name: "heap",
     form: Form::Heap,
     value: "BYTES",
-    help: "The heap that the change tree is read in: 16 to 16777216 bytes",
+    help: "The heap that the change tree is read in: 16 to 16777216 bytes; if it isn't given, as much as it takes",
 };
 
 const UNDO: Argument<'static> = Argument {
@@ -221,13 +221,6 @@ const CHANGES: Argument<'static> = Argument {
     form: Form::Words,
     value: "",
     help: "A change deck, which the script names by its place, from 1: its file, or - for standard input",
-};
-
-const HEAPS: Argument<'static> = Argument {
-    name: "heap",
-    form: Form::Heap,
-    value: "BYTES",
-    help: "The heap that each change tree is read in: 16 to 16777216 bytes",
 };
 
 const RULE: Argument<'static> = Argument {

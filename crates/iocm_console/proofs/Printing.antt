@@ -1,7 +1,7 @@
 -- What two writes, one after the other, do to what a writer holds.
-use Rattle.std.proofs.Common.{◌≡◌, ℕ, List, [], ◌++◌, Option, None, Some, ◌∙◌, sym, ap, subst}
+use Rattle.std.proofs.Common.{◌≡◌, ℕ, List, [], ◌++◌, Option, None, Some, Result, Ok, Err, OnOk, ◌∙◌, sym, ap, subst}
 use Rattle.std.proofs.lemmas.List.{append-nil, append_assoc}
-use Rattle.std.specs.Io.KnownBytes.{Appends}
+use Rattle.std.specs.Io.KnownBytes.{Appends, Keeps}
 
 -- two texts, one after the other, are one
 pub appends_then : (old mid new : Option (List ℕ)) (a b : List ℕ) → Appends old mid a → Appends mid new b
@@ -15,6 +15,25 @@ appends_then (Some xs) (Some ys) (Some zs) a b h k = k ∙ (ap (λ w. w ++ b) h 
 pub appends_nothing : (old : Option (List ℕ)) → Appends old old []
 appends_nothing None = tt
 appends_nothing (Some xs) = sym (append-nil xs)
+
+-- a text that was written stays written
+pub appends_kept : (old mid new : Option (List ℕ)) (a : List ℕ) → Appends old mid a → Keeps mid new → Appends old new a
+appends_kept None mid new a h k = tt
+appends_kept (Some xs) None new a h k = elim h [ ]
+appends_kept (Some xs) (Some ys) None a h k = elim k [ ]
+appends_kept (Some xs) (Some ys) (Some zs) a h k = k ∙ h
+
+-- two texts, of which the second is written by a call
+pub appends_on_ok : {A E : Type 0} (old mid new : Option (List ℕ)) (a b : List ℕ) (result : Result A E)
+    → Appends old mid a → OnOk result (Appends mid new b) → OnOk result (Appends old new (a ++ b))
+appends_on_ok old mid new a b (Ok x) first second = appends_then old mid new a b first second
+appends_on_ok old mid new a b (Err e) first second = tt
+
+-- another name of the text that a call wrote
+pub on_ok_as : {A E : Type 0} (old new : Option (List ℕ)) (a b : List ℕ) (result : Result A E) → a ≡ b
+    → OnOk result (Appends old new a) → OnOk result (Appends old new b)
+on_ok_as old new a b (Ok x) same wrote = subst (Appends old new) same wrote
+on_ok_as old new a b (Err e) same wrote = tt
 
 -- another name of the text
 pub appends_as : (old new : Option (List ℕ)) (a b : List ℕ) → Appends old new a → a ≡ b → Appends old new b

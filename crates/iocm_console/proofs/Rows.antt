@@ -24,7 +24,7 @@ use Rattle.iocm_console.specs.declared.cells.CellDevice.{CellDevice}
 use Rattle.iocm_console.specs.declared.subsystem_cells.SubsystemCells.{SubsystemCells}
 use Rattle.iocm_console.specs.Alike.{IsAlike, StayAlike}
 use Rattle.iocm_console.specs.Gathered.{Gathered}
-use Rattle.iocm_console.specs.Show.{table_at}
+use Rattle.iocm_console.specs.Table.{table_at}
 use Rattle.iocm_console.specs.Lines.{CellDevices, celled, lines_of, image_lines, record_lines, AreNear, HaveSameLines}
 
 -- the lines of an image at some cells and at further ones
@@ -141,8 +141,9 @@ table_lines c n cells places =
 
 -- so is the table of cells that are those of the numbers
 pub table_of_cells : (t : Gathered) (c : Configuration) (n : Numbering) → t.records ≡ c → t.cells ≡ entries (cells_of n)
-    → (table_at t.records t.cells).text ≡ table_of c n
-table_of_cells t c n same places = ap (λ m. (table_at m t.cells).text) same ∙ table_lines c n t.cells places
+    → table_at t ≡ table_of c n
+table_of_cells t c n same places =
+    ap (λ m. table_at (record { records = m; cells = t.cells })) same ∙ table_lines c n t.cells places
 
 -- cells without a first or a last one of another channel subsystem have the same lines
 pub without_first : (css : ℕ) (first : CellDevice) (rest more all : List CellDevice) → rest ≡ first ∷ more

@@ -23,7 +23,7 @@ use Rattle.iocm_filter.proofs.WantedLaws.{nothing_is_all, passes_wanted}
 use Rattle.iocm_console.specs.declared.cells.CellDevice.{CellDevice}
 use Rattle.iocm_console.specs.Gathered.{Gathered}
 use Rattle.iocm_console.specs.Lines.{CellDevices, celled, lines_of}
-use Rattle.iocm_console.specs.Sifted.{sifted_lines, sifted_record_lines, sifted_at, wanted_table}
+use Rattle.iocm_console.specs.Table.{sifted_lines, sifted_record_lines, sifted_at, wanted_table}
 use Rattle.iocm_console.proofs.Rows.{records_in}
 
 -- the rows of an image at some cells
@@ -162,10 +162,10 @@ sifted-flat_map p f (i ∷ is) =
 -- the heading and then the lines of what passes are the table of what is wanted
 pub sifted_table : (t : Gathered) (c : Configuration) (n : Numbering) (s : Sieve) (w : Wanted) → t.records ≡ c
     → t.cells ≡ entries (cells_of n)
-    → IsSieveFor w c s → (sifted_at s t.records t.cells).text ≡ wanted_table w c n
+    → IsSieveFor w c s → sifted_at s t ≡ wanted_table w c n
 unfolding sifted_record_lines sifted_lines lines_of
 sifted_table t c n s w same places fits =
-    ap (λ m. (sifted_at s m t.cells).text) same
+    ap (λ m. sifted_at s (record { records = m; cells = t.cells })) same
     ∙ append_assoc heading (10 ∷ []) _
     ∙ ap (λ (xs : List ℕ). heading ++ 10 ∷ xs) (rw (← places)
     (sym (sifted-flat_map (passes s) (λ i. rows_of (lookup_of c) i t.cells) (filter_map as_image (records_of c)))

@@ -1,9 +1,5 @@
-pub mod Again
 pub mod Alike
-pub mod Changed
-pub mod Check
-pub mod CheckAll
-pub mod Command
+pub mod Counted
 pub mod Digits
 pub mod Examples
 pub mod Gathered
@@ -12,8 +8,6 @@ pub mod NextLine
 pub mod Opening
 pub mod Output
 pub mod Refusal
-pub mod Show
-pub mod Sifted
+pub mod Shown
 pub mod Status
-pub mod Told
-pub mod Write
+pub mod Table

@@ -9,9 +9,10 @@ use crate::like_devices::{LikeDevice, first_like};
 use crate::row::two_numbers;
 use iocm_config::Config;
 use iocm_numbers::opening_cells;
+use iocm_plant::Plant;
 use iocm_table::Rows;
 use iocm_types::{DevNo, NumberCell};
-use std::alloc::{AllocError, Allocator};
+use std::alloc::{AllocError, Allocator, Global};
 use std::marker::Model;
 
 /// A number cell that is taken, and the device that has it.
@@ -26,16 +27,15 @@ pub(crate) struct CellDevice {
     pub numbers: [u8; 9],
 }
 
-/// The number cells of a configuration that are taken, with their devices, in their order. What
-/// devices have in common is noted once, for all images that go over them. Contracts see the
-/// configuration and the cells.
+/// A configuration and its number cells that are taken, with their devices, in their order. What
+/// devices have in common is noted once, for all images that go over them.
 #[derive(Drop)]
-pub struct TableCells<'a, A: Allocator, B: Allocator> {
-    config: &'a Config<A>,
-    cells: Vec<CellDevice, B>,
+pub(crate) struct TableCells {
+    config: Config,
+    cells: Vec<CellDevice>,
 }
 
-impl<'a, A: Allocator, B: Allocator> Model for TableCells<'a, A, B> {
+impl Model for TableCells {
     ghost use Rattle.std.specs.Prelude.{refl, All};
     ghost use Rattle.std.specs.FinMap as map;
     ghost use Rattle.std.specs.Coded.{code_by, coded×, coded_list, codes};
@@ -50,17 +50,41 @@ impl<'a, A: Allocator, B: Allocator> Model for TableCells<'a, A, B> {
         (coded× (map.code (Prim.hlevel codes) (Prim.hlevel codes)) (coded_list (Prim.hlevel codes)))
         (λ t. (t.records, t.cells)) (λ p. record { records = p.0; cells = p.1 }) (λ _. refl) };
 
-    ghost view = { λ t. record { records = t.config.now.records; cells = celled t.cells.items } };
+    ghost view = { λ t. record { records = t.config.records; cells = celled t.cells.items } };
 
-    ghost invariant = { λ t. All (IsAlike (lookup_of t.config.now.records)) t.cells.items };
+    ghost invariant = { λ t. All (IsAlike (lookup_of t.config.records)) t.cells.items };
 }
 
-impl<'a, A: Allocator, B: Allocator> TableCells<'a, A, B> {
+impl TableCells {
+    /// Those of a configuration as it is opened. No table of the numbers is made.
+    ///
+    /// `AllocError` (M1): memory ran out.
+    pub(crate) fn at_opening(alloc: Global, config: Config) -> Result<Self, AllocError>
+        ensures records { IfOk result (λ t. t.records ≡ config.records) }
+        ensures cells { IfOk result (λ t. t.cells ≡ entries (cells_of (opening config.records))) }
+    {
+        let taken = opening_cells(alloc, &config)?;
+        let cells = listed_cells(alloc, &config, taken.as_slice())?;
+        Ok(TableCells { config, cells })
+    }
+
+    /// Those of a machine in operation, of which all but the configuration is let go.
+    ///
+    /// `AllocError` (M1): memory ran out.
+    pub(crate) fn in_operation(alloc: Global, plant: Plant) -> Result<Self, AllocError>
+        ensures records { IfOk result (λ t. t.records ≡ plant.state.config) }
+        ensures cells { IfOk result (λ t. t.cells ≡ entries (cells_of plant.state.numbers)) }
+    {
+        let cells = walked_cells(alloc, plant.config(), plant.numbers().cells())?;
+        let config = plant.into_config();
+        Ok(TableCells { config, cells })
+    }
+
     /// The configuration.
-    pub(crate) fn config(&self) -> &Config<A>
+    pub(crate) fn config(&self) -> &Config
         ensures { result.now.records ≡ self.now.records }
     {
-        self.config
+        &self.config
     }
 
     /// The cells, each with a device that its own is like.
@@ -72,56 +96,39 @@ impl<'a, A: Allocator, B: Allocator> TableCells<'a, A, B> {
     }
 }
 
-/// The number cells of a walk over a configuration's numbers with their devices, in its order: each
-/// image goes over all of them. Each device is looked up once.
-///
-/// `AllocError` (M1): memory ran out.
-pub fn gather_cells<'a, A: Allocator, B: Allocator>(
-    alloc: B,
-    config: &'a Config<A>,
+/// The number cells of a walk over a configuration's numbers with their devices, in its order. Each
+/// device is looked up once.
+fn walked_cells(
+    alloc: Global,
+    config: &Config,
     taken: Rows<'_, NumberCell, DevNo>,
-) -> Result<TableCells<'a, A, B>, AllocError>
-    ensures records { IfOk result (λ t. t.records ≡ config.entry.now.records) }
-    ensures cells { IfOk result (λ t. t.cells ≡ taken.entry) }
+) -> Result<Vec<CellDevice>, AllocError>
+    ensures cells { IfOk result (λ v. celled v.items ≡ taken.entry) }
+    ensures alike { IfOk result (λ v. All (IsAlike (lookup_of config.now.records)) v.items) }
 {
     let mut cells = Vec::new(alloc);
     let mut last = LikeDevice::first(config);
     for (cell, device) in taken {
         cells.push(compared(&mut last, *cell, *device))?;
     }
-    Ok(TableCells { config, cells })
-}
-
-/// The number cells that are taken in a configuration as it is opened, with their devices. No table
-/// of the numbers is made.
-///
-/// `AllocError` (M1): memory ran out.
-pub fn opened_cells<'a, A: Allocator, B: Allocator + Copy>(
-    alloc: B,
-    config: &'a Config<A>,
-) -> Result<TableCells<'a, A, B>, AllocError>
-    ensures records { IfOk result (λ t. t.records ≡ config.entry.now.records) }
-    ensures cells { IfOk result (λ t. t.cells ≡ entries (cells_of (opening config.entry.now.records))) }
-{
-    let taken = opening_cells(alloc, config)?;
-    listed_cells(alloc, config, taken.as_slice())
+    Ok(cells)
 }
 
 /// Number cells with their devices, of a list of both.
-fn listed_cells<'a, A: Allocator, B: Allocator>(
-    alloc: B,
-    config: &'a Config<A>,
+fn listed_cells(
+    alloc: Global,
+    config: &Config,
     taken: &[(NumberCell, DevNo)],
-) -> Result<TableCells<'a, A, B>, AllocError>
-    ensures records { IfOk result (λ t. t.records ≡ config.entry.now.records) }
-    ensures cells { IfOk result (λ t. t.cells ≡ taken.now) }
+) -> Result<Vec<CellDevice>, AllocError>
+    ensures cells { IfOk result (λ v. celled v.items ≡ taken.now) }
+    ensures alike { IfOk result (λ v. All (IsAlike (lookup_of config.now.records)) v.items) }
 {
     let mut cells = Vec::with_capacity(alloc, taken.len())?;
     let mut last = LikeDevice::first(config);
     for row in taken {
         cells.push(compared(&mut last, row.0, row.1))?;
     }
-    Ok(TableCells { config, cells })
+    Ok(cells)
 }
 
 /// A number cell with its device, which is compared with one before it.

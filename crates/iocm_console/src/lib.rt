@@ -1,28 +1,21 @@
-//! What each command prints and how it ends, over any reader and any writer.
+//! What is printed, and of which decks: a deck is opened or refused, and there is one writer.
 //!
-//! `answer_deck` reads a deck from a `Device`, checks its rules and prints to an `Output` what a
-//! `DeckCommand` prints of it: how many records it has, the table of its subchannels, or its
-//! canonical deck; or the one line of its refusal. The program above may rely on this: what is
-//! printed and the status are exactly what `answered` says of the deck's bytes (of some bytes,
-//! where they aren't known beforehand), as far as it is known what the writer holds, and only want
-//! of memory (`refused M1`) may come instead. After an answer nothing of it is kept back in the
-//! program's own buffer. A fault of a device is an error, `ConsoleError`, and is noted where it
-//! came from: L5 at the `Device`, L6 at the `Output`. All memory is taken before the first byte is
-//! written; a line takes none.
+//! `open_deck` reads the bytes of a deck and checks its rules: it gives a configuration, or a
+//! `Refusal`, the one value that says why a command gives no answer. `Table` is what it takes to
+//! print the table of a configuration's subchannels: all memory is taken when it is made, and
+//! `write_table` streams its lines. An `Output` is a writer with the program's own buffer; a write
+//! that failed is an error, `ConsoleError::Write`, and is noted there.
 //!
-//! Begin with `specs/Command.antt`, which says what each command means, then `opening.rt`,
-//! `command.rt` and a file a command: `accepted.rt`, `table.rt`, `canonical.rt`. `row.rt` puts a
-//! line of the table together, digit by digit; `refusal.rt` has that of a refusal, as `Display`
-//! states it. What names no source is our own.
+//! The layer above may rely on this: a deck is opened exactly as `opened_deck` says, and what is
+//! written is exactly the text of the definitions, as far as it is known what the writer holds. Only
+//! lack of memory (M1) may come instead, before the first byte is written.
+//!
+//! Begin with `specs/Opening.antt`, `specs/Refusal.antt` and `specs/Shown.antt`, then `opening.rt`,
+//! `refusal.rt` and `table.rt`. `row.rt` puts a line of the table together, digit by digit. What
+//! names no source is our own.
 #![tactic(auto)]
 
-mod accepted;
-mod asked;
-mod canonical;
 mod cells;
-mod change_refusal;
-mod check_all;
-mod command;
 mod digits;
 mod error;
 mod laws;
@@ -36,25 +29,12 @@ mod sifted;
 mod status;
 mod subsystem_cells;
 mod table;
-mod told;
 
-pub use asked::write_wanted;
-pub use canonical::write_text;
-pub use cells::{TableCells, gather_cells, opened_cells};
-pub use change_refusal::{ChangeRefusal, SubchannelName};
-pub use command::{DeckCommand, answer_deck};
 pub use error::ConsoleError;
-pub use laws::{
-    all_breaches_begin_with_the_first, refusals_of_changes_are_as_worked,
-    what_is_written_is_read_again,
-};
-pub use opening::{
-    answer_unread, breach_of, read_config, read_statements, refuse, refuse_breach, refuse_change,
-};
+pub use laws::refusals_are_as_worked;
+pub use opening::{open_deck, read_config, read_statements};
 pub use output::Output;
-pub use refusal::{BreachRefusal, Refusal};
+pub use refusal::{About, Refusal, SubchannelName};
 pub use row::{Line, put_line, write_heading};
-pub use sifted::write_sifted;
 pub use status::Status;
-pub use table::{write_lines, write_table};
-pub use told::Told;
+pub use table::{Table, write_table};

@@ -1,42 +1,211 @@
+ghost use Rattle.std.specs.Prelude.{◌≡◌};
+ghost use Rattle.iocm_console.specs.Refusal as meaning;
+
 use iocm_rules::Breach;
-use iocm_types::{Fault, Rule};
+use iocm_types::{At, Fault, Key, Refused, Rule, SubId};
+use std::alloc::{AllocError, AllocFailed};
 use std::fmt;
 
-/// A refusal as it is printed, without the end of its line: its number and its line, and lack of
-/// memory, which stands at no line, by its number alone.
-#[derive(Clone, Copy)]
-pub struct Refusal(pub Fault);
+/// What a refusal is about.
+#[derive(Clone, Copy, Debug, PartialEq, Eq)]
+pub enum About {
+    /// The line of a text, counted from 1.
+    Line(usize),
+    /// The record of this key.
+    Key(Key),
+    /// This subchannel.
+    Subchannel(SubId),
+    /// The change of this number, counted from 1.
+    Change(u64),
+    /// Nothing that could be named.
+    Nothing,
+}
 
-impl fmt::Display for Refusal {
-    ghost use Rattle.std.specs.Prelude.{Some};
-    ghost use Rattle.iocm_console.specs.Refusal.{refusal_text};
+/// Why a command gives no answer: a text has a fault, a configuration breaks a rule, a change isn't
+/// made, or memory is missing.
+#[derive(Clone, Copy, Debug, PartialEq, Eq)]
+pub struct Refusal {
+    /// Its number.
+    pub number: Rule,
+    /// The node of the change tree where it came, if it names one: counted from 0, each node before
+    /// its parts.
+    pub node: Option<u64>,
+    /// What it is about.
+    pub about: About,
+}
 
-    ghost output = { λ r. Some (refusal_text r.0) };
+impl Refusal {
+    /// Memory is missing, M1.
+    pub const NO_MEMORY: Refusal = Refusal {
+        number: Rule::M1,
+        node: None,
+        about: About::Nothing,
+    };
 
-    fn fmt<W: fmt::Write>(&self, f: &mut fmt::Formatter<W>) -> fmt::Result {
-        let rule = self.0.rule;
-        let line = self.0.line;
-        match rule {
-            Rule::M1 => write!(f, "refused {rule}"),
-            _ => write!(f, "refused {rule} line {line}"),
+    /// A refusal that names no node.
+    fn new(number: Rule, about: About) -> Self
+        ensures { result ≡ meaning.refusal_about number about }
+    {
+        Refusal {
+            number,
+            node: None,
+            about,
         }
     }
 }
 
-/// A breach as it is printed, without the end of its line: the number of the rule, and the key of
-/// the record that breaks it.
-#[derive(Clone, Copy)]
-pub struct BreachRefusal(pub Breach);
+/// A fault is about its line. Lack of memory has none.
+impl From<Fault> for Refusal {
+    ghost use Rattle.std.specs.Prelude.{◌≡◌};
+    ghost use Rattle.iocm_console.specs.Refusal.{of_fault};
 
-impl fmt::Display for BreachRefusal {
+    ghost from_gives = { λ fault r. r ≡ of_fault fault };
+
+    fn from(fault: Fault) -> Refusal {
+        match fault.rule {
+            Rule::M1 => Refusal::NO_MEMORY,
+            _ => Refusal::new(fault.rule, About::Line(fault.line)),
+        }
+    }
+}
+
+/// A breach is about the record that breaks the rule.
+impl From<Breach> for Refusal {
+    ghost use Rattle.std.specs.Prelude.{◌≡◌};
+    ghost use Rattle.iocm_console.specs.Refusal.{of_breach};
+
+    ghost from_gives = { λ breach r. r ≡ of_breach breach };
+
+    fn from(breach: Breach) -> Refusal {
+        Refusal::new(breach.rule, About::Key(breach.key))
+    }
+}
+
+/// The refusal of a change, or of a machine that isn't opened.
+impl From<Refused> for Refusal {
+    ghost use Rattle.std.specs.Prelude.{◌≡◌};
+    ghost use Rattle.iocm_console.specs.Refusal.{of_change};
+
+    ghost from_gives = { λ why r. r ≡ of_change why };
+
+    fn from(why: Refused) -> Refusal {
+        Refusal {
+            number: why.rule,
+            node: why.node,
+            about: about_of(why.at),
+        }
+    }
+}
+
+/// What the refusal of a change is about.
+fn about_of(at: At) -> About
+    ensures { result ≡ meaning.about_of at }
+{
+    match at {
+        At::Key(key) => About::Key(key),
+        At::Subchannel(subchannel) => About::Subchannel(subchannel),
+        At::Change(number) => About::Change(number),
+        At::Nothing => About::Nothing,
+    }
+}
+
+/// Lack of memory is M1.
+impl From<AllocError> for Refusal {
+    ghost use Rattle.std.specs.Prelude.{◌≡◌};
+    ghost use Rattle.iocm_console.specs.Refusal.{no_memory};
+
+    ghost from_gives = { λ _ r. r ≡ no_memory };
+
+    fn from(_error: AllocError) -> Refusal {
+        Refusal::NO_MEMORY
+    }
+}
+
+/// Lack of memory for a value is M1; the value is dropped.
+impl<T: Drop> From<AllocFailed<T>> for Refusal {
+    ghost use Rattle.std.specs.Prelude.{◌≡◌};
+    ghost use Rattle.iocm_console.specs.Refusal.{no_memory};
+
+    ghost from_gives = { λ _ r. r ≡ no_memory };
+
+    fn from(_error: AllocFailed<T>) -> Refusal {
+        Refusal::NO_MEMORY
+    }
+}
+
+/// The line of a refusal without its end: its number, the node, and what it is about, as far as it
+/// names them.
+impl fmt::Display for Refusal {
     ghost use Rattle.std.specs.Prelude.{Some};
-    ghost use Rattle.iocm_console.specs.Refusal.{breach_text};
+    ghost use Rattle.iocm_console.specs.Refusal.{refusal_text};
 
-    ghost output = { λ r. Some (breach_text r.0) };
+    ghost output = { λ r. Some (refusal_text r) };
 
     fn fmt<W: fmt::Write>(&self, f: &mut fmt::Formatter<W>) -> fmt::Result {
-        let rule = self.0.rule;
-        let key = self.0.key;
-        write!(f, "refused {rule} {key}")
+        let number = self.number;
+        let node = NodeName(self.node);
+        let about = AboutName(self.about);
+        write!(f, "refused {number}{node}{about}")
+    }
+}
+
+/// Where in a change tree a refusal came, as it is printed: nothing if no node is named.
+#[derive(Clone, Copy)]
+struct NodeName(Option<u64>);
+
+impl fmt::Display for NodeName {
+    ghost use Rattle.std.specs.Prelude.{Some};
+    ghost use Rattle.iocm_console.specs.Refusal.{node_text};
+
+    ghost output = { λ n. Some (node_text n.0) };
+
+    fn fmt<W: fmt::Write>(&self, f: &mut fmt::Formatter<W>) -> fmt::Result {
+        match self.0 {
+            Some(node) => write!(f, " node {node}"),
+            None => Ok(()),
+        }
+    }
+}
+
+/// What a refusal is about, as it is printed.
+#[derive(Clone, Copy)]
+struct AboutName(About);
+
+impl fmt::Display for AboutName {
+    ghost use Rattle.std.specs.Prelude.{Some};
+    ghost use Rattle.iocm_console.specs.Refusal.{about_text};
+
+    ghost output = { λ a. Some (about_text a.0) };
+
+    fn fmt<W: fmt::Write>(&self, f: &mut fmt::Formatter<W>) -> fmt::Result {
+        match self.0 {
+            About::Line(line) => write!(f, " line {line}"),
+            About::Key(key) => write!(f, " {key}"),
+            About::Subchannel(subchannel) => {
+                let name = SubchannelName(subchannel);
+                write!(f, " subchannel {name}")
+            }
+            About::Change(number) => write!(f, " change {number}"),
+            About::Nothing => Ok(()),
+        }
+    }
+}
+
+/// A subchannel as it is printed: channel subsystem, image, set and number with dots between.
+#[derive(Clone, Copy)]
+pub struct SubchannelName(pub SubId);
+
+impl fmt::Display for SubchannelName {
+    ghost use Rattle.std.specs.Prelude.{Some};
+    ghost use Rattle.iocm_console.specs.Refusal.{subchannel_text};
+
+    ghost output = { λ s. Some (subchannel_text s.0) };
+
+    fn fmt<W: fmt::Write>(&self, f: &mut fmt::Formatter<W>) -> fmt::Result {
+        let css = self.0.image.css;
+        let mif = self.0.image.mif;
+        let set = self.0.set;
+        let number = self.0.number;
+        write!(f, "{css}.{mif}.{set}.{number:04X}")
     }
 }

@@ -1,16 +1,15 @@
-ghost use Rattle.std.specs.Prelude.{◌≡◌, [], ◌∷◌, ◌++◌, filter, OnOk, IfOk, IfErr};
+ghost use Rattle.std.specs.Prelude.{◌≡◌, [], ◌∷◌, ◌++◌, filter, OnOk, IfErr};
 ghost use Rattle.iocm_model.specs.Machine.Configuration.{lookup_of, records_of};
 ghost use Rattle.iocm_model.specs.Machine.Table.{line_of};
 ghost use Rattle.iocm_filter.specs.Sieves.{passes};
 ghost use Rattle.iocm_console.specs.Lines.{celled, image_record, lines_of};
-ghost use Rattle.iocm_console.specs.Opening.{Says};
-ghost use Rattle.iocm_console.specs.Output.{has_failed, IsHandedOn, Prints, FailedToWrite};
-ghost use Rattle.iocm_console.specs.Sifted.{sifted_at, sifted_lines, sifted_record_lines};
+ghost use Rattle.iocm_console.specs.Output.{has_failed, Prints, FailedToWrite};
+ghost use Rattle.iocm_console.specs.Table.{sifted_lines, sifted_record_lines};
 
-use crate::cells::{CellDevice, TableCells};
+use crate::cells::CellDevice;
 use crate::row::{Line, put_line};
 use crate::table::PrintedImage;
-use crate::{ConsoleError, Output, Status};
+use crate::{ConsoleError, Output};
 use iocm_config::Config;
 use iocm_derive::ImageSight;
 use iocm_filter::Sieve;
@@ -19,27 +18,9 @@ use iocm_types::{Image, SubId, View};
 use std::alloc::Allocator;
 use std::io::Write;
 
-/// Prints the heading and the lines of all images at some number cells, of the subchannels that
-/// pass a sieve. An image that doesn't is not looked at. Can't run out of memory.
-pub fn write_sifted<A: Allocator, B: Allocator, W: Write + Drop>(
-    output: &mut Output<W>,
-    sieve: &Sieve<'_>,
-    cells: &TableCells<'_, A, B>,
-) -> Result<Status, ConsoleError>
-    ensures text { IfOk result
-        (Says W.contents output.old output.new (sifted_at sieve.now cells.now.records cells.now.cells)) }
-    ensures works { OnOk result (has_failed output.new ≡ has_failed output.old) }
-    ensures handed_on { OnOk result (IsHandedOn output.new) }
-    ensures fault { IfErr result (FailedToWrite output.new) }
-{
-    output.heading()?;
-    write_sifted_rows(output, sieve, cells.config(), cells.as_slice())?;
-    output.flush()?;
-    Ok(Status::Done)
-}
-
-/// Writes the lines of all images at some number cells.
-fn write_sifted_rows<A: Allocator, W: Write + Drop>(
+/// Writes the lines of all images at some number cells, of the subchannels that pass a sieve. An image
+/// that doesn't pass isn't looked at.
+pub(crate) fn write_sifted_rows<A: Allocator, W: Write + Drop>(
     output: &mut Output<W>,
     sieve: &Sieve<'_>,
     config: &Config<A>,

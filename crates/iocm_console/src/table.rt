@@ -1,69 +1,121 @@
-ghost use Rattle.std.specs.Prelude.{◌≡◌, [], ◌∷◌, All, OnOk, IfOk, IfErr};
+ghost use Rattle.std.specs.Prelude.{◌≡◌, [], ◌∷◌, All, None, true, OnOk, IfOk, IfErr, IfSome};
+ghost use Rattle.iocm_filter.specs.Sieves.{IsSieveFor};
+ghost use Rattle.iocm_filter.specs.Wanted.{asks_nothing};
 ghost use Rattle.iocm_model.specs.Machine.Configuration.{lookup_of, records_of, IsKeyed};
 ghost use Rattle.iocm_model.specs.Machine.Numbering.{opening};
+ghost use Rattle.iocm_model.specs.Machine.Table.{table_of};
 ghost use Rattle.iocm_console.specs.Alike.{IsAlike};
 ghost use Rattle.iocm_console.specs.Lines.{celled, image_lines, record_lines, image_record};
-ghost use Rattle.iocm_console.specs.Output.{has_failed, IsHandedOn, Prints, FailedToWrite};
-ghost use Rattle.iocm_console.specs.Opening.{Says, SaysIfMemory};
-ghost use Rattle.iocm_console.specs.Show.{table_at, table_done};
+ghost use Rattle.iocm_console.specs.Output.{has_failed, Prints, FailedToWrite};
+ghost use Rattle.iocm_console.specs.Table as meaning;
+ghost use Rattle.iocm_console.specs.Table.{wanted_table};
 
-use crate::cells::{CellDevice, TableCells, opened_cells};
+use crate::cells::{CellDevice, TableCells};
 use crate::next_line::next_line;
-use crate::opening::refuse;
 use crate::row::Line;
+use crate::sifted::write_sifted_rows;
 use crate::subsystem_cells::{SubsystemCells, css_of_image};
-use crate::{ConsoleError, Output, Status};
+use crate::{ConsoleError, Output};
 use iocm_config::Config;
 use iocm_derive::ImageSight;
+use iocm_filter::{Filters, Sieve};
+use iocm_plant::Plant;
 use iocm_record::{Record, RecordBody};
-use iocm_types::{Css, Fault, Image, Name};
-use std::alloc::Allocator;
+use iocm_types::{Css, Image, Name};
+use std::alloc::{AllocError, Allocator, Global};
 use std::io::Write;
+
+/// The table of a configuration's subchannels, of those that are asked for: what it takes to print
+/// it without memory, and not its lines.
+#[derive(Drop)]
+pub struct Table<'f> {
+    cells: TableCells,
+    sieve: Option<Sieve<'f>>,
+}
+
+impl<'f> Table<'f> {
+    /// That of a configuration as it is opened.
+    ///
+    /// `AllocError` (M1): memory ran out.
+    pub fn at_opening(
+        alloc: Global,
+        config: Config,
+        filters: &'f Filters,
+    ) -> Result<Self, AllocError>
+        ensures { IfOk result (λ t. meaning.text_of t
+            ≡ wanted_table filters.entry.now config.records (opening config.records)) }
+    {
+        let sieve = sieve_if_asked(alloc, filters, &config)?;
+        let cells = TableCells::at_opening(alloc, config)?;
+        Ok(Table { cells, sieve })
+    }
+
+    /// That of a machine in operation, of which all but the configuration is let go.
+    ///
+    /// `AllocError` (M1): memory ran out.
+    pub fn in_operation(
+        alloc: Global,
+        plant: Plant,
+        filters: &'f Filters,
+    ) -> Result<Self, AllocError>
+        ensures { IfOk result (λ t. meaning.text_of t
+            ≡ wanted_table filters.entry.now plant.state.config plant.state.numbers) }
+    {
+        let sieve = sieve_if_asked(alloc, filters, plant.config())?;
+        let cells = TableCells::in_operation(alloc, plant)?;
+        Ok(Table { cells, sieve })
+    }
+
+    /// That of all subchannels of a machine in operation.
+    ///
+    /// `AllocError` (M1): memory ran out.
+    pub fn of_all(alloc: Global, plant: Plant) -> Result<Self, AllocError>
+        ensures { IfOk result (λ t. meaning.text_of t ≡ table_of plant.state.config plant.state.numbers) }
+    {
+        let cells = TableCells::in_operation(alloc, plant)?;
+        Ok(Table { cells, sieve: None })
+    }
+}
+
+/// The sieve of a configuration, if something is asked for.
+fn sieve_if_asked<'f>(
+    alloc: Global,
+    filters: &'f Filters,
+    config: &Config,
+) -> Result<Option<Sieve<'f>>, AllocError>
+    ensures none { IfOk result (λ s. s ≡ None → asks_nothing filters.entry.now ≡ true) }
+    ensures some { IfOk result (λ s. IfSome s (IsSieveFor filters.entry.now config.now.records)) }
+{
+    if filters.is_none() {
+        return Ok(None);
+    }
+    let sieve = Sieve::new(alloc, filters, config)?;
+    Ok(Some(sieve))
+}
+
+/// Writes a table: its heading, and its lines image by image. Can't run out of memory.
+pub fn write_table<W: Write + Drop>(
+    table: &Table<'_>,
+    output: &mut Output<W>,
+) -> Result<(), ConsoleError>
+    ensures text { OnOk result (Prints W.contents output.old output.new (meaning.text_of table.now)) }
+    ensures works { OnOk result (has_failed output.new ≡ has_failed output.old) }
+    ensures fault { IfErr result (FailedToWrite output.new) }
+{
+    output.heading()?;
+    match &table.sieve {
+        None => write_rows(output, table.cells.config(), table.cells.as_slice()),
+        Some(sieve) => {
+            write_sifted_rows(output, sieve, table.cells.config(), table.cells.as_slice())
+        }
+    }
+}
 
 /// An image and its name.
 #[derive(Clone, Copy)]
 pub(crate) struct PrintedImage {
     pub image: Image,
     pub name: Name,
-}
-
-/// Prints the table of subchannels of a configuration as it is opened. All memory is taken before
-/// the first byte is written.
-///
-/// M1, a refusal, which is printed: memory ran out.
-pub fn write_table<A: Allocator, B: Allocator + Copy + Drop, W: Write + Drop>(
-    alloc: B,
-    output: &mut Output<W>,
-    config: &Config<A>,
-) -> Result<Status, ConsoleError>
-    ensures text { IfOk result (SaysIfMemory W.contents output.old output.new
-        (table_done config.now.records (opening config.now.records))) }
-    ensures works { OnOk result (has_failed output.new ≡ has_failed output.old) }
-    ensures handed_on { OnOk result (IsHandedOn output.new) }
-    ensures fault { IfErr result (FailedToWrite output.new) }
-{
-    match opened_cells(alloc, config) {
-        Ok(cells) => write_lines(output, &cells),
-        Err(error) => refuse(Fault::from(error), output),
-    }
-}
-
-/// Prints the heading and the lines of all images at some number cells. Can't run out of
-/// memory.
-pub fn write_lines<A: Allocator, B: Allocator, W: Write + Drop>(
-    output: &mut Output<W>,
-    cells: &TableCells<'_, A, B>,
-) -> Result<Status, ConsoleError>
-    ensures text { IfOk result
-        (Says W.contents output.old output.new (table_at cells.now.records cells.now.cells)) }
-    ensures works { OnOk result (has_failed output.new ≡ has_failed output.old) }
-    ensures handed_on { OnOk result (IsHandedOn output.new) }
-    ensures fault { IfErr result (FailedToWrite output.new) }
-{
-    output.heading()?;
-    write_rows(output, cells.config(), cells.as_slice())?;
-    output.flush()?;
-    Ok(Status::Done)
 }
 
 /// Writes the lines of all images at some number cells. The images of a channel subsystem come one

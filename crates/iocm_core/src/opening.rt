@@ -1,10 +1,10 @@
-ghost use Rattle.std.specs.Prelude.{◌≡◌, ◌≤◌, [], IfOk, IfErr, OnOk};
+ghost use Rattle.std.specs.Prelude.{◌≡◌, ◌≤◌, [], IfOk};
 ghost use Rattle.std.specs.FinMap.{entries};
 ghost use Rattle.std.specs.Map.{values_of};
 ghost use Rattle.std.specs.Vec.{vec_capacity};
 ghost use Rattle.iocm_history.specs.InUse.{IsInUse};
+ghost use Rattle.iocm_model.specs.Laws.Trees.{KeepsTheRules};
 ghost use Rattle.iocm_model.specs.Operation.State.{opening_state};
-ghost use Rattle.iocm_plant.specs.Refusing.{opening_refusal, IsDue};
 ghost use Rattle.iocm_core.specs.Running.{IsInstallationOf};
 
 use crate::installation::Installation;
@@ -12,37 +12,28 @@ use crate::{Core, Entry};
 use iocm_activate::Effects;
 use iocm_config::Config;
 use iocm_journal::Journal;
-use iocm_plant::{Plant, Unopened};
+use iocm_plant::Plant;
 use iocm_record::Record;
-use iocm_types::Refused;
 use std::alloc::{AllocError, Global};
 
 impl Core {
-    /// Opens a machine with this configuration, whose trace has room for so many entries; the
-    /// memory for them is made now, so that no call wants memory for its entry.
+    /// Begins to record what is asked of a machine that was just opened. The trace has room for so
+    /// many entries; the memory for them is made now, so that no call needs memory for its entry.
     ///
-    /// The first breach of V1 to V14, by rule, then by key; M1, which may stand in its place:
-    /// memory ran out. The configuration is handed back.
-    pub fn open(alloc: Global, config: Config, room: usize) -> Result<Core, Unopened>
-        ensures opened { IfOk result (λ core. core
-            ≡ record { opening = opening_state config.records; history = []; entries = []; room = room }) }
-        ensures kept { OnOk result (opening_refusal config.records ≡ None) }
-        ensures refused { IfErr result (λ e. IsDue (opening_refusal config.records) e.why) }
-        ensures config { IfErr result (λ e. e.config ≡ config) }
+    /// `AllocError` (M1): memory ran out.
+    pub fn open(alloc: Global, plant: Plant, room: usize) -> Result<Core, AllocError>
+        requires fresh { plant.state ≡ opening_state plant.state.config }
+        requires rules { KeepsTheRules plant.state }
+        ensures { IfOk result (λ core. core
+            ≡ record { opening = plant.state; history = []; entries = []; room = room }) }
     {
-        let Ok(prepared) = Prepared::for_trace(alloc, &config, room) else {
-            return Err(Unopened {
-                why: Refused::NO_MEMORY,
-                config,
-            });
-        };
-        let plant = Plant::open(alloc, config)?;
         // For the proof alone: the state is sound.
         plant.is_sound();
+        let Prepared { opening, entries } = Prepared::for_trace(alloc, plant.config(), room)?;
         Ok(Core {
             installation: installation(alloc, plant),
-            opening: prepared.opening,
-            entries: prepared.entries,
+            opening,
+            entries,
             room,
         })
     }

@@ -1,6 +1,6 @@
 -- A configuration that is read of an accepted deck is one that a deck gives.
-use Rattle.std.proofs.Common.{◌≡◌, ℕ, Bool, true, false, cond, List, [], ◌∷◌, Option, Some, Result, Ok, Err, refl, sym}
-use Rattle.std.proofs.Common.{subst, ◌∙◌}
+use Rattle.std.proofs.Common.{◌≡◌, ℕ, Bool, true, false, cond, List, [], ◌∷◌, Option, Some, None, Result, Ok, Err, refl, sym}
+use Rattle.std.proofs.Common.{ap, subst, ◌∙◌}
 use Rattle.std.specs.FinMap.{find, get-from_entries}
 use Rattle.std.specs.List.{All}
 use Rattle.std.specs.Ordering.{eq_by_cmp}
@@ -10,19 +10,17 @@ use Rattle.iocm_types.specs.declared.key.Key.{Key}
 use Rattle.iocm_types.specs.Fault.{◌>>=◌}
 use Rattle.iocm_types.specs.Key.{key_cmp}
 use Rattle.iocm_types.specs.KeyOrder.{keys_total}
-use Rattle.iocm_columns.specs.declared.card.Card.{Card}
-use Rattle.iocm_columns.specs.Cards.{cards_of}
-use Rattle.iocm_columns.specs.Statements.{statements_of}
-use Rattle.iocm_statements.specs.Statement.{parsed}
-use Rattle.iocm_record_reader.specs.Deck.{deck_records}
 use Rattle.iocm_model.specs.Machine.Record.{Rec, key_of}
 use Rattle.iocm_model.specs.Machine.Configuration.{Configuration, IsKeyed, configuration_of, with_keys}
+use Rattle.iocm_model.specs.Machine.Numbering.{opening}
+use Rattle.iocm_model.specs.Rules.FirstBreach.{Breach, first_breach}
 use Rattle.iocm_config.proofs.Keyed.{keyed_made}
 use Rattle.iocm_round_trip.specs.Again.{records_in}
 use Rattle.iocm_round_trip.specs.Given.{IsGiven}
 use Rattle.iocm_round_trip.proofs.GivenRecords.{gives_records}
 use Rattle.iocm_difference_writer.specs.Again.{HasGiven}
-use Rattle.iocm_console.specs.Opening.{configuration_in}
+use Rattle.iocm_console.specs.Opening.{configuration_in, opened, unless_breached}
+use Rattle.iocm_console.specs.Refusal.{or_refused, ◌>>-◌}
 use Rattle.iocm_difference_laws.specs.Accepted.{IsAcceptedDeck, AcceptedDecksAreConfigurationsOfDecks}
 
 -- ---- the records of a deck
@@ -33,15 +31,21 @@ pub record IsReadOf (bytes : List ℕ) (c : Configuration) : Type 0 where
   pub are_read : records_in bytes ≡ Ok records
   pub own : configuration_of records ≡ c
 
--- the configuration from the lines, as the commands take it, is that of the records
-by_records : (cards : Result (List Card) Fault)
-    → ((cards >>= statements_of) >>= parsed >>= deck_records >>= λ records. Ok (configuration_of records))
-    ≡ (cards >>= configuration_in)
-by_records (Ok cards) = refl
-by_records (Err fault) = refl
+-- what is opened was read, and breaks no rule
+opened_kept : (c d : Configuration) (breach : Option Breach) → unless_breached breach c ≡ Ok d
+    → (breach ≡ None) × (c ≡ d)
+opened_kept c d None is = (refl, cc)
+opened_kept c d (Some b) is = cc
+
+opened_parts : (read : Result Configuration Fault) (c : Configuration) → (or_refused read >>- opened) ≡ Ok c
+    → (read ≡ Ok c) × (first_breach c (opening c) ≡ None)
+opened_parts (Err fault) c is = cc
+opened_parts (Ok d) c is =
+    let kept = opened_kept d c (first_breach d (opening d)) is in
+    (ap Ok kept.1, subst (λ e. first_breach e (opening e) ≡ None) kept.1 kept.0)
 
 pub read_of : (bytes : List ℕ) (c : Configuration) → IsAcceptedDeck bytes c → IsReadOf bytes c
-read_of bytes c is = by (records_in bytes) refl (by_records (cards_of bytes) ∙ is.read)
+read_of bytes c is = by (records_in bytes) refl (opened_parts (configuration_in bytes) c is).0
   where
     by : (read : Result (List Rec) Fault) → records_in bytes ≡ read
         → (read >>= λ records. Ok (configuration_of records)) ≡ Ok c → IsReadOf bytes c
@@ -71,5 +75,5 @@ accepted_decks_are_configurations_of_decks bytes c is =
     let read = read_of bytes c is in record {
       keyed = subst IsKeyed read.own (keyed_made read.records);
       given = subst HasGiven read.own (has_given read.records (gives_records bytes read.records read.are_read));
-      rules = is.rules;
+      rules = (opened_parts (configuration_in bytes) c is).1;
     }

@@ -12,14 +12,16 @@ use Rattle.iocm_model.specs.Change.Tree.{most_leaves}
 use Rattle.iocm_filter.specs.Wanted.{Wanted}
 use Rattle.iocm_difference.specs.Difference.{difference}
 use Rattle.iocm_difference_writer.specs.Again.{IsOldOfDecks}
-use Rattle.iocm_console.specs.declared.status.Status.TheVariants.{Done}
-use Rattle.iocm_console.specs.Opening.{Shown}
-use Rattle.iocm_console.specs.Write.{canonical_done}
+use Rattle.iocm_command.specs.declared.command.Before.{Before}
+use Rattle.iocm_command.specs.declared.command.Before.TheVariants as before
+use Rattle.iocm_console.specs.Shown.{Shown, done}
+use Rattle.iocm_deck_writer.specs.Canonical.{canonical_deck}
 use Rattle.iocm_reports.specs.Deck.{deck_text}
-use Rattle.iocm_diff.specs.Diff.{text_between}
-use Rattle.iocm_apply.specs.declared.report.Report.TheVariants.{Deck}
-use Rattle.iocm_apply.specs.Asked.{Question}
-use Rattle.iocm_apply.specs.Apply.{applied, made}
+use Rattle.iocm_reports.specs.declared.report.Report.TheVariants.{Deck}
+use Rattle.iocm_answer.specs.Apply.{applied, made}
+use Rattle.iocm_answer.specs.Asked.{Question}
+use Rattle.iocm_answer.specs.Diff.{old_if_shown, text_between}
+use Rattle.iocm_answer.specs.Write.{written_of}
 use Rattle.iocm_difference_laws.specs.Again.{IsConfigurationOfDeck}
 use Rattle.iocm_difference_laws.specs.Meaning.{first_over_limit, outcome_between, unless_over_limit}
 use Rattle.iocm_difference_laws.specs.Opened.{performed_between}
@@ -36,29 +38,28 @@ abbrev deck_asked : Wanted → Question
 deck_asked w = record { report = Deck; wanted = w }
 
 -- what was there is that of a deck
-old_of_deck : (with_old : Bool) (c : Configuration) → IsConfigurationOfDeck c
-    → IsOldOfDecks (cond with_old (Some c) None)
-old_of_deck true c is = (is.keyed, is.given)
-old_of_deck false c is = tt
+old_of_deck : (asked : Before) (c : Configuration) → IsConfigurationOfDeck c → IsOldOfDecks (old_if_shown asked c)
+old_of_deck before.Shown c is = (is.keyed, is.given)
+old_of_deck before.LeftOut c is = tt
 
 -- where the configuration that is reached has this deck, it is printed, or the refusal is
 module _ (w : Wanted) (s : State) (d : Configuration) (p : Performed)
-    (same : deck_text p.state.config ≡ (canonical_done d).text) where
+    (same : deck_text p.state.config ≡ canonical_deck d) where
   printed_over : (o : Option Rec)
-      → made (deck_asked w) s (unless_over_limit o p) ≡ deck_or_refusal (unless_over_limit o p) (canonical_done d)
-  printed_over None = ap (λ text. record { text = text; status = Done }) same
+      → made (deck_asked w) s (unless_over_limit o p) ≡ deck_or_refusal (unless_over_limit o p) (written_of d)
+  printed_over None = ap done same
   printed_over (Some r) = refl
 
   printed_by : (b : Bool) (o : Option Rec)
       → made (deck_asked w) s (cond b (Err (refusal_at C2 Nothing)) (unless_over_limit o p))
-      ≡ deck_or_refusal (cond b (Err (refusal_at C2 Nothing)) (unless_over_limit o p)) (canonical_done d)
+      ≡ deck_or_refusal (cond b (Err (refusal_at C2 Nothing)) (unless_over_limit o p)) (written_of d)
   printed_by true o = refl
   printed_by false o = printed_over o
 
 -- what is printed of the outcome of the difference
 printed_between : (w : Wanted) (bytes : List ℕ) (c d : Configuration) → IsAcceptedDeck bytes d
     → made (deck_asked w) (opening_state c) (outcome_between c d)
-    ≡ deck_or_refusal (outcome_between c d) (canonical_done d)
+    ≡ deck_or_refusal (outcome_between c d) (written_of d)
 printed_between w bytes c d is =
     let p = performed_between c d in
     printed_by w (opening_state c) d p
@@ -67,16 +68,16 @@ printed_between w bytes c d is =
     (nat_lt most_leaves (length (difference c d))) (first_over_limit d p.state.numbers)
 
 pub the_loop_closes : TheLoopCloses
-the_loop_closes with_old w old new c d first second few =
-    let before = accepted_decks_are_configurations_of_decks old c first in
+the_loop_closes asked w old new c d first second few =
+    let was_deck = accepted_decks_are_configurations_of_decks old c first in
     let after = accepted_decks_are_configurations_of_decks new d second in
-    let was = cond with_old (Some c) None in
-    let of = old_of_deck with_old c before in
-    let again = difference_is_read_again_as_one was c d of before after few in
+    let was = old_if_shown asked c in
+    let of = old_of_deck asked c was_deck in
+    let again = difference_is_read_again_as_one was c d of was_deck after few in
     ap (λ (shown : Shown). applied (deck_asked w) old shown.text)
-    (diff_prints_the_difference with_old old new c d first second)
-    ∙ apply_prints (deck_asked w) old (text_between with_old c d) c again.tree first again.is_read
+    (diff_prints_the_difference asked old new c d first second)
+    ∙ apply_prints (deck_asked w) old (text_between asked c d) c again.tree first again.is_read
     ∙ ap (made (deck_asked w) (opening_state c))
-    (text_means_the_difference was c d again.tree of before after few again.is_read)
+    (text_means_the_difference was c d again.tree of was_deck after few again.is_read)
     ∙ printed_between w new c d second
     ∙ ap (deck_or_refusal (outcome_between c d)) (sym (write_prints new d second))

@@ -1,5 +1,5 @@
 -- What the outcome of the difference comes to, with room and without.
-use Rattle.std.proofs.Common.{◌≡◌, ◌≤◌, ℕ, Bool, cond, List, length, Option, Some, None, Err, ap, ◌∙◌}
+use Rattle.std.proofs.Common.{◌≡◌, ◌≤◌, ℕ, cond, List, length, Option, Some, None, Err, ap, ◌∙◌}
 use Rattle.iocm_types.specs.declared.refused.At.TheVariants.{Nothing}
 use Rattle.iocm_types.specs.declared.rule.Rule.TheVariants.{C2}
 use Rattle.iocm_model.specs.Machine.Configuration.{Configuration}
@@ -8,11 +8,11 @@ use Rattle.iocm_model.specs.Change.Refusal.{refusal_at}
 use Rattle.iocm_model.specs.Change.Tree.{most_leaves}
 use Rattle.iocm_filter.specs.Wanted.{Wanted}
 use Rattle.iocm_difference.specs.Difference.{difference}
-use Rattle.iocm_console.specs.declared.command.DeckCommand.TheVariants.{Write}
-use Rattle.iocm_console.specs.Command.{answered}
-use Rattle.iocm_diff.specs.Diff.{count_between, differed}
-use Rattle.iocm_apply.specs.declared.report.Report.TheVariants.{Deck}
-use Rattle.iocm_apply.specs.Apply.{applied}
+use Rattle.iocm_command.specs.declared.command.Before.{Before}
+use Rattle.iocm_reports.specs.declared.report.Report.TheVariants.{Deck}
+use Rattle.iocm_answer.specs.Apply.{applied}
+use Rattle.iocm_answer.specs.Diff.{count_between, differed}
+use Rattle.iocm_answer.specs.Write.{written}
 use Rattle.iocm_difference_laws.specs.Meaning.{outcome_between, unless_over_limit}
 use Rattle.iocm_difference_laws.specs.Opened.{performed_between}
 use Rattle.iocm_difference_laws.proofs.Least.{names_none_with_room}
@@ -32,24 +32,24 @@ outcome_of_few c d few =
     (not_over most_leaves (length (difference c d)) few)
 
 -- what is printed, by the first device without room
-printed_of : (with_old : Bool) (w : Wanted) (old new : List ℕ) (c d : Configuration) (o : Option Rec)
+printed_of : (asked : Before) (w : Wanted) (old new : List ℕ) (c d : Configuration) (o : Option Rec)
     → IsAcceptedDeck old c → IsAcceptedDeck new d
     → count_between c d ≤ most_leaves → without_room c d ≡ o
-    → applied (record { report = Deck; wanted = w }) old (differed with_old old new).text
-    ≡ deck_or_refusal (unless_over_limit o (performed_between c d)) (answered Write new)
-printed_of with_old w old new c d o first second few is =
-    the_loop_closes with_old w old new c d first second few
-    ∙ ap (λ outcome. deck_or_refusal outcome (answered Write new))
+    → applied (record { report = Deck; wanted = w }) old (differed asked old new).text
+    ≡ deck_or_refusal (unless_over_limit o (performed_between c d)) (written new)
+printed_of asked w old new c d o first second few is =
+    the_loop_closes asked w old new c d first second few
+    ∙ ap (λ outcome. deck_or_refusal outcome (written new))
     (outcome_of_few c d few ∙ ap (λ (one : Option Rec). unless_over_limit one (performed_between c d)) is)
 
 pub no_room_is_refused : NoRoomIsRefused
-no_room_is_refused with_old w old new c d r first second few is =
-    printed_of with_old w old new c d (Some r) first second few is
+no_room_is_refused asked w old new c d r first second few is =
+    printed_of asked w old new c d (Some r) first second few is
 
 pub room_closes_the_loop : RoomClosesTheLoop
-room_closes_the_loop with_old w old new c d first second few for_old for_new =
+room_closes_the_loop asked w old new c d first second few for_old for_new =
     let before = (accepted_decks_are_configurations_of_decks old c first).keyed in
     let after = (accepted_decks_are_configurations_of_decks new d second).keyed in
-    printed_of with_old w old new c d None first second few
+    printed_of asked w old new c d None first second few
     ((names_none_with_room d (performed_between c d).state.numbers after).1
     (difference_has_room c d before after for_old for_new))

@@ -1,25 +1,18 @@
 -- Decks that `check` accepts, and what their configurations are.
-use Rattle.std.specs.Prelude.{◌≡◌, ◌↔◌, ℕ, None, List, Ok}
-use Rattle.iocm_types.specs.Fault.{◌>>=◌}
-use Rattle.iocm_columns.specs.Cards.{cards_of}
+use Rattle.std.specs.Prelude.{◌≡◌, ◌↔◌, ℕ, List, Ok}
 use Rattle.iocm_model.specs.Machine.Configuration.{Configuration}
-use Rattle.iocm_model.specs.Machine.Numbering.{opening}
-use Rattle.iocm_model.specs.Rules.FirstBreach.{first_breach}
-use Rattle.iocm_console.specs.declared.command.DeckCommand.TheVariants.{Check}
 use Rattle.iocm_console.specs.declared.status.Status.TheVariants.{Done}
-use Rattle.iocm_console.specs.Command.{answered}
-use Rattle.iocm_console.specs.Opening.{configuration_in}
+use Rattle.iocm_console.specs.Opening.{opened_deck}
+use Rattle.iocm_answer.specs.Check.{checked}
 use Rattle.iocm_difference_laws.specs.Again.{IsConfigurationOfDeck}
 
--- bytes that `check` accepts: this configuration is read of them, and keeps the rules when it is
--- opened
-pub record IsAcceptedDeck (bytes : List ℕ) (c : Configuration) : Type 0 where
-  pub read : (cards_of bytes >>= configuration_in) ≡ Ok c
-  pub rules : first_breach c (opening c) ≡ None
+-- bytes that are opened as this configuration
+abbrev pub IsAcceptedDeck : List ℕ → Configuration → Type 0
+IsAcceptedDeck bytes c = opened_deck bytes ≡ Ok c
 
 -- these are exactly the bytes of which `check` ends as done
 abbrev pub CheckAcceptsThem : Type 0
-CheckAcceptsThem = (bytes : List ℕ) → ((answered Check bytes).status ≡ Done)
+CheckAcceptsThem = (bytes : List ℕ) → ((checked bytes).status ≡ Done)
     ↔ ((c : Configuration) × IsAcceptedDeck bytes c)
 
 -- such a configuration is one that a deck gives

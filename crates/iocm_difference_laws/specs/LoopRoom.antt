@@ -1,5 +1,5 @@
 -- When the loop of `diff` and `apply` comes to the new deck, and when it is refused.
-use Rattle.std.specs.Prelude.{◌≡◌, ◌≤◌, ℕ, Bool, Option, Some, List}
+use Rattle.std.specs.Prelude.{◌≡◌, ◌≤◌, ℕ, Option, Some, List}
 use Rattle.iocm_types.specs.declared.refused.At.TheVariants as at
 use Rattle.iocm_types.specs.declared.rule.Rule.TheVariants.{V13}
 use Rattle.iocm_model.specs.Machine.Configuration.{Configuration}
@@ -8,12 +8,13 @@ use Rattle.iocm_model.specs.Change.Meaning.{at_node}
 use Rattle.iocm_model.specs.Change.Refusal.{refusal_at}
 use Rattle.iocm_model.specs.Change.Tree.{most_leaves}
 use Rattle.iocm_filter.specs.Wanted.{Wanted}
-use Rattle.iocm_console.specs.declared.command.DeckCommand.TheVariants.{Write}
-use Rattle.iocm_console.specs.Command.{answered}
-use Rattle.iocm_console.specs.Opening.{declined}
-use Rattle.iocm_diff.specs.Diff.{count_between, differed}
-use Rattle.iocm_apply.specs.declared.report.Report.TheVariants.{Deck}
-use Rattle.iocm_apply.specs.Apply.{applied}
+use Rattle.iocm_command.specs.declared.command.Before.{Before}
+use Rattle.iocm_console.specs.Refusal.{of_change}
+use Rattle.iocm_console.specs.Shown.{refused}
+use Rattle.iocm_reports.specs.declared.report.Report.TheVariants.{Deck}
+use Rattle.iocm_answer.specs.Apply.{applied}
+use Rattle.iocm_answer.specs.Diff.{count_between, differed}
+use Rattle.iocm_answer.specs.Write.{written}
 use Rattle.iocm_difference_laws.specs.Meaning.{first_over_limit}
 use Rattle.iocm_difference_laws.specs.Opened.{performed_between}
 use Rattle.iocm_difference_laws.specs.Room.{HasLimitsFor}
@@ -25,15 +26,15 @@ without_room c d = first_over_limit d (performed_between c d).state.numbers
 
 -- where there is one, `apply` prints the refusal with V13 and its key
 abbrev pub NoRoomIsRefused : Type 0
-NoRoomIsRefused = (with_old : Bool) (w : Wanted) (old new : List ℕ) (c d : Configuration) (r : Rec)
+NoRoomIsRefused = (before : Before) (w : Wanted) (old new : List ℕ) (c d : Configuration) (r : Rec)
     → IsAcceptedDeck old c → IsAcceptedDeck new d → count_between c d ≤ most_leaves → without_room c d ≡ Some r
-    → applied (record { report = Deck; wanted = w }) old (differed with_old old new).text
-    ≡ declined (at_node 0 (refusal_at V13 (at.Key (key_of r))))
+    → applied (record { report = Deck; wanted = w }) old (differed before old new).text
+    ≡ refused (of_change (at_node 0 (refusal_at V13 (at.Key (key_of r)))))
 
 -- where the limits of the new deck are enough for the devices of both decks, it prints what `write`
 -- prints of the new deck
 abbrev pub RoomClosesTheLoop : Type 0
-RoomClosesTheLoop = (with_old : Bool) (w : Wanted) (old new : List ℕ) (c d : Configuration)
+RoomClosesTheLoop = (before : Before) (w : Wanted) (old new : List ℕ) (c d : Configuration)
     → IsAcceptedDeck old c → IsAcceptedDeck new d → count_between c d ≤ most_leaves
     → HasLimitsFor d c → HasLimitsFor d d
-    → applied (record { report = Deck; wanted = w }) old (differed with_old old new).text ≡ answered Write new
+    → applied (record { report = Deck; wanted = w }) old (differed before old new).text ≡ written new

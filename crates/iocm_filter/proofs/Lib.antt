@@ -1,3 +1,4 @@
+pub mod Misreading
 pub mod Sifting
 pub mod WantedLaws
 pub mod WorkedRows

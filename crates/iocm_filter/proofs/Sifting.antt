@@ -30,21 +30,11 @@ use Rattle.iocm_filter.specs.Sieves.{users_of}
 -- ---- images
 
 -- what an image record gives behind others
-one_named : (i : Image) (name : List ℕ) (r : Image) (rest : List Image) (b : Bool)
+one_named : (i : Image) (r : Image) (rest : List Image) (b : Bool)
     → list_any (is_same i) (cond b (r ∷ []) [] ++ rest)
-    ≡ ((r.css == i.css && r.mif == i.mif && b) || list_any (is_same i) rest)
-one_named i name r rest true = by (r.css == i.css) (r.mif == i.mif) (list_any (is_same i) rest)
-  where
-    by : (a b c : Bool) → ((a && b) || c) ≡ ((a && b && true) || c)
-    by true true c = refl
-    by true false c = refl
-    by false b c = refl
-one_named i name r rest false = by (r.css == i.css) (r.mif == i.mif) (list_any (is_same i) rest)
-  where
-    by : (a b c : Bool) → c ≡ ((a && b && false) || c)
-    by true true c = refl
-    by true false c = refl
-    by false b c = refl
+    ≡ ((b && r.css == i.css && r.mif == i.mif) || list_any (is_same i) rest)
+one_named i r rest true = refl
+one_named i r rest false = refl
 
 -- of the images of a name one is this one where an image at its place has the name
 any_named : (i : Image) (name : List ℕ) (rs : List Rec)
@@ -54,7 +44,7 @@ any_named i name [] = refl
 any_named i name (id x ∷ rs) = any_named i name rs
 any_named i name (resource x ∷ rs) = any_named i name rs
 any_named i name (image x ∷ rs) =
-    one_named i name (record { css = x.css; mif = x.mif }) (flat_map (image_named name) (of_kind 2 rs))
+    one_named i (record { css = x.css; mif = x.mif }) (flat_map (image_named name) (of_kind 2 rs))
     (same_name name x.name)
     ∙ ap (λ b. is_image_at i name x || b) (any_named i name rs)
 any_named i name (limit x ∷ rs) = any_named i name rs
@@ -111,22 +101,16 @@ same_device set number d = same_tests _ _ there back
 -- one key more is there, or not
 with_one : (m : Devices) (set number : ℕ) (d : DeviceRecord) (b : Bool)
     → contains_key (cond b (insert m (Device d.set d.number) tt) m) (Device set number)
-    ≡ ((d.set == set && d.number == number && b) || contains_key m (Device set number))
-with_one m set number d false = by (d.set == set) (d.number == number) (contains_key m (Device set number))
-  where
-    by : (a b c : Bool) → c ≡ ((a && b && false) || c)
-    by true true c = refl
-    by true false c = refl
-    by false b c = refl
+    ≡ ((b && d.set == set && d.number == number) || contains_key m (Device set number))
+with_one m set number d false = refl
 with_one m set number d true =
     ap is_some (get-insert keys_total m (Device d.set d.number) tt (Device set number))
     ∙ ap (λ t. is_some (cond t (Some tt) (get m (Device set number)))) (same_device set number d)
-    ∙ by (d.set == set) (d.number == number) (get m (Device set number))
+    ∙ by (d.set == set && d.number == number) (get m (Device set number))
   where
-    by : (a b : Bool) (o : Option (Unit {0})) → is_some (cond (a && b) (Some tt) o) ≡ ((a && b && true) || is_some o)
-    by true true o = refl
-    by true false o = refl
-    by false b o = refl
+    by : (a : Bool) (o : Option (Unit {0})) → is_some (cond a (Some tt) o) ≡ (a || is_some o)
+    by true o = refl
+    by false o = refl
 
 any_user : (units : List ℕ) (set number : ℕ) (m : Devices) (rs : List Rec)
     → contains_key (fold (with_user units) m (of_kind 6 rs)) (Device set number)

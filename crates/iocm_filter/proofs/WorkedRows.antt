@@ -1,5 +1,5 @@
 -- What is wanted in the small configuration, whose records are listed in the order of keys, computed.
-use Rattle.std.proofs.Common.{◌≡◌, ◌==◌, ◌&&◌, ◌||◌, not, ℕ, Bool, List, [], ◌∷◌, map, refl, sym, ap, ◌∙◌}
+use Rattle.std.proofs.Common.{◌≡◌, ◌==◌, ◌&&◌, ◌||◌, not, ℕ, Bool, List, [], ◌∷◌, Some, map, refl, sym, ap, ◌∙◌}
 use Rattle.std.specs.FinMap.{entries, same_map, get-from_entries, get-from_sorted, entries-from_sorted}
 use Rattle.std.specs.List.{filter_map, list_any}
 use Rattle.iocm_types.specs.declared.image.Image.{Image}
@@ -98,6 +98,10 @@ devices_as_worked = record {
   number_and_unit = device_is (by_device_on 0x1000) 0 0x1003;
   number_alone = device_is (by_device_on 0x2000) 0 0x1003;
   unit_alone = device_is (by_device_on 0x1000) 0 0x2003;
+  first = refl;
+  last = refl;
+  behind = refl;
+  range_of_other_set = refl;
 }
 
 pub views_as_worked : ViewsAsWorked
@@ -110,8 +114,11 @@ views_as_worked = record {
   last_path = refl;
   not_none = refl;
   no_path = refl;
+  either = refl;
   own_path = refl;
   path_elsewhere = refl;
+  path_of_each = refl;
+  other_of_each = refl;
 }
 
 pub rows_as_worked : RowsAsWorked
@@ -133,6 +140,6 @@ rows_as_worked = record {
   other_image = row_is by_all_kinds (row_of 0 1 0 0x1003);
   other_device = row_is by_all_kinds (row_of 0 2 0 0x2003);
   other_unit = row_is (record by_all_kinds { units = 0x2000 ∷ [] }) (row_of 0 2 0 0x1003);
-  other_path = row_is (record by_all_kinds { paths = record { css = 0; path = 0x52 } ∷ [] }) (row_of 0 2 0 0x1003);
+  other_path = row_is (record by_all_kinds { paths = record { css = Some 0; path = 0x52 } ∷ [] }) (row_of 0 2 0 0x1003);
   fewer_online = row_is (record by_all_kinds { online = 0 ∷ [] }) (row_of 0 2 0 0x1003);
 }

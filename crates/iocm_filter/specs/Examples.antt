@@ -1,9 +1,13 @@
--- What is asked for, and the words, as they are worked by hand.
-use Rattle.std.specs.Prelude.{◌≡◌, ℕ, true, false, List, [], ◌∷◌, None, Some, codes}
-use Rattle.iocm_types.specs.declared.view.View.{View}
+-- Words as they are read by hand.
+use Rattle.std.specs.Prelude.{◌≡◌, List, ℕ, [], ◌∷◌, None, Some, codes}
 use Rattle.iocm_filter.specs.declared.meant.ImageWord.TheVariants.{Place, Named}
-use Rattle.iocm_filter.specs.Wanted.{Wanted, nothing, wants_view, is_within}
-use Rattle.iocm_filter.specs.Words.{image_word, device_word, unit_word, path_word, online_word}
+use Rattle.iocm_filter.specs.declared.misread.FilterOption.TheVariants.{Path}
+use Rattle.iocm_filter.specs.Misread.{misread_of}
+use Rattle.iocm_filter.specs.Words.{Asking, image_word, device_word, unit_word, path_word, online_word}
+
+-- control units, paths and how many are online
+abbrev pub asking : List (List ℕ) → List (List ℕ) → List (List ℕ) → Asking
+asking units paths online = record { images = []; devices = []; units = units; paths = paths; online = online }
 
 -- words of each form, and what is none
 pub record WordsAreRead : Type 0 where
@@ -22,32 +26,12 @@ pub record WordsAreRead : Type 0 where
   pub no_set : device_word (codes "4.1000") ≡ None
   pub unit : unit_word (codes "2000") ≡ Some 0x2000
   pub no_unit : unit_word (codes "FFFF") ≡ None
-  pub path : path_word (codes "0.50") ≡ Some (record { css = 0; path = 0x50 })
-  pub no_css : path_word (codes "50") ≡ None
+  pub path : path_word (codes "0.50") ≡ Some (record { css = Some 0; path = 0x50 })
+  pub of_each : path_word (codes "50") ≡ Some (record { css = None; path = 0x50 })
+  pub no_path : path_word (codes "4G") ≡ None
   pub none_online : online_word (codes "0") ≡ Some 0
   pub nine : online_word (codes "9") ≡ None
-
--- a view by paths 50 and 51, of which the second is offline
-abbrev pub one_online : View
-one_online = record { device = 0x1000; paths = 0x50 ∷ 0x51 ∷ []; pim = 0xC0; pam = 0x80 }
-
--- what is asked for of it in channel subsystem 0
-abbrev pub asked_paths : List ℕ → ℕ → Wanted
-asked_paths most path = record nothing { paths = record { css = 0; path = path } ∷ []; online = most }
-
-pub record FiltersAsWorked : Type 0 where
-  -- by a path that it has, and at most one online
-  pub both : wants_view (asked_paths (1 ∷ []) 0x51) 0 one_online ≡ true
-  -- by a path that it hasn't
-  pub other_path : wants_view (asked_paths [] 0x52) 0 one_online ≡ false
-  -- in another channel subsystem, where the path of this number is another one
-  pub other_subsystem : wants_view (asked_paths [] 0x51) 1 one_online ≡ false
-  -- none online at most
-  pub too_many : wants_view (asked_paths (0 ∷ []) 0x51) 0 one_online ≡ false
-  -- none, or one
-  pub either : wants_view (asked_paths (0 ∷ 1 ∷ []) 0x51) 0 one_online ≡ true
-  -- the ends of a range are in it, and its set counts
-  pub first : is_within 1 0x1000 (record { set = 1; first = 0x1000; last = 0x10FF }) ≡ true
-  pub last : is_within 1 0x10FF (record { set = 1; first = 0x1000; last = 0x10FF }) ≡ true
-  pub behind : is_within 1 0x1100 (record { set = 1; first = 0x1000; last = 0x10FF }) ≡ false
-  pub other_set : is_within 0 0x1000 (record { set = 1; first = 0x1000; last = 0x10FF }) ≡ false
+  -- the first word of another form, of the first option that has one
+  pub misread : misread_of (asking (codes "2000" ∷ []) (codes "50" ∷ codes "4G" ∷ codes "5G" ∷ []) (codes "9" ∷ []))
+      ≡ Some (Path, codes "4G")
+  pub none_misread : misread_of (asking (codes "2000" ∷ []) [] (codes "8" ∷ [])) ≡ None

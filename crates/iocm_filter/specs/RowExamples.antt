@@ -1,5 +1,5 @@
 -- Which subchannels of a small configuration are wanted, as it is worked by hand.
-use Rattle.std.specs.Prelude.{◌≡◌, ℕ, true, false, List, [], ◌∷◌, None, codes}
+use Rattle.std.specs.Prelude.{◌≡◌, ℕ, true, false, List, [], ◌∷◌, None, Some, codes}
 use Rattle.iocm_types.specs.declared.image.Image.{Image}
 use Rattle.iocm_types.specs.declared.sub_id.SubId.{SubId}
 use Rattle.iocm_types.specs.declared.view.View.{View}
@@ -8,7 +8,7 @@ use Rattle.iocm_model.specs.Machine.Record.{Rec, image, device}
 use Rattle.iocm_filter.specs.declared.device_range.DeviceRange.{DeviceRange}
 use Rattle.iocm_filter.specs.declared.meant.ImageWord.{ImageWord}
 use Rattle.iocm_filter.specs.declared.meant.ImageWord.TheVariants.{Place, Named}
-use Rattle.iocm_filter.specs.Wanted.{Wanted, nothing, wants_image, wants_device, wants_view, wanted}
+use Rattle.iocm_filter.specs.Wanted.{Wanted, is_within, nothing, wants_image, wants_device, wants_view, wanted}
 
 -- ---- the configuration
 
@@ -112,6 +112,11 @@ pub record DevicesAsWorked : Type 0 where
   pub number_and_unit : wants_device (by_device_on 0x1000) some_configuration 0 0x1003 ≡ true
   pub number_alone : wants_device (by_device_on 0x2000) some_configuration 0 0x1003 ≡ false
   pub unit_alone : wants_device (by_device_on 0x1000) some_configuration 0 0x2003 ≡ false
+  -- the ends of a range are in it, and its set counts
+  pub first : is_within 1 0x1000 (record { set = 1; first = 0x1000; last = 0x10FF }) ≡ true
+  pub last : is_within 1 0x10FF (record { set = 1; first = 0x1000; last = 0x10FF }) ≡ true
+  pub behind : is_within 1 0x1100 (record { set = 1; first = 0x1000; last = 0x10FF }) ≡ false
+  pub range_of_other_set : is_within 0 0x1000 (record { set = 1; first = 0x1000; last = 0x10FF }) ≡ false
 
 -- ---- paths
 
@@ -124,7 +129,11 @@ abbrev pub by_online : ℕ → Wanted
 by_online most = record nothing { online = most ∷ [] }
 
 abbrev pub by_path : ℕ → ℕ → Wanted
-by_path css path = record nothing { paths = record { css = css; path = path } ∷ [] }
+by_path css path = record nothing { paths = record { css = Some css; path = path } ∷ [] }
+
+-- this path of each channel subsystem
+abbrev pub by_each_path : ℕ → Wanted
+by_each_path path = record nothing { paths = record { css = None; path = path } ∷ [] }
 
 pub record ViewsAsWorked : Type 0 where
   -- two of three are online
@@ -137,9 +146,14 @@ pub record ViewsAsWorked : Type 0 where
   pub not_none : wants_view (by_online 0) 0 (with_online 0x20) ≡ false
   -- none is, though three are installed
   pub no_path : wants_view (by_online 0) 0 (with_online 0) ≡ true
+  -- one, or none: of two numbers one is enough
+  pub either : wants_view (record nothing { online = 0 ∷ 1 ∷ [] }) 0 (with_online 0x20) ≡ true
   -- a path is one of the image's own channel subsystem
   pub own_path : wants_view (by_path 1 0x51) 1 (with_online 0xE0) ≡ true
   pub path_elsewhere : wants_view (by_path 0 0x51) 1 (with_online 0xE0) ≡ false
+  -- or of each
+  pub path_of_each : wants_view (by_each_path 0x51) 1 (with_online 0xE0) ≡ true
+  pub other_of_each : wants_view (by_each_path 0x53) 1 (with_online 0xE0) ≡ false
 
 -- ---- rows of the table
 
@@ -163,7 +177,7 @@ by_all_kinds = record {
   images = Named (codes "LPB") ∷ [];
   devices = one_number 0 0x1003 ∷ [];
   units = 0x1000 ∷ [];
-  paths = record { css = 0; path = 0x51 } ∷ [];
+  paths = record { css = Some 0; path = 0x51 } ∷ [];
   online = 1 ∷ [];
 }
 
@@ -189,6 +203,6 @@ pub record RowsAsWorked : Type 0 where
   pub other_image : wanted by_all_kinds some_configuration (row_of 0 1 0 0x1003) ≡ false
   pub other_device : wanted by_all_kinds some_configuration (row_of 0 2 0 0x2003) ≡ false
   pub other_unit : wanted (record by_all_kinds { units = 0x2000 ∷ [] }) some_configuration (row_of 0 2 0 0x1003) ≡ false
-  pub other_path : wanted (record by_all_kinds { paths = record { css = 0; path = 0x52 } ∷ [] }) some_configuration
+  pub other_path : wanted (record by_all_kinds { paths = record { css = Some 0; path = 0x52 } ∷ [] }) some_configuration
       (row_of 0 2 0 0x1003) ≡ false
   pub fewer_online : wanted (record by_all_kinds { online = 0 ∷ [] }) some_configuration (row_of 0 2 0 0x1003) ≡ false

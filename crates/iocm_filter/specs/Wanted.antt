@@ -1,9 +1,8 @@
 -- Which subchannels of a table are wanted: what is asked for, and what it means of a subchannel with
 -- its view.
 use Rattle.std.specs.Prelude.{◌≡◌, ℕ, Bool, true, false, not, ◌==◌, ◌&&◌, ◌||◌, nat_eq, nat_le, count_ones}
-use Rattle.std.specs.Prelude.{List, [], ◌∷◌}
+use Rattle.std.specs.Prelude.{List, [], ◌∷◌, Option, None, Some}
 use Rattle.std.specs.List.{list_any}
-use Rattle.iocm_types.specs.declared.css_path.CssPath.{CssPath}
 use Rattle.iocm_types.specs.declared.image.Image.{Image}
 use Rattle.iocm_types.specs.declared.sub_id.SubId.{SubId}
 use Rattle.iocm_types.specs.declared.view.View.{View}
@@ -12,6 +11,7 @@ use Rattle.iocm_model.specs.Machine.Configuration.{Configuration, images_of, rec
 use Rattle.iocm_model.specs.Rules.EachRule.{same_name}
 use Rattle.iocm_filter.specs.declared.meant.ImageWord.{ImageWord}
 use Rattle.iocm_filter.specs.declared.meant.ImageWord.TheVariants.{Place, Named}
+use Rattle.iocm_filter.specs.declared.meant.PathWord.{PathWord}
 use Rattle.iocm_filter.specs.declared.device_range.DeviceRange.{DeviceRange}
 
 -- what is asked for: images, devices, control units, paths, and how many paths are online at most
@@ -19,7 +19,7 @@ pub record Wanted : Type 0 where
   pub images : List ImageWord
   pub devices : List DeviceRange
   pub units : List ℕ
-  pub paths : List CssPath
+  pub paths : List PathWord
   pub online : List ℕ
 
 -- something of a kind is asked for
@@ -33,7 +33,7 @@ one_if_asked is_so xs = not (asks xs) || list_any is_so xs
 
 -- an image of a configuration has this place and this name
 abbrev pub is_image_at : Image → List ℕ → ImageRecord → Bool
-is_image_at i name r = r.css == i.css && r.mif == i.mif && same_name name r.name
+is_image_at i name r = same_name name r.name && r.css == i.css && r.mif == i.mif
 
 -- the image at a place is meant: by its place, or by its name in the configuration
 abbrev pub is_meant : Configuration → Image → ImageWord → Bool
@@ -47,16 +47,25 @@ is_within set number r = set == r.set && nat_le r.first number && nat_le number 
 -- a record is that of the device of this number in a subchannel set, on one of these control units
 abbrev pub is_device_on : List ℕ → ℕ → ℕ → Rec → Bool
 is_device_on units set number (device d) =
-    d.set == set && d.number == number && list_any (λ unit. list_any (nat_eq unit) d.units) units
+    list_any (λ unit. list_any (nat_eq unit) d.units) units && d.set == set && d.number == number
 is_device_on units set number _ = false
 
 -- the device is in a configuration, on one of these control units
 abbrev pub is_on_one : Configuration → List ℕ → ℕ → ℕ → Bool
 is_on_one c units set number = list_any (is_device_on units set number) (records_of c)
 
--- a view in a channel subsystem has a path
-abbrev pub has_path : ℕ → View → CssPath → Bool
-has_path css v p = css == p.css && list_any (nat_eq p.path) v.paths
+-- a word means the paths of its channel subsystem, or of each if it names none
+abbrev pub means_subsystem : Option ℕ → ℕ → Bool
+means_subsystem None css = true
+means_subsystem (Some own) css = css == own
+
+-- it means a path: one of this number
+abbrev pub means_path : PathWord → ℕ → ℕ → Bool
+means_path p css path = means_subsystem p.css css && path == p.path
+
+-- a view in a channel subsystem has a path that is meant
+abbrev pub has_path : ℕ → View → PathWord → Bool
+has_path css v p = list_any (means_path p css) v.paths
 
 -- of the paths of a view so many are online, or fewer
 abbrev pub has_at_most : View → ℕ → Bool

@@ -1,8 +1,7 @@
 -- The words in which subchannels are asked for, in the forms in which keys are printed.
-use Rattle.std.specs.Prelude.{ℕ, ◌==◌, nat_le, if◌then◌else◌, Option, None, Some, List, [], ◌∷◌}
+use Rattle.std.specs.Prelude.{ℕ, ◌==◌, nat_le, if◌then◌else◌, Option, None, Some, List, [], ◌∷◌, map}
 use Rattle.std.specs.Option.{option_map, option_or}
 use Rattle.iocm_types.specs.Name.{name_of}
-use Rattle.iocm_types.specs.declared.css_path.CssPath.{CssPath}
 use Rattle.iocm_types.specs.declared.image.Image.{Image}
 use Rattle.iocm_values.specs.Digits.{decimal_of, hex_of}
 use Rattle.iocm_values.specs.Numbers as numbers
@@ -11,6 +10,8 @@ use Rattle.iocm_filter.specs.Wanted.{Wanted}
 use Rattle.iocm_filter.specs.declared.meant.ImageWord.{ImageWord}
 use Rattle.iocm_filter.specs.declared.meant.ImageWord.TheVariants.{Place, Named}
 use Rattle.iocm_filter.specs.declared.device_range.DeviceRange.{DeviceRange}
+use Rattle.iocm_filter.specs.declared.meant.PathWord.{PathWord}
+use Rattle.iocm_filter.specs.declared.reading.FilterWords.{FilterWords}
 
 -- the byte that a point follows, and what follows the point
 abbrev pub before_point : List ℕ → Option (ℕ × List ℕ)
@@ -77,26 +78,42 @@ device_word text = device_numbers_in (before_point text) text
 abbrev pub unit_word : List ℕ → Option ℕ
 unit_word text = numbers.unit_number text
 
--- a path of a channel subsystem: 0.50
-abbrev pub path_in : Option (ℕ × List ℕ) → Option CssPath
-path_in None = None
-path_in (Some p) =
-    css_digit p.0 >>= λ css. numbers.path_number p.1 >>= λ path. Some (record { css = css; path = path })
+-- a path of a channel subsystem, 0.50, or of each, 50
+abbrev pub path_in : Option (ℕ × List ℕ) → List ℕ → Option PathWord
+path_in None text = numbers.path_number text >>= λ path. Some (record { css = None; path = path })
+path_in (Some p) text =
+    css_digit p.0 >>= λ css. numbers.path_number p.1 >>= λ path. Some (record { css = Some css; path = path })
 
-abbrev pub path_word : List ℕ → Option CssPath
-path_word text = path_in (before_point text)
+abbrev pub path_word : List ℕ → Option PathWord
+path_word text = path_in (before_point text) text
 
 -- how many paths, of eight, are online at most
 abbrev pub online_word : List ℕ → Option ℕ
 online_word text = decimal_of 8 text
 
--- what words of each kind ask for, if all have their form: images, devices, control units, paths, and
--- how many paths are online at most
-abbrev pub filters_of : List (List ℕ) → List (List ℕ) → List (List ℕ) → List (List ℕ) → List (List ℕ) → Option Wanted
-filters_of image_words device_words unit_words path_words online_words =
-    every image_word image_words >>= λ images.
-    every device_word device_words >>= λ devices.
-    every unit_word unit_words >>= λ units.
-    every path_word path_words >>= λ paths.
-    every online_word online_words >>= λ online.
+-- the words of each kind: images, devices, control units, paths, and how many paths are online at most
+pub record Asking : Type 0 where
+  pub images : List (List ℕ)
+  pub devices : List (List ℕ)
+  pub units : List (List ℕ)
+  pub paths : List (List ℕ)
+  pub online : List (List ℕ)
+
+abbrev pub words_of : FilterWords → Asking
+words_of w = record {
+  images = map (λ t. t.now) w.images.now;
+  devices = map (λ t. t.now) w.devices.now;
+  units = map (λ t. t.now) w.units.now;
+  paths = map (λ t. t.now) w.paths.now;
+  online = map (λ t. t.now) w.online.now;
+}
+
+-- what they ask for, if all have their form
+abbrev pub filters_of : Asking → Option Wanted
+filters_of a =
+    every image_word a.images >>= λ images.
+    every device_word a.devices >>= λ devices.
+    every unit_word a.units >>= λ units.
+    every path_word a.paths >>= λ paths.
+    every online_word a.online >>= λ online.
     Some (record { images = images; devices = devices; units = units; paths = paths; online = online })

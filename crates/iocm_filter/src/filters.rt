@@ -1,10 +1,9 @@
-ghost use Rattle.std.specs.Prelude.{◌≡◌, nat_eq, nat_le};
+ghost use Rattle.std.specs.Prelude.{◌≡◌, nat_le};
 ghost use Rattle.std.specs.List.{list_any};
 ghost use Rattle.iocm_filter.specs.Wanted as meaning;
 
-use crate::{DeviceRange, ImageWord};
-use iocm_types::{Chpid, Css, CssPath, DevNo, SetNo, UnitNo, View};
-use std::alloc::Global;
+use crate::{DeviceRange, ImageWord, PathWord};
+use iocm_types::{Chpid, Css, DevNo, SetNo, UnitNo, View};
 use std::marker::Model;
 
 /// What is asked for of the subchannels of a table. Of each kind nothing is asked for, or one of
@@ -12,15 +11,15 @@ use std::marker::Model;
 #[derive(Drop)]
 pub struct Filters {
     /// Images.
-    images: Vec<ImageWord>,
+    pub(crate) images: Vec<ImageWord>,
     /// Devices.
-    devices: Vec<DeviceRange>,
+    pub(crate) devices: Vec<DeviceRange>,
     /// Control units that devices are on.
-    units: Vec<UnitNo>,
+    pub(crate) units: Vec<UnitNo>,
     /// Paths that views have.
-    paths: Vec<CssPath>,
+    pub(crate) paths: Vec<PathWord>,
     /// How many paths of a view are online at most.
-    online: Vec<u8>,
+    pub(crate) online: Vec<u8>,
 }
 
 impl Model for Filters {
@@ -38,44 +37,6 @@ impl Model for Filters {
 }
 
 impl Filters {
-    /// These lists.
-    pub fn new(
-        images: Vec<ImageWord>,
-        devices: Vec<DeviceRange>,
-        units: Vec<UnitNo>,
-        paths: Vec<CssPath>,
-        online: Vec<u8>,
-    ) -> Self
-        ensures { result ≡ record {
-          images = images.items;
-          devices = devices.items;
-          units = units.items;
-          paths = paths.items;
-          online = online.items;
-        } }
-    {
-        Filters {
-            images,
-            devices,
-            units,
-            paths,
-            online,
-        }
-    }
-
-    /// Nothing is asked for. Can't run out of memory.
-    pub fn none(alloc: Global) -> Self
-        ensures { result ≡ meaning.nothing }
-    {
-        Filters {
-            images: Vec::new(alloc),
-            devices: Vec::new(alloc),
-            units: Vec::new(alloc),
-            paths: Vec::new(alloc),
-            online: Vec::new(alloc),
-        }
-    }
-
     /// Whether nothing is asked for.
     pub fn is_none(&self) -> bool
         ensures { result ≡ meaning.asks_nothing self.now }
@@ -129,20 +90,13 @@ impl Filters {
     }
 }
 
-/// Whether a device number of a subchannel set is in one of these ranges.
-#[tactic(auto, using(iocm_types::proofs::Any::any_steps))]
 fn is_in_any(ranges: &[DeviceRange], set: SetNo, number: DevNo) -> bool
     ensures { result ≡ list_any (meaning.is_within set number) ranges.now }
 {
-    for range in ranges {
-        if is_within(range, set, number) {
-            return true;
-        }
-    }
-    false
+    ranges.iter().any(|range| is_within(range, set, number))
 }
 
-fn is_within(range: &DeviceRange, set: SetNo, number: DevNo) -> bool
+pub(crate) fn is_within(range: &DeviceRange, set: SetNo, number: DevNo) -> bool
     ensures { result ≡ meaning.is_within set number range.now }
 {
     set == range.set
@@ -150,48 +104,39 @@ fn is_within(range: &DeviceRange, set: SetNo, number: DevNo) -> bool
         && number.number() <= range.last.number()
 }
 
-/// Whether a view in a channel subsystem has one of these paths.
-#[tactic(auto, using(iocm_types::proofs::Any::any_steps))]
-fn has_any_path(paths: &[CssPath], css: Css, view: &View) -> bool
-    ensures { result ≡ list_any (meaning.has_path css view.now) paths.now }
+fn has_any_path(words: &[PathWord], css: Css, view: &View) -> bool
+    ensures { result ≡ list_any (meaning.has_path css view.now) words.now }
 {
-    for path in paths {
-        if has_path(path, css, view) {
-            return true;
-        }
+    words.iter().any(|word| has_path(word, css, view))
+}
+
+fn has_path(word: &PathWord, css: Css, view: &View) -> bool
+    ensures { result ≡ meaning.has_path css view.now word.now }
+{
+    let paths = view.paths.as_slice();
+    paths.iter().any(|path| means_path(word, css, *path))
+}
+
+/// Whether a word means a path of a channel subsystem.
+pub(crate) fn means_path(word: &PathWord, css: Css, path: Chpid) -> bool
+    ensures { result ≡ meaning.means_path word.now css path }
+{
+    means_subsystem(word.css, css) && path == word.path
+}
+
+fn means_subsystem(named: Option<Css>, css: Css) -> bool
+    ensures { result ≡ meaning.means_subsystem named css }
+{
+    match named {
+        Some(own) => css == own,
+        None => true,
     }
-    false
 }
 
-fn has_path(path: &CssPath, css: Css, view: &View) -> bool
-    ensures { result ≡ meaning.has_path css view.now path.now }
-{
-    css == path.css && is_among(path.path, view.paths.as_slice())
-}
-
-#[tactic(auto, using(iocm_types::proofs::Any::any_steps))]
-fn is_among(path: Chpid, paths: &[Chpid]) -> bool
-    ensures { result ≡ list_any (nat_eq path) paths.now }
-{
-    for other in paths {
-        if path == *other {
-            return true;
-        }
-    }
-    false
-}
-
-/// Whether for one of these numbers so many paths of a view are online at most.
-#[tactic(auto, using(iocm_types::proofs::Any::any_steps))]
 fn has_at_most_any(most: &[u8], view: &View) -> bool
     ensures { result ≡ list_any (meaning.has_at_most view.now) most.now }
 {
-    for number in most {
-        if has_at_most(view, *number) {
-            return true;
-        }
-    }
-    false
+    most.iter().any(|number| has_at_most(view, *number))
 }
 
 fn has_at_most(view: &View, most: u8) -> bool

@@ -124,26 +124,14 @@ fn is_user<A: Allocator>(units: &[UnitNo], entry: &Record<A>) -> bool
 }
 
 /// Whether one of these control units is among others.
-#[tactic(auto, using(iocm_types::proofs::Any::any_steps))]
 fn have_common(units: &[UnitNo], others: &[UnitNo]) -> bool
     ensures { result ≡ meaning.have_common units.now others.now }
 {
-    for unit in units {
-        if is_among(*unit, others) {
-            return true;
-        }
-    }
-    false
+    units.iter().any(|unit| is_among(*unit, others))
 }
 
-#[tactic(auto, using(iocm_types::proofs::Any::any_steps))]
 fn is_among(unit: UnitNo, others: &[UnitNo]) -> bool
     ensures { result ≡ list_any (nat_eq unit) others.now }
 {
-    for other in others {
-        if unit == *other {
-            return true;
-        }
-    }
-    false
+    others.iter().any(|other| unit == *other)
 }

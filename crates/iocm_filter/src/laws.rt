@@ -1,6 +1,6 @@
 //! What holds of the definitions themselves. Each law is the contract of a function that does
 //! nothing.
-ghost use Rattle.iocm_filter.specs.Examples.{FiltersAsWorked, WordsAreRead};
+ghost use Rattle.iocm_filter.specs.Examples.{WordsAreRead};
 ghost use Rattle.iocm_filter.specs.RowExamples.{DevicesAsWorked, ImagesAsWorked, RowsAsWorked, ViewsAsWorked};
 ghost use Rattle.iocm_filter.specs.Sieves.{PassesWanted};
 ghost use Rattle.iocm_filter.specs.Wanted.{NothingIsAll};
@@ -8,11 +8,6 @@ ghost use Rattle.iocm_filter.specs.Wanted.{NothingIsAll};
 /// Words of each form are read as they are stated by hand, and others aren't.
 pub fn words_are_read()
     ensures { WordsAreRead }
-{}
-
-/// What is asked for of views and of device numbers is as it is worked by hand.
-pub fn filters_are_as_worked()
-    ensures { FiltersAsWorked }
 {}
 
 /// In a small configuration the images, the devices, the views and the rows that are wanted are as

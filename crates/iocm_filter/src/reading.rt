@@ -1,73 +1,26 @@
 ghost use Rattle.std.specs.Prelude.{◌≡◌, map};
 ghost use Rattle.iocm_statements.specs.Unread.{Reads};
 ghost use Rattle.iocm_values.specs.Reading.{every};
-ghost use Rattle.iocm_filter.specs.Words.{filters_of};
+ghost use Rattle.iocm_filter.specs.Words.{filters_of, words_of};
 
-use crate::words::{device_word, image_word, online_word, path_word, unit_word};
-use crate::{DeviceRange, Filters, ImageWord};
+use crate::Filters;
+use crate::words::AskedWord;
 use iocm_statements::Unread;
-use iocm_types::{CssPath, UnitNo};
 use std::alloc::Global;
 
-/// What a word asks for.
-trait AskedWord: Copy + Drop {
-    ghost use Rattle.std.specs.Prelude.{ℕ, List, Option};
-
-    /// What a text asks for, if it is such a word.
-    ghost asked: { List ℕ → Option Self };
-
-    fn read(text: &[u8]) -> Option<Self>
-        ensures { result ≡ asked text.now };
-}
-
-impl AskedWord for ImageWord {
-    ghost use Rattle.iocm_filter.specs.Words as meaning;
-
-    ghost asked = { meaning.image_word };
-
-    fn read(text: &[u8]) -> Option<Self> {
-        image_word(text)
-    }
-}
-
-impl AskedWord for DeviceRange {
-    ghost use Rattle.iocm_filter.specs.Words as meaning;
-
-    ghost asked = { meaning.device_word };
-
-    fn read(text: &[u8]) -> Option<Self> {
-        device_word(text)
-    }
-}
-
-impl AskedWord for UnitNo {
-    ghost use Rattle.iocm_filter.specs.Words as meaning;
-
-    ghost asked = { meaning.unit_word };
-
-    fn read(text: &[u8]) -> Option<Self> {
-        unit_word(text)
-    }
-}
-
-impl AskedWord for CssPath {
-    ghost use Rattle.iocm_filter.specs.Words as meaning;
-
-    ghost asked = { meaning.path_word };
-
-    fn read(text: &[u8]) -> Option<Self> {
-        path_word(text)
-    }
-}
-
-impl AskedWord for u8 {
-    ghost use Rattle.iocm_filter.specs.Words as meaning;
-
-    ghost asked = { meaning.online_word };
-
-    fn read(text: &[u8]) -> Option<Self> {
-        online_word(text)
-    }
+/// The words of a command line that ask for subchannels, of each kind in their order.
+#[derive(Clone, Copy)]
+pub struct FilterWords<'m, 'w> {
+    /// Images.
+    pub images: &'m [&'w str],
+    /// Devices.
+    pub devices: &'m [&'w str],
+    /// Control units.
+    pub units: &'m [&'w str],
+    /// Paths.
+    pub paths: &'m [&'w str],
+    /// How many paths are online at most.
+    pub online: &'m [&'w str],
 }
 
 /// What words ask for, in their order.
@@ -83,26 +36,18 @@ fn read_words<T: AskedWord>(alloc: Global, words: &[&str]) -> Result<Vec<T>, Unr
 }
 
 impl Filters {
-    /// What words of each kind ask for: images, devices, control units, paths, and how many paths
-    /// are online at most.
+    /// What the words of each kind ask for.
     ///
-    /// `Malformed`: a word of another form; `Memory` (M1): memory ran out.
-    pub fn of_words(
-        alloc: Global,
-        images: &[&str],
-        devices: &[&str],
-        units: &[&str],
-        paths: &[&str],
-        online: &[&str],
-    ) -> Result<Self, Unread>
-        ensures { Reads (λ f. f) result (filters_of (map (λ w. w.now) images.now) (map (λ w. w.now) devices.now)
-            (map (λ w. w.now) units.now) (map (λ w. w.now) paths.now) (map (λ w. w.now) online.now)) }
+    /// `Malformed`: a word of another form, as `misread` answers; `Memory` (M1): memory ran out.
+    pub fn of_words(alloc: Global, words: &FilterWords<'_, '_>) -> Result<Self, Unread>
+        ensures { Reads (λ f. f) result (filters_of (words_of words.now)) }
     {
-        let images = read_words(alloc, images)?;
-        let devices = read_words(alloc, devices)?;
-        let units = read_words(alloc, units)?;
-        let paths = read_words(alloc, paths)?;
-        let online = read_words(alloc, online)?;
-        Ok(Filters::new(images, devices, units, paths, online))
+        Ok(Filters {
+            images: read_words(alloc, words.images)?,
+            devices: read_words(alloc, words.devices)?,
+            units: read_words(alloc, words.units)?,
+            paths: read_words(alloc, words.paths)?,
+            online: read_words(alloc, words.online)?,
+        })
     }
 }

@@ -99,17 +99,10 @@ impl<'f> Sieve<'f> {
     }
 }
 
-/// Whether an image is one of these.
-#[tactic(auto, using(iocm_types::proofs::Any::any_steps))]
 fn is_among(image: &Image, images: &[Image]) -> bool
     ensures { result ≡ list_any (meaning.is_same image.now) images.now }
 {
-    for other in images {
-        if is_same(image, other) {
-            return true;
-        }
-    }
-    false
+    images.iter().any(|other| is_same(image, other))
 }
 
 fn is_same(image: &Image, other: &Image) -> bool

@@ -2,9 +2,93 @@ ghost use Rattle.std.specs.Prelude.{◌≡◌, ◌<◌};
 ghost use Rattle.std.specs.Option.{option_map};
 ghost use Rattle.iocm_filter.specs.Words as meaning;
 
-use crate::{DeviceRange, ImageWord};
-use iocm_types::{Css, CssPath, DevNo, Image, Mif, Name, SetNo, UnitNo};
+use crate::{DeviceRange, ImageWord, PathWord};
+use iocm_types::{Css, DevNo, Image, Mif, Name, SetNo, UnitNo};
 use iocm_values::{decimal, hex, path_number, unit_number};
+
+/// What a word asks for.
+pub(crate) trait AskedWord: Copy + Drop {
+    ghost use Rattle.std.specs.Prelude.{ℕ, List, Option};
+
+    /// What a text asks for, if it is such a word.
+    ghost asked: { List ℕ → Option Self };
+
+    fn read(text: &[u8]) -> Option<Self>
+        ensures { result ≡ asked text.now };
+}
+
+/// An image by its name, `LPB`, or by its channel subsystem and MIF image ID, `0.2`.
+impl AskedWord for ImageWord {
+    ghost use Rattle.iocm_filter.specs.Words as meaning;
+
+    ghost asked = { meaning.image_word };
+
+    fn read(text: &[u8]) -> Option<Self> {
+        if let Some(name) = Name::new(text) {
+            return Some(ImageWord::Named(name));
+        }
+        let image = image_place(text)?;
+        Some(ImageWord::Place(image))
+    }
+}
+
+/// Device numbers of a subchannel set: `1003` or `1000-100F` of set 0, and `1.1000-10FF`.
+impl AskedWord for DeviceRange {
+    ghost use Rattle.iocm_filter.specs.Words as meaning;
+
+    ghost asked = { meaning.device_word };
+
+    fn read(text: &[u8]) -> Option<Self> {
+        let Some((set, rest)) = before_point(text) else {
+            return device_numbers(SetNo::FIRST, text);
+        };
+        let set = set_digit(set)?;
+        device_numbers(set, rest)
+    }
+}
+
+/// A control unit: one to four hexadecimal digits, up to FFFE.
+impl AskedWord for UnitNo {
+    ghost use Rattle.iocm_filter.specs.Words as meaning;
+
+    ghost asked = { meaning.unit_word };
+
+    fn read(text: &[u8]) -> Option<Self> {
+        unit_number(text)
+    }
+}
+
+/// A path of a channel subsystem, `0.50`, or of each, `50`.
+impl AskedWord for PathWord {
+    ghost use Rattle.iocm_filter.specs.Words as meaning;
+
+    ghost asked = { meaning.path_word };
+
+    fn read(text: &[u8]) -> Option<Self> {
+        let Some((css, rest)) = before_point(text) else {
+            let path = path_number(text)?;
+            return Some(PathWord { css: None, path });
+        };
+        let css = css_digit(css)?;
+        let path = path_number(rest)?;
+        Some(PathWord {
+            css: Some(css),
+            path,
+        })
+    }
+}
+
+/// How many paths, of eight, are online at most.
+impl AskedWord for u8 {
+    ghost use Rattle.iocm_filter.specs.Words as meaning;
+
+    ghost asked = { meaning.online_word };
+
+    fn read(text: &[u8]) -> Option<Self> {
+        let number = decimal(8, text)?;
+        Some(number as u8)
+    }
+}
 
 /// The byte that a point follows, and what follows the point.
 fn before_point(text: &[u8]) -> Option<(u8, &[u8])>
@@ -48,17 +132,6 @@ fn image_place(text: &[u8]) -> Option<Image>
         }
         _ => None,
     }
-}
-
-/// An image by its name, `LPB`, or by its channel subsystem and MIF image ID, `0.2`.
-pub fn image_word(text: &[u8]) -> Option<ImageWord>
-    ensures { result ≡ meaning.image_word text.now }
-{
-    if let Some(name) = Name::new(text) {
-        return Some(ImageWord::Named(name));
-    }
-    let image = image_place(text)?;
-    Some(ImageWord::Place(image))
 }
 
 fn device_number(text: &[u8]) -> Option<DevNo>
@@ -108,40 +181,4 @@ fn device_numbers(set: SetNo, text: &[u8]) -> Option<DeviceRange>
     let first = device_number(before)?;
     let last = last_of_range(first, behind)?;
     Some(DeviceRange { set, first, last })
-}
-
-/// Device numbers of a subchannel set: `1003` or `1000-100F` of set 0, and `1.1000-10FF`.
-pub fn device_word(text: &[u8]) -> Option<DeviceRange>
-    ensures { result ≡ meaning.device_word text.now }
-{
-    let Some((set, rest)) = before_point(text) else {
-        return device_numbers(SetNo::FIRST, text);
-    };
-    let set = set_digit(set)?;
-    device_numbers(set, rest)
-}
-
-/// A control unit: one to four hexadecimal digits, up to FFFE.
-pub fn unit_word(text: &[u8]) -> Option<UnitNo>
-    ensures { result ≡ meaning.unit_word text.now }
-{
-    unit_number(text)
-}
-
-/// A path of a channel subsystem: `0.50`.
-pub fn path_word(text: &[u8]) -> Option<CssPath>
-    ensures { result ≡ meaning.path_word text.now }
-{
-    let (css, rest) = before_point(text)?;
-    let css = css_digit(css)?;
-    let path = path_number(rest)?;
-    Some(CssPath { css, path })
-}
-
-/// How many paths, of eight, are online at most.
-pub fn online_word(text: &[u8]) -> Option<u8>
-    ensures { result ≡ meaning.online_word text.now }
-{
-    let number = decimal(8, text)?;
-    Some(number as u8)
 }

@@ -1,1 +1,5 @@
+pub mod FirstFault
+pub mod LinesOfKeys
+pub mod LinesOfNodes
+pub mod TextLines
 pub mod Worked

@@ -1,66 +1,23 @@
--- In which text a refusal comes from, and where in it.
-use Rattle.std.specs.Prelude.{◌≡◌, ℕ, ⊤, Option, None, Some, List, [], Result, Ok, Err}
-use Rattle.std.specs.Option.{option_map}
-use Rattle.iocm_types.specs.declared.fault.Fault as fault
-use Rattle.iocm_types.specs.declared.refused.At as at
-use Rattle.iocm_types.specs.declared.refused.At.TheVariants as about
-use Rattle.iocm_types.specs.declared.refused.Refused.{Refused}
+-- Whether a text is refused so, and where in it the refusal comes from.
+use Rattle.std.specs.Prelude.{◌≡◌, ℕ, zero, suc, ◌==◌, if◌then◌else◌, length, ⊤, Option, None, Some, List, []}
+use Rattle.std.specs.Prelude.{Result, Ok, Err}
+use Rattle.std.specs.List.{slice_get}
+use Rattle.std.specs.Str.Lines.{lines, strip_carriage_return}
+use Rattle.iocm_types.specs.declared.fault.Fault.{Fault}
 use Rattle.iocm_types.specs.Fault.{◌>>=◌}
-use Rattle.iocm_columns.specs.declared.card.Card.{Card}
 use Rattle.iocm_statements.specs.declared.statement.Statement.{Statement}
+use Rattle.iocm_tree.specs.Trees.{CarriedTree}
 use Rattle.iocm_tree_reader.specs.Reading.{read_tree}
-use Rattle.iocm_script.specs.Scripts.{script_of}
-use Rattle.iocm_model.specs.Machine.Configuration.{Configuration, configuration_of}
-use Rattle.iocm_model.specs.Machine.Numbering.{opening}
-use Rattle.iocm_model.specs.Rules.FirstBreach as rules
-use Rattle.iocm_where.specs.Lines.{line_of_key}
-use Rattle.iocm_where.specs.Nodes.{line_of_node}
-use Rattle.iocm_record_reader.specs.Deck.{deck_records}
-use Rattle.iocm_console.specs.Opening.{statements_in}
-use Rattle.iocm_console.specs.declared.told.Told.{Told}
-use Rattle.iocm_console.specs.declared.told.Told.TheVariants.{Fault, Breach, Change}
+use Rattle.iocm_script.specs.Scripts.{script_in}
+use Rattle.iocm_console.specs.declared.refusal.About.{About}
+use Rattle.iocm_console.specs.declared.refusal.About.TheVariants as about
+use Rattle.iocm_console.specs.declared.refusal.Refusal.{Refusal}
+use Rattle.iocm_console.specs.Opening.{opened_deck, statements_in}
+use Rattle.iocm_console.specs.Refusal.{or_refused}
 use Rattle.iocm_origin.specs.declared.origin.Origin.{Origin}
 use Rattle.iocm_origin.specs.declared.origin.Origin.TheVariants.{Line, End, Whole}
-
--- ---- what is refused
-
--- why a configuration isn't opened, if it isn't: the rule that it breaks first
-abbrev pub refusal_of_opening : Configuration → Option Told
-refusal_of_opening c = option_map (λ b. Breach b) (rules.first_breach c (opening c))
-
--- what is read has a first fault, or else it is refused for another reason, if there is one
-abbrev pub fault_or : {A : Type 0} → (A → Option Told) → Result A fault.Fault → Option Told
-fault_or further (Ok x) = further x
-fault_or further (Err e) = Some (Fault e)
-
--- why a deck is refused, if it is: by its first fault, else by the rule that it breaks first
-abbrev pub refusal_of_statements : List Statement → Option Told
-refusal_of_statements ss = fault_or (λ records. refusal_of_opening (configuration_of records)) (deck_records ss)
-
-abbrev pub refusal_of_deck : List Card → Option Told
-refusal_of_deck cards = fault_or refusal_of_statements (statements_in cards)
-
--- the first fault of what is read, if it has one
-abbrev pub fault_of : {A : Type 0} → Result A fault.Fault → Option Told
-fault_of read = fault_or (λ x. None) read
-
--- the first fault of a change deck, if it has one
-abbrev pub fault_of_change : List Card → Option Told
-fault_of_change cards = fault_of (statements_in cards >>= read_tree)
-
--- the first fault of a script for so many change decks, if it has one
-abbrev pub fault_of_script : ℕ → List Card → Option Told
-fault_of_script changes cards = fault_of (script_of changes cards)
-
--- a machine that isn't opened tells the rule that its configuration breaks as the refusal of a change
--- that names no node, but the key
-abbrev pub breach_or_change : Refused → Option ℕ → at.At → Told
-breach_or_change why None (about.Key key) = Breach (record { rule = why.rule; key = key })
-breach_or_change why _ _ = Change why
-
-abbrev pub as_breach : Told → Told
-as_breach (Change why) = breach_or_change why why.node why.at
-as_breach told = told
+use Rattle.iocm_origin.specs.Keys.{line_of_key}
+use Rattle.iocm_origin.specs.Nodes.{line_of_node}
 
 -- ---- where
 
@@ -69,60 +26,73 @@ abbrev pub line_or_end : Option ℕ → Origin
 line_or_end (Some line) = Line line
 line_or_end None = End
 
--- the statements of lines, none where they have a fault
-abbrev pub statements_or_none : Result (List Statement) fault.Fault → List Statement
-statements_or_none (Ok ss) = ss
-statements_or_none (Err e) = []
+-- the line that a refusal is about, or the whole text
+abbrev pub line_or_whole : About → Origin
+line_or_whole (about.Line line) = Line line
+line_or_whole _ = Whole
 
-abbrev pub statements_of_cards : List Card → List Statement
-statements_of_cards cards = statements_or_none (statements_in cards)
+-- the statements of a text, none if it has a fault
+abbrev pub if_read : Result (List Statement) Fault → List Statement
+if_read (Ok ss) = ss
+if_read (Err fault) = []
 
--- where in a deck a refusal of it comes from: a fault from its own line, a breach from the statement
--- that brings the key
-abbrev pub place_in_statements : List Statement → Told → Origin
-place_in_statements ss (Fault e) = Line e.line
-place_in_statements ss (Breach b) = line_or_end (line_of_key ss b.key)
-place_in_statements ss (Change why) = Whole
+abbrev pub statements_of : List ℕ → List Statement
+statements_of text = if_read (statements_in text)
 
-abbrev pub place_in_deck : List Card → Told → Origin
-place_in_deck cards told = place_in_statements (statements_of_cards cards) told
+-- a refusal of a deck comes from the statement that brings the key that it is about, or from its line
+abbrev pub place_in_deck : List ℕ → About → Origin
+place_in_deck deck (about.Key key) = line_or_end (line_of_key (statements_of deck) key)
+place_in_deck deck other = line_or_whole other
 
--- the statement that a node comes from; the end where none does, as the Row round all of them; the
--- whole text where no node is named
+-- the statement that gives a node; the end if none does, as for the Row round all of them; the whole
+-- text if no node is named
 abbrev pub place_of_node : List Statement → Option ℕ → Origin
 place_of_node ss (Some node) = line_or_end (line_of_node ss node)
 place_of_node ss None = Whole
 
--- where in a change deck a refusal comes from: a fault from its own line, the refusal of the change
--- from its node
-abbrev pub place_in_change : List Card → Told → Origin
-place_in_change cards (Fault e) = Line e.line
-place_in_change cards (Change why) = place_of_node (statements_of_cards cards) why.node
-place_in_change cards (Breach b) = Whole
+-- a refusal of a change comes from its line if it is about one, else from its node
+abbrev pub place_in_change : List ℕ → Option ℕ → About → Origin
+place_in_change change n (about.Line line) = Line line
+place_in_change change n _ = place_of_node (statements_of change) n
 
--- ---- both
+-- ---- a text is refused so, and the refusal comes from there
 
--- the statements of a deck are refused so, and the refusal comes from there
-pub record IsPlacedInDeck (ss : List Statement) (told : Told) (origin : Origin) : Type 0 where
-  pub refusal : refusal_of_statements ss ≡ Some told
-  pub place : origin ≡ place_in_statements ss told
+pub record IsOriginInDeck (deck : List ℕ) (why : Refusal) (origin : Origin) : Type 0 where
+  pub refusal : opened_deck deck ≡ Err why
+  pub place : origin ≡ place_in_deck deck why.about
 
--- a deck is refused so, and the refusal comes from there
-pub record IsOriginInDeck (cards : List Card) (told : Told) (origin : Origin) : Type 0 where
-  pub refusal : refusal_of_deck cards ≡ Some (as_breach told)
-  pub place : origin ≡ place_in_deck cards (as_breach told)
+-- the tree of a change deck, or its first fault
+abbrev pub change_in : List ℕ → Result CarriedTree Fault
+change_in change = statements_in change >>= read_tree
 
--- a refusal is that of a change deck's first fault, or of the change itself
-abbrev pub IsOfChange : List Card → Told → Type 0
-IsOfChange cards (Fault e) = fault_of_change cards ≡ Some (Fault e)
-IsOfChange cards (Breach b) = ⊥
-IsOfChange cards (Change why) = ⊤
+-- what a refusal of a change is about: about a line it is the deck's first fault, and about a key it
+-- names a node, since the rules of a whole configuration are those of its deck
+abbrev pub MayBeOfChange : List ℕ → Refusal → Option ℕ → About → Type 0
+MayBeOfChange change why n (about.Line line) = or_refused (change_in change) ≡ Err why
+MayBeOfChange change why None (about.Key key) = ⊥
+MayBeOfChange change why n _ = ⊤
 
-pub record IsOriginInChange (cards : List Card) (told : Told) (origin : Origin) : Type 0 where
-  pub refusal : IsOfChange cards (as_breach told)
-  pub place : origin ≡ place_in_change cards (as_breach told)
+abbrev pub IsOfChange : List ℕ → Refusal → Type 0
+IsOfChange change why = MayBeOfChange change why why.node why.about
 
--- a script is refused so, at this line
-pub record IsOriginInScript (changes : ℕ) (cards : List Card) (told : Told) (origin : Origin) : Type 0 where
-  pub refusal : fault_of_script changes cards ≡ Some told
-  pub place : origin ≡ place_in_deck cards told
+pub record IsOriginInChange (change : List ℕ) (why : Refusal) (origin : Origin) : Type 0 where
+  pub refusal : IsOfChange change why
+  pub place : origin ≡ place_in_change change why.node why.about
+
+-- of a script, for so many change decks
+pub record IsOriginInScript (changes : ℕ) (script : List ℕ) (why : Refusal) (origin : Origin) : Type 0 where
+  pub refusal : or_refused (script_in changes script) ≡ Err why
+  pub place : origin ≡ line_or_whole why.about
+
+-- ---- a line
+
+-- the line of this number, counted from 1, without its line end
+abbrev pub line_of : List ℕ → ℕ → Option (List ℕ)
+line_of text zero = None
+line_of text (suc n) = slice_get (lines text) n
+
+-- a line by what stands there between line feeds, and what stands behind it
+abbrev pub line_at : Option (List ℕ) → Option (List ℕ) → Option (List ℕ)
+line_at None next = None
+line_at (Some part) None = if length part == 0 then None else Some part
+line_at (Some part) (Some next) = Some (strip_carriage_return part)

@@ -1,29 +1,34 @@
-//! Where a refusal comes from: in which text, at which line, and what is said of it there.
+//! Where a refusal comes from: at which line of a text, and what is said of it there.
 //!
-//! A command prints the number of a refusal and what it is about. The program then reads the
-//! command's texts once more, one after the other: `origin_in_deck`, `origin_in_change` and
-//! `origin_in_script` say whether a text is refused so, and at which line. `origin_of_fault` does
-//! so of a text whose lines are refused. `Remark` is what stands
-//! on standard error of it: the file, the line, the title of the message, the line itself, and
-//! which entry of `explain` says more.
+//! A command tells a refusal by its number and what it is about. Given the bytes of a text,
+//! `origin_in_deck`, `origin_in_change` and `origin_in_script` answer whether the text is refused so,
+//! and where: at a line, at the end, or as a whole. A `Remark` is printed beside the refusal: the file,
+//! the line, the title, the line itself (`line_of`), and which entry of `explain` says more.
+//! `all_faults` lists the faults of all statements of a deck, and not only the first.
 //!
-//! What the program may rely on: a text has an origin exactly where it is refused so. The line is
-//! that of the fault, or that of the statement from which the key or the node comes
-//! (`iocm_where`). Only lack of memory may come instead.
+//! The program may rely on this: a text has an origin exactly if it is refused so. The line is that of
+//! the fault, or that of the statement that brings the key or gives the node. `laws.rt` states what
+//! such lines promise.
 //!
-//! Begin with `specs/Origin.antt` and `specs/Remark.antt`. What names no source is our own.
+//! Begin with `specs/Origin.antt`, `specs/Remark.antt` and `specs/Faults.antt`. What names no source
+//! is our own.
 #![tactic(auto)]
 
-mod change;
-mod deck;
-mod examples;
+mod faults;
+mod keys;
+mod laws;
+mod line;
+mod nodes;
 mod origin;
 mod remark;
-mod script;
+mod texts;
 
-pub use change::origin_in_change;
-pub use deck::origin_in_deck;
-pub use examples::{origins_are_as_worked, remarks_are_as_worked};
-pub use origin::{Origin, origin_of_fault};
-pub use remark::{Remark, about_of, rule_of};
-pub use script::origin_in_script;
+pub use faults::all_faults;
+pub use laws::{
+    keys_of_a_deck_have_lines, nodes_come_from_their_lines, small_texts_are_as_worked,
+    the_first_fault_comes_first,
+};
+pub use line::line_of;
+pub use origin::Origin;
+pub use remark::Remark;
+pub use texts::{origin_in_change, origin_in_deck, origin_in_script};

@@ -1,12 +1,14 @@
-ghost use Rattle.std.specs.Prelude.{◌≡◌, ◌↔◌, true, IfOk, IfSome, IsSome, Some};
-ghost use Rattle.iocm_types.specs.declared.rule.Rule.TheVariants.{M1};
-ghost use Rattle.iocm_console.specs.declared.told.Told.TheVariants as said;
+ghost use Rattle.std.specs.Prelude.{◌≡◌, ◌≢◌, ◌↔◌, true, IfOk, IfSome, IsSome};
+ghost use Rattle.std.specs.Ordering.{eq_by_cmp};
+ghost use Rattle.iocm_types.specs.Fault.{memory};
+ghost use Rattle.iocm_types.specs.Key.{key_cmp};
+ghost use Rattle.iocm_console.specs.Refusal.{of_fault};
 ghost use Rattle.iocm_origin.specs.Origin as meaning;
 
-use iocm_console::Told;
-use iocm_rules::Breach;
-use iocm_types::{At, Fault, Refused, Rule};
-use std::alloc::AllocError;
+use iocm_console::{About, Refusal, read_statements};
+use iocm_statements::Statement;
+use iocm_types::{Fault, Key, Rule};
+use std::alloc::{AllocError, Global};
 
 /// Where in a text a refusal comes from. The word is own.
 #[derive(Clone, Copy, Debug, PartialEq, Eq)]
@@ -20,7 +22,7 @@ pub enum Origin {
 }
 
 /// The line of this number, or the end where there is none.
-pub fn line_or_end(line: Option<usize>) -> Origin
+pub(crate) fn line_or_end(line: Option<usize>) -> Origin
     ensures { result ≡ meaning.line_or_end line }
 {
     match line {
@@ -29,46 +31,88 @@ pub fn line_or_end(line: Option<usize>) -> Origin
     }
 }
 
-/// The breach of a rule, where that is why a machine isn't opened; every other refusal as it is.
-pub fn as_breach(told: Told) -> Told
-    ensures { result ≡ meaning.as_breach told }
+/// The line that a refusal is about, or the whole text.
+pub(crate) fn line_or_whole(about: About) -> Origin
+    ensures { result ≡ meaning.line_or_whole about }
 {
-    match told {
-        Told::Change(
-            Refused {
-                rule,
-                node: None,
-                at: At::Key(key),
-            },
-        ) => Told::Breach(Breach { rule, key }),
-        _ => told,
+    match about {
+        About::Line(line) => Origin::Line(line),
+        _ => Origin::Whole,
     }
 }
 
-/// The line of a text's first fault, where it is the refusal.
-///
-/// `AllocError` (M1): the text has no fault of its own, memory ran out.
-pub fn origin_of_fault(fault: Fault, told: Told) -> Result<Option<Origin>, AllocError>
-    ensures some { IfOk result (λ found. IfSome found
-        (λ origin. (told ≡ said.Fault fault) × (origin ≡ Origin.Line fault.line))) }
-    ensures only { IfOk result (λ found. told ≡ said.Fault fault → IsSome found) }
-    ensures memory { IfOk result (λ found. fault.rule ≡ M1 → ⊥) }
+/// A fault that a reader answered, if it is one of the text. That memory ran out is none.
+pub(crate) fn of_the_text(fault: Fault) -> Result<Fault, AllocError>
+    ensures same { IfOk result (λ told. told ≡ fault) }
+    ensures text { IfOk result (λ told. fault ≢ memory) }
 {
     if fault.rule == Rule::M1 {
         return Err(AllocError);
     }
-    if is_fault(told, fault) {
-        return Ok(Some(Origin::Line(fault.line)));
-    }
-    Ok(None)
+    Ok(fault)
 }
 
-/// Whether a refusal is this fault.
-fn is_fault(told: Told, fault: Fault) -> bool
-    ensures { (result ≡ true) ↔ (told ≡ said.Fault fault) }
+/// The line of a text's first fault, if that is the refusal.
+///
+/// `AllocError` (M1): the text has no fault of its own, memory ran out.
+pub(crate) fn origin_of_fault(fault: Fault, why: Refusal) -> Result<Option<Origin>, AllocError>
+    ensures some { IfOk result (λ found. IfSome found
+        (λ origin. (of_fault fault ≡ why) × (origin ≡ meaning.line_or_whole why.about))) }
+    ensures only { IfOk result (λ found. of_fault fault ≡ why → IsSome found) }
+    ensures text { IfOk result (λ found. fault ≢ memory) }
 {
-    match told {
-        Told::Fault(found) => found.line == fault.line && found.rule == fault.rule,
+    let told = Refusal::from(of_the_text(fault)?);
+    if !is_same(told, why) {
+        return Ok(None);
+    }
+    Ok(Some(line_or_whole(why.about)))
+}
+
+/// The statements of a text, none if it has a fault.
+///
+/// `AllocError` (M1): memory ran out.
+pub(crate) fn statements_or_none(alloc: Global, text: &[u8]) -> Result<Vec<Statement>, AllocError>
+    ensures { IfOk result (λ v. v.items ≡ meaning.statements_of text.now) }
+{
+    match read_statements(alloc, text) {
+        Ok(statements) => Ok(statements),
+        Err(fault) => {
+            of_the_text(fault)?;
+            Ok(Vec::new(alloc))
+        }
+    }
+}
+
+/// Whether two refusals are one.
+pub(crate) fn is_same(one: Refusal, other: Refusal) -> bool
+    ensures { (result ≡ true) ↔ (one ≡ other) }
+{
+    if one.number != other.number {
+        return false;
+    }
+    if one.node != other.node {
+        return false;
+    }
+    is_same_about(one.about, other.about)
+}
+
+/// Whether refusals are about one thing.
+fn is_same_about(one: About, other: About) -> bool
+    ensures { (result ≡ true) ↔ (one ≡ other) }
+{
+    match (one, other) {
+        (About::Line(one), About::Line(other)) => one == other,
+        (About::Key(one), About::Key(other)) => is_same_key(one, other),
+        (About::Subchannel(one), About::Subchannel(other)) => one.order(other).is_eq(),
+        (About::Change(one), About::Change(other)) => one == other,
+        (About::Nothing, About::Nothing) => true,
         _ => false,
     }
+}
+
+/// Whether two keys are one.
+fn is_same_key(one: Key, other: Key) -> bool
+    ensures { (result ≡ true) ↔ (one ≡ other) }
+{
+    one.order(other).is_eq()
 }

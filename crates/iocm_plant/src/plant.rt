@@ -79,6 +79,13 @@ impl Plant {
         &self.config
     }
 
+    /// The configuration alone: what else the machine has is let go.
+    pub fn into_config(self) -> Config
+        ensures { result.records ≡ self.state.config }
+    {
+        self.config
+    }
+
     /// The subchannel numbers.
     pub fn numbers(&self) -> &Numbers
         ensures { result.now.numbers ≡ self.now.state.numbers }

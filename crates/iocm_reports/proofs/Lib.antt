@@ -2,7 +2,8 @@ mod AlteredRows
 mod ByImage
 mod EachImage
 pub mod ListedPairs
-mod Printed
+pub mod Printed
+pub mod RemarksPut
 mod Rows
 mod Summed
 pub mod Told

@@ -8,9 +8,7 @@ use Rattle.iocm_types.specs.declared.image.Image.{Image}
 use Rattle.iocm_types.specs.Print.{hex1}
 use Rattle.iocm_model.specs.Change.Edit.{same_view}
 use Rattle.iocm_seats.specs.declared.view_change.ViewChange.{ViewChange}
-use Rattle.iocm_console.specs.declared.status.Status.TheVariants.{Done}
-use Rattle.iocm_console.specs.Changed.{changed_text}
-use Rattle.iocm_console.specs.Opening.{Shown}
+use Rattle.iocm_console.specs.Counted.{changed_line}
 use Rattle.iocm_reports.specs.declared.counts.Counts.{Counts}
 
 -- something was seen, and nothing is any more
@@ -66,8 +64,5 @@ unfoldable pub count_lines : List ViewChange → List ℕ
 count_lines rows = flat_map (image_line rows) (images_among rows)
 
 -- how many subchannels a change altered, and the counts of some of them
-abbrev pub counts_shown : ℕ → List ViewChange → Shown
-counts_shown altered rows = record {
-  text = (changed_text altered ++ 10 ∷ []) ++ count_lines rows;
-  status = Done;
-}
+abbrev pub counted_text : ℕ → List ViewChange → List ℕ
+counted_text altered rows = changed_line altered ++ count_lines rows

@@ -1,5 +1,5 @@
 -- Lines of each form as they are stated by hand. Bytes by their codes: 10 ends a line.
-use Rattle.std.specs.Prelude.{◌≡◌, ℕ, List, [], ◌∷◌, ◌++◌, None, Some, codes}
+use Rattle.std.specs.Prelude.{◌≡◌, ℕ, List, [], ◌∷◌, ◌++◌, None, Some, codes, true}
 use Rattle.std.specs.List.{flat_map}
 use Rattle.iocm_types.specs.declared.path_kind.PathKind.TheVariants.{Shared}
 use Rattle.iocm_types.specs.declared.sub_id.SubId.{SubId}
@@ -7,9 +7,13 @@ use Rattle.iocm_types.specs.declared.view.View.{View}
 use Rattle.iocm_model.specs.Machine.Configuration.{Configuration, configuration_of}
 use Rattle.iocm_model.specs.Machine.Record.{Rec, path, online}
 use Rattle.iocm_seats.specs.declared.view_change.ViewChange.{ViewChange}
-use Rattle.iocm_reports.specs.Counts.{counts_shown}
+use Rattle.iocm_types.specs.declared.live.Function.TheVariants.{Start}
+use Rattle.iocm_types.specs.declared.live.Live.{Live}
+use Rattle.iocm_types.specs.declared.live.Phase.TheVariants.{Pending}
+use Rattle.iocm_reports.specs.Remarks.{live_remark}
+use Rattle.iocm_reports.specs.Counts.{counted_text}
 use Rattle.iocm_reports.specs.Deck.{pairs_untold, remark_line}
-use Rattle.iocm_reports.specs.Lines.{altered_shown}
+use Rattle.iocm_reports.specs.Lines.{altered_text}
 
 -- a text with the end of its line
 abbrev pub line : List ℕ → List ℕ
@@ -36,7 +40,7 @@ rows_of_each_form =
 
 -- their lines, after edits that altered seven subchannels
 abbrev pub LinesOfRows : Type 0
-LinesOfRows = (altered_shown 7 rows_of_each_form).text
+LinesOfRows = altered_text 7 rows_of_each_form
     ≡ line (codes "change 1 altered 7")
     ++ (line (codes "  CSS IM SET SUBC DEVN PIM PAM CHPIDS")
     ++ (line (codes "- 0   1  0   0003 1003 C0  C0  50 51")
@@ -48,7 +52,7 @@ LinesOfRows = (altered_shown 7 rows_of_each_form).text
 
 -- the counts of their two images
 abbrev pub CountsOfTwoImages : Type 0
-CountsOfTwoImages = (counts_shown 7 rows_of_each_form).text
+CountsOfTwoImages = counted_text 7 rows_of_each_form
     ≡ line (codes "change 1 altered 7")
     ++ (line (codes "image 0.1 gone 1 came 0 changed 1 same 0")
     ++ line (codes "image 0.2 gone 0 came 1 changed 0 same 2"))
@@ -83,3 +87,17 @@ RemarksOnPairs = flat_map (remark_line some_configuration) (pairs_untold some_co
     ≡ line (codes "* path 0.50 isn't online to LPB")
     ++ (line (codes "* path 0.51 is online to LPB")
     ++ line (codes "* path 0.52 is online to LPA"))
+
+-- ---- a subchannel that is enabled, by some of its paths, with a parameter and a status pending
+
+-- the subchannel 001A of the second image of channel subsystem 3, in set 1
+abbrev pub some_subchannel : SubId
+some_subchannel = record { image = record { css = 3; mif = 2 }; set = 1; number = 0x1A }
+
+-- what it remembers: the status of a start is pending
+abbrev pub some_live : Live
+some_live = record { enabled = true; lpm = 0xA0; parm = 0xC0FFEE; phase = Pending Start }
+
+abbrev pub RemarkOfALive : Type 0
+RemarkOfALive = live_remark (some_subchannel, some_live)
+    ≡ codes "* subchannel 3.2.1.001A had lpm A0 ena 1 parm 00C0FFEE scsw 9"

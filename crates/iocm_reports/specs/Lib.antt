@@ -7,3 +7,5 @@ pub mod ImageOrder
 pub mod Laws
 pub mod Lines
 pub mod Listed
+pub mod Remarks
+pub mod WayBack

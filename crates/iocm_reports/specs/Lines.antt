@@ -8,9 +8,7 @@ use Rattle.iocm_types.specs.Print.{hex4}
 use Rattle.iocm_model.specs.Machine.Table.{left3, left2, line_of, heading}
 use Rattle.iocm_model.specs.Change.Edit.{same_view}
 use Rattle.iocm_seats.specs.declared.view_change.ViewChange.{ViewChange}
-use Rattle.iocm_console.specs.declared.status.Status.TheVariants.{Done}
-use Rattle.iocm_console.specs.Changed.{changed_text}
-use Rattle.iocm_console.specs.Opening.{Shown}
+use Rattle.iocm_console.specs.Counted.{changed_line}
 
 -- the line of a subchannel in the table, behind a sign
 abbrev pub signed_line : List ℕ → SubId → View → List ℕ
@@ -40,8 +38,5 @@ abbrev pub altered_heading : List ℕ
 altered_heading = codes "  " ++ (heading ++ 10 ∷ [])
 
 -- how many subchannels a change altered, and the lines of some of them under the heading
-abbrev pub altered_shown : ℕ → List ViewChange → Shown
-altered_shown altered rows = record {
-  text = (changed_text altered ++ 10 ∷ []) ++ (altered_heading ++ flat_map row_lines rows);
-  status = Done;
-}
+abbrev pub altered_text : ℕ → List ViewChange → List ℕ
+altered_text altered rows = changed_line altered ++ (altered_heading ++ flat_map row_lines rows)

@@ -1,11 +1,10 @@
-ghost use Rattle.std.specs.Prelude.{◌≡◌, ◌++◌, ◌∷◌, [], count_by, IfOk, OnOk, IfErr};
+ghost use Rattle.std.specs.Prelude.{◌≡◌, ◌++◌, ◌∷◌, [], count_by, OnOk, IfErr};
 ghost use Rattle.std.specs.List.{prefix_len};
-ghost use Rattle.iocm_console.specs.Opening.{Says};
-ghost use Rattle.iocm_console.specs.Output.{has_failed, FailedToWrite, IsHandedOn, Prints};
+ghost use Rattle.iocm_console.specs.Output.{has_failed, FailedToWrite, Prints};
 ghost use Rattle.iocm_reports.specs.Altered.{AreInOrder};
 ghost use Rattle.iocm_reports.specs.Counts as meaning;
 
-use iocm_console::{ConsoleError, Output, Status};
+use iocm_console::{ConsoleError, Output};
 use iocm_seats::ViewChange;
 use iocm_types::Image;
 use std::fmt;
@@ -125,24 +124,21 @@ impl fmt::Display for CountsLine {
     }
 }
 
-/// Prints that a change was made and how many subchannels it altered, and a line for each image
+/// Writes that a change was made and how many subchannels it altered, and a line for each image
 /// that has rows, in order: how many of its subchannels are gone, came, changed, and are the same.
 /// Can't run out of memory.
-pub fn print_counts<W: Write + Drop>(
+pub fn write_counted<W: Write + Drop>(
     altered: usize,
     rows: &[ViewChange],
     output: &mut Output<W>,
-) -> Result<Status, ConsoleError>
+) -> Result<(), ConsoleError>
     requires order { AreInOrder rows.now }
-    ensures text { IfOk result (Says W.contents output.old output.new (meaning.counts_shown altered rows.now)) }
+    ensures text { OnOk result (Prints W.contents output.old output.new (meaning.counted_text altered rows.now)) }
     ensures works { OnOk result (has_failed output.new ≡ has_failed output.old) }
-    ensures handed_on { OnOk result (IsHandedOn output.new) }
     ensures fault { IfErr result (FailedToWrite output.new) }
 {
     output.changed(altered)?;
-    write_counts(rows, output)?;
-    output.flush()?;
-    Ok(Status::Done)
+    write_counts(rows, output)
 }
 
 /// Writes a line for each image that has rows. The rows of an image stand together.

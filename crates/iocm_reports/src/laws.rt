@@ -10,7 +10,7 @@ ghost use Rattle.iocm_reports.specs.Laws.{
   RowsLeadToTheTable,
   RowsStandInOrder,
 };
-ghost use Rattle.iocm_reports.specs.Examples.{CountsOfTwoImages, LinesOfRows, RemarksOnPairs};
+ghost use Rattle.iocm_reports.specs.Examples.{CountsOfTwoImages, LinesOfRows, RemarkOfALive, RemarksOnPairs};
 
 /// There is a row for each subchannel of the effect, in order. The table before, without the rows
 /// behind `-` and with those behind `+`, is the table after. The other way round it is the one
@@ -45,4 +45,10 @@ pub fn lines_are_as_worked()
     ensures rows { LinesOfRows }
     ensures counts { CountsOfTwoImages }
     ensures remarks { RemarksOnPairs }
+{}
+
+/// The remark of a subchannel that is enabled, with a parameter and a status pending, is as it is
+/// stated by hand.
+pub fn remark_of_a_subchannel_is_as_worked()
+    ensures { RemarkOfALive }
 {}

@@ -1,28 +1,37 @@
-//! What `apply` reports of a change: what it altered, who loses what, and the deck afterwards.
+//! What `apply` reports of a change: what it altered, who loses what, the deck afterwards, and how to
+//! take it back.
 //!
 //! `count_altered` says how many subchannels a change altered. `altered_rows` lists them in order,
-//! each with what was seen there before the change and what is seen there after it.
-//! `print_altered` prints them as lines behind `-` and `+`, `print_counts` how many of each image
-//! are gone, came, changed and are the same; both take any rows in order, so some may be left out
-//! between. `deck_text` gives the
-//! canonical deck of a configuration, and in comments what the deck doesn't say of online paths.
+//! each with what was seen there before the change and what is seen there after it. `write_altered`
+//! writes them as lines behind `-` and `+`, `write_counted` how many of each image are gone, came,
+//! changed and are the same; both take any rows in order, so some may be left out between.
+//! `deck_text` gives the canonical deck of a configuration, and in comments what the deck doesn't say
+//! of online paths; `way_back` the change deck of the tree that takes a change back.
 //!
 //! What the layer above may rely on: each of them is exactly what `specs/` says, and the two that
-//! print take no memory. Begin with `specs/Altered.antt` and `altered.rt`; then `specs/Lines.antt`,
-//! `specs/Counts.antt` and `specs/Deck.antt`, each with the file of its name. What names no source
-//! is our own.
+//! write take no memory. Begin with `specs/Altered.antt` and `altered.rt`; then `specs/Lines.antt`,
+//! `specs/Counts.antt`, `specs/Deck.antt` and `specs/WayBack.antt`, each with the file of its name.
+//! What names no source is our own.
 #![tactic(auto)]
 
 mod altered;
+mod back;
 mod counts;
 mod deck;
 mod first;
 mod image_order;
 mod laws;
 mod lines;
+mod remarks;
+mod report;
 
 pub use altered::{altered_rows, count_altered};
-pub use counts::{Counts, print_counts};
+pub use back::way_back;
+pub use counts::{Counts, write_counted};
 pub use deck::deck_text;
-pub use laws::{counts_sum_up, lines_are_as_worked, only_a_deck_says_all, rows_lead_to_the_table};
-pub use lines::print_altered;
+pub use laws::{
+    counts_sum_up, lines_are_as_worked, only_a_deck_says_all, remark_of_a_subchannel_is_as_worked,
+    rows_lead_to_the_table,
+};
+pub use lines::write_altered;
+pub use report::Report;

@@ -1,10 +1,9 @@
-ghost use Rattle.std.specs.Prelude.{◌≡◌, Some, IfOk, OnOk, IfErr};
+ghost use Rattle.std.specs.Prelude.{◌≡◌, Some, OnOk, IfErr};
 ghost use Rattle.std.specs.List.{flat_map};
-ghost use Rattle.iocm_console.specs.Opening.{Says};
-ghost use Rattle.iocm_console.specs.Output.{has_failed, FailedToWrite, IsHandedOn, Prints};
-ghost use Rattle.iocm_reports.specs.Lines.{altered_shown, lines_by, row_lines, signed_line};
+ghost use Rattle.iocm_console.specs.Output.{has_failed, FailedToWrite, Prints};
+ghost use Rattle.iocm_reports.specs.Lines.{altered_text, lines_by, row_lines, signed_line};
 
-use iocm_console::{ConsoleError, Line, Output, Status, put_line};
+use iocm_console::{ConsoleError, Line, Output, put_line};
 use iocm_seats::ViewChange;
 use iocm_types::{SubId, View};
 use std::fmt;
@@ -13,24 +12,21 @@ use std::io::Write;
 /// The heading of the table, two places to the right, with its end.
 const HEADING: &[u8] = b"  CSS IM SET SUBC DEVN PIM PAM CHPIDS\n";
 
-/// Prints that a change was made and how many subchannels it altered, and under the heading the
+/// Writes that a change was made and how many subchannels it altered, and under the heading the
 /// lines of rows: behind `-` what was seen, behind `+` what is seen now, behind `=` what is the
 /// same. Can't run out of memory.
-pub fn print_altered<W: Write + Drop>(
+pub fn write_altered<W: Write + Drop>(
     altered: usize,
     rows: &[ViewChange],
     output: &mut Output<W>,
-) -> Result<Status, ConsoleError>
-    ensures text { IfOk result (Says W.contents output.old output.new (altered_shown altered rows.now)) }
+) -> Result<(), ConsoleError>
+    ensures text { OnOk result (Prints W.contents output.old output.new (altered_text altered rows.now)) }
     ensures works { OnOk result (has_failed output.new ≡ has_failed output.old) }
-    ensures handed_on { OnOk result (IsHandedOn output.new) }
     ensures fault { IfErr result (FailedToWrite output.new) }
 {
     output.changed(altered)?;
     output.bytes(HEADING)?;
-    write_rows(rows, output)?;
-    output.flush()?;
-    Ok(Status::Done)
+    write_rows(rows, output)
 }
 
 /// Writes the lines of rows.

@@ -4,6 +4,5 @@ mod Cutting
 mod Fitting
 mod Keeping
 mod OperandsAgain
-mod Refusing
 mod Rows
 mod Splitting

@@ -3,12 +3,12 @@
 //! A script has the lines of a deck. In a `Line` an actor says something: two threads of images
 //! give orders and tell what devices do, two threads of operators change the machine. A line `sync`
 //! ends a round. `Script` has the rounds, and each has its lines in the order of the text.
-//! `read_script` reads one from a device, `script_of` from lines that were read.
+//! `read_script` reads one from its bytes.
 //!
 //! The layer above may rely on this: the answer is exactly the script that the definition
-//! `script_of` finds in the lines, or their first fault. No round has more lines of operators than
+//! `script_in` finds in the bytes, or their first fault. No round has more lines of operators than
 //! their queue has room for. An image never says what an operator does, nor the other way round.
-//! Only lack of memory, and L5 of a device that can't be read to its end, may come instead.
+//! Only lack of memory may come instead.
 //!
 //! Begin with `specs/Verbs.antt`, the table of commands, and `specs/Commands.antt`; then
 //! `specs/Lines.antt` and `specs/Scripts.antt`. What names no source is our own.
@@ -30,6 +30,6 @@ pub use laws::{
     what_is_written_is_read_again,
 };
 pub use line::Line;
-pub use reading::{read_script, script_of};
+pub use reading::read_script;
 pub use said::{ImageCommand, ImageThread, OperatorCommand, OperatorThread, Said};
 pub use script::Script;

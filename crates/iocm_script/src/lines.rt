@@ -53,7 +53,7 @@ fn sync(word: &[u8]) -> Option<Spoken>
 }
 
 /// What a card of a script is, if it is one of a script.
-fn spoken_on(alloc: Global, card: &Card) -> Result<Option<Spoken>, AllocError>
+fn spoken_on<'a>(alloc: Global, card: &Card<'a>) -> Result<Option<Spoken>, AllocError>
     ensures { IfOk result (λ spoken. spoken ≡ meaning.spoken_on card.now) }
 {
     let bytes = card.bytes.as_slice();
@@ -108,11 +108,11 @@ fn is_too_many(operators: usize, spoken: &Spoken) -> bool
 
 /// What a card is, or its first fault of K1, K2 and K3. `operators` counts the lines of operators
 /// in its round: those before the card, and then this one too if it is one.
-fn read_card(
+fn read_card<'a>(
     alloc: Global,
     changes: u64,
     operators: &mut usize,
-    card: &Card,
+    card: &Card<'a>,
 ) -> Result<Spoken, Fault>
     requires { operators.old + 1 < 2 ^ 64 }
     ensures spoken { Gives (λ s. s) result (meaning.spoken_at changes operators.old card.now) }
@@ -163,10 +163,10 @@ fn operators_after(operators: usize, spoken: &Spoken) -> usize
 
 /// What each card of a script is, or the first fault.
 #[tactic(auto, using(iocm_types::proofs::Each::each_done))]
-pub(crate) fn read_cards_of_script(
+pub(crate) fn read_cards_of_script<'a>(
     alloc: Global,
     changes: u64,
-    cards: &[Card],
+    cards: &[Card<'a>],
 ) -> Result<Vec<Spoken>, Fault>
     ensures { Gives (λ v. v.items) result (meaning.lines_of changes cards.now) }
 {

@@ -106,7 +106,7 @@ length-with_edit : (xs : List Carried) (e : Carried) → length (with_edit xs e)
 length-with_edit [] e = refl
 length-with_edit (x ∷ xs) e = length-if (comes_before e x) e x xs (with_edit xs e) (length-with_edit xs e)
 
-length-ordered : (done edits : List Carried) → length (fold with_edit done edits) ≡ length done + length edits
+pub length-ordered : (done edits : List Carried) → length (fold with_edit done edits) ≡ length done + length edits
 length-ordered done [] = omega arith
 length-ordered done (e ∷ edits) = omega (arith, length-ordered (with_edit done e) edits, length-with_edit done e)
 

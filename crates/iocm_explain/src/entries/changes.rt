@@ -188,9 +188,6 @@ System action. The change deck was read up to that line, and nothing was changed
 Response. Divide the change deck into several, each with at most 4,096 records. Activate them
 one after the other. What must be done as one change can't have more.
 
-In the default heap there is no room for so many edits. The example is read with one of eight
-million bytes, apply --heap 8388608:
-
     DELETE   IODEVICE ADDRESS=(1000,4096)
     DELETE   IODEVICE ADDRESS=2000
 refused C2 line 2";

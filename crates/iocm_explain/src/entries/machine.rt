@@ -121,20 +121,20 @@ refused K3 line 15";
 pub const M1_TITLE: &str = "not enough storage";
 
 pub const M1_TEXT: &str =
-    "Explanation. There was not enough storage. Either the heap in which a change deck is read is too
-small: it has 262,144 bytes, or as many as --heap says. Or the process met a limit of its own, or
-of the system. M1 has no line and no node. In a script activate, begin, undo and redo may be
-answered so, after the number of their line. It never comes in place of O1, C1, C2 or J1, nor if a
-redo is refused.
+    "Explanation. There was not enough storage: the process met a limit of its own, or of the system.
+Or a change deck is read in a heap of the size that --heap says, and that is too small. Without
+--heap the heap has 262,144 bytes. If they aren't enough, the change deck is read anew in one of
+twice the size, up to 16,777,216. M1 has no line and no node. In a script activate, begin,
+undo and redo may be answered so, after the number of their line. It never comes in place of O1,
+C1, C2 or J1, nor if a redo is refused.
 
 System action. What the call had begun was taken back, and it changed nothing. A script goes on
 after an answer M1. If iocm run prints refused M1 and nothing else, the script wasn't run to its
 end. Nothing of a table is printed.
 
-Response. With apply and run, first give the change deck a larger heap, at most
---heap 16777216. With --heap 8388608 it has room for 4,096 edits, and by default for some 128.
-If that changes nothing, give the process more storage: look at ulimit -v, and at the limit of its
-container or job. Or divide the change deck into several.
+Response. If you gave --heap, leave it out: then 4,096 edits have room. Or give a larger one,
+as --heap 8388608, which is enough for them. Else give the process more storage: look at
+ulimit -v, and at the limit of its container or job. Or divide the change deck into several.
 
 In a heap of sixteen bytes:
 

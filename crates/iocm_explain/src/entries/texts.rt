@@ -84,8 +84,11 @@ pub const L5_TEXT: &str =
     "Explanation. The program printed fault L5 on standard error. A file of the command line
 couldn't be opened: it isn't there, or may not be read. Or a read failed, as it does of a folder. Or
 the file didn't end within 1,048,576 reads. Without --quiet the next line on standard error names
-the file, or standard input. A named pipe isn't named, nor is a terminal that is given by its name:
-such a text can be read only once.
+the file, or standard input.
+
+All files are opened before the first is read. Then the deck is read and checked, and after it the
+others are read. So the refusal of a deck comes before another file that can't be read, but after
+one that can't be opened.
 
 System action. Nothing was printed on standard output, and the exit status is 3.
 
@@ -96,13 +99,15 @@ pub const L6_TITLE: &str = "the output can't be written";
 
 pub const L6_TEXT: &str =
     "Explanation. The program printed fault L6 on standard error. A write to standard output
-failed: the disk is full, or the program that read from a pipe has ended.
+failed, often because the disk is full. If the program that read from a pipe has ended, as head
+does early, nothing is printed on standard error.
 
 System action. The program stopped at once, with exit status 3. What was written before may end
 within a line. If a limit of file sizes (ulimit -f) is reached, the system itself ends the program
 by a signal, without this line.
 
-Response. Make room, or look why the reader of the pipe ended. Run the command again.";
+Response. Make room, and run the command again. If the exit status is 3 and nothing was said,
+look why the reader of the pipe ended.";
 
 pub const S1_TITLE: &str = "an operation isn't known here";
 

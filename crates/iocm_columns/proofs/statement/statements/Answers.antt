@@ -1,11 +1,12 @@
-use Rattle.std.proofs.Common.{◌≡◌, ◌++◌, length, map, ap, sym, ◌∙◌, append-nil}
-use Rattle.iocm_columns.specs.Statements.{statement_of}
-use Rattle.iocm_columns.proofs.Grouping.{groups_of_none}
+use Rattle.std.proofs.Common.{inr, ap}
+use Rattle.iocm_columns.specs.Statements.{unless_fault}
+use Rattle.iocm_columns.proofs.Grouping.{fault_here}
 use Rattle.iocm_columns.proofs.statement.statements.Goals as goal
 
-pub returns : goal.returns
-returns c =
-    let none : length c.loop-first.rest.now ≡ 0 = c.in_default.ensures.cases in
-    let done = c.loop-first.statements.items in
-    sym (append-nil done) ∙ ap (λ gs. done ++ map statement_of gs) (sym (groups_of_none c.loop-first.rest.now none))
-    ∙ c.loop-first.invariant
+pub returns-in-Some : goal.returns-in-Some
+returns-in-Some c =
+    let rows = c.args.rows.now in
+    inr (ap (λ fault. unless_fault fault rows)
+    (fault_here rows c.loop-place.place c.index-rows-place.result c.split_at.result.1.now c.in-Some.fault
+    c.loop-place-test.true c.index-rows-place.is c.split_at.ensures.back c.in-Some.ensures
+    c.loop-place.invariant.faults))

@@ -1,14 +1,24 @@
-use Rattle.std.proofs.Common.{◌∙◌, Option, ap}
-use Rattle.clap.specs.Words.{Text}
+use Rattle.std.proofs.Common.{◌∙◌, Option, Some, ℕ, ap, codes, sym}
+use Rattle.clap.specs.Words.{found_of}
+use Rattle.clap.proofs.WalkLemmas.{first_value-rows}
 use Rattle.iocm_values.specs.Reading.{◌>>=◌}
-use Rattle.iocm_command.specs.CommandLine.{size_of}
+use Rattle.iocm_command.specs.CommandLine.{heap_by}
 use Rattle.iocm_command.proofs.Reading.{size_given, size_missing}
 use Rattle.iocm_command.proofs.matches.heap_in.Goals as goal
 
-pub returns-in-Some : goal.returns-in-Some
-returns-in-Some c = ap (λ (o : Option Text). o >>= size_of) c.in_ok-value_of.ensures
-    ∙ size_given c.in_ok-value_of.field-0.now c.in-Some.size c.in-Some.ensures.some
+abbrev given : Option ℕ → Option (Option ℕ)
+given size = size >>= λ n. Some (Some n)
+
+pub returns-in_default : goal.returns-in_default
+returns-in_default c =
+    sym (ap heap_by (c.in_default.ensures ∙ first_value-rows (found_of c.args.found.now) (codes "heap")))
+
+pub returns-in-Some-heap_size : goal.returns-in-Some-heap_size
+returns-in-Some-heap_size c =
+    sym (ap heap_by (c.in-Some.ensures ∙ first_value-rows (found_of c.args.found.now) (codes "heap")))
+    ∙ ap given (size_given c.in-Some.text.now c.in-Some-heap_size.size c.in-Some-heap_size.ensures.some)
 
 pub returns-in-None : goal.returns-in-None
-returns-in-None c = ap (λ (o : Option Text). o >>= size_of) c.in_ok-value_of.ensures
-    ∙ size_missing c.in_ok-value_of.field-0.now c.in-None.ensures.only
+returns-in-None c =
+    sym (ap heap_by (c.in-Some.ensures ∙ first_value-rows (found_of c.args.found.now) (codes "heap")))
+    ∙ ap given (size_missing c.in-Some.text.now c.in-None.ensures.only)

@@ -1,5 +1,5 @@
 use Rattle.std.proofs.Common.{Option, subst}
-use Rattle.iocm_apply.specs.declared.report.Report.{Report}
+use Rattle.iocm_reports.specs.declared.report.Report.{Report}
 use Rattle.iocm_statements.specs.Unread.{Reads}
 use Rattle.iocm_command.specs.CommandLine.{report_of}
 use Rattle.iocm_command.proofs.matches.report_in.Goals as goal

@@ -8,7 +8,7 @@ use Rattle.iocm_console.specs.Lines.{celled}
 use Rattle.iocm_console.proofs.cells.listed_cells.Goals as goal
 
 pub loop-row-preserved : goal.loop-row-preserved
-loop-row-preserved g c = let old = c.loop-row.cells.items in let more = c.compared.result in record {
+loop-row-preserved c = let old = c.loop-row.cells.items in let more = c.compared.result in record {
   cells = ap celled c.in_ok-push.ensures.items
       ∙ map-append (λ (e : CellDevice). (e.cell, e.device)) old (more ∷ [])
       ∙ (λ i. c.loop-row.invariant.cells i ++ (c.compared.ensures.cell i, c.compared.ensures.device i) ∷ [])

@@ -7,7 +7,7 @@ use Rattle.iocm_console.specs.Lines.{celled}
 use Rattle.iocm_console.proofs.cells.listed_cells.Given as goal
 
 abbrev pub invariant-loop-row : goal.invariant-loop-row
-invariant-loop-row g l = record {
+invariant-loop-row l = record {
   cells : celled l.cells.items ≡ take l.row-index l.taken;
   alike : All (IsAlike (lookup_of l.config.records)) l.cells.items;
   there : IsThere l.last;

@@ -2,7 +2,7 @@
 use Rattle.std.proofs.Common.{take, ◌≡◌}
 use Rattle.iocm_model.specs.Machine.Configuration.{lookup_of}
 use Rattle.iocm_console.specs.Lines.{celled}
-use Rattle.iocm_console.specs.Sifted.{sifted_lines}
+use Rattle.iocm_console.specs.Table.{sifted_lines}
 use Rattle.iocm_console.specs.Output.{has_failed, Prints}
 use Rattle.iocm_console.proofs.sifted.write_sifted_cells.Given as goal
 

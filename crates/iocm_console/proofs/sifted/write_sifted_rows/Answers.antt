@@ -7,7 +7,7 @@ use Rattle.iocm_model.specs.Machine.Record.{Rec}
 use Rattle.iocm_model.specs.Machine.Configuration.{lookup_of}
 use Rattle.iocm_console.specs.Lines.{celled}
 use Rattle.iocm_console.specs.Output.{Prints}
-use Rattle.iocm_console.specs.Sifted.{sifted_record_lines}
+use Rattle.iocm_console.specs.Table.{sifted_record_lines}
 use Rattle.iocm_console.proofs.Printing.{appends_as, appends_nothing, appends_then}
 use Rattle.iocm_console.proofs.SiftedRows.{sifted_record_lines_more, sifted_record_lines-nil}
 use Rattle.iocm_console.proofs.sifted.write_sifted_rows.Goals as goal

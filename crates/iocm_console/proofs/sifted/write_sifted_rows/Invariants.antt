@@ -3,7 +3,7 @@ use Rattle.std.proofs.Common.{◌≡◌}
 use Rattle.std.specs.Map.Iter.{deref_pair}
 use Rattle.iocm_model.specs.Machine.Configuration.{lookup_of}
 use Rattle.iocm_console.specs.Lines.{celled}
-use Rattle.iocm_console.specs.Sifted.{sifted_record_lines}
+use Rattle.iocm_console.specs.Table.{sifted_record_lines}
 use Rattle.iocm_console.specs.Output.{has_failed, Prints}
 use Rattle.iocm_console.proofs.Rows.{records_in}
 use Rattle.iocm_console.proofs.sifted.write_sifted_rows.Given as goal

@@ -1,25 +1,19 @@
-use Rattle.std.proofs.Common.{List, ℕ, ap}
-use Rattle.iocm_model.specs.Machine.Numbering.{opening}
-use Rattle.iocm_console.specs.declared.status.Status.TheVariants.{Done}
-use Rattle.iocm_console.specs.Opening.{Shown}
-use Rattle.iocm_console.specs.Show.{table_at, table_done}
-use Rattle.iocm_console.proofs.Rows.{table_of_cells}
-use Rattle.iocm_console.proofs.Showing.{says_as, says_memory}
+-- The heading, and then the rows.
+use Rattle.std.proofs.Common.{◌≡◌, None, Some, sym, ap}
+use Rattle.iocm_console.specs.Table.{text_by}
+use Rattle.iocm_console.proofs.Printing.{appends_on_ok, on_ok_as}
 use Rattle.iocm_console.proofs.table.write_table.Goals as goal
 
-abbrev shows : List ℕ → Shown
-shows text = record { text = text; status = Done }
+pub returns-in-None-clause-text : goal.returns-in-None-clause-text
+returns-in-None-clause-text g c =
+    let rows = rw (c.config.ensures, c.as_slice.ensures.cells) at c.write_rows.ensures.text in
+    let is : c.args.table.now.sieve ≡ None = let e = c.in-None.is in cc in
+    on_ok_as _ _ _ _ c.write_rows.result (ap (λ s. text_by s c.args.table.now.cells) (sym is))
+    (appends_on_ok _ _ _ _ _ c.write_rows.result c.in_ok-heading.ensures.text rows)
 
-pub returns-in-Ok-clause-text : goal.returns-in-Ok-clause-text
-returns-in-Ok-clause-text g c =
-    let cells = c.in-Ok.cells in
-    says_as g.W.Write.contents c.args.output.now c.write_lines.new.output c.write_lines.result
-    (table_at cells.records cells.cells) (table_done c.args.config.now.records (opening c.args.config.now.records))
-    (ap shows (table_of_cells cells c.args.config.now.records (opening c.args.config.now.records)
-    c.in-Ok.ensures.records c.in-Ok.ensures.cells))
-    c.write_lines.ensures.text
-
-pub returns-in-Err-clause-text : goal.returns-in-Err-clause-text
-returns-in-Err-clause-text g c = says_memory g.W.Write.contents c.args.output.now c.refuse.new.output c.refuse.result
-    c.from.result
-    (table_done c.args.config.now.records (opening c.args.config.now.records)) c.from.ensures c.refuse.ensures.text
+pub returns-in-Some-clause-text : goal.returns-in-Some-clause-text
+returns-in-Some-clause-text g c =
+    let rows = rw (c.config-in-Some.ensures, c.as_slice-in-Some.ensures.cells) at c.write_sifted_rows.ensures.text in
+    let is : c.args.table.now.sieve ≡ Some c.in-Some.sieve = let e = c.in-Some.is in cc in
+    on_ok_as _ _ _ _ c.write_sifted_rows.result (ap (λ s. text_by s c.args.table.now.cells) (sym is))
+    (appends_on_ok _ _ _ _ _ c.write_sifted_rows.result c.in_ok-heading.ensures.text rows)

@@ -1,5 +1,5 @@
 use Rattle.std.proofs.Common.{refl}
-use Rattle.iocm_console.proofs.Showing.{appends_kept}
+use Rattle.iocm_console.proofs.Printing.{appends_kept}
 use Rattle.iocm_explain.proofs.Words.{printed_answers, unknown_answers}
 use Rattle.iocm_explain.proofs.printing.explain.Goals as goal
 

@@ -1,0 +1,8 @@
+mod Again
+mod BeginsAs
+pub mod ChangesRead
+pub mod Opened
+pub mod RunTexts
+pub mod SiftedRows
+pub mod Told
+pub mod WorkedRows

@@ -1,0 +1,18 @@
+-- The refusal of a change that is due.
+use Rattle.std.proofs.Common.{◌≡◌, ◌⊎◌, Ok, Err, inl, inr, sym, ap}
+use Rattle.iocm_types.specs.declared.refused.Refused.{Refused}
+use Rattle.iocm_model.specs.Change.Meaning.{Outcome}
+use Rattle.iocm_model.specs.Operation.State.{State}
+use Rattle.iocm_plant.specs.Refusing.{IsDue}
+use Rattle.iocm_activate.specs.Done.{refusal_in}
+use Rattle.iocm_console.specs.Refusal.{no_memory, of_change}
+use Rattle.iocm_console.specs.Shown.{refused}
+use Rattle.iocm_answer.specs.Apply.{made}
+use Rattle.iocm_answer.specs.Asked.{Question}
+
+-- the refusal of a change that is due, or lack of memory
+pub due_made : (asked : Question) (s : State) (o : Outcome) (why : Refused) → IsDue (refusal_in o) why
+    → (refused (of_change why) ≡ made asked s o) ⊎ (of_change why ≡ no_memory)
+due_made asked s o why (inr none) = inr (ap of_change none)
+due_made asked s (Ok r) why (inl due) = cc
+due_made asked s (Err e) why (inl due) = let same : e ≡ why = cc in inl (ap (λ w. refused (of_change w)) (sym same))

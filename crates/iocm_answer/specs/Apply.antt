@@ -1,0 +1,80 @@
+-- What `apply` prints of a deck and a change deck.
+use Rattle.std.specs.Prelude.{ℕ, Bool, false, ◌||◌, List, ◌++◌, filter, Option, Some, Result, Ok, Err}
+use Rattle.std.specs.FinMap.{len}
+use Rattle.std.specs.Option.{option_map_or}
+use Rattle.iocm_types.specs.declared.sub_id.SubId.{SubId}
+use Rattle.iocm_types.specs.declared.view.View.{View}
+use Rattle.iocm_model.specs.Machine.Configuration.{Configuration}
+use Rattle.iocm_model.specs.Operation.State.{State, opening_state}
+use Rattle.iocm_model.specs.Change.Edit.{Edit}
+use Rattle.iocm_model.specs.Change.InverseTree.{inverse_tree}
+use Rattle.iocm_model.specs.Change.Meaning.{Outcome, meaning}
+use Rattle.iocm_model.specs.Change.Runs.{effect_of}
+use Rattle.iocm_filter.specs.Wanted.{Wanted, asks_nothing, wanted}
+use Rattle.iocm_seats.specs.declared.view_change.ViewChange.{ViewChange}
+use Rattle.iocm_tree.specs.Trees.{plain_tree}
+use Rattle.iocm_console.specs.Counted.{changed_line}
+use Rattle.iocm_console.specs.declared.refusal.Refusal.{Refusal}
+use Rattle.iocm_console.specs.Opening.{opened_deck}
+use Rattle.iocm_console.specs.Refusal.{of_change, or_refused, ◌>>-◌}
+use Rattle.iocm_console.specs.Shown.{Shown, done, refused, shown_or_refused}
+use Rattle.iocm_console.specs.Table.{wanted_table}
+use Rattle.iocm_reports.specs.Altered.{altered_rows}
+use Rattle.iocm_reports.specs.Counts.{counted_text}
+use Rattle.iocm_reports.specs.Deck.{deck_text}
+use Rattle.iocm_reports.specs.declared.report.Report.{Report}
+use Rattle.iocm_reports.specs.declared.report.Report.TheVariants.{Table, WayBack, Altered, Count, Deck, Test}
+use Rattle.iocm_reports.specs.Lines.{altered_text}
+use Rattle.iocm_reports.specs.WayBack.{way_back_text}
+use Rattle.iocm_answer.specs.Asked.{Question}
+use Rattle.iocm_tree_writer.specs.Again.{tree_in}
+use Rattle.iocm_answer.specs.Rows.{AlteredRows}
+
+-- the machine of a deck as it is opened, or why the deck is refused
+abbrev pub opened_machine : List ℕ → Result State Refusal
+opened_machine deck = opened_deck deck >>- λ c. Ok (opening_state c)
+
+-- how many subchannels edits altered
+abbrev pub count_altered : List Edit → State → ℕ
+count_altered es s = len (effect_of es s).lives
+
+-- a subchannel with what is seen there, if something is, is wanted in a configuration
+abbrev pub is_side_wanted : Wanted → Configuration → SubId → Option View → Bool
+is_side_wanted w c x v = option_map_or (λ view. wanted w c (x, view)) v false
+
+-- an altered subchannel is wanted as it was before, or as it is afterwards; where nothing is asked for,
+-- each is
+abbrev pub is_row_wanted : Wanted → Configuration → Configuration → ViewChange → Bool
+is_row_wanted w before after r = asks_nothing w
+    || (is_side_wanted w before r.subchannel r.before || is_side_wanted w after r.subchannel r.after)
+
+-- of the subchannels that edits altered those that are wanted, each before and afterwards
+abbrev pub wanted_rows : Wanted → List Edit → State → State → List ViewChange
+wanted_rows w es s t = filter (is_row_wanted w s.config t.config) (altered_rows es s t)
+
+-- and how many they altered
+abbrev pub altered_asked_for : Wanted → List Edit → State → State → AlteredRows
+altered_asked_for w es s t = record { altered = count_altered es s; rows = wanted_rows w es s t }
+
+-- a report of edits from one state to another
+abbrev pub reported : Report → Wanted → List Edit → State → State → List ℕ
+reported Table w es s t = changed_line (count_altered es s) ++ wanted_table w t.config t.numbers
+reported WayBack w es s t = way_back_text (inverse_tree es s)
+reported Altered w es s t = altered_text (count_altered es s) (wanted_rows w es s t)
+reported Count w es s t = counted_text (count_altered es s) (wanted_rows w es s t)
+reported Deck w es s t = deck_text t.config
+reported Test w es s t = changed_line (count_altered es s)
+
+-- what is printed of what a change tree means in a state: the report of the edits that were
+-- performed, or the refusal
+abbrev pub made : Question → State → Outcome → Shown
+made asked s (Ok r) = done (reported asked.report asked.wanted r.edits s r.state)
+made asked s (Err why) = refused (of_change why)
+
+-- what is printed of the bytes of a change deck, tried in a state: a fault of the text comes first
+abbrev pub tried : Question → State → List ℕ → Shown
+tried asked s change = shown_or_refused (λ t. made asked s (meaning (plain_tree t) s)) (or_refused (tree_in change))
+
+-- what is printed of the bytes of a deck and of a change deck: the deck's refusal comes first
+abbrev pub applied : Question → List ℕ → List ℕ → Shown
+applied asked deck change = shown_or_refused (λ s. tried asked s change) (opened_machine deck)

@@ -1,0 +1,17 @@
+pub mod Answer
+pub mod AnswerText
+pub mod Apply
+pub mod Asked
+pub mod Census
+pub mod Change
+pub mod Check
+pub mod Diff
+pub mod Examples
+pub mod Making
+pub mod Rows
+pub mod Run
+pub mod Show
+pub mod Sides
+pub mod Whole
+pub mod Worked
+pub mod Write

@@ -1,0 +1,51 @@
+use crate::altered::Altered;
+use crate::census::Census;
+use iocm_console::Table;
+use iocm_operation::Answered;
+use iocm_rules::Breach;
+
+/// What a command gives, if it isn't refused: all that it takes to print it, so that printing needs
+/// no memory.
+#[derive(Drop)]
+pub enum Answer<'f> {
+    /// A deck is accepted; it has so many records.
+    Accepted(Census),
+    /// The breaches of the rules, of which there is one at least.
+    Breaches(Vec<Breach>),
+    /// A table of subchannels.
+    Table(Table<'f>),
+    /// A deck, or a change deck.
+    Text(Vec<u8>),
+    /// The change deck of a difference.
+    Difference(Difference),
+    /// How many subchannels a change altered, and the table afterwards.
+    Changed(usize, Table<'f>),
+    /// How many subchannels a change altered, and those that are asked for, before and afterwards.
+    Altered(Altered),
+    /// How many subchannels a change altered, and of those that are asked for how many of each image.
+    Counted(Altered),
+    /// How many subchannels a change altered, and nothing else.
+    Tried(usize),
+    /// What came of a script.
+    Ran(Ran<'f>),
+}
+
+/// A change deck that leads from one deck to another.
+#[derive(Drop)]
+pub struct Difference {
+    /// Its bytes.
+    pub text: Vec<u8>,
+    /// How many edits it has.
+    pub edits: usize,
+}
+
+/// What came of a script.
+#[derive(Drop)]
+pub struct Ran<'f> {
+    /// The answer to each line, in the order of the lines.
+    pub answers: Vec<Answered>,
+    /// How many calls were made.
+    pub calls: usize,
+    /// The table of the machine that is left.
+    pub table: Table<'f>,
+}

@@ -1,0 +1,103 @@
+ghost use Rattle.std.specs.Prelude.{◌≡◌, IfOk, List};
+ghost use Rattle.iocm_console.specs.Refusal.{Decides};
+ghost use Rattle.iocm_filter.specs.Sieves.{IsSieveFor};
+ghost use Rattle.iocm_model.specs.Change.Edit as edit;
+ghost use Rattle.iocm_model.specs.Change.Meaning.{meaning};
+ghost use Rattle.iocm_model.specs.Laws.Trees.{KeepsTheRules};
+ghost use Rattle.iocm_model.specs.Operation.State.{State};
+ghost use Rattle.iocm_tree.specs.Trees.{plain_tree, tree_of};
+ghost use Rattle.iocm_answer.specs.Answer.{shown, Shows};
+ghost use Rattle.iocm_answer.specs.Apply as applying;
+ghost use Rattle.iocm_answer.specs.Making.{IsMadeBy};
+ghost use Rattle.iocm_console.specs.Shown.{done};
+
+use crate::change::read_change;
+use crate::{Altered, Answer, Asked};
+use iocm_activate::{Made, make};
+use iocm_console::{Refusal, Table, read_config};
+use iocm_filter::Sieve;
+use iocm_plant::Plant;
+use iocm_reports::{Report, count_altered, deck_text, way_back};
+use iocm_tree::Tree;
+use std::alloc::{AllocError, Global};
+
+/// The machine of a deck as it is opened, or why the deck is refused: its first fault, or else the
+/// first rule that it breaks. M1: memory ran out.
+pub fn open_machine(alloc: Global, deck: &[u8]) -> Result<Plant, Refusal>
+    ensures state { Decides (λ p. p.state) result (applying.opened_machine deck.now) }
+    ensures rules { IfOk result (λ p. KeepsTheRules p.state) }
+{
+    let config = read_config(alloc, deck)?;
+    match Plant::open(alloc, config) {
+        Ok(plant) => Ok(plant),
+        Err(unopened) => Err(Refusal::from(unopened.why)),
+    }
+}
+
+/// `apply`: what a change deck does to a machine, by the report that is asked for; or the change
+/// deck's first fault, or the refusal of the change. The change tree is read in a heap as
+/// `read_change` says.
+///
+/// M1: memory ran out.
+///
+/// Promise: `apply` prints just the report of what the change means, or one refusal.
+pub fn apply<'f>(
+    alloc: Global,
+    heap: Option<u32>,
+    asked: &Asked<'f>,
+    plant: Plant,
+    change: &[u8],
+) -> Result<Answer<'f>, Refusal>
+    requires rules { KeepsTheRules plant.state }
+    ensures { Shows result (applying.tried asked.now plant.state change.now) }
+{
+    let tree = read_change(alloc, heap, change)?;
+    make_change(alloc, asked, plant, &tree)
+}
+
+/// What a change tree does to a machine, by the report that is asked for, or its refusal.
+fn make_change<'f>(
+    alloc: Global,
+    asked: &Asked<'f>,
+    plant: Plant,
+    tree: &Tree,
+) -> Result<Answer<'f>, Refusal>
+    requires rules { KeepsTheRules plant.state }
+    ensures { Shows result
+        (applying.made asked.now plant.state (meaning (plain_tree (tree_of tree.now)) plant.state)) }
+{
+    let before = Sieve::new(alloc, asked.filters, plant.config())?;
+    let mut plant = plant;
+    let made = make(alloc, &mut plant, tree)?;
+    Ok(report(alloc, asked, &before, &made, plant)?)
+}
+
+/// The report that is asked for, of a change that was made, with the sieve of the configuration
+/// before it.
+///
+/// `AllocError` (M1): memory ran out.
+fn report<'f>(
+    alloc: Global,
+    asked: &Asked<'f>,
+    before: &Sieve<'_>,
+    made: &Made,
+    plant: Plant,
+) -> Result<Answer<'f>, AllocError>
+    ensures { (es : List edit.Edit) (s : State) → IsSieveFor asked.now.wanted s.config before.now
+        → IsMadeBy made.now es s → IfOk result (λ a. shown a
+        ≡ done (applying.reported asked.now.report asked.now.wanted es s plant.state)) }
+{
+    let performed = made.performed.as_slice();
+    match asked.report {
+        Report::Table => {
+            let altered = count_altered(alloc, performed)?;
+            let table = Table::in_operation(alloc, plant, asked.filters)?;
+            Ok(Answer::Changed(altered, table))
+        }
+        Report::WayBack => Ok(Answer::Text(way_back(alloc, &made.inverse)?)),
+        Report::Altered => Ok(Answer::Altered(Altered::of(alloc, before, performed, &plant)?)),
+        Report::Count => Ok(Answer::Counted(Altered::of(alloc, before, performed, &plant)?)),
+        Report::Deck => Ok(Answer::Text(deck_text(alloc, plant.config())?)),
+        Report::Test => Ok(Answer::Tried(count_altered(alloc, performed)?)),
+    }
+}

@@ -1,4 +1,0 @@
-pub mod Applying
-pub mod RemarksPut
-pub mod SiftedRows
-pub mod WorkedRows

@@ -1,7 +1,0 @@
-use Rattle.std.proofs.Common.{◌≡◌, ◌++◌, take}
-use Rattle.std.specs.List.{flat_map}
-use Rattle.iocm_apply.specs.Remarks.{number_line}
-use Rattle.iocm_apply.proofs.remarks.put_numbers.Given as goal
-
-abbrev pub invariant-loop-row : goal.invariant-loop-row
-invariant-loop-row l = l.text.items ≡ l.fn.text.items ++ flat_map number_line (take l.row-index l.numbers)

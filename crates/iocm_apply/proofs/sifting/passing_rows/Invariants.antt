@@ -1,7 +1,0 @@
--- The rows so far that pass.
-use Rattle.std.proofs.Common.{◌≡◌, filter, take}
-use Rattle.iocm_apply.specs.Sides.{does_row_pass}
-use Rattle.iocm_apply.proofs.sifting.passing_rows.Given as goal
-
-abbrev pub invariant-loop-row : goal.invariant-loop-row
-invariant-loop-row l = l.found.items ≡ filter (does_row_pass l.before l.after) (take l.row-index l.rows)

@@ -1,5 +1,0 @@
-use Rattle.iocm_console.proofs.BeginsAs.{begins_as_check}
-use Rattle.iocm_console.proofs.laws.all_breaches_begin_with_the_first.Goals as goal
-
-pub returns : goal.returns
-returns c = begins_as_check

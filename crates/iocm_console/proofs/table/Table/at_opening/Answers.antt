@@ -1,0 +1,9 @@
+use Rattle.iocm_model.specs.Machine.Numbering.{opening}
+use Rattle.iocm_console.proofs.Tables.{table_is}
+use Rattle.iocm_console.proofs.table.Table.at_opening.Goals as goal
+
+pub returns : goal.returns
+returns c =
+    table_is c.in_ok-sieve.sieve c.in_ok-cells.cells c.args.config.records (opening c.args.config.records)
+    c.args.filters.now c.in_ok-cells.ensures.records c.in_ok-cells.ensures.cells c.in_ok-sieve.ensures.none
+    c.in_ok-sieve.ensures.some

@@ -1,3 +1,0 @@
-pub mod FirstOfAll
-pub mod Gathering
-mod Worked

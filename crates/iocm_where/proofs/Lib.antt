@@ -1,8 +1,0 @@
-pub mod Brought
-pub mod Counted
-pub mod FirstThatBrings
-pub mod Given
-pub mod Nth
-pub mod OnlyThatBrings
-pub mod PlacedNodes
-pub mod Worked
