@@ -1,6 +1,8 @@
 """What crates.txt lists: `listed(top)`, and what some crates need of it: `needed(top, names)`."""
 import os
 
+CRATES = "crates.txt"
+
 
 def lines_in(text):
     """Each line of a text like crates.txt, by the name that it begins with, in their order there:
@@ -15,7 +17,7 @@ def lines_in(text):
 
 def listed(top):
     """The lines of a tree's crates.txt."""
-    with open(os.path.join(top, "crates.txt"), encoding="utf-8") as file:
+    with open(os.path.join(top, CRATES), encoding="utf-8") as file:
         return lines_in(file.read())
 
 

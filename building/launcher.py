@@ -68,24 +68,21 @@ class Launch:
         print(f"kit      {self.kit.name}")
 
     def start(self, kind, words):
-        """Becomes the program. Of a quick one the version says that it isn't proved."""
+        """Becomes the program. Its version is told with the commit and the kit."""
         if not self.has(kind):
             self.make(kind)
         path = self.programs.path(kind, self.number(kind))
-        if kind == "quick" and words in (["--version"], ["-V"]):
-            return say_version(path)
+        if words in (["--version"], ["-V"]):
+            return self.tell_version(kind, path)
         sys.stdout.flush()
         sys.stderr.flush()
         os.execv(path, ["iocm", *words])
 
+    def tell_version(self, kind, path):
+        from . import version
 
-def say_version(path):
-    """Prints the version of a quick program, and that it isn't proved."""
-    from subprocess import PIPE, run as call
-
-    ran = call([path, "--version"], stdout=PIPE, text=True, check=False)
-    print(f"{ran.stdout.strip()} (not proved here)")
-    return ran.returncode
+        commit = version.commit(self.top, self.sources.patterns(MADE_OF[kind]))
+        return version.tell(path, commit, self.kit.logic(), kind == "proved")
 
 
 def run(top, words):

@@ -8,7 +8,7 @@ import os
 import time
 from binascii import crc32
 
-from .crates_list import needed
+from .crates_list import CRATES, needed
 
 PROGRAM = "iocm"
 CODE, PROOFS = "code", "proofs"
@@ -46,6 +46,12 @@ class Sources:
                 if os.path.isdir(folder):
                     gather(found, folder, ending)
         return sorted(found)
+
+    def patterns(self, of):
+        """Patterns of the names of these files, and of the list of crates; a `*` of git is also for folders."""
+        own = ["building/*.py"] if of == CODE else []
+        parts = [f"crates/{crate}/{part}/*{ending}" for crate in self.crates for part, ending in PARTS[of]]
+        return [CRATES, HANDLES, *own, *parts]
 
     def number(self, of, kept):
         """The number of the code or of the proofs as they are now;

@@ -4,11 +4,13 @@ import os
 import shutil
 import subprocess
 
-from launching.trees import TOP, Tree
+from launching.trees import TOP, Tree, version
+from launching.versions import committed
 
 COPIED = ("install", "man", "docs", "examples")
 PLACES = (
     "bin/iocm",
+    "libexec/iocm/iocm",
     "share/man/man1/iocm.1",
     "share/bash-completion/completions/iocm",
     "share/zsh/site-functions/_iocm",
@@ -50,7 +52,7 @@ class Place(Tree):
 def installs_the_proved_program(place):
     place.run("--prove")
     ran = place.install()
-    assert ran == (0, f"iocm 0.0 is in {place.prefix}\n", ""), ran
+    assert ran == (0, f"{version(is_proved=True)} is in {place.prefix}\n", ""), ran
     assert place.says("show", "a deck") == (4, "built from one, given show a deck\n")
     assert set(PLACES) <= place.files(), set(PLACES) - place.files()
     with open(os.path.join(place.prefix, "share/iocm/sources"), encoding="utf-8") as file:
@@ -72,12 +74,63 @@ def installs_the_quick_program_if_asked(place):
     assert place.install(*words).status == 70 and place.builds() == (0, 0)
     place.run()
     ran = place.install(*words)
-    assert ran[:2] == (0, f"iocm 0.0 (not proved here) is in {place.prefix}\n"), ran
+    assert ran[:2] == (0, f"{version()} is in {place.prefix}\n"), ran
     for word in ("--version", "-V"):
-        assert place.says(word) == (0, "iocm 0.0 (not proved here)\n"), word
+        assert place.says(word) == (0, f"{version()}\n"), word
     assert place.says("show", "a deck") == (4, "built from one, given show a deck\n")
     with open(os.path.join(place.prefix, "share/iocm/sources"), encoding="utf-8") as file:
         assert file.read() == f"{place.number()} unproved\n"
+
+
+def says_the_commit_that_was_installed(place):
+    """Whatever the tree has afterwards."""
+    commit = committed(place.top)
+    place.run("--prove")
+    assert place.install().status == 0
+    place.write("crates/iocm/src/main.rt", "two\n")
+    for word in ("--version", "-V"):
+        assert place.says(word) == (0, f"{version(commit, is_proved=True)}\n"), word
+    place.run()
+    assert place.install("--unproved", "--prefix", place.prefix).status == 0
+    assert place.says("--version") == (0, f"{version(f'{commit}+')}\n")
+
+
+def starts_the_program_itself(place):
+    """With the words as they are, by the process that was called, from any folder and by links."""
+    place.run("--prove")
+    place.install()
+    bin_folder, links = os.path.join(place.prefix, "bin"), os.path.join(place.state, "links")
+    os.mkdir(links)
+    os.symlink(os.path.join(bin_folder, "iocm"), os.path.join(links, "iocm"))
+    os.symlink("iocm", os.path.join(links, "second"))
+    os.symlink(bin_folder, os.path.join(links, "bin"))
+    with open(os.path.join(place.prefix, "libexec/iocm/iocm"), "w", encoding="utf-8") as file:
+        file.write('#!/bin/sh\nprintf "%s\\n" $$ "$@"\nexit 9\n')
+    words = ["show", "a  deck", "", "*", "$HOME", "--version", "-V", "--", "back\\slash"]
+    for program in ("iocm", "second", "bin/iocm"):
+        call = subprocess.Popen([os.path.join(links, program), *words], stdout=subprocess.PIPE, text=True)
+        out = call.communicate()[0]
+        assert (call.returncode, out.splitlines()) == (9, [str(call.pid), *words]), (program, out)
+    for folder, call in ((links, ["iocm"]), (bin_folder, ["iocm"]), (bin_folder, ["sh", "iocm"])):
+        how = {"cwd": folder, "env": {**os.environ, "PATH": f":{os.environ['PATH']}"}}
+        ran = subprocess.run(["env", *call, "show"], capture_output=True, text=True, check=False, **how)
+        assert (ran.returncode, ran.stdout.splitlines()[1:]) == (9, ["show"]), (folder, call, ran)
+
+
+def ends_as_the_program_does(place):
+    """If its version can't be written, if the program fails, and if it isn't there."""
+    place.run("--prove")
+    place.install()
+    program, started = os.path.join(place.prefix, "libexec/iocm/iocm"), os.path.join(place.prefix, "bin/iocm")
+    with open("/dev/full", "w", encoding="utf-8") as full:
+        ran = subprocess.run([started, "-V"], stdout=full, stderr=subprocess.PIPE, text=True, check=False)
+    assert (ran.returncode, ran.stderr) == (3, "fault L6\n"), ran
+    with open(program, "w", encoding="utf-8") as file:
+        file.write("#!/bin/sh\nexit 5\n")
+    assert place.says("--version") == (5, "")
+    os.remove(program)
+    for words in (("--version",), ("show", "a deck")):
+        assert place.says(*words) == (127, ""), words
 
 
 def puts_all_below_a_stage(place):
@@ -91,7 +144,7 @@ def puts_all_below_a_stage(place):
 
 
 def removes_what_it_installed(place):
-    """And no file of others; also what an earlier version or a quick program had left."""
+    """And no file of others; also what an earlier version had left."""
     other = os.path.join(place.prefix, "share/man/man1/other.1")
     os.makedirs(os.path.dirname(other))
     with open(other, "w", encoding="utf-8") as file:
@@ -101,9 +154,9 @@ def removes_what_it_installed(place):
     place.write("docs/OLD.md", "an older page\n")
     place.install("--unproved", "--prefix", place.prefix)
     os.remove(place.path("docs/OLD.md"))
-    assert "share/doc/iocm/OLD.md" in place.files() and "libexec/iocm/iocm" in place.files()
+    assert "share/doc/iocm/OLD.md" in place.files()
     place.install()
-    assert not place.files() & {"share/doc/iocm/OLD.md", "libexec/iocm/iocm"}, place.files()
+    assert "share/doc/iocm/OLD.md" not in place.files(), place.files()
     assert place.install("--uninstall", "--prefix", place.prefix).status == 0
     assert place.files() == {"share/man/man1/other.1"}, place.files()
     assert place.install("--uninstall", "--prefix", place.prefix).status == 1
@@ -126,6 +179,9 @@ TRIALS = (
     installs_the_proved_program,
     installs_no_other_unasked,
     installs_the_quick_program_if_asked,
+    says_the_commit_that_was_installed,
+    starts_the_program_itself,
+    ends_as_the_program_does,
     puts_all_below_a_stage,
     removes_what_it_installed,
     says_what_could_not_be_written,

@@ -2,7 +2,7 @@
 import os
 import signal
 
-from .trees import end, is_running
+from .trees import end, is_running, version
 
 REFUSED = "the program of these sources isn't proved here: ./iocm --prove proves it"
 
@@ -18,10 +18,10 @@ def prefers_the_proved_program(tree):
     assert tree.run("--prove").status == 0
     assert tree.run("show", mode="fail") == (4, "built from one, given show\n", "")
     assert tree.run("--proved", "show", mode="fail") == (4, "built from one, given show\n", "")
-    assert tree.run("--version").out == "iocm 0.0\n"
+    assert tree.run("--version").out == f"{version(is_proved=True)}\n"
     assert "proved   yes\n" in tree.run("--which").out
     assert tree.builds() == (0, 1), tree.builds()
-    assert tree.run("--unproved", "--version").out == "iocm 0.0 (not proved here)\n"
+    assert tree.run("--unproved", "--version").out == f"{version()}\n"
     assert tree.run("--unproved", "--which").out.splitlines()[1].startswith("proved   no")
     assert tree.builds() == (1, 1), tree.builds()
 

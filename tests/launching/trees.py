@@ -15,6 +15,8 @@ FILES = {
     "crates/low/specs/Lib.antt": "-- low\n",
     "crates/trials/src/lib.rt": "// trials\n",
 }
+KIT_LOGIC = "0123456789abcdef"
+KIT_NAME = f"stand-in-kit logic {KIT_LOGIC}"
 PATIENCE = 60
 
 Ran = namedtuple("Ran", "status out said")
@@ -58,17 +60,21 @@ class Tree:
         """The names in the cache that begin so."""
         return [name for name in os.listdir(self.cache) if name.startswith(beginning)]
 
-    def start(self, *words, mode="build", launcher=None, folder=None, **changes):
-        """A call that goes on: the stand-in does what the mode says; `changes` are made to the environment."""
-        with open(os.path.join(self.state, "mode"), "w", encoding="utf-8") as file:
-            file.write(mode)
+    def given(self, **changes):
+        """The environment of a call, with these changes: None removes a name."""
         path = os.pathsep.join([os.path.join(self.state, "kit", "bin"), os.environ["PATH"]])
         given = {**os.environ, "PATH": path, "HOME": self.home, "STATE": self.state, **changes}
         if "XDG_CACHE_HOME" not in changes:
             given.pop("XDG_CACHE_HOME", None)
-        given = {name: text for name, text in given.items() if text is not None}
+        return {name: text for name, text in given.items() if text is not None}
+
+    def start(self, *words, mode="build", launcher=None, folder=None, **changes):
+        """A call that goes on: the stand-in does what the mode says; `changes` are made to the environment."""
+        with open(os.path.join(self.state, "mode"), "w", encoding="utf-8") as file:
+            file.write(mode)
         how = {"stdin": subprocess.DEVNULL, "stdout": subprocess.PIPE, "stderr": subprocess.PIPE, "text": True}
-        return subprocess.Popen([launcher or self.path("iocm"), *words], cwd=folder or self.top, env=given, **how)
+        how |= {"cwd": folder or self.top, "env": self.given(**changes)}
+        return subprocess.Popen([launcher or self.path("iocm"), *words], **how)
 
     def run(self, *words, **how):
         """What a call answers: status, standard output, standard error."""
@@ -81,6 +87,11 @@ class Tree:
             assert time.monotonic() < limit, f"the stand-in has not written {name}"
             time.sleep(0.02)
         return self.note(name).strip()
+
+
+def version(commit="unknown", is_proved=False):
+    """What `--version` says of the stand-in."""
+    return f"iocm 0.0 (commit {commit}, kit {KIT_LOGIC}){'' if is_proved else ' not proved here'}"
 
 
 def end(call):
