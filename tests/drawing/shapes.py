@@ -60,6 +60,14 @@ BREACHES = re.compile(rf"(?:refused (?:{OF_DECK}|V4 {ONLINE})\n)+")
 REPORTS = ("--test", "--count", "--altered", "--deck", "--undo", "--old")
 
 
+# what standard error says beside what was done
+BESIDE = {
+    "check": r".*: \d+ images?, \d+ paths?, \d+ control units?, \d+ devices?\n",
+    "diff": r"(no|\d+) edits?\b.*\n",
+    "show": r"(note: there is no .*\n)*",
+}
+
+
 def kind_of(words):
     """The command and its report."""
     return " ".join([words[0]] + [word for word in words if word in REPORTS])
@@ -78,11 +86,12 @@ def fault_of_form(answer):
 
 
 def fault_of_remark(answer):
-    """What is wrong with what is said on standard error: a refusal is explained there, unless it is to be quiet."""
+    """What is wrong with what is said on standard error: a refusal is explained there, unless it is to be quiet, and
+    of what was done there is what its command says beside it."""
     said, line = answer.said.decode("latin-1"), answer.line()
     if "--quiet" in answer.words or answer.status == 0:
-        said = re.sub(r"(no|\d+) edits?\b.*\n", "", said) if answer.words[0] == "diff" and answer.status == 0 else said
-        return f"standard error: {said[:300]!r}" if said else ""
+        form = "" if "--quiet" in answer.words else BESIDE.get(answer.words[0], "")
+        return "" if re.fullmatch(form, said) else f"standard error: {said[:300]!r}"
     rule = line.split(" ")[1]
     wanted = [f" ({rule})\n", f"\n  see: iocm explain {rule}\n"]
     place = re.match(r"refused \w+ line (\d+)", line)

@@ -142,6 +142,7 @@ STAND_INS = (
     StandIn("all faults", kinds.faulty_deck, refused("--all"), lambda it: it._replace(said=it.said * 2)),
     StandIn("remark", kinds.breaching_deck, refused("check"), all_said(b"")),
     StandIn("remark", kinds.legal_deck, of("show"), all_said(b"a word\n")),
+    StandIn("remark", kinds.legal_deck, of("check"), all_said(b"")),
     StandIn("check as read", kinds.spoiled_deck, refused("check"), next_number(rb"refused S\d line ")),
     StandIn("check as read", kinds.breaching_deck, refused("check"), text(rb"refused V5", rb"refused V6")),
     StandIn("check as drawn", kinds.legal_deck, of("check"), next_number(rb"accepted ")),

@@ -5,7 +5,10 @@ import re
 import subprocess
 
 QUIET = {"--quiet", "-q"}
+HELP = {"--help", "help"}
 EDITS = re.compile(rb"^(no|\d+) edits?\b.*\n")
+CENSUS = re.compile(rb"^[^\n]*: \d+ images?, \d+ paths?, \d+ control units?, \d+ devices?\n")
+BESIDE = {"diff": EDITS, "check": CENSUS}
 REFUSED = re.compile(rb"refused ([A-Z]\d+)(?: line (\d+))?")
 
 
@@ -45,30 +48,42 @@ def run_to(output, words, how):
         os.close(writer)
 
 
-def differences(got, status, stdout, stderr=b"", others=()):
-    """What is wrong with an answer, as lines of text. Others may be right, too."""
+def differences(got, status, stdout, stderr=None, others=()):
+    """What is wrong with an answer, as lines of text. Others may be right, too. Standard error has to have a text in
+    it, if one is given, and to be empty if that is."""
     wrong = []
     if got.returncode != status:
         wrong.append(f"status {got.returncode}, wanted {status}")
     printed = got.stdout or b""
     if printed != stdout and printed not in others:
         wrong.append(f"standard output differs: {printed[:400]!r}")
-    if stderr.strip() not in got.stderr:
+    if stderr is not None and (stderr.strip() not in got.stderr or not stderr and got.stderr):
         wrong.append(f"standard error differs: {got.stderr[:400]!r}")
-    return wrong + faults_of_remark(got)
+    return wrong + faults_of_remark(got, (stderr or b"").strip())
 
 
-def faults_of_remark(got):
+def faults_of_remark(got, noted=b""):
     """What is wrong with what standard error says: beside a refusal its line, its number and which entry says more;
-    else nothing, where all was done."""
+    else, where all was done, how much `check` accepted, how many edits `diff` printed, and the notes of the case."""
     refused = REFUSED.match(got.stdout or b"")
     is_quiet = not QUIET.isdisjoint(got.args)
     if got.returncode == 0 or is_quiet:
-        said = EDITS.sub(b"", got.stderr) if "diff" in got.args and not is_quiet else got.stderr
-        return [f"standard error: {got.stderr[:400]!r}"] if said else []
+        forms = [] if is_quiet or HELP & set(got.args) else [BESIDE[word] for word in got.args if word in BESIDE]
+        return more_than_due(got, forms, noted)
     if not refused:
         return []
     rule, line = refused.groups()
     wanted = [b" (" + rule + b")", b"\n  see: iocm explain " + rule + b"\n"]
     wanted += [b", line " + line + b": "] if line else []
     return [f"standard error says no {text!r}: {got.stderr[:400]!r}" for text in wanted if text not in got.stderr]
+
+
+def more_than_due(got, forms, noted):
+    """What is wrong where standard error has a line of each of these forms, these notes, and nothing more."""
+    said = got.stderr
+    for form in forms:
+        said, count = form.subn(b"", said, count=1)
+        if not count:
+            return [f"standard error has no line that is due: {got.stderr[:400]!r}"]
+    said = said.replace(noted + b"\n", b"", 1) if noted else said
+    return [f"standard error: {got.stderr[:400]!r}"] if said else []
