@@ -30,8 +30,9 @@ MOST_CASES, DRAWN = 500, 20
 CONFLICT = re.compile(r"Conflicting (?:load|store) by .*?\n((?:==\d+==    (?:at|by) .*\n)+)")
 MACHINE = "core stage journal activate plant seats grid live numbers config index derive affected rules".split()
 EXPLAINED = (
-    # a place of the operators' queue: who sends and who takes are in order by the place's stamp, an atomic word
-    re.compile(r"\A.*(crossbeam_channel::|iocm_queue::|iocm_rounds::office::fn::run_office)"),
+    # a place of the operators' queue: who sends and who takes are in order by the place's stamp, an atomic word; and
+    # such a word itself
+    re.compile(r"\A.*(crossbeam_channel::|atomic_table::shared::|iocm_queue::|iocm_rounds::office::fn::run_office)"),
     # the machine under the system's lock: the holder before and the holder now are in order by the lock's word
     re.compile(r"iocm_system::(system|desk|turn)::|iocm_rounds::(worker|images)::"),
     # the crates of the machine, where the stack doesn't show who holds the lock: they are reached under it alone
