@@ -4,19 +4,80 @@
 
 use crate::failure::{Ended, Failure};
 use crate::telling::{
-    Talk, is_from, note_missing, remark, remark_on_edits, remark_on_nothing, remark_on_others, tell,
+    Talk, explain_unknown, is_from, note_missing, remark, remark_on_edits, remark_on_nothing,
+    remark_on_others, tell,
 };
-use crate::texts::{Role, Text, open_text, open_texts, read_text, read_texts, title_of_text};
+use crate::texts::{
+    Role, Text, is_input, open_text, open_texts, read_text, read_texts, title_of_text,
+};
 use iocm_answer::{Answer, Asked, apply, check, check_all, diff, open_machine, run, show, write};
-use iocm_command::{Before, Breaches};
+use iocm_command::{Before, Breaches, Command};
 use iocm_console::{Refusal, open_deck};
+use iocm_explain::{Unexplained, explain};
 use iocm_filter::Filters;
 use std::rt::Files;
 use std::sync::Wait;
 use std::thread::Threads;
 
+/// Does a command on its files.
+pub fn carry_out<'a, R: Files + Input + Print + Eprint + AllocGlobal + Threads + Wait + Sync>(
+    rt: &R,
+    talk: Talk,
+    command: &Command<'a>,
+) -> Result<Ended, Failure<'a>> {
+    match command {
+        Command::Check { deck, breaches } => check_file(rt, talk, *deck, *breaches),
+        Command::Show { deck, filters } => show_file(rt, talk, *deck, filters),
+        Command::Write { deck } => write_file(rt, talk, *deck),
+        Command::Diff { old, new, before } => diff_files(rt, talk, *old, *new, *before),
+        Command::Apply {
+            deck,
+            change,
+            heap,
+            report,
+            filters,
+        } => {
+            let asked = Asked {
+                report: *report,
+                filters,
+            };
+            apply_files(rt, talk, *deck, *change, *heap, &asked)
+        }
+        Command::Run {
+            deck,
+            script,
+            changes,
+            heap,
+        } => run_files(rt, talk, *deck, *script, changes, *heap),
+        Command::Explain { rules } => explain_rules(rt, rules),
+    }
+}
+
+/// How many files of a command are standard input.
+pub fn count_inputs(command: &Command<'_>) -> usize {
+    match command {
+        Command::Check { deck, .. } => usize::from(is_input(*deck)),
+        Command::Show { deck, .. } => usize::from(is_input(*deck)),
+        Command::Write { deck } => usize::from(is_input(*deck)),
+        Command::Diff { old, new, .. } => usize::from(is_input(*old)) + usize::from(is_input(*new)),
+        Command::Apply { deck, change, .. } => {
+            usize::from(is_input(*deck)) + usize::from(is_input(*change))
+        }
+        Command::Run {
+            deck,
+            script,
+            changes,
+            ..
+        } => {
+            let changes = changes.iter().filter(|name| is_input(*name)).count();
+            usize::from(is_input(*deck)) + usize::from(is_input(*script)) + changes
+        }
+        Command::Explain { .. } => 0,
+    }
+}
+
 /// `check DECK`: how much a deck has, or why it is refused; or all breaches of the rules.
-pub fn check_file<'a, R: Files + Input + Print + Eprint + AllocGlobal>(
+fn check_file<'a, R: Files + Input + Print + Eprint + AllocGlobal>(
     rt: &R,
     talk: Talk,
     name: &'a str,
@@ -66,7 +127,7 @@ fn remark_on_check<R: Eprint + AllocGlobal>(
 }
 
 /// `show DECK`: the table of the subchannels that are asked for.
-pub fn show_file<'a, R: Files + Input + Print + Eprint + AllocGlobal>(
+fn show_file<'a, R: Files + Input + Print + Eprint + AllocGlobal>(
     rt: &R,
     talk: Talk,
     name: &'a str,
@@ -87,7 +148,7 @@ pub fn show_file<'a, R: Files + Input + Print + Eprint + AllocGlobal>(
 }
 
 /// `write DECK`: the canonical deck.
-pub fn write_file<'a, R: Files + Input + Print + Eprint + AllocGlobal>(
+fn write_file<'a, R: Files + Input + Print + Eprint + AllocGlobal>(
     rt: &R,
     talk: Talk,
     name: &'a str,
@@ -102,7 +163,7 @@ pub fn write_file<'a, R: Files + Input + Print + Eprint + AllocGlobal>(
 }
 
 /// `diff OLD NEW`: the change deck that leads from one deck to the other.
-pub fn diff_files<'a, R: Files + Input + Print + Eprint + AllocGlobal>(
+fn diff_files<'a, R: Files + Input + Print + Eprint + AllocGlobal>(
     rt: &R,
     talk: Talk,
     old: &'a str,
@@ -128,7 +189,7 @@ pub fn diff_files<'a, R: Files + Input + Print + Eprint + AllocGlobal>(
 }
 
 /// `apply DECK CHANGE`: a report of what a change deck does to the machine of a deck.
-pub fn apply_files<'a, R: Files + Input + Print + Eprint + AllocGlobal>(
+fn apply_files<'a, R: Files + Input + Print + Eprint + AllocGlobal>(
     rt: &R,
     talk: Talk,
     deck: &'a str,
@@ -149,7 +210,7 @@ pub fn apply_files<'a, R: Files + Input + Print + Eprint + AllocGlobal>(
 }
 
 /// `run DECK SCRIPT CHANGE..`: what comes of a script on the machine of a deck.
-pub fn run_files<'a, R: Files + Input + Print + Eprint + AllocGlobal + Threads + Wait + Sync>(
+fn run_files<'a, R: Files + Input + Print + Eprint + AllocGlobal + Threads + Wait + Sync>(
     rt: &R,
     talk: Talk,
     deck: &'a str,
@@ -201,6 +262,18 @@ fn remark_on_run<'a, R: Eprint + AllocGlobal>(
     let role = Role::Script(changes.len() as u64);
     if !is_from(rt, &Text::new(script, role, script_text), why) {
         remark_on_nothing(rt, why);
+    }
+}
+
+/// `explain RULE..`: what refusals mean, or a list of all.
+fn explain_rules<'a, R: Print + Eprint + AllocGlobal>(
+    rt: &R,
+    rules: &[&'a str],
+) -> Result<Ended, Failure<'a>> {
+    match explain(rt.alloc(), rules) {
+        Ok(explained) => Ok(tell(rt, &Ok(Answer::Explained(explained)))),
+        Err(Unexplained::Unknown(word)) => Ok(explain_unknown(rt, word)),
+        Err(Unexplained::Memory) => Err(Failure::Memory),
     }
 }
 

@@ -16,7 +16,7 @@
 //!
 //! A command goes from bytes to an answer and to its text: `commands.rt` reads its files
 //! (`texts.rt`), calls its function in `iocm_answer`, and tells what came of it (`telling.rt`). What
-//! the words of a command line ask for is in `iocm_command`. Begin with `commands.rt`.
+//! the words of a command line ask for is in `iocm_command`. Begin with `carry_out` in `commands.rt`.
 #![tactic(auto)]
 
 mod commands;
@@ -25,23 +25,15 @@ mod telling;
 mod texts;
 
 use clap::error::ErrorKind;
-use commands::{apply_files, check_file, diff_files, run_files, show_file, write_file};
+use commands::{carry_out, count_inputs};
 use failure::{Ended, Failure};
-use iocm_answer::Asked;
-use iocm_command::{Command, Request, Understood, command_of};
-use iocm_console::Output;
-use iocm_explain::{Explained, explain};
-use std::io::BufWriter;
+use iocm_command::{Understood, command_of};
 use std::process::ExitCode;
 use std::rt::{Env, Files};
 use std::sync::Wait;
 use std::thread::Threads;
 use std::{env, io};
-use telling::{Talk, code_of, end};
-use texts::is_input;
-
-/// The exit status if the command line is not understood.
-const USAGE: u8 = 2;
+use telling::{Talk, USAGE, code_of, end};
 
 fn main(rt: HostRuntime) -> ExitCode {
     let words: Vec<String> = match words(&rt) {
@@ -81,72 +73,6 @@ fn perform<R: Files + Input + Print + Eprint + AllocGlobal + Threads + Wait + Sy
     }
 }
 
-/// How many files of a command are standard input.
-fn count_inputs(command: &Command<'_>) -> usize {
-    match command {
-        Command::Answer(request) => {
-            let change = request.change().is_some_and(is_input);
-            usize::from(is_input(request.deck())) + usize::from(change)
-        }
-        Command::Diff { old, new, .. } => usize::from(is_input(*old)) + usize::from(is_input(*new)),
-        Command::Explain { .. } => 0,
-        Command::Run {
-            deck,
-            script,
-            changes,
-            ..
-        } => {
-            let changes = changes.iter().filter(|name| is_input(*name)).count();
-            usize::from(is_input(*deck)) + usize::from(is_input(*script)) + changes
-        }
-    }
-}
-
-/// Does a command on its files.
-fn carry_out<'a, R: Files + Input + Print + Eprint + AllocGlobal + Threads + Wait + Sync>(
-    rt: &R,
-    talk: Talk,
-    command: &Command<'a>,
-) -> Result<Ended, Failure<'a>> {
-    match command {
-        Command::Answer(request) => answer(rt, talk, request),
-        Command::Diff { old, new, before } => diff_files(rt, talk, *old, *new, *before),
-        Command::Explain { rules } => explain_rules(rt, rules),
-        Command::Run {
-            deck,
-            script,
-            changes,
-            heap,
-        } => run_files(rt, talk, *deck, *script, changes, *heap),
-    }
-}
-
-/// Does what is asked of a deck.
-fn answer<'a, R: Files + Input + Print + Eprint + AllocGlobal>(
-    rt: &R,
-    talk: Talk,
-    request: &Request<'a>,
-) -> Result<Ended, Failure<'a>> {
-    match request {
-        Request::Check { deck, breaches } => check_file(rt, talk, *deck, *breaches),
-        Request::Show { deck, filters } => show_file(rt, talk, *deck, filters),
-        Request::Write { deck } => write_file(rt, talk, *deck),
-        Request::Apply {
-            deck,
-            change,
-            heap,
-            report,
-            filters,
-        } => {
-            let asked = Asked {
-                report: *report,
-                filters,
-            };
-            apply_files(rt, talk, *deck, *change, *heap, &asked)
-        }
-    }
-}
-
 /// Prints what `clap` says of the command line: help on standard output, a mistake on standard
 /// error.
 fn explain_line<R: Print + Eprint + AllocGlobal>(rt: &R, error: &clap::Error) -> ExitCode {
@@ -157,30 +83,6 @@ fn explain_line<R: Print + Eprint + AllocGlobal>(rt: &R, error: &clap::Error) ->
         Ok(()) if error.use_stderr() => ExitCode::from(USAGE),
         Ok(()) => ExitCode::SUCCESS,
         Err(error) => code_of(rt, Ended::Unwritten(Some(error.kind()))),
-    }
-}
-
-/// Prints what these refusals mean, or a list of all.
-fn explain_rules<'a, R: Print + Eprint + AllocGlobal>(
-    rt: &R,
-    rules: &[&'a str],
-) -> Result<Ended, Failure<'a>> {
-    let Ok(writer) = BufWriter::new(rt.alloc(), io::writer(rt)) else {
-        return Err(Failure::Memory);
-    };
-    let mut output = Output::new(writer);
-    match explain(rules, &mut output) {
-        Ok(Explained::Printed) => Ok(Ended::Printed(ExitCode::SUCCESS)),
-        Ok(Explained::Unknown(word)) => Ok(explain_unknown(rt, word)),
-        Err(_) => Ok(Ended::Unwritten(output.failure())),
-    }
-}
-
-/// Says that a word is no refusal's number.
-fn explain_unknown<R: Eprint>(rt: &R, word: &str) -> Ended {
-    match eprintln!(rt; "error: no refusal has this number: {word}; 'iocm explain' lists all") {
-        Ok(()) => Ended::Printed(ExitCode::from(USAGE)),
-        Err(error) => Ended::Unwritten(Some(error.kind())),
     }
 }
 

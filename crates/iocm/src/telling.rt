@@ -14,6 +14,9 @@ use std::io::{BufWriter, ErrorKind};
 use std::process::ExitCode;
 use std::{io, str};
 
+/// The exit status if the command line is not understood.
+pub const USAGE: u8 = 2;
+
 /// The exit status after a fault of a device.
 const FAULT: u8 = 3;
 
@@ -194,6 +197,14 @@ pub fn remark_on_edits<R: Eprint>(rt: &R, count: usize) {
             "{count} edits: a change deck of more than {MOST_EDITS} is refused (C2)"
         ),
     };
+}
+
+/// Says that a word is no refusal's number.
+pub fn explain_unknown<R: Eprint>(rt: &R, word: &str) -> Ended {
+    match eprintln!(rt; "error: no refusal has this number: {word}; 'iocm explain' lists all") {
+        Ok(()) => Ended::Printed(ExitCode::from(USAGE)),
+        Err(error) => Ended::Unwritten(Some(error.kind())),
+    }
 }
 
 /// Says of a refusal that it comes from there. That this can't be written changes nothing.

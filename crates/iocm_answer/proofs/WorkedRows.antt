@@ -1,46 +1,33 @@
 -- Which altered subchannels are wanted in two configurations of one image, computed.
-use Rattle.std.proofs.Common.{◌≡◌, ◌&&◌, ◌||◌, Bool, T, false, List, [], ◌∷◌, map, codes, refl, sym, ap, ◌∙◌}
-use Rattle.std.specs.FinMap.{entries, is_sorted, same_map, get-from_entries, get-from_sorted, entries-from_sorted}
-use Rattle.std.specs.List.{filter_map, list_any}
+use Rattle.std.proofs.Common.{◌≡◌, ◌||◌, Bool, false, List, [], ◌∷◌, codes, refl, ap}
+use Rattle.std.specs.FinMap.{entries}
 use Rattle.iocm_types.specs.declared.key.Key.{Key}
 use Rattle.iocm_types.specs.declared.view.View.{View}
-use Rattle.iocm_types.specs.Key.{key_cmp}
-use Rattle.iocm_types.specs.KeyOrder.{keys_total, keys_exact}
-use Rattle.iocm_types.proofs.Entries.{values_keyed}
-use Rattle.iocm_model.specs.Machine.Configuration.{as_image, configuration_of, records_of, with_keys}
-use Rattle.iocm_model.specs.Machine.Record.{Rec, key_of}
+use Rattle.iocm_model.specs.Machine.Configuration.{with_keys}
+use Rattle.iocm_model.specs.Machine.Record.{Rec}
 use Rattle.iocm_filter.specs.RowExamples.{by_lpb, image_at, image_record, with_online}
-use Rattle.iocm_filter.specs.Wanted.{is_image_at, wants_device, wants_view}
+use Rattle.iocm_filter.specs.Wanted.{found_among, wants}
+use Rattle.iocm_filter.proofs.WorkedRows.{in_order}
 use Rattle.iocm_answer.specs.Examples.{AlteredAsWorked, named_before, named_afterwards}
 
-in_order : (rs : List Rec) → T (is_sorted key_cmp (with_keys rs)) → entries (configuration_of rs) ≡ with_keys rs
-in_order rs up = ap entries
-    (same_map keys_total keys_exact _ _
-    (λ q. get-from_entries keys_total (with_keys rs) q ∙ sym (get-from_sorted key_cmp (with_keys rs) q up)))
-    ∙ entries-from_sorted key_cmp (with_keys rs) up
+-- a side is wanted by the name of image 0.2 among these entries
+abbrev side : List (Key × Rec) → View → Bool
+side es v = wants by_lpb (found_among by_lpb es) (record { image = image_at 0 2; set = 0; number = 0 }, v)
 
-records_are : (rs : List Rec) → T (is_sorted key_cmp (with_keys rs)) → records_of (configuration_of rs) ≡ rs
-records_are rs up = ap (map (λ (e : Key × Rec). e.1)) (in_order rs up) ∙ values_keyed key_of rs
+before_is : entries named_before ≡ with_keys (image_record 0 2 (codes "LPB") ∷ [])
+before_is = in_order (image_record 0 2 (codes "LPB") ∷ []) tt
 
--- a side is wanted by the name of image 0.2 among these records
-abbrev side : List Rec → View → Bool
-side rs v = (list_any (is_image_at (image_at 0 2) (codes "LPB")) (filter_map as_image rs) || false)
-    && wants_device by_lpb named_before 0 0x1003 && wants_view by_lpb 0 v
-
-before_is : records_of named_before ≡ image_record 0 2 (codes "LPB") ∷ []
-before_is = records_are (image_record 0 2 (codes "LPB") ∷ []) tt
-
-afterwards_is : records_of named_afterwards ≡ image_record 0 2 (codes "LPX") ∷ []
-afterwards_is = records_are (image_record 0 2 (codes "LPX") ∷ []) tt
+afterwards_is : entries named_afterwards ≡ with_keys (image_record 0 2 (codes "LPX") ∷ [])
+afterwards_is = in_order (image_record 0 2 (codes "LPX") ∷ []) tt
 
 pub altered_as_worked : AlteredAsWorked
 unfolding lib.Count.ones
 altered_as_worked = record {
   all = refl;
-  was_lpb = ap (λ rs. side rs (with_online 0xA0) || false) before_is;
-  is_lpx = ap (λ rs. side rs (with_online 0xA0)) afterwards_is;
-  was_lpx = ap (λ rs. side rs (with_online 0xA0) || false) afterwards_is;
-  is_lpb = ap (λ rs. side rs (with_online 0xA0)) before_is;
+  was_lpb = ap (λ es. side es (with_online 0xA0) || false) before_is;
+  is_lpx = ap (λ es. side es (with_online 0xA0)) afterwards_is;
+  was_lpx = ap (λ es. side es (with_online 0xA0) || false) afterwards_is;
+  is_lpb = ap (λ es. side es (with_online 0xA0)) before_is;
   seen_at_both = λ i. side (before_is i) (with_online 0xA0) || side (afterwards_is i) (with_online 0);
   seen_at_none = refl;
   loses_the_last = refl;

@@ -9,6 +9,7 @@ use Rattle.iocm_console.specs.declared.status.Status.TheVariants as status
 use Rattle.iocm_console.specs.Refusal.{no_memory, of_breach, refusal_line}
 use Rattle.iocm_console.specs.Shown.{Shown, done, shown_or_refused}
 use Rattle.iocm_console.specs.Table.{text_of}
+use Rattle.iocm_explain.specs.Explain.{told}
 use Rattle.iocm_operation.specs.declared.answered.Answered.{Answered}
 use Rattle.iocm_reports.specs.Counts.{counted_text}
 use Rattle.iocm_reports.specs.Lines.{altered_text}
@@ -40,6 +41,7 @@ shown (answer.Altered a) = done (altered_text a.altered a.rows)
 shown (answer.Counted a) = done (counted_text a.altered a.rows)
 shown (answer.Tried altered) = done (changed_line altered)
 shown (answer.Ran r) = done (answer_lines r.answers.items ++ (trace_line r.calls ++ text_of r.table))
+shown (answer.Explained e) = done (told e.rules.items)
 
 -- what is printed of what a command gives: of its answer, or the refusal
 abbrev pub printed : Result Answer Refusal → Shown

@@ -3,8 +3,8 @@ use Rattle.std.specs.Prelude.{◌≡◌, ℕ, List, length, Option, None, Some, 
 use Rattle.iocm_model.specs.Machine.Configuration.{Configuration}
 use Rattle.iocm_difference.specs.Difference.{difference}
 use Rattle.iocm_difference_writer.specs.Text.{difference_text}
-use Rattle.iocm_command.specs.declared.command.Before.{Before}
-use Rattle.iocm_command.specs.declared.command.Before.TheVariants as before
+use Rattle.iocm_command.specs.declared.table.Before.{Before}
+use Rattle.iocm_command.specs.declared.table.Before.TheVariants as before
 use Rattle.iocm_console.specs.Opening.{opened_deck}
 use Rattle.iocm_console.specs.Shown.{Shown, done, shown_or_refused}
 use Rattle.iocm_answer.specs.declared.answer.Answer.{Answer}

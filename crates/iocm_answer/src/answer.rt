@@ -1,6 +1,7 @@
 use crate::altered::Altered;
 use crate::census::Census;
 use iocm_console::Table;
+use iocm_explain::Explained;
 use iocm_operation::Answered;
 use iocm_rules::Breach;
 
@@ -28,6 +29,8 @@ pub enum Answer<'f> {
     Tried(usize),
     /// What came of a script.
     Ran(Ran<'f>),
+    /// The refusals that are explained.
+    Explained(Explained),
 }
 
 /// A change deck that leads from one deck to another.

@@ -1,6 +1,6 @@
 //! The text of a change deck as a change tree, read in a heap of a fixed size.
 ghost use Rattle.std.specs.Prelude.{◌≡◌, IfErr, IfOk, Ok};
-ghost use Rattle.iocm_types.specs.Fault.{memory, Fails};
+ghost use Rattle.iocm_types.specs.Fault.{memory, Fails, Gives};
 ghost use Rattle.iocm_tree.specs.Trees.{tree_of};
 ghost use Rattle.iocm_tree_reader.specs.Reading as reading;
 ghost use Rattle.iocm_tree_writer.specs.Again.{tree_in};
@@ -12,7 +12,7 @@ use iocm_tree::Tree;
 use iocm_tree_reader::read_tree;
 use iocm_types::{Fault, Rule};
 use linked_list_allocator::LocalHeap;
-use std::alloc::{AllocError, Global};
+use std::alloc::Global;
 
 /// The heaps that are tried one after the other if none is named, in bytes, and then the largest.
 const HEAPS: [usize; 6] = [262_144, 524_288, 1_048_576, 2_097_152, 4_194_304, 8_388_608];
@@ -21,7 +21,7 @@ const HEAPS: [usize; 6] = [262_144, 524_288, 1_048_576, 2_097_152, 4_194_304, 8_
 const LARGEST_HEAP: usize = 16_777_216;
 
 /// Why a change tree isn't read: the first fault of its text, or that memory is missing; and the
-/// size of the heap in which it was read last, 0 before the first.
+/// size of the heap that was tried last, 0 before the first.
 #[derive(Clone, Copy, Debug, PartialEq, Eq)]
 pub struct Unread {
     fault: Fault,
@@ -73,7 +73,7 @@ pub fn read_change(alloc: Global, heap: Option<u32>, change: &[u8]) -> Result<Tr
 fn read_in_heaps(alloc: Global, statements: &[Statement]) -> Result<Tree, Unread>
     ensures tree { IfOk result (λ tree. reading.read_tree statements.now ≡ Ok (tree_of tree)) }
     ensures fault { IfErr result (λ unread. Fails unread.fault (reading.read_tree statements.now)) }
-    ensures heap { IfErr result (λ unread. unread.fault ≡ memory → meaning.IsSize 16777216 unread.heap) }
+    ensures heap { IfErr result (λ unread. unread.fault ≡ memory → unread.heap ≡ 16777216) }
 {
     for size in HEAPS {
         match read_in_heap(alloc, size, statements) {
@@ -89,52 +89,19 @@ fn read_in_heaps(alloc: Global, statements: &[Statement]) -> Result<Tree, Unread
 fn read_in_heap(alloc: Global, size: usize, statements: &[Statement]) -> Result<Tree, Unread>
     ensures tree { IfOk result (λ tree. reading.read_tree statements.now ≡ Ok (tree_of tree)) }
     ensures fault { IfErr result (λ unread. Fails unread.fault (reading.read_tree statements.now)) }
-    ensures heap { IfErr result (λ unread. meaning.IsSize size unread.heap) }
+    ensures heap { IfErr result (λ unread. unread.heap ≡ size) }
 {
-    match TreeHeap::new(alloc, size) {
-        Ok(heap) => heap.read(alloc, statements),
-        Err(error) => Err(Unread::from(Fault::from(error))),
+    match copy_from_heap(alloc, size, statements) {
+        Ok(tree) => Ok(tree),
+        Err(fault) => Err(Unread { fault, heap: size }),
     }
 }
 
-/// A heap that a change tree is read in, and its size in bytes.
-#[derive(Drop)]
-struct TreeHeap {
-    heap: LocalHeap,
-    size: usize,
-}
-
-impl TreeHeap {
-    /// A heap of so many bytes.
-    fn new(alloc: Global, size: usize) -> Result<TreeHeap, AllocError>
-        ensures { IfOk result (λ heap. heap.size ≡ size) }
-    {
-        let heap = LocalHeap::new(alloc, size)?;
-        Ok(TreeHeap { heap, size })
-    }
-
-    /// The change tree of statements, read here and copied out.
-    fn read(&self, alloc: Global, statements: &[Statement]) -> Result<Tree, Unread>
-        ensures tree { IfOk result (λ tree. reading.read_tree statements.now ≡ Ok (tree_of tree)) }
-        ensures fault { IfErr result (λ unread. Fails unread.fault (reading.read_tree statements.now)) }
-        ensures heap { IfErr result (λ unread. unread.heap ≡ self.now.size) }
-    {
-        match read_tree(alloc, &self.heap, statements) {
-            Ok(tree) => match tree.copy_in(alloc) {
-                Ok(copy) => Ok(copy),
-                Err(error) => Err(self.failed(Fault::from(error))),
-            },
-            Err(fault) => Err(self.failed(fault)),
-        }
-    }
-
-    /// That the tree isn't read here.
-    fn failed(&self, fault: Fault) -> Unread
-        ensures { result ≡ record { fault = fault; heap = self.now.size } }
-    {
-        Unread {
-            fault,
-            heap: self.size,
-        }
-    }
+/// The change tree of statements, read in a heap of so many bytes and copied out.
+fn copy_from_heap(alloc: Global, size: usize, statements: &[Statement]) -> Result<Tree, Fault>
+    ensures { Gives tree_of result (reading.read_tree statements.now) }
+{
+    let heap = LocalHeap::new(alloc, size)?;
+    let tree = read_tree(alloc, &heap, statements)?;
+    Ok(tree.copy_in(alloc)?)
 }

@@ -1,4 +1,5 @@
-ghost use Rattle.std.specs.Prelude.{◌≡◌};
+ghost use Rattle.std.specs.Prelude.{◌≡◌, IfOk};
+ghost use Rattle.iocm_console.specs.Opening.{configuration_in};
 ghost use Rattle.iocm_answer.specs.Answer.{Shows};
 ghost use Rattle.iocm_answer.specs.Census.{census_of};
 ghost use Rattle.iocm_answer.specs.Check as meaning;
@@ -23,7 +24,8 @@ pub fn check<'f>(opened: &Config) -> Answer<'f>
 ///
 /// Promise: `check --all` lists just the breaches of the rules.
 pub fn check_all<'f>(alloc: Global, deck: &[u8]) -> Result<Answer<'f>, Refusal>
-    ensures { Shows result (meaning.all_checked deck.now) }
+    ensures text { Shows result (meaning.all_checked deck.now) }
+    ensures answer { IfOk result (meaning.IsAllChecked (configuration_in deck.now)) }
 {
     let config = read_config(alloc, deck)?;
     let breaches = all_breaches(alloc, &config)?;

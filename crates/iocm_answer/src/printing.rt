@@ -1,12 +1,14 @@
 //! The one printer: what a command gives, as bytes on an `Output`. It needs no memory.
 ghost use Rattle.std.specs.Prelude.{◌≡◌, IfOk, OnOk, IfErr};
-ghost use Rattle.iocm_console.specs.Output.{has_failed, FailedToWrite, IsHandedOn, Prints, Says};
+ghost use Rattle.iocm_console.specs.Output.{has_failed, FailedToWrite, IsHandedOn, Says, Writes};
+ghost use Rattle.iocm_console.specs.Refusal.{of_breach, refusal_line};
 ghost use Rattle.iocm_answer.specs.Answer as meaning;
-ghost use Rattle.iocm_answer.specs.AnswerText.{numbered_text};
+ghost use Rattle.iocm_answer.specs.AnswerText.{answer_line};
 
 use crate::answer_text::AnswerText;
 use crate::{Answer, Ran};
 use iocm_console::{ConsoleError, Output, Refusal, Status, write_table};
+use iocm_explain::write_explained;
 use iocm_operation::Answered;
 use iocm_reports::{write_altered, write_counted};
 use iocm_rules::Breach;
@@ -51,9 +53,7 @@ fn write_answer<W: Write + Drop>(
     answer: &Answer<'_>,
     output: &mut Output<W>,
 ) -> Result<(), ConsoleError>
-    ensures text { OnOk result (Prints W.contents output.old output.new (meaning.shown answer.now).text) }
-    ensures works { OnOk result (has_failed output.new ≡ has_failed output.old) }
-    ensures fault { IfErr result (FailedToWrite output.new) }
+    ensures { Writes W.contents result output.old output.new (meaning.shown answer.now).text }
 {
     match answer {
         Answer::Accepted(census) => output.accepted(census.records),
@@ -69,6 +69,7 @@ fn write_answer<W: Write + Drop>(
         Answer::Counted(asked) => write_counted(asked.altered(), asked.rows(), output),
         Answer::Tried(altered) => output.changed(*altered),
         Answer::Ran(ran) => write_ran(ran, output),
+        Answer::Explained(explained) => write_explained(explained, output),
     }
 }
 
@@ -77,14 +78,19 @@ fn write_breaches<W: Write + Drop>(
     breaches: &[Breach],
     output: &mut Output<W>,
 ) -> Result<(), ConsoleError>
-    ensures text { OnOk result (Prints W.contents output.old output.new (meaning.breach_lines breaches.now)) }
-    ensures works { OnOk result (has_failed output.new ≡ has_failed output.old) }
-    ensures fault { IfErr result (FailedToWrite output.new) }
+    ensures { Writes W.contents result output.old output.new (meaning.breach_lines breaches.now) }
 {
     for breach in breaches {
-        output.refusal(Refusal::from(*breach))?;
+        write_breach(*breach, output)?;
     }
     Ok(())
+}
+
+/// Writes the line of a breach.
+fn write_breach<W: Write + Drop>(breach: Breach, output: &mut Output<W>) -> Result<(), ConsoleError>
+    ensures { Writes W.contents result output.old output.new (refusal_line (of_breach breach)) }
+{
+    output.refusal(Refusal::from(breach))
 }
 
 /// How many calls were made, as it is printed.
@@ -105,14 +111,18 @@ impl fmt::Display for TraceLine {
 
 /// Writes what came of a script: the answers, how many calls were made, and the table.
 fn write_ran<W: Write + Drop>(ran: &Ran<'_>, output: &mut Output<W>) -> Result<(), ConsoleError>
-    ensures text { OnOk result
-        (Prints W.contents output.old output.new (meaning.shown (Answer.Ran ran.now)).text) }
-    ensures works { OnOk result (has_failed output.new ≡ has_failed output.old) }
-    ensures fault { IfErr result (FailedToWrite output.new) }
+    ensures { Writes W.contents result output.old output.new (meaning.shown (Answer.Ran ran.now)).text }
 {
     write_answers(&ran.answers, output)?;
-    output.line(TraceLine(ran.calls))?;
+    write_trace(ran.calls, output)?;
     write_table(&ran.table, output)
+}
+
+/// Writes how many calls were made.
+fn write_trace<W: Write + Drop>(calls: usize, output: &mut Output<W>) -> Result<(), ConsoleError>
+    ensures { Writes W.contents result output.old output.new (meaning.trace_line calls) }
+{
+    output.line(TraceLine(calls))
 }
 
 /// An answer as it is printed, after the number of its line, without the end of the line.
@@ -137,12 +147,20 @@ fn write_answers<W: Write + Drop>(
     answers: &[Answered],
     output: &mut Output<W>,
 ) -> Result<(), ConsoleError>
-    ensures text { OnOk result (Prints W.contents output.old output.new (meaning.answer_lines answers.now)) }
-    ensures works { OnOk result (has_failed output.new ≡ has_failed output.old) }
-    ensures fault { IfErr result (FailedToWrite output.new) }
+    ensures { Writes W.contents result output.old output.new (meaning.answer_lines answers.now) }
 {
     for answered in answers {
-        output.line(AnswerLine(*answered))?;
+        write_answered(*answered, output)?;
     }
     Ok(())
+}
+
+/// Writes an answer after the number of its line.
+fn write_answered<W: Write + Drop>(
+    answered: Answered,
+    output: &mut Output<W>,
+) -> Result<(), ConsoleError>
+    ensures { Writes W.contents result output.old output.new (answer_line answered.line answered.answer) }
+{
+    output.line(AnswerLine(answered))
 }

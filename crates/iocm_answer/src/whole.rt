@@ -5,21 +5,19 @@
 //! then. A command opens its first deck before it reads another text: a deck that is refused is
 //! refused whatever comes after it. L6 (`ConsoleError::Write`): a write failed; what is written up to
 //! there is not said. All other faults, lack of memory (M1) too, are refusals, which are printed.
-ghost use Rattle.std.specs.Prelude.{◌≡◌, ◌≢◌, ◌+◌, ◌^◌, ◌<◌, ◌⊎◌, ℕ, List, [], All, map, IfErr, IfOk, Err, false};
-ghost use Rattle.iocm_columns.specs.Device.{reads_of, IsOpen, IsWhole};
+ghost use Rattle.std.specs.Prelude.{◌≡◌, ◌≢◌, ◌⊎◌, List, [], All, map, IfErr, IfOk, Err, None, false};
+ghost use Rattle.iocm_columns.specs.Device.{IsWhole};
 ghost use Rattle.iocm_columns.specs.declared.device.Device as its_device;
-ghost use Rattle.iocm_console.specs.declared.status.Status.TheVariants.{Done};
-ghost use Rattle.iocm_console.specs.Output.{has_failed, SaysIfMemory};
+ghost use Rattle.iocm_console.specs.Output.{has_failed};
+ghost use Rattle.iocm_answer.specs.Answer.{Shows};
 ghost use Rattle.iocm_answer.specs.Apply.{applied};
 ghost use Rattle.iocm_answer.specs.Check.{checked_by};
-ghost use Rattle.iocm_answer.specs.Diff.{differed};
-ghost use Rattle.iocm_answer.specs.Run.{IsOfTexts};
 ghost use Rattle.iocm_answer.specs.Show.{showed};
 ghost use Rattle.iocm_answer.specs.Write.{written};
 ghost use Rattle.iocm_answer.specs.Whole as meaning;
-ghost use Rattle.iocm_answer.specs.Whole.{ended, AreTextsOf, Ends, IsCount, IsOpened, IsReadWithin, IsTextOf};
-ghost use Rattle.iocm_answer.specs.Whole.{IsUnreadFor, IsWholeIfDone, IsWholeOrMemory, SaysOne};
-ghost use Rattle.iocm_answer.specs.Whole.{StopsFor, StopsWithin, Tells};
+ghost use Rattle.iocm_answer.specs.Whole.{commanded, edits_in, edits_of, ended, Answers, AnswersDeck, AreTextsOf, Ends};
+ghost use Rattle.iocm_answer.specs.Whole.{IsDifference, IsReadWithin, IsReady, IsRunOf, IsTextOf, IsUnreadFor};
+ghost use Rattle.iocm_answer.specs.Whole.{IsWholeIfDone, OfText, StopsAt, StopsFor, StopsWithin, Tells};
 
 use crate::{Answer, Asked, apply, check, check_all, diff, open_machine, print, run, show, write};
 use iocm_columns::Device;
@@ -43,17 +41,12 @@ pub fn check_deck<R: Read, W: Write + Drop>(
     limit: u64,
     output: &mut Output<W>,
 ) -> Result<Status, ConsoleError>
-    requires open { IsOpen deck.old }
-    requires room { reads_of deck.old + limit < 2 ^ 64 }
+    requires ready { IsReady limit deck.old }
     requires works { has_failed output.old ≡ false }
-    ensures text { (bytes : List ℕ) × IsTextOf R.remaining deck.old bytes
-        × IfOk result (SaysIfMemory W.contents output.old output.new (checked_by breaches bytes)) }
-    ensures whole { IsWholeOrMemory W.contents output.old output.new deck.new result }
-    ensures reads { IsReadWithin limit deck.old deck.new }
-    ensures unreadable { IsUnreadFor output.old output.new result (StopsWithin limit deck.old deck.new) }
-    ensures ends { Ends output.new result }
+    ensures { AnswersDeck R.remaining W.contents limit deck.old deck.new output.old output.new
+        (checked_by breaches) result }
 {
-    say(read_checked(alloc, breaches, deck, limit), output)
+    answer_deck(alloc, DeckCommand::Check(breaches), deck, limit, output)
 }
 
 /// `show` of a deck that is read, of the subchannels that are asked for.
@@ -66,17 +59,12 @@ pub fn show_deck<R: Read, W: Write + Drop>(
     limit: u64,
     output: &mut Output<W>,
 ) -> Result<Status, ConsoleError>
-    requires open { IsOpen deck.old }
-    requires room { reads_of deck.old + limit < 2 ^ 64 }
+    requires ready { IsReady limit deck.old }
     requires works { has_failed output.old ≡ false }
-    ensures text { (bytes : List ℕ) × IsTextOf R.remaining deck.old bytes
-        × IfOk result (SaysIfMemory W.contents output.old output.new (showed filters.now bytes)) }
-    ensures whole { IsWholeOrMemory W.contents output.old output.new deck.new result }
-    ensures reads { IsReadWithin limit deck.old deck.new }
-    ensures unreadable { IsUnreadFor output.old output.new result (StopsWithin limit deck.old deck.new) }
-    ensures ends { Ends output.new result }
+    ensures { AnswersDeck R.remaining W.contents limit deck.old deck.new output.old output.new
+        (showed filters.now) result }
 {
-    say(read_shown(alloc, filters, deck, limit), output)
+    answer_deck(alloc, DeckCommand::Show(filters), deck, limit, output)
 }
 
 /// `write` of a deck that is read.
@@ -88,17 +76,11 @@ pub fn write_deck<R: Read, W: Write + Drop>(
     limit: u64,
     output: &mut Output<W>,
 ) -> Result<Status, ConsoleError>
-    requires open { IsOpen deck.old }
-    requires room { reads_of deck.old + limit < 2 ^ 64 }
+    requires ready { IsReady limit deck.old }
     requires works { has_failed output.old ≡ false }
-    ensures text { (bytes : List ℕ) × IsTextOf R.remaining deck.old bytes
-        × IfOk result (SaysIfMemory W.contents output.old output.new (written bytes)) }
-    ensures whole { IsWholeOrMemory W.contents output.old output.new deck.new result }
-    ensures reads { IsReadWithin limit deck.old deck.new }
-    ensures unreadable { IsUnreadFor output.old output.new result (StopsWithin limit deck.old deck.new) }
-    ensures ends { Ends output.new result }
+    ensures { AnswersDeck R.remaining W.contents limit deck.old deck.new output.old output.new written result }
 {
-    say(read_written(alloc, deck, limit), output)
+    answer_deck(alloc, DeckCommand::Write, deck, limit, output)
 }
 
 /// `apply` of a deck and a change deck that are read: the change deck after the deck was opened. The
@@ -115,20 +97,14 @@ pub fn apply_change<R: Read, S: Read, W: Write + Drop>(
     limit: u64,
     output: &mut Output<W>,
 ) -> Result<Status, ConsoleError>
-    requires open { IsOpen deck.old }
-    requires open_change { IsOpen change.old }
-    requires room { reads_of deck.old + limit < 2 ^ 64 }
-    requires room_change { reads_of change.old + limit < 2 ^ 64 }
+    requires ready { IsReady limit deck.old }
+    requires ready_change { IsReady limit change.old }
     requires works { has_failed output.old ≡ false }
-    ensures text { (bytes : List ℕ) × (lines : List ℕ)
-        × IsTextOf R.remaining deck.old bytes × IsTextOf S.remaining change.old lines
-        × IfOk result (SaysIfMemory W.contents output.old output.new (applied asked.now bytes lines)) }
-    ensures whole { IsWholeOrMemory W.contents output.old output.new deck.new result
-        × IsWholeIfDone change.new result }
-    ensures reads { IsReadWithin limit deck.old deck.new × IsReadWithin limit change.old change.new }
-    ensures unreadable { IsUnreadFor output.old output.new result (StopsWithin limit deck.old deck.new
-        ⊎ (IsOpened R.remaining deck.old × StopsWithin limit change.old change.new)) }
-    ensures ends { Ends output.new result }
+    ensures answers { Answers R.remaining W.contents limit deck.old deck.new output.old output.new
+        (λ bytes shown. OfText S.remaining change.old (λ lines. shown ≡ applied asked.now bytes lines))
+        (StopsWithin limit change.old change.new) result }
+    ensures whole { IsWholeIfDone change.new result }
+    ensures reads { IsReadWithin limit change.old change.new }
 {
     let given = read_applied(alloc, heap, asked, deck, change, limit);
     say(given, output)
@@ -155,24 +131,18 @@ pub fn diff_decks<R: Read, S: Read, W: Write + Drop>(
     limit: u64,
     output: &mut Output<W>,
 ) -> Result<Differed, ConsoleError>
-    requires open { IsOpen old.old }
-    requires open_new { IsOpen new.old }
-    requires room { reads_of old.old + limit < 2 ^ 64 }
-    requires room_new { reads_of new.old + limit < 2 ^ 64 }
+    requires ready { IsReady limit old.old }
+    requires ready_new { IsReady limit new.old }
     requires works { has_failed output.old ≡ false }
-    ensures text { (bytes : List ℕ) × (others : List ℕ)
-        × IsTextOf R.remaining old.old bytes × IsTextOf S.remaining new.old others
-        × IfOk (ended result) (SaysIfMemory W.contents output.old output.new (differed before bytes others))
-        × IfOk result (λ it. it.status ≡ Done → IsCount bytes others it.edits) }
-    ensures whole { IsWholeOrMemory W.contents output.old output.new old.new (ended result)
-        × IsWholeIfDone new.new (ended result) }
-    ensures reads { IsReadWithin limit old.old old.new × IsReadWithin limit new.old new.new }
-    ensures unreadable { IsUnreadFor output.old output.new (ended result) (StopsWithin limit old.old old.new
-        ⊎ (IsOpened R.remaining old.old × StopsWithin limit new.old new.new)) }
-    ensures ends { Ends output.new (ended result) }
+    ensures answers { Answers R.remaining W.contents limit old.old old.new output.old output.new
+        (λ bytes shown. OfText S.remaining new.old (IsDifference before bytes (edits_in result) shown))
+        (StopsWithin limit new.old new.new) (ended result) }
+    ensures whole { IsWholeIfDone new.new (ended result) }
+    ensures reads { IsReadWithin limit new.old new.new }
+    ensures edits { IfOk result (λ it. it.status ≡ Status.Refused → it.edits ≡ None) }
 {
     let given = read_differed(alloc, before, old, new, limit);
-    let edits = edits_in(&given);
+    let edits = edits_given(&given);
     let status = say(given, output)?;
     Ok(Differed { status, edits })
 }
@@ -193,26 +163,42 @@ pub fn run_script<R: Read, S: Read, C: Read + Drop, W: Write + Drop, T: Threads 
     limit: u64,
     output: &mut Output<W>,
 ) -> Result<Status, ConsoleError>
-    requires open { IsOpen deck.old }
-    requires open_script { IsOpen script.old }
-    requires open_changes { All (λ (d : its_device.Device C). IsOpen d) changes.items }
-    requires room { reads_of deck.old + limit < 2 ^ 64 }
-    requires room_script { reads_of script.old + limit < 2 ^ 64 }
-    requires room_changes { All (λ (d : its_device.Device C). reads_of d + limit < 2 ^ 64) changes.items }
+    requires ready { IsReady limit deck.old }
+    requires ready_script { IsReady limit script.old }
+    requires ready_changes { All (λ (d : its_device.Device C). IsReady limit d) changes.items }
     requires works { has_failed output.old ≡ false }
-    ensures text { (bytes : List ℕ) × (lines : List ℕ) × (decks : List (List ℕ))
-        × IsTextOf R.remaining deck.old bytes × IsTextOf S.remaining script.old lines
-        × AreTextsOf C.remaining changes.items decks
-        × IfOk result (SaysOne W.contents output.old output.new (IsOfTexts bytes decks lines)) }
-    ensures whole { IsWholeOrMemory W.contents output.old output.new deck.new result
-        × IsWholeIfDone script.new result }
-    ensures reads { IsReadWithin limit deck.old deck.new × IsReadWithin limit script.old script.new }
-    ensures unreadable { IsUnreadFor output.old output.new result (StopsWithin limit deck.old deck.new
-        ⊎ (IsOpened R.remaining deck.old
-        × (StopsWithin limit script.old script.new ⊎ (IsWhole script.new × (changes.items ≢ []))))) }
-    ensures ends { Ends output.new result }
+    ensures answers { Answers R.remaining W.contents limit deck.old deck.new output.old output.new
+        (λ bytes shown. OfText S.remaining script.old (IsRunOf C.remaining changes.items bytes shown))
+        (StopsWithin limit script.old script.new ⊎ (IsWhole script.new × (changes.items ≢ []))) result }
+    ensures whole { IsWholeIfDone script.new result }
+    ensures reads { IsReadWithin limit script.old script.new }
 {
     let given = read_ran(rt, alloc, heap, deck, script, changes, limit);
+    say(given, output)
+}
+
+/// A command on a deck alone.
+#[derive(Clone, Copy)]
+enum DeckCommand<'f> {
+    Check(Breaches),
+    Show(&'f Filters),
+    Write,
+}
+
+/// A command on a deck that is read.
+fn answer_deck<R: Read, W: Write + Drop>(
+    alloc: Global,
+    command: DeckCommand<'_>,
+    deck: &mut Device<R>,
+    limit: u64,
+    output: &mut Output<W>,
+) -> Result<Status, ConsoleError>
+    requires ready { IsReady limit deck.old }
+    requires works { has_failed output.old ≡ false }
+    ensures { AnswersDeck R.remaining W.contents limit deck.old deck.new output.old output.new
+        (commanded command.entry) result }
+{
+    let given = read_commanded(alloc, command, deck, limit);
     say(given, output)
 }
 
@@ -268,14 +254,23 @@ fn say<W: Write + Drop>(
     }
 }
 
+/// How many edits the difference has, if there is one.
+fn edits_given(given: &Result<Answer<'_>, Unanswered>) -> Option<usize>
+    ensures { result ≡ edits_of given.now }
+{
+    match given {
+        Ok(Answer::Difference(difference)) => Some(difference.edits),
+        _ => None,
+    }
+}
+
 /// The bytes of a text, which is read to its end by at most `limit` reads.
 fn read_text<R: Read>(
     alloc: Global,
     device: &mut Device<R>,
     limit: u64,
 ) -> Result<Vec<u8>, Unanswered>
-    requires open { IsOpen device.old }
-    requires room { reads_of device.old + limit < 2 ^ 64 }
+    requires { IsReady limit device.old }
     ensures text { IfOk result (λ v. IsTextOf R.remaining device.old v.items × IsWhole device.new) }
     ensures reads { IsReadWithin limit device.old device.new }
     ensures stops { IfErr result (StopsFor ⊥ (StopsWithin limit device.old device.new)) }
@@ -289,8 +284,7 @@ fn read_texts<C: Read + Drop>(
     mut devices: VecDeque<Device<C>>,
     limit: u64,
 ) -> Result<Vec<Vec<u8>>, Unanswered>
-    requires open { All (λ (d : its_device.Device C). IsOpen d) devices.items }
-    requires room { All (λ (d : its_device.Device C). reads_of d + limit < 2 ^ 64) devices.items }
+    requires { All (λ (d : its_device.Device C). IsReady limit d) devices.items }
     ensures texts { IfOk result (λ v. AreTextsOf C.remaining devices.items (map (λ t. t.items) v.items)) }
     ensures stops { IfErr result (StopsFor ⊥ (devices.items ≢ [])) }
 {
@@ -304,63 +298,48 @@ fn read_texts<C: Read + Drop>(
     Ok(texts)
 }
 
-/// What `check` gives of a deck that is read.
-fn read_checked<'f, R: Read>(
+/// What a command gives of the bytes of its deck.
+fn carry_out<'f>(
     alloc: Global,
-    breaches: Breaches,
-    deck: &mut Device<R>,
-    limit: u64,
-) -> Result<Answer<'f>, Unanswered>
-    requires open { IsOpen deck.old }
-    requires room { reads_of deck.old + limit < 2 ^ 64 }
-    ensures text { (bytes : List ℕ) × IsTextOf R.remaining deck.old bytes
-        × Tells result (λ shown. shown ≡ checked_by breaches bytes) }
-    ensures whole { IfOk result (λ answer. IsWhole deck.new) }
-    ensures reads { IsReadWithin limit deck.old deck.new }
-    ensures stops { IfErr result (StopsFor (IsWhole deck.new) (StopsWithin limit deck.old deck.new)) }
+    command: DeckCommand<'f>,
+    bytes: &[u8],
+) -> Result<Answer<'f>, Refusal>
+    ensures { Shows result (commanded command.entry bytes.now) }
 {
-    let bytes = read_text(alloc, deck, limit)?;
-    match breaches {
-        Breaches::First => Ok(check(&open_deck(alloc, &bytes)?)),
-        Breaches::All => Ok(check_all(alloc, &bytes)?),
+    match command {
+        DeckCommand::Check(Breaches::First) => Ok(check(&open_deck(alloc, bytes)?)),
+        DeckCommand::Check(Breaches::All) => check_all(alloc, bytes),
+        DeckCommand::Show(filters) => show(alloc, open_deck(alloc, bytes)?, filters),
+        DeckCommand::Write => write(alloc, &open_deck(alloc, bytes)?),
     }
 }
 
-/// What `show` gives of a deck that is read.
-fn read_shown<'f, R: Read>(
-    alloc: Global,
-    filters: &'f Filters,
-    deck: &mut Device<R>,
-    limit: u64,
-) -> Result<Answer<'f>, Unanswered>
-    requires open { IsOpen deck.old }
-    requires room { reads_of deck.old + limit < 2 ^ 64 }
-    ensures text { (bytes : List ℕ) × IsTextOf R.remaining deck.old bytes
-        × Tells result (λ shown. shown ≡ showed filters.entry.now bytes) }
-    ensures whole { IfOk result (λ answer. IsWhole deck.new) }
-    ensures reads { IsReadWithin limit deck.old deck.new }
-    ensures stops { IfErr result (StopsFor (IsWhole deck.new) (StopsWithin limit deck.old deck.new)) }
+/// An answer that is given, or a refusal.
+fn given_of<'f>(said: Result<Answer<'f>, Refusal>) -> Result<Answer<'f>, Unanswered>
+    ensures { result ≡ meaning.given_of said.entry }
 {
-    let bytes = read_text(alloc, deck, limit)?;
-    Ok(show(alloc, open_deck(alloc, &bytes)?, filters)?)
+    match said {
+        Ok(answer) => Ok(answer),
+        Err(why) => Err(Unanswered::Refused(why)),
+    }
 }
 
-/// What `write` gives of a deck that is read.
-fn read_written<'f, R: Read>(
+/// What a command gives of a deck that is read.
+fn read_commanded<'f, R: Read>(
     alloc: Global,
+    command: DeckCommand<'f>,
     deck: &mut Device<R>,
     limit: u64,
 ) -> Result<Answer<'f>, Unanswered>
-    requires open { IsOpen deck.old }
-    requires room { reads_of deck.old + limit < 2 ^ 64 }
-    ensures text { (bytes : List ℕ) × IsTextOf R.remaining deck.old bytes
-        × Tells result (λ shown. shown ≡ written bytes) }
+    requires { IsReady limit deck.old }
+    ensures text { OfText R.remaining deck.old
+        (λ bytes. Tells result (λ shown. shown ≡ commanded command.entry bytes)) }
     ensures whole { IfOk result (λ answer. IsWhole deck.new) }
     ensures reads { IsReadWithin limit deck.old deck.new }
-    ensures stops { IfErr result (StopsFor (IsWhole deck.new) (StopsWithin limit deck.old deck.new)) }
+    ensures stops { IfErr result (StopsFor (IsWhole deck.new) (StopsAt R.remaining limit deck.old deck.new ⊥)) }
 {
     let bytes = read_text(alloc, deck, limit)?;
-    Ok(write(alloc, &open_deck(alloc, &bytes)?)?)
+    given_of(carry_out(alloc, command, &bytes))
 }
 
 /// What `apply` gives of a deck and a change deck that are read.
@@ -372,22 +351,21 @@ fn read_applied<'f, R: Read, S: Read>(
     change: &mut Device<S>,
     limit: u64,
 ) -> Result<Answer<'f>, Unanswered>
-    requires open { IsOpen deck.old }
-    requires open_change { IsOpen change.old }
-    requires room { reads_of deck.old + limit < 2 ^ 64 }
-    requires room_change { reads_of change.old + limit < 2 ^ 64 }
-    ensures text { (bytes : List ℕ) × (lines : List ℕ)
-        × IsTextOf R.remaining deck.old bytes × IsTextOf S.remaining change.old lines
-        × Tells result (λ shown. shown ≡ applied asked.now bytes lines) }
-    ensures whole { IfOk result (λ answer. IsWhole deck.new × IsWhole change.new) }
-    ensures reads { IsReadWithin limit deck.old deck.new × IsReadWithin limit change.old change.new }
-    ensures stops { IfErr result (StopsFor (IsWhole deck.new) (StopsWithin limit deck.old deck.new
-        ⊎ (IsOpened R.remaining deck.old × StopsWithin limit change.old change.new))) }
+    requires ready { IsReady limit deck.old }
+    requires ready_change { IsReady limit change.old }
+    ensures text { OfText R.remaining deck.old (λ bytes. Tells result (λ shown.
+        OfText S.remaining change.old (λ lines. shown ≡ applied asked.now bytes lines))) }
+    ensures whole { IfOk result (λ answer. IsWhole deck.new) }
+    ensures whole_change { IfOk result (λ answer. IsWhole change.new) }
+    ensures reads { IsReadWithin limit deck.old deck.new }
+    ensures reads_change { IsReadWithin limit change.old change.new }
+    ensures stops { IfErr result (StopsFor (IsWhole deck.new)
+        (StopsAt R.remaining limit deck.old deck.new (StopsWithin limit change.old change.new))) }
 {
     let bytes = read_text(alloc, deck, limit)?;
     let plant = open_machine(alloc, &bytes)?;
     let lines = read_text(alloc, change, limit)?;
-    Ok(apply(alloc, heap, asked, plant, &lines)?)
+    given_of(apply(alloc, heap, asked, plant, &lines))
 }
 
 /// What `diff` gives of two decks that are read.
@@ -398,33 +376,21 @@ fn read_differed<'f, R: Read, S: Read>(
     new: &mut Device<S>,
     limit: u64,
 ) -> Result<Answer<'f>, Unanswered>
-    requires open { IsOpen old.old }
-    requires open_new { IsOpen new.old }
-    requires room { reads_of old.old + limit < 2 ^ 64 }
-    requires room_new { reads_of new.old + limit < 2 ^ 64 }
-    ensures text { (bytes : List ℕ) × (others : List ℕ)
-        × IsTextOf R.remaining old.old bytes × IsTextOf S.remaining new.old others
-        × Tells result (λ shown. shown ≡ differed before bytes others)
-        × IfOk result (meaning.HasCount bytes others) }
-    ensures whole { IfOk result (λ answer. IsWhole old.new × IsWhole new.new) }
-    ensures reads { IsReadWithin limit old.old old.new × IsReadWithin limit new.old new.new }
-    ensures stops { IfErr result (StopsFor (IsWhole old.new) (StopsWithin limit old.old old.new
-        ⊎ (IsOpened R.remaining old.old × StopsWithin limit new.old new.new))) }
+    requires ready { IsReady limit old.old }
+    requires ready_new { IsReady limit new.old }
+    ensures text { OfText R.remaining old.old (λ bytes. Tells result (λ shown.
+        OfText S.remaining new.old (IsDifference before bytes (edits_of result) shown))) }
+    ensures whole { IfOk result (λ answer. IsWhole old.new) }
+    ensures whole_new { IfOk result (λ answer. IsWhole new.new) }
+    ensures reads { IsReadWithin limit old.old old.new }
+    ensures reads_new { IsReadWithin limit new.old new.new }
+    ensures stops { IfErr result (StopsFor (IsWhole old.new)
+        (StopsAt R.remaining limit old.old old.new (StopsWithin limit new.old new.new))) }
 {
     let bytes = read_text(alloc, old, limit)?;
     let opened = open_deck(alloc, &bytes)?;
     let others = read_text(alloc, new, limit)?;
-    Ok(diff(alloc, before, &opened, &others)?)
-}
-
-/// How many edits the difference has, if there is one.
-fn edits_in(given: &Result<Answer<'_>, Unanswered>) -> Option<usize>
-    ensures { result ≡ meaning.edits_of given.now }
-{
-    match given {
-        Ok(Answer::Difference(difference)) => Some(difference.edits),
-        _ => None,
-    }
+    given_of(diff(alloc, before, &opened, &others))
 }
 
 /// What `run` gives of a deck, a script and change decks that are read.
@@ -437,25 +403,21 @@ fn read_ran<'f, R: Read, S: Read, C: Read + Drop, T: Threads + Wait + Sync>(
     changes: VecDeque<Device<C>>,
     limit: u64,
 ) -> Result<Answer<'f>, Unanswered>
-    requires open { IsOpen deck.old }
-    requires open_script { IsOpen script.old }
-    requires open_changes { All (λ (d : its_device.Device C). IsOpen d) changes.items }
-    requires room { reads_of deck.old + limit < 2 ^ 64 }
-    requires room_script { reads_of script.old + limit < 2 ^ 64 }
-    requires room_changes { All (λ (d : its_device.Device C). reads_of d + limit < 2 ^ 64) changes.items }
-    ensures text { (bytes : List ℕ) × (lines : List ℕ) × (decks : List (List ℕ))
-        × IsTextOf R.remaining deck.old bytes × IsTextOf S.remaining script.old lines
-        × AreTextsOf C.remaining changes.items decks
-        × Tells result (IsOfTexts bytes decks lines) }
-    ensures whole { IfOk result (λ answer. IsWhole deck.new × IsWhole script.new) }
-    ensures reads { IsReadWithin limit deck.old deck.new × IsReadWithin limit script.old script.new }
-    ensures stops { IfErr result (StopsFor (IsWhole deck.new) (StopsWithin limit deck.old deck.new
-        ⊎ (IsOpened R.remaining deck.old
-        × (StopsWithin limit script.old script.new ⊎ (IsWhole script.new × (changes.items ≢ [])))))) }
+    requires ready { IsReady limit deck.old }
+    requires ready_script { IsReady limit script.old }
+    requires ready_changes { All (λ (d : its_device.Device C). IsReady limit d) changes.items }
+    ensures text { OfText R.remaining deck.old (λ bytes. Tells result (λ shown.
+        OfText S.remaining script.old (IsRunOf C.remaining changes.items bytes shown))) }
+    ensures whole { IfOk result (λ answer. IsWhole deck.new) }
+    ensures whole_script { IfOk result (λ answer. IsWhole script.new) }
+    ensures reads { IsReadWithin limit deck.old deck.new }
+    ensures reads_script { IsReadWithin limit script.old script.new }
+    ensures stops { IfErr result (StopsFor (IsWhole deck.new) (StopsAt R.remaining limit deck.old deck.new
+        (StopsWithin limit script.old script.new ⊎ (IsWhole script.new × (changes.items ≢ []))))) }
 {
     let text = read_text(alloc, deck, limit)?;
     let plant = open_machine(alloc, &text)?;
     let lines = read_text(alloc, script, limit)?;
     let decks = read_texts(alloc, changes, limit)?;
-    Ok(run(rt, alloc, heap, plant, &lines, decks.as_slice())?)
+    given_of(run(rt, alloc, heap, plant, &lines, decks.as_slice()))
 }

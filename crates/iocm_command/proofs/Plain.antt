@@ -15,7 +15,7 @@ use Rattle.iocm_values.specs.Reading.{◌>>=◌, every}
 use Rattle.iocm_command.specs.CommandLine.{Stated, check, show, write, apply, IsSizeText}
 use Rattle.iocm_command.specs.Plain.{AppliesAreMeant, DecksAreMeant, IsPlainName, MeanApply, MeansApply, heap_meant}
 use Rattle.iocm_command.specs.Program.{apply_row, check_row, command_app, heap_parser, show_row, write_row}
-use Rattle.iocm_command.specs.declared.command.Breaches.TheVariants.{First}
+use Rattle.iocm_command.specs.declared.table.Breaches.TheVariants.{First}
 use Rattle.iocm_command.proofs.PlainWalk.{ArePlain, Asks, Leaf, Said, is_read, option, plain, text_of}
 use Rattle.iocm_command.proofs.Reading.{size_found, size_passes}
 

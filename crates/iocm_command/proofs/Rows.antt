@@ -6,7 +6,7 @@ use Rattle.std.proofs.lemmas.List.{drop_more}
 use Rattle.clap.specs.Words.{AddsSubcommand, App, app_of, with_subcommand}
 use Rattle.clap.specs.declared.builder.command.Command.{Command}
 use Rattle.iocm_command.specs.Program.{command_app, has_globals, seen_row, with_command}
-use Rattle.iocm_command.specs.declared.program.Row.{Row}
+use Rattle.iocm_command.specs.declared.table.Row.{Row}
 
 -- a row is taken up, and those behind it are left
 pub row_taken : {A B X : Type 0} (f : B → A → B) (look : X → A) (b : B) (rows : List X) (i : ℕ) (d : X)

@@ -20,14 +20,12 @@ use Rattle.iocm_filter.specs.declared.misread.FilterOption.{FilterOption}
 use Rattle.iocm_reports.specs.declared.report.Report.{Report}
 use Rattle.iocm_reports.specs.declared.report.Report.TheVariants.{Table, WayBack, Altered, Count, Deck, Test}
 use Rattle.iocm_command.specs.Program.{heap_parser, iocm_app}
-use Rattle.iocm_command.specs.declared.command.Before.{Before}
-use Rattle.iocm_command.specs.declared.command.Before.TheVariants.{LeftOut, Shown}
-use Rattle.iocm_command.specs.declared.command.Breaches.{Breaches}
-use Rattle.iocm_command.specs.declared.command.Breaches.TheVariants.{First, All}
-use Rattle.iocm_command.specs.declared.command.Command.{Command}
-use Rattle.iocm_command.specs.declared.command.Command.TheVariants.{Answer, Diff, Explain, Run}
-use Rattle.iocm_command.specs.declared.command.Request.{Request}
-use Rattle.iocm_command.specs.declared.command.Request.TheVariants.{Check, Show, Write, Apply}
+use Rattle.iocm_command.specs.declared.table.Before.{Before}
+use Rattle.iocm_command.specs.declared.table.Before.TheVariants.{LeftOut, Shown}
+use Rattle.iocm_command.specs.declared.table.Breaches.{Breaches}
+use Rattle.iocm_command.specs.declared.table.Breaches.TheVariants.{First, All}
+use Rattle.iocm_command.specs.declared.table.Command.{Command}
+use Rattle.iocm_command.specs.declared.table.Command.TheVariants.{Check, Show, Write, Diff, Apply, Run, Explain}
 use Rattle.iocm_command.specs.declared.command.Understood.{Understood}
 
 -- what is asked for: files by their names, and what else a command takes
@@ -48,31 +46,16 @@ pub record Stated : Type 0 where
 -- ---- what the code's values ask for
 
 abbrev pub meant_of : Command → Meant
-meant_of (Answer (Check deck breaches)) = check deck.now breaches
-meant_of (Answer (Show deck filters)) = show deck.now filters
-meant_of (Answer (Write deck)) = write deck.now
-meant_of (Answer (Apply deck change heap report filters)) = apply deck.now change.now heap report filters
+meant_of (Check deck breaches) = check deck.now breaches
+meant_of (Show deck filters) = show deck.now filters
+meant_of (Write deck) = write deck.now
 meant_of (Diff old new before) = diff old.now new.now before
-meant_of (Explain rules) = explain (texts rules.items)
+meant_of (Apply deck change heap report filters) = apply deck.now change.now heap report filters
 meant_of (Run deck script changes heap) = run deck.now script.now (texts changes.items) heap
+meant_of (Explain rules) = explain (texts rules.items)
 
 abbrev pub understood_of : Understood → Stated
 understood_of u = record { command = meant_of u.command; quiet = u.quiet }
-
--- the deck of a request, its change deck if it has one, and its deck if it asks for all breaches
-abbrev pub deck_name_of : Request → Text
-deck_name_of (Check deck breaches) = deck.now
-deck_name_of (Show deck filters) = deck.now
-deck_name_of (Write deck) = deck.now
-deck_name_of (Apply deck change heap report filters) = deck.now
-
-abbrev pub change_deck_of : Request → Option Text
-change_deck_of (Apply deck change heap report filters) = Some change.now
-change_deck_of _ = None
-
-abbrev pub all_asked_of : Request → Option Text
-all_asked_of (Check deck All) = Some deck.now
-all_asked_of _ = None
 
 -- ---- what is found under the arguments of a command
 

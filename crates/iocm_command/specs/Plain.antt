@@ -7,7 +7,7 @@ use Rattle.iocm_filter.specs.Wanted.{nothing}
 use Rattle.iocm_reports.specs.declared.report.Report.{Report}
 use Rattle.iocm_reports.specs.declared.report.Report.TheVariants.{Table, WayBack}
 use Rattle.iocm_command.specs.CommandLine.{Meant, apply, check, commanded, number_of, run, show, write, IsSizeText}
-use Rattle.iocm_command.specs.declared.command.Breaches.TheVariants.{First}
+use Rattle.iocm_command.specs.declared.table.Breaches.TheVariants.{First}
 
 -- a name that doesn't begin with a hyphen
 abbrev pub IsPlainName : Text → Type 0

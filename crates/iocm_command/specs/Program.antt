@@ -9,7 +9,7 @@ use Rattle.clap.specs.declared.builder.value_parser.ValueParser.TheVariants.{Uns
 use Rattle.iocm_command.specs.declared.argument.Argument.{Argument}
 use Rattle.iocm_command.specs.declared.argument.Form.{Form}
 use Rattle.iocm_command.specs.declared.argument.Form.TheVariants.{File, Words, Heap, Flag, Letter, Filter}
-use Rattle.iocm_command.specs.declared.program.Row.{Row}
+use Rattle.iocm_command.specs.declared.table.Row.{Row}
 
 -- the size of a heap in bytes: 16 to 16777216
 unfoldable pub heap_parser : ValueParser

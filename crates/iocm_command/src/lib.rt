@@ -1,16 +1,15 @@
 //! The command line of `iocm`: what its words ask for.
 //!
 //! `command_of` reads the words by `clap`. It gives the `Command` that they state, and whether
-//! standard error is to be quiet. A command is a `Request` of a deck, two decks to compare, a refusal
-//! to explain, or a script to run. Help, the version and every mistake in the words are errors of
+//! standard error is to be quiet. Help, the version and every mistake in the words are errors of
 //! `clap`.
 //!
-//! `program.rt` has the table of the commands and of what they take, of which `clap` is told;
-//! `argument.rt` has the kinds of arguments. `matches.rt` reads what `clap` found in the words.
-//! `specs/Program.antt` has the table without its help, and `specs/CommandLine.antt` what words mean.
-//! `laws.rt` states what words mean that name a command and its files plainly.
+//! `table.rt` has the table of the commands: what each takes, and what it asks for. `program.rt` tells
+//! `clap` of it, and `matches.rt` reads what `clap` found in the words; `argument.rt` has the kinds of
+//! arguments. `specs/Program.antt` has the table without its help, and `specs/CommandLine.antt` what
+//! words mean. `laws.rt` states what words mean that name a command and its files plainly.
 //!
-//! Begin with `command.rt`. What names no source is our own.
+//! Begin with `table.rt` and `command.rt`. What names no source is our own.
 #![tactic(auto)]
 
 mod argument;
@@ -18,6 +17,8 @@ mod command;
 mod laws;
 mod matches;
 mod program;
+mod table;
 
-pub use command::{Before, Breaches, Command, Request, Understood, command_of};
+pub use command::{Understood, command_of};
 pub use laws::plain_words_are_understood;
+pub use table::{Before, Breaches, Command};

@@ -9,7 +9,7 @@ ghost use Rattle.iocm_command.specs.CommandLine as meaning;
 ghost use Rattle.iocm_command.specs.CommandLine.{GivesSize, IsSizeText, meant_of, rows_in, understood_of, values_under};
 
 use crate::argument::{LARGEST_HEAP, LEAST_HEAP};
-use crate::command::{Before, Breaches, Command, Request, Understood};
+use crate::{Before, Breaches, Command, Understood};
 use clap::ArgMatches;
 use iocm_filter::{FilterWords, Filters, Misread};
 use iocm_reports::Report;
@@ -179,7 +179,7 @@ fn check_in<'a>(found: &ArgMatches<'a>) -> Result<Command<'a>, Unread>
 {
     let deck = value_of(found, "DECK")?;
     let breaches = breaches_in(found);
-    Ok(Command::Answer(Request::Check { deck, breaches }))
+    Ok(Command::Check { deck, breaches })
 }
 
 /// What `show` asks for.
@@ -188,7 +188,7 @@ fn show_in<'a>(alloc: Global, found: &ArgMatches<'a>) -> Result<Command<'a>, Unr
 {
     let deck = value_of(found, "DECK")?;
     let filters = filters_in(alloc, found)?;
-    Ok(Command::Answer(Request::Show { deck, filters }))
+    Ok(Command::Show { deck, filters })
 }
 
 /// What `write` asks for.
@@ -196,7 +196,7 @@ fn write_in<'a>(found: &ArgMatches<'a>) -> Result<Command<'a>, Unread>
     ensures { Reads meant_of result (meaning.write_in (rows_in found.now)) }
 {
     let deck = value_of(found, "DECK")?;
-    Ok(Command::Answer(Request::Write { deck }))
+    Ok(Command::Write { deck })
 }
 
 /// What `diff` asks for.
@@ -218,13 +218,13 @@ fn apply_in<'a>(alloc: Global, found: &ArgMatches<'a>) -> Result<Command<'a>, Un
     let heap = heap_in(found)?;
     let report = report_in(found)?;
     let filters = filters_in(alloc, found)?;
-    Ok(Command::Answer(Request::Apply {
+    Ok(Command::Apply {
         deck,
         change,
         heap,
         report,
         filters,
-    }))
+    })
 }
 
 /// What `run` asks for.

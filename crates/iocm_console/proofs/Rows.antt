@@ -1,194 +1,247 @@
--- The lines of a list are those of its parts, one after the other.
-use Rattle.std.proofs.Common.{◌≡◌, ℕ, ◌==◌, ◌+◌, ◌<◌, List, [], ◌∷◌, ◌++◌, length, take, map, filter, get_or, Bool}
-use Rattle.std.proofs.Common.{true, false, not, Option, Some, None, arith, refl, ◌∙◌, sym, ap, subst, suc}
-use Rattle.std.specs.List.{All, flat_map, filter_map}
+-- The lines of a list are those of its parts, one after the other, and all lines are the table.
+use Rattle.std.proofs.Common.{◌≡◌, ℕ, ◌==◌, ◌+◌, ◌<◌, ◌&&◌, List, [], ◌∷◌, ◌++◌, length, take, map, filter, get_or}
+use Rattle.std.proofs.Common.{Bool, true, false, cond, not, Option, Some, None, refl, ◌∙◌, sym, ap, ap₂, subst}
+use Rattle.std.specs.List.{flat_map, filter_map, cons_option}
+use Rattle.std.specs.Option.{option_map}
+use Rattle.std.specs.Prelude.{IfSome}
+use Rattle.std.specs.FinMap.{entries}
 use Rattle.std.proofs.lemmas.List.{take_more, map-append, append-nil, append_assoc}
-use Rattle.std.proofs.lemmas.List.Elements.{All-pop, filter-append, filter_map-append}
+use Rattle.std.proofs.lemmas.List.Elements.{All-pop, All-rest, filter-append, filter_agree, filter_map-append}
 use Rattle.std.proofs.lemmas.Grind.{flat_map-append}
-use Rattle.std.proofs.lemmas.Bool.{eqb-true, not-false}
-use Rattle.std.proofs.lemmas.Bool.Decides.{nat_tests}
+use Rattle.iocm_types.specs.declared.key.Key.{Key}
 use Rattle.iocm_types.specs.declared.place.NumberCell.{NumberCell}
+use Rattle.iocm_types.specs.declared.sub_id.SubId.{SubId}
+use Rattle.iocm_types.specs.declared.view.View.{View}
 use Rattle.iocm_record.specs.declared.record.RecordBody.{RecordBody}
 use Rattle.iocm_record.specs.declared.record.RecordBody.TheVariants as body
 use Rattle.iocm_record.specs.Meaning.{record_of}
 use Rattle.iocm_model.specs.Machine.Record.{Rec, ImageRecord, image}
-use Rattle.std.specs.FinMap.{entries}
-use Rattle.iocm_types.specs.declared.key.Key.{Key}
-use Rattle.iocm_types.specs.declared.sub_id.SubId.{SubId}
-use Rattle.iocm_model.specs.Machine.Configuration.{Configuration, Lookup, lookup_of, as_image, records_of}
+use Rattle.iocm_model.specs.Machine.Configuration.{Configuration, Lookup, lookup_of, as_image, images_of}
 use Rattle.iocm_model.specs.Machine.Numbering.{Numbering, cells_of}
 use Rattle.iocm_model.specs.Machine.Table.{line_of, heading, table_of}
-use Rattle.iocm_model.specs.Machine.View.{row_at, image_view}
-use Rattle.iocm_types.specs.declared.view.View.{View}
+use Rattle.iocm_model.specs.Machine.View.{row_at, image_view, views}
+use Rattle.iocm_derive.specs.Sighted.{Sighted}
+use Rattle.iocm_filter.specs.Wanted.{Wanted, wanted, wants_view, asks_nothing}
+use Rattle.iocm_filter.specs.Sieves.{Sieve, passes_device, IsSieveFor}
+use Rattle.iocm_filter.proofs.WantedLaws.{nothing_is_all, passes_wanted}
 use Rattle.iocm_console.specs.declared.cells.CellDevice.{CellDevice}
-use Rattle.iocm_console.specs.declared.subsystem_cells.SubsystemCells.{SubsystemCells}
-use Rattle.iocm_console.specs.Alike.{IsAlike, StayAlike}
-use Rattle.iocm_console.specs.Gathered.{Gathered}
-use Rattle.iocm_console.specs.Table.{table_at}
-use Rattle.iocm_console.specs.Lines.{CellDevices, celled, lines_of, image_lines, record_lines, AreNear, HaveSameLines}
+use Rattle.iocm_console.specs.declared.seen.Seen.{Seen}
+use Rattle.iocm_console.specs.Alike.{IsAlike, ServeFor, is_of, IsSeenAt}
+use Rattle.iocm_console.specs.Lines.{CellDevices, Gathered, celled, image_of, subchannel_at, seen_at, is_image_kept}
+use Rattle.iocm_console.specs.Lines.{is_kept, kept_line, image_lines, record_lines}
+use Rattle.iocm_console.specs.Table.{text_by, wanted_table}
 
--- the lines of an image at some cells and at further ones
-pub image_lines-append : (c : Lookup) (i : ImageRecord) (xs ys : CellDevices)
-    → image_lines c i (xs ++ ys) ≡ image_lines c i xs ++ image_lines c i ys
-unfolding image_lines lines_of
-image_lines-append c i xs ys = simp (filter-append, filter_map-append, flat_map-append)
+-- ---- one more
 
--- the lines of some records and of further ones
-pub record_lines-append : (c : Lookup) (cells : CellDevices) (xs ys : List Rec)
-    → record_lines c cells (xs ++ ys) ≡ record_lines c cells xs ++ record_lines c cells ys
-unfolding record_lines
-record_lines-append c cells xs ys = simp (filter_map-append, flat_map-append)
-
--- a cell of another channel subsystem gives no line
-pub other_css : (c : Lookup) (i : ImageRecord) (e : NumberCell × ℕ) → (e.0.css == i.css) ≡ false
-    → image_lines c i (e ∷ []) ≡ []
-unfolding image_lines lines_of
-other_css c i e h = rw h refl
-
--- nor does one at which the image sees no device
-pub no_view : (c : Lookup) (i : ImageRecord) (e : NumberCell × ℕ) → image_view c i e.0.set e.1 ≡ None
-    → image_lines c i (e ∷ []) ≡ []
-unfolding image_lines lines_of
-no_view c i e h = go (e.0.css == i.css) refl
-  where
-    go : (t : Bool) → (e.0.css == i.css) ≡ t → image_lines c i (e ∷ []) ≡ []
-    go true t = rw (t, h) refl
-    go false t = rw t refl
-
--- a view gives its line
-pub one_view : (c : Lookup) (i : ImageRecord) (e : NumberCell × ℕ) (v : View) → e.0.css ≡ i.css
-    → image_view c i e.0.set e.1 ≡ Some v
-    → image_lines c i (e ∷ [])
-    ≡ line_of (record { image = record { css = i.css; mif = i.mif }; set = e.0.set; number = e.0.number }, v)
-    ++ 10 ∷ []
-unfolding image_lines lines_of
-one_view c i e v same h = let t : (e.0.css == i.css) ≡ true = grind (arith, nat_tests) in rw (t, h) (append-nil _)
-
--- the lines of an image at one more cell
-pub image_lines_more : (c : Lookup) (i : ImageRecord) (xs : List CellDevice) (k : ℕ) (x : CellDevice) → k < length xs
-    → x ≡ get_or xs k x
-    → image_lines c i (celled (take k xs)) ++ image_lines c i (celled (x ∷ []))
-    ≡ image_lines c i (celled (take (k + 1) xs))
-image_lines_more c i xs k x h is =
-    sym (ap (image_lines c i)
-    (ap celled (take_more xs k x h ∙ ap (λ y. take k xs ++ y ∷ []) (sym is)) ∙ map-append _ (take k xs) _)
-    ∙ image_lines-append c i _ _)
+-- the line at one more cell
+pub image_lines_more : (s : Option Sieve) (start now : Sighted) → now ≡ start → (xs : List CellDevice) (k : ℕ)
+    (x : CellDevice) → k < length xs → x ≡ get_or xs k x
+    → (id : SubId) (seen : Seen) → id ≡ subchannel_at (image_of start.image) x.cell
+    → IsSeenAt (lookup_of now.records) now.image seen x
+    → image_lines s (lookup_of start.records) start.image (celled (take k xs)) ++ kept_line s id seen.view
+    ≡ image_lines s (lookup_of start.records) start.image (celled (take (k + 1) xs))
+unfolding image_lines
+image_lines_more s start now same xs k x h is id seen here at =
+    let lines = λ (e : NumberCell × ℕ). kept_line s (subchannel_at (image_of start.image) e.0)
+    (seen_at (lookup_of start.records) start.image e) in
+    let view = at.view ∙ ap (λ (z : Sighted). seen_at (lookup_of z.records) z.image (x.cell, x.device)) same in
+    ap (λ ls. flat_map lines (celled (take k xs)) ++ ls) ((λ i. kept_line s (here i) (view i)) ∙ sym (append-nil _))
+    ∙ sym (ap (flat_map lines)
+    (ap celled (take_more xs k x h ∙ ap (λ y. take k xs ++ y ∷ []) (sym is)) ∙ map-append _ (take k xs) (x ∷ []))
+    ∙ flat_map-append lines (celled (take k xs)) ((x.cell, x.device) ∷ []))
 
 -- the records of rows, as they are shown
 abbrev pub records_in : {A : Type 0} → (A → Key × Rec) → List A → List Rec
 records_in shows rows = map (λ (e : Key × Rec). e.1) (map shows rows)
 
 -- the lines of one more row
-pub record_lines_more : {A : Type 0} (c : Lookup) (cells : CellDevices) (shows : A → Key × Rec) (rows : List A) (x : A)
-    → record_lines c cells (records_in shows rows) ++ record_lines c cells ((shows x).1 ∷ [])
-    ≡ record_lines c cells (records_in shows (rows ++ x ∷ []))
-record_lines_more c cells shows rows x =
-    sym (ap (record_lines c cells)
-    (ap (map (λ (e : Key × Rec). e.1)) (map-append shows rows (x ∷ [])) ∙ map-append _ (map shows rows) _)
-    ∙ record_lines-append c cells _ _)
+pub record_lines_more : {A : Type 0} (s : Option Sieve) (c : Lookup) (cells : CellDevices) (shows : A → Key × Rec)
+    (rows : List A) (x : A)
+    → record_lines s c cells (records_in shows rows) ++ record_lines s c cells ((shows x).1 ∷ [])
+    ≡ record_lines s c cells (records_in shows (rows ++ x ∷ []))
+unfolding record_lines
+record_lines_more s c cells shows rows x = simp (map-append, filter_map-append, flat_map-append)
+
+-- ---- none
+
+-- no cells give no lines, nor do no records
+pub image_lines-nil : (s : Option Sieve) (c : Lookup) (i : ImageRecord) → [] ≡ image_lines s c i []
+unfolding image_lines
+image_lines-nil s c i = refl
+
+pub record_lines-nil : (s : Option Sieve) (c : Lookup) (cells : CellDevices) → [] ≡ record_lines s c cells []
+unfolding record_lines
+record_lines-nil s c cells = refl
 
 -- the lines of a record that is an image's
-pub record_lines-image : (c : Lookup) (cells : CellDevices) (r : Rec) (i : ImageRecord) → r ≡ image i
-    → image_lines c i cells ≡ record_lines c cells (r ∷ [])
+pub record_lines-image : (s : Option Sieve) (c : Lookup) (cells : CellDevices) (r : Rec) (i : ImageRecord) → r ≡ image i
+    → image_lines s c i cells ≡ record_lines s c cells (r ∷ [])
 unfolding record_lines
-record_lines-image c cells r i same = rw same (sym (append-nil _))
+record_lines-image s c cells r i same = rw same (sym (append-nil _))
 
--- any other record has none
-pub record_lines-other : (c : Lookup) (cells : CellDevices) (r : Rec) → as_image r ≡ None
-    → record_lines c cells (r ∷ []) ≡ []
+-- a record that is no image's has none
+pub record_lines-other : {A : Type 0} (s : Option Sieve) (c : Lookup) (cells : CellDevices) (r : Rec) (b : RecordBody A)
+    → record_of b ≡ r → ((css mif : ℕ) (name : List ℕ) → b ≡ body.Image css mif name → ⊥)
+    → [] ≡ record_lines s c cells (r ∷ [])
 unfolding record_lines
-record_lines-other c cells r none = rw none refl
+record_lines-other s c cells r b is other = rw (← is) (by b other)
+  where
+    by : {A : Type 0} (b : RecordBody A) → ((css mif : ℕ) (name : List ℕ) → b ≡ body.Image css mif name → ⊥)
+        → [] ≡ flat_map (λ i. image_lines s c i cells) (filter_map as_image (record_of b ∷ []))
+    by (body.Id x) h = refl
+    by (body.Resource x) h = refl
+    by (body.Image css mif name) h = absurd (h css mif name refl)
+    by (body.Limit css set limit) h = refl
+    by (body.Path x) h = refl
+    by (body.Unit x) h = refl
+    by (body.Device x) h = refl
+    by (body.Online css path name) h = refl
 
--- no cells give no lines
-pub image_lines-nil : (c : Lookup) (i : ImageRecord) → [] ≡ image_lines c i []
-unfolding image_lines lines_of
-image_lines-nil c i = refl
+-- nor has an image that doesn't pass
+pub image_lines-not_kept : (s : Option Sieve) (c : Lookup) (i : ImageRecord) → is_image_kept s (image_of i) ≡ false
+    → (cells : CellDevices) → [] ≡ image_lines s c i cells
+unfolding image_lines
+image_lines-not_kept None c i not cells = cc
+image_lines-not_kept (Some s) c i not [] = refl
+image_lines-not_kept (Some s) c i not (e ∷ es) = image_lines-not_kept (Some s) c i not es ∙ by (seen_at c i e)
+  where
+    by : (o : Option View) → image_lines (Some s) c i es
+        ≡ kept_line (Some s) (subchannel_at (image_of i) e.0) o ++ image_lines (Some s) c i es
+    by None = refl
+    by (Some v) = ap (λ b. cond (b && passes_device s e.0.set v.device && wants_view s.asked i.css v)
+        (line_of (subchannel_at (image_of i) e.0, v) ++ 10 ∷ []) [] ++ image_lines (Some s) c i es) (sym not)
 
--- no records give no lines
-pub record_lines-nil : (c : Lookup) (cells : CellDevices) → [] ≡ record_lines c cells []
-unfolding record_lines
-record_lines-nil c cells = refl
+-- ---- the cells of a channel subsystem serve for its images
 
--- a record that is no image's
-pub no_image : {A : Type 0} (b : RecordBody A) → ((css mif : ℕ) (name : List ℕ) → b ≡ body.Image css mif name → ⊥)
-    → as_image (record_of b) ≡ None
-no_image (body.Id x) h = refl
-no_image (body.Resource x) h = refl
-no_image (body.Image css mif name) h = absurd (h css mif name refl)
-no_image (body.Limit css set limit) h = refl
-no_image (body.Path x) h = refl
-no_image (body.Unit x) h = refl
-no_image (body.Device x) h = refl
-no_image (body.Online css path name) h = refl
-
--- lines of a list of lists of rows
-lines_of-flat_map : (f : ImageRecord → List (SubId × View)) (is : List ImageRecord)
-    → lines_of (flat_map f is) ≡ flat_map (λ i. lines_of (f i)) is
-unfolding lines_of
-lines_of-flat_map f [] = refl
-lines_of-flat_map f (i ∷ is) =
-    flat_map-append _ (f i) (flat_map f is) ∙ ap (λ xs. lines_of (f i) ++ xs) (lines_of-flat_map f is)
-
--- the heading and then the lines of all records are the table
-pub table_lines : (c : Configuration) (n : Numbering) (cells : CellDevices) → cells ≡ entries (cells_of n)
-    → (heading ++ 10 ∷ []) ++ record_lines (lookup_of c) cells (records_of c) ≡ table_of c n
-unfolding record_lines image_lines lines_of
-table_lines c n cells places =
-    append_assoc heading (10 ∷ []) _
-    ∙ ap (λ (xs : List ℕ). heading ++ 10 ∷ xs) (rw (← places) (sym (lines_of-flat_map
-    (λ i. filter_map (row_at (lookup_of c) i) (filter (λ (e : NumberCell × ℕ). e.0.css == i.css) cells))
-    (filter_map as_image (records_of c)))))
-
--- so is the table of cells that are those of the numbers
-pub table_of_cells : (t : Gathered) (c : Configuration) (n : Numbering) → t.records ≡ c → t.cells ≡ entries (cells_of n)
-    → table_at t ≡ table_of c n
-table_of_cells t c n same places =
-    ap (λ m. table_at (record { records = m; cells = t.cells })) same ∙ table_lines c n t.cells places
-
--- cells without a first or a last one of another channel subsystem have the same lines
+-- cells without a first or a last one of another channel subsystem
 pub without_first : (css : ℕ) (first : CellDevice) (rest more all : List CellDevice) → rest ≡ first ∷ more
-    → (first.cell.css == css) ≡ false
-    → HaveSameLines css (celled rest) (celled all) → HaveSameLines css (celled more) (celled all)
-without_first css first rest more all is other same c i here =
-    ap (λ xs. xs ++ image_lines c i (celled more))
-    (sym (other_css c i (first.cell, first.device) (ap (λ n. first.cell.css == n) here ∙ other)))
-    ∙ sym (image_lines-append c i ((first.cell, first.device) ∷ []) (celled more))
-    ∙ ap (λ xs. image_lines c i (celled xs)) (sym is) ∙ same c i here
+    → is_of css first ≡ false → ServeFor css rest all → ServeFor css more all
+without_first css first rest more all is other serve = record {
+  own = ap (λ b. cond b (first ∷ filter (is_of css) more) (filter (is_of css) more)) (sym other)
+      ∙ ap (filter (is_of css)) (sym is) ∙ serve.own;
+  alike = λ c h. All-rest (IsAlike c) first more rest is (serve.alike c h);
+}
 
 pub without_last : (css : ℕ) (last : CellDevice) (rest more all : List CellDevice) → rest ≡ more ++ last ∷ []
-    → (last.cell.css == css) ≡ false
-    → HaveSameLines css (celled rest) (celled all) → HaveSameLines css (celled more) (celled all)
-without_last css last rest more all is other same c i here =
-    sym (append-nil (image_lines c i (celled more)))
-    ∙ ap (λ xs. image_lines c i (celled more) ++ xs)
-    (sym (other_css c i (last.cell, last.device) (ap (λ n. last.cell.css == n) here ∙ other)))
-    ∙ sym (image_lines-append c i (celled more) ((last.cell, last.device) ∷ []))
-    ∙ ap (image_lines c i) (sym (map-append (λ (e : CellDevice). (e.cell, e.device)) more (last ∷ [])))
-    ∙ ap (λ xs. image_lines c i (celled xs)) (sym is) ∙ same c i here
+    → is_of css last ≡ false → ServeFor css rest all → ServeFor css more all
+without_last css last rest more all is other serve = record {
+  own = sym (append-nil _) ∙ ap (λ b. filter (is_of css) more ++ cond b (last ∷ []) []) (sym other)
+      ∙ sym (filter-append (is_of css) more (last ∷ [])) ∙ ap (filter (is_of css)) (sym is) ∙ serve.own;
+  alike = λ c h. (All-pop (IsAlike c) rest more (Some last) is (serve.alike c h)).0;
+}
 
--- and they are alike where all cells are
-pub alike_after_first : (first : CellDevice) (rest more all : List CellDevice) → rest ≡ first ∷ more
-    → StayAlike rest all → StayAlike more all
-alike_after_first first rest more all is stay c h k d within =
-    let whole : All (IsAlike c) (first ∷ more) = subst (All (IsAlike c)) is (stay c h) in
-    whole (suc k) d (omega arith)
+-- an image has its lines at the cells of its channel subsystem
+own_lines : (s : Option Sieve) (c : Lookup) (i : ImageRecord) (xs : List CellDevice)
+    → image_lines s c i (celled xs) ≡ image_lines s c i (celled (filter (is_of i.css) xs))
+unfolding image_lines
+own_lines s c i [] = refl
+own_lines s c i (x ∷ xs) = by (is_of i.css x) refl (own_lines s c i xs)
+  where
+    line : Bool → List ℕ
+    line t = kept_line s (subchannel_at (image_of i) x.cell)
+        (cond t (image_view c i x.cell.set x.device) None)
 
-pub alike_before_last : (last : CellDevice) (rest more all : List CellDevice) → rest ≡ more ++ last ∷ []
-    → StayAlike rest all → StayAlike more all
-alike_before_last last rest more all is stay c h = (All-pop (IsAlike c) rest more (Some last) is (stay c h)).0
+    by : (t : Bool) → is_of i.css x ≡ t
+        → image_lines s c i (celled xs) ≡ image_lines s c i (celled (filter (is_of i.css) xs))
+        → line (is_of i.css x) ++ image_lines s c i (celled xs)
+        ≡ image_lines s c i (celled (cond t (x ∷ filter (is_of i.css) xs) (filter (is_of i.css) xs)))
+    by true is more = ap (λ ls. line (is_of i.css x) ++ ls) more
+    by false is more = ap (λ t. line t ++ image_lines s c i (celled xs)) is ∙ more
 
--- a record has the same lines by the cells of its image's channel subsystem
-pub near_lines : (c : Lookup) (near : SubsystemCells) (all : CellDevices) (r : Rec) → AreNear all near
-    → ((i : ImageRecord) → as_image r ≡ Some i → i.css ≡ near.css)
-    → record_lines c (celled near.cells.now) (r ∷ []) ≡ record_lines c all (r ∷ [])
+-- so a record has the same lines by them
+pub near_lines : (s : Option Sieve) (c : Lookup) (css : ℕ) (near all : List CellDevice) (r : Rec) → ServeFor css near all
+    → ((i : ImageRecord) → as_image r ≡ Some i → i.css ≡ css)
+    → record_lines s c (celled near) (r ∷ []) ≡ record_lines s c (celled all) (r ∷ [])
 unfolding record_lines
-near_lines c near all r same here = by (as_image r) refl
+near_lines s c css near all r serve here = by (as_image r) refl
   where
     by : (o : Option ImageRecord) → as_image r ≡ o
-        → record_lines c (celled near.cells.now) (r ∷ []) ≡ record_lines c all (r ∷ [])
+        → record_lines s c (celled near) (r ∷ []) ≡ record_lines s c (celled all) (r ∷ [])
     by None is = rw is refl
-    by (Some i) is = rw is (ap (λ xs. xs ++ []) (same c i (here i is)))
+    by (Some i) is = rw is (ap (λ ls. ls ++ []) (own_lines s c i near
+        ∙ subst (λ n. image_lines s c i (celled (filter (is_of n) near)) ≡ image_lines s c i (celled (filter (is_of n) all)))
+        (sym (here i is)) (ap (λ xs. image_lines s c i (celled xs)) serve.own)
+        ∙ sym (own_lines s c i all)))
 
--- two channel subsystems that don't differ are one
-pub same_css : (a b : ℕ) → not (a == b) ≡ false → a ≡ b
-same_css a b same = eqb-true a b (not-false (a == b) same)
+-- ---- the table
+
+-- the lines of rows, and the rows of an image
+abbrev lines_of : List (SubId × View) → List ℕ
+lines_of rows = flat_map (λ row. line_of row ++ 10 ∷ []) rows
+
+abbrev rows_of : Lookup → CellDevices → ImageRecord → List (SubId × View)
+rows_of c cells i = filter_map (row_at c i) (filter (λ (e : NumberCell × ℕ). e.0.css == i.css) cells)
+
+-- the lines of an image are those of its rows that pass
+kept_rows : (s : Option Sieve) (c : Lookup) (i : ImageRecord) (cells : CellDevices)
+    → lines_of (filter (is_kept s) (rows_of c cells i)) ≡ image_lines s c i cells
+unfolding image_lines
+kept_rows s c i [] = refl
+kept_rows s c i (e ∷ es) = by (e.0.css == i.css) (kept_rows s c i es)
+  where
+    x : SubId
+    x = subchannel_at (image_of i) e.0
+
+    own : List (NumberCell × ℕ)
+    own = filter (λ (e : NumberCell × ℕ). e.0.css == i.css) es
+
+    MoreAre : Type 0
+    MoreAre = lines_of (filter (is_kept s) (rows_of c es i)) ≡ image_lines s c i es
+
+    passing : (v : View) (b : Bool) → MoreAre
+        → lines_of (cond b ((x, v) ∷ filter (is_kept s) (rows_of c es i)) (filter (is_kept s) (rows_of c es i)))
+        ≡ cond b (line_of (x, v) ++ 10 ∷ []) [] ++ image_lines s c i es
+    passing v true more = ap (λ ls. (line_of (x, v) ++ 10 ∷ []) ++ ls) more
+    passing v false more = more
+
+    seen : (o : Option View) → MoreAre
+        → lines_of (filter (is_kept s) (cons_option (option_map (λ (v : View). (x, v)) o) (rows_of c es i)))
+        ≡ kept_line s x o ++ image_lines s c i es
+    seen None more = more
+    seen (Some v) more = passing v (is_kept s (x, v)) more
+
+    by : (t : Bool) → MoreAre → lines_of (filter (is_kept s) (filter_map (row_at c i) (cond t (e ∷ own) own)))
+        ≡ kept_line s x (cond t (image_view c i e.0.set e.1) None) ++ image_lines s c i es
+    by true more = seen (image_view c i e.0.set e.1) more
+    by false more = more
+
+all_rows : (s : Option Sieve) (c : Lookup) (cells : CellDevices) (is : List ImageRecord)
+    → lines_of (filter (is_kept s) (flat_map (rows_of c cells) is)) ≡ flat_map (λ i. image_lines s c i cells) is
+all_rows s c cells [] = refl
+all_rows s c cells (i ∷ is) =
+    ap lines_of (filter-append (is_kept s) (rows_of c cells i) (flat_map (rows_of c cells) is))
+    ∙ flat_map-append _ (filter (is_kept s) (rows_of c cells i)) _
+    ∙ ap₂ ◌++◌ (kept_rows s c i cells) (all_rows s c cells is)
+
+-- what passes is what is asked for
+is_wanted : (s : Option Sieve) (c : Configuration) (w : Wanted) → (s ≡ None → asks_nothing w ≡ true)
+    → IfSome s (IsSieveFor w c) → (row : SubId × View) → is_kept s row ≡ wanted w c row
+is_wanted None c w none some row = sym (nothing_is_all w (none refl) c row)
+is_wanted (Some s) c w none some row = passes_wanted w c s some row
+
+-- the text of a table is the heading, and the lines of what passes
+text_is : (s : Option Sieve) (t : Gathered) (c : Configuration) (n : Numbering) → t.records ≡ c
+    → t.cells ≡ entries (cells_of n) → text_by s t ≡ heading ++ (10 ∷ lines_of (filter (is_kept s) (views c n)))
+unfolding record_lines
+text_is s t c n same places =
+    append_assoc heading (10 ∷ []) _
+    ∙ ap (λ (ls : List ℕ). heading ++ 10 ∷ ls) (sym (all_rows s (lookup_of t.records) t.cells (images_of t.records)))
+    ∙ (λ j. heading ++ (10 ∷ lines_of (filter (is_kept s)
+    (flat_map (rows_of (lookup_of (same j)) (places j)) (images_of (same j))))))
+
+-- it is the table of what is asked for
+pub table_is : (s : Option Sieve) (t : Gathered) (c : Configuration) (n : Numbering) (w : Wanted) → t.records ≡ c
+    → t.cells ≡ entries (cells_of n)
+    → (s ≡ None → asks_nothing w ≡ true) → IfSome s (IsSieveFor w c) → text_by s t ≡ wanted_table w c n
+table_is s t c n w same places none some = text_is s t c n same places
+    ∙ ap (λ rows. heading ++ (10 ∷ lines_of rows)) (filter_agree _ _ (is_wanted s c w none some) (views c n))
+
+all_kept : (rows : List (SubId × View)) → filter (is_kept None) rows ≡ rows
+all_kept [] = refl
+all_kept (row ∷ rows) = ap (λ more. row ∷ more) (all_kept rows)
+
+-- and without a sieve it is that of all subchannels
+pub whole_table : (t : Gathered) (c : Configuration) (n : Numbering) → t.records ≡ c → t.cells ≡ entries (cells_of n)
+    → text_by None t ≡ table_of c n
+whole_table t c n same places = text_is None t c n same places
+    ∙ ap (λ rows. heading ++ (10 ∷ lines_of rows)) (all_kept (views c n))

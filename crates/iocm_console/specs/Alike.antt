@@ -1,13 +1,18 @@
--- Devices that an image sees alike: on the same control units, with the same candidates.
-use Rattle.std.specs.Prelude.{◌≡◌, ℕ, ◌==◌, ◌&&◌, Bool, List, ◌++◌, All, Option, codes}
+-- Devices that an image sees alike, on the same control units, with the same candidates; and what an image sees
+-- at a number cell and at the next cell.
+use Rattle.std.specs.Prelude.{◌≡◌, ℕ, ◌==◌, ◌&&◌, Bool, List, ◌++◌, All, filter, Option, codes, ◌<◌, take, drop, IfSome}
 use Rattle.std.specs.Option.{option_map, option_copied}
 use Rattle.iocm_types.specs.Print.{hex4}
-use Rattle.iocm_model.specs.Machine.Record.{DeviceRecord}
+use Rattle.iocm_model.specs.Machine.Record.{DeviceRecord, ImageRecord}
 use Rattle.iocm_model.specs.Machine.Configuration.{Configuration, Lookup, lookup_of}
 use Rattle.iocm_model.specs.Machine.View.{device_record}
 use Rattle.iocm_record.specs.Meaning.{device_of}
 use Rattle.iocm_console.specs.declared.cells.CellDevice.{CellDevice}
 use Rattle.iocm_console.specs.declared.like_devices.LikeDevice.{LikeDevice}
+use Rattle.iocm_types.specs.declared.sub_id.SubId.{SubId}
+use Rattle.iocm_types.specs.declared.view.View.{View}
+use Rattle.iocm_console.specs.declared.seen.Seen.{Seen}
+use Rattle.iocm_console.specs.Lines.{image_of, line_at, seen_at, subchannel_at}
 
 -- by what an image sees a device: its control units and its candidates
 abbrev pub seen_by : DeviceRecord → List ℕ × Option (List (List ℕ))
@@ -25,9 +30,15 @@ IsPrinted e = e.numbers ≡ hex4 e.cell.number ++ (codes " " ++ hex4 e.device)
 abbrev pub IsAlike : Lookup → CellDevice → Type 0
 IsAlike c e = AreAlike c e.cell.set e.like e.device × IsPrinted e
 
--- each cell of a list is alike where each of another list is
-abbrev pub StayAlike : List CellDevice → List CellDevice → Type 0
-StayAlike some all = (c : Lookup) → All (IsAlike c) all → All (IsAlike c) some
+-- a number cell is of a channel subsystem
+abbrev pub is_of : ℕ → CellDevice → Bool
+is_of css e = e.cell.css == css
+
+-- cells that serve for a channel subsystem in place of all cells: its own are the same, and each is
+-- alike if all are
+pub record ServeFor (css : ℕ) (some all : List CellDevice) : Type 0 where
+  pub own : filter (is_of css) some ≡ filter (is_of css) all
+  pub alike : (c : Lookup) → All (IsAlike c) all → All (IsAlike c) some
 
 -- two number cells are of one channel subsystem and set, and the same device is noted at both
 abbrev pub are_like : CellDevice → CellDevice → Bool
@@ -40,3 +51,33 @@ devices_of d = d.devices
 -- the fields are those of the device, or it isn't there
 abbrev pub IsThere : {A : Type 0} → LikeDevice A → Type 0
 IsThere d = option_map device_of (option_copied d.fields) ≡ device_record (lookup_of (devices_of d)) d.set d.device
+
+-- the cells so far are alike, and this device of the same configuration is there for the next
+abbrev pub AreCompared : {A : Type 0} → LikeDevice A → List CellDevice → Type 0
+AreCompared last cells = IsThere last × All (IsAlike (lookup_of (devices_of last))) cells
+
+-- a line with this subchannel number and this device number in their places
+abbrev pub with_numbers : ℕ → ℕ → List ℕ → List ℕ
+with_numbers number device line = take 11 line ++ (hex4 number ++ (codes " " ++ (hex4 device ++ drop 20 line)))
+
+-- a view, but of the device of this number
+abbrev pub with_device : ℕ → View → View
+with_device number v = record { device = number; paths = v.paths; pim = v.pim; pam = v.pam }
+
+-- the numbers of a subchannel and of a device have no more digits than a line has places for
+pub record HaveDigits (x : SubId) (d : ℕ) : Type 0 where
+  pub css : x.image.css < 16
+  pub mif : x.image.mif < 16
+  pub set : x.set < 16
+  pub number : x.number < 65536
+  pub device : d < 65536
+
+-- this is what the image sees at a number cell; the device there is like the one that is noted
+pub record IsSeenAt (c : Lookup) (i : ImageRecord) (seen : Seen) (e : CellDevice) : Type 0 where
+  pub alike : IsAlike c e
+  pub view : seen.view ≡ seen_at c i (e.cell, e.device)
+  pub line : seen.line.items ≡ line_at (subchannel_at (image_of i) e.cell) seen.view
+
+-- the same of the last number cell, if there was one
+abbrev pub IsSeen : Lookup → ImageRecord → Seen → Type 0
+IsSeen c i seen = IfSome (option_copied seen.cell) (IsSeenAt c i seen)

@@ -2,9 +2,7 @@ pub mod Alike
 pub mod Counted
 pub mod Digits
 pub mod Examples
-pub mod Gathered
 pub mod Lines
-pub mod NextLine
 pub mod Opening
 pub mod Output
 pub mod Refusal

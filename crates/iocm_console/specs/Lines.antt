@@ -1,45 +1,68 @@
--- The lines of the table, image by image.
-use Rattle.std.specs.Prelude.{ℕ, ◌≡◌, ◌==◌, List, [], ◌∷◌, ◌++◌, map, filter}
+-- The lines of the table, image by image, of the subchannels that pass.
+use Rattle.std.specs.Prelude.{ℕ, ◌==◌, Bool, true, List, [], ◌∷◌, ◌++◌, map, Option, None, Some, if◌then◌else◌}
 use Rattle.std.specs.List.{flat_map, filter_map}
+use Rattle.iocm_types.specs.declared.image.Image.{Image}
 use Rattle.iocm_types.specs.declared.place.NumberCell.{NumberCell}
 use Rattle.iocm_types.specs.declared.sub_id.SubId.{SubId}
 use Rattle.iocm_types.specs.declared.view.View.{View}
 use Rattle.iocm_model.specs.Machine.Record.{Rec, ImageRecord}
-use Rattle.iocm_model.specs.Machine.Configuration.{Lookup, as_image}
+use Rattle.iocm_model.specs.Machine.Configuration.{Configuration, Lookup, as_image}
 use Rattle.iocm_model.specs.Machine.Table.{line_of}
-use Rattle.iocm_model.specs.Machine.View.{row_at}
-use Rattle.iocm_console.specs.declared.table.PrintedImage.{PrintedImage}
+use Rattle.iocm_model.specs.Machine.View.{image_view}
+use Rattle.iocm_filter.specs.Sieves.{Sieve, passes, passes_image}
 use Rattle.iocm_console.specs.declared.cells.CellDevice.{CellDevice}
-use Rattle.iocm_console.specs.declared.subsystem_cells.SubsystemCells.{SubsystemCells}
 
 -- number cells with their devices
 abbrev pub CellDevices : Type 0
 CellDevices = List (NumberCell × ℕ)
 
+-- a configuration, and number cells with their devices
+pub record Gathered : Type 0 where
+  pub records : Configuration
+  pub cells : CellDevices
+
 -- each number cell with its device
 abbrev pub celled : List CellDevice → CellDevices
 celled xs = map (λ (e : CellDevice). (e.cell, e.device)) xs
 
--- the lines of some subchannels, each with its end
-unfoldable pub lines_of : List (SubId × View) → List ℕ
-lines_of rows = flat_map (λ row. line_of row ++ 10 ∷ []) rows
+-- the image of a record
+abbrev pub image_of : ImageRecord → Image
+image_of i = record { css = i.css; mif = i.mif }
 
--- the lines of an image at some number cells, of which those of its channel subsystem count
-unfoldable pub image_lines : Lookup → ImageRecord → CellDevices → List ℕ
-image_lines c i cells = lines_of (filter_map (row_at c i) (filter (λ (e : NumberCell × ℕ). e.0.css == i.css) cells))
+-- the subchannel of an image at a number cell
+abbrev pub subchannel_at : Image → NumberCell → SubId
+subchannel_at i cell = record { image = i; set = cell.set; number = cell.number }
+
+-- what an image sees at a number cell, which is that of its channel subsystem
+abbrev pub seen_at : Lookup → ImageRecord → NumberCell × ℕ → Option View
+seen_at c i e = if e.0.css == i.css then image_view c i e.0.set e.1 else None
+
+-- the line of what is seen at a subchannel, with its end
+abbrev pub line_at : SubId → Option View → List ℕ
+line_at x None = []
+line_at x (Some v) = line_of (x, v) ++ 10 ∷ []
+
+-- ---- what passes
+
+-- an image passes, or a subchannel with its view; without a sieve each does
+abbrev pub is_image_kept : Option Sieve → Image → Bool
+is_image_kept None i = true
+is_image_kept (Some s) i = passes_image s i
+
+abbrev pub is_kept : Option Sieve → SubId × View → Bool
+is_kept None row = true
+is_kept (Some s) row = passes s row
+
+-- the line of what is seen at a subchannel, if it passes
+abbrev pub kept_line : Option Sieve → SubId → Option View → List ℕ
+kept_line s x None = []
+kept_line s x (Some v) = if is_kept s (x, v) then line_of (x, v) ++ 10 ∷ [] else []
+
+-- the lines of an image at some number cells
+unfoldable pub image_lines : Option Sieve → Lookup → ImageRecord → CellDevices → List ℕ
+image_lines s c i cells =
+    flat_map (λ (e : NumberCell × ℕ). kept_line s (subchannel_at (image_of i) e.0) (seen_at c i e)) cells
 
 -- the lines of the images among some records
-unfoldable pub record_lines : Lookup → CellDevices → List Rec → List ℕ
-record_lines c cells records = flat_map (λ i. image_lines c i cells) (filter_map as_image records)
-
--- at one list of cells as at another each image of a channel subsystem has the same lines
-abbrev pub HaveSameLines : ℕ → CellDevices → CellDevices → Type 0
-HaveSameLines css some all = (c : Lookup) (i : ImageRecord) → i.css ≡ css → image_lines c i some ≡ image_lines c i all
-
--- cells that serve for a channel subsystem in place of all cells
-abbrev pub AreNear : CellDevices → SubsystemCells → Type 0
-AreNear all near = HaveSameLines near.css (celled near.cells.now) all
-
--- the record of an image
-abbrev pub image_record : PrintedImage → ImageRecord
-image_record i = record { css = i.image.css; mif = i.image.mif; name = i.name }
+unfoldable pub record_lines : Option Sieve → Lookup → CellDevices → List Rec → List ℕ
+record_lines s c cells records = flat_map (λ i. image_lines s c i cells) (filter_map as_image records)

@@ -1,5 +1,5 @@
 -- What is known of a writer, with the program's own buffer in front of it.
-use Rattle.std.specs.Prelude.{◌≡◌, ◌⊎◌, ℕ, Bool, true, List, [], ◌∷◌, ◌++◌, Option, IfSome}
+use Rattle.std.specs.Prelude.{◌≡◌, ◌⊎◌, ℕ, Bool, true, List, [], ◌∷◌, ◌++◌, Option, IfSome, Result, Ok, OnOk, IfErr}
 use Rattle.std.specs.Io.Buffered.{writer_buffer, writer_contents}
 use Rattle.std.specs.Io.KnownBytes.{Appends}
 use Rattle.std.specs.Option.{is_some}
@@ -32,6 +32,17 @@ PrintsLine contents old new shown = IfSome shown (λ text. Prints contents old n
 -- a write failed, and that is noted
 abbrev pub FailedToWrite : {W : Type 0} → Output W → ConsoleError → Type 0
 FailedToWrite output error = (error ≡ Write) × (has_failed output ≡ true)
+
+-- a call printed this text, unless a write failed, which is noted then
+pub record Writes {W T : Type 0} (contents : W → Option (List ℕ)) (result : Result T ConsoleError)
+    (old new : Output W) (shown : List ℕ) : Type 0 where
+  pub text : OnOk result (Prints contents old new shown)
+  pub works : OnOk result (has_failed new ≡ has_failed old)
+  pub fault : IfErr result (FailedToWrite new)
+
+-- this text was printed, and no write failed
+abbrev pub Wrote : {W : Type 0} → (W → Option (List ℕ)) → Output W → Output W → List ℕ → Type 0
+Wrote contents old new shown = Writes {T = Unit {0}} contents (Ok tt) old new shown
 
 -- nothing that was printed is kept back in the program's own buffer
 abbrev pub IsHandedOn : {W : Type 0} → Output W → Type 0

@@ -1,9 +1,9 @@
 -- What a command prints, and how it ends.
-use Rattle.std.specs.Prelude.{◌≡◌, ◌⊎◌, ℕ, List, Result, Ok, Err}
+use Rattle.std.specs.Prelude.{ℕ, List, Result, Ok, Err}
 use Rattle.iocm_console.specs.declared.refusal.Refusal.{Refusal}
 use Rattle.iocm_console.specs.declared.status.Status.{Status}
 use Rattle.iocm_console.specs.declared.status.Status.TheVariants as status
-use Rattle.iocm_console.specs.Refusal.{no_memory, refusal_line}
+use Rattle.iocm_console.specs.Refusal.{refusal_line}
 
 pub record Shown : Type 0 where
   pub text : List ℕ

@@ -1,9 +1,9 @@
-ghost use Rattle.std.specs.Prelude.{◌≡◌, All, IfOk};
+ghost use Rattle.std.specs.Prelude.{◌≡◌, ◌++◌, ◌∷◌, [], All, IfOk, OnOk};
 ghost use Rattle.std.specs.FinMap.{entries};
 ghost use Rattle.iocm_model.specs.Machine.Configuration.{lookup_of};
 ghost use Rattle.iocm_model.specs.Machine.Numbering.{cells_of, opening};
-ghost use Rattle.iocm_console.specs.Lines.{celled};
-ghost use Rattle.iocm_console.specs.Alike.{IsAlike, IsThere, devices_of};
+ghost use Rattle.iocm_console.specs.Lines.{celled, subchannel_at};
+ghost use Rattle.iocm_console.specs.Alike.{AreCompared, IsAlike, devices_of};
 
 use crate::like_devices::{LikeDevice, first_like};
 use crate::row::two_numbers;
@@ -11,7 +11,7 @@ use iocm_config::Config;
 use iocm_numbers::opening_cells;
 use iocm_plant::Plant;
 use iocm_table::Rows;
-use iocm_types::{DevNo, NumberCell};
+use iocm_types::{DevNo, Image, NumberCell, SubId};
 use std::alloc::{AllocError, Allocator, Global};
 use std::marker::Model;
 
@@ -27,6 +27,20 @@ pub(crate) struct CellDevice {
     pub numbers: [u8; 9],
 }
 
+impl CellDevice {
+    /// The subchannel of an image at the cell.
+    #[inline]
+    pub fn subchannel(&self, image: &Image) -> SubId
+        ensures { result ≡ subchannel_at image.now self.now.cell }
+    {
+        SubId {
+            image: *image,
+            set: self.cell.set,
+            number: self.cell.number,
+        }
+    }
+}
+
 /// A configuration and its number cells that are taken, with their devices, in their order. What
 /// devices have in common is noted once, for all images that go over them.
 #[derive(Drop)]
@@ -40,8 +54,7 @@ impl Model for TableCells {
     ghost use Rattle.std.specs.FinMap as map;
     ghost use Rattle.std.specs.Coded.{code_by, coded×, coded_list, codes};
     ghost use Rattle.iocm_model.specs.Machine.Configuration.{Configuration, lookup_of};
-    ghost use Rattle.iocm_console.specs.Lines.{CellDevices, celled};
-    ghost use Rattle.iocm_console.specs.Gathered.{Gathered};
+    ghost use Rattle.iocm_console.specs.Lines.{CellDevices, Gathered, celled};
     ghost use Rattle.iocm_console.specs.Alike.{IsAlike};
 
     ghost Value = { Gathered };
@@ -109,7 +122,7 @@ fn walked_cells(
     let mut cells = Vec::new(alloc);
     let mut last = LikeDevice::first(config);
     for (cell, device) in taken {
-        cells.push(compared(&mut last, *cell, *device))?;
+        add_compared(&mut cells, &mut last, *cell, *device)?;
     }
     Ok(cells)
 }
@@ -126,28 +139,30 @@ fn listed_cells(
     let mut cells = Vec::with_capacity(alloc, taken.len())?;
     let mut last = LikeDevice::first(config);
     for row in taken {
-        cells.push(compared(&mut last, row.0, row.1))?;
+        add_compared(&mut cells, &mut last, row.0, row.1)?;
     }
     Ok(cells)
 }
 
-/// A number cell with its device, which is compared with one before it.
-fn compared<A: Allocator>(
+/// Puts a number cell with its device, which is compared with one before it, behind others.
+fn add_compared<A: Allocator>(
+    cells: &mut Vec<CellDevice>,
     last: &mut LikeDevice<'_, A>,
     cell: NumberCell,
     device: DevNo,
-) -> CellDevice
-    requires { IsThere last.old }
-    ensures there { IsThere last.new }
+) -> Result<(), AllocError>
+    requires { AreCompared last.old cells.old.items }
+    ensures cells { OnOk result (celled cells.new.items ≡ celled cells.old.items ++ (cell, device) ∷ []) }
+    ensures compared { OnOk result (AreCompared last.new cells.new.items) }
     ensures records { devices_of last.new ≡ devices_of last.old }
-    ensures cell { result.cell ≡ cell }
-    ensures device { result.device ≡ device }
-    ensures alike { IsAlike (lookup_of (devices_of last.old)) result }
 {
-    CellDevice {
+    let like = first_like(last, cell.set, device);
+    let numbers = two_numbers(cell.number, device);
+    cells.push(CellDevice {
         cell,
         device,
-        like: first_like(last, cell.set, device),
-        numbers: two_numbers(cell.number, device),
-    }
+        like,
+        numbers,
+    })?;
+    Ok(())
 }

@@ -1,9 +1,6 @@
 ghost use Rattle.std.specs.Prelude.{◌≡◌, ◌/◌, ◌%◌, ◌<◌, [], ◌∷◌, slice_index, true};
 ghost use Rattle.std.specs.Fmt.{digit_glyph};
 
-/// The hexadecimal digits as they are printed.
-const DIGITS: [u8; 16] = *b"0123456789ABCDEF";
-
 /// The two hexadecimal digits of each byte as they are printed, 00 to FF.
 const PAIRS: [u8; 512] = *b"000102030405060708090A0B0C0D0E0F\
     101112131415161718191A1B1C1D1E1F\
@@ -28,7 +25,8 @@ pub fn digit(value: u8) -> u8
     requires { value < 16 }
     ensures { result ≡ digit_glyph true value }
 {
-    DIGITS[usize::from(value)]
+    let [_, low] = digits(value);
+    low
 }
 
 /// The two hexadecimal digits of a byte as they are printed, in upper case.

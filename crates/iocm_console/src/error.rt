@@ -11,3 +11,6 @@ pub enum ConsoleError {
     #[error("fault L6")]
     Write,
 }
+
+/// That a call wrote all that it had to write, or why it didn't.
+pub type Written = Result<(), ConsoleError>;

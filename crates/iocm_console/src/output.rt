@@ -3,12 +3,12 @@ ghost use Rattle.std.specs.Io.Buffered.{writer_contents};
 ghost use Rattle.std.specs.Option.{is_some};
 ghost use Rattle.std.specs.Io.KnownBytes.{Keeps};
 ghost use Rattle.iocm_model.specs.Machine.Table.{heading};
-ghost use Rattle.iocm_console.specs.Output.{writer_of, has_failed, IsHandedOn, Prints, PrintsLine, FailedToWrite};
+ghost use Rattle.iocm_console.specs.Output.{writer_of, has_failed, IsHandedOn, PrintsLine, FailedToWrite, Writes};
 ghost use Rattle.iocm_console.specs.Counted.{accepted_line, changed_line};
 ghost use Rattle.iocm_console.specs.Refusal.{refusal_line};
 
 use crate::row::write_heading;
-use crate::{ConsoleError, Refusal};
+use crate::{ConsoleError, Refusal, Written};
 use std::io::{BufWriter, ErrorKind, Write};
 use std::{fmt, io};
 
@@ -40,7 +40,7 @@ impl<W: Write + Drop> Output<W> {
     }
 
     /// Notes whether a write failed.
-    fn note(&mut self, written: io::Result<()>) -> Result<(), ConsoleError>
+    fn note(&mut self, written: io::Result<()>) -> Written
         ensures writer { writer_of self.new ≡ writer_of self.old }
         ensures ok { OnOk result (IsOk written) }
         ensures err { OnErr result (IsErr written) }
@@ -57,30 +57,24 @@ impl<W: Write + Drop> Output<W> {
     }
 
     /// Writes the heading of the table. Can't run out of memory.
-    pub fn heading(&mut self) -> Result<(), ConsoleError>
-        ensures text { OnOk result (Prints W.contents self.old self.new (heading ++ 10 ∷ [])) }
-        ensures works { OnOk result (has_failed self.new ≡ has_failed self.old) }
-        ensures fault { IfErr result (FailedToWrite self.new) }
+    pub fn heading(&mut self) -> Written
+        ensures { Writes W.contents result self.old self.new (heading ++ 10 ∷ []) }
     {
         let written = write_heading(&mut self.writer);
         self.note(written)
     }
 
     /// Writes the line of a refusal. Can't run out of memory.
-    pub fn refusal(&mut self, why: Refusal) -> Result<(), ConsoleError>
-        ensures text { OnOk result (Prints W.contents self.old self.new (refusal_line why)) }
-        ensures works { OnOk result (has_failed self.new ≡ has_failed self.old) }
-        ensures fault { IfErr result (FailedToWrite self.new) }
+    pub fn refusal(&mut self, why: Refusal) -> Written
+        ensures { Writes W.contents result self.old self.new (refusal_line why) }
     {
         let written = writeln!(self.writer, "{why}");
         self.note(written)
     }
 
     /// Writes that a configuration of so many records is accepted. Can't run out of memory.
-    pub fn accepted(&mut self, count: usize) -> Result<(), ConsoleError>
-        ensures text { OnOk result (Prints W.contents self.old self.new (accepted_line count)) }
-        ensures works { OnOk result (has_failed self.new ≡ has_failed self.old) }
-        ensures fault { IfErr result (FailedToWrite self.new) }
+    pub fn accepted(&mut self, count: usize) -> Written
+        ensures { Writes W.contents result self.old self.new (accepted_line count) }
     {
         let written = writeln!(self.writer, "accepted {count}");
         self.note(written)
@@ -88,17 +82,15 @@ impl<W: Write + Drop> Output<W> {
 
     /// Writes that the first change was made, and how many subchannels it altered. Can't run
     /// out of memory.
-    pub fn changed(&mut self, altered: usize) -> Result<(), ConsoleError>
-        ensures text { OnOk result (Prints W.contents self.old self.new (changed_line altered)) }
-        ensures works { OnOk result (has_failed self.new ≡ has_failed self.old) }
-        ensures fault { IfErr result (FailedToWrite self.new) }
+    pub fn changed(&mut self, altered: usize) -> Written
+        ensures { Writes W.contents result self.old self.new (changed_line altered) }
     {
         let written = writeln!(self.writer, "change 1 altered {altered}");
         self.note(written)
     }
 
     /// Writes a text as it is displayed, and the end of its line. Can't run out of memory.
-    pub fn line<D: fmt::Display + Drop>(&mut self, text: D) -> Result<(), ConsoleError>
+    pub fn line<D: fmt::Display + Drop>(&mut self, text: D) -> Written
         ensures text { OnOk result (PrintsLine W.contents self.old self.new (D.output text)) }
         ensures works { OnOk result (has_failed self.new ≡ has_failed self.old) }
         ensures fault { IfErr result (FailedToWrite self.new) }
@@ -108,17 +100,15 @@ impl<W: Write + Drop> Output<W> {
     }
 
     /// Writes these bytes. Can't run out of memory.
-    pub fn bytes(&mut self, bytes: &[u8]) -> Result<(), ConsoleError>
-        ensures text { OnOk result (Prints W.contents self.old self.new bytes.now) }
-        ensures works { OnOk result (has_failed self.new ≡ has_failed self.old) }
-        ensures fault { IfErr result (FailedToWrite self.new) }
+    pub fn bytes(&mut self, bytes: &[u8]) -> Written
+        ensures { Writes W.contents result self.old self.new bytes.now }
     {
         let written = self.writer.write_all(bytes);
         self.note(written)
     }
 
     /// Hands on what the program's own buffer still keeps back.
-    pub fn flush(&mut self) -> Result<(), ConsoleError>
+    pub fn flush(&mut self) -> Written
         ensures text { Keeps (writer_contents W.contents (writer_of self.old))
             (writer_contents W.contents (writer_of self.new)) }
         ensures handed_on { OnOk result (IsHandedOn self.new) }

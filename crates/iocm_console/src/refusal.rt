@@ -1,4 +1,4 @@
-ghost use Rattle.std.specs.Prelude.{◌≡◌};
+ghost use Rattle.std.specs.Prelude.{◌≡◌, Some};
 ghost use Rattle.iocm_console.specs.Refusal as meaning;
 
 use iocm_rules::Breach;
@@ -56,10 +56,7 @@ impl Refusal {
 
 /// A fault is about its line. Lack of memory has none.
 impl From<Fault> for Refusal {
-    ghost use Rattle.std.specs.Prelude.{◌≡◌};
-    ghost use Rattle.iocm_console.specs.Refusal.{of_fault};
-
-    ghost from_gives = { λ fault r. r ≡ of_fault fault };
+    ghost from_gives = { λ fault r. r ≡ meaning.of_fault fault };
 
     fn from(fault: Fault) -> Refusal {
         match fault.rule {
@@ -71,10 +68,7 @@ impl From<Fault> for Refusal {
 
 /// A breach is about the record that breaks the rule.
 impl From<Breach> for Refusal {
-    ghost use Rattle.std.specs.Prelude.{◌≡◌};
-    ghost use Rattle.iocm_console.specs.Refusal.{of_breach};
-
-    ghost from_gives = { λ breach r. r ≡ of_breach breach };
+    ghost from_gives = { λ breach r. r ≡ meaning.of_breach breach };
 
     fn from(breach: Breach) -> Refusal {
         Refusal::new(breach.rule, About::Key(breach.key))
@@ -83,10 +77,7 @@ impl From<Breach> for Refusal {
 
 /// The refusal of a change, or of a machine that isn't opened.
 impl From<Refused> for Refusal {
-    ghost use Rattle.std.specs.Prelude.{◌≡◌};
-    ghost use Rattle.iocm_console.specs.Refusal.{of_change};
-
-    ghost from_gives = { λ why r. r ≡ of_change why };
+    ghost from_gives = { λ why r. r ≡ meaning.of_change why };
 
     fn from(why: Refused) -> Refusal {
         Refusal {
@@ -111,10 +102,7 @@ fn about_of(at: At) -> About
 
 /// Lack of memory is M1.
 impl From<AllocError> for Refusal {
-    ghost use Rattle.std.specs.Prelude.{◌≡◌};
-    ghost use Rattle.iocm_console.specs.Refusal.{no_memory};
-
-    ghost from_gives = { λ _ r. r ≡ no_memory };
+    ghost from_gives = { λ _ r. r ≡ meaning.no_memory };
 
     fn from(_error: AllocError) -> Refusal {
         Refusal::NO_MEMORY
@@ -123,10 +111,7 @@ impl From<AllocError> for Refusal {
 
 /// Lack of memory for a value is M1; the value is dropped.
 impl<T: Drop> From<AllocFailed<T>> for Refusal {
-    ghost use Rattle.std.specs.Prelude.{◌≡◌};
-    ghost use Rattle.iocm_console.specs.Refusal.{no_memory};
-
-    ghost from_gives = { λ _ r. r ≡ no_memory };
+    ghost from_gives = { λ _ r. r ≡ meaning.no_memory };
 
     fn from(_error: AllocFailed<T>) -> Refusal {
         Refusal::NO_MEMORY
@@ -136,10 +121,7 @@ impl<T: Drop> From<AllocFailed<T>> for Refusal {
 /// The line of a refusal without its end: its number, the node, and what it is about, as far as it
 /// names them.
 impl fmt::Display for Refusal {
-    ghost use Rattle.std.specs.Prelude.{Some};
-    ghost use Rattle.iocm_console.specs.Refusal.{refusal_text};
-
-    ghost output = { λ r. Some (refusal_text r) };
+    ghost output = { λ r. Some (meaning.refusal_text r) };
 
     fn fmt<W: fmt::Write>(&self, f: &mut fmt::Formatter<W>) -> fmt::Result {
         let number = self.number;
@@ -154,10 +136,7 @@ impl fmt::Display for Refusal {
 struct NodeName(Option<u64>);
 
 impl fmt::Display for NodeName {
-    ghost use Rattle.std.specs.Prelude.{Some};
-    ghost use Rattle.iocm_console.specs.Refusal.{node_text};
-
-    ghost output = { λ n. Some (node_text n.0) };
+    ghost output = { λ n. Some (meaning.node_text n.0) };
 
     fn fmt<W: fmt::Write>(&self, f: &mut fmt::Formatter<W>) -> fmt::Result {
         match self.0 {
@@ -172,10 +151,7 @@ impl fmt::Display for NodeName {
 struct AboutName(About);
 
 impl fmt::Display for AboutName {
-    ghost use Rattle.std.specs.Prelude.{Some};
-    ghost use Rattle.iocm_console.specs.Refusal.{about_text};
-
-    ghost output = { λ a. Some (about_text a.0) };
+    ghost output = { λ a. Some (meaning.about_text a.0) };
 
     fn fmt<W: fmt::Write>(&self, f: &mut fmt::Formatter<W>) -> fmt::Result {
         match self.0 {
@@ -196,10 +172,7 @@ impl fmt::Display for AboutName {
 pub struct SubchannelName(pub SubId);
 
 impl fmt::Display for SubchannelName {
-    ghost use Rattle.std.specs.Prelude.{Some};
-    ghost use Rattle.iocm_console.specs.Refusal.{subchannel_text};
-
-    ghost output = { λ s. Some (subchannel_text s.0) };
+    ghost output = { λ s. Some (meaning.subchannel_text s.0) };
 
     fn fmt<W: fmt::Write>(&self, f: &mut fmt::Formatter<W>) -> fmt::Result {
         let css = self.0.image.css;

@@ -3,8 +3,7 @@ ghost use Rattle.std.specs.Io.KnownBytes.{Appends};
 ghost use Rattle.arrayvec.specs.ArrayVec.{array_vec_len};
 ghost use Rattle.iocm_types.specs.Print.{hex4};
 ghost use Rattle.iocm_model.specs.Machine.Table.{line_of, heading, chpids};
-ghost use Rattle.iocm_console.specs.Alike.{IsPrinted};
-ghost use Rattle.iocm_console.specs.NextLine.{with_numbers};
+ghost use Rattle.iocm_console.specs.Alike.{IsPrinted, with_numbers};
 
 use crate::cells::CellDevice;
 use crate::digits::{digit, digits};

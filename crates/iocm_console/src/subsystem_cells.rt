@@ -1,8 +1,7 @@
 ghost use Rattle.std.specs.Prelude.{◌≡◌, Some};
 ghost use Rattle.iocm_model.specs.Machine.Configuration.{as_image};
 ghost use Rattle.iocm_model.specs.Machine.Record.{ImageRecord};
-ghost use Rattle.iocm_console.specs.Alike.{StayAlike};
-ghost use Rattle.iocm_console.specs.Lines.{celled, AreNear, HaveSameLines};
+ghost use Rattle.iocm_console.specs.Alike.{ServeFor};
 
 use crate::cells::CellDevice;
 use iocm_record::{Record, RecordBody};
@@ -21,12 +20,27 @@ pub(crate) struct SubsystemCells<'c> {
 impl<'c> SubsystemCells<'c> {
     /// Those of a channel subsystem.
     pub fn of(cells: &'c [CellDevice], css: Css) -> Self
-        ensures near { AreNear (celled cells.now) result }
-        ensures alike { StayAlike result.cells.now cells.now }
+        ensures near { ServeFor result.css result.cells.now cells.now }
         ensures css { result.css ≡ css }
     {
         let cells = without_back(without_front(cells, css), css);
         SubsystemCells { css, cells }
+    }
+
+    /// Those for the lines of a record, if these are cells of the same machine.
+    pub fn for_record<A: Allocator>(&self, cells: &'c [CellDevice], entry: &Record<A>) -> Self
+        requires { ServeFor self.now.css self.now.cells.now cells.now }
+        ensures near { ServeFor result.css result.cells.now cells.now }
+        ensures css { (i : ImageRecord) → as_image entry.now ≡ Some i → i.css ≡ result.css }
+    {
+        let css = css_of_image(entry, self.css);
+        if css == self.css {
+            return SubsystemCells {
+                css,
+                cells: self.cells,
+            };
+        }
+        SubsystemCells::of(cells, css)
     }
 }
 
@@ -42,8 +56,7 @@ pub(crate) fn css_of_image<A: Allocator>(entry: &Record<A>, other: Css) -> Css
 
 /// The cells from the first of a channel subsystem on.
 fn without_front(cells: &[CellDevice], css: Css) -> &[CellDevice]
-    ensures lines { HaveSameLines css (celled result.now) (celled cells.now) }
-    ensures alike { StayAlike result.now cells.now }
+    ensures { ServeFor css result.now cells.now }
 {
     let mut rest = cells;
     while let Some((first, more)) = rest.split_first() {
@@ -57,8 +70,7 @@ fn without_front(cells: &[CellDevice], css: Css) -> &[CellDevice]
 
 /// The cells up to the last of a channel subsystem.
 fn without_back(cells: &[CellDevice], css: Css) -> &[CellDevice]
-    ensures lines { HaveSameLines css (celled result.now) (celled cells.now) }
-    ensures alike { StayAlike result.now cells.now }
+    ensures { ServeFor css result.now cells.now }
 {
     let mut rest = cells;
     while let Some((last, more)) = rest.split_last() {

@@ -12,8 +12,8 @@ use Rattle.iocm_model.specs.Change.Tree.{most_leaves}
 use Rattle.iocm_filter.specs.Wanted.{Wanted}
 use Rattle.iocm_difference.specs.Difference.{difference}
 use Rattle.iocm_difference_writer.specs.Again.{IsOldOfDecks}
-use Rattle.iocm_command.specs.declared.command.Before.{Before}
-use Rattle.iocm_command.specs.declared.command.Before.TheVariants as before
+use Rattle.iocm_command.specs.declared.table.Before.{Before}
+use Rattle.iocm_command.specs.declared.table.Before.TheVariants as before
 use Rattle.iocm_console.specs.Shown.{Shown, done}
 use Rattle.iocm_deck_writer.specs.Canonical.{canonical_deck}
 use Rattle.iocm_reports.specs.Deck.{deck_text}

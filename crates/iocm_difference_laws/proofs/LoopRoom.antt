@@ -8,7 +8,7 @@ use Rattle.iocm_model.specs.Change.Refusal.{refusal_at}
 use Rattle.iocm_model.specs.Change.Tree.{most_leaves}
 use Rattle.iocm_filter.specs.Wanted.{Wanted}
 use Rattle.iocm_difference.specs.Difference.{difference}
-use Rattle.iocm_command.specs.declared.command.Before.{Before}
+use Rattle.iocm_command.specs.declared.table.Before.{Before}
 use Rattle.iocm_reports.specs.declared.report.Report.TheVariants.{Deck}
 use Rattle.iocm_answer.specs.Apply.{applied}
 use Rattle.iocm_answer.specs.Diff.{count_between, differed}

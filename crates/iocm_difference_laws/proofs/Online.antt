@@ -22,8 +22,7 @@ use Rattle.iocm_round_trip.proofs.Keys.{is_of_its_deck}
 use Rattle.iocm_types.proofs.InOrder.{keys_rise}
 use Rattle.iocm_seats.proofs.Ordered.{same_members}
 use Rattle.iocm_reports.specs.Deck.{online_by, online_by_lists, online_in, pairs_untold, remark_line}
-use Rattle.iocm_reports.proofs.ListedPairs.{keys_of_records}
-use Rattle.iocm_reports.proofs.Told.{empty_is, in_both}
+use Rattle.iocm_reports.proofs.ListedPairs.{keys_of_records, empty_is, in_both}
 use Rattle.iocm_difference_laws.specs.Accepted.{IsAcceptedDeck}
 use Rattle.iocm_difference_laws.specs.Online.{AreOnlineByTheirLists, DeckOfADeckSaysAll}
 use Rattle.iocm_difference_laws.proofs.AcceptedDecks.{read_of}

@@ -4,7 +4,7 @@ use Rattle.iocm_model.specs.Machine.Configuration.{Configuration}
 use Rattle.iocm_model.specs.Change.Meaning.{Outcome}
 use Rattle.iocm_model.specs.Change.Tree.{most_leaves}
 use Rattle.iocm_filter.specs.Wanted.{Wanted}
-use Rattle.iocm_command.specs.declared.command.Before.{Before}
+use Rattle.iocm_command.specs.declared.table.Before.{Before}
 use Rattle.iocm_console.specs.Refusal.{of_change}
 use Rattle.iocm_console.specs.Shown.{Shown, done, refused}
 use Rattle.iocm_reports.specs.declared.report.Report.TheVariants.{Deck}

@@ -8,7 +8,7 @@ use Rattle.iocm_model.specs.Change.Meaning.{at_node}
 use Rattle.iocm_model.specs.Change.Refusal.{refusal_at}
 use Rattle.iocm_model.specs.Change.Tree.{most_leaves}
 use Rattle.iocm_filter.specs.Wanted.{Wanted}
-use Rattle.iocm_command.specs.declared.command.Before.{Before}
+use Rattle.iocm_command.specs.declared.table.Before.{Before}
 use Rattle.iocm_console.specs.Refusal.{of_change}
 use Rattle.iocm_console.specs.Shown.{refused}
 use Rattle.iocm_reports.specs.declared.report.Report.TheVariants.{Deck}

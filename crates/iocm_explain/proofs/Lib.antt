@@ -1,3 +1,4 @@
+mod Below
 mod Capitals
 mod Finding
 mod Words

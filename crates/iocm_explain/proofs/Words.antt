@@ -1,19 +1,17 @@
--- Words that are explained: the first that is no refusal's number, or what is printed of all.
-use Rattle.std.proofs.Common.{◌≡◌, ◌∙◌, ℕ, ◌-◌, ◌≤◌, Bool, true, false, cond, List, [], ◌∷◌, ◌++◌, Option, None, Some}
-use Rattle.std.proofs.Common.{Result, length, get_or, take, drop, map, option_map, refl, sym, ap, subst, arith}
-use Rattle.std.proofs.lemmas.List.{take_all}
-use Rattle.std.proofs.lemmas.List.Folds.{flat_map-map}
-use Rattle.std.proofs.lemmas.Result.{on_ok_weaker}
+-- Words that are explained: the first that is no refusal's number, or the refusals that they name.
+use Rattle.std.proofs.Common.{◌≡◌, ◌∙◌, ℕ, ◌+◌, ◌<◌, ◌≤◌, Bool, true, false, cond, List, [], ◌∷◌, ◌++◌, Option, None}
+use Rattle.std.proofs.Common.{Some, append_assoc, length, get_or, drop, map, option_map, refl, sym, ap, subst}
+use Rattle.std.proofs.Math.ListN.{drop_of_length-le}
+use Rattle.std.proofs.lemmas.List.{append-nil}
 use Rattle.std.specs.Borrow.{Bor}
-use Rattle.std.specs.List.{find, flat_map}
-use Rattle.std.specs.Result.{OnOk}
-use Rattle.iocm_console.proofs.Printing.{appends_as, appends_then}
-use Rattle.iocm_console.specs.declared.error.ConsoleError.{ConsoleError}
-use Rattle.iocm_console.specs.declared.output.Output.{Output}
-use Rattle.iocm_console.specs.Output.{IsHandedOn, Prints}
-use Rattle.iocm_explain.specs.declared.printing.Explained.TheVariants.{Printed, Unknown}
-use Rattle.iocm_explain.specs.Explain.{all_told, explained, told, told_below, unless_unknown, Answers}
-use Rattle.iocm_explain.specs.Named.{is_unknown}
+use Rattle.std.specs.List.{cons_option, find}
+use Rattle.iocm_types.proofs.Lists.{drop-item}
+use Rattle.iocm_types.specs.declared.rule.Rule.{Rule}
+use Rattle.iocm_explain.specs.declared.explaining.Explained.{Explained}
+use Rattle.iocm_explain.specs.declared.explaining.Unexplained.TheVariants.{Unknown}
+use Rattle.iocm_explain.specs.Explain.{explained, rules_named, unless_unknown, Explains}
+use Rattle.iocm_explain.specs.Named.{is_unknown, rule_named}
+use Rattle.std.specs.Prelude.{Ok, Err}
 
 -- the first of some values that passes is the value of the first that does
 find_mapped : {A B : Type 0} (f : A → B) (p : B → Bool) (xs : List A)
@@ -26,44 +24,55 @@ find_mapped f p (x ∷ xs) =
 abbrev text_of : Bor (List ℕ) → List ℕ
 text_of word = word.now
 
-module _ {W : Type 0} (contents : W → Option (List ℕ)) (old new : Output W) (words : List (Bor (List ℕ))) where
-  -- the word is answered
-  pub unknown_answers : (word : Bor (List ℕ)) → Some word ≡ find (λ w. is_unknown w.now) words → new ≡ old
-      → Answers contents old new (explained (map text_of words)) (Unknown word)
-  unknown_answers word is same =
-      let found : find is_unknown (map text_of words) ≡ Some word.now =
-      find_mapped text_of is_unknown words ∙ ap (option_map text_of) (sym is) in
-      let P : Option (List ℕ) → Type 0 =
-      λ o. Answers contents old new (unless_unknown o (all_told (map text_of words))) (Unknown word) in
-      subst P (sym found) (refl, same)
+abbrev first_of : List (Bor (List ℕ)) → Option (Bor (List ℕ))
+first_of words = find (λ word. is_unknown word.now) words
 
-  -- all is printed
-  pub printed_answers : None ≡ find (λ w. is_unknown w.now) words
-      → Prints contents old new (all_told (map text_of words)) → IsHandedOn new
-      → Answers contents old new (explained (map text_of words)) Printed
-  printed_answers is printed handed_on =
-      let found : find is_unknown (map text_of words) ≡ None =
-      find_mapped text_of is_unknown words ∙ ap (option_map text_of) (sym is) in
-      let P : Option (List ℕ) → Type 0 =
-      λ o. Answers contents old new (unless_unknown o (all_told (map text_of words))) Printed in
-      subst P (sym found) (printed, handed_on)
+-- what is said of words whose first unknown one is this
+explained_of : (words : List (Bor (List ℕ))) (found : Option (Bor (List ℕ))) → found ≡ first_of words
+    → explained (map text_of words) ≡ unless_unknown (option_map text_of found) (rules_named (map text_of words))
+explained_of words found is =
+    ap (λ o. unless_unknown o (rules_named (map text_of words)))
+    (find_mapped text_of is_unknown words ∙ ap (option_map text_of) (sym is))
 
--- the entry of the first word, and those of the words behind it
-told_in_turn : (words : List (Bor (List ℕ))) (d : Bor (List ℕ)) → 1 ≤ length words
-    → told (get_or words 0 d).now ++ flat_map (λ w. told_below w.now) (take (length words - 1) (drop 1 words))
-    ≡ all_told (map text_of words)
-told_in_turn [] d some = absurd (omega arith)
-told_in_turn (word ∷ words) d some =
-    ap (λ (ws : List (Bor (List ℕ))). told word.now ++ flat_map (λ w. told_below w.now) ws)
-    (take_all (length (word ∷ words) - 1) words (omega arith))
-    ∙ ap (λ text. told word.now ++ text) (sym (flat_map-map told_below text_of words))
+-- the word is answered
+pub unknown_explains : (words : List (Bor (List ℕ))) (word : Bor (List ℕ)) → Some word ≡ first_of words
+    → Explains (Err (Unknown word)) (explained (map text_of words))
+unknown_explains words word is =
+    subst (Explains (Err (Unknown word))) (sym (explained_of words (Some word) is)) refl
 
--- they are printed one after the other
-pub printed_in_turn : {W : Type 0} (contents : W → Option (List ℕ)) (old mid new : Output W)
-    (words : List (Bor (List ℕ))) (d : Bor (List ℕ)) (r : Result (Unit {0}) ConsoleError) → 1 ≤ length words
-    → Prints contents old mid (told (get_or words 0 d).now)
-    → OnOk r (Prints contents mid new (flat_map (λ w. told_below w.now) (take (length words - 1) (drop 1 words))))
-    → OnOk r (Prints contents old new (all_told (map text_of words)))
-printed_in_turn contents old mid new words d r some first =
-    on_ok_weaker r (λ below.
-    appends_as _ _ _ _ (appends_then _ _ _ _ _ first below) (told_in_turn words d some))
+-- the refusals are named
+pub named_explains : (words : List (Bor (List ℕ))) (e : Explained) → None ≡ first_of words
+    → e.rules.items ≡ rules_named (map text_of words) → Explains (Ok e) (explained (map text_of words))
+named_explains words e is named = subst (Explains (Ok e)) (sym (explained_of words None is)) named
+
+-- the refusals that the words from a place on name
+abbrev pub rest_of : ℕ → List (Bor (List ℕ)) → List Rule
+rest_of i words = rules_named (map text_of (drop i words))
+
+rest_begins : (words : List (Bor (List ℕ))) (i : ℕ) (word : Bor (List ℕ)) (named : Option Rule) → i < length words
+    → word ≡ get_or words i word → rule_named word.now ≡ named
+    → rest_of i words ≡ cons_option named (rest_of (i + 1) words)
+rest_begins words i word named within item is =
+    ap (λ ws. rules_named (map text_of ws)) (drop-item words i word within item)
+    ∙ ap (λ o. cons_option o (rest_of (i + 1) words)) is
+
+-- a word that names a refusal
+pub named_goes_on : (words : List (Bor (List ℕ))) (i : ℕ) (word : Bor (List ℕ)) (rules : List Rule) (rule : Rule)
+    → i < length words → word ≡ get_or words i word → Some rule ≡ rule_named word.now
+    → (rules ++ rule ∷ []) ++ rest_of (i + 1) words ≡ rules ++ rest_of i words
+named_goes_on words i word rules rule within item is =
+    append_assoc rules (rule ∷ []) (rest_of (i + 1) words)
+    ∙ ap (λ rest. rules ++ rest) (sym (rest_begins words i word (Some rule) within item (sym is)))
+
+-- a word that names none
+pub unnamed_goes_on : (words : List (Bor (List ℕ))) (i : ℕ) (word : Bor (List ℕ)) → i < length words
+    → word ≡ get_or words i word → None ≡ rule_named word.now → rest_of (i + 1) words ≡ rest_of i words
+unnamed_goes_on words i word within item is = sym (rest_begins words i word None within item (sym is))
+
+-- at the end no word is left
+pub named_done : (words : List (Bor (List ℕ))) (i : ℕ) (rules : List Rule) → length words ≤ i
+    → rules ++ rest_of i words ≡ rules
+named_done words i rules past =
+    ap (λ ws. rules ++ rules_named (map text_of ws)) (drop_of_length-le words past) ∙ append-nil rules
+
+pub ruleset named_steps = (named_goes_on, unnamed_goes_on, named_done)

@@ -1,5 +1,4 @@
-ghost use Rattle.std.specs.Prelude.{◌≡◌, find};
-ghost use Rattle.iocm_explain.specs.Named.{is_unknown};
+ghost use Rattle.std.specs.Prelude.{◌≡◌};
 ghost use Rattle.iocm_explain.specs.Named as specs;
 
 use crate::entries::{RULES, entry_of};
@@ -31,17 +30,4 @@ fn is_number_of(word: &str, rule: Rule) -> bool
     ensures { result ≡ specs.is_number_of word.now rule }
 {
     entry_of(rule).number.eq_ignore_ascii_case(word)
-}
-
-/// The first of these words that is no refusal's number.
-#[tactic(auto, using(crate::proofs::Finding::find_steps))]
-pub(crate) fn first_unknown<'a>(words: &[&'a str]) -> Option<&'a str>
-    ensures { result ≡ find (λ word. is_unknown word.now) words.now }
-{
-    for word in words {
-        if rule_named(word).is_none() {
-            return Some(*word);
-        }
-    }
-    None
 }

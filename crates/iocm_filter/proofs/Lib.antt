@@ -1,4 +1,3 @@
-pub mod Misreading
-pub mod Sifting
+pub mod Keys
 pub mod WantedLaws
 pub mod WorkedRows

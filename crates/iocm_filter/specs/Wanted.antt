@@ -2,17 +2,22 @@
 -- its view.
 use Rattle.std.specs.Prelude.{◌≡◌, ℕ, Bool, true, false, not, ◌==◌, ◌&&◌, ◌||◌, nat_eq, nat_le, count_ones}
 use Rattle.std.specs.Prelude.{List, [], ◌∷◌, Option, None, Some}
+use Rattle.std.specs.FinMap.{entries}
 use Rattle.std.specs.List.{list_any}
+use Rattle.std.specs.Ordering.{eq_by_cmp}
+use Rattle.iocm_types.specs.Key.{key_cmp}
 use Rattle.iocm_types.specs.declared.image.Image.{Image}
+use Rattle.iocm_types.specs.declared.key.Key.{Key}
+use Rattle.iocm_types.specs.declared.key.Key.TheVariants as key
 use Rattle.iocm_types.specs.declared.sub_id.SubId.{SubId}
 use Rattle.iocm_types.specs.declared.view.View.{View}
-use Rattle.iocm_model.specs.Machine.Record.{Rec, ImageRecord, device}
-use Rattle.iocm_model.specs.Machine.Configuration.{Configuration, images_of, records_of}
+use Rattle.iocm_model.specs.Machine.Record.{Rec, image, device, key_of}
+use Rattle.iocm_model.specs.Machine.Configuration.{Configuration}
 use Rattle.iocm_model.specs.Rules.EachRule.{same_name}
+use Rattle.iocm_filter.specs.declared.meant.DeviceRange.{DeviceRange}
 use Rattle.iocm_filter.specs.declared.meant.ImageWord.{ImageWord}
 use Rattle.iocm_filter.specs.declared.meant.ImageWord.TheVariants.{Place, Named}
 use Rattle.iocm_filter.specs.declared.meant.PathWord.{PathWord}
-use Rattle.iocm_filter.specs.declared.device_range.DeviceRange.{DeviceRange}
 
 -- what is asked for: images, devices, control units, paths, and how many paths are online at most
 pub record Wanted : Type 0 where
@@ -31,28 +36,35 @@ asks (x ∷ xs) = true
 abbrev pub one_if_asked : {A : Type 0} → (A → Bool) → List A → Bool
 one_if_asked is_so xs = not (asks xs) || list_any is_so xs
 
--- an image of a configuration has this place and this name
-abbrev pub is_image_at : Image → List ℕ → ImageRecord → Bool
-is_image_at i name r = same_name name r.name && r.css == i.css && r.mif == i.mif
+-- the image at a place is asked for by its place; an image of a name is by its name
+abbrev pub is_at : Image → ImageWord → Bool
+is_at i (Place at) = at.css == i.css && at.mif == i.mif
+is_at i (Named name) = false
 
--- the image at a place is meant: by its place, or by its name in the configuration
-abbrev pub is_meant : Configuration → Image → ImageWord → Bool
-is_meant c i (Place image) = image.css == i.css && image.mif == i.mif
-is_meant c i (Named name) = list_any (is_image_at i name) (images_of c)
+abbrev pub is_named : List ℕ → ImageWord → Bool
+is_named own (Place at) = false
+is_named own (Named name) = same_name name own
 
 -- a device number of a subchannel set is in a range
 abbrev pub is_within : ℕ → ℕ → DeviceRange → Bool
 is_within set number r = set == r.set && nat_le r.first number && nat_le number r.last
 
--- a record is that of the device of this number in a subchannel set, on one of these control units
-abbrev pub is_device_on : List ℕ → ℕ → ℕ → Rec → Bool
-is_device_on units set number (device d) =
-    list_any (λ unit. list_any (nat_eq unit) d.units) units && d.set == set && d.number == number
-is_device_on units set number _ = false
+-- one of these control units is among others
+abbrev pub have_common : List ℕ → List ℕ → Bool
+have_common units others = list_any (λ unit. list_any (nat_eq unit) others) units
 
--- the device is in a configuration, on one of these control units
-abbrev pub is_on_one : Configuration → List ℕ → ℕ → ℕ → Bool
-is_on_one c units set number = list_any (is_device_on units set number) (records_of c)
+-- a record is that of an image that is asked for by its name, or of a device on a control unit that is
+abbrev pub is_sought : Wanted → Rec → Bool
+is_sought w (image i) = list_any (is_named i.name) w.images
+is_sought w (device d) = have_common w.units d.units
+is_sought w _ = false
+
+-- the keys of such records; a key is that of one among some entries
+abbrev pub Found : Type 0
+Found = Key → Bool
+
+abbrev pub found_among : Wanted → List (Key × Rec) → Found
+found_among w es key = list_any (λ (e : Key × Rec). is_sought w e.1 && eq_by_cmp key_cmp key (key_of e.1)) es
 
 -- a word means the paths of its channel subsystem, or of each if it names none
 abbrev pub means_subsystem : Option ℕ → ℕ → Bool
@@ -72,21 +84,25 @@ abbrev pub has_at_most : View → ℕ → Bool
 has_at_most v most = nat_le (count_ones v.pam) most
 
 -- what is asked for of images, of devices and their control units, and of paths
-abbrev pub wants_image : Wanted → Configuration → Image → Bool
-wants_image w c i = one_if_asked (is_meant c i) w.images
+abbrev pub wants_image : Wanted → Found → Image → Bool
+wants_image w found i = one_if_asked (is_at i) w.images || found (key.Image i.css i.mif)
 
-abbrev pub wants_device : Wanted → Configuration → ℕ → ℕ → Bool
-wants_device w c set number =
-    one_if_asked (is_within set number) w.devices && (not (asks w.units) || is_on_one c w.units set number)
+abbrev pub wants_device : Wanted → Found → ℕ → ℕ → Bool
+wants_device w found set number =
+    one_if_asked (is_within set number) w.devices && (not (asks w.units) || found (key.Device set number))
 
 abbrev pub wants_view : Wanted → ℕ → View → Bool
 wants_view w css v = one_if_asked (has_path css v) w.paths && one_if_asked (has_at_most v) w.online
 
--- a subchannel with its view is wanted: it is one of what is asked for of each kind
-abbrev pub wanted : Wanted → Configuration → SubId × View → Bool
-wanted w c row = wants_image w c row.0.image
-    && wants_device w c row.0.set row.1.device
+-- a subchannel with its view is one of what is asked for of each kind
+abbrev pub wants : Wanted → Found → SubId × View → Bool
+wants w found row = wants_image w found row.0.image
+    && wants_device w found row.0.set row.1.device
     && wants_view w row.0.image.css row.1
+
+-- it is wanted in a configuration, of which the images have the names and the devices the control units
+abbrev pub wanted : Wanted → Configuration → SubId × View → Bool
+wanted w c row = wants w (found_among w (entries c)) row
 
 -- nothing is asked for
 abbrev pub nothing : Wanted

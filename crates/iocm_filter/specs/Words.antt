@@ -1,5 +1,7 @@
 -- The words in which subchannels are asked for, in the forms in which keys are printed.
-use Rattle.std.specs.Prelude.{ℕ, ◌==◌, nat_le, if◌then◌else◌, Option, None, Some, List, [], ◌∷◌, map}
+use Rattle.std.specs.Prelude.{ℕ, Bool, ◌+◌, ◌==◌, nat_le, if◌then◌else◌, Option, None, Some}
+use Rattle.std.specs.Prelude.{List, [], ◌∷◌, map, take, drop}
+use Rattle.std.specs.List.{position}
 use Rattle.std.specs.Option.{option_map, option_or}
 use Rattle.iocm_types.specs.Name.{name_of}
 use Rattle.iocm_types.specs.declared.image.Image.{Image}
@@ -9,7 +11,7 @@ use Rattle.iocm_values.specs.Reading.{◌>>=◌, every}
 use Rattle.iocm_filter.specs.Wanted.{Wanted}
 use Rattle.iocm_filter.specs.declared.meant.ImageWord.{ImageWord}
 use Rattle.iocm_filter.specs.declared.meant.ImageWord.TheVariants.{Place, Named}
-use Rattle.iocm_filter.specs.declared.device_range.DeviceRange.{DeviceRange}
+use Rattle.iocm_filter.specs.declared.meant.DeviceRange.{DeviceRange}
 use Rattle.iocm_filter.specs.declared.meant.PathWord.{PathWord}
 use Rattle.iocm_filter.specs.declared.reading.FilterWords.{FilterWords}
 
@@ -44,27 +46,18 @@ image_word text =
 abbrev pub device_number : List ℕ → Option ℕ
 device_number text = hex_of 65535 4 text
 
--- what stands before the first hyphen of a text, and what stands behind it, if it has one
-abbrev pub before_hyphen : List ℕ → List ℕ
-before_hyphen [] = []
-before_hyphen (x ∷ xs) = if x == 45 then [] else x ∷ before_hyphen xs
+abbrev pub is_hyphen : ℕ → Bool
+is_hyphen b = b == 45
 
-abbrev pub behind_hyphen : List ℕ → Option (List ℕ)
-behind_hyphen [] = None
-behind_hyphen (x ∷ xs) = if x == 45 then Some xs else behind_hyphen xs
+-- device numbers of a subchannel set: 1003, or from the first to the last, which isn't less: 1000-100F
+abbrev pub numbers_round : Option ℕ → ℕ → List ℕ → Option DeviceRange
+numbers_round None set text = device_number text >>= λ n. Some (record { set = set; first = n; last = n })
+numbers_round (Some place) set text =
+    device_number (take place text) >>= λ first. device_number (drop (place + 1) text) >>= λ last.
+    if nat_le first last then Some (record { set = set; first = first; last = last }) else None
 
--- the last device number of a range: the first, or what is behind the hyphen, which isn't less
-abbrev pub last_of_range : ℕ → Option (List ℕ) → Option ℕ
-last_of_range first None = Some first
-last_of_range first (Some text) =
-    device_number text >>= λ last. if nat_le first last then Some last else None
-
--- device numbers of a subchannel set: 1003, or from the first to the last: 1000-100F
 abbrev pub device_numbers : ℕ → List ℕ → Option DeviceRange
-device_numbers set text =
-    device_number (before_hyphen text) >>= λ first.
-    last_of_range first (behind_hyphen text) >>= λ last.
-    Some (record { set = set; first = first; last = last })
+device_numbers set text = numbers_round (position is_hyphen text) set text
 
 -- with the subchannel set and a point before them, 1.1000-10FF, or of set 0
 abbrev pub device_numbers_in : Option (ℕ × List ℕ) → List ℕ → Option DeviceRange

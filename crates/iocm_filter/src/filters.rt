@@ -1,9 +1,11 @@
-ghost use Rattle.std.specs.Prelude.{◌≡◌, nat_le};
+ghost use Rattle.std.specs.Prelude.{◌≡◌};
 ghost use Rattle.std.specs.List.{list_any};
 ghost use Rattle.iocm_filter.specs.Wanted as meaning;
 
 use crate::{DeviceRange, ImageWord, PathWord};
-use iocm_types::{Chpid, Css, DevNo, SetNo, UnitNo, View};
+use iocm_record::{Record, RecordBody};
+use iocm_types::{Chpid, Css, DevNo, Image, Name, SetNo, UnitNo, View};
+use std::alloc::Allocator;
 use std::marker::Model;
 
 /// What is asked for of the subchannels of a table. Of each kind nothing is asked for, or one of
@@ -49,17 +51,36 @@ impl Filters {
     }
 
     /// The images that are asked for.
-    pub(crate) fn images(&self) -> &[ImageWord]
+    pub fn images(&self) -> &[ImageWord]
         ensures { result.now ≡ self.now.images }
     {
         self.images.as_slice()
     }
 
-    /// The control units that are asked for.
-    pub(crate) fn units(&self) -> &[UnitNo]
-        ensures { result.now ≡ self.now.units }
+    /// The paths that are asked for.
+    pub fn paths(&self) -> &[PathWord]
+        ensures { result.now ≡ self.now.paths }
     {
-        self.units.as_slice()
+        self.paths.as_slice()
+    }
+
+    /// Whether an image is one of those that are asked for by their places, or none is asked for.
+    pub(crate) fn wants_place(&self, image: Image) -> bool
+        ensures { result ≡ meaning.one_if_asked (meaning.is_at image) self.now.images }
+    {
+        self.images.is_empty() || has_place(self.images.as_slice(), image)
+    }
+
+    /// Whether a record is that of an image that is asked for by its name, or of a device on a control
+    /// unit that is.
+    pub(crate) fn look_for<A: Allocator>(&self, entry: &Record<A>) -> bool
+        ensures { result ≡ meaning.is_sought self.now entry.now }
+    {
+        match entry.body() {
+            RecordBody::Image(_, _, name) => has_name(self.images.as_slice(), *name),
+            RecordBody::Device(fields) => have_common(&self.units, fields.lists.units()),
+            _ => false,
+        }
     }
 
     /// Whether a device is one of those that are asked for, or none is.
@@ -90,6 +111,38 @@ impl Filters {
     }
 }
 
+fn has_place(words: &[ImageWord], image: Image) -> bool
+    ensures { result ≡ list_any (meaning.is_at image) words.now }
+{
+    words.iter().any(|word| is_at(word, image))
+}
+
+pub(crate) fn is_at(word: &ImageWord, image: Image) -> bool
+    ensures { result ≡ meaning.is_at image word.now }
+{
+    matches!(word, ImageWord::Place(at) if at.css == image.css && at.mif == image.mif)
+}
+
+/// Whether one of these words is this name.
+fn has_name(words: &[ImageWord], name: Name) -> bool
+    ensures { result ≡ list_any (meaning.is_named name) words.now }
+{
+    words.iter().any(|word| is_named(word, name))
+}
+
+pub(crate) fn is_named(word: &ImageWord, own: Name) -> bool
+    ensures { result ≡ meaning.is_named own word.now }
+{
+    matches!(word, ImageWord::Named(name) if *name == own)
+}
+
+/// Whether one of these control units is among others.
+fn have_common(units: &[UnitNo], others: &[UnitNo]) -> bool
+    ensures { result ≡ meaning.have_common units.now others.now }
+{
+    units.iter().any(|unit| others.contains(unit))
+}
+
 fn is_in_any(ranges: &[DeviceRange], set: SetNo, number: DevNo) -> bool
     ensures { result ≡ list_any (meaning.is_within set number) ranges.now }
 {
@@ -118,29 +171,18 @@ fn has_path(word: &PathWord, css: Css, view: &View) -> bool
 }
 
 /// Whether a word means a path of a channel subsystem.
-pub(crate) fn means_path(word: &PathWord, css: Css, path: Chpid) -> bool
+pub fn means_path(word: &PathWord, css: Css, path: Chpid) -> bool
     ensures { result ≡ meaning.means_path word.now css path }
 {
-    means_subsystem(word.css, css) && path == word.path
-}
-
-fn means_subsystem(named: Option<Css>, css: Css) -> bool
-    ensures { result ≡ meaning.means_subsystem named css }
-{
-    match named {
-        Some(own) => css == own,
-        None => true,
+    match word.css {
+        Some(own) => css == own && path == word.path,
+        None => path == word.path,
     }
 }
 
 fn has_at_most_any(most: &[u8], view: &View) -> bool
     ensures { result ≡ list_any (meaning.has_at_most view.now) most.now }
 {
-    most.iter().any(|number| has_at_most(view, *number))
-}
-
-fn has_at_most(view: &View, most: u8) -> bool
-    ensures { result ≡ meaning.has_at_most view.now most }
-{
-    view.pam.bits().count_ones() <= u32::from(most)
+    let online = view.pam.bits().count_ones();
+    most.iter().any(|number| online <= u32::from(*number))
 }

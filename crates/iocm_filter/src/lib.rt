@@ -17,9 +17,7 @@
 //! our own.
 #![tactic(auto)]
 
-mod device_range;
 mod filters;
-mod gathering;
 mod laws;
 mod meant;
 mod misread;
@@ -29,10 +27,9 @@ mod reading;
 mod sieve;
 mod words;
 
-pub use device_range::DeviceRange;
-pub use filters::Filters;
+pub use filters::{Filters, means_path};
 pub use laws::{nothing_asked_for_is_all, rows_are_wanted_as_worked, words_are_read};
-pub use meant::{ImageWord, PathWord};
+pub use meant::{DeviceRange, ImageWord, PathWord};
 pub use misread::{FilterOption, Misread};
 pub use note::Note;
 pub use notes::{Asked, image_names, missing};

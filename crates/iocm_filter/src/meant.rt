@@ -1,4 +1,4 @@
-use iocm_types::{Chpid, Css, Image, Name};
+use iocm_types::{Chpid, Css, DevNo, Image, Name, SetNo};
 
 /// An image that is asked for.
 #[derive(Clone, Copy, Debug, PartialEq, Eq)]
@@ -16,4 +16,15 @@ pub struct PathWord {
     pub css: Option<Css>,
     /// The path's number.
     pub path: Chpid,
+}
+
+/// Device numbers of a subchannel set that are asked for, from the first to the last.
+#[derive(Clone, Copy, Debug, PartialEq, Eq)]
+pub struct DeviceRange {
+    /// The subchannel set.
+    pub set: SetNo,
+    /// The first number.
+    pub first: DevNo,
+    /// The last number.
+    pub last: DevNo,
 }

@@ -68,20 +68,13 @@ impl<'w> fmt::Display for Misread<'w> {
 }
 
 /// The first of these words that asks for nothing, with their option.
-#[tactic(auto, using(crate::proofs::Misreading::misread_steps))]
 fn first_misread<'w, T: AskedWord>(option: FilterOption, words: &[&'w str]) -> Option<Misread<'w>>
     ensures { option_map seen_misread result ≡ meaning.first_misread option (T.asked) (map (λ w. w.now) words.now) }
 {
-    for value in words {
-        match T::read(value.as_bytes()) {
-            Some(_) => {}
-            None => {
-                let value = *value;
-                return Some(Misread { option, value });
-            }
-        }
-    }
-    None
+    let value = *words
+        .iter()
+        .find(|word| T::read(word.as_bytes()).is_none())?;
+    Some(Misread { option, value })
 }
 
 impl<'m, 'w> FilterWords<'m, 'w> {

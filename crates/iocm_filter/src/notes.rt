@@ -1,14 +1,11 @@
-ghost use Rattle.std.specs.Prelude.{◌≡◌, ◌++◌, IfOk, OnOk};
-ghost use Rattle.std.specs.List.{list_any};
-ghost use Rattle.iocm_model.specs.Machine.Configuration.{records_of};
+ghost use Rattle.std.specs.Prelude.{◌≡◌, IfOk};
 ghost use Rattle.iocm_filter.specs.Notes as meaning;
 
-use crate::filters::{is_within, means_path};
+use crate::filters::{is_at, is_named, is_within, means_path};
 use crate::{DeviceRange, Filters, ImageWord, PathWord};
 use iocm_config::Config;
-use iocm_lookup::{RecordKind, records_of_kind};
 use iocm_record::{Record, RecordBody};
-use iocm_types::{Name, UnitNo};
+use iocm_types::{Image, Name, UnitNo};
 use std::alloc::{AllocError, Allocator, Global};
 
 /// What is asked for by its name.
@@ -35,9 +32,11 @@ pub fn missing<A: Allocator>(
 ) -> Result<Vec<Asked>, AllocError>
     ensures { IfOk result (λ found. found.items ≡ meaning.missing_in config.now.records filters.now) }
 {
-    let mut asked = asked_by_name(alloc, filters)?;
-    asked.retain(|asked| !is_there(config, asked));
-    Ok(asked)
+    let asked = asked_by_name(alloc, filters)?;
+    asked
+        .into_iter()
+        .filter(|asked| !is_there(config, asked))
+        .collect(alloc)
 }
 
 /// What filters ask for by its name.
@@ -57,14 +56,9 @@ fn asked_by_name(alloc: Global, filters: &Filters) -> Result<Vec<Asked>, AllocEr
 
 /// Whether a configuration has what is asked for.
 fn is_there<A: Allocator>(config: &Config<A>, asked: &Asked) -> bool
-    ensures { result ≡ list_any (meaning.is_asked asked.now) (records_of config.now.records) }
+    ensures { result ≡ meaning.is_there config.now.records asked.now }
 {
-    for (_, entry) in config.walk() {
-        if is_asked(asked, entry) {
-            return true;
-        }
-    }
-    false
+    config.walk().any(|(_, entry)| is_asked(asked, entry))
 }
 
 /// Whether a record is that of what is asked for.
@@ -72,10 +66,10 @@ fn is_asked<A: Allocator>(asked: &Asked, entry: &Record<A>) -> bool
     ensures { result ≡ meaning.is_asked asked.now entry.now }
 {
     match (asked, entry.body()) {
-        (Asked::Image(ImageWord::Place(image)), RecordBody::Image(css, mif, _)) => {
-            *css == image.css && *mif == image.mif
+        (Asked::Image(word), RecordBody::Image(css, mif, name)) => {
+            let (css, mif) = (*css, *mif);
+            is_at(word, Image { css, mif }) || is_named(word, *name)
         }
-        (Asked::Image(ImageWord::Named(name)), RecordBody::Image(_, _, own)) => *name == *own,
         (Asked::Unit(number), RecordBody::Unit(unit)) => unit.number == *number,
         (Asked::Path(word), RecordBody::Path(path)) => means_path(word, path.css, path.number),
         (Asked::Device(range), RecordBody::Device(device)) => {
@@ -91,19 +85,18 @@ fn is_asked<A: Allocator>(asked: &Asked, entry: &Record<A>) -> bool
 pub fn image_names<A: Allocator>(alloc: Global, config: &Config<A>) -> Result<Vec<Name>, AllocError>
     ensures { IfOk result (λ names. names.items ≡ meaning.image_names config.now.records) }
 {
-    let mut names = Vec::new(alloc);
-    for entry in records_of_kind(config, RecordKind::Image) {
-        put_name(&mut names, entry)?;
-    }
-    Ok(names)
+    config
+        .walk()
+        .filter_map(|(_, entry)| name_of(entry))
+        .collect(alloc)
 }
 
-/// Puts the name of an image's record behind others.
-fn put_name<A: Allocator>(names: &mut Vec<Name>, entry: &Record<A>) -> Result<(), AllocError>
-    ensures { OnOk result (names.new.items ≡ names.old.items ++ meaning.name_of entry.now) }
+/// The name of an image's record.
+fn name_of<A: Allocator>(entry: &Record<A>) -> Option<Name>
+    ensures { result ≡ meaning.name_of entry.now }
 {
     match entry.body() {
-        RecordBody::Image(_, _, name) => Ok(names.push(*name)?),
-        _ => Ok(()),
+        RecordBody::Image(_, _, name) => Some(*name),
+        _ => None,
     }
 }

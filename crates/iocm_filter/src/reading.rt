@@ -1,4 +1,4 @@
-ghost use Rattle.std.specs.Prelude.{◌≡◌, map};
+ghost use Rattle.std.specs.Prelude.{map};
 ghost use Rattle.iocm_statements.specs.Unread.{Reads};
 ghost use Rattle.iocm_values.specs.Reading.{every};
 ghost use Rattle.iocm_filter.specs.Words.{filters_of, words_of};

@@ -1,48 +1,50 @@
-ghost use Rattle.std.specs.Prelude.{◌≡◌, IfOk};
-ghost use Rattle.std.specs.List.{list_any};
+ghost use Rattle.std.specs.Prelude.{◌≡◌, ◌&&◌, ◌||◌, IfOk, OnOk};
+ghost use Rattle.std.specs.FinMap.{entries};
+ghost use Rattle.std.specs.Ordering.{eq_by_cmp};
+ghost use Rattle.iocm_types.specs.Key.{key_cmp};
+ghost use Rattle.iocm_types.specs.declared.key.Key as key_type;
+ghost use Rattle.iocm_model.specs.Machine.Record.{key_of};
+ghost use Rattle.iocm_table.specs.Slots.{rows};
 ghost use Rattle.iocm_filter.specs.Sieves as meaning;
-ghost use Rattle.iocm_filter.specs.Wanted.{wants_view};
+ghost use Rattle.iocm_filter.specs.Sieves.{has_key};
+ghost use Rattle.iocm_filter.specs.Wanted.{found_among, is_sought};
 
 use crate::Filters;
-use crate::gathering::{images_meant, users_of};
 use iocm_config::Config;
+use iocm_record::Record;
 use iocm_table::Table;
 use iocm_types::{DevNo, Image, Key, SetNo, SubId, View};
 use std::alloc::{AllocError, Allocator, Global};
 use std::marker::Model;
 
-/// What is asked for, with what this depends on of a configuration: the images that are meant there,
-/// and the devices that are on the control units. Contracts see these.
+/// What is asked for, with what this depends on of a configuration: the keys of the images that have
+/// a name that is asked for, and of the devices that are on such a control unit. Contracts see these.
 #[derive(Drop)]
 pub struct Sieve<'f> {
     filters: &'f Filters,
-    images: Vec<Image>,
-    users: Table<Key, ()>,
+    keys: Table<Key, ()>,
 }
 
 impl<'f> Model for Sieve<'f> {
-    ghost use Rattle.std.specs.Prelude.{refl, List};
+    ghost use Rattle.std.specs.Prelude.{refl};
     ghost use Rattle.std.specs.FinMap as map;
-    ghost use Rattle.std.specs.Coded.{code_by, coded×, coded_list, codes};
+    ghost use Rattle.std.specs.Coded.{code_by, coded×, codes};
     ghost use Rattle.iocm_types.specs.Key.{key_cmp};
-    ghost use Rattle.iocm_types.specs.declared.image.Image.{Image};
     ghost use Rattle.iocm_table.specs.Slots.{rows};
-    ghost use Rattle.iocm_filter.specs.Sieves.{Sieve, Devices};
+    ghost use Rattle.iocm_filter.specs.Sieves.{Keys, Sieve};
     ghost use Rattle.iocm_filter.specs.Wanted.{Wanted};
 
     ghost Value = { Sieve };
 
-    ghost coded = { code_by (Wanted × (List Image × Devices))
-        (coded× (Prim.hlevel codes)
-        (coded× (coded_list (Prim.hlevel codes)) (map.code (Prim.hlevel codes) (Prim.hlevel codes))))
-        (λ s. (s.asked, (s.images, s.users))) (λ p. record { asked = p.0; images = p.1.0; users = p.1.1 })
-        (λ _. refl) };
+    ghost coded = { code_by (Wanted × Keys)
+        (coded× (Prim.hlevel codes) (map.code (Prim.hlevel codes) (Prim.hlevel codes)))
+        (λ s. (s.asked, s.keys)) (λ p. record { asked = p.0; keys = p.1 }) (λ _. refl) };
 
-    ghost view = { λ s. record { asked = s.filters.now; images = s.images.items; users = rows key_cmp s.users } };
+    ghost view = { λ s. record { asked = s.filters.now; keys = rows key_cmp s.keys } };
 }
 
 impl<'f> Sieve<'f> {
-    /// That of a configuration.
+    /// That of a configuration. The time is that of a walk over its records.
     ///
     /// `AllocError` (M1): memory ran out.
     pub fn new<A: Allocator>(
@@ -52,34 +54,26 @@ impl<'f> Sieve<'f> {
     ) -> Result<Self, AllocError>
         ensures { IfOk result (λ s. meaning.IsSieveFor filters.entry.now config.now.records s) }
     {
-        let images = images_meant(alloc, config, filters.images())?;
-        let users = users_of(alloc, config, filters.units())?;
-        Ok(Sieve {
-            filters,
-            images,
-            users,
-        })
+        let keys = keys_of(alloc, filters, config)?;
+        Ok(Sieve { filters, keys })
     }
 
     /// Whether an image passes.
     pub fn passes_image(&self, image: Image) -> bool
         ensures { result ≡ meaning.passes_image self.now image }
     {
-        self.filters.images().is_empty() || is_among(&image, self.images.as_slice())
+        let key = Key::Image(image.css, image.mif);
+        self.filters.wants_place(image) || self.keys.get(&key).is_some()
     }
 
     /// Whether a device of a subchannel set passes. The time is that of a search.
     pub fn passes_device(&self, set: SetNo, number: DevNo) -> bool
         ensures { result ≡ meaning.passes_device self.now set number }
     {
-        self.filters.wants_number(set, number) && self.is_on_unit(set, number)
-    }
-
-    /// Whether a device is on one of the control units that are asked for, or none is.
-    fn is_on_unit(&self, set: SetNo, number: DevNo) -> bool
-        ensures { result ≡ meaning.is_on_unit self.now set number }
-    {
-        self.filters.units().is_empty() || self.users.get(&Key::Device(set, number)).is_some()
+        let filters = self.filters;
+        let key = Key::Device(set, number);
+        filters.wants_number(set, number)
+            && (filters.units.is_empty() || self.keys.get(&key).is_some())
     }
 
     /// Whether a subchannel with its view passes.
@@ -99,14 +93,38 @@ impl<'f> Sieve<'f> {
     }
 }
 
-fn is_among(image: &Image, images: &[Image]) -> bool
-    ensures { result ≡ list_any (meaning.is_same image.now) images.now }
+/// The keys of the records that filters look for.
+#[tactic(auto, using(crate::proofs::Keys::key_steps))]
+fn keys_of<A: Allocator>(
+    alloc: Global,
+    filters: &Filters,
+    config: &Config<A>,
+) -> Result<Table<Key, ()>, AllocError>
+    ensures { IfOk result (λ found. (key : key_type.Key)
+        → has_key (rows key_cmp found) key ≡ found_among filters.now (entries config.now.records) key) }
 {
-    images.iter().any(|other| is_same(image, other))
+    let mut keys = Table::new(alloc);
+    for (_, entry) in config.walk() {
+        put_key(&mut keys, filters, entry)?;
+    }
+    Ok(keys)
 }
 
-fn is_same(image: &Image, other: &Image) -> bool
-    ensures { result ≡ meaning.is_same image.now other.now }
+/// Puts the key of a record with others, if filters look for it.
+#[tactic(auto, using(crate::proofs::Keys::with_key))]
+fn put_key<A: Allocator>(
+    keys: &mut Table<Key, ()>,
+    filters: &Filters,
+    entry: &Record<A>,
+) -> Result<(), AllocError>
+    ensures { OnOk result ((key : key_type.Key) → has_key (rows key_cmp keys.new) key
+        ≡ (has_key (rows key_cmp keys.old) key
+        || (is_sought filters.now entry.now && eq_by_cmp key_cmp key (key_of entry.now)))) }
 {
-    other.css == image.css && other.mif == image.mif
+    if filters.look_for(entry) {
+        let key = entry.key();
+        keys.room(key)?;
+        let _before = keys.put(&key, ());
+    }
+    Ok(())
 }

@@ -1,4 +1,5 @@
-ghost use Rattle.std.specs.Prelude.{◌≡◌, ◌<◌};
+ghost use Rattle.std.specs.Prelude.{◌≡◌, ◌<◌, IfSome, length};
+ghost use Rattle.std.specs.List.{position};
 ghost use Rattle.std.specs.Option.{option_map};
 ghost use Rattle.iocm_filter.specs.Words as meaning;
 
@@ -19,39 +20,32 @@ pub(crate) trait AskedWord: Copy + Drop {
 
 /// An image by its name, `LPB`, or by its channel subsystem and MIF image ID, `0.2`.
 impl AskedWord for ImageWord {
-    ghost use Rattle.iocm_filter.specs.Words as meaning;
-
-    ghost asked = { meaning.image_word };
+    ghost asked = { Rattle.iocm_filter.specs.Words.image_word };
 
     fn read(text: &[u8]) -> Option<Self> {
         if let Some(name) = Name::new(text) {
             return Some(ImageWord::Named(name));
         }
-        let image = image_place(text)?;
-        Some(ImageWord::Place(image))
+        Some(ImageWord::Place(image_place(text)?))
     }
 }
 
 /// Device numbers of a subchannel set: `1003` or `1000-100F` of set 0, and `1.1000-10FF`.
 impl AskedWord for DeviceRange {
-    ghost use Rattle.iocm_filter.specs.Words as meaning;
-
-    ghost asked = { meaning.device_word };
+    ghost asked = { Rattle.iocm_filter.specs.Words.device_word };
 
     fn read(text: &[u8]) -> Option<Self> {
         let Some((set, rest)) = before_point(text) else {
             return device_numbers(SetNo::FIRST, text);
         };
-        let set = set_digit(set)?;
-        device_numbers(set, rest)
+        let set = decimal(3, &[set])?;
+        device_numbers(SetNo::new(set as u8)?, rest)
     }
 }
 
 /// A control unit: one to four hexadecimal digits, up to FFFE.
 impl AskedWord for UnitNo {
-    ghost use Rattle.iocm_filter.specs.Words as meaning;
-
-    ghost asked = { meaning.unit_word };
+    ghost asked = { Rattle.iocm_filter.specs.Words.unit_word };
 
     fn read(text: &[u8]) -> Option<Self> {
         unit_number(text)
@@ -60,33 +54,25 @@ impl AskedWord for UnitNo {
 
 /// A path of a channel subsystem, `0.50`, or of each, `50`.
 impl AskedWord for PathWord {
-    ghost use Rattle.iocm_filter.specs.Words as meaning;
-
-    ghost asked = { meaning.path_word };
+    ghost asked = { Rattle.iocm_filter.specs.Words.path_word };
 
     fn read(text: &[u8]) -> Option<Self> {
         let Some((css, rest)) = before_point(text) else {
             let path = path_number(text)?;
             return Some(PathWord { css: None, path });
         };
-        let css = css_digit(css)?;
+        let css = Some(css_digit(css)?);
         let path = path_number(rest)?;
-        Some(PathWord {
-            css: Some(css),
-            path,
-        })
+        Some(PathWord { css, path })
     }
 }
 
 /// How many paths, of eight, are online at most.
 impl AskedWord for u8 {
-    ghost use Rattle.iocm_filter.specs.Words as meaning;
-
-    ghost asked = { meaning.online_word };
+    ghost asked = { Rattle.iocm_filter.specs.Words.online_word };
 
     fn read(text: &[u8]) -> Option<Self> {
-        let number = decimal(8, text)?;
-        Some(number as u8)
+        Some(decimal(8, text)? as u8)
     }
 }
 
@@ -114,13 +100,6 @@ fn mif_digit(digit: u8) -> Option<Mif>
     Mif::new(number as u8)
 }
 
-fn set_digit(digit: u8) -> Option<SetNo>
-    ensures { result ≡ meaning.set_digit digit }
-{
-    let number = decimal(3, &[digit])?;
-    SetNo::new(number as u8)
-}
-
 fn image_place(text: &[u8]) -> Option<Image>
     ensures { result ≡ meaning.image_place text.now }
 {
@@ -141,44 +120,26 @@ fn device_number(text: &[u8]) -> Option<DevNo>
     Some(DevNo::new(number as u16))
 }
 
-/// The last number of a range from `first` on, where a hyphen and this text are behind that, or
-/// nothing is.
-fn last_of_range(first: DevNo, behind: Option<&[u8]>) -> Option<DevNo>
-    ensures { result ≡ meaning.last_of_range first (option_map (λ t. t.now) behind.entry) }
+fn hyphen_at(text: &[u8]) -> Option<usize>
+    ensures place { result ≡ position meaning.is_hyphen text.now }
+    ensures within { IfSome result (λ i. i < length text.now) }
 {
-    let Some(text) = behind else {
-        return Some(first);
-    };
-    let last = device_number(text)?;
-    if first.number() <= last.number() {
-        Some(last)
-    } else {
-        None
-    }
-}
-
-/// What stands before the first hyphen of a text, and what stands behind it, if it has one.
-fn cut_at_hyphen(text: &[u8]) -> (&[u8], Option<&[u8]>)
-    ensures before { result.0.now ≡ meaning.before_hyphen text.now }
-    ensures behind { option_map (λ t. t.now) result.1 ≡ meaning.behind_hyphen text.now }
-{
-    let mut rest = text;
-    let mut place = 0;
-    while let [first, more @ ..] = rest {
-        if *first == b'-' {
-            return (&text[0..place], Some(more));
-        }
-        place += 1;
-        rest = more;
-    }
-    (text, None)
+    text.iter().position(|byte| *byte == b'-')
 }
 
 fn device_numbers(set: SetNo, text: &[u8]) -> Option<DeviceRange>
     ensures { result ≡ meaning.device_numbers set text.now }
 {
-    let (before, behind) = cut_at_hyphen(text);
-    let first = device_number(before)?;
-    let last = last_of_range(first, behind)?;
-    Some(DeviceRange { set, first, last })
+    let Some(place) = hyphen_at(text) else {
+        let first = device_number(text)?;
+        let last = first;
+        return Some(DeviceRange { set, first, last });
+    };
+    let first = device_number(&text[..place])?;
+    let last = device_number(&text[place + 1..])?;
+    if first.number() <= last.number() {
+        Some(DeviceRange { set, first, last })
+    } else {
+        None
+    }
 }

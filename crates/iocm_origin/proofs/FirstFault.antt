@@ -77,3 +77,5 @@ pub gathers_all : {X Y : Type 0} (f : X → Option Y) (front : List Y) (xs : Lis
 gathers_all f front xs i past = rw (drop_of_length-le xs past, append-nil front) refl
 
 pub ruleset gathering_steps = (gathers_one, passes_over, gathers_all)
+
+pub ruleset laws_of_faults = (first_comes_first, none_where_no_first)

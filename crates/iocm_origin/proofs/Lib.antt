@@ -2,4 +2,3 @@ pub mod FirstFault
 pub mod LinesOfKeys
 pub mod LinesOfNodes
 pub mod TextLines
-pub mod Worked

@@ -39,12 +39,11 @@ behind_row = codes " ROW\n END\nDELETE ID\n"
 pub record LinesAsWorked : Type 0 where
   -- records of each kind; a device that comes second of a statement, or twice, and one of set 1
   pub keys : map (line_of_key (statements_of deck)) (key.Image 0 2 ∷ key.Path 0 0x50 ∷ key.Unit 0x1000
-      ∷ key.Device 0 0x1000 ∷ key.Device 0 0x1001 ∷ key.Device 1 0x1002 ∷ [])
-      ≡ Some 1 ∷ Some 2 ∷ Some 3 ∷ Some 5 ∷ Some 5 ∷ Some 8 ∷ []
+      ∷ key.Device 0 0x1000 ∷ key.Device 0 0x1001 ∷ key.Device 1 0x1002 ∷ key.Device 0 0x1002 ∷ key.Id ∷ [])
+      ≡ Some 1 ∷ Some 2 ∷ Some 3 ∷ Some 5 ∷ Some 5 ∷ Some 8 ∷ None ∷ None ∷ []
   -- an image that has the path online by default, and one that no statement names, come with the path
   pub online : map (line_of_key (statements_of deck)) (key.Online 0 0x50 (codes "LPA")
       ∷ key.Online 0 0x50 (codes "LPX") ∷ key.Online 0 0x51 (codes "LPA") ∷ []) ≡ Some 2 ∷ Some 2 ∷ None ∷ []
-  pub none : map (line_of_key (statements_of deck)) (key.Device 0 0x1002 ∷ key.Id ∷ []) ≡ None ∷ None ∷ []
   -- the Row of two edits and each of these
   pub no_node : line_of_node [] 0 ≡ None
   pub row_of_two : map (line_of_node (statements_of one_of_two)) (0 ∷ 2 ∷ 3 ∷ []) ≡ Some 2 ∷ Some 2 ∷ None ∷ []

@@ -1,9 +1,8 @@
 -- The line of a change deck that a node of its tree comes from, and what it promises. Nodes are
 -- numbered from 0 in the order of the text, each before its parts.
-use Rattle.std.specs.Prelude.{ℕ, ◌+◌, ◌-◌, ◌==◌, if◌then◌else◌, Option, None, Some, List, [], ◌∷◌, ◌++◌, map, Result}
-use Rattle.std.specs.Prelude.{Ok, Err, ◌≡◌, ◌≤◌, length}
+use Rattle.std.specs.Prelude.{◌≡◌, ◌≤◌, ℕ, ◌+◌, ◌-◌, ◌==◌, if◌then◌else◌, Option, None, Some, Result, Ok, Err}
+use Rattle.std.specs.Prelude.{List, [], ◌∷◌, ◌++◌, get_or, length, map, take}
 use Rattle.std.specs.List.{flat_map, slice_get}
-use Rattle.std.specs.Option.{option_and_then}
 use Rattle.iocm_types.specs.declared.fault.Fault.{Fault}
 use Rattle.iocm_model.specs.Change.Tree.{nodes_of}
 use Rattle.iocm_statements.specs.declared.operation.Operation.{Operation}
@@ -11,6 +10,8 @@ use Rattle.iocm_statements.specs.declared.statement.Statement.{Statement}
 use Rattle.iocm_statements.specs.declared.operation.Operation.TheVariants as operation
 use Rattle.iocm_tree.specs.Carried.{Carried}
 use Rattle.iocm_tree.specs.Trees.{CarriedTree, CarriedParts, leaf, row, group, choose, none, part, plain_tree}
+use Rattle.iocm_tree_reader.specs.declared.kind.NodeKind.{NodeKind}
+use Rattle.iocm_tree_reader.specs.declared.kind.NodeKind.TheVariants.{Row, Group, Choose}
 use Rattle.iocm_tree_reader.specs.Leaves.{edits_of, node_of_edits}
 use Rattle.iocm_tree_reader.specs.Reading.{read_tree}
 
@@ -18,17 +19,15 @@ use Rattle.iocm_tree_reader.specs.Reading.{read_tree}
 
 pub data Head : Type 0 where
   a_leaf : Carried → Head
-  a_row : Head
-  a_group : Head
-  a_choose : Head
+  a_node : NodeKind → Head
 
 abbrev mutual
   -- the nodes of a tree, each before its parts
   pub heads_of : CarriedTree → List Head
   heads_of (leaf e) = a_leaf e ∷ []
-  heads_of (row ps) = a_row ∷ heads_in ps
-  heads_of (group ps) = a_group ∷ heads_in ps
-  heads_of (choose ps) = a_choose ∷ heads_in ps
+  heads_of (row ps) = a_node Row ∷ heads_in ps
+  heads_of (group ps) = a_node Group ∷ heads_in ps
+  heads_of (choose ps) = a_node Choose ∷ heads_in ps
 
   pub heads_in : CarriedParts → List Head
   heads_in none = []
@@ -42,9 +41,9 @@ heads_if_given (Err e) = []
 -- those that a statement of this operation gives: ROW, GROUP and CHOOSE the one that they open, END
 -- none
 abbrev pub heads_by : Operation → Statement → List Head
-heads_by operation.Row s = a_row ∷ []
-heads_by operation.Group s = a_group ∷ []
-heads_by operation.Choose s = a_choose ∷ []
+heads_by operation.Row s = a_node Row ∷ []
+heads_by operation.Group s = a_node Group ∷ []
+heads_by operation.Choose s = a_node Choose ∷ []
 heads_by operation.End s = []
 heads_by _ s = heads_if_given (edits_of s)
 
@@ -61,48 +60,39 @@ open_after operation.Choose n = n + 1
 open_after operation.End n = n - 1
 open_after _ n = n
 
--- how many nodes statements put at the top, where so many are open before them: one is complete
--- wherever none is open
-abbrev pub top_among : ℕ → List Statement → ℕ
-top_among open_nodes [] = 0
-top_among open_nodes (s ∷ ss) =
-    let left = open_after s.operation open_nodes in (if left == 0 then 1 else 0) + top_among left ss
+-- how many nodes are at the top after further statements, if so many are there before them and so many are
+-- open: one more is complete wherever none is open
+abbrev pub count_tops : ℕ → ℕ → List Statement → ℕ
+count_tops tops open_nodes [] = tops
+count_tops tops open_nodes (s ∷ ss) =
+    let left = open_after s.operation open_nodes in count_tops (tops + (if left == 0 then 1 else 0)) left ss
 
 -- before all comes the Row round all, unless exactly one node stands at the top
 abbrev pub row_unless_one : ℕ → List Head
-row_unless_one n = if n == 1 then [] else a_row ∷ []
+row_unless_one n = if n == 1 then [] else a_node Row ∷ []
 
 abbrev pub heads_before : List Statement → List Head
-heads_before ss = row_unless_one (top_among 0 ss)
+heads_before ss = row_unless_one (count_tops 0 0 ss)
 
 -- ---- lines
 
--- a node with the line that it comes from, if it comes from one
-abbrev pub Placed : Type 0
-Placed = Head × Option ℕ
+-- the line of each node that a statement gives; of all nodes in the order of the text: the Row round all
+-- comes from none
+abbrev pub lines_by : Statement → List (Option ℕ)
+lines_by s = map (λ h. Some s.line) (heads_given s)
 
-abbrev pub placed : Option ℕ → List Head → List Placed
-placed line heads = map (λ h. (h, line)) heads
+abbrev pub lines_of : List Statement → List (Option ℕ)
+lines_of ss = map (λ h. None) (heads_before ss) ++ flat_map lines_by ss
 
--- the nodes that a statement gives come from its line
-abbrev pub placed_by : Statement → List Placed
-placed_by s = placed (Some s.line) (heads_given s)
-
--- all nodes in the order of the text; the Row round all comes from no line
-abbrev pub placed_nodes : List Statement → List Placed
-placed_nodes ss = placed None (heads_before ss) ++ flat_map placed_by ss
-
--- the line of the node of this number among some, counted from 0
-abbrev pub line_at : List Placed → ℕ → Option ℕ
-line_at nodes node = option_and_then (λ (n : Placed). n.1) (slice_get nodes node)
-
--- among those that these statements give, without the Row round all
+-- the line of the node of this number, counted from 0, among those that these statements give
 abbrev pub line_among : ℕ → List Statement → Option ℕ
-line_among node ss = line_at (flat_map placed_by ss) node
+line_among node ss = get_or (flat_map lines_by ss) node None
 
--- the line of a change deck that a node of its tree comes from
+-- the line of a change deck that a node of its tree comes from; past the last one there is none
 abbrev pub line_of_node : List Statement → ℕ → Option ℕ
-line_of_node ss node = line_at (placed_nodes ss) node
+line_of_node ss node = get_or (lines_of ss) node None
+
+-- ---- what they promise
 
 -- the nodes of a tree in their order are those that its statements give, one after the other
 abbrev pub NodesAreGiven : Type 0
@@ -113,26 +103,20 @@ NodesAreGiven = (ss : List Statement) (t : CarriedTree) → read_tree ss ≡ Ok 
 abbrev pub NodesAreNumbered : Type 0
 NodesAreNumbered = (t : CarriedTree) → length (heads_of t) ≡ nodes_of (plain_tree t)
 
--- the nodes that have lines are those of the tree
-abbrev pub NodesArePlaced : Type 0
-NodesArePlaced = (ss : List Statement) (t : CarriedTree) → read_tree ss ≡ Ok t
-    → map (λ (n : Placed). n.0) (placed_nodes ss) ≡ heads_of t
-
--- a statement gives the node of this number, behind some first nodes: it is at a place among the
+-- a statement gives the node of this number, behind some first nodes: the node is at a place among the
 -- statement's own
 pub record Gives (first : List Head) (ss : List Statement) (node : ℕ) (head : Head) (s : Statement) : Type 0 where
-  pub before : List Statement
-  pub behind : List Statement
+  pub before : ℕ
   pub place : ℕ
-  pub split : ss ≡ before ++ s ∷ behind
-  pub number : node ≡ length (first ++ flat_map heads_given before) + place
+  pub statement : slice_get ss before ≡ Some s
+  pub number : node ≡ length (first ++ flat_map heads_given (take before ss)) + place
   pub own : slice_get (heads_given s) place ≡ Some head
 
 -- a node is the Row round all, which comes before all others
 pub record IsRoundAll (first : List Head) (node : ℕ) (head : Head) : Type 0 where
-  pub alone : first ≡ a_row ∷ []
+  pub alone : first ≡ a_node Row ∷ []
   pub number : node ≡ 0
-  pub row : head ≡ a_row
+  pub row : head ≡ a_node Row
 
 -- what a node comes from: a statement that gives it, at its line, or none as the Row round all
 abbrev pub NodeComesFrom : List Head → List Statement → ℕ → Head → Option ℕ → Type 0

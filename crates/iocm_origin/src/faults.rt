@@ -1,8 +1,7 @@
-ghost use Rattle.std.specs.Prelude.{◌≡◌, ◌∷◌, [], IfOk};
-ghost use Rattle.iocm_statements.specs.Statement.{parsed};
+ghost use Rattle.std.specs.Prelude.{◌≡◌, IfOk};
 ghost use Rattle.iocm_origin.specs.Faults as meaning;
 
-use crate::origin::of_the_text;
+use crate::origin::told;
 use iocm_columns::{Joined, join};
 use iocm_operands::ImageEntry;
 use iocm_record_reader::{Progress, from_statements, machine_images, read_statement};
@@ -23,12 +22,9 @@ use std::slice::from_ref;
 pub fn all_faults(alloc: Global, deck: &[u8]) -> Result<Vec<Fault>, AllocError>
     ensures { IfOk result (λ faults. faults.items ≡ meaning.all_faults deck.now) }
 {
-    match join(alloc, deck) {
+    match told(join(alloc, deck))? {
         Ok(joined) => statement_faults(alloc, &joined),
-        Err(fault) => {
-            of_the_text(fault)?;
-            Ok(Vec::new(alloc))
-        }
+        Err(_) => Ok(Vec::new(alloc)),
     }
 }
 
@@ -36,40 +32,28 @@ pub fn all_faults(alloc: Global, deck: &[u8]) -> Result<Vec<Fault>, AllocError>
 fn statement_faults(alloc: Global, joined: &[Joined]) -> Result<Vec<Fault>, AllocError>
     ensures { IfOk result (λ faults. faults.items ≡ meaning.statement_faults joined.now) }
 {
-    match parse(alloc, joined) {
-        Ok(statements) => match from_statements(alloc, &statements) {
+    match told(parse(alloc, joined))? {
+        Ok(statements) => match told(from_statements(alloc, &statements))? {
             Ok(_) => Ok(Vec::new(alloc)),
-            Err(fault) => with_others(alloc, of_the_text(fault)?, &statements),
+            Err(first) => with_others(alloc, first, &statements),
         },
-        Err(fault) => {
-            of_the_text(fault)?;
-            text_faults(alloc, joined)
-        }
+        Err(_) => text_faults(alloc, joined),
     }
 }
 
-/// The fault of each statement whose text can't be read, in order.
+/// The fault of each statement whose text can't be read, in order: each is parsed as if it were the
+/// only one.
 #[tactic(auto, using(crate::proofs::FirstFault::gathering_steps))]
 fn text_faults(alloc: Global, joined: &[Joined]) -> Result<Vec<Fault>, AllocError>
     ensures { IfOk result (λ faults. faults.items ≡ meaning.text_faults joined.now) }
 {
     let mut faults = Vec::new(alloc);
     for statement in joined {
-        if let Some(fault) = text_fault(alloc, statement)? {
+        if let Err(fault) = told(parse(alloc, from_ref(statement)))? {
             faults.push(fault)?;
         }
     }
     Ok(faults)
-}
-
-/// The fault of a statement whose text can't be read: it is parsed as if it were the only one.
-fn text_fault(alloc: Global, joined: &Joined) -> Result<Option<Fault>, AllocError>
-    ensures { IfOk result (λ fault. fault ≡ meaning.fault_of (parsed (joined.now ∷ []))) }
-{
-    match parse(alloc, from_ref(joined)) {
-        Ok(_) => Ok(None),
-        Err(fault) => Ok(Some(of_the_text(fault)?)),
-    }
 }
 
 /// A fault, and then that of every statement at another line that has one by itself.
@@ -104,8 +88,5 @@ fn fault_elsewhere(
     if statement.line == line {
         return Ok(None);
     }
-    match read_statement(alloc, images, &Progress::new(alloc), statement) {
-        Ok(_) => Ok(None),
-        Err(fault) => Ok(Some(of_the_text(fault)?)),
-    }
+    Ok(told(read_statement(alloc, images, &Progress::new(alloc), statement))?.err())
 }

@@ -1,7 +1,7 @@
 ghost use Rattle.std.specs.Prelude.{◌≡◌, IfOk};
 ghost use Rattle.iocm_origin.specs.Keys as lines;
 
-use crate::origin::of_the_text;
+use crate::origin::told;
 use iocm_operands::ImageEntry;
 use iocm_record::Record;
 use iocm_record_reader::{machine_images, statement_records};
@@ -14,6 +14,7 @@ use std::alloc::{AllocError, Global};
 /// statement with a fault brings no key.
 ///
 /// `AllocError` (M1): memory ran out.
+#[tactic(auto, using(crate::proofs::LinesOfKeys::line_steps))]
 pub(crate) fn line_of_key(
     alloc: Global,
     statements: &[Statement],
@@ -22,22 +23,9 @@ pub(crate) fn line_of_key(
     ensures { IfOk result (λ line. line ≡ lines.line_of_key statements.now key) }
 {
     let images = machine_images(alloc, statements)?;
-    line_among(alloc, &images, key, statements)
-}
-
-/// The line of the first of these statements that brings a key.
-#[tactic(auto, using(crate::proofs::LinesOfKeys::find_steps))]
-fn line_among(
-    alloc: Global,
-    images: &[ImageEntry],
-    key: Key,
-    statements: &[Statement],
-) -> Result<Option<usize>, AllocError>
-    ensures { IfOk result (λ line. line ≡ lines.line_among images.now key statements.now) }
-{
     let sought = comes_with(key);
     for statement in statements {
-        if does_bring(alloc, images, &sought, statement)? {
+        if does_bring(alloc, &images, &sought, statement)? {
             return Ok(Some(statement.line));
         }
     }
@@ -68,30 +56,14 @@ fn does_bring(
         rule: Rule::S4,
         line: statement.line,
     };
-    match statement_records(
-        alloc,
-        images,
-        statement.operation,
-        &statement.operands,
-        malformed,
-    ) {
-        Ok(records) => Ok(is_of_one(&records, key)),
-        Err(fault) => {
-            of_the_text(fault)?;
-            Ok(false)
-        }
-    }
+    let (operation, operands) = (statement.operation, &statement.operands);
+    let records = told(statement_records(alloc, images, operation, operands, malformed))?;
+    Ok(records.is_ok_and(|records| is_of_one(&records, key)))
 }
 
 /// Whether one of these records has this key.
-#[tactic(auto, using(iocm_types::proofs::Any::any_steps))]
 fn is_of_one(records: &[Record], key: &Key) -> bool
     ensures { result ≡ lines.is_of_one records.now key.now }
 {
-    for entry in records {
-        if key.order(entry.key()).is_eq() {
-            return true;
-        }
-    }
-    false
+    records.iter().any(|entry| key.order(entry.key()).is_eq())
 }

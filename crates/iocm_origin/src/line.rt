@@ -1,10 +1,10 @@
 ghost use Rattle.std.specs.Prelude.{◌≡◌, ◌==◌, option_map};
 ghost use Rattle.std.specs.List.{slice_get, slice_split};
-ghost use Rattle.std.specs.Str.Lines.{strip_carriage_return};
 ghost use Rattle.iocm_origin.specs.Origin as meaning;
 
 /// The line of this number of a text, counted from 1, without its line end. There is none of number
 /// 0, or past the last line. A line ends at LF, at CR LF, or at the end of the text.
+#[tactic(auto, using(crate::proofs::TextLines::of_number))]
 pub fn line_of(text: &[u8], line: usize) -> Option<&[u8]>
     ensures { option_map (λ l. l.now) result ≡ meaning.line_of text.now line }
 {
@@ -20,7 +20,7 @@ fn line_at<'a>(part: Option<&'a [u8]>, next: Option<&'a [u8]>) -> Option<&'a [u8
         ≡ meaning.line_at (option_map (λ l. l.now) part.entry) (option_map (λ l. l.now) next.entry) }
 {
     match (part?, next) {
-        (part, Some(_)) => Some(without_return(part)),
+        (part, Some(_)) => Some(part.strip_suffix(b"\r").unwrap_or(part)),
         (part, None) if part.is_empty() => None,
         (part, None) => Some(part),
     }
@@ -31,14 +31,4 @@ fn part_of(text: &[u8], place: usize) -> Option<&[u8]>
     ensures { option_map (λ l. l.now) result ≡ slice_get (slice_split (λ b. b == 10) text.now) place }
 {
     text.split(|b| *b == b'\n').nth(place)
-}
-
-/// The line without the one carriage return at its end, if it has one.
-fn without_return(line: &[u8]) -> &[u8]
-    ensures { result.now ≡ strip_carriage_return line.now }
-{
-    match line {
-        [front @ .., b'\r'] => front,
-        _ => line,
-    }
 }

@@ -1,8 +1,8 @@
-ghost use Rattle.std.specs.Prelude.{◌≡◌, ◌==◌, ◌≤◌, ◌<◌, ◌+◌, ◌^◌, if◌then◌else◌, IfOk, length};
+ghost use Rattle.std.specs.Prelude.{◌≡◌, ◌≤◌, ◌<◌, ◌+◌, ◌^◌, IfOk, length};
 ghost use Rattle.iocm_tree_reader.specs.Leaves.{edits_of};
 ghost use Rattle.iocm_origin.specs.Nodes as nodes;
 
-use crate::origin::of_the_text;
+use crate::origin::told;
 use iocm_statements::{Operation, Statement};
 use iocm_tree_reader::edits_of;
 use std::alloc::{AllocError, Global};
@@ -30,7 +30,7 @@ pub(crate) fn line_of_node(
 
 /// How many nodes the statements put at the top.
 fn count_at_top(statements: &[Statement]) -> usize
-    ensures { result ≡ nodes.top_among 0 statements.now }
+    ensures { result ≡ nodes.count_tops 0 0 statements.now }
 {
     let mut open_nodes = 0;
     let mut count = 0;
@@ -55,6 +55,7 @@ fn open_after(operation: Operation, open_nodes: usize) -> usize
 }
 
 /// The line of the statement that gives a node, counted from the first of these on.
+#[tactic(auto, using(crate::proofs::LinesOfNodes::walk_steps))]
 fn line_among(
     alloc: Global,
     statements: &[Statement],
@@ -80,12 +81,7 @@ fn nodes_given(alloc: Global, statement: &Statement) -> Result<u64, AllocError>
     match statement.operation {
         Operation::Row | Operation::Group | Operation::Choose => Ok(1),
         Operation::End => Ok(0),
-        Operation::Id
-        | Operation::Resource
-        | Operation::Chpid
-        | Operation::Cntlunit
-        | Operation::Iodevice
-        | Operation::Online => nodes_if_given(alloc, statement),
+        _ => nodes_if_given(alloc, statement),
     }
 }
 
@@ -94,19 +90,16 @@ fn nodes_given(alloc: Global, statement: &Statement) -> Result<u64, AllocError>
 fn nodes_if_given(alloc: Global, statement: &Statement) -> Result<u64, AllocError>
     ensures { IfOk result (λ count. count ≡ length (nodes.heads_if_given (edits_of statement.now))) }
 {
-    match edits_of(alloc, alloc, statement) {
+    match told(edits_of(alloc, alloc, statement))? {
         Ok(edits) => Ok(nodes_of_edits(edits.len())),
-        Err(fault) => {
-            of_the_text(fault)?;
-            Ok(0)
-        }
+        Err(_) => Ok(0),
     }
 }
 
 /// How many nodes so many edits give: one is a node by itself, none or several stand in a Row.
 fn nodes_of_edits(count: usize) -> u64
     requires { count < 2 ^ 63 }
-    ensures { result ≡ (if count == 1 then 1 else count + 1) }
+    ensures { result ≡ length (nodes.row_unless_one count) + count }
 {
     match count {
         1 => 1,

@@ -1,13 +1,11 @@
-ghost use Rattle.std.specs.Prelude.{◌≡◌, ◌≢◌, ◌↔◌, true, IfOk, IfSome, IsSome};
-ghost use Rattle.std.specs.Ordering.{eq_by_cmp};
+ghost use Rattle.std.specs.Prelude.{◌≡◌, ◌≢◌, ◌↔◌, true, Err, IfOk, IfSome, IsSome};
 ghost use Rattle.iocm_types.specs.Fault.{memory};
-ghost use Rattle.iocm_types.specs.Key.{key_cmp};
 ghost use Rattle.iocm_console.specs.Refusal.{of_fault};
 ghost use Rattle.iocm_origin.specs.Origin as meaning;
 
 use iocm_console::{About, Refusal, read_statements};
 use iocm_statements::Statement;
-use iocm_types::{Fault, Key, Rule};
+use iocm_types::{Fault, Rule};
 use std::alloc::{AllocError, Global};
 
 /// Where in a text a refusal comes from. The word is own.
@@ -42,7 +40,7 @@ pub(crate) fn line_or_whole(about: About) -> Origin
 }
 
 /// A fault that a reader answered, if it is one of the text. That memory ran out is none.
-pub(crate) fn of_the_text(fault: Fault) -> Result<Fault, AllocError>
+fn of_the_text(fault: Fault) -> Result<Fault, AllocError>
     ensures same { IfOk result (λ told. told ≡ fault) }
     ensures text { IfOk result (λ told. fault ≢ memory) }
 {
@@ -50,6 +48,17 @@ pub(crate) fn of_the_text(fault: Fault) -> Result<Fault, AllocError>
         return Err(AllocError);
     }
     Ok(fault)
+}
+
+/// What a reader answered, if it is what it says of the text.
+pub(crate) fn told<T: Drop>(read: Result<T, Fault>) -> Result<Result<T, Fault>, AllocError>
+    ensures same { IfOk result (λ told. told ≡ read) }
+    ensures text { IfOk result (λ told. read ≢ Err memory) }
+{
+    match read {
+        Ok(value) => Ok(Ok(value)),
+        Err(fault) => Ok(Err(of_the_text(fault)?)),
+    }
 }
 
 /// The line of a text's first fault, if that is the refusal.
@@ -74,13 +83,7 @@ pub(crate) fn origin_of_fault(fault: Fault, why: Refusal) -> Result<Option<Origi
 pub(crate) fn statements_or_none(alloc: Global, text: &[u8]) -> Result<Vec<Statement>, AllocError>
     ensures { IfOk result (λ v. v.items ≡ meaning.statements_of text.now) }
 {
-    match read_statements(alloc, text) {
-        Ok(statements) => Ok(statements),
-        Err(fault) => {
-            of_the_text(fault)?;
-            Ok(Vec::new(alloc))
-        }
-    }
+    Ok(told(read_statements(alloc, text))?.unwrap_or(Vec::new(alloc)))
 }
 
 /// Whether two refusals are one.
@@ -102,17 +105,10 @@ fn is_same_about(one: About, other: About) -> bool
 {
     match (one, other) {
         (About::Line(one), About::Line(other)) => one == other,
-        (About::Key(one), About::Key(other)) => is_same_key(one, other),
+        (About::Key(one), About::Key(other)) => one.order(other).is_eq(),
         (About::Subchannel(one), About::Subchannel(other)) => one.order(other).is_eq(),
         (About::Change(one), About::Change(other)) => one == other,
         (About::Nothing, About::Nothing) => true,
         _ => false,
     }
-}
-
-/// Whether two keys are one.
-fn is_same_key(one: Key, other: Key) -> bool
-    ensures { (result ≡ true) ↔ (one ≡ other) }
-{
-    one.order(other).is_eq()
 }

@@ -1,6 +1,6 @@
--- What was printed of a list so far, and one item more.
+-- What was printed so far of a list, or of the parts of a tree, and one item more.
 use Rattle.std.proofs.Common.{◌≡◌, ℕ, ◌+◌, ◌<◌, Bool, true, false, ◌&&◌, nat_eq, codes, Some, List, [], ◌∷◌, ◌++◌}
-use Rattle.std.proofs.Common.{length, get_or, take, refl, sym, ap, ◌∙◌}
+use Rattle.std.proofs.Common.{length, get_or, take, refl, sym, ap, ◌∙◌, ◌≤◌, drop, append_assoc, append-nil}
 use Rattle.std.specs.Cmp.Lexicographic.{pointwise}
 use Rattle.std.specs.List.{flat_map}
 use Rattle.std.proofs.lemmas.List.{append-nil, take_more}
@@ -13,9 +13,14 @@ use Rattle.iocm_model.specs.Change.Edit.{same_view}
 use Rattle.iocm_model.specs.Machine.Configuration.{Configuration}
 use Rattle.iocm_reports.specs.Deck.{remark_line}
 use Rattle.iocm_reports.specs.Lines.{lines_by, signed_line}
+use Rattle.iocm_tree.specs.Trees.{parts_of, plain_parts, plain_tree, tree_of}
+use Rattle.iocm_tree.specs.declared.tree.Tree.{Tree}
+use Rattle.iocm_tree.proofs.Trees.{rest_at, none_left}
+use Rattle.iocm_reports.specs.Remarks.{remarks_of}
+use Rattle.iocm_reports.specs.WayBack.{edits_in, edits_among, remarks_in, remarks_among}
 
--- the texts of the items so far and that of the next
-pub text_more : {A : Type 0} (text : A → List ℕ) (xs : List A) (i : ℕ) (x : A) → i < length xs → x ≡ get_or xs i x
+-- the texts of the items so far and that of the next, or other lists
+pub text_more : {A B : Type 0} (text : A → List B) (xs : List A) (i : ℕ) (x : A) → i < length xs → x ≡ get_or xs i x
     → flat_map text (take i xs) ++ text x ≡ flat_map text (take (i + 1) xs)
 text_more text xs i x within is =
     sym (ap (flat_map text) (take_more xs i x within ∙ ap (λ y. take i xs ++ y ∷ []) (sym is))
@@ -50,3 +55,23 @@ no_remark c (key.Path css number) other = refl
 no_remark c (key.Unit number) other = refl
 no_remark c (key.Device set number) other = refl
 no_remark c (key.Online css number name) other = absurd (other css number name refl)
+
+-- one part more
+pub one_more_put : {A : Type 0} (shown : List (Tree A)) (i : ℕ) (x : Tree A) → i < length shown → x ≡ get_or shown i x
+    → (front more all : List ℕ) → more ≡ front ++ remarks_in (plain_tree (tree_of x))
+    → front ++ remarks_among (plain_parts (parts_of (drop i shown))) ≡ all
+    → more ++ remarks_among (plain_parts (parts_of (drop (i + 1) shown))) ≡ all
+one_more_put shown i x within is front more all put so_far =
+    let rest = remarks_among (plain_parts (parts_of (drop (i + 1) shown))) in
+    let here : remarks_among (plain_parts (parts_of (drop i shown))) ≡ remarks_in (plain_tree (tree_of x)) ++ rest =
+    ap (λ ps. remarks_among (plain_parts ps)) (rest_at shown i x within is)
+    ∙ flat_map-append remarks_of (edits_in (plain_tree (tree_of x)))
+    (edits_among (plain_parts (parts_of (drop (i + 1) shown)))) in
+    ap (λ ls. ls ++ rest) put ∙ append_assoc front (remarks_in (plain_tree (tree_of x))) rest
+    ∙ ap (λ ls. front ++ ls) (sym here) ∙ so_far
+
+-- all are put
+pub all_put : {A : Type 0} (shown : List (Tree A)) (i : ℕ) → length shown ≤ i → (front all : List ℕ)
+    → front ++ remarks_among (plain_parts (parts_of (drop i shown))) ≡ all → front ≡ all
+all_put shown i past front all so_far =
+    sym (append-nil front) ∙ ap (λ ps. front ++ remarks_among (plain_parts ps)) (sym (none_left shown i past)) ∙ so_far

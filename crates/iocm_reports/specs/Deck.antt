@@ -40,11 +40,13 @@ abbrev pub remark_text : Key → Bool → List ℕ → List ℕ
 remark_text path_key there name =
     codes "* " ++ (key_text path_key ++ (codes " " ++ (is_or_not there ++ (codes " online to " ++ name))))
 
--- its line in a configuration
+-- its line, by whether it is online; and in a configuration
+abbrev pub line_by : Bool → Key → List ℕ
+line_by there (Online css number name) = remark_text (Path css number) there name ++ 10 ∷ []
+line_by there _ = []
+
 unfoldable pub remark_line : Configuration → Key → List ℕ
-remark_line c (Online css number name) =
-    remark_text (Path css number) (contains_key c (Online css number name)) name ++ 10 ∷ []
-remark_line c _ = []
+remark_line c pair = line_by (contains_key c pair) pair
 
 -- the canonical deck, and behind it the comments
 abbrev pub deck_text : Configuration → List ℕ

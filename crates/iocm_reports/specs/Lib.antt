@@ -2,10 +2,8 @@ pub mod Altered
 pub mod Counts
 pub mod Deck
 pub mod Examples
-pub mod First
-pub mod ImageOrder
+pub mod Gathered
 pub mod Laws
 pub mod Lines
-pub mod Listed
 pub mod Remarks
 pub mod WayBack

@@ -10,13 +10,13 @@ ghost use Rattle.iocm_model.specs.Operation.State.{State};
 ghost use Rattle.iocm_activate.specs.Done.{AreToldBy};
 ghost use Rattle.iocm_activate.specs.Told.{told_of_all};
 ghost use Rattle.iocm_reports.specs.Altered as meaning;
-ghost use Rattle.iocm_reports.specs.First.{row_of, seen_before, seen_before_edits};
+ghost use Rattle.iocm_reports.specs.Gathered.{row_of, seen_before, seen_before_edits};
 
-use crate::first::first_of_each;
+use crate::memory::{Allocated, SeenBefore};
 use iocm_plant::{Plant, Touched};
 use iocm_seats::ViewChange;
-use iocm_types::{SubId, View};
-use std::alloc::{AllocError, Global};
+use iocm_types::first_in_order;
+use std::alloc::Global;
 
 /// What a change altered, of whose edits this was told, on the machine that it left: each subchannel
 /// in order, with what was seen there before the change and what is seen there after it. A subchannel
@@ -28,7 +28,7 @@ pub fn altered_rows(
     alloc: Global,
     performed: &[Touched],
     plant: &Plant,
-) -> Result<Vec<ViewChange>, AllocError>
+) -> Allocated<Vec<ViewChange>>
     ensures rows { (es : List Edit) (s : State) → AreToldBy performed.now (told_of_all es s)
         → IfOk result (λ listed. listed.items ≡ meaning.altered_rows es s plant.now.state) }
     ensures order { IfOk result (λ listed. meaning.AreInOrder listed.items) }
@@ -41,7 +41,7 @@ pub fn altered_rows(
 /// The time is that of sorting them, as for rows; of one edit nothing is listed.
 ///
 /// `AllocError` (M1): memory ran out.
-pub fn count_altered(alloc: Global, performed: &[Touched]) -> Result<usize, AllocError>
+pub fn count_altered(alloc: Global, performed: &[Touched]) -> Allocated<usize>
     ensures { (es : List Edit) (s : State) → AreToldBy performed.now (told_of_all es s)
         → IfOk result (λ count. count ≡ len (effect_of es s).lives) }
 {
@@ -54,20 +54,19 @@ pub fn count_altered(alloc: Global, performed: &[Touched]) -> Result<usize, Allo
 }
 
 /// What was seen at each subchannel that an edit altered, before the first edit that did, in order.
-fn seen_first(
-    alloc: Global,
-    performed: &[Touched],
-) -> Result<Vec<(SubId, Option<View>)>, AllocError>
+/// Where the subchannels rise, as those of one edit do, the list stays as it is, and takes no more
+/// memory. Else the time is that of sorting, which merges the subchannels of edits.
+fn seen_first(alloc: Global, performed: &[Touched]) -> Allocated<Vec<SeenBefore>>
     ensures first { IfOk result (λ rows. (x : subchannels.SubId)
         → find sub_id_cmp x rows.items ≡ find sub_id_cmp x (seen_before_edits performed.now)) }
     ensures order { IfOk result (λ rows. IsStrictlySortedBy sub_id_cmp (keys_of rows.items)) }
 {
     let listed = list_seen(alloc, performed)?;
-    first_of_each(alloc, listed)
+    first_in_order(listed)
 }
 
 /// What was seen at each subchannel that an edit altered, before it, edit by edit.
-fn list_seen(alloc: Global, performed: &[Touched]) -> Result<Vec<(SubId, Option<View>)>, AllocError>
+fn list_seen(alloc: Global, performed: &[Touched]) -> Allocated<Vec<SeenBefore>>
     ensures { IfOk result (λ listed. listed.items ≡ seen_before_edits performed.now) }
 {
     let mut listed = Vec::with_capacity(alloc, told_of(performed))?;
@@ -88,10 +87,7 @@ fn told_of(performed: &[Touched]) -> usize {
 }
 
 /// Puts what was seen before an edit where it altered a subchannel behind what is listed.
-fn add_seen(
-    listed: &mut Vec<(SubId, Option<View>)>,
-    changes: &[ViewChange],
-) -> Result<(), AllocError>
+fn add_seen(listed: &mut Vec<SeenBefore>, changes: &[ViewChange]) -> Allocated<()>
     ensures { OnOk result (listed.new.items ≡ listed.old.items ++ seen_before changes.now) }
 {
     for change in changes {
@@ -102,11 +98,7 @@ fn add_seen(
 
 /// The rows of subchannels of which it is known what was seen first, on the machine that a change
 /// left.
-fn list_rows(
-    alloc: Global,
-    first: &[(SubId, Option<View>)],
-    plant: &Plant,
-) -> Result<Vec<ViewChange>, AllocError>
+fn list_rows(alloc: Global, first: &[SeenBefore], plant: &Plant) -> Allocated<Vec<ViewChange>>
     ensures { IfOk result (λ listed. listed.items ≡ map (row_of plant.now.state) first.now) }
 {
     let mut listed = Vec::with_capacity(alloc, first.len())?;

@@ -2,19 +2,16 @@ ghost use Rattle.std.specs.Prelude.{◌≡◌, ◌++◌, IfOk, OnOk};
 ghost use Rattle.iocm_tree.specs.Trees.{parts_of, plain_parts, plain_tree, tree_of};
 ghost use Rattle.iocm_reports.specs.WayBack as meaning;
 
+use crate::memory::Allocated;
 use crate::remarks::put_remarks;
 use iocm_columns::deck_bytes;
 use iocm_tree::Tree;
 use iocm_tree_writer::write_tree;
-use std::alloc::{AllocError, Allocator, Global};
+use std::alloc::{Allocator, Global};
 
 // The comments of a tree, behind a text.
 #[cycle(remarks)]
-fn put_tree<A: Allocator>(
-    alloc: Global,
-    tree: &Tree<A>,
-    text: &mut Vec<u8>,
-) -> Result<(), AllocError>
+fn put_tree<A: Allocator>(alloc: Global, tree: &Tree<A>, text: &mut Vec<u8>) -> Allocated<()>
     ensures { OnOk result (text.new.items ≡ text.old.items ++ meaning.remarks_in (plain_tree (tree_of tree.now))) }
 {
     match tree {
@@ -31,7 +28,7 @@ fn put_parts<A: Allocator>(
     alloc: Global,
     parts: &Vec<Tree<A>, A>,
     text: &mut Vec<u8>,
-) -> Result<(), AllocError>
+) -> Allocated<()>
     ensures { OnOk result
         (text.new.items ≡ text.old.items ++ meaning.remarks_among (plain_parts (parts_of parts.now.items))) }
 {
@@ -46,7 +43,7 @@ fn put_parts<A: Allocator>(
 /// and what subchannels remembered. It calls itself as deep as the tree is.
 ///
 /// `AllocError` (M1): memory ran out.
-pub fn way_back<A: Allocator>(alloc: Global, tree: &Tree<A>) -> Result<Vec<u8>, AllocError>
+pub fn way_back<A: Allocator>(alloc: Global, tree: &Tree<A>) -> Allocated<Vec<u8>>
     ensures { IfOk result (λ bytes. bytes.items ≡ meaning.way_back_text (plain_tree (tree_of tree.now))) }
 {
     let deck = write_tree(alloc, tree)?;

@@ -1,10 +1,10 @@
-ghost use Rattle.std.specs.Prelude.{◌≡◌, ◌++◌, ◌∷◌, [], count_by, OnOk, IfErr};
+ghost use Rattle.std.specs.Prelude.{◌≡◌, ◌++◌, ◌∷◌, [], count_by, Some};
 ghost use Rattle.std.specs.List.{prefix_len};
-ghost use Rattle.iocm_console.specs.Output.{has_failed, FailedToWrite, Prints};
+ghost use Rattle.iocm_console.specs.Output.{Writes};
 ghost use Rattle.iocm_reports.specs.Altered.{AreInOrder};
 ghost use Rattle.iocm_reports.specs.Counts as meaning;
 
-use iocm_console::{ConsoleError, Output};
+use iocm_console::{Output, Written};
 use iocm_seats::ViewChange;
 use iocm_types::Image;
 use std::fmt;
@@ -105,10 +105,7 @@ struct CountsLine {
 }
 
 impl fmt::Display for CountsLine {
-    ghost use Rattle.std.specs.Prelude.{Some};
-    ghost use Rattle.iocm_reports.specs.Counts.{counts_text};
-
-    ghost output = { λ l. Some (counts_text l.image l.counts) };
+    ghost output = { λ l. Some (meaning.counts_text l.image l.counts) };
 
     fn fmt<W: fmt::Write>(&self, f: &mut fmt::Formatter<W>) -> fmt::Result {
         let css = self.image.css;
@@ -131,28 +128,21 @@ pub fn write_counted<W: Write + Drop>(
     altered: usize,
     rows: &[ViewChange],
     output: &mut Output<W>,
-) -> Result<(), ConsoleError>
+) -> Written
     requires order { AreInOrder rows.now }
-    ensures text { OnOk result (Prints W.contents output.old output.new (meaning.counted_text altered rows.now)) }
-    ensures works { OnOk result (has_failed output.new ≡ has_failed output.old) }
-    ensures fault { IfErr result (FailedToWrite output.new) }
+    ensures { Writes W.contents result output.old output.new (meaning.counted_text altered rows.now) }
 {
     output.changed(altered)?;
     write_counts(rows, output)
 }
 
 /// Writes a line for each image that has rows. The rows of an image stand together.
-fn write_counts<W: Write + Drop>(
-    rows: &[ViewChange],
-    output: &mut Output<W>,
-) -> Result<(), ConsoleError>
+fn write_counts<W: Write + Drop>(rows: &[ViewChange], output: &mut Output<W>) -> Written
     requires { AreInOrder rows.now }
-    ensures text { OnOk result (Prints W.contents output.old output.new (meaning.count_lines rows.now)) }
-    ensures works { OnOk result (has_failed output.new ≡ has_failed output.old) }
-    ensures fault { IfErr result (FailedToWrite output.new) }
+    ensures { Writes W.contents result output.old output.new (meaning.count_lines rows.now) }
 {
     let mut left = rows;
-    while let Some(row) = left.first() {
+    while let Some((row, _)) = left.split_first() {
         let (own, others) = left.split_at(rows_in_front(left, row.subchannel.image));
         write_image(row.subchannel.image, own, output)?;
         left = others;
@@ -161,15 +151,9 @@ fn write_counts<W: Write + Drop>(
 }
 
 /// Writes the line of an image with these rows.
-fn write_image<W: Write + Drop>(
-    image: Image,
-    own: &[ViewChange],
-    output: &mut Output<W>,
-) -> Result<(), ConsoleError>
-    ensures text { OnOk result (Prints W.contents output.old output.new
-        (meaning.counts_text image (meaning.counts_of own.now) ++ 10 ∷ [])) }
-    ensures works { OnOk result (has_failed output.new ≡ has_failed output.old) }
-    ensures fault { IfErr result (FailedToWrite output.new) }
+fn write_image<W: Write + Drop>(image: Image, own: &[ViewChange], output: &mut Output<W>) -> Written
+    ensures { Writes W.contents result output.old output.new
+        (meaning.counts_text image (meaning.counts_of own.now) ++ 10 ∷ []) }
 {
     let counts = Counts::of(own);
     output.line(CountsLine { image, counts })

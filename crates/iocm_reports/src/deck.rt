@@ -1,23 +1,23 @@
-ghost use Rattle.std.specs.Prelude.{◌≡◌, ◌++◌, ◌∷◌, ◌&&◌, [], IfOk, OnOk, filter, map, not};
-ghost use Rattle.std.specs.List.{flat_map, list_any};
-ghost use Rattle.std.specs.Ordering.{eq_by_cmp};
-ghost use Rattle.std.specs.FinMap.{contains_key, keys};
+ghost use Rattle.std.specs.Prelude.{◌≡◌, ◌++◌, ◌&&◌, IfOk, OnOk, Some, filter, map, not};
+ghost use Rattle.std.specs.List.{flat_map};
+ghost use Rattle.std.specs.FinMap.{contains_key, empty, keys};
 ghost use Rattle.iocm_types.specs.Key.{key_cmp};
-ghost use Rattle.iocm_types.specs.declared.key.Key as pairs;
 ghost use Rattle.iocm_table.specs.Slots.{rows};
 ghost use Rattle.iocm_model.specs.Machine.Configuration.{records_of};
 ghost use Rattle.iocm_model.specs.Machine.Record.{key_of};
 ghost use Rattle.iocm_record.specs.Meaning.{path_of};
 ghost use Rattle.iocm_config.specs.OnlineLast as online;
 ghost use Rattle.iocm_reports.specs.Deck as meaning;
-ghost use Rattle.iocm_reports.specs.Listed.{pair_of, GivesToo};
+ghost use Rattle.iocm_reports.specs.Gathered.{pair_of, with_pairs};
 
+use crate::memory::Allocated;
+use crate::remarks::put_line;
 use iocm_config::Config;
 use iocm_deck_writer::canonical_deck;
 use iocm_record::{PathFields, Record, RecordBody};
 use iocm_table::Table;
 use iocm_types::{Key, Name, sorted_once};
-use std::alloc::{AllocError, Global};
+use std::alloc::Global;
 use std::fmt;
 
 /// The canonical deck of a configuration. Behind it stands in comments, by key, what the deck
@@ -25,7 +25,7 @@ use std::fmt;
 /// to another image.
 ///
 /// `AllocError` (M1): memory ran out.
-pub fn deck_text(alloc: Global, config: &Config) -> Result<Vec<u8>, AllocError>
+pub fn deck_text(alloc: Global, config: &Config) -> Allocated<Vec<u8>>
     ensures { IfOk result (λ bytes. bytes.items ≡ meaning.deck_text config.now.records) }
 {
     let mut text = canonical_deck(alloc, config)?;
@@ -35,7 +35,7 @@ pub fn deck_text(alloc: Global, config: &Config) -> Result<Vec<u8>, AllocError>
 }
 
 /// The pairs of a path and an image of which the canonical deck says otherwise, in order.
-fn pairs_untold(alloc: Global, config: &Config) -> Result<Vec<Key>, AllocError>
+fn pairs_untold(alloc: Global, config: &Config) -> Allocated<Vec<Key>>
     ensures { IfOk result (λ untold. untold.items ≡ meaning.pairs_untold config.now.records) }
 {
     let listed = pairs_listed(alloc, config)?;
@@ -46,9 +46,9 @@ fn pairs_untold(alloc: Global, config: &Config) -> Result<Vec<Key>, AllocError>
 }
 
 /// The pairs of which access lists say that they are online.
-fn pairs_listed(alloc: Global, config: &Config) -> Result<Table<Key, ()>, AllocError>
-    ensures { IfOk result (λ listed. (pair : pairs.Key) → contains_key (rows key_cmp listed) pair
-        ≡ list_any (eq_by_cmp key_cmp pair) (meaning.pairs_listed (records_of config.now.records))) }
+fn pairs_listed(alloc: Global, config: &Config) -> Allocated<Table<Key, ()>>
+    ensures { IfOk result
+        (λ listed. rows key_cmp listed ≡ with_pairs empty (meaning.pairs_listed (records_of config.now.records))) }
 {
     let mut listed = Table::new(alloc);
     for (_, entry) in config.walk() {
@@ -58,9 +58,9 @@ fn pairs_listed(alloc: Global, config: &Config) -> Result<Table<Key, ()>, AllocE
 }
 
 /// Adds the pairs of a record's access list, if it has one.
-fn list_pairs(listed: &mut Table<Key, ()>, entry: &Record) -> Result<(), AllocError>
-    ensures { OnOk result (GivesToo (rows key_cmp listed.old) (rows key_cmp listed.new)
-        (map key_of (meaning.online_by entry.now))) }
+fn list_pairs(listed: &mut Table<Key, ()>, entry: &Record) -> Allocated<()>
+    ensures { OnOk result
+        (rows key_cmp listed.new ≡ with_pairs (rows key_cmp listed.old) (map key_of (meaning.online_by entry.now))) }
 {
     match entry.body() {
         RecordBody::Path(path) => list_images(listed, path),
@@ -69,9 +69,9 @@ fn list_pairs(listed: &mut Table<Key, ()>, entry: &Record) -> Result<(), AllocEr
 }
 
 /// Adds the pairs of a path's access list.
-fn list_images(listed: &mut Table<Key, ()>, path: &PathFields) -> Result<(), AllocError>
-    ensures { OnOk result (GivesToo (rows key_cmp listed.old) (rows key_cmp listed.new)
-        (map (pair_of (path_of path.now)) (path_of path.now).access)) }
+fn list_images(listed: &mut Table<Key, ()>, path: &PathFields) -> Allocated<()>
+    ensures { OnOk result (rows key_cmp listed.new
+        ≡ with_pairs (rows key_cmp listed.old) (map (pair_of (path_of path.now)) (path_of path.now).access)) }
 {
     for name in path.access.as_slice() {
         let pair = Key::Online(path.css, path.number, *name);
@@ -82,11 +82,7 @@ fn list_images(listed: &mut Table<Key, ()>, path: &PathFields) -> Result<(), All
 }
 
 /// Lists the pairs of access lists that aren't online, behind those that are listed.
-fn add_offline(
-    listed: &Table<Key, ()>,
-    config: &Config,
-    untold: &mut Vec<Key>,
-) -> Result<(), AllocError>
+fn add_offline(listed: &Table<Key, ()>, config: &Config, untold: &mut Vec<Key>) -> Allocated<()>
     ensures { OnOk result (untold.new.items ≡ untold.old.items
         ++ filter (λ pair. not (contains_key config.now.records pair)) (keys (rows key_cmp listed.now))) }
 {
@@ -99,11 +95,7 @@ fn add_offline(
 }
 
 /// Lists the pairs that are online and in no access list, behind those that are listed.
-fn add_unlisted(
-    listed: &Table<Key, ()>,
-    config: &Config,
-    untold: &mut Vec<Key>,
-) -> Result<(), AllocError>
+fn add_unlisted(listed: &Table<Key, ()>, config: &Config, untold: &mut Vec<Key>) -> Allocated<()>
     ensures { OnOk result (untold.new.items ≡ untold.old.items
         ++ filter (λ pair. online.is_online pair && not (contains_key (rows key_cmp listed.now) pair))
         (keys config.now.records)) }
@@ -124,12 +116,7 @@ fn is_online(key: &Key) -> bool
 }
 
 /// Puts a comment on each of some pairs behind a text.
-fn put_remarks(
-    alloc: Global,
-    config: &Config,
-    untold: &[Key],
-    text: &mut Vec<u8>,
-) -> Result<(), AllocError>
+fn put_remarks(alloc: Global, config: &Config, untold: &[Key], text: &mut Vec<u8>) -> Allocated<()>
     ensures { OnOk result
         (text.new.items ≡ text.old.items ++ flat_map (meaning.remark_line config.now.records) untold.now) }
 {
@@ -141,12 +128,7 @@ fn put_remarks(
 
 /// Puts a comment on a pair behind a text.
 #[tactic(auto, unfolding(crate::specs::Deck::remark_line))]
-fn put_remark(
-    alloc: Global,
-    config: &Config,
-    pair: &Key,
-    text: &mut Vec<u8>,
-) -> Result<(), AllocError>
+fn put_remark(alloc: Global, config: &Config, pair: &Key, text: &mut Vec<u8>) -> Allocated<()>
     ensures { OnOk result (text.new.items ≡ text.old.items ++ meaning.remark_line config.now.records pair.now) }
 {
     match pair {
@@ -162,16 +144,6 @@ fn put_remark(
     }
 }
 
-/// Puts a comment with the end of its line behind a text.
-fn put_line(alloc: Global, remark: Remark, text: &mut Vec<u8>) -> Result<(), AllocError>
-    ensures { OnOk result (text.new.items ≡ text.old.items
-        ++ (meaning.remark_text remark.path remark.is_online remark.name ++ 10 ∷ [])) }
-{
-    let line = format!(in alloc; "{remark}\n")?;
-    text.extend_from_slice(line.as_bytes())?;
-    Ok(())
-}
-
 /// The comment on a path and an image as it is printed.
 #[derive(Clone, Copy)]
 struct Remark {
@@ -181,10 +153,7 @@ struct Remark {
 }
 
 impl fmt::Display for Remark {
-    ghost use Rattle.std.specs.Prelude.{Some};
-    ghost use Rattle.iocm_reports.specs.Deck.{remark_text};
-
-    ghost output = { λ r. Some (remark_text r.path r.is_online r.name) };
+    ghost output = { λ r. Some (meaning.remark_text r.path r.is_online r.name) };
 
     fn fmt<W: fmt::Write>(&self, f: &mut fmt::Formatter<W>) -> fmt::Result {
         let path = self.path;
@@ -199,10 +168,7 @@ impl fmt::Display for Remark {
 struct IsOrNot(bool);
 
 impl fmt::Display for IsOrNot {
-    ghost use Rattle.std.specs.Prelude.{Some};
-    ghost use Rattle.iocm_reports.specs.Deck.{is_or_not};
-
-    ghost output = { λ i. Some (is_or_not i.0) };
+    ghost output = { λ i. Some (meaning.is_or_not i.0) };
 
     fn fmt<W: fmt::Write>(&self, f: &mut fmt::Formatter<W>) -> fmt::Result {
         if self.0 {

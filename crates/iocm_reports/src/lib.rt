@@ -18,10 +18,9 @@ mod altered;
 mod back;
 mod counts;
 mod deck;
-mod first;
-mod image_order;
 mod laws;
 mod lines;
+mod memory;
 mod remarks;
 mod report;
 

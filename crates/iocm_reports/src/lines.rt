@@ -1,16 +1,13 @@
-ghost use Rattle.std.specs.Prelude.{◌≡◌, Some, OnOk, IfErr};
+ghost use Rattle.std.specs.Prelude.{Some};
 ghost use Rattle.std.specs.List.{flat_map};
-ghost use Rattle.iocm_console.specs.Output.{has_failed, FailedToWrite, Prints};
-ghost use Rattle.iocm_reports.specs.Lines.{altered_text, lines_by, row_lines, signed_line};
+ghost use Rattle.iocm_console.specs.Output.{Writes};
+ghost use Rattle.iocm_reports.specs.Lines.{altered_text, lines_by, place_text, row_lines, signed_line};
 
-use iocm_console::{ConsoleError, Line, Output, put_line};
+use iocm_console::{Line, Output, Written, put_line};
 use iocm_seats::ViewChange;
 use iocm_types::{SubId, View};
 use std::fmt;
 use std::io::Write;
-
-/// The heading of the table, two places to the right, with its end.
-const HEADING: &[u8] = b"  CSS IM SET SUBC DEVN PIM PAM CHPIDS\n";
 
 /// Writes that a change was made and how many subchannels it altered, and under the heading the
 /// lines of rows: behind `-` what was seen, behind `+` what is seen now, behind `=` what is the
@@ -19,24 +16,18 @@ pub fn write_altered<W: Write + Drop>(
     altered: usize,
     rows: &[ViewChange],
     output: &mut Output<W>,
-) -> Result<(), ConsoleError>
-    ensures text { OnOk result (Prints W.contents output.old output.new (altered_text altered rows.now)) }
-    ensures works { OnOk result (has_failed output.new ≡ has_failed output.old) }
-    ensures fault { IfErr result (FailedToWrite output.new) }
+) -> Written
+    ensures { Writes W.contents result output.old output.new (altered_text altered rows.now) }
 {
     output.changed(altered)?;
-    output.bytes(HEADING)?;
+    output.bytes(b"  ")?;
+    output.heading()?;
     write_rows(rows, output)
 }
 
 /// Writes the lines of rows.
-fn write_rows<W: Write + Drop>(
-    rows: &[ViewChange],
-    output: &mut Output<W>,
-) -> Result<(), ConsoleError>
-    ensures text { OnOk result (Prints W.contents output.old output.new (flat_map row_lines rows.now)) }
-    ensures works { OnOk result (has_failed output.new ≡ has_failed output.old) }
-    ensures fault { IfErr result (FailedToWrite output.new) }
+fn write_rows<W: Write + Drop>(rows: &[ViewChange], output: &mut Output<W>) -> Written
+    ensures { Writes W.contents result output.old output.new (flat_map row_lines rows.now) }
 {
     for row in rows {
         write_row(row, output)?;
@@ -46,10 +37,8 @@ fn write_rows<W: Write + Drop>(
 
 /// Writes the lines of a row.
 #[tactic(auto, unfolding(crate::specs::Lines::row_lines))]
-fn write_row<W: Write + Drop>(row: &ViewChange, output: &mut Output<W>) -> Result<(), ConsoleError>
-    ensures text { OnOk result (Prints W.contents output.old output.new (row_lines row.now)) }
-    ensures works { OnOk result (has_failed output.new ≡ has_failed output.old) }
-    ensures fault { IfErr result (FailedToWrite output.new) }
+fn write_row<W: Write + Drop>(row: &ViewChange, output: &mut Output<W>) -> Written
+    ensures { Writes W.contents result output.old output.new (row_lines row.now) }
 {
     match (&row.before, &row.after) {
         (Some(old), Some(new)) => write_seen(row.subchannel, old, new, output),
@@ -65,11 +54,8 @@ fn write_seen<W: Write + Drop>(
     old: &View,
     new: &View,
     output: &mut Output<W>,
-) -> Result<(), ConsoleError>
-    ensures text { OnOk result (Prints W.contents output.old output.new
-        (lines_by subchannel (Some old.now) (Some new.now))) }
-    ensures works { OnOk result (has_failed output.new ≡ has_failed output.old) }
-    ensures fault { IfErr result (FailedToWrite output.new) }
+) -> Written
+    ensures { Writes W.contents result output.old output.new (lines_by subchannel (Some old.now) (Some new.now)) }
 {
     if old == new {
         return write_signed(b"= ", &subchannel, old, output);
@@ -84,11 +70,8 @@ fn write_signed<W: Write + Drop>(
     subchannel: &SubId,
     view: &View,
     output: &mut Output<W>,
-) -> Result<(), ConsoleError>
-    ensures text { OnOk result
-        (Prints W.contents output.old output.new (signed_line sign.now subchannel.now view.now)) }
-    ensures works { OnOk result (has_failed output.new ≡ has_failed output.old) }
-    ensures fault { IfErr result (FailedToWrite output.new) }
+) -> Written
+    ensures { Writes W.contents result output.old output.new (signed_line sign.now subchannel.now view.now) }
 {
     let mut line = Line::new();
     put_line(&mut line, *subchannel, view);
@@ -101,9 +84,6 @@ fn write_signed<W: Write + Drop>(
 struct PlaceLine(SubId);
 
 impl fmt::Display for PlaceLine {
-    ghost use Rattle.std.specs.Prelude.{Some};
-    ghost use Rattle.iocm_reports.specs.Lines.{place_text};
-
     ghost output = { λ p. Some (place_text p.0) };
 
     fn fmt<W: fmt::Write>(&self, f: &mut fmt::Formatter<W>) -> fmt::Result {

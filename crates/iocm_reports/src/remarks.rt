@@ -1,13 +1,15 @@
-ghost use Rattle.std.specs.Prelude.{◌≡◌, ◌++◌, OnOk};
+ghost use Rattle.std.specs.Prelude.{◌≡◌, ◌∷◌, [], ◌++◌, IfSome, OnOk, Some};
 ghost use Rattle.std.specs.List.{flat_map};
+ghost use Rattle.iocm_types.specs.Print.{hex4};
 ghost use Rattle.iocm_reports.specs.Remarks as meaning;
 
+use crate::memory::Allocated;
 use bitflags::Flags;
 use iocm_console::SubchannelName;
 use iocm_live::{Live, bits};
 use iocm_tree::Edit;
 use iocm_types::{Place, SubId};
-use std::alloc::{AllocError, Allocator, Global};
+use std::alloc::{Allocator, Global};
 use std::fmt;
 
 /// A device as it is printed: set and number with a dot between.
@@ -15,10 +17,7 @@ use std::fmt;
 struct DeviceName(Place);
 
 impl fmt::Display for DeviceName {
-    ghost use Rattle.std.specs.Prelude.{Some};
-    ghost use Rattle.iocm_reports.specs.Remarks.{device_text};
-
-    ghost output = { λ d. Some (device_text d.0) };
+    ghost output = { λ d. Some (meaning.device_text d.0) };
 
     #[tactic(auto, unfolding(crate::specs::Remarks::device_text))]
     fn fmt<W: fmt::Write>(&self, f: &mut fmt::Formatter<W>) -> fmt::Result {
@@ -33,9 +32,6 @@ impl fmt::Display for DeviceName {
 struct NumberName(u16);
 
 impl fmt::Display for NumberName {
-    ghost use Rattle.std.specs.Prelude.{Some};
-    ghost use Rattle.iocm_types.specs.Print.{hex4};
-
     ghost output = { λ n. Some (hex4 n.0) };
 
     fn fmt<W: fmt::Write>(&self, f: &mut fmt::Formatter<W>) -> fmt::Result {
@@ -49,10 +45,7 @@ impl fmt::Display for NumberName {
 struct NumberRemark(Place, u16);
 
 impl fmt::Display for NumberRemark {
-    ghost use Rattle.std.specs.Prelude.{Some};
-    ghost use Rattle.iocm_reports.specs.Remarks.{number_remark};
-
-    ghost output = { λ r. Some (number_remark (r.0, r.1)) };
+    ghost output = { λ r. Some (meaning.number_remark (r.0, r.1)) };
 
     fn fmt<W: fmt::Write>(&self, f: &mut fmt::Formatter<W>) -> fmt::Result {
         let device = DeviceName(self.0);
@@ -67,10 +60,7 @@ impl fmt::Display for NumberRemark {
 struct LiveRemark((SubId, Live));
 
 impl fmt::Display for LiveRemark {
-    ghost use Rattle.std.specs.Prelude.{Some};
-    ghost use Rattle.iocm_reports.specs.Remarks.{live_remark};
-
-    ghost output = { λ r. Some (live_remark r.0) };
+    ghost output = { λ r. Some (meaning.live_remark r.0) };
 
     fn fmt<W: fmt::Write>(&self, f: &mut fmt::Formatter<W>) -> fmt::Result {
         let (subchannel, live) = self.0;
@@ -86,34 +76,37 @@ impl fmt::Display for LiveRemark {
     }
 }
 
-/// Puts a comment behind a text: the subchannel number that a device had.
-#[tactic(auto, unfolding(crate::specs::Remarks::number_line))]
-fn put_number(alloc: Global, row: (Place, u16), text: &mut Vec<u8>) -> Result<(), AllocError>
-    ensures { OnOk result (text.new.items ≡ text.old.items ++ meaning.number_line row) }
+/// Puts a line behind a text.
+pub(crate) fn put_line<D: fmt::Display + Drop>(
+    alloc: Global,
+    shown: D,
+    text: &mut Vec<u8>,
+) -> Allocated<()>
+    ensures { IfSome (D.output shown) (λ line. OnOk result (text.new.items ≡ text.old.items ++ (line ++ 10 ∷ []))) }
 {
-    let remark = NumberRemark(row.0, row.1);
-    let line = format!(in alloc; "{remark}\n")?;
+    let line = format!(in alloc; "{shown}\n")?;
     text.extend_from_slice(line.as_bytes())?;
     Ok(())
+}
+
+/// Puts a comment behind a text: the subchannel number that a device had.
+#[tactic(auto, unfolding(crate::specs::Remarks::number_line))]
+fn put_number(alloc: Global, row: (Place, u16), text: &mut Vec<u8>) -> Allocated<()>
+    ensures { OnOk result (text.new.items ≡ text.old.items ++ meaning.number_line row) }
+{
+    put_line(alloc, NumberRemark(row.0, row.1), text)
 }
 
 /// Puts a comment behind a text: what a subchannel remembered.
 #[tactic(auto, unfolding(crate::specs::Remarks::live_line))]
-fn put_live(alloc: Global, row: (SubId, Live), text: &mut Vec<u8>) -> Result<(), AllocError>
+fn put_live(alloc: Global, row: (SubId, Live), text: &mut Vec<u8>) -> Allocated<()>
     ensures { OnOk result (text.new.items ≡ text.old.items ++ meaning.live_line row) }
 {
-    let remark = LiveRemark(row);
-    let line = format!(in alloc; "{remark}\n")?;
-    text.extend_from_slice(line.as_bytes())?;
-    Ok(())
+    put_line(alloc, LiveRemark(row), text)
 }
 
 /// Puts a comment for each number behind a text.
-fn put_numbers(
-    alloc: Global,
-    numbers: &[(Place, u16)],
-    text: &mut Vec<u8>,
-) -> Result<(), AllocError>
+fn put_numbers(alloc: Global, numbers: &[(Place, u16)], text: &mut Vec<u8>) -> Allocated<()>
     ensures { OnOk result (text.new.items ≡ text.old.items ++ flat_map meaning.number_line numbers.now) }
 {
     for row in numbers {
@@ -123,7 +116,7 @@ fn put_numbers(
 }
 
 /// Puts a comment for each live record behind a text.
-fn put_lives(alloc: Global, lives: &[(SubId, Live)], text: &mut Vec<u8>) -> Result<(), AllocError>
+fn put_lives(alloc: Global, lives: &[(SubId, Live)], text: &mut Vec<u8>) -> Allocated<()>
     ensures { OnOk result (text.new.items ≡ text.old.items ++ flat_map meaning.live_line lives.now) }
 {
     for row in lives {
@@ -134,11 +127,7 @@ fn put_lives(alloc: Global, lives: &[(SubId, Live)], text: &mut Vec<u8>) -> Resu
 
 /// Puts behind a text, in comments, what comes along with an edit: its numbers, then its live
 /// records in the order of subchannels.
-pub fn put_remarks<A: Allocator>(
-    alloc: Global,
-    edit: &Edit<A>,
-    text: &mut Vec<u8>,
-) -> Result<(), AllocError>
+pub fn put_remarks<A: Allocator>(alloc: Global, edit: &Edit<A>, text: &mut Vec<u8>) -> Allocated<()>
     ensures { OnOk result (text.new.items ≡ text.old.items ++ meaning.remarks_of edit.now.edit) }
 {
     put_numbers(alloc, edit.places(), text)?;

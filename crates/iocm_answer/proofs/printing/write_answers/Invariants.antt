@@ -1,11 +1,9 @@
--- The answers so far are written.
-use Rattle.std.proofs.Common.{take, ◌≡◌}
-use Rattle.iocm_console.specs.Output.{has_failed, Prints}
+-- The lines so far are written.
+use Rattle.std.proofs.Common.{take}
+use Rattle.iocm_console.specs.Output.{Wrote}
 use Rattle.iocm_answer.specs.Answer.{answer_lines}
 use Rattle.iocm_answer.proofs.printing.write_answers.Given as goal
 
 abbrev pub invariant-loop-answered : goal.invariant-loop-answered
-invariant-loop-answered g l = record {
-  text : Prints g.W.Write.contents l.initial.output l.output (answer_lines (take l.answered-index l.answers));
-  works : has_failed l.output ≡ has_failed l.initial.output;
-}
+invariant-loop-answered g l =
+    Wrote g.W.Write.contents l.initial.output l.output (answer_lines (take l.answered-index l.answers))

@@ -1,7 +1,6 @@
 -- The trees and the script were read, and the script is played on a new core.
-use Rattle.std.proofs.Common.{[], length, map, inl, inr, sym, ap, subst, ◌∙◌}
+use Rattle.std.proofs.Common.{[], map, inl, inr, ap, subst, ◌∙◌}
 use Rattle.std.proofs.lemmas.List.{length-map}
-use Rattle.iocm_core.specs.Seen.{Core}
 use Rattle.iocm_model.specs.Operation.State.{State}
 use Rattle.iocm_script.specs.Scripts.{script_in}
 use Rattle.iocm_tree.specs.Trees.{tree_of}

@@ -1,8 +1,8 @@
 -- One text more is read, or all are.
-use Rattle.std.proofs.Common.{◌+◌, ◌<◌, ◌≤◌, ◌^◌, ℕ, List, [], ◌∷◌, Vec, Global, length, map, sym, ap, subst, ◌∙◌}
+use Rattle.std.proofs.Common.{◌≤◌, ℕ, List, [], ◌∷◌, Vec, Global, length, map, sym, ap, subst, ◌∙◌}
 use Rattle.std.proofs.lemmas.List.{map-append, nil_from_length}
 use Rattle.std.proofs.lemmas.List.Elements.{All-rest}
-use Rattle.iocm_columns.specs.Device.{reads_of, IsOpen}
+use Rattle.iocm_answer.specs.Whole.{IsReady}
 use Rattle.iocm_answer.proofs.Told.{all_read, fewer_left, one_more, AreSoFar}
 use Rattle.iocm_answer.proofs.whole.read_texts.Goals as goal
 
@@ -32,8 +32,6 @@ loop-device-preserved g c =
           ∙ map-append items c.loop-device.texts.items (c.in_ok-text.text ∷ []))) after;
       fewer = fewer_left all left c.in-Some.device
           (subst (λ ds. length ds ≤ length all) taken c.loop-device.invariant.fewer);
-      unread = All-rest (λ d. IsOpen d) c.in-Some.device left c.loop-device.devices.items taken
-          c.loop-device.invariant.unread;
-      room = All-rest (λ d. reads_of d + c.args.limit < 2 ^ 64) c.in-Some.device left c.loop-device.devices.items taken
-          c.loop-device.invariant.room;
+      ready = All-rest (λ d. IsReady c.args.limit d) c.in-Some.device left c.loop-device.devices.items taken
+          c.loop-device.invariant.ready;
     }

@@ -1,29 +1,16 @@
 -- What is printed of texts that were read, or weren't.
-use Rattle.std.proofs.Common.{◌⊎◌, ◌≢◌, []}
 use Rattle.iocm_columns.specs.Device.{IsWhole}
-use Rattle.iocm_answer.specs.Run.{IsOfTexts}
-use Rattle.iocm_answer.specs.Whole.{IsOpened, StopsWithin}
-use Rattle.iocm_answer.proofs.Told.{both_whole, says_one}
+use Rattle.iocm_answer.proofs.Told.{answers, whole_if_done}
 use Rattle.iocm_answer.proofs.whole.run_script.Goals as goal
 
-pub returns-clause-text : goal.returns-clause-text
-returns-clause-text g c =
-    let read = c.read_ran-given.ensures.text in (
-      read.0,
-      read.1,
-      read.2,
-      read.3,
-      read.4,
-      read.5,
-      says_one g.W.Write.contents c.args.output.now c.say.new.output c.read_ran-given.result c.say.result
-          (IsOfTexts read.0 read.2 read.1) read.6 c.say.ensures.text,
-    )
+pub returns-clause-answers : goal.returns-clause-answers
+returns-clause-answers g c =
+    let read = c.read_ran-given in
+    answers read.result read.ensures.text read.ensures.whole read.ensures.reads read.ensures.stops c.say.ensures.text
+    c.say.ensures.unread c.say.ensures.ends
 
 pub returns-clause-whole : goal.returns-clause-whole
 returns-clause-whole g c =
-    let deck = c.read_ran-given.new.deck in
-    let script = c.read_ran-given.new.script in
-    both_whole g.W.Write.contents c.args.output.now c.say.new.output c.read_ran-given.result c.say.result (IsWhole deck)
-    (IsWhole script) (StopsWithin c.args.limit c.args.deck.now deck ⊎ (IsOpened g.R.Read.remaining c.args.deck.now
-    × (StopsWithin c.args.limit c.args.script.now script ⊎ (IsWhole script × (c.args.changes.items ≢ [])))))
-    c.read_ran-given.ensures.whole c.read_ran-given.ensures.stops c.say.ensures.text
+    let read = c.read_ran-given in
+    whole_if_done g.W.Write.contents c.args.output.now c.say.new.output read.result c.say.result
+    (IsWhole read.new.script) read.ensures.whole_script c.say.ensures.text

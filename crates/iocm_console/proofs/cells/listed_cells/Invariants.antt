@@ -1,15 +1,12 @@
 -- The cells so far, each with a device that its own is like.
 use Rattle.std.proofs.Common.{◌≡◌, take}
-use Rattle.std.specs.List.{All}
-use Rattle.iocm_model.specs.Machine.Configuration.{lookup_of}
-use Rattle.iocm_console.specs.Alike.{IsAlike, IsThere, devices_of}
+use Rattle.iocm_console.specs.Alike.{AreCompared, devices_of}
 use Rattle.iocm_console.specs.Lines.{celled}
 use Rattle.iocm_console.proofs.cells.listed_cells.Given as goal
 
 abbrev pub invariant-loop-row : goal.invariant-loop-row
 invariant-loop-row l = record {
   cells : celled l.cells.items ≡ take l.row-index l.taken;
-  alike : All (IsAlike (lookup_of l.config.records)) l.cells.items;
-  there : IsThere l.last;
+  compared : AreCompared l.last l.cells.items;
   records : devices_of l.last ≡ l.config.records;
 }

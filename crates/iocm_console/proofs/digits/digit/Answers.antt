@@ -1,5 +1,6 @@
-use Rattle.iocm_console.proofs.Hexadecimal.{digit_at}
+use Rattle.std.proofs.Common.{ap, arith}
+use Rattle.iocm_values.proofs.Numerals.{glyph}
 use Rattle.iocm_console.proofs.digits.digit.Goals as goal
 
 pub returns : goal.returns
-returns c = rw c.from.ensures (digit_at c.args.value c.requires)
+returns c = rw c.digits.ensures (ap glyph (omega arith))

@@ -1,14 +1,7 @@
 use Rattle.std.proofs.Common.{sym, ◌∙◌}
-use Rattle.iocm_console.proofs.Rows.{alike_after_first, without_first}
+use Rattle.iocm_console.proofs.Rows.{without_first}
 use Rattle.iocm_console.proofs.subsystem_cells.without_front.Goals as goal
 
 pub loop-first-preserved : goal.loop-first-preserved
-loop-first-preserved c = record {
-  lines = without_first c.args.css c.in-Some.first.now c.loop-first.rest.now c.in-Some.more.now c.args.cells.now
-      c.in-Some.ensures.cases.0 (sym c.eq.ensures ∙ c.if-eq.false) c.loop-first.invariant.lines;
-  alike = alike_after_first c.in-Some.first.now c.loop-first.rest.now c.in-Some.more.now c.args.cells.now
-      c.in-Some.ensures.cases.0 c.loop-first.invariant.alike;
-}
-
-pub returns-then-eq-clause-alike : goal.returns-then-eq-clause-alike
-returns-then-eq-clause-alike c = c.loop-first.invariant.alike
+loop-first-preserved c = without_first c.args.css c.in-Some.first.now c.loop-first.rest.now c.in-Some.more.now c.args.cells.now
+    c.in-Some.ensures.cases.0 (sym c.eq.ensures ∙ c.if-eq.false) c.loop-first.invariant

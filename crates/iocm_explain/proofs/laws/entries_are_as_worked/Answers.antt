@@ -11,9 +11,11 @@ returns c = record {
   small = refl;
   two = refl;
   twice = refl;
+  no_word = refl;
   unknown = refl;
   zero_before = refl;
   letter_alone = refl;
   blank_after = refl;
   nothing = refl;
+  told_of_two = refl;
 }

@@ -1,14 +1,10 @@
--- The entries of the words so far are written.
-use Rattle.std.proofs.Common.{take, ◌≡◌, ℕ, List}
-use Rattle.std.specs.Borrow.{Bor}
+-- The entries of the refusals so far are written.
+use Rattle.std.proofs.Common.{take}
 use Rattle.std.specs.List.{flat_map}
-use Rattle.iocm_console.specs.Output.{has_failed, Prints}
+use Rattle.iocm_console.specs.Output.{Wrote}
 use Rattle.iocm_explain.specs.Explain.{told_below}
 use Rattle.iocm_explain.proofs.printing.write_below.Given as goal
 
-abbrev pub invariant-loop-word : goal.invariant-loop-word
-invariant-loop-word g l = record {
-  text : Prints g.W.Write.contents l.initial.output l.output
-      (flat_map (λ (word : Bor (List ℕ)). told_below word.now) (take l.word-index l.words));
-  works : has_failed l.output ≡ has_failed l.initial.output;
-}
+abbrev pub invariant-loop-rule : goal.invariant-loop-rule
+invariant-loop-rule g l =
+    Wrote g.W.Write.contents l.initial.output l.output (flat_map told_below (take l.rule-index l.rules))

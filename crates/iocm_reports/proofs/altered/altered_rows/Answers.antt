@@ -4,9 +4,8 @@ use Rattle.std.specs.List.Sorted.{IsStrictlySortedBy}
 use Rattle.std.specs.Map.{keys_of}
 use Rattle.iocm_types.specs.SubId.{sub_id_cmp}
 use Rattle.iocm_reports.specs.Altered.{AreInOrder}
-use Rattle.iocm_reports.specs.First.{row_of}
-use Rattle.iocm_reports.proofs.AlteredRows.{rows_are}
-use Rattle.iocm_reports.proofs.Rows.{made_in_order}
+use Rattle.iocm_reports.specs.Gathered.{row_of}
+use Rattle.iocm_reports.proofs.AlteredRows.{rows_are, made_in_order}
 use Rattle.iocm_reports.proofs.altered.altered_rows.Goals as goal
 
 pub returns-clause-rows : goal.returns-clause-rows

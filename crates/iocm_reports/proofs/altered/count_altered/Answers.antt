@@ -1,7 +1,7 @@
 use Rattle.std.proofs.Common.{◌≡◌, ◌<◌, ◌≤◌, List, [], ◌∷◌, length, get_or, sym, ap, subst, ◌∙◌, arith}
 use Rattle.iocm_activate.specs.Done.{AreToldBy}
 use Rattle.iocm_activate.specs.Told.{told_of_all}
-use Rattle.iocm_reports.proofs.Rows.{one_is_counted, seen_are_counted}
+use Rattle.iocm_reports.proofs.AlteredRows.{one_is_counted, seen_are_counted}
 use Rattle.iocm_reports.proofs.altered.count_altered.Goals as goal
 
 -- a list of one item is that item

@@ -2,7 +2,7 @@ use Rattle.std.proofs.Common.{◌≤◌, ◌++◌, length, arith, rules}
 use Rattle.iocm_tree.specs.Trees.{parts_of, plain_parts}
 use Rattle.iocm_tree.proofs.Trees.{nodes_of_part}
 use Rattle.iocm_reports.specs.WayBack.{remarks_among}
-use Rattle.iocm_reports.proofs.RemarksPut.{one_more_put, all_put}
+use Rattle.iocm_reports.proofs.Printed.{one_more_put, all_put}
 use Rattle.iocm_reports.proofs.back.+remarks.Goals as goal
 
 pub put_parts-put_tree-requires : goal.put_parts-put_tree-requires

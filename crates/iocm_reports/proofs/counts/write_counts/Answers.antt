@@ -1,10 +1,9 @@
-use Rattle.std.proofs.Common.{◌≡◌, [], ◌∷◌, ◌++◌, ◌≤◌, length, sym, ap, subst, ◌∙◌}
+use Rattle.std.proofs.Common.{[], ◌∷◌, ◌++◌, ◌≤◌, length, sym, ap, subst, ◌∙◌}
 use Rattle.std.proofs.lemmas.List.{append-nil, append_assoc}
 use Rattle.std.proofs.lemmas.List.Sums.{prefix_len-le-length}
-use Rattle.iocm_console.proofs.Printing.{appends_as, appends_then}
-use Rattle.iocm_reports.specs.Altered.{AreInOrder}
+use Rattle.iocm_console.proofs.Printing.{writes_as, writes_then}
 use Rattle.iocm_reports.specs.Counts.{is_of, counts_text, counts_of, count_lines}
-use Rattle.iocm_reports.proofs.ByImage.{front_of, no_lines, none_first}
+use Rattle.iocm_reports.proofs.ByImage.{front_line, no_lines}
 use Rattle.iocm_reports.proofs.counts.write_counts.Goals as goal
 
 pub split_at-requires : goal.split_at-requires
@@ -13,32 +12,25 @@ split_at-requires g c = subst (λ n. n ≤ length c.loop-row.left.now) (sym c.ro
 
 pub loop-row-preserved : goal.loop-row-preserved
 loop-row-preserved g c =
-    let left = c.loop-row.left.now in
     let image = c.in-Some.row.now.subchannel.image in
-    let front = front_of left c.in-Some.row.now c.rows_in_front.result (c.in-Some.ensures.value)
-    c.loop-row.invariant.order c.rows_in_front.ensures in
-    let written = c.loop-row.invariant.text.0 in
+    let next = front_line c.loop-row.left.now c.in-Some.row.now _ c.rows_in_front.result c.split_at.result.0.now
+    c.split_at.result.1.now c.in-Some.ensures.cases.0 c.loop-row.invariant.order c.rows_in_front.ensures
+    c.split_at.ensures.front c.split_at.ensures.back in
+    let written = c.loop-row.invariant.wrote.0 in
     let line = counts_text image (counts_of c.split_at.result.0.now) ++ 10 ∷ [] in
     record {
-      text = (
+      wrote = (
         written ++ line,
-        appends_then _ _ _ _ _ c.loop-row.invariant.text.1 c.in_ok-write_image.ensures.text,
-        append_assoc written line (count_lines c.split_at.result.1.now)
-            ∙ ap (λ text. written ++ text)
-            (sym (front.lines ∙ sym (λ i.
-            (counts_text image (counts_of (c.split_at.ensures.front i)) ++ 10 ∷ [])
-            ++ count_lines (c.split_at.ensures.back i))))
-            ∙ c.loop-row.invariant.text.2,
+        writes_then c.loop-row.invariant.wrote.1 c.in_ok-write_image.ensures,
+        append_assoc written line (count_lines c.split_at.result.1.now) ∙ ap (λ text. written ++ text) (sym next.0)
+            ∙ c.loop-row.invariant.wrote.2,
       );
-      order = subst (λ rows. AreInOrder rows) (sym c.split_at.ensures.back) front.order;
-      works = c.in_ok-write_image.ensures.works ∙ c.loop-row.invariant.works;
+      order = next.1;
     }
 
-pub returns-clause-text : goal.returns-clause-text
-returns-clause-text g c =
-    let written = c.loop-row.invariant.text.0 in
-    let none : c.loop-row.left.now ≡ [] =
-    none_first c.loop-row.left.now c.first.result c.first.ensures.value c.in_default.not-Some in
-    appends_as _ _ _ _ c.loop-row.invariant.text.1
-    (sym (append-nil written) ∙ ap (λ text. written ++ text) (sym (ap count_lines none ∙ no_lines))
-    ∙ c.loop-row.invariant.text.2)
+pub returns : goal.returns
+returns g c =
+    let written = c.loop-row.invariant.wrote.0 in
+    writes_as c.loop-row.invariant.wrote.1
+    (sym (append-nil written) ∙ ap (λ text. written ++ text) (sym (no_lines c.loop-row.left.now c.in_default.ensures.cases))
+    ∙ c.loop-row.invariant.wrote.2)

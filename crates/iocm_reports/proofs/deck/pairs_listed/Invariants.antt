@@ -1,16 +1,13 @@
--- The pairs so far, and those of the records that are left.
-use Rattle.std.proofs.Common.{◌≡◌, ◌||◌, map}
-use Rattle.std.specs.List.{list_any}
-use Rattle.std.specs.Ordering.{eq_by_cmp}
-use Rattle.std.specs.FinMap.{contains_key}
-use Rattle.iocm_types.specs.declared.key.Key.{Key}
+-- The pairs so far, with those of the records that are left, are those of all records.
+use Rattle.std.proofs.Common.{◌≡◌, map}
+use Rattle.std.specs.FinMap.{empty}
 use Rattle.iocm_types.specs.Key.{key_cmp}
 use Rattle.iocm_table.specs.Slots.{rows}
+use Rattle.iocm_model.specs.Machine.Configuration.{records_of}
 use Rattle.iocm_reports.specs.Deck.{pairs_listed}
+use Rattle.iocm_reports.specs.Gathered.{with_pairs}
 use Rattle.iocm_reports.proofs.deck.pairs_listed.Given as goal
 
 abbrev pub invariant-loop-entry : goal.invariant-loop-entry
-invariant-loop-entry l = (pair : Key)
-    → (contains_key (rows key_cmp l.listed) pair
-    || list_any (eq_by_cmp key_cmp pair) (pairs_listed (map (λ row. row.1) l.entry-iterator)))
-    ≡ list_any (eq_by_cmp key_cmp pair) (pairs_listed (map (λ row. row.1) l.initial.entry-iterator))
+invariant-loop-entry l = with_pairs (rows key_cmp l.listed) (pairs_listed (map (λ row. row.1) l.entry-iterator))
+    ≡ with_pairs empty (pairs_listed (records_of l.config.records))

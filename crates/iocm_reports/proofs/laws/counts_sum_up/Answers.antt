@@ -1,4 +1,4 @@
-use Rattle.iocm_reports.proofs.Summed as counts
+use Rattle.iocm_reports.proofs.ByImage as counts
 use Rattle.iocm_reports.proofs.laws.counts_sum_up.Goals as goal
 
 pub returns : goal.returns

@@ -1,5 +1,5 @@
-use Rattle.iocm_reports.proofs.Told.{deck_says_all}
-use Rattle.iocm_reports.proofs.Told as told
+use Rattle.iocm_reports.proofs.ListedPairs.{deck_says_all}
+use Rattle.iocm_reports.proofs.ListedPairs as told
 use Rattle.iocm_reports.proofs.laws.only_a_deck_says_all.Goals as goal
 
 pub returns : goal.returns

@@ -1,4 +1,4 @@
-use Rattle.iocm_reports.proofs.Rows as rows
+use Rattle.iocm_reports.proofs.AlteredRows as rows
 use Rattle.iocm_reports.proofs.laws.rows_lead_to_the_table.Goals as goal
 
 pub returns : goal.returns

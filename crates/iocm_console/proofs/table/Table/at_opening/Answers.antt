@@ -1,5 +1,5 @@
 use Rattle.iocm_model.specs.Machine.Numbering.{opening}
-use Rattle.iocm_console.proofs.Tables.{table_is}
+use Rattle.iocm_console.proofs.Rows.{table_is}
 use Rattle.iocm_console.proofs.table.Table.at_opening.Goals as goal
 
 pub returns : goal.returns

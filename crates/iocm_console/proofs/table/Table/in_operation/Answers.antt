@@ -1,7 +1,7 @@
 use Rattle.std.proofs.Common.{subst}
 use Rattle.std.specs.Prelude.{IfSome}
 use Rattle.iocm_filter.specs.Sieves.{IsSieveFor}
-use Rattle.iocm_console.proofs.Tables.{table_is}
+use Rattle.iocm_console.proofs.Rows.{table_is}
 use Rattle.iocm_console.proofs.table.Table.in_operation.Goals as goal
 
 pub returns : goal.returns

@@ -1,0 +1,291 @@
+//! The table of the commands: what each takes, and what it asks for.
+
+use crate::argument::{Argument, Form};
+use iocm_filter::Filters;
+use iocm_reports::Report;
+
+/// What a command line asks for: files by their names, and what else a command takes.
+#[derive(Drop)]
+pub enum Command<'a> {
+    /// Check the rules of a deck, and print how many records it has, or the first breach, or all of them.
+    Check {
+        deck: &'a str,
+        breaches: Breaches,
+    },
+    /// Print the table of subchannels of a deck, of those that are asked for.
+    Show {
+        deck: &'a str,
+        filters: Filters,
+    },
+    /// Print the canonical deck of a deck.
+    Write {
+        deck: &'a str,
+    },
+    /// Print the change deck that leads from one deck to another, with what was there before, if that
+    /// is asked for.
+    Diff {
+        old: &'a str,
+        new: &'a str,
+        before: Before,
+    },
+    /// Activate a change deck on the machine of a deck, and print this report of the subchannels that
+    /// are asked for; the change tree is read in a heap of so many bytes, if that is given.
+    Apply {
+        deck: &'a str,
+        change: &'a str,
+        heap: Option<u32>,
+        report: Report,
+        filters: Filters,
+    },
+    /// Run a script on the machine of a deck, with change decks in their order; each change tree is
+    /// read in a heap of so many bytes, if that is given.
+    Run {
+        deck: &'a str,
+        script: &'a str,
+        changes: Vec<&'a str>,
+        heap: Option<u32>,
+    },
+    /// Print what the refusals of these numbers mean, or a list of all.
+    Explain {
+        rules: Vec<&'a str>,
+    },
+}
+
+/// Which breaches of the rules are printed.
+#[derive(Clone, Copy, Debug, PartialEq, Eq)]
+pub enum Breaches {
+    /// The first one alone.
+    First,
+    /// All.
+    All,
+}
+
+/// Whether what was there before each change is printed, as comments.
+#[derive(Clone, Copy, Debug, PartialEq, Eq)]
+pub enum Before {
+    /// It isn't.
+    LeftOut,
+    /// It is.
+    Shown,
+}
+
+/// A command.
+#[derive(Clone, Copy)]
+pub(crate) struct Row<'a> {
+    /// Its name.
+    pub(crate) name: &'a str,
+    /// What help says of it.
+    pub(crate) about: &'a str,
+    /// What it takes.
+    pub(crate) arguments: &'a [Argument<'a>],
+    /// What its help ends with: two examples, and the page that says more.
+    pub(crate) examples: &'a str,
+}
+
+/// The commands, in the order in which help lists them.
+pub(crate) const COMMANDS: [Row<'static>; 7] = [CHECK, SHOW, WRITE, DIFF, APPLY, RUN, EXPLAIN];
+
+const CHECK: Row<'static> = Row {
+    name: "check",
+    about: "Reads a configuration deck, checks its rules and says how many records it has",
+    arguments: &[QUIET, DECK, ALL],
+    examples: "Examples:\n  iocm check my.deck\n  iocm check my.deck --all\n\nMore: docs/MESSAGES.md",
+};
+
+const SHOW: Row<'static> = Row {
+    name: "show",
+    about: "Reads a configuration deck and prints the table of its subchannels",
+    arguments: &[QUIET, DECK, IMAGE, DEVICE, UNIT, PATH, ONLINE],
+    examples: "Examples:\n  iocm show my.deck\n  iocm show my.deck --image LPB --paths-online 1\n\n\
+               More: docs/DEFINITIONS.md",
+};
+
+const WRITE: Row<'static> = Row {
+    name: "write",
+    about: "Reads a configuration deck and prints it again in canonical order and forms",
+    arguments: &[QUIET, DECK],
+    examples: "Examples:\n  iocm write my.deck\n  iocm write my.deck > canonical.deck\n\nMore: docs/CHANGES.md",
+};
+
+const DIFF: Row<'static> = Row {
+    name: "diff",
+    about: "Reads two configuration decks and prints the change deck that leads from one to the other",
+    arguments: &[QUIET, OLD, NEW, BEFORE],
+    examples: "Examples:\n  iocm diff old.deck new.deck > my.change\n  iocm diff old.deck new.deck --old\n\n\
+               More: docs/CHANGES.md",
+};
+
+const APPLY: Row<'static> = Row {
+    name: "apply",
+    about: "Activates a change deck on the machine of a configuration deck and prints the table afterwards, \
+            what was altered, or how to take it back",
+    arguments: &[
+        QUIET, DECK, CHANGE, HEAP, UNDO, ALTERED, COUNT, AFTERWARDS, TEST, IMAGE, DEVICE, UNIT,
+        PATH, ONLINE,
+    ],
+    examples: "Examples:\n  iocm apply my.deck my.change --count\n  iocm apply my.deck my.change --undo > back.change\n\n\
+               More: docs/CHANGES.md",
+};
+
+const RUN: Row<'static> = Row {
+    name: "run",
+    about: "Runs a script of images and operators on the machine of a configuration deck, and prints the answers \
+            and the table afterwards",
+    arguments: &[QUIET, DECK, SCRIPT, CHANGES, HEAP],
+    examples: "Examples:\n  iocm run my.deck my.script\n  iocm run my.deck my.script first.change second.change\n\n\
+               More: docs/SCRIPTS.md",
+};
+
+const EXPLAIN: Row<'static> = Row {
+    name: "explain",
+    about: "Says what a refusal means and what to do, or lists all refusals",
+    arguments: &[RULE],
+    examples: "Examples:\n  iocm explain\n  iocm explain V14 S5\n\nMore: docs/MESSAGES.md",
+};
+
+const QUIET: Argument<'static> = Argument {
+    name: "quiet",
+    form: Form::Letter('q'),
+    value: "",
+    help: "Prints nothing on standard error beside a refusal",
+};
+
+const DECK: Argument<'static> = Argument {
+    name: "DECK",
+    form: Form::File,
+    value: "",
+    help: "A configuration deck: the file of its input statements, or - for standard input",
+};
+
+const ALL: Argument<'static> = Argument {
+    name: "all",
+    form: Form::Flag,
+    value: "",
+    help: "Prints every breach of the rules, not the first one alone",
+};
+
+const IMAGE: Argument<'static> = Argument {
+    name: "image",
+    form: Form::Filter,
+    value: "IMAGE",
+    help: "Only subchannels of this image: 0.2, or LPB; may be given several times",
+};
+
+const DEVICE: Argument<'static> = Argument {
+    name: "device",
+    form: Form::Filter,
+    value: "DEVICES",
+    help: "Only these devices: 1003, 1000-100F, 1.1000-10FF; may be given several times",
+};
+
+const UNIT: Argument<'static> = Argument {
+    name: "unit",
+    form: Form::Filter,
+    value: "UNIT",
+    help: "Only devices on this control unit: 1000; may be given several times",
+};
+
+const PATH: Argument<'static> = Argument {
+    name: "path",
+    form: Form::Filter,
+    value: "PATH",
+    help: "Only subchannels with this path: 0.50, or 50 of every channel subsystem; may be given several times",
+};
+
+const ONLINE: Argument<'static> = Argument {
+    name: "paths-online",
+    form: Form::Filter,
+    value: "N",
+    help: "Only subchannels with at most so many paths online, 0 to 8",
+};
+
+const OLD: Argument<'static> = Argument {
+    name: "OLD",
+    form: Form::File,
+    value: "",
+    help: "The configuration deck before: its file, or - for standard input",
+};
+
+const NEW: Argument<'static> = Argument {
+    name: "NEW",
+    form: Form::File,
+    value: "",
+    help: "The configuration deck afterwards: its file, or - for standard input",
+};
+
+const BEFORE: Argument<'static> = Argument {
+    name: "old",
+    form: Form::Flag,
+    value: "",
+    help: "Prints what was there before each change, as comments",
+};
+
+const CHANGE: Argument<'static> = Argument {
+    name: "CHANGE",
+    form: Form::File,
+    value: "",
+    help: "A change deck: the file of the statements of a change, or - for standard input",
+};
+
+const HEAP: Argument<'static> = Argument {
+    name: "heap",
+    form: Form::Heap,
+    value: "BYTES",
+    help: "The heap that the change tree is read in: 16 to 16777216 bytes; if it isn't given, as much as it takes",
+};
+
+const UNDO: Argument<'static> = Argument {
+    name: "undo",
+    form: Form::Flag,
+    value: "",
+    help: "Prints the change deck that takes the change back, in place of the table",
+};
+
+const ALTERED: Argument<'static> = Argument {
+    name: "altered",
+    form: Form::Flag,
+    value: "",
+    help: "Prints the subchannels that are altered, before and after, in place of the table",
+};
+
+const COUNT: Argument<'static> = Argument {
+    name: "count",
+    form: Form::Flag,
+    value: "",
+    help: "Prints how many subchannels of each image are altered, in place of the table",
+};
+
+const AFTERWARDS: Argument<'static> = Argument {
+    name: "deck",
+    form: Form::Flag,
+    value: "",
+    help: "Prints the canonical deck of the configuration afterwards, in place of the table",
+};
+
+const TEST: Argument<'static> = Argument {
+    name: "test",
+    form: Form::Flag,
+    value: "",
+    help: "Prints how many subchannels are altered, and nothing else",
+};
+
+const SCRIPT: Argument<'static> = Argument {
+    name: "SCRIPT",
+    form: Form::File,
+    value: "",
+    help: "A script: the file of its lines, or - for standard input",
+};
+
+const CHANGES: Argument<'static> = Argument {
+    name: "CHANGE",
+    form: Form::Words,
+    value: "",
+    help: "A change deck, which the script names by its place, from 1: its file, or - for standard input",
+};
+
+const RULE: Argument<'static> = Argument {
+    name: "RULE",
+    form: Form::Words,
+    value: "",
+    help: "The numbers of refusals, as V14; if there is none, all are listed",
+};

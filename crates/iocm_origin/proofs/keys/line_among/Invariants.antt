@@ -1,8 +1,0 @@
--- None of the statements so far brings the key.
-use Rattle.std.proofs.Common.{◌≡◌, drop}
-use Rattle.iocm_origin.specs.Keys.{line_among}
-use Rattle.iocm_origin.proofs.keys.line_among.Given as goal
-
-abbrev pub invariant-loop-statement : goal.invariant-loop-statement
-invariant-loop-statement l =
-    line_among l.images l.fn.key (drop l.statement-index l.statements) ≡ line_among l.images l.fn.key l.statements
