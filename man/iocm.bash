@@ -1,7 +1,7 @@
 # bash completion for iocm: commands, the options of each, numbers of refusals, and files where one more is due
 _iocm() {
     local word=${COMP_WORDS[COMP_CWORD]} before=${COMP_WORDS[COMP_CWORD - 1]}
-    local commands="check show write diff apply run explain help"
+    local commands="check show write diff vary apply run explain help"
     local filters="--image --device --unit --path --paths-online"
     local reports="--altered --count --deck --test --undo"
     local command="" files=0 most=1 options="--help" place is_value=""
@@ -29,6 +29,10 @@ _iocm() {
         show) options+=" --quiet $filters" ;;
         write) options+=" --quiet" ;;
         diff) options+=" --quiet --old" most=2 ;;
+        vary)
+            options+=" --quiet --image"
+            ((files == 1)) && options="offline online" most=0
+            ;;
         apply) options+=" --quiet --heap $reports $filters" most=2 ;;
         run) options+=" --quiet --heap" most=9999 ;;
         explain) options+=" $(iocm explain 2>/dev/null | cut -d: -f1)" most=0 ;;

@@ -3,8 +3,9 @@ from .canonical import written
 from .filters import try_filter
 from .places import all_places, place_in_deck, said_places, with_first
 from .readings import read_deck, records_of
+from .varied import try_vary
 
-OTHERS = ("show", "write", "apply", "run", "diff", "diff new", "check --all")
+OTHERS = ("show", "write", "vary", "apply", "run", "diff", "diff new", "check --all")
 EMPTY = b""
 
 
@@ -59,6 +60,8 @@ def run_on_deck(case, command):
     """A command that has to read the deck first."""
     if command in ("show", "write"):
         return case.run(command, "deck")
+    if command == "vary":
+        return case.run("vary", "deck", "offline", "50")
     case.put("other", EMPTY)
     words = {"apply": ("apply", "deck", "other"), "run": ("run", "deck", "other"), "diff": ("diff", "deck", "other")}
     return case.run(*words.get(command, ("diff", "other", "deck")))
@@ -80,6 +83,8 @@ def try_accepted(case, check, deck, machine):
     case.agree("written means the same", again, check.out if command == "check" else show.out)
     if case.dice.random() < 0.2:
         try_all(case, check, deck)
+    if case.dice.random() < 0.4:
+        try_vary(case, deck.state.records)
     if case.dice.random() < 0.4:
         try_filter(case, ("show", "deck"), table[:1], table[1:], deck.state.records)
 

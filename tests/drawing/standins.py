@@ -160,6 +160,8 @@ STAND_INS = (
     StandIn("write of write", kinds.legal_deck, of("write", "written"), lines(first_twice)),
     StandIn("written means the same", kinds.legal_deck, of("check", "written"), next_number(rb"accepted ")),
     StandIn("written means the same", kinds.legal_deck, of("show", "written"), lines(without_row)),
+    StandIn("vary", kinds.legal_deck, of("vary", "offline"), text(rb"(?m)^DELETE  ", rb"ADD     ")),
+    StandIn("vary", kinds.legal_deck, of("vary", "online"), lines(without_last)),
     StandIn("filters", kinds.legal_deck, of("show", "--path"), lines(without_row)),
     StandIn("filters", kinds.legal_deck, of("show", "--image"), lines(without_row)),
     StandIn("filters", kinds.legal_deck, of("show", "--device"), lines(without_row)),

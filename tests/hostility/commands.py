@@ -34,6 +34,7 @@ def short_words():
     yield ["write", "grown.deck"]
     yield ["diff", "base.deck", "grown.deck"]
     yield ["diff", "base.deck", "grown.deck", "--old"]
+    yield ["vary", "base.deck", "offline", "50", "51"]
     yield ["explain", "V14"]
     yield ["explain"]
     yield ["apply", "base.deck", "grown.change"]
@@ -60,6 +61,7 @@ def of_examples():
     words += [["diff", *old, "base.deck", deck] for old in ([], ["--old"]) for deck in decks]
     reports = [[], *([it] for it in REPORTS)]
     words += [["apply", "base.deck", change, *report] for change in changes for report in reports]
+    words += [["vary", deck, state, "50", "51"] for state in ("offline", "online") for deck in decks]
     words += [["explain"], ["explain", "V14"], ["--help"], ["--version"], ["check", "--help"], ["check"]]
     return [Command(tuple(it), EXAMPLES) for it in words] + scripts()
 

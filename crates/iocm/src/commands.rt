@@ -10,8 +10,10 @@ use crate::telling::{
 use crate::texts::{
     Role, Text, is_input, open_text, open_texts, read_text, read_texts, title_of_text,
 };
-use iocm_answer::{Answer, Asked, apply, check, check_all, diff, open_machine, run, show, write};
-use iocm_command::{Before, Breaches, Command};
+use iocm_answer::{
+    Answer, Asked, apply, check, check_all, diff, open_machine, run, show, vary, write,
+};
+use iocm_command::{Before, Breaches, Command, Varied};
 use iocm_console::{Refusal, open_deck};
 use iocm_explain::{Unexplained, explain};
 use iocm_filter::Filters;
@@ -30,6 +32,7 @@ pub fn carry_out<'a, R: Files + Input + Print + Eprint + AllocGlobal + Threads +
         Command::Show { deck, filters } => show_file(rt, talk, *deck, filters),
         Command::Write { deck } => write_file(rt, talk, *deck),
         Command::Diff { old, new, before } => diff_files(rt, talk, *old, *new, *before),
+        Command::Vary { deck, to, filters } => vary_file(rt, talk, *deck, *to, filters),
         Command::Apply {
             deck,
             change,
@@ -60,6 +63,7 @@ pub fn count_inputs(command: &Command<'_>) -> usize {
         Command::Show { deck, .. } => usize::from(is_input(*deck)),
         Command::Write { deck } => usize::from(is_input(*deck)),
         Command::Diff { old, new, .. } => usize::from(is_input(*old)) + usize::from(is_input(*new)),
+        Command::Vary { deck, .. } => usize::from(is_input(*deck)),
         Command::Apply { deck, change, .. } => {
             usize::from(is_input(*deck)) + usize::from(is_input(*change))
         }
@@ -186,6 +190,28 @@ fn diff_files<'a, R: Files + Input + Print + Eprint + AllocGlobal>(
         }
     }
     Ok(ended)
+}
+
+/// `vary DECK offline|online PATH..`: the change deck that takes paths offline, or online.
+fn vary_file<'a, R: Files + Input + Print + Eprint + AllocGlobal>(
+    rt: &R,
+    talk: Talk,
+    name: &'a str,
+    to: Varied,
+    filters: &Filters,
+) -> Result<Ended, Failure<'a>> {
+    let deck = open_text(rt, name)?;
+    let deck = read_text(rt, name, deck)?;
+    let said = match open_deck(rt.alloc(), &deck) {
+        Ok(opened) => {
+            if talk == Talk::All {
+                note_missing(rt, name, filters, &opened);
+            }
+            vary(rt.alloc(), to, filters, &opened)
+        }
+        Err(why) => Err(why),
+    };
+    Ok(finish(rt, talk, &said, &Text::deck(name, &deck)))
 }
 
 /// `apply DECK CHANGE`: a report of what a change deck does to the machine of a deck.

@@ -3,7 +3,8 @@
 //! `iocm check DECK` reads a configuration deck, checks its rules and says how many records it has,
 //! or which rules it breaks; `iocm show DECK` prints the table of its subchannels, `iocm write DECK`
 //! the deck in its canonical order and forms. `iocm diff OLD NEW` prints the change deck that leads
-//! from one deck to another. `iocm apply DECK CHANGE` activates a change deck on the machine of a
+//! from one deck to another, and `iocm vary DECK offline PATH..` the one that takes channel paths
+//! offline. `iocm apply DECK CHANGE` activates a change deck on the machine of a
 //! configuration deck, and prints how many subchannels it altered and the table afterwards, or
 //! another report. `iocm run DECK SCRIPT CHANGE..` lets images and operators work on the machine of
 //! a configuration deck as a script says, and prints every answer and the table at the end. One file

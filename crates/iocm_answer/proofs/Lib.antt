@@ -5,4 +5,5 @@ pub mod Opened
 pub mod RunTexts
 pub mod SiftedRows
 pub mod Told
+pub mod Turns
 pub mod WorkedRows

@@ -12,6 +12,7 @@ pub mod Rows
 pub mod Run
 pub mod Show
 pub mod Sides
+pub mod Vary
 pub mod Whole
 pub mod Worked
 pub mod Write

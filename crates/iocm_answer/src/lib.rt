@@ -2,7 +2,7 @@
 //!
 //! A command is a function from the bytes of its texts to an `Answer`, or to the `Refusal` that says
 //! why there is none: `open_deck` of `iocm_console` or `open_machine` opens the first deck; then
-//! `check`, `show`, `write`, `diff`, `apply` and `run` go on. `print` writes what they give, and is
+//! `check`, `show`, `write`, `diff`, `vary`, `apply` and `run` go on. `print` writes what they give, and is
 //! all that writes to standard output.
 //!
 //! The program above may rely on this: what is printed of an answer is exactly what the definition of
@@ -29,6 +29,7 @@ mod printing;
 mod running;
 mod showing;
 mod sifting;
+mod varying;
 mod whole;
 mod writing;
 
@@ -50,6 +51,7 @@ pub use laws::{
 pub use printing::print;
 pub use running::run;
 pub use showing::show;
+pub use varying::vary;
 pub use whole::{
     Differed, apply_change, check_deck, diff_decks, run_script, show_deck, write_deck,
 };

@@ -1,7 +1,7 @@
 -- What a command line means, as `clap` reads it.
 use Rattle.std.specs.Prelude.{◌≡◌, ℕ, Bool, true, false, List, [], ◌∷◌, Option, Some, None, Result, Ok, Err}
 use Rattle.std.specs.Prelude.{MatchResult}
-use Rattle.std.specs.Prelude.{codes, unwrap_or, if◌then◌else◌}
+use Rattle.std.specs.Prelude.{codes, is_none, is_some, ◌||◌, unwrap_or, if◌then◌else◌}
 use Rattle.std.specs.Option.{option_map_or}
 use Rattle.std.specs.Str.{bytes_eq}
 use Rattle.std.specs.Str.Parse.{digits_value, without_leading_plus}
@@ -16,7 +16,6 @@ use Rattle.iocm_values.specs.Reading.{◌>>=◌}
 use Rattle.iocm_filter.specs.Wanted.{Wanted}
 use Rattle.iocm_filter.specs.Misread.{misread_of}
 use Rattle.iocm_filter.specs.Words.{Asking, filters_of}
-use Rattle.iocm_filter.specs.declared.misread.FilterOption.{FilterOption}
 use Rattle.iocm_reports.specs.declared.report.Report.{Report}
 use Rattle.iocm_reports.specs.declared.report.Report.TheVariants.{Table, WayBack, Altered, Count, Deck, Test}
 use Rattle.iocm_command.specs.Program.{heap_parser, iocm_app}
@@ -25,8 +24,10 @@ use Rattle.iocm_command.specs.declared.table.Before.TheVariants.{LeftOut, Shown}
 use Rattle.iocm_command.specs.declared.table.Breaches.{Breaches}
 use Rattle.iocm_command.specs.declared.table.Breaches.TheVariants.{First, All}
 use Rattle.iocm_command.specs.declared.table.Command.{Command}
-use Rattle.iocm_command.specs.declared.table.Command.TheVariants.{Check, Show, Write, Diff, Apply, Run, Explain}
+use Rattle.iocm_command.specs.declared.table.Command.TheVariants.{Check, Show, Write, Diff, Vary, Apply, Run, Explain}
 use Rattle.iocm_command.specs.declared.command.Understood.{Understood}
+use Rattle.iocm_command.specs.declared.table.Varied.{Varied}
+use Rattle.iocm_command.specs.declared.table.Varied.TheVariants.{Offline, Online}
 
 -- what is asked for: files by their names, and what else a command takes
 pub data Meant : Type 0 where
@@ -34,6 +35,7 @@ pub data Meant : Type 0 where
   show : Text → Wanted → Meant
   write : Text → Meant
   diff : Text → Text → Before → Meant
+  vary : Text → Varied → Wanted → Meant
   apply : Text → Text → Option ℕ → Report → Wanted → Meant
   run : Text → Text → List Text → Option ℕ → Meant
   explain : List Text → Meant
@@ -50,6 +52,7 @@ meant_of (Check deck breaches) = check deck.now breaches
 meant_of (Show deck filters) = show deck.now filters
 meant_of (Write deck) = write deck.now
 meant_of (Diff old new before) = diff old.now new.now before
+meant_of (Vary deck to filters) = vary deck.now to filters
 meant_of (Apply deck change heap report filters) = apply deck.now change.now heap report filters
 meant_of (Run deck script changes heap) = run deck.now script.now (texts changes.items) heap
 meant_of (Explain rules) = explain (texts rules.items)
@@ -143,6 +146,20 @@ abbrev pub diff_in : List Row → Option Meant
 diff_in rows =
     first_of (codes "OLD") rows >>= λ old. first_of (codes "NEW") rows >>= λ new. Some (diff old new (before_in rows))
 
+-- what becomes of the paths of `vary`
+abbrev pub varied_by : Text → Option Varied
+varied_by state =
+    if bytes_eq state (codes "offline") then Some Offline
+    else (if bytes_eq state (codes "online") then Some Online else None)
+
+abbrev pub varied_in : List Row → Option Varied
+varied_in rows = first_of (codes "STATE") rows >>= varied_by
+
+abbrev pub vary_in : List Row → Option Meant
+vary_in rows =
+    first_of (codes "DECK") rows >>= λ deck. varied_in rows >>= λ to. filters_in rows >>= λ filters.
+    Some (vary deck to filters)
+
 abbrev pub apply_in : List Row → Option Meant
 apply_in rows =
     first_of (codes "DECK") rows >>= λ deck. first_of (codes "CHANGE") rows >>= λ change.
@@ -164,9 +181,10 @@ command_in name rows =
     else (if bytes_eq name (codes "show") then show_in rows
     else (if bytes_eq name (codes "write") then write_in rows
     else (if bytes_eq name (codes "diff") then diff_in rows
+    else (if bytes_eq name (codes "vary") then vary_in rows
     else (if bytes_eq name (codes "apply") then apply_in rows
     else (if bytes_eq name (codes "run") then run_in rows
-    else (if bytes_eq name (codes "explain") then explain_in rows else None))))))
+    else (if bytes_eq name (codes "explain") then explain_in rows else None)))))))
 
 -- what the command that the words name asks for
 abbrev pub understood_in : Option (Text × List Row) → Option Stated
@@ -174,9 +192,13 @@ understood_in None = None
 understood_in (Some named) = command_in named.0 named.1 >>= λ command.
     Some (record { command = command; quiet = is_given (codes "quiet") named.1 })
 
--- the first value of a filter that has another form, with its option
-abbrev pub misread_in : Option (Text × List Row) → Option (FilterOption × Text)
-misread_in named = named >>= λ command. misread_of (filter_words_in command.1)
+-- a value has another form: the state of paths, or that of a filter
+abbrev pub is_misread_state : List Row → Bool
+is_misread_state rows = option_map_or (λ state. is_none (varied_by state)) (first_of (codes "STATE") rows) false
+
+abbrev pub is_misread : Option (Text × List Row) → Bool
+is_misread named =
+    option_map_or (λ command. is_misread_state command.1 || is_some (misread_of (filter_words_in command.1))) named false
 
 -- ---- what words mean
 
@@ -184,14 +206,14 @@ misread_in named = named >>= λ command. misread_of (filter_words_in command.1)
 abbrev pub mistakes : List Text → Kinds
 mistakes words = fault_of iocm_app words
 
--- if clap finds none and the words mean nothing: a filter has a value of another form, or there are two reports
-abbrev pub others : Option (FilterOption × Text) → Kinds
-others (Some misread) = ValueValidation ∷ []
-others None = ArgumentConflict ∷ []
+-- if clap finds none and the words mean nothing: a value has another form, or there are two reports
+abbrev pub others : Bool → Kinds
+others true = ValueValidation ∷ []
+others false = ArgumentConflict ∷ []
 
 abbrev pub outcome : Kinds → Option (Text × List Row) → Option Stated → Result Stated Kinds
 outcome [] named (Some stated) = Ok stated
-outcome [] named None = Err (others (misread_in named))
+outcome [] named None = Err (others (is_misread named))
 outcome (kind ∷ kinds) _ _ = Err (kind ∷ kinds)
 
 -- what words mean, or the kinds of their mistake

@@ -8,17 +8,20 @@ use Rattle.clap.specs.declared.builder.value_parser.ValueParser.{ValueParser}
 use Rattle.clap.specs.declared.builder.value_parser.ValueParser.TheVariants.{Unsigned}
 use Rattle.iocm_command.specs.declared.argument.Argument.{Argument}
 use Rattle.iocm_command.specs.declared.argument.Form.{Form}
-use Rattle.iocm_command.specs.declared.argument.Form.TheVariants.{File, Words, Heap, Flag, Letter, Filter}
+use Rattle.iocm_command.specs.declared.argument.Form.TheVariants.{File, Word, Words, Paths, Heap, Flag, Letter, Filter}
 use Rattle.iocm_command.specs.declared.table.Row.{Row}
 
 -- the size of a heap in bytes: 16 to 16777216
 unfoldable pub heap_parser : ValueParser
 heap_parser = Unsigned 16 16777216
 
--- what `clap` is told of an argument: a file is required; words and a filter may be given several times
+-- what `clap` is told of an argument: a file, a word and paths are required; words, paths and a filter may
+-- be given several times
 abbrev pub rule_by : Text → Form → Rule
 rule_by name File = record (new_rule name) { required = true }
+rule_by name Word = record (new_rule name) { required = true }
 rule_by name Words = record (new_rule name) { action = Some Append }
+rule_by name Paths = record (new_rule name) { value_names = 1; action = Some Append; required = true }
 rule_by name Heap = record (new_rule name) {
   long = Some name;
   value_names = 1;
@@ -62,6 +65,12 @@ write_row = (codes "write", quiet ∷ deck ∷ [])
 abbrev pub diff_row : Text × List (Text × Form)
 diff_row = (codes "diff", quiet ∷ (codes "OLD", File) ∷ (codes "NEW", File) ∷ (codes "old", Flag) ∷ [])
 
+abbrev pub vary_row : Text × List (Text × Form)
+vary_row = (
+  codes "vary",
+  quiet ∷ deck ∷ (codes "STATE", Word) ∷ (codes "path", Paths) ∷ (codes "image", Filter) ∷ [],
+)
+
 abbrev pub apply_row : Text × List (Text × Form)
 apply_row = (
   codes "apply",
@@ -76,7 +85,7 @@ abbrev pub explain_row : Text × List (Text × Form)
 explain_row = (codes "explain", (codes "RULE", Words) ∷ [])
 
 abbrev pub commands : List (Text × List (Text × Form))
-commands = check_row ∷ show_row ∷ write_row ∷ diff_row ∷ apply_row ∷ run_row ∷ explain_row ∷ []
+commands = check_row ∷ show_row ∷ write_row ∷ diff_row ∷ vary_row ∷ apply_row ∷ run_row ∷ explain_row ∷ []
 
 -- a command with one more argument, and a command of the table
 abbrev pub with_argument : App → Text × Form → App

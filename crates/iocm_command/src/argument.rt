@@ -30,8 +30,12 @@ pub(crate) struct Argument<'a> {
 pub(crate) enum Form {
     /// A file, which is required.
     File,
+    /// A word, which is required.
+    Word,
     /// Words, which aren't required, as many as there are.
     Words,
+    /// Paths, of which one is required.
+    Paths,
     /// The size in bytes of the heap that a change tree is read in.
     Heap,
     /// A flag.
@@ -50,8 +54,12 @@ impl<'a> Argument<'a> {
     {
         let argument = Arg::new(alloc, self.name).help(self.help);
         match self.form {
-            Form::File => argument.required(true),
+            Form::File | Form::Word => argument.required(true),
             Form::Words => argument.action(ArgAction::Append),
+            Form::Paths => argument
+                .value_name(self.value)
+                .action(ArgAction::Append)
+                .required(true),
             Form::Heap => argument
                 .long(self.name)
                 .value_name(self.value)

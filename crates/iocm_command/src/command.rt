@@ -1,14 +1,12 @@
-ghost use Rattle.std.specs.Prelude.{◌∷◌, [], map, option_map};
+ghost use Rattle.std.specs.Prelude.{◌∷◌, [], is_some, map};
 ghost use Rattle.clap.specs.Words.{HasKind};
-ghost use Rattle.iocm_filter.specs.Misread.{seen_misread};
 ghost use Rattle.iocm_command.specs.CommandLine.{commanded, others, Answers};
 
 use crate::Command;
-use crate::matches::{misread_in, understood_in};
+use crate::matches::{MisreadWord, misread_in, understood_in};
 use crate::program::iocm;
 use clap::Error;
 use clap::error::ErrorKind;
-use iocm_filter::Misread;
 use iocm_statements::Unread;
 use std::alloc::{AllocError, Global};
 use std::convert::AsStr;
@@ -48,8 +46,8 @@ pub fn command_of<'a, S: AsStr>(alloc: Global, words: &'a [S]) -> Result<Underst
 }
 
 /// The error of words in which `clap` finds no mistake, and which mean nothing.
-fn refusal(alloc: Global, iocm: &mut clap::Command<'_>, misread: Option<Misread<'_>>) -> Error
-    ensures { HasKind (others (option_map seen_misread misread.entry)) result }
+fn refusal(alloc: Global, iocm: &mut clap::Command<'_>, misread: Option<MisreadWord<'_>>) -> Error
+    ensures { HasKind (others (is_some misread.entry)) result }
 {
     let Some(misread) = misread else {
         return said(iocm, ErrorKind::ArgumentConflict, TWO_REPORTS);

@@ -1,20 +1,20 @@
-ghost use Rattle.std.specs.Prelude.{◌≡◌, IfOk, IfSome, IsSome, codes, nat_eq, option_map};
+ghost use Rattle.std.specs.Prelude.{◌≡◌, IfOk, IfSome, IsSome, codes, is_none, is_some, nat_eq};
 ghost use Rattle.std.specs.Cmp.Lexicographic.{pointwise};
 ghost use Rattle.clap.specs.Walk.{texts};
 ghost use Rattle.clap.specs.Words.{first_of, subcommand_rows_of};
-ghost use Rattle.iocm_filter.specs.Misread.{seen_misread};
 ghost use Rattle.iocm_filter.specs.Words.{words_of};
 ghost use Rattle.iocm_statements.specs.Unread.{Reads};
 ghost use Rattle.iocm_command.specs.CommandLine as meaning;
 ghost use Rattle.iocm_command.specs.CommandLine.{GivesSize, IsSizeText, meant_of, rows_in, understood_of, values_under};
 
 use crate::argument::{LARGEST_HEAP, LEAST_HEAP};
-use crate::{Before, Breaches, Command, Understood};
+use crate::{Before, Breaches, Command, Understood, Varied};
 use clap::ArgMatches;
 use iocm_filter::{FilterWords, Filters, Misread};
 use iocm_reports::Report;
 use iocm_statements::Unread;
 use std::alloc::{AllocError, Global};
+use std::fmt;
 
 /// The value of an argument.
 fn value_of<'a>(found: &ArgMatches<'a>, argument: &str) -> Result<&'a str, Unread>
@@ -163,14 +163,53 @@ fn filters_in(alloc: Global, found: &ArgMatches<'_>) -> Result<Filters, Unread>
     Filters::of_words(alloc, &filter_words(found))
 }
 
-/// The first value of a filter that has another form.
-pub(crate) fn misread_in<'a>(matches: &ArgMatches<'a>) -> Option<Misread<'a>>
-    ensures { option_map seen_misread result ≡ meaning.misread_in (subcommand_rows_of matches.now) }
-{
-    match matches.subcommand() {
-        Some((_, found)) => filter_words(found).misread(),
-        None => None,
+/// A word that has none of its forms.
+#[derive(Clone, Copy)]
+pub(crate) enum MisreadWord<'a> {
+    /// What becomes of paths.
+    State(&'a str),
+    /// A value of a filter.
+    Filter(Misread<'a>),
+}
+
+impl<'a> fmt::Display for MisreadWord<'a> {
+    fn fmt<W: fmt::Write>(&self, f: &mut fmt::Formatter<W>) -> fmt::Result {
+        match self {
+            MisreadWord::State(word) => write!(
+                f,
+                "{word}: not what becomes of a path: offline, or online"
+            ),
+            MisreadWord::Filter(misread) => write!(f, "{misread}"),
+        }
     }
+}
+
+/// The first word of another form.
+pub(crate) fn misread_in<'a>(matches: &ArgMatches<'a>) -> Option<MisreadWord<'a>>
+    ensures { is_some result ≡ meaning.is_misread (subcommand_rows_of matches.now) }
+{
+    let (_, found) = matches.subcommand()?;
+    if is_misread_state(found) {
+        return Some(MisreadWord::State(found.get_str("STATE").unwrap_or("")));
+    }
+    let misread = filter_words(found).misread()?;
+    Some(MisreadWord::Filter(misread))
+}
+
+/// Whether what becomes of paths has none of its forms.
+fn is_misread_state(found: &ArgMatches<'_>) -> bool
+    ensures { result ≡ meaning.is_misread_state (rows_in found.now) }
+{
+    match found.get_str("STATE") {
+        Some(word) => is_no_state(word),
+        None => false,
+    }
+}
+
+fn is_no_state(word: &str) -> bool
+    ensures { result ≡ is_none (meaning.varied_by word.now) }
+{
+    varied_by(word).is_none()
 }
 
 /// What `check` asks for.
@@ -207,6 +246,34 @@ fn diff_in<'a>(found: &ArgMatches<'a>) -> Result<Command<'a>, Unread>
     let new = value_of(found, "NEW")?;
     let before = before_in(found);
     Ok(Command::Diff { old, new, before })
+}
+
+/// What becomes of paths by a word.
+fn varied_by(word: &str) -> Option<Varied>
+    ensures { result ≡ meaning.varied_by word.now }
+{
+    match word {
+        "offline" => Some(Varied::Offline),
+        "online" => Some(Varied::Online),
+        _ => None,
+    }
+}
+
+/// What becomes of the paths of `vary`.
+fn varied_in(found: &ArgMatches<'_>) -> Result<Varied, Unread>
+    ensures { Reads (λ v. v) result (meaning.varied_in (rows_in found.now)) }
+{
+    varied_by(value_of(found, "STATE")?).ok_or(Unread::Malformed)
+}
+
+/// What `vary` asks for.
+fn vary_in<'a>(alloc: Global, found: &ArgMatches<'a>) -> Result<Command<'a>, Unread>
+    ensures { Reads meant_of result (meaning.vary_in (rows_in found.now)) }
+{
+    let deck = value_of(found, "DECK")?;
+    let to = varied_in(found)?;
+    let filters = filters_in(alloc, found)?;
+    Ok(Command::Vary { deck, to, filters })
 }
 
 /// What `apply` asks for.
@@ -260,6 +327,7 @@ fn command_in<'a>(alloc: Global, name: &str, found: &ArgMatches<'a>) -> Result<C
         "show" => show_in(alloc, found),
         "write" => write_in(found),
         "diff" => diff_in(found),
+        "vary" => vary_in(alloc, found),
         "apply" => apply_in(alloc, found),
         "run" => run_in(alloc, found),
         "explain" => explain_in(alloc, found),

@@ -28,6 +28,12 @@ pub enum Command<'a> {
         new: &'a str,
         before: Before,
     },
+    /// Print the change deck that takes paths of a deck offline for images, or online.
+    Vary {
+        deck: &'a str,
+        to: Varied,
+        filters: Filters,
+    },
     /// Activate a change deck on the machine of a deck, and print this report of the subchannels that
     /// are asked for; the change tree is read in a heap of so many bytes, if that is given.
     Apply {
@@ -69,6 +75,15 @@ pub enum Before {
     Shown,
 }
 
+/// What becomes of a path for an image.
+#[derive(Clone, Copy, Debug, PartialEq, Eq)]
+pub enum Varied {
+    /// It is taken offline.
+    Offline,
+    /// It is brought online.
+    Online,
+}
+
 /// A command.
 #[derive(Clone, Copy)]
 pub(crate) struct Row<'a> {
@@ -83,7 +98,9 @@ pub(crate) struct Row<'a> {
 }
 
 /// The commands, in the order in which help lists them.
-pub(crate) const COMMANDS: [Row<'static>; 7] = [CHECK, SHOW, WRITE, DIFF, APPLY, RUN, EXPLAIN];
+pub(crate) const COMMANDS: [Row<'static>; 8] = [
+    CHECK, SHOW, WRITE, DIFF, VARY, APPLY, RUN, EXPLAIN,
+];
 
 const CHECK: Row<'static> = Row {
     name: "check",
@@ -113,6 +130,14 @@ const DIFF: Row<'static> = Row {
     arguments: &[QUIET, OLD, NEW, BEFORE],
     examples: "Examples:\n  iocm diff old.deck new.deck > my.change\n  iocm diff old.deck new.deck --old\n\n\
                More: docs/CHANGES.md",
+};
+
+const VARY: Row<'static> = Row {
+    name: "vary",
+    about: "Reads a configuration deck and prints the change deck that takes channel paths offline, or online",
+    arguments: &[QUIET, DECK, STATE, PATHS, FOR_IMAGE],
+    examples: "Examples:\n  iocm vary my.deck offline 0.50 | iocm apply my.deck - --count\n  \
+               iocm vary my.deck online 50 51 --image LPB\n\nMore: docs/CHANGES.md",
 };
 
 const APPLY: Row<'static> = Row {
@@ -171,6 +196,13 @@ const IMAGE: Argument<'static> = Argument {
     help: "Only subchannels of this image: 0.2, or LPB; may be given several times",
 };
 
+const FOR_IMAGE: Argument<'static> = Argument {
+    name: "image",
+    form: Form::Filter,
+    value: "IMAGE",
+    help: "Only for this image: 0.2, or LPB; may be given several times",
+};
+
 const DEVICE: Argument<'static> = Argument {
     name: "device",
     form: Form::Filter,
@@ -218,6 +250,20 @@ const BEFORE: Argument<'static> = Argument {
     form: Form::Flag,
     value: "",
     help: "Prints what was there before each change, as comments",
+};
+
+const STATE: Argument<'static> = Argument {
+    name: "STATE",
+    form: Form::Word,
+    value: "",
+    help: "What becomes of the paths: offline, or online",
+};
+
+const PATHS: Argument<'static> = Argument {
+    name: "path",
+    form: Form::Paths,
+    value: "PATH",
+    help: "Channel paths: 0.50, or 50 of every channel subsystem",
 };
 
 const CHANGE: Argument<'static> = Argument {

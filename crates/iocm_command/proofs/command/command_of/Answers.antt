@@ -1,6 +1,5 @@
-use Rattle.std.proofs.Common.{◌≡◌, ◌∙◌, List, None, Ok, Option, [], ap, ap₂, map, subst, sym}
+use Rattle.std.proofs.Common.{◌≡◌, ◌∙◌, Bool, List, None, Ok, [], ap, ap₂, map, subst, sym}
 use Rattle.clap.specs.Words.{HasKind, Kinds, Text, app_of, subcommand_of, subcommand_rows_of}
-use Rattle.iocm_filter.specs.declared.misread.FilterOption.{FilterOption}
 use Rattle.iocm_statements.specs.Unread.{Refuses}
 use Rattle.iocm_statements.specs.declared.unread.Unread.{Unread}
 use Rattle.iocm_command.specs.CommandLine.{commanded, kinds_of, meant_by, mistakes, others, outcome, understood_in}
@@ -39,5 +38,4 @@ returns g c =
     (sym (is_entered (app_of c.in_ok-iocm.iocm) words c.in_ok-matches.matches c.in_ok-iocm.ensures
     c.in_ok-matches.ensures.ok.2))
     ∙ ap (outcome [] named) none)))
-    (subst (λ (misread : Option (FilterOption × Text)). HasKind (others misread) c.refusal.result) c.misread_in.ensures
-    c.refusal.ensures)
+    (subst (λ (misread : Bool). HasKind (others misread) c.refusal.result) c.misread_in.ensures c.refusal.ensures)
