@@ -16,9 +16,8 @@ use Rattle.iocm_model.specs.Machine.Mask.{installed, available}
 use Rattle.iocm_model.specs.Machine.View.{device_record, image_view, view_if_seen}
 use Rattle.iocm_model.proofs.Machine.OwnKeys.{keyed_own}
 use Rattle.iocm_console.specs.Alike.{AreAlike, seen_by, IsAlike, are_like}
-use Rattle.iocm_console.specs.Alike.{with_device, with_numbers, HaveDigits, IsSeen, IsSeenAt}
+use Rattle.iocm_console.specs.Alike.{view_of, with_device, with_numbers, HaveDigits, IsSeen, IsSeenAt}
 use Rattle.std.proofs.lemmas.Bool.{eqb-true, and_parts}
-use Rattle.std.specs.Option.{option_copied}
 use Rattle.std.specs.Prelude.{IfSome}
 use Rattle.iocm_types.specs.declared.sub_id.SubId.{SubId}
 use Rattle.iocm_console.specs.declared.cells.CellDevice.{CellDevice}
@@ -88,9 +87,15 @@ alike_view m i set a b keyed alike =
     alike (own_number m keyed set b)
 
 -- the device of a view is that which was put there
-own_device : (o : Option View) (d : ℕ) → o ≡ option_map (with_device d) o → IfSome o (λ v. v.device ≡ d)
-own_device None d is = tt
-own_device (Some v) d is = let same : v ≡ with_device d v = cc in ap (λ (w : View). w.device) same
+put_there : (o : Option View) (d : ℕ) → IfSome (option_map (with_device d) o) (λ v. v.device ≡ d)
+put_there None d = tt
+put_there (Some v) d = refl
+
+-- and the last one counts
+put_again : (o : Option View) (a b : ℕ)
+    → option_map (with_device b) (option_map (with_device a) o) ≡ option_map (with_device b) o
+put_again None a b = refl
+put_again (Some v) a b = refl
 
 -- a line of a subchannel is none or a long one
 none_or_long : (x : SubId) (o : Option View) (d : ℕ) → HaveDigits x d → IfSome o (λ v. v.device ≡ d)
@@ -122,23 +127,20 @@ module _ (m : Configuration) (i : ImageRecord) (keyed : IsKeyed m) where
       by true = alike_view m i e.cell.set e.device f.device keyed alike
       by false = refl
 
-  module _ (old : Seen) (e f : CellDevice) (last : IsSeen (lookup_of m) i old) (is : option_copied old.cell ≡ Some e)
+  module _ (old : Seen) (o : Option CellDevice) (e f : CellDevice) (last : IsSeen (lookup_of m) i o old) (is : o ≡ Some e)
       (like : are_like e f ≡ true) (alike : IsAlike (lookup_of m) f)
       (small : HaveDigits (subchannel_at (image_of i) e.cell) e.device) where
     at : IsSeenAt (lookup_of m) i old e
     at = subst (λ o. IfSome o (IsSeenAt (lookup_of m) i old)) is last
 
-    own : IfSome old.view (λ v. v.device ≡ e.device)
-    own = own_device old.view e.device
-        (at.view ∙ seen_alike e e refl refl refl ∙ ap (option_map (with_device e.device)) (sym at.view))
-
     -- the line at the last cell can take other numbers
     pub last_line : (old.line.items ≡ []) ⊎ (20 ≤ length old.line.items)
     last_line = subst (λ xs. (xs ≡ []) ⊎ (20 ≤ length xs)) (sym at.line)
-        (none_or_long (subchannel_at (image_of i) e.cell) old.view e.device small own)
+        (none_or_long (subchannel_at (image_of i) e.cell) (view_of old e.device) e.device small
+        (put_there old.view e.device))
 
     -- with those of the next cell it is that of the next cell
-    pub goes_on : (new : Seen) → new.view ≡ option_map (with_device f.device) old.view
+    pub goes_on : (new : Seen) → new.view ≡ old.view
         → (old.line.items ≡ [] → new.line.items ≡ [])
         → (20 ≤ length old.line.items → new.line.items ≡ with_numbers f.cell.number f.device old.line.items)
         → IsSeenAt (lookup_of m) i new f
@@ -149,12 +151,24 @@ module _ (m : Configuration) (i : ImageRecord) (keyed : IsKeyed m) where
         let devices : AreAlike (lookup_of m) e.cell.set e.device f.device =
         sym at.alike.0 ∙ subst (λ s. AreAlike (lookup_of m) s e.like f.device) (sym set)
         (subst (λ l. AreAlike (lookup_of m) f.cell.set l f.device) (sym (eqb-true e.like f.like first.1)) alike.0) in
+        let new_view : view_of new f.device ≡ option_map (with_device f.device) (view_of old e.device) =
+        ap (option_map (with_device f.device)) view ∙ sym (put_again old.view e.device f.device) in
         record {
           alike = alike;
-          view = view ∙ ap (option_map (with_device f.device)) at.view
+          view = new_view ∙ ap (option_map (with_device f.device)) at.view
               ∙ sym (seen_alike e f (eqb-true e.cell.css f.cell.css second.0) set devices);
-          line = renumbered (subchannel_at (image_of i) e.cell) old.view e.device small own f.cell.number f.device
+          line = renumbered (subchannel_at (image_of i) e.cell) (view_of old e.device) e.device small
+              (put_there old.view e.device) f.cell.number f.device
               new.line.items (subst (λ (xs : List ℕ). xs ≡ [] → new.line.items ≡ []) at.line none)
               (subst (λ xs. 20 ≤ length xs → new.line.items ≡ with_numbers f.cell.number f.device xs) at.line some)
-              ∙ (λ j. line_at (record { image = image_of i; set = set j; number = f.cell.number }) (sym view j));
+              ∙ (λ j. line_at (record { image = image_of i; set = set j; number = f.cell.number }) (sym new_view j));
         }
+
+  -- what is seen anew at a cell
+  pub seen_anew : (new : Seen) (e : CellDevice) → IsAlike (lookup_of m) e
+      → new.view ≡ seen_at (lookup_of m) i (e.cell, e.device)
+      → new.line.items ≡ line_at (subchannel_at (image_of i) e.cell) new.view → IsSeenAt (lookup_of m) i new e
+  seen_anew new e alike view line =
+      let own : view_of new e.device ≡ new.view = ap (option_map (with_device e.device)) view
+      ∙ sym (seen_alike e e refl refl refl) ∙ sym view in
+      record { alike = alike; view = own ∙ view; line = line ∙ ap (line_at (subchannel_at (image_of i) e.cell)) (sym own) }

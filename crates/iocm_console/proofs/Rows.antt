@@ -26,9 +26,9 @@ use Rattle.iocm_filter.specs.Sieves.{Sieve, passes_device, IsSieveFor}
 use Rattle.iocm_filter.proofs.WantedLaws.{nothing_is_all, passes_wanted}
 use Rattle.iocm_console.specs.declared.cells.CellDevice.{CellDevice}
 use Rattle.iocm_console.specs.declared.seen.Seen.{Seen}
-use Rattle.iocm_console.specs.Alike.{IsAlike, ServeFor, is_of, IsSeenAt}
+use Rattle.iocm_console.specs.Alike.{IsAlike, ServeFor, is_of, view_of, IsSeenAt}
 use Rattle.iocm_console.specs.Lines.{CellDevices, Gathered, celled, image_of, subchannel_at, seen_at, is_image_kept}
-use Rattle.iocm_console.specs.Lines.{is_kept, kept_line, image_lines, record_lines}
+use Rattle.iocm_console.specs.Lines.{is_kept, is_view_kept, kept_line, line_at, image_lines, record_lines}
 use Rattle.iocm_console.specs.Table.{text_by, wanted_table}
 
 -- ---- one more
@@ -38,7 +38,7 @@ pub image_lines_more : (s : Option Sieve) (start now : Sighted) → now ≡ star
     (x : CellDevice) → k < length xs → x ≡ get_or xs k x
     → (id : SubId) (seen : Seen) → id ≡ subchannel_at (image_of start.image) x.cell
     → IsSeenAt (lookup_of now.records) now.image seen x
-    → image_lines s (lookup_of start.records) start.image (celled (take k xs)) ++ kept_line s id seen.view
+    → image_lines s (lookup_of start.records) start.image (celled (take k xs)) ++ kept_line s id (view_of seen x.device)
     ≡ image_lines s (lookup_of start.records) start.image (celled (take (k + 1) xs))
 unfolding image_lines
 image_lines_more s start now same xs k x h is id seen here at =
@@ -49,6 +49,25 @@ image_lines_more s start now same xs k x h is id seen here at =
     ∙ sym (ap (flat_map lines)
     (ap celled (take_more xs k x h ∙ ap (λ y. take k xs ++ y ∷ []) (sym is)) ∙ map-append _ (take k xs) (x ∷ []))
     ∙ flat_map-append lines (celled (take k xs)) ((x.cell, x.device) ∷ []))
+
+-- a line has its end
+never_none : {P : Type 0} (xs : List ℕ) → xs ++ 10 ∷ [] ≡ [] → P
+never_none [] is = cc
+never_none (x ∷ xs) is = cc
+
+-- the line that is kept: none, if there is none or it doesn't pass, else that of what is seen
+pub kept_of_none : (s : Option Sieve) (id : SubId) (o : Option View) → line_at id o ≡ [] → kept_line s id o ≡ []
+kept_of_none s id None none = refl
+kept_of_none s id (Some v) none = never_none (line_of (id, v)) none
+
+pub kept_out : (s : Option Sieve) (id : SubId) (o : Option View) → is_view_kept s id o ≡ false → kept_line s id o ≡ []
+kept_out s id None out = refl
+kept_out s id (Some v) out = ap (λ b. cond b (line_of (id, v) ++ 10 ∷ []) []) out
+
+pub kept_in : (s : Option Sieve) (id : SubId) (o : Option View) → is_view_kept s id o ≡ true
+    → line_at id o ≡ kept_line s id o
+kept_in s id None kept = refl
+kept_in s id (Some v) kept = sym (ap (λ b. cond b (line_of (id, v) ++ 10 ∷ []) []) kept)
 
 -- the records of rows, as they are shown
 abbrev pub records_in : {A : Type 0} → (A → Key × Rec) → List A → List Rec

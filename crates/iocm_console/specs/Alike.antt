@@ -72,12 +72,16 @@ pub record HaveDigits (x : SubId) (d : ℕ) : Type 0 where
   pub number : x.number < 65536
   pub device : d < 65536
 
+-- what is seen of the device of this number: all but the number is that of a device that is like it
+abbrev pub view_of : Seen → ℕ → Option View
+view_of seen number = option_map (with_device number) seen.view
+
 -- this is what the image sees at a number cell; the device there is like the one that is noted
 pub record IsSeenAt (c : Lookup) (i : ImageRecord) (seen : Seen) (e : CellDevice) : Type 0 where
   pub alike : IsAlike c e
-  pub view : seen.view ≡ seen_at c i (e.cell, e.device)
-  pub line : seen.line.items ≡ line_at (subchannel_at (image_of i) e.cell) seen.view
+  pub view : view_of seen e.device ≡ seen_at c i (e.cell, e.device)
+  pub line : seen.line.items ≡ line_at (subchannel_at (image_of i) e.cell) (view_of seen e.device)
 
 -- the same of the last number cell, if there was one
-abbrev pub IsSeen : Lookup → ImageRecord → Seen → Type 0
-IsSeen c i seen = IfSome (option_copied seen.cell) (IsSeenAt c i seen)
+abbrev pub IsSeen : Lookup → ImageRecord → Option CellDevice → Seen → Type 0
+IsSeen c i last seen = IfSome last (IsSeenAt c i seen)

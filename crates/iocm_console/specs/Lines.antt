@@ -53,6 +53,11 @@ abbrev pub is_kept : Option Sieve → SubId × View → Bool
 is_kept None row = true
 is_kept (Some s) row = passes s row
 
+-- what is seen at a subchannel passes, or nothing is seen there
+abbrev pub is_view_kept : Option Sieve → SubId → Option View → Bool
+is_view_kept s x None = true
+is_view_kept s x (Some v) = is_kept s (x, v)
+
 -- the line of what is seen at a subchannel, if it passes
 abbrev pub kept_line : Option Sieve → SubId → Option View → List ℕ
 kept_line s x None = []

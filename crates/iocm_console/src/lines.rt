@@ -1,6 +1,8 @@
 ghost use Rattle.std.specs.Prelude.{◌≡◌, [], ◌∷◌, All};
 ghost use Rattle.iocm_model.specs.Machine.Configuration.{lookup_of, records_of, IsKeyed};
-ghost use Rattle.iocm_console.specs.Alike.{IsAlike};
+ghost use Rattle.std.specs.Option.{option_map};
+ghost use Rattle.iocm_filter.specs.Sieves as sieves;
+ghost use Rattle.iocm_console.specs.Alike.{view_of, with_device, IsAlike};
 ghost use Rattle.iocm_console.specs.Lines as meaning;
 ghost use Rattle.iocm_console.specs.Lines.{celled, image_lines, kept_line, line_at, record_lines, subchannel_at};
 ghost use Rattle.iocm_console.specs.Output.{Writes};
@@ -98,9 +100,11 @@ fn write_cells<A: Allocator, W: Write + Drop>(
         (image_lines sieve.now (lookup_of sight.old.records) sight.old.image (celled cells.now)) }
 {
     let image = sight.image();
-    let mut seen = Seen::nowhere();
+    let mut seen = Seen::nothing();
+    let mut last = None;
     for place in cells {
-        seen.go_to(sight, place);
+        seen.go_to(sight, last, place);
+        last = Some(*place);
         write_seen(output, sieve, &image, place, &seen)?;
     }
     Ok(())
@@ -113,16 +117,17 @@ fn write_seen<W: Write + Drop>(
     sieve: &Option<Sieve<'_>>,
     image: &Image,
     place: &CellDevice,
-    seen: &Seen<'_>,
+    seen: &Seen,
 ) -> Written
-    requires { seen.now.line.items ≡ line_at (subchannel_at image.now place.now.cell) seen.now.view }
+    requires { seen.now.line.items
+        ≡ line_at (subchannel_at image.now place.now.cell) (view_of seen.now place.now.device) }
     ensures { Writes W.contents result output.old output.new
-        (kept_line sieve.now (subchannel_at image.now place.now.cell) seen.now.view) }
+        (kept_line sieve.now (subchannel_at image.now place.now.cell) (view_of seen.now place.now.device)) }
 {
-    let Some(view) = &seen.view else {
+    if seen.line.is_empty() {
         return Ok(());
-    };
-    if !is_kept(sieve, image, place, view) {
+    }
+    if !is_kept(sieve, image, place, &seen.view) {
         return Ok(());
     }
     output.bytes(seen.line.as_slice())
@@ -138,13 +143,30 @@ fn is_image_kept(sieve: &Option<Sieve<'_>>, image: Image) -> bool
     }
 }
 
-/// Whether a subchannel with its view passes.
+/// Whether a subchannel passes with what is seen there, which is this but for the number of the device;
+/// or nothing is seen.
 #[inline]
-fn is_kept(sieve: &Option<Sieve<'_>>, image: &Image, place: &CellDevice, view: &View) -> bool
-    ensures { result ≡ meaning.is_kept sieve.now (subchannel_at image.now place.now.cell, view.now) }
+fn is_kept(
+    sieve: &Option<Sieve<'_>>,
+    image: &Image,
+    place: &CellDevice,
+    view: &Option<View>,
+) -> bool
+    ensures { result ≡ meaning.is_view_kept sieve.now (subchannel_at image.now place.now.cell)
+        (option_map (with_device place.now.device) view.now) }
 {
-    match sieve {
-        Some(sieve) => sieve.passes(&place.subchannel(image), view),
-        None => true,
+    match (sieve, view) {
+        (Some(sieve), Some(view)) => passes(sieve, image, place, view),
+        _ => true,
     }
+}
+
+/// Whether the subchannel passes a sieve.
+fn passes(sieve: &Sieve<'_>, image: &Image, place: &CellDevice, view: &View) -> bool
+    ensures { result ≡ sieves.passes sieve.now
+        (subchannel_at image.now place.now.cell, with_device place.now.device view.now) }
+{
+    sieve.passes_image(*image)
+        && sieve.passes_device(place.cell.set, place.device)
+        && sieve.filters().wants_view(image.css, view)
 }

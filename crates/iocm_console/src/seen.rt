@@ -1,9 +1,8 @@
-ghost use Rattle.std.specs.Prelude.{◌≡◌, None, Some};
-ghost use Rattle.std.specs.Option.{option_copied, option_map};
+ghost use Rattle.std.specs.Prelude.{◌≡◌};
 ghost use Rattle.iocm_model.specs.Machine.Configuration.{lookup_of, IsKeyed};
 ghost use Rattle.iocm_console.specs.Alike as alike;
 ghost use Rattle.iocm_console.specs.Lines.{line_at, seen_at};
-ghost use Rattle.iocm_console.specs.Alike.{with_device, HaveDigits, IsAlike, IsSeen, IsSeenAt};
+ghost use Rattle.iocm_console.specs.Alike.{HaveDigits, IsAlike, IsSeen, IsSeenAt};
 
 use crate::cells::CellDevice;
 use crate::row::{Line, put_line, put_numbers};
@@ -11,50 +10,47 @@ use iocm_derive::ImageSight;
 use iocm_types::{DevNo, SubId, View};
 use std::alloc::Allocator;
 
-/// What an image sees at a number cell, if it was at one, and the line of it: with its end, or no
-/// bytes where it sees no device.
+/// What an image sees at a number cell, and the line of it: with its end, or no bytes where it sees no
+/// device. The view may have the number of another device, which the image sees in the same way.
 #[derive(Drop)]
-pub(crate) struct Seen<'c> {
-    cell: Option<&'c CellDevice>,
+pub(crate) struct Seen {
     pub view: Option<View>,
     pub line: Line,
 }
 
-impl<'c> Seen<'c> {
-    /// No cell yet.
-    pub fn nowhere() -> Self
-        ensures { result.cell ≡ None }
-    {
+impl Seen {
+    /// Nothing.
+    pub fn nothing() -> Self {
         Seen {
-            cell: None,
             view: None,
             line: Line::new(),
         }
     }
 
-    /// Goes to another number cell. Where its device is like that at the last cell, the line stays
-    /// the same but for two numbers.
+    /// Goes from the last number cell, if there was one, to another. Where its device is like that at
+    /// the last one, the line stays the same but for two numbers.
     #[inline]
-    pub fn go_to<A: Allocator>(&mut self, sight: &mut ImageSight<'_, A>, place: &'c CellDevice)
+    pub fn go_to<A: Allocator>(
+        &mut self,
+        sight: &mut ImageSight<'_, A>,
+        last: Option<CellDevice>,
+        place: &CellDevice,
+    )
         requires keyed { IsKeyed sight.old.records }
         requires alike { IsAlike (lookup_of sight.old.records) place.now }
-        requires last { IsSeen (lookup_of sight.old.records) sight.old.image self.old }
-        ensures seen { IsSeenAt (lookup_of sight.old.records) sight.old.image self.new place.entry.now }
-        ensures cell { option_copied self.new.cell ≡ Some place.entry.now }
+        requires last { IsSeen (lookup_of sight.old.records) sight.old.image last self.old }
+        ensures seen { IsSeenAt (lookup_of sight.old.records) sight.old.image self.new place.now }
         ensures same { sight.new ≡ sight.old }
     {
-        match self.cell {
-            Some(cell) if are_like(cell, place) => {
+        match last {
+            Some(cell) if are_like(&cell, place) => {
                 // For the proof alone: each number fills its place in the line.
                 have_digits(&cell.subchannel(&sight.image()), cell.device);
                 put_numbers(&mut self.line, place);
-                set_device(&mut self.view, place.device);
-                self.cell = Some(place);
             }
             _ => {
                 self.view = view_at(sight, place);
                 put_seen(&mut self.line, place.subchannel(&sight.image()), &self.view);
-                self.cell = Some(place);
             }
         }
     }
@@ -80,16 +76,6 @@ fn have_digits(id: &SubId, device: DevNo)
     let _set = id.set.number();
     let _number = id.number;
     let _device = device.number();
-}
-
-/// Makes a view, if there is one, that of another device.
-#[inline]
-fn set_device(view: &mut Option<View>, device: DevNo)
-    ensures { view.new ≡ option_map (with_device device) view.old }
-{
-    if let Some(view) = view {
-        view.device = device;
-    }
 }
 
 /// What an image sees at a number cell.

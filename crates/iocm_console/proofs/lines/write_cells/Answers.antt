@@ -1,10 +1,9 @@
-use Rattle.std.proofs.Common.{refl, sym, ap, subst, ◌∙◌}
-use Rattle.std.specs.Prelude.{IfSome}
+use Rattle.std.proofs.Common.{refl, ap, subst, ◌∙◌}
 use Rattle.iocm_types.specs.declared.image.Image.{Image}
 use Rattle.iocm_model.specs.Machine.Configuration.{lookup_of}
 use Rattle.iocm_derive.specs.Sighted.{Sighted}
 use Rattle.iocm_console.specs.Lines.{subchannel_at}
-use Rattle.iocm_console.specs.Alike.{IsSeen, IsSeenAt}
+use Rattle.iocm_console.specs.Alike.{IsSeenAt}
 use Rattle.iocm_console.proofs.Printing.{writes_as, writes_nothing, writes_then}
 use Rattle.iocm_console.proofs.Rows.{image_lines_more, image_lines-nil}
 use Rattle.iocm_console.proofs.lines.write_cells.Goals as goal
@@ -12,7 +11,7 @@ use Rattle.iocm_console.proofs.lines.write_cells.Goals as goal
 pub loop-place-init : goal.loop-place-init
 loop-place-init g c = record {
   wrote = writes_nothing (image_lines-nil _ _ _);
-  last = rw c.nowhere-seen.ensures tt;
+  last = tt;
   same = refl;
 }
 
@@ -27,8 +26,7 @@ loop-place-preserved g c =
           (subchannel_at c.image-image.result place.cell) seen
           (ap (λ (i : Image). subchannel_at i place.cell) c.image-image.ensures)
           c.go_to.ensures.seen);
-      last = subst (λ (s : Sighted). IsSeen (lookup_of s.records) s.image seen) c.loop-place.invariant.same
-          (subst (λ o. IfSome o (IsSeenAt (lookup_of c.loop-place.sight.records) c.loop-place.sight.image seen))
-          (sym c.go_to.ensures.cell) c.go_to.ensures.seen);
+      last = subst (λ (s : Sighted). IsSeenAt (lookup_of s.records) s.image seen place) c.loop-place.invariant.same
+          c.go_to.ensures.seen;
       same = c.go_to.ensures.same ∙ c.loop-place.invariant.same;
     }

@@ -11,6 +11,6 @@ invariant-loop-place g l = record {
   wrote : Wrote g.W.Write.contents l.initial.output l.output
       (image_lines l.sieve (lookup_of l.initial.sight.records) l.initial.sight.image
       (celled (take l.place-index l.cells)));
-  last : IsSeen (lookup_of l.initial.sight.records) l.initial.sight.image l.seen;
+  last : IsSeen (lookup_of l.initial.sight.records) l.initial.sight.image l.last l.seen;
   same : l.sight ≡ l.initial.sight;
 }
