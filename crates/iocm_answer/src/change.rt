@@ -56,7 +56,7 @@ impl From<Fault> for Unread {
 ///
 /// M1: memory ran out, in the last of these heaps or beside them.
 ///
-/// Promise: a change deck is refused with M1 only after the heap that is named, or the largest one.
+/// Promise: M1 of a change deck comes before its tree is read, or after the last heap: the named one, or the largest.
 pub fn read_change(alloc: Global, heap: Option<u32>, change: &[u8]) -> Result<Tree, Unread>
     ensures tree { IfOk result (λ tree. tree_in change.now ≡ Ok (tree_of tree)) }
     ensures fault { IfErr result (λ unread. Fails unread.fault (tree_in change.now)) }
