@@ -1,293 +1,48 @@
-//! Each command on its files. All are opened in the order of the command line. Then each is read when its
-//! turn comes, so that a deck that is refused comes before a text that can't be read. What comes of
-//! them is told.
+//! Each command on its files. All are opened in the order of the command line. Then the deck is read, and
+//! the others if the deck opens, so that a deck that is refused comes before a text that can't be
+//! read. What comes of them is told.
+ghost use Rattle.iocm_answer.specs.Commands.{HasDeck};
 
 use crate::failure::{Ended, Failure};
 use crate::telling::{
     Talk, explain_unknown, is_from, note_missing, remark, remark_on_edits, remark_on_nothing,
     remark_on_others, tell,
 };
-use crate::texts::{
-    Role, Text, is_input, open_text, open_texts, read_text, read_texts, title_of_text,
-};
-use iocm_answer::{
-    Answer, Asked, apply, check, check_all, diff, open_machine, run, show, vary, write,
-};
-use iocm_command::{Before, Breaches, Command, Varied};
-use iocm_console::{Refusal, open_deck};
+use crate::texts::{Role, Text, open_text, open_texts, read_text, read_texts, title_of_text};
+use iocm_answer::{Answer, begin, finish};
+use iocm_command::{Breaches, Command};
+use iocm_console::Refusal;
 use iocm_explain::{Unexplained, explain};
-use iocm_filter::Filters;
 use std::rt::Files;
 use std::sync::Wait;
 use std::thread::Threads;
 
+/// A command that is called.
+#[derive(Clone, Copy)]
+pub struct Call<'c, 'a> {
+    /// What it asks for.
+    pub command: &'c Command<'a>,
+    /// The names of its files, that of the deck first.
+    pub files: &'c [&'a str],
+    /// What standard error is to say.
+    pub talk: Talk,
+}
+
+/// The texts of a call: that of the deck, and the bytes of those after it that were read.
+#[derive(Clone, Copy)]
+struct Texts<'t> {
+    deck: Text<'t, 't>,
+    others: &'t [Vec<u8>],
+}
+
 /// Does a command on its files.
 pub fn carry_out<'a, R: Files + Input + Print + Eprint + AllocGlobal + Threads + Wait + Sync>(
     rt: &R,
-    talk: Talk,
-    command: &Command<'a>,
+    call: &Call<'_, 'a>,
 ) -> Result<Ended, Failure<'a>> {
-    match command {
-        Command::Check { deck, breaches } => check_file(rt, talk, *deck, *breaches),
-        Command::Show { deck, filters } => show_file(rt, talk, *deck, filters),
-        Command::Write { deck } => write_file(rt, talk, *deck),
-        Command::Diff { old, new, before } => diff_files(rt, talk, *old, *new, *before),
-        Command::Vary { deck, to, filters } => vary_file(rt, talk, *deck, *to, filters),
-        Command::Apply {
-            deck,
-            change,
-            heap,
-            report,
-            filters,
-        } => {
-            let asked = Asked {
-                report: *report,
-                filters,
-            };
-            apply_files(rt, talk, *deck, *change, *heap, &asked)
-        }
-        Command::Run {
-            deck,
-            script,
-            changes,
-            heap,
-        } => run_files(rt, talk, *deck, *script, changes, *heap),
+    match call.command {
         Command::Explain { rules } => explain_rules(rt, rules),
-    }
-}
-
-/// How many files of a command are standard input.
-pub fn count_inputs(command: &Command<'_>) -> usize {
-    match command {
-        Command::Check { deck, .. } => usize::from(is_input(*deck)),
-        Command::Show { deck, .. } => usize::from(is_input(*deck)),
-        Command::Write { deck } => usize::from(is_input(*deck)),
-        Command::Diff { old, new, .. } => usize::from(is_input(*old)) + usize::from(is_input(*new)),
-        Command::Vary { deck, .. } => usize::from(is_input(*deck)),
-        Command::Apply { deck, change, .. } => {
-            usize::from(is_input(*deck)) + usize::from(is_input(*change))
-        }
-        Command::Run {
-            deck,
-            script,
-            changes,
-            ..
-        } => {
-            let changes = changes.iter().filter(|name| is_input(*name)).count();
-            usize::from(is_input(*deck)) + usize::from(is_input(*script)) + changes
-        }
-        Command::Explain { .. } => 0,
-    }
-}
-
-/// `check DECK`: how much a deck has, or why it is refused; or all breaches of the rules.
-fn check_file<'a, R: Files + Input + Print + Eprint + AllocGlobal>(
-    rt: &R,
-    talk: Talk,
-    name: &'a str,
-    breaches: Breaches,
-) -> Result<Ended, Failure<'a>> {
-    let deck = open_text(rt, name)?;
-    let deck = read_text(rt, name, deck)?;
-    let said = match breaches {
-        Breaches::First => match open_deck(rt.alloc(), &deck) {
-            Ok(opened) => Ok(check(&opened)),
-            Err(why) => Err(why),
-        },
-        Breaches::All => check_all(rt.alloc(), &deck),
-    };
-    let ended = tell(rt, &said);
-    if talk == Talk::All && is_printed(&ended) {
-        remark_on_check(rt, &Text::deck(name, &deck), breaches, &said);
-    }
-    Ok(ended)
-}
-
-/// Says beside the answer of `check` what is accepted, or where a refusal comes from.
-fn remark_on_check<R: Eprint + AllocGlobal>(
-    rt: &R,
-    text: &Text<'_, '_>,
-    breaches: Breaches,
-    said: &Result<Answer<'_>, Refusal>,
-) {
-    match said {
-        Ok(Answer::Accepted(census)) => {
-            let name = title_of_text(text.name);
-            let _ = eprintln!(rt; "{name}: {census}");
-        }
-        Ok(Answer::Breaches(found)) => {
-            if let Some(first) = found.first() {
-                remark(rt, text, &Refusal::from(*first));
-            }
-        }
-        Ok(_) => (),
-        Err(why) => {
-            remark(rt, text, why);
-            if breaches == Breaches::All {
-                remark_on_others(rt, text, *why);
-            }
-        }
-    }
-}
-
-/// `show DECK`: the table of the subchannels that are asked for.
-fn show_file<'a, R: Files + Input + Print + Eprint + AllocGlobal>(
-    rt: &R,
-    talk: Talk,
-    name: &'a str,
-    filters: &Filters,
-) -> Result<Ended, Failure<'a>> {
-    let deck = open_text(rt, name)?;
-    let deck = read_text(rt, name, deck)?;
-    let said = match open_deck(rt.alloc(), &deck) {
-        Ok(opened) => {
-            if talk == Talk::All {
-                note_missing(rt, name, filters, &opened);
-            }
-            show(rt.alloc(), opened, filters)
-        }
-        Err(why) => Err(why),
-    };
-    Ok(finish(rt, talk, &said, &Text::deck(name, &deck)))
-}
-
-/// `write DECK`: the canonical deck.
-fn write_file<'a, R: Files + Input + Print + Eprint + AllocGlobal>(
-    rt: &R,
-    talk: Talk,
-    name: &'a str,
-) -> Result<Ended, Failure<'a>> {
-    let deck = open_text(rt, name)?;
-    let deck = read_text(rt, name, deck)?;
-    let said = match open_deck(rt.alloc(), &deck) {
-        Ok(opened) => write(rt.alloc(), &opened),
-        Err(why) => Err(why),
-    };
-    Ok(finish(rt, talk, &said, &Text::deck(name, &deck)))
-}
-
-/// `diff OLD NEW`: the change deck that leads from one deck to the other.
-fn diff_files<'a, R: Files + Input + Print + Eprint + AllocGlobal>(
-    rt: &R,
-    talk: Talk,
-    old: &'a str,
-    new: &'a str,
-    before: Before,
-) -> Result<Ended, Failure<'a>> {
-    let old_deck = open_text(rt, old)?;
-    let new_deck = open_text(rt, new)?;
-    let old_deck = read_text(rt, old, old_deck)?;
-    let opened = match open_deck(rt.alloc(), &old_deck) {
-        Ok(opened) => opened,
-        Err(why) => return Ok(refuse(rt, talk, why, &Text::deck(old, &old_deck))),
-    };
-    let new_deck = read_text(rt, new, new_deck)?;
-    let said = diff(rt.alloc(), before, &opened, &new_deck);
-    let ended = finish(rt, talk, &said, &Text::deck(new, &new_deck));
-    if let Ok(Answer::Difference(difference)) = &said {
-        if talk == Talk::All && is_printed(&ended) {
-            remark_on_edits(rt, difference.edits);
-        }
-    }
-    Ok(ended)
-}
-
-/// `vary DECK offline|online PATH..`: the change deck that takes paths offline, or online.
-fn vary_file<'a, R: Files + Input + Print + Eprint + AllocGlobal>(
-    rt: &R,
-    talk: Talk,
-    name: &'a str,
-    to: Varied,
-    filters: &Filters,
-) -> Result<Ended, Failure<'a>> {
-    let deck = open_text(rt, name)?;
-    let deck = read_text(rt, name, deck)?;
-    let said = match open_deck(rt.alloc(), &deck) {
-        Ok(opened) => {
-            if talk == Talk::All {
-                note_missing(rt, name, filters, &opened);
-            }
-            vary(rt.alloc(), to, filters, &opened)
-        }
-        Err(why) => Err(why),
-    };
-    Ok(finish(rt, talk, &said, &Text::deck(name, &deck)))
-}
-
-/// `apply DECK CHANGE`: a report of what a change deck does to the machine of a deck.
-fn apply_files<'a, R: Files + Input + Print + Eprint + AllocGlobal>(
-    rt: &R,
-    talk: Talk,
-    deck: &'a str,
-    change: &'a str,
-    heap: Option<u32>,
-    asked: &Asked<'_>,
-) -> Result<Ended, Failure<'a>> {
-    let deck_text = open_text(rt, deck)?;
-    let change_text = open_text(rt, change)?;
-    let deck_text = read_text(rt, deck, deck_text)?;
-    let plant = match open_machine(rt.alloc(), &deck_text) {
-        Ok(plant) => plant,
-        Err(why) => return Ok(refuse(rt, talk, why, &Text::deck(deck, &deck_text))),
-    };
-    let change_text = read_text(rt, change, change_text)?;
-    let said = apply(rt.alloc(), heap, asked, plant, &change_text);
-    Ok(finish(rt, talk, &said, &Text::change(change, &change_text)))
-}
-
-/// `run DECK SCRIPT CHANGE..`: what comes of a script on the machine of a deck.
-fn run_files<'a, R: Files + Input + Print + Eprint + AllocGlobal + Threads + Wait + Sync>(
-    rt: &R,
-    talk: Talk,
-    deck: &'a str,
-    script: &'a str,
-    changes: &[&'a str],
-    heap: Option<u32>,
-) -> Result<Ended, Failure<'a>> {
-    let deck_text = open_text(rt, deck)?;
-    let script_text = open_text(rt, script)?;
-    let change_texts = open_texts(rt, changes)?;
-    let deck_text = read_text(rt, deck, deck_text)?;
-    let plant = match open_machine(rt.alloc(), &deck_text) {
-        Ok(plant) => plant,
-        Err(why) => return Ok(refuse(rt, talk, why, &Text::deck(deck, &deck_text))),
-    };
-    let script_text = read_text(rt, script, script_text)?;
-    let change_texts = read_texts(rt, changes, change_texts)?;
-    let said = run(
-        rt,
-        rt.alloc(),
-        heap,
-        plant,
-        &script_text,
-        change_texts.as_slice(),
-    );
-    let ended = tell(rt, &said);
-    if talk == Talk::All && is_printed(&ended) {
-        if let Err(why) = &said {
-            remark_on_run(rt, script, &script_text, changes, &change_texts, why);
-        }
-    }
-    Ok(ended)
-}
-
-/// Says where the refusal of a run comes from: from a change deck, or from the script.
-fn remark_on_run<'a, R: Eprint + AllocGlobal>(
-    rt: &R,
-    script: &str,
-    script_text: &[u8],
-    changes: &[&'a str],
-    change_texts: &[Vec<u8>],
-    why: &Refusal,
-) {
-    for place in 0..changes.len().min(change_texts.len()) {
-        if is_from(rt, &Text::change(changes[place], &change_texts[place]), why) {
-            return;
-        }
-    }
-    let role = Role::Script(changes.len() as u64);
-    if !is_from(rt, &Text::new(script, role, script_text), why) {
-        remark_on_nothing(rt, why);
+        _ => answer_files(rt, call),
     }
 }
 
@@ -303,33 +58,131 @@ fn explain_rules<'a, R: Print + Eprint + AllocGlobal>(
     }
 }
 
-/// Whether all was printed.
-fn is_printed(ended: &Ended) -> bool {
-    matches!(ended, Ended::Printed(_))
+/// Does a command that has a deck.
+fn answer_files<'a, R: Files + Input + Print + Eprint + AllocGlobal + Threads + Wait + Sync>(
+    rt: &R,
+    call: &Call<'_, 'a>,
+) -> Result<Ended, Failure<'a>>
+    requires { HasDeck call.now.command.now }
+{
+    let Some((name, names)) = call.files.split_first() else {
+        return Err(Failure::Memory);
+    };
+    let file = open_text(rt, *name)?;
+    let files = open_texts(rt, names)?;
+    let bytes = read_text(rt, *name, file)?;
+    let deck = Text::deck(*name, &bytes);
+    let begun = match begin(rt.alloc(), call.command, &bytes) {
+        Ok(begun) => begun,
+        Err(why) => return Ok(conclude(rt, call, &Texts { deck, others: &[] }, &Err(why))),
+    };
+    let others = read_texts(rt, names, files)?;
+    if call.talk == Talk::All {
+        if let (Some(filters), Some(config)) = (call.command.filters(), begun.config()) {
+            note_missing(rt, *name, filters, config);
+        }
+    }
+    let said = finish(rt, rt.alloc(), call.command, begun, &others);
+    let others = others.as_slice();
+    Ok(conclude(rt, call, &Texts { deck, others }, &said))
 }
 
-/// Tells a refusal, and from where in a text it comes.
-fn refuse<R: Print + Eprint + AllocGlobal>(
+/// Tells what a command gives, and beside it what there is to say.
+fn conclude<R: Print + Eprint + AllocGlobal>(
     rt: &R,
-    talk: Talk,
-    why: Refusal,
-    text: &Text<'_, '_>,
-) -> Ended {
-    finish(rt, talk, &Err(why), text)
-}
-
-/// Tells what a command gives, and of a refusal from where in a text it comes.
-fn finish<R: Print + Eprint + AllocGlobal>(
-    rt: &R,
-    talk: Talk,
+    call: &Call<'_, '_>,
+    texts: &Texts<'_>,
     said: &Result<Answer<'_>, Refusal>,
-    text: &Text<'_, '_>,
 ) -> Ended {
     let ended = tell(rt, said);
-    if talk == Talk::All && is_printed(&ended) {
-        if let Err(why) = said {
-            remark(rt, text, why);
+    if call.talk == Talk::All && matches!(ended, Ended::Printed(_)) {
+        match said {
+            Ok(answer) => remark_on_answer(rt, &texts.deck, answer),
+            Err(why) => remark_on_refusal(rt, call, texts, why),
         }
     }
     ended
+}
+
+/// Says what a deck has that is accepted, where the first breach comes from, or how many edits a
+/// difference has.
+fn remark_on_answer<R: Eprint + AllocGlobal>(rt: &R, deck: &Text<'_, '_>, answer: &Answer<'_>) {
+    match answer {
+        Answer::Accepted(census) => {
+            let name = title_of_text(deck.name);
+            let _ = eprintln!(rt; "{name}: {census}");
+        }
+        Answer::Breaches(found) => {
+            if let Some(first) = found.first() {
+                remark(rt, deck, &Refusal::from(*first));
+            }
+        }
+        Answer::Difference(difference) => remark_on_edits(rt, difference.edits),
+        _ => (),
+    }
+}
+
+/// Says where a refusal comes from: from the deck, or from a text after it.
+fn remark_on_refusal<R: Eprint + AllocGlobal>(
+    rt: &R,
+    call: &Call<'_, '_>,
+    texts: &Texts<'_>,
+    why: &Refusal,
+) {
+    if texts.others.is_empty() {
+        remark(rt, &texts.deck, why);
+        if matches!(
+            call.command,
+            Command::Check {
+                breaches: Breaches::All,
+                ..
+            }
+        ) {
+            remark_on_others(rt, &texts.deck, *why);
+        }
+    } else if !is_from_others(rt, call, texts.others, why) {
+        remark_on_nothing(rt, why);
+    }
+}
+
+/// Whether a refusal comes from a text after the deck; if so, it is said from where in it. Change decks
+/// are asked before a script.
+fn is_from_others<R: Eprint + AllocGlobal>(
+    rt: &R,
+    call: &Call<'_, '_>,
+    others: &[Vec<u8>],
+    why: &Refusal,
+) -> bool {
+    for place in 1..others.len() {
+        if is_from_other(rt, call, others, place, why) {
+            return true;
+        }
+    }
+    is_from_other(rt, call, others, 0, why)
+}
+
+/// Whether a refusal comes from the text of this place after the deck.
+fn is_from_other<R: Eprint + AllocGlobal>(
+    rt: &R,
+    call: &Call<'_, '_>,
+    others: &[Vec<u8>],
+    place: usize,
+    why: &Refusal,
+) -> bool {
+    match (call.files.get(place.saturating_add(1)), others.get(place)) {
+        (Some(name), Some(bytes)) => {
+            let role = role_of(call.command, place);
+            is_from(rt, &Text::new(*name, role, bytes), why)
+        }
+        _ => false,
+    }
+}
+
+/// What the text of this place after the deck is to a command.
+fn role_of(command: &Command<'_>, place: usize) -> Role {
+    match command {
+        Command::Run { changes, .. } if place == 0 => Role::Script(changes.len() as u64),
+        Command::Run { .. } | Command::Apply { .. } => Role::Change,
+        _ => Role::Deck,
+    }
 }

@@ -16,8 +16,9 @@
 //! refusal, standard error says from which file and line it comes; with `--quiet` it doesn't.
 //!
 //! A command goes from bytes to an answer and to its text: `commands.rt` reads its files
-//! (`texts.rt`), calls its function in `iocm_answer`, and tells what came of it (`telling.rt`). What
-//! the words of a command line ask for is in `iocm_command`. Begin with `carry_out` in `commands.rt`.
+//! (`texts.rt`), calls `begin` and `finish` of `iocm_answer`, and tells what came of them
+//! (`telling.rt`). What the words of a command line ask for is in `iocm_command`. Begin with
+//! `carry_out` in `commands.rt`.
 #![tactic(auto)]
 
 mod commands;
@@ -26,7 +27,7 @@ mod telling;
 mod texts;
 
 use clap::error::ErrorKind;
-use commands::{carry_out, count_inputs};
+use commands::{Call, carry_out};
 use failure::{Ended, Failure};
 use iocm_command::{Understood, command_of};
 use std::process::ExitCode;
@@ -35,6 +36,7 @@ use std::sync::Wait;
 use std::thread::Threads;
 use std::{env, io};
 use telling::{Talk, USAGE, code_of, end};
+use texts::count_inputs;
 
 fn main(rt: HostRuntime) -> ExitCode {
     let words: Vec<String> = match words(&rt) {
@@ -60,15 +62,23 @@ fn perform<R: Files + Input + Print + Eprint + AllocGlobal + Threads + Wait + Sy
     rt: &R,
     understood: &Understood<'_>,
 ) -> ExitCode {
-    if count_inputs(&understood.command) > 1 {
-        return explain_usage(rt, "only one file can be read from standard input");
-    }
     let talk = if understood.quiet {
         Talk::Quiet
     } else {
         Talk::All
     };
-    match carry_out(rt, talk, &understood.command) {
+    let Ok(files) = understood.command.files(rt.alloc()) else {
+        return end(rt, talk, Failure::Memory);
+    };
+    if count_inputs(&files) > 1 {
+        return explain_usage(rt, "only one file can be read from standard input");
+    }
+    let call = Call {
+        command: &understood.command,
+        files: &files,
+        talk,
+    };
+    match carry_out(rt, &call) {
         Ok(ended) => code_of(rt, ended),
         Err(failure) => end(rt, talk, failure),
     }

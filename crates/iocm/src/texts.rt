@@ -51,11 +51,6 @@ impl<'n, 'b> Text<'n, 'b> {
         Text::new(name, Role::Deck, bytes)
     }
 
-    /// A change deck.
-    pub fn change(name: &'n str, bytes: &'b [u8]) -> Self {
-        Text::new(name, Role::Change, bytes)
-    }
-
     /// Where in the text a refusal comes from, if it comes from there.
     pub fn origin_of(&self, alloc: Global, why: Refusal) -> Result<Option<Origin>, AllocError> {
         match self.role {
@@ -69,6 +64,11 @@ impl<'n, 'b> Text<'n, 'b> {
 /// Whether a file's name is the word for standard input.
 pub fn is_input(name: &str) -> bool {
     name == "-"
+}
+
+/// How many of these files are standard input.
+pub fn count_inputs(files: &[&str]) -> usize {
+    files.iter().filter(|name| is_input(**name)).count()
 }
 
 /// What a text is called.

@@ -10,9 +10,9 @@ use Rattle.iocm_console.specs.declared.status.Status.TheVariants.{Done}
 use Rattle.iocm_console.specs.Opening.{configuration_in, opened, unless_breached}
 use Rattle.iocm_console.specs.Refusal.{or_refused, ◌>>-◌}
 use Rattle.iocm_console.specs.Shown.{Shown, shown_or_refused}
-use Rattle.iocm_answer.specs.Check.{accepted, all_told}
-use Rattle.iocm_answer.specs.Show.{showed_of}
-use Rattle.iocm_answer.specs.Write.{PrintAlike, PrintsTheSame, written, written_of}
+use Rattle.iocm_answer.specs.Commands.Check.{accepted, all_told}
+use Rattle.iocm_answer.specs.Commands.Show.{showed_of}
+use Rattle.iocm_answer.specs.Commands.Write.{PrintAlike, PrintsTheSame, written, written_of}
 
 -- decks of one configuration
 alike : (one other : List ℕ) → configuration_in one ≡ configuration_in other → PrintAlike one other

@@ -12,7 +12,7 @@ use Rattle.iocm_console.specs.Opening.{configuration_in, opened, unless_breached
 use Rattle.iocm_console.specs.Refusal.{of_fault, or_refused, ◌>>-◌}
 use Rattle.iocm_console.specs.Shown.{Shown, refused, shown_or_refused}
 use Rattle.iocm_answer.specs.Answer.{breach_lines}
-use Rattle.iocm_answer.specs.Check.{BeginsAs, BeginsAsCheck, accepted, all_told, unless_any}
+use Rattle.iocm_answer.specs.Commands.Check.{BeginsAs, BeginsAsCheck, accepted, all_told, unless_any}
 
 same : (shown : Shown) → BeginsAs shown shown
 same shown = record { further = []; text = sym (append-nil shown.text); status = refl }

@@ -2,6 +2,7 @@ mod Again
 mod BeginsAs
 pub mod ChangesRead
 pub mod Opened
+pub mod Reading
 pub mod RunTexts
 pub mod SiftedRows
 pub mod Told

@@ -7,7 +7,7 @@ use Rattle.iocm_plant.specs.Refusing.{IsDue}
 use Rattle.iocm_activate.specs.Done.{refusal_in}
 use Rattle.iocm_console.specs.Refusal.{no_memory, of_change}
 use Rattle.iocm_console.specs.Shown.{refused}
-use Rattle.iocm_answer.specs.Apply.{made}
+use Rattle.iocm_answer.specs.Commands.Apply.{made}
 use Rattle.iocm_answer.specs.Asked.{Question}
 
 -- the refusal of a change that is due, or lack of memory

@@ -7,7 +7,7 @@ use Rattle.iocm_tree.specs.Trees.{CarriedTree}
 use Rattle.iocm_console.specs.Refusal.{or_refused}
 use Rattle.iocm_console.specs.Shown.{Shown}
 use Rattle.iocm_answer.specs.Change.{trees_in}
-use Rattle.iocm_answer.specs.Run.{calls_in, IsOfChanges, IsOfMachine, IsOfScript, IsRun}
+use Rattle.iocm_answer.specs.Commands.Run.{calls_in, IsOfChanges, IsOfMachine, IsOfScript, IsRun}
 
 was_read : {A : Type 0} (r : Result A Fault) (x : A) → or_refused r ≡ Ok x → r ≡ Ok x
 was_read (Ok y) x is = cc

@@ -13,7 +13,7 @@ use Rattle.iocm_filter.proofs.WantedLaws.{passes_wanted}
 use Rattle.iocm_model.specs.Machine.Configuration.{Configuration}
 use Rattle.iocm_reports.specs.Altered.{AreInOrder}
 use Rattle.iocm_seats.specs.declared.view_change.ViewChange.{ViewChange}
-use Rattle.iocm_answer.specs.Apply.{is_row_wanted, is_side_wanted}
+use Rattle.iocm_answer.specs.Commands.Apply.{is_row_wanted, is_side_wanted}
 use Rattle.iocm_answer.specs.Sides.{does_row_pass, does_side_pass}
 
 -- ---- order

@@ -1,12 +1,12 @@
 -- The steps of a loop that takes words in turn.
-use Rattle.std.proofs.Common.{◌≡◌, ◌∙◌, ℕ, ◌+◌, ◌<◌, ◌≤◌, List, ◌∷◌, ◌++◌, length, get_or, take, drop, sym, ap}
+use Rattle.std.proofs.Common.{◌≡◌, ◌∙◌, ℕ, ◌+◌, ◌<◌, ◌≤◌, List, ◌++◌, length, get_or, take, drop, sym, ap}
 use Rattle.std.proofs.lemmas.List.{append-nil, append_assoc, drop_all, drop_more, take_more}
 use Rattle.iocm_model.specs.Change.Edit.{Action}
 use Rattle.iocm_model.specs.Machine.Configuration.{Configuration}
 use Rattle.iocm_filter.specs.Wanted.{Wanted}
 use Rattle.iocm_filter.specs.declared.meant.PathWord.{PathWord}
 use Rattle.iocm_command.specs.declared.table.Varied.{Varied}
-use Rattle.iocm_answer.specs.Vary.{in_turn, word_actions}
+use Rattle.iocm_answer.specs.Commands.Vary.{in_turn, word_actions}
 
 module _ (to : Varied) (w : Wanted) (c : Configuration) (words : List PathWord) where
   -- what the words from a place on ask for, behind those before it

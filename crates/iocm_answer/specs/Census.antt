@@ -1,5 +1,5 @@
 -- How much a configuration has, and how it is said.
-use Rattle.std.specs.Prelude.{ℕ, Bool, true, false, ◌==◌, List, [], ◌++◌, codes, count_by, if◌then◌else◌}
+use Rattle.std.specs.Prelude.{ℕ, Bool, true, false, ◌==◌, List, ◌++◌, codes, count_by, if◌then◌else◌}
 use Rattle.std.specs.FinMap.{entries, len}
 use Rattle.std.specs.Fmt.{decimal}
 use Rattle.iocm_types.specs.declared.key.Key.{Key}

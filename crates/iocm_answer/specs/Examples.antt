@@ -5,7 +5,7 @@ use Rattle.iocm_model.specs.Machine.Configuration.{Configuration, configuration_
 use Rattle.iocm_filter.specs.RowExamples.{by_lpb, by_online, image_at, image_record, with_online}
 use Rattle.iocm_filter.specs.Wanted.{nothing}
 use Rattle.iocm_seats.specs.declared.view_change.ViewChange.{ViewChange}
-use Rattle.iocm_answer.specs.Apply.{is_row_wanted}
+use Rattle.iocm_answer.specs.Commands.Apply.{is_row_wanted}
 
 -- image 0.2 is LPB before, and LPX afterwards
 abbrev pub named_before : Configuration

@@ -6,7 +6,7 @@ ghost use Rattle.iocm_filter.specs.Wanted.{Wanted};
 ghost use Rattle.iocm_model.specs.Change.Edit as edit;
 ghost use Rattle.iocm_model.specs.Operation.State.{State};
 ghost use Rattle.iocm_reports.specs.Altered.{AreInOrder};
-ghost use Rattle.iocm_answer.specs.Apply.{altered_asked_for};
+ghost use Rattle.iocm_answer.specs.Commands.Apply.{altered_asked_for};
 
 use crate::sifting::wanted_rows;
 use iocm_filter::Sieve;

@@ -7,7 +7,7 @@ ghost use Rattle.iocm_model.specs.Laws.Trees.{KeepsTheRules};
 ghost use Rattle.iocm_model.specs.Operation.State.{State};
 ghost use Rattle.iocm_tree.specs.Trees.{plain_tree, tree_of};
 ghost use Rattle.iocm_answer.specs.Answer.{shown, Shows};
-ghost use Rattle.iocm_answer.specs.Apply as applying;
+ghost use Rattle.iocm_answer.specs.Commands.Apply as applying;
 ghost use Rattle.iocm_answer.specs.Making.{IsMadeBy};
 ghost use Rattle.iocm_console.specs.Shown.{done};
 

@@ -2,7 +2,7 @@ ghost use Rattle.std.specs.Prelude.{◌≡◌, IfOk};
 ghost use Rattle.iocm_console.specs.Opening.{configuration_in};
 ghost use Rattle.iocm_answer.specs.Answer.{Shows};
 ghost use Rattle.iocm_answer.specs.Census.{census_of};
-ghost use Rattle.iocm_answer.specs.Check as meaning;
+ghost use Rattle.iocm_answer.specs.Commands.Check as meaning;
 
 use crate::{Answer, Census};
 use iocm_breaches::all_breaches;

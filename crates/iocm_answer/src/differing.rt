@@ -1,7 +1,7 @@
 ghost use Rattle.std.specs.Prelude.{◌≡◌, IfOk, if◌then◌else◌, Some, None};
 ghost use Rattle.std.specs.Option.{option_map};
 ghost use Rattle.iocm_answer.specs.Answer.{Shows};
-ghost use Rattle.iocm_answer.specs.Diff as meaning;
+ghost use Rattle.iocm_answer.specs.Commands.Diff as meaning;
 
 use crate::{Answer, Difference};
 use iocm_command::Before;

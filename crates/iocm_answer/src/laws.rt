@@ -1,8 +1,8 @@
 //! What holds of the definitions themselves. Each law is the contract of a function that does
 //! nothing.
-ghost use Rattle.iocm_answer.specs.Check.{BeginsAsCheck};
+ghost use Rattle.iocm_answer.specs.Commands.Check.{BeginsAsCheck};
 ghost use Rattle.iocm_answer.specs.Examples.{AlteredAsWorked};
-ghost use Rattle.iocm_answer.specs.Write.{PrintsTheSame};
+ghost use Rattle.iocm_answer.specs.Commands.Write.{PrintsTheSame};
 
 /// What `write` writes of a deck that it doesn't refuse is read again: `check`, `show` and `write`
 /// print of it what they print of the deck. So the canonical deck is accepted, has the same records

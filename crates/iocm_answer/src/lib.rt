@@ -2,21 +2,23 @@
 //!
 //! A command is a function from the bytes of its texts to an `Answer`, or to the `Refusal` that says
 //! why there is none: `open_deck` of `iocm_console` or `open_machine` opens the first deck; then
-//! `check`, `show`, `write`, `diff`, `vary`, `apply` and `run` go on. `print` writes what they give, and is
-//! all that writes to standard output.
+//! `check`, `show`, `write`, `diff`, `vary`, `apply` and `run` go on. `begin` and `finish` do this for a
+//! command, whichever it is. `print` writes what they give, and is all that writes to standard
+//! output. `carry_out` is a whole command, from readers to a writer.
 //!
 //! The program above may rely on this: what is printed of an answer is exactly what the definition of
 //! the command says of the bytes, and only lack of memory (M1) may come instead, before the first
 //! byte is written.
 //!
-//! Begin with `specs/Answer.antt`, `answer.rt` and `printing.rt`. Then each command has a file in
-//! `specs/` and one here (`checking.rt`, ..); `change.rt` says in which heaps a change deck is read. What names no source
-//! is our own.
+//! Begin with `specs/Answer.antt`, `specs/Commands.antt`, `answering.rt` and `printing.rt`. Then each
+//! command has a file in `specs/Commands` and one here (`checking.rt`, ..); `change.rt` says in which
+//! heaps a change deck is read. What names no source is our own.
 #![tactic(auto)]
 
 mod altered;
 mod answer;
 mod answer_text;
+mod answering;
 mod applying;
 mod asked;
 mod census;
@@ -35,6 +37,7 @@ mod writing;
 
 pub use altered::Altered;
 pub use answer::{Answer, Difference, Ran};
+pub use answering::{Begun, begin, finish};
 pub use applying::{apply, open_machine};
 pub use asked::Asked;
 pub use census::Census;
@@ -52,7 +55,5 @@ pub use printing::print;
 pub use running::run;
 pub use showing::show;
 pub use varying::vary;
-pub use whole::{
-    Differed, apply_change, check_deck, diff_decks, run_script, show_deck, write_deck,
-};
+pub use whole::carry_out;
 pub use writing::write;

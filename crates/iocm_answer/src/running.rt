@@ -6,8 +6,8 @@ ghost use Rattle.iocm_model.specs.Operation.State.{opening_state};
 ghost use Rattle.iocm_script.specs.Scripts.{script_in, FitsQueue};
 ghost use Rattle.iocm_tree.specs.Trees.{tree_of};
 ghost use Rattle.iocm_answer.specs.Change.{trees_in};
-ghost use Rattle.iocm_answer.specs.Run as meaning;
-ghost use Rattle.iocm_answer.specs.Run.{new_core, ShowsOne};
+ghost use Rattle.iocm_answer.specs.Commands.Run as meaning;
+ghost use Rattle.iocm_answer.specs.Commands.Run.{new_core, ShowsOne};
 
 use crate::change::read_change;
 use crate::{Answer, Ran};

@@ -1,5 +1,5 @@
 ghost use Rattle.iocm_answer.specs.Answer.{Shows};
-ghost use Rattle.iocm_answer.specs.Show.{showed_of};
+ghost use Rattle.iocm_answer.specs.Commands.Show.{showed_of};
 
 use crate::Answer;
 use iocm_config::Config;

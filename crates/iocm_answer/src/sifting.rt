@@ -1,7 +1,7 @@
 ghost use Rattle.std.specs.Prelude.{◌≡◌, filter, IfOk};
 ghost use Rattle.iocm_filter.specs.Sieves.{IsSieveFor};
 ghost use Rattle.iocm_filter.specs.Wanted.{Wanted};
-ghost use Rattle.iocm_answer.specs.Apply.{is_row_wanted};
+ghost use Rattle.iocm_answer.specs.Commands.Apply.{is_row_wanted};
 ghost use Rattle.iocm_answer.specs.Sides as meaning;
 ghost use Rattle.iocm_model.specs.Machine.Configuration.{Configuration};
 ghost use Rattle.iocm_reports.specs.Altered.{AreInOrder};

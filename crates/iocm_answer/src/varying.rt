@@ -4,7 +4,7 @@ ghost use Rattle.iocm_model.specs.Machine.Configuration.{lookup_of};
 ghost use Rattle.iocm_record.specs.Meaning.{path_of};
 ghost use Rattle.iocm_difference_writer.specs.Runs.{actions_in};
 ghost use Rattle.iocm_answer.specs.Answer.{Shows};
-ghost use Rattle.iocm_answer.specs.Vary as meaning;
+ghost use Rattle.iocm_answer.specs.Commands.Vary as meaning;
 
 use crate::Answer;
 use iocm_command::Varied;

@@ -1,5 +1,5 @@
 ghost use Rattle.iocm_answer.specs.Answer.{Shows};
-ghost use Rattle.iocm_answer.specs.Write.{written_of};
+ghost use Rattle.iocm_answer.specs.Commands.Write.{written_of};
 
 use crate::Answer;
 use iocm_config::Config;

@@ -45,6 +45,23 @@ pub record Stated : Type 0 where
   pub command : Meant
   pub quiet : Bool
 
+-- the files that it has, the deck first
+abbrev pub files_of : Meant → List Text
+files_of (check deck breaches) = deck ∷ []
+files_of (show deck filters) = deck ∷ []
+files_of (write deck) = deck ∷ []
+files_of (diff old new before) = old ∷ new ∷ []
+files_of (vary deck to filters) = deck ∷ []
+files_of (apply deck change heap report filters) = deck ∷ change ∷ []
+files_of (run deck script changes heap) = deck ∷ script ∷ changes
+files_of (explain rules) = []
+
+-- what is asked for of a deck that nothing changes
+abbrev pub filters_of_deck : Meant → Option Wanted
+filters_of_deck (show deck filters) = Some filters
+filters_of_deck (vary deck to filters) = Some filters
+filters_of_deck _ = None
+
 -- ---- what the code's values ask for
 
 abbrev pub meant_of : Command → Meant

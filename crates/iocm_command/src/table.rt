@@ -1,8 +1,14 @@
 //! The table of the commands: what each takes, and what it asks for.
 
+ghost use Rattle.std.specs.Prelude.{◌≡◌, IfOk};
+ghost use Rattle.std.specs.Option.{option_map};
+ghost use Rattle.clap.specs.Walk.{texts};
+ghost use Rattle.iocm_command.specs.CommandLine.{files_of, filters_of_deck, meant_of};
+
 use crate::argument::{Argument, Form};
 use iocm_filter::Filters;
 use iocm_reports::Report;
+use std::alloc::{AllocError, Global};
 
 /// What a command line asks for: files by their names, and what else a command takes.
 #[derive(Drop)]
@@ -55,6 +61,45 @@ pub enum Command<'a> {
     Explain {
         rules: Vec<&'a str>,
     },
+}
+
+impl<'a> Command<'a> {
+    /// The names of the files that it reads, in the order of the command line: the deck first.
+    ///
+    /// `AllocError`: memory ran out.
+    pub fn files(&self, alloc: Global) -> Result<Vec<&'a str>, AllocError>
+        ensures { IfOk result (λ files. texts files.items ≡ files_of (meant_of self.now)) }
+    {
+        match self {
+            Command::Check { deck, .. }
+            | Command::Show { deck, .. }
+            | Command::Write { deck }
+            | Command::Vary { deck, .. } => Vec::from_slice(alloc, &[*deck]),
+            Command::Diff { old, new, .. } => Vec::from_slice(alloc, &[*old, *new]),
+            Command::Apply { deck, change, .. } => Vec::from_slice(alloc, &[*deck, *change]),
+            Command::Run {
+                deck,
+                script,
+                changes,
+                ..
+            } => {
+                let mut files = Vec::from_slice(alloc, &[*deck, *script])?;
+                files.extend_from_slice(changes)?;
+                Ok(files)
+            }
+            Command::Explain { .. } => Ok(Vec::new(alloc)),
+        }
+    }
+
+    /// What it asks for of its deck, if it has filters and changes nothing.
+    pub fn filters(&self) -> Option<&Filters>
+        ensures { option_map (λ filters. filters.now) result ≡ filters_of_deck (meant_of self.now) }
+    {
+        match self {
+            Command::Show { filters, .. } | Command::Vary { filters, .. } => Some(filters),
+            _ => None,
+        }
+    }
 }
 
 /// Which breaches of the rules are printed.

@@ -18,10 +18,10 @@ use Rattle.iocm_console.specs.Shown.{Shown, done}
 use Rattle.iocm_deck_writer.specs.Canonical.{canonical_deck}
 use Rattle.iocm_reports.specs.Deck.{deck_text}
 use Rattle.iocm_reports.specs.declared.report.Report.TheVariants.{Deck}
-use Rattle.iocm_answer.specs.Apply.{applied, made}
+use Rattle.iocm_answer.specs.Commands.Apply.{applied, made}
 use Rattle.iocm_answer.specs.Asked.{Question}
-use Rattle.iocm_answer.specs.Diff.{old_if_shown, text_between}
-use Rattle.iocm_answer.specs.Write.{written_of}
+use Rattle.iocm_answer.specs.Commands.Diff.{old_if_shown, text_between}
+use Rattle.iocm_answer.specs.Commands.Write.{written_of}
 use Rattle.iocm_difference_laws.specs.Again.{IsConfigurationOfDeck}
 use Rattle.iocm_difference_laws.specs.Meaning.{first_over_limit, outcome_between, unless_over_limit}
 use Rattle.iocm_difference_laws.specs.Opened.{performed_between}

@@ -10,9 +10,9 @@ use Rattle.iocm_filter.specs.Wanted.{Wanted}
 use Rattle.iocm_difference.specs.Difference.{difference}
 use Rattle.iocm_command.specs.declared.table.Before.{Before}
 use Rattle.iocm_reports.specs.declared.report.Report.TheVariants.{Deck}
-use Rattle.iocm_answer.specs.Apply.{applied}
-use Rattle.iocm_answer.specs.Diff.{count_between, differed}
-use Rattle.iocm_answer.specs.Write.{written}
+use Rattle.iocm_answer.specs.Commands.Apply.{applied}
+use Rattle.iocm_answer.specs.Commands.Diff.{count_between, differed}
+use Rattle.iocm_answer.specs.Commands.Write.{written}
 use Rattle.iocm_difference_laws.specs.Meaning.{outcome_between, unless_over_limit}
 use Rattle.iocm_difference_laws.specs.Opened.{performed_between}
 use Rattle.iocm_difference_laws.proofs.Least.{names_none_with_room}

@@ -10,11 +10,11 @@ use Rattle.iocm_console.specs.declared.status.Status.TheVariants.{Done}
 use Rattle.iocm_console.specs.Opening.{opened_deck}
 use Rattle.iocm_console.specs.Refusal.{or_refused, ◌>>-◌}
 use Rattle.iocm_console.specs.Shown.{Shown, done, shown_or_refused}
-use Rattle.iocm_answer.specs.Apply.{applied, made, tried}
+use Rattle.iocm_answer.specs.Commands.Apply.{applied, made, tried}
 use Rattle.iocm_answer.specs.Asked.{Question}
-use Rattle.iocm_answer.specs.Check.{accepted, checked}
-use Rattle.iocm_answer.specs.Diff.{differed_from, text_between}
-use Rattle.iocm_answer.specs.Write.{written, written_of}
+use Rattle.iocm_answer.specs.Commands.Check.{accepted, checked}
+use Rattle.iocm_answer.specs.Commands.Diff.{differed_from, text_between}
+use Rattle.iocm_answer.specs.Commands.Write.{written, written_of}
 use Rattle.iocm_difference_laws.specs.Accepted.{CheckAcceptsThem, IsAcceptedDeck}
 use Rattle.iocm_difference_laws.specs.Loop.{DiffPrintsTheDifference}
 

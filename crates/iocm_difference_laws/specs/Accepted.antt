@@ -3,7 +3,7 @@ use Rattle.std.specs.Prelude.{◌≡◌, ◌↔◌, ℕ, List, Ok}
 use Rattle.iocm_model.specs.Machine.Configuration.{Configuration}
 use Rattle.iocm_console.specs.declared.status.Status.TheVariants.{Done}
 use Rattle.iocm_console.specs.Opening.{opened_deck}
-use Rattle.iocm_answer.specs.Check.{checked}
+use Rattle.iocm_answer.specs.Commands.Check.{checked}
 use Rattle.iocm_difference_laws.specs.Again.{IsConfigurationOfDeck}
 
 -- bytes that are opened as this configuration

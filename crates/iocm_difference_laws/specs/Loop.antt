@@ -8,9 +8,9 @@ use Rattle.iocm_command.specs.declared.table.Before.{Before}
 use Rattle.iocm_console.specs.Refusal.{of_change}
 use Rattle.iocm_console.specs.Shown.{Shown, done, refused}
 use Rattle.iocm_reports.specs.declared.report.Report.TheVariants.{Deck}
-use Rattle.iocm_answer.specs.Apply.{applied}
-use Rattle.iocm_answer.specs.Diff.{count_between, differed, text_between}
-use Rattle.iocm_answer.specs.Write.{written}
+use Rattle.iocm_answer.specs.Commands.Apply.{applied}
+use Rattle.iocm_answer.specs.Commands.Diff.{count_between, differed, text_between}
+use Rattle.iocm_answer.specs.Commands.Write.{written}
 use Rattle.iocm_difference_laws.specs.Meaning.{outcome_between}
 use Rattle.iocm_difference_laws.specs.Accepted.{IsAcceptedDeck}
 

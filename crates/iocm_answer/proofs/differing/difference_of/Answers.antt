@@ -5,7 +5,7 @@ use Rattle.iocm_tree.specs.Carried.{bare}
 use Rattle.iocm_difference.specs.Difference.{difference}
 use Rattle.iocm_difference_writer.specs.Runs.{actions_in}
 use Rattle.iocm_difference_writer.specs.Text.{difference_text}
-use Rattle.iocm_answer.specs.Diff as meaning
+use Rattle.iocm_answer.specs.Commands.Diff as meaning
 use Rattle.iocm_answer.proofs.differing.difference_of.Goals as goal
 
 their_actions : (actions : List Action) → actions_in (map bare actions) ≡ actions

@@ -5,7 +5,7 @@ use Rattle.iocm_model.specs.Operation.State.{State}
 use Rattle.iocm_script.specs.Scripts.{script_in}
 use Rattle.iocm_tree.specs.Trees.{tree_of}
 use Rattle.iocm_answer.specs.Answer.{printed}
-use Rattle.iocm_answer.specs.Run.{IsRun, ShowsOne}
+use Rattle.iocm_answer.specs.Commands.Run.{IsRun, ShowsOne}
 use Rattle.iocm_answer.proofs.RunTexts.{is_of_machine}
 use Rattle.iocm_answer.proofs.running.run.Goals as goal
 

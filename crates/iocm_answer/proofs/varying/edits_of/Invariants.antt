@@ -1,7 +1,7 @@
 -- What the words so far ask for, and what those to come do, is what all ask for.
 use Rattle.std.proofs.Common.{◌≡◌, ◌++◌}
 use Rattle.iocm_difference_writer.specs.Runs.{actions_in}
-use Rattle.iocm_answer.specs.Vary.{varied_actions}
+use Rattle.iocm_answer.specs.Commands.Vary.{varied_actions}
 use Rattle.iocm_answer.proofs.Turns.{from_place}
 use Rattle.iocm_answer.proofs.varying.edits_of.Given as goal
 

@@ -4,7 +4,7 @@ use Rattle.iocm_model.specs.Change.Edit.{Action}
 use Rattle.iocm_record.specs.Meaning.{path_of}
 use Rattle.iocm_difference_writer.specs.Runs.{actions_in}
 use Rattle.iocm_reports.proofs.Printed.{text_more}
-use Rattle.iocm_answer.specs.Vary.{pair_actions}
+use Rattle.iocm_answer.specs.Commands.Vary.{pair_actions}
 use Rattle.iocm_answer.proofs.varying.put_path.Goals as goal
 
 pub loop-name-preserved : goal.loop-name-preserved

@@ -3,7 +3,7 @@ use Rattle.std.proofs.Common.{◌≡◌, ◌++◌, take}
 use Rattle.std.specs.List.{flat_map}
 use Rattle.iocm_record.specs.Meaning.{path_of}
 use Rattle.iocm_difference_writer.specs.Runs.{actions_in}
-use Rattle.iocm_answer.specs.Vary.{pair_actions}
+use Rattle.iocm_answer.specs.Commands.Vary.{pair_actions}
 use Rattle.iocm_answer.proofs.varying.put_path.Given as goal
 
 abbrev pub invariant-loop-name : goal.invariant-loop-name

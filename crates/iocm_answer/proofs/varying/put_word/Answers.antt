@@ -3,7 +3,7 @@ use Rattle.std.proofs.lemmas.List.{append-nil}
 use Rattle.std.proofs.lemmas.Map.Iter.{rest_more, rest_all}
 use Rattle.std.specs.List.{flat_map}
 use Rattle.iocm_difference_writer.specs.Runs.{actions_in}
-use Rattle.iocm_answer.specs.Vary.{record_actions}
+use Rattle.iocm_answer.specs.Commands.Vary.{record_actions}
 use Rattle.iocm_answer.proofs.varying.put_word.Goals as goal
 
 pub loop-entry-init : goal.loop-entry-init

@@ -2,7 +2,7 @@
 use Rattle.std.proofs.Common.{◌≡◌, ◌++◌}
 use Rattle.std.specs.List.{flat_map}
 use Rattle.iocm_difference_writer.specs.Runs.{actions_in}
-use Rattle.iocm_answer.specs.Vary.{record_actions, word_actions}
+use Rattle.iocm_answer.specs.Commands.Vary.{record_actions, word_actions}
 use Rattle.iocm_answer.proofs.varying.put_word.Given as goal
 
 abbrev pub invariant-loop-entry : goal.invariant-loop-entry

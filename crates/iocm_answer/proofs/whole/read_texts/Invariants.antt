@@ -1,16 +1,8 @@
--- The texts so far were read.
-use Rattle.std.proofs.Common.{◌≤◌, ℕ, List, ◌++◌, length, map}
-use Rattle.std.specs.List.{All}
-use Rattle.iocm_answer.specs.Whole.{AreTextsOf, IsReady}
+-- The devices so far were read to their ends, and those after them are as they were.
+use Rattle.std.proofs.Common.{map}
+use Rattle.iocm_answer.proofs.Reading.{AreReadTo}
 use Rattle.iocm_answer.proofs.whole.read_texts.Given as goal
 
-abbrev pub invariant-loop-device : goal.invariant-loop-device
-invariant-loop-device g l = record {
-  so_far : (rest : List (List ℕ)) → AreTextsOf g.C.Read.remaining l.devices.items rest
-      → AreTextsOf g.C.Read.remaining l.initial.devices.items (map (λ t. t.items) l.texts.items ++ rest);
-  fewer : length l.devices.items ≤ length l.initial.devices.items;
-  ready : All (λ d. IsReady l.limit d) l.devices.items;
-}
-
-abbrev pub decreases-loop-device : goal.decreases-loop-device
-decreases-loop-device g l = length l.devices.items
+abbrev pub invariant-loop-place : goal.invariant-loop-place
+invariant-loop-place g l =
+    AreReadTo g.R.Read.remaining l.limit l.place l.initial.devices l.devices (map (λ t. t.items) l.texts.items)

@@ -6,8 +6,8 @@ use Rattle.iocm_model.specs.Machine.Configuration.{Configuration}
 use Rattle.iocm_console.specs.declared.status.Status.TheVariants.{Done}
 use Rattle.iocm_console.specs.Opening.{opened_deck}
 use Rattle.iocm_console.specs.Shown.{Shown, done, shown_or_refused}
-use Rattle.iocm_answer.specs.Check.{all_checked, checked}
-use Rattle.iocm_answer.specs.Show.{showed}
+use Rattle.iocm_answer.specs.Commands.Check.{all_checked, checked}
+use Rattle.iocm_answer.specs.Commands.Show.{showed}
 
 -- the canonical deck of a configuration
 abbrev pub written_of : Configuration → Shown

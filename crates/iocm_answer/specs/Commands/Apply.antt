@@ -1,5 +1,5 @@
 -- What `apply` prints of a deck and a change deck.
-use Rattle.std.specs.Prelude.{ℕ, Bool, false, ◌||◌, List, ◌++◌, filter, Option, Some, Result, Ok, Err}
+use Rattle.std.specs.Prelude.{ℕ, Bool, false, ◌||◌, List, ◌++◌, filter, Option, Result, Ok, Err}
 use Rattle.std.specs.FinMap.{len}
 use Rattle.std.specs.Option.{option_map_or}
 use Rattle.iocm_types.specs.declared.sub_id.SubId.{SubId}

@@ -1,0 +1,89 @@
+-- The commands: what each prints of the bytes of a deck, and of the texts after it.
+use Rattle.std.specs.Prelude.{◌≡◌, ⊤, ℕ, List, [], ◌∷◌, Option, None, Some, Ok}
+use Rattle.iocm_model.specs.Laws.Trees.{KeepsTheRules}
+use Rattle.iocm_model.specs.Machine.Configuration.{Configuration}
+use Rattle.iocm_model.specs.Operation.State.{opening_state}
+use Rattle.iocm_command.specs.declared.table.Breaches.TheVariants.{First, All}
+use Rattle.iocm_command.specs.declared.table.Command.{Command}
+use Rattle.iocm_command.specs.declared.table.Command.TheVariants as command
+use Rattle.iocm_console.specs.Opening.{configuration_in, opened_deck}
+use Rattle.iocm_console.specs.Shown.{Shown, shown_or_refused}
+use Rattle.iocm_answer.specs.Census.{census_of}
+use Rattle.iocm_answer.specs.declared.answer.Answer.{Answer}
+use Rattle.iocm_answer.specs.declared.answer.Answer.TheVariants as answer
+use Rattle.iocm_answer.specs.declared.answering.Begun.{Begun}
+use Rattle.iocm_answer.specs.declared.answering.Begun.TheVariants as begun
+use Rattle.iocm_answer.specs.Commands.Apply.{applied, opened_machine}
+use Rattle.iocm_answer.specs.Commands.Check.{checked_by, IsAllChecked}
+use Rattle.iocm_answer.specs.Commands.Diff.{differed, HasEdits}
+use Rattle.iocm_answer.specs.Commands.Run.{IsOfTexts}
+use Rattle.iocm_answer.specs.Commands.Show.{showed}
+use Rattle.iocm_answer.specs.Commands.Vary.{varied_of}
+use Rattle.iocm_answer.specs.Commands.Write.{written}
+pub mod Apply
+pub mod Check
+pub mod Diff
+pub mod Run
+pub mod Show
+pub mod Vary
+pub mod Write
+
+-- the first of the texts after a deck, and those after it; a text that isn't there is empty
+abbrev pub first_text : List (List ℕ) → List ℕ
+first_text [] = []
+first_text (text ∷ texts) = text
+
+abbrev pub later_texts : List (List ℕ) → List (List ℕ)
+later_texts [] = []
+later_texts (text ∷ texts) = texts
+
+-- by a command this is printed of the bytes of a deck, and of the texts after it
+abbrev pub IsMeant : Command → List ℕ → List (List ℕ) → Shown → Type 0
+IsMeant (command.Check name breaches) deck others shown = shown ≡ checked_by breaches deck
+IsMeant (command.Show name filters) deck others shown = shown ≡ showed filters deck
+IsMeant (command.Write name) deck others shown = shown ≡ written deck
+IsMeant (command.Diff old new before) deck others shown = shown ≡ differed before deck (first_text others)
+IsMeant (command.Vary name to filters) deck others shown = shown ≡ shown_or_refused (varied_of to filters) (opened_deck deck)
+IsMeant (command.Apply name change heap report filters) deck others shown =
+    shown ≡ applied (record { report = report; wanted = filters }) deck (first_text others)
+IsMeant (command.Run name script changes heap) deck others shown =
+    IsOfTexts deck (later_texts others) (first_text others) shown
+IsMeant (command.Explain rules) deck others shown = ⊥
+
+-- what an answer tells beside what is printed: how much a deck has, and how many edits a difference has
+abbrev pub Counts : Command → List ℕ → List (List ℕ) → Answer → Type 0
+Counts (command.Check name First) deck others a =
+    (c : Configuration) → opened_deck deck ≡ Ok c → a ≡ answer.Accepted (census_of c)
+Counts (command.Check name All) deck others a = IsAllChecked (configuration_in deck) a
+Counts (command.Diff old new before) deck others a =
+    (c : Configuration) → opened_deck deck ≡ Ok c → HasEdits c (first_text others) a
+Counts _ deck others a = ⊤
+
+-- a command has a deck
+abbrev pub HasDeck : Command → Type 0
+HasDeck (command.Explain rules) = ⊥
+HasDeck _ = ⊤
+
+-- what the bytes of a deck open to: its configuration, its machine, or the bytes
+abbrev pub OpensTo : List ℕ → Begun → Type 0
+OpensTo deck (begun.Deck config) = opened_deck deck ≡ Ok config.records
+OpensTo deck (begun.Machine plant) = opened_machine deck ≡ Ok plant.state
+OpensTo deck (begun.Text text) = text.now ≡ deck
+
+-- the configuration, where that is it
+abbrev pub configuration_of : Begun → Option Configuration
+configuration_of (begun.Deck config) = Some config.records
+configuration_of _ = None
+
+-- a command goes on from this: a script from a machine that was just opened
+abbrev pub GoesOnFrom : Command → Begun → Type 0
+GoesOnFrom (command.Check name First) (begun.Deck config) = ⊤
+GoesOnFrom (command.Check name All) (begun.Text text) = ⊤
+GoesOnFrom (command.Show name filters) (begun.Deck config) = ⊤
+GoesOnFrom (command.Write name) (begun.Deck config) = ⊤
+GoesOnFrom (command.Diff old new before) (begun.Deck config) = ⊤
+GoesOnFrom (command.Vary name to filters) (begun.Deck config) = ⊤
+GoesOnFrom (command.Apply name change heap report filters) (begun.Machine plant) = KeepsTheRules plant.state
+GoesOnFrom (command.Run name script changes heap) (begun.Machine plant) =
+    KeepsTheRules plant.state × (plant.state ≡ opening_state plant.state.config)
+GoesOnFrom _ _ = ⊥
