@@ -70,8 +70,13 @@ fn are_alike<A: Allocator>(a: &DeviceFields<A>, b: &DeviceFields<A>) -> bool
         && same_operands(a.lists.carried(), b.lists.carried())
 }
 
-// Whether a device is the next of a run of so many.
-fn continues<A: Allocator>(first: &DeviceFields<A>, count: usize, device: &DeviceFields<A>) -> bool
+/// Whether a device is the next of a run of so many: its number and its unit address follow, and all
+/// else is as the first has it.
+pub fn continues<A: Allocator>(
+    first: &DeviceFields<A>,
+    count: usize,
+    device: &DeviceFields<A>,
+) -> bool
     requires { count < 2 ^ 63 }
     ensures { result ≡ meaning.continues (record { first = fields.device_of first.now; count = count })
         (fields.device_of device.now) }

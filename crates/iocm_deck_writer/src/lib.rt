@@ -24,6 +24,7 @@ mod unit;
 mod writing;
 
 pub use deck::canonical_deck;
+pub use device::continues;
 pub use laws::{operands_are_read_again, operands_are_written_again};
 pub use statement::CanonicalStatement;
 pub use statements::to_statements;

@@ -57,6 +57,27 @@ impl Filters {
         self.images.as_slice()
     }
 
+    /// The devices that are asked for.
+    pub fn devices(&self) -> &[DeviceRange]
+        ensures { result.now ≡ self.now.devices }
+    {
+        self.devices.as_slice()
+    }
+
+    /// The control units that are asked for.
+    pub fn units(&self) -> &[UnitNo]
+        ensures { result.now ≡ self.now.units }
+    {
+        self.units.as_slice()
+    }
+
+    /// How many paths are online at most, as it is asked for.
+    pub fn online(&self) -> &[u8]
+        ensures { result.now ≡ self.now.online }
+    {
+        self.online.as_slice()
+    }
+
     /// The paths that are asked for.
     pub fn paths(&self) -> &[PathWord]
         ensures { result.now ≡ self.now.paths }
@@ -84,7 +105,7 @@ impl Filters {
     }
 
     /// Whether a device is one of those that are asked for, or none is.
-    pub(crate) fn wants_number(&self, set: SetNo, number: DevNo) -> bool
+    pub fn wants_number(&self, set: SetNo, number: DevNo) -> bool
         ensures { result ≡ meaning.one_if_asked (meaning.is_within set number) self.now.devices }
     {
         self.devices.is_empty() || is_in_any(self.devices.as_slice(), set, number)
@@ -104,7 +125,8 @@ impl Filters {
         self.paths.is_empty() || has_any_path(self.paths.as_slice(), css, view)
     }
 
-    fn wants_online(&self, view: &View) -> bool
+    /// Whether a view has at most as many paths online as is asked for, or nothing is.
+    pub fn wants_online(&self, view: &View) -> bool
         ensures { result ≡ meaning.one_if_asked (meaning.has_at_most view.now) self.now.online }
     {
         self.online.is_empty() || has_at_most_any(self.online.as_slice(), view)
@@ -117,7 +139,8 @@ fn has_place(words: &[ImageWord], image: Image) -> bool
     words.iter().any(|word| is_at(word, image))
 }
 
-pub(crate) fn is_at(word: &ImageWord, image: Image) -> bool
+/// Whether a word asks for the image at a place, by the place.
+pub fn is_at(word: &ImageWord, image: Image) -> bool
     ensures { result ≡ meaning.is_at image word.now }
 {
     matches!(word, ImageWord::Place(at) if at.css == image.css && at.mif == image.mif)
@@ -130,7 +153,8 @@ fn has_name(words: &[ImageWord], name: Name) -> bool
     words.iter().any(|word| is_named(word, name))
 }
 
-pub(crate) fn is_named(word: &ImageWord, own: Name) -> bool
+/// Whether a word asks for an image of this name, by the name.
+pub fn is_named(word: &ImageWord, own: Name) -> bool
     ensures { result ≡ meaning.is_named own word.now }
 {
     matches!(word, ImageWord::Named(name) if *name == own)
@@ -149,7 +173,8 @@ fn is_in_any(ranges: &[DeviceRange], set: SetNo, number: DevNo) -> bool
     ranges.iter().any(|range| is_within(range, set, number))
 }
 
-pub(crate) fn is_within(range: &DeviceRange, set: SetNo, number: DevNo) -> bool
+/// Whether a range has a device of a subchannel set.
+pub fn is_within(range: &DeviceRange, set: SetNo, number: DevNo) -> bool
     ensures { result ≡ meaning.is_within set number range.now }
 {
     set == range.set

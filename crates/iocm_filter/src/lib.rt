@@ -27,7 +27,7 @@ mod reading;
 mod sieve;
 mod words;
 
-pub use filters::{Filters, means_path};
+pub use filters::{Filters, is_at, is_named, is_within, means_path};
 pub use laws::{nothing_asked_for_is_all, rows_are_wanted_as_worked, words_are_read};
 pub use meant::{DeviceRange, ImageWord, PathWord};
 pub use misread::{FilterOption, Misread};

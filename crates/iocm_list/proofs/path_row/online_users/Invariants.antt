@@ -1,0 +1,9 @@
+-- The names so far.
+use Rattle.std.proofs.Common.{◌≡◌, filter, take}
+use Rattle.iocm_record.specs.Meaning.{path_of}
+use Rattle.iocm_list.specs.PathRows.{has_online}
+use Rattle.iocm_list.proofs.path_row.online_users.Given as goal
+
+abbrev pub invariant-loop-name : goal.invariant-loop-name
+invariant-loop-name l = l.names.items
+    ≡ filter (has_online l.config.records (path_of l.path)) (take l.name-index l.users)

@@ -1,0 +1,33 @@
+-- Before the first record all are left; and one record more.
+use Rattle.std.proofs.Common.{◌∷◌, ◌++◌, [], List, filter, map, ap, ◌∙◌}
+use Rattle.std.proofs.lemmas.Map.Iter.{rest_more}
+use Rattle.iocm_model.specs.Machine.Record.{UnitRecord}
+use Rattle.iocm_model.specs.Machine.Configuration.{records_of}
+use Rattle.iocm_list.specs.declared.unit_row.UnitRow.{UnitRow}
+use Rattle.iocm_list.specs.Connected.{as_unit}
+use Rattle.iocm_list.specs.UnitRows.{is_unit_wanted, unit_row, unit_rows, rows_among}
+use Rattle.iocm_list.proofs.Keeping.{next_row, units_of_kind}
+use Rattle.iocm_list.proofs.unit_row.unit_rows.Goals as goal
+
+pub loop-entry-init : goal.loop-entry-init
+loop-entry-init c =
+    let w = c.args.filters.now in
+    let records = c.args.config.now.records in
+    ap (λ (l : List UnitRow). l ++ rows_among w records c.into_iter-entry-iterator.result) c.new-rows.ensures.items
+    ∙ ap (rows_among w records) (c.into_iter-entry-iterator.ensures.into_iter_gives
+    ∙ c.records_of_kind-entry-items.ensures.records)
+    ∙ ap (λ (xs : List UnitRecord). map (unit_row records) (filter (is_unit_wanted w records) xs))
+    (units_of_kind (records_of records))
+
+pub loop-entry-preserved : goal.loop-entry-preserved
+loop-entry-preserved c =
+    let w = c.args.filters.now in
+    let records = c.args.config.now.records in
+    let front = c.loop-entry.rows.items in
+    next_row as_unit (is_unit_wanted w records) (unit_row records) front c.put_record.new.rows.items
+    c.in-Some.entry.now c.next.new.self c.loop-entry.entry-iterator (unit_rows w records)
+    (c.in_ok-put_record.ensures
+    ∙ (λ i. front ++ rows_among (c.in_ok-listing.ensures.filters i) (c.in_ok-listing.ensures.records i)
+    (c.in-Some.entry.now ∷ [])))
+    (rest_more _ _ _ _ c.in-Some.entry c.in-Some.is c.next.ensures.steps)
+    c.loop-entry.invariant

@@ -1,0 +1,8 @@
+-- The cells of the rows so far.
+use Rattle.std.proofs.Common.{◌≡◌, map, take}
+use Rattle.iocm_words.specs.Table.{rows_of}
+use Rattle.iocm_list.specs.Cells.{unit_cells}
+use Rattle.iocm_list.proofs.unit_words.cells_of_all.Given as goal
+
+abbrev pub invariant-loop-row : goal.invariant-loop-row
+invariant-loop-row l = rows_of l.cells.items ≡ map unit_cells (take l.row-index l.rows)

@@ -1,0 +1,9 @@
+pub mod Again
+pub mod CellWords
+pub mod Examples
+pub mod Groups
+pub mod Images
+pub mod Paths
+pub mod Ranges
+pub mod Table
+pub mod Words
