@@ -1,7 +1,7 @@
 # bash completion for iocm: commands, the options of each, numbers of refusals, and files where one more is due
 _iocm() {
     local word=${COMP_WORDS[COMP_CWORD]} before=${COMP_WORDS[COMP_CWORD - 1]}
-    local commands="check show write diff vary apply run explain help"
+    local commands="check show list write diff vary apply run explain help"
     local filters="--image --device --unit --path --paths-online"
     local reports="--altered --count --deck --test --undo"
     local command="" files=0 most=1 options="--help" place is_value=""
@@ -27,6 +27,10 @@ _iocm() {
         "") options="$commands --help --version" ;;
         check) options+=" --quiet --all" ;;
         show) options+=" --quiet $filters" ;;
+        list)
+            options+=" --quiet $filters" most=2
+            ((files == 0)) && options="images paths units devices" most=0
+            ;;
         write) options+=" --quiet" ;;
         diff) options+=" --quiet --old" most=2 ;;
         vary)

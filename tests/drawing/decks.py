@@ -1,11 +1,13 @@
 """What is right of one deck: what `check`, `show`, `write` and the other commands answer to it."""
 from .canonical import written
 from .filters import try_filter
+from .listed import try_list
+from .listed_devices import try_list_of_devices
 from .places import all_places, place_in_deck, said_places, with_first
 from .readings import read_deck, records_of
 from .varied import try_vary
 
-OTHERS = ("show", "write", "vary", "apply", "run", "diff", "diff new", "check --all")
+OTHERS = ("show", "list", "write", "vary", "apply", "run", "diff", "diff new", "check --all")
 EMPTY = b""
 
 
@@ -60,6 +62,8 @@ def run_on_deck(case, command):
     """A command that has to read the deck first."""
     if command in ("show", "write"):
         return case.run(command, "deck")
+    if command == "list":
+        return case.run("list", case.dice.choice(("images", "paths", "units", "devices")), "deck")
     if command == "vary":
         return case.run("vary", "deck", "offline", "50")
     case.put("other", EMPTY)
@@ -85,6 +89,10 @@ def try_accepted(case, check, deck, machine):
         try_all(case, check, deck)
     if case.dice.random() < 0.4:
         try_vary(case, deck.state.records)
+    if case.dice.random() < 0.3:
+        try_list(case, deck.state.records)
+    if case.dice.random() < 0.3:
+        try_list_of_devices(case, deck.state)
     if case.dice.random() < 0.4:
         try_filter(case, ("show", "deck"), table[:1], table[1:], deck.state.records)
 

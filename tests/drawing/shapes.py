@@ -20,7 +20,7 @@ REFUSED = {
     "apply": rf"refused (?:{OF_TEXT}|{OF_DECK}|{OF_NODE}|{OF_EDIT}|M1)",
     "run": rf"refused (?:{OF_TEXT}|{OF_DECK}|M1)",
 }
-REFUSED |= {command: REFUSED["check"] for command in ("show", "write", "diff", "vary")}
+REFUSED |= {command: REFUSED["check"] for command in ("show", "list", "write", "diff", "vary")}
 REFUSED = {command: re.compile(text + "\n") for command, text in REFUSED.items()}
 # answers of operators: a change of the script is refused by its node, an undo by a change or a subchannel
 OF_CALL = rf"refused (?:{OF_NODE}|{OF_EDIT}|B1(?:{NODE})? subchannel {SUBCHANNEL}|J[13]|J2 change \d+|O[12]|M1)"
@@ -43,6 +43,7 @@ HEAD = r"change 1 altered \d+\n"
 DONE = {
     "check": r"accepted \d+\n",
     "show": TABLE,
+    "list": r"(?:IMAGE|CHPID|CU|DEVICE)  [ -~]*\n(?:[0-9A-F][ -~]*[^ ]\n)*",
     "write": rf"(?:{DECK_LINE})*",
     "diff": rf"(?:{CHANGE_LINE})*",
     "diff --old": rf"(?:{CHANGE_LINE}|\*[ -~]*\n)*",
@@ -66,6 +67,7 @@ BESIDE = {
     "check": r".*: \d+ images?, \d+ paths?, \d+ control units?, \d+ devices?\n",
     "diff": r"(no|\d+) edits?\b.*\n",
     "show": r"(note: there is no .*\n)*",
+    "list": r"(note: there is no .*\n)*",
     "vary": r"(note: there is no .*\n)*",
 }
 

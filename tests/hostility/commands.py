@@ -34,6 +34,8 @@ def short_words():
     yield ["write", "grown.deck"]
     yield ["diff", "base.deck", "grown.deck"]
     yield ["diff", "base.deck", "grown.deck", "--old"]
+    for kind in ("images", "paths", "units", "devices"):
+        yield ["list", kind, "base.deck"]
     yield ["vary", "base.deck", "offline", "50", "51"]
     yield ["explain", "V14"]
     yield ["explain"]
@@ -61,6 +63,7 @@ def of_examples():
     words += [["diff", *old, "base.deck", deck] for old in ([], ["--old"]) for deck in decks]
     reports = [[], *([it] for it in REPORTS)]
     words += [["apply", "base.deck", change, *report] for change in changes for report in reports]
+    words += [["list", kind, deck] for kind in ("images", "paths", "units", "devices") for deck in decks]
     words += [["vary", deck, state, "50", "51"] for state in ("offline", "online") for deck in decks]
     words += [["explain"], ["explain", "V14"], ["--help"], ["--version"], ["check", "--help"], ["check"]]
     return [Command(tuple(it), EXAMPLES) for it in words] + scripts()

@@ -65,8 +65,9 @@ fn answer_files<'a, R: Files + Input + Print + Eprint + AllocGlobal + Threads + 
 ) -> Result<Ended, Failure<'a>>
     requires { HasDeck call.now.command.now }
 {
+    // A command that has a deck has a file.
     let Some((name, names)) = call.files.split_first() else {
-        return Err(Failure::Memory);
+        return Err(Failure::Unread(""));
     };
     let file = open_text(rt, *name)?;
     let files = open_texts(rt, names)?;

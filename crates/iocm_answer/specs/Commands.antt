@@ -16,6 +16,7 @@ use Rattle.iocm_answer.specs.declared.answering.Begun.TheVariants as begun
 use Rattle.iocm_answer.specs.Commands.Apply.{applied, opened_machine}
 use Rattle.iocm_answer.specs.Commands.Check.{checked_by, IsAllChecked}
 use Rattle.iocm_answer.specs.Commands.Diff.{differed, HasEdits}
+use Rattle.iocm_answer.specs.Commands.Listing.{listed_of}
 use Rattle.iocm_answer.specs.Commands.Run.{IsOfTexts}
 use Rattle.iocm_answer.specs.Commands.Show.{showed}
 use Rattle.iocm_answer.specs.Commands.Vary.{varied_of}
@@ -23,6 +24,7 @@ use Rattle.iocm_answer.specs.Commands.Write.{written}
 pub mod Apply
 pub mod Check
 pub mod Diff
+pub mod Listing
 pub mod Run
 pub mod Show
 pub mod Vary
@@ -41,6 +43,8 @@ later_texts (text ∷ texts) = texts
 abbrev pub IsMeant : Command → List ℕ → List (List ℕ) → Shown → Type 0
 IsMeant (command.Check name breaches) deck others shown = shown ≡ checked_by breaches deck
 IsMeant (command.Show name filters) deck others shown = shown ≡ showed filters deck
+IsMeant (command.List listed name filters) deck others shown =
+    shown ≡ shown_or_refused (listed_of listed filters) (opened_deck deck)
 IsMeant (command.Write name) deck others shown = shown ≡ written deck
 IsMeant (command.Diff old new before) deck others shown = shown ≡ differed before deck (first_text others)
 IsMeant (command.Vary name to filters) deck others shown = shown ≡ shown_or_refused (varied_of to filters) (opened_deck deck)
@@ -80,6 +84,7 @@ abbrev pub GoesOnFrom : Command → Begun → Type 0
 GoesOnFrom (command.Check name First) (begun.Deck config) = ⊤
 GoesOnFrom (command.Check name All) (begun.Text text) = ⊤
 GoesOnFrom (command.Show name filters) (begun.Deck config) = ⊤
+GoesOnFrom (command.List listed name filters) (begun.Deck config) = ⊤
 GoesOnFrom (command.Write name) (begun.Deck config) = ⊤
 GoesOnFrom (command.Diff old new before) (begun.Deck config) = ⊤
 GoesOnFrom (command.Vary name to filters) (begun.Deck config) = ⊤

@@ -8,7 +8,9 @@ ghost use Rattle.iocm_answer.specs.Commands as meaning;
 ghost use Rattle.iocm_answer.specs.Commands.{Counts, GoesOnFrom, HasDeck, IsMeant, OpensTo};
 ghost use Rattle.iocm_answer.specs.Commands.Run.{ShowsOne};
 
-use crate::{Answer, Asked, apply, check, check_all, diff, open_machine, run, show, vary, write};
+use crate::{
+    Answer, Asked, apply, check, check_all, diff, list, open_machine, run, show, vary, write,
+};
 use iocm_command::{Breaches, Command};
 use iocm_config::Config;
 use iocm_console::{Refusal, open_deck};
@@ -62,7 +64,7 @@ pub fn begin<'b>(alloc: Global, command: &Command<'_>, deck: &'b [u8]) -> Result
 
 /// What a command gives of what its deck opens to, and of the texts after it. M1: memory ran out.
 ///
-/// Promise: a command gives what its definition says of its deck and of the texts after it.
+/// Promise: a command gives what its definition says of its deck and of the texts after it, or M1.
 pub fn finish<'f, T: Threads + Wait + Sync>(
     rt: &T,
     alloc: Global,
@@ -80,6 +82,14 @@ pub fn finish<'f, T: Threads + Wait + Sync>(
         (Command::Check { .. }, Begun::Deck(opened)) => Ok(check(&opened)),
         (Command::Check { .. }, Begun::Text(deck)) => check_all(alloc, deck),
         (Command::Show { filters, .. }, Begun::Deck(opened)) => show(alloc, opened, filters),
+        (
+            Command::List {
+                listed,
+                filters,
+                ..
+            },
+            Begun::Deck(opened),
+        ) => { list(alloc, *listed, filters, &opened) }
         (Command::Write { .. }, Begun::Deck(opened)) => write(alloc, &opened),
         (Command::Diff { before, .. }, Begun::Deck(old)) => {
             diff(alloc, *before, &old, first_text(others))

@@ -27,6 +27,7 @@ mod checking;
 mod differing;
 mod examples;
 mod laws;
+mod listing;
 mod printing;
 mod running;
 mod showing;
@@ -51,6 +52,7 @@ pub use laws::{
     all_breaches_begin_with_the_first, altered_rows_are_asked_for_as_worked,
     what_is_written_is_read_again,
 };
+pub use listing::list;
 pub use printing::print;
 pub use running::run;
 pub use showing::show;

@@ -31,7 +31,7 @@ use std::thread::Threads;
 /// L5: the deck can't be read, or the command goes on from it and one of the others can't be read. L6:
 /// a write failed. M1 is printed if memory ran out.
 ///
-/// Promise: of a command that reads its texts what its definition says of their bytes is written, or nothing.
+/// Promise: a whole command prints what its definition says of the bytes that it reads, or M1.
 pub fn carry_out<R: Read, W: Write + Drop, T: Threads + Wait + Sync>(
     rt: &T,
     alloc: Global,

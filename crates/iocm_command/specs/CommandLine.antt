@@ -24,7 +24,10 @@ use Rattle.iocm_command.specs.declared.table.Before.TheVariants.{LeftOut, Shown}
 use Rattle.iocm_command.specs.declared.table.Breaches.{Breaches}
 use Rattle.iocm_command.specs.declared.table.Breaches.TheVariants.{First, All}
 use Rattle.iocm_command.specs.declared.table.Command.{Command}
-use Rattle.iocm_command.specs.declared.table.Command.TheVariants.{Check, Show, Write, Diff, Vary, Apply, Run, Explain}
+use Rattle.iocm_command.specs.declared.table.Command.TheVariants.{Check, Show, List as ListOf, Write, Diff, Vary, Apply}
+use Rattle.iocm_command.specs.declared.table.Command.TheVariants.{Run, Explain}
+use Rattle.iocm_command.specs.declared.table.Listed.{Listed}
+use Rattle.iocm_command.specs.declared.table.Listed.TheVariants.{Images, Paths, Units, Devices}
 use Rattle.iocm_command.specs.declared.command.Understood.{Understood}
 use Rattle.iocm_command.specs.declared.table.Varied.{Varied}
 use Rattle.iocm_command.specs.declared.table.Varied.TheVariants.{Offline, Online}
@@ -33,6 +36,7 @@ use Rattle.iocm_command.specs.declared.table.Varied.TheVariants.{Offline, Online
 pub data Meant : Type 0 where
   check : Text → Breaches → Meant
   show : Text → Wanted → Meant
+  list : Listed → Text → Wanted → Meant
   write : Text → Meant
   diff : Text → Text → Before → Meant
   vary : Text → Varied → Wanted → Meant
@@ -49,6 +53,7 @@ pub record Stated : Type 0 where
 abbrev pub files_of : Meant → List Text
 files_of (check deck breaches) = deck ∷ []
 files_of (show deck filters) = deck ∷ []
+files_of (list listed deck filters) = deck ∷ []
 files_of (write deck) = deck ∷ []
 files_of (diff old new before) = old ∷ new ∷ []
 files_of (vary deck to filters) = deck ∷ []
@@ -59,6 +64,7 @@ files_of (explain rules) = []
 -- what is asked for of a deck that nothing changes
 abbrev pub filters_of_deck : Meant → Option Wanted
 filters_of_deck (show deck filters) = Some filters
+filters_of_deck (list listed deck filters) = Some filters
 filters_of_deck (vary deck to filters) = Some filters
 filters_of_deck _ = None
 
@@ -67,6 +73,7 @@ filters_of_deck _ = None
 abbrev pub meant_of : Command → Meant
 meant_of (Check deck breaches) = check deck.now breaches
 meant_of (Show deck filters) = show deck.now filters
+meant_of (ListOf listed deck filters) = list listed deck.now filters
 meant_of (Write deck) = write deck.now
 meant_of (Diff old new before) = diff old.now new.now before
 meant_of (Vary deck to filters) = vary deck.now to filters
@@ -156,6 +163,22 @@ check_in rows = first_of (codes "DECK") rows >>= λ deck. Some (check deck (brea
 abbrev pub show_in : List Row → Option Meant
 show_in rows = first_of (codes "DECK") rows >>= λ deck. filters_in rows >>= λ filters. Some (show deck filters)
 
+-- what is listed
+abbrev pub listed_by : Text → Option Listed
+listed_by kind =
+    if bytes_eq kind (codes "images") then Some Images
+    else (if bytes_eq kind (codes "paths") then Some Paths
+    else (if bytes_eq kind (codes "units") then Some Units
+    else (if bytes_eq kind (codes "devices") then Some Devices else None)))
+
+abbrev pub listed_in : List Row → Option Listed
+listed_in rows = first_of (codes "KIND") rows >>= listed_by
+
+abbrev pub list_in : List Row → Option Meant
+list_in rows =
+    listed_in rows >>= λ listed. first_of (codes "DECK") rows >>= λ deck. filters_in rows >>= λ filters.
+    Some (list listed deck filters)
+
 abbrev pub write_in : List Row → Option Meant
 write_in rows = first_of (codes "DECK") rows >>= λ deck. Some (write deck)
 
@@ -196,12 +219,13 @@ abbrev pub command_in : Text → List Row → Option Meant
 command_in name rows =
     if bytes_eq name (codes "check") then check_in rows
     else (if bytes_eq name (codes "show") then show_in rows
+    else (if bytes_eq name (codes "list") then list_in rows
     else (if bytes_eq name (codes "write") then write_in rows
     else (if bytes_eq name (codes "diff") then diff_in rows
     else (if bytes_eq name (codes "vary") then vary_in rows
     else (if bytes_eq name (codes "apply") then apply_in rows
     else (if bytes_eq name (codes "run") then run_in rows
-    else (if bytes_eq name (codes "explain") then explain_in rows else None)))))))
+    else (if bytes_eq name (codes "explain") then explain_in rows else None))))))))
 
 -- what the command that the words name asks for
 abbrev pub understood_in : Option (Text × List Row) → Option Stated
@@ -209,13 +233,18 @@ understood_in None = None
 understood_in (Some named) = command_in named.0 named.1 >>= λ command.
     Some (record { command = command; quiet = is_given (codes "quiet") named.1 })
 
--- a value has another form: the state of paths, or that of a filter
+-- a value has another form: the state of paths, what is listed, or that of a filter
 abbrev pub is_misread_state : List Row → Bool
 is_misread_state rows = option_map_or (λ state. is_none (varied_by state)) (first_of (codes "STATE") rows) false
 
+abbrev pub is_misread_kind : List Row → Bool
+is_misread_kind rows = option_map_or (λ kind. is_none (listed_by kind)) (first_of (codes "KIND") rows) false
+
+abbrev pub is_misread_in : List Row → Bool
+is_misread_in rows = is_misread_state rows || (is_misread_kind rows || is_some (misread_of (filter_words_in rows)))
+
 abbrev pub is_misread : Option (Text × List Row) → Bool
-is_misread named =
-    option_map_or (λ command. is_misread_state command.1 || is_some (misread_of (filter_words_in command.1))) named false
+is_misread named = option_map_or (λ command. is_misread_in command.1) named false
 
 -- ---- what words mean
 

@@ -59,6 +59,9 @@ check_row = (codes "check", quiet ∷ deck ∷ (codes "all", Flag) ∷ [])
 abbrev pub show_row : Text × List (Text × Form)
 show_row = (codes "show", quiet ∷ deck ∷ filters)
 
+abbrev pub list_row : Text × List (Text × Form)
+list_row = (codes "list", quiet ∷ (codes "KIND", Word) ∷ deck ∷ filters)
+
 abbrev pub write_row : Text × List (Text × Form)
 write_row = (codes "write", quiet ∷ deck ∷ [])
 
@@ -85,7 +88,7 @@ abbrev pub explain_row : Text × List (Text × Form)
 explain_row = (codes "explain", (codes "RULE", Words) ∷ [])
 
 abbrev pub commands : List (Text × List (Text × Form))
-commands = check_row ∷ show_row ∷ write_row ∷ diff_row ∷ vary_row ∷ apply_row ∷ run_row ∷ explain_row ∷ []
+commands = check_row ∷ show_row ∷ list_row ∷ write_row ∷ diff_row ∷ vary_row ∷ apply_row ∷ run_row ∷ explain_row ∷ []
 
 -- a command with one more argument, and a command of the table
 abbrev pub with_argument : App → Text × Form → App

@@ -21,4 +21,4 @@ mod table;
 
 pub use command::{Understood, command_of};
 pub use laws::plain_words_are_understood;
-pub use table::{Before, Breaches, Command, Varied};
+pub use table::{Before, Breaches, Command, Listed, Varied};

@@ -8,7 +8,7 @@ ghost use Rattle.iocm_command.specs.CommandLine as meaning;
 ghost use Rattle.iocm_command.specs.CommandLine.{GivesSize, IsSizeText, meant_of, rows_in, understood_of, values_under};
 
 use crate::argument::{LARGEST_HEAP, LEAST_HEAP};
-use crate::{Before, Breaches, Command, Understood, Varied};
+use crate::{Before, Breaches, Command, Listed, Understood, Varied};
 use clap::ArgMatches;
 use iocm_filter::{FilterWords, Filters, Misread};
 use iocm_reports::Report;
@@ -168,6 +168,8 @@ fn filters_in(alloc: Global, found: &ArgMatches<'_>) -> Result<Filters, Unread>
 pub(crate) enum MisreadWord<'a> {
     /// What becomes of paths.
     State(&'a str),
+    /// What is listed.
+    Kind(&'a str),
     /// A value of a filter.
     Filter(Misread<'a>),
 }
@@ -177,8 +179,14 @@ impl<'a> fmt::Display for MisreadWord<'a> {
         match self {
             MisreadWord::State(word) => write!(
                 f,
-                "{word}: not what becomes of a path: offline, or online"
+                "{word}: not a state of paths: offline, or online"
             ),
+            MisreadWord::Kind(word) => {
+                write!(
+                    f,
+                    "{word}: not a kind that is listed: images, paths, units, or devices"
+                )
+            }
             MisreadWord::Filter(misread) => write!(f, "{misread}"),
         }
     }
@@ -191,6 +199,9 @@ pub(crate) fn misread_in<'a>(matches: &ArgMatches<'a>) -> Option<MisreadWord<'a>
     let (_, found) = matches.subcommand()?;
     if is_misread_state(found) {
         return Some(MisreadWord::State(found.get_str("STATE").unwrap_or("")));
+    }
+    if is_misread_kind(found) {
+        return Some(MisreadWord::Kind(found.get_str("KIND").unwrap_or("")));
     }
     let misread = filter_words(found).misread()?;
     Some(MisreadWord::Filter(misread))
@@ -212,6 +223,22 @@ fn is_no_state(word: &str) -> bool
     varied_by(word).is_none()
 }
 
+/// Whether what is listed has none of its forms.
+fn is_misread_kind(found: &ArgMatches<'_>) -> bool
+    ensures { result ≡ meaning.is_misread_kind (rows_in found.now) }
+{
+    match found.get_str("KIND") {
+        Some(word) => is_no_kind(word),
+        None => false,
+    }
+}
+
+fn is_no_kind(word: &str) -> bool
+    ensures { result ≡ is_none (meaning.listed_by word.now) }
+{
+    listed_by(word).is_none()
+}
+
 /// What `check` asks for.
 fn check_in<'a>(found: &ArgMatches<'a>) -> Result<Command<'a>, Unread>
     ensures { Reads meant_of result (meaning.check_in (rows_in found.now)) }
@@ -228,6 +255,40 @@ fn show_in<'a>(alloc: Global, found: &ArgMatches<'a>) -> Result<Command<'a>, Unr
     let deck = value_of(found, "DECK")?;
     let filters = filters_in(alloc, found)?;
     Ok(Command::Show { deck, filters })
+}
+
+/// What is listed by a word.
+fn listed_by(word: &str) -> Option<Listed>
+    ensures { result ≡ meaning.listed_by word.now }
+{
+    match word {
+        "images" => Some(Listed::Images),
+        "paths" => Some(Listed::Paths),
+        "units" => Some(Listed::Units),
+        "devices" => Some(Listed::Devices),
+        _ => None,
+    }
+}
+
+/// What is listed.
+fn listed_in(found: &ArgMatches<'_>) -> Result<Listed, Unread>
+    ensures { Reads (λ l. l) result (meaning.listed_in (rows_in found.now)) }
+{
+    listed_by(value_of(found, "KIND")?).ok_or(Unread::Malformed)
+}
+
+/// What `list` asks for.
+fn list_in<'a>(alloc: Global, found: &ArgMatches<'a>) -> Result<Command<'a>, Unread>
+    ensures { Reads meant_of result (meaning.list_in (rows_in found.now)) }
+{
+    let listed = listed_in(found)?;
+    let deck = value_of(found, "DECK")?;
+    let filters = filters_in(alloc, found)?;
+    Ok(Command::List {
+        listed,
+        deck,
+        filters,
+    })
 }
 
 /// What `write` asks for.
@@ -325,6 +386,7 @@ fn command_in<'a>(alloc: Global, name: &str, found: &ArgMatches<'a>) -> Result<C
     match name {
         "check" => check_in(found),
         "show" => show_in(alloc, found),
+        "list" => list_in(alloc, found),
         "write" => write_in(found),
         "diff" => diff_in(found),
         "vary" => vary_in(alloc, found),

@@ -23,6 +23,12 @@ pub enum Command<'a> {
         deck: &'a str,
         filters: Filters,
     },
+    /// List what a deck has of one kind, of what is connected with what is asked for.
+    List {
+        listed: Listed,
+        deck: &'a str,
+        filters: Filters,
+    },
     /// Print the canonical deck of a deck.
     Write {
         deck: &'a str,
@@ -73,6 +79,7 @@ impl<'a> Command<'a> {
         match self {
             Command::Check { deck, .. }
             | Command::Show { deck, .. }
+            | Command::List { deck, .. }
             | Command::Write { deck }
             | Command::Vary { deck, .. } => Vec::from_slice(alloc, &[*deck]),
             Command::Diff { old, new, .. } => Vec::from_slice(alloc, &[*old, *new]),
@@ -96,7 +103,9 @@ impl<'a> Command<'a> {
         ensures { option_map (λ filters. filters.now) result ≡ filters_of_deck (meant_of self.now) }
     {
         match self {
-            Command::Show { filters, .. } | Command::Vary { filters, .. } => Some(filters),
+            Command::Show { filters, .. }
+            | Command::List { filters, .. }
+            | Command::Vary { filters, .. } => Some(filters),
             _ => None,
         }
     }
@@ -109,6 +118,19 @@ pub enum Breaches {
     First,
     /// All.
     All,
+}
+
+/// What is listed.
+#[derive(Clone, Copy, Debug, PartialEq, Eq)]
+pub enum Listed {
+    /// Images.
+    Images,
+    /// Channel paths.
+    Paths,
+    /// Control units.
+    Units,
+    /// Devices, in runs.
+    Devices,
 }
 
 /// Whether what was there before each change is printed, as comments.
@@ -143,8 +165,8 @@ pub(crate) struct Row<'a> {
 }
 
 /// The commands, in the order in which help lists them.
-pub(crate) const COMMANDS: [Row<'static>; 8] = [
-    CHECK, SHOW, WRITE, DIFF, VARY, APPLY, RUN, EXPLAIN,
+pub(crate) const COMMANDS: [Row<'static>; 9] = [
+    CHECK, SHOW, LIST, WRITE, DIFF, VARY, APPLY, RUN, EXPLAIN,
 ];
 
 const CHECK: Row<'static> = Row {
@@ -159,6 +181,23 @@ const SHOW: Row<'static> = Row {
     about: "Reads a configuration deck and prints the table of its subchannels",
     arguments: &[QUIET, DECK, IMAGE, DEVICE, UNIT, PATH, ONLINE],
     examples: "Examples:\n  iocm show my.deck\n  iocm show my.deck --image LPB --paths-online 1\n\n\
+               More: docs/DEFINITIONS.md",
+};
+
+const LIST: Row<'static> = Row {
+    name: "list",
+    about: "Reads a configuration deck and lists its images, channel paths, control units or devices",
+    arguments: &[
+        QUIET,
+        KIND,
+        DECK,
+        WITH_IMAGE,
+        WITH_DEVICE,
+        WITH_UNIT,
+        WITH_PATH,
+        WITH_ONLINE,
+    ],
+    examples: "Examples:\n  iocm list images my.deck\n  iocm list devices my.deck --path 0.50\n\n\
                More: docs/DEFINITIONS.md",
 };
 
@@ -274,6 +313,49 @@ const ONLINE: Argument<'static> = Argument {
     form: Form::Filter,
     value: "N",
     help: "Only subchannels with at most so many paths online, 0 to 8",
+};
+
+const KIND: Argument<'static> = Argument {
+    name: "KIND",
+    form: Form::Word,
+    value: "",
+    help: "What is listed: images, paths, units, or devices",
+};
+
+const WITH_IMAGE: Argument<'static> = Argument {
+    name: "image",
+    form: Form::Filter,
+    value: "IMAGE",
+    help: "Only what this image has, may use or sees: 0.2, or LPB; may be given several times",
+};
+
+const WITH_DEVICE: Argument<'static> = Argument {
+    name: "device",
+    form: Form::Filter,
+    value: "DEVICES",
+    help: "Only these devices, or what leads to them: 1003, 1000-100F, 1.1000-10FF; may be given several times",
+};
+
+const WITH_UNIT: Argument<'static> = Argument {
+    name: "unit",
+    form: Form::Filter,
+    value: "UNIT",
+    help: "Only this control unit, its paths, its devices, or images that reach it: 1000; may be given several times",
+};
+
+const WITH_PATH: Argument<'static> = Argument {
+    name: "path",
+    form: Form::Filter,
+    value: "PATH",
+    help: "Only this path, and what it leads to or who may use it: 0.50, or 50 of every channel subsystem; may be \
+           given several times",
+};
+
+const WITH_ONLINE: Argument<'static> = Argument {
+    name: "paths-online",
+    form: Form::Filter,
+    value: "N",
+    help: "Only devices with at most so many paths online, 0 to 8",
 };
 
 const OLD: Argument<'static> = Argument {
