@@ -1,0 +1,9 @@
+pub mod Escapes
+pub mod Hex
+pub mod InParts
+pub mod Keys
+pub mod Lines
+pub mod Objects
+pub mod ReadBack
+pub mod Rows
+pub mod Worked

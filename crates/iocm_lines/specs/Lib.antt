@@ -1,0 +1,10 @@
+pub mod Accepted
+pub mod Again
+pub mod Altered
+pub mod Change
+pub mod Examples
+pub mod Lines
+pub mod Members
+pub mod Parts
+pub mod Refused
+pub mod Subchannel
