@@ -29,7 +29,7 @@ _iocm() {
         show) options+=" --quiet $filters" ;;
         list)
             options+=" --quiet $filters" most=2
-            ((files == 0)) && options="images paths units devices" most=0
+            ((files == 0)) && [[ $word != -* ]] && options="images paths units devices" most=0
             ;;
         write) options+=" --quiet" ;;
         diff) options+=" --quiet --old" most=2 ;;
