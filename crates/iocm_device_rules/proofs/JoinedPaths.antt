@@ -109,9 +109,6 @@ own_path p = ap (λ b. map (λ (q : CssPath). q.path) (cond b (p ∷ []) [])) (s
     same : (n : ℕ) → nat_eq n n ≡ true
     same n = grind (arith, nat_tests)
 
-other_path : (css : ℕ) (p : CssPath) → nat_eq p.css css ≡ false → paths_in css (p ∷ []) ≡ []
-other_path css p apart = ap (λ b. map (λ (q : CssPath). q.path) (cond b (p ∷ []) [])) apart
-
 -- the paths from one on are it and those after it
 pub paths_opened : (css : ℕ) (ps : List CssPath) (i : ℕ) (p : CssPath) → i < length ps → p ≡ get_or ps i p
     → paths_in css (drop i ps) ≡ paths_in css (p ∷ []) ++ paths_in css (drop (i + 1) ps)

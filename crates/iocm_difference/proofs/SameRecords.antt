@@ -30,7 +30,7 @@ module _ {A : Type 0} (same : A → A → Bool) (is : (x y : A) → same x y ≡
   list_is (x ∷ xs) [] h = cc
   list_is (x ∷ xs) (y ∷ ys) h = let p = and_parts _ _ h in λ i. is x y p.0 i ∷ list_is xs ys p.1 i
 
-  option_is : (a b : Option A) → option_eq same a b ≡ true → a ≡ b
+  pub option_is : (a b : Option A) → option_eq same a b ≡ true → a ≡ b
   option_is None None h = refl
   option_is None (Some y) h = cc
   option_is (Some x) None h = cc
@@ -41,28 +41,28 @@ module _ {A : Type 0} (same : A → A → Bool) (own : (x : A) → same x x ≡ 
   own_list [] = refl
   own_list (x ∷ xs) = both_true (own x) (own_list xs)
 
-  own_option : (a : Option A) → option_eq same a a ≡ true
+  pub own_option : (a : Option A) → option_eq same a a ≡ true
   own_option None = refl
   own_option (Some x) = own x
 
-number_is : (x y : ℕ) → nat_eq x y ≡ true → x ≡ y
+pub number_is : (x y : ℕ) → nat_eq x y ≡ true → x ≡ y
 number_is x y h = eqb-true x y h
 
-own_number : (x : ℕ) → nat_eq x x ≡ true
+pub own_number : (x : ℕ) → nat_eq x x ≡ true
 own_number x = eq-eqb x x refl
 
 -- ---- what records are made of
 
-name_is : (x y : List ℕ) → same_name x y ≡ true → x ≡ y
+pub name_is : (x y : List ℕ) → same_name x y ≡ true → x ≡ y
 name_is = list_is nat_eq number_is
 
-own_name : (x : List ℕ) → same_name x x ≡ true
+pub own_name : (x : List ℕ) → same_name x x ≡ true
 own_name = own_list nat_eq own_number
 
-names_are : (xs ys : List (List ℕ)) → same_names xs ys ≡ true → xs ≡ ys
+pub names_are : (xs ys : List (List ℕ)) → same_names xs ys ≡ true → xs ≡ ys
 names_are = list_is same_name name_is
 
-own_names : (xs : List (List ℕ)) → same_names xs xs ≡ true
+pub own_names : (xs : List (List ℕ)) → same_names xs xs ≡ true
 own_names = own_list same_name own_name
 
 operand_is : (a b : CarriedOperand) → same_operand a b ≡ true → a ≡ b
@@ -73,30 +73,30 @@ operand_is a b h =
 own_operand : (a : CarriedOperand) → same_operand a a ≡ true
 own_operand a = both_true (own_option same_name own_name a.keyword) (own_name a.text)
 
-operands_are : (xs ys : List CarriedOperand) → same_operands xs ys ≡ true → xs ≡ ys
+pub operands_are : (xs ys : List CarriedOperand) → same_operands xs ys ≡ true → xs ≡ ys
 operands_are = list_is same_operand operand_is
 
-own_operands : (xs : List CarriedOperand) → same_operands xs xs ≡ true
+pub own_operands : (xs : List CarriedOperand) → same_operands xs xs ≡ true
 own_operands = own_list same_operand own_operand
 
-kind_is : (a b : PathKind) → same_kind a b ≡ true → a ≡ b
+pub kind_is : (a b : PathKind) → same_kind a b ≡ true → a ≡ b
 kind_is Dedicated Dedicated h = refl
 kind_is Shared Shared h = refl
 kind_is Reconfigurable Reconfigurable h = refl
 kind_is _ _ h = cc
 
-own_kind : (a : PathKind) → same_kind a a ≡ true
+pub own_kind : (a : PathKind) → same_kind a a ≡ true
 own_kind Dedicated = refl
 own_kind Shared = refl
 own_kind Reconfigurable = refl
 
-link_is : (a b : Link) → same_link a b ≡ true → a ≡ b
+pub link_is : (a b : Link) → same_link a b ≡ true → a ≡ b
 link_is link.None link.None h = refl
 link_is (link.Short a) (link.Short b) h = ap link.Short (number_is a b h)
 link_is (link.Long a) (link.Long b) h = ap link.Long (number_is a b h)
 link_is _ _ h = cc
 
-own_link : (a : Link) → same_link a a ≡ true
+pub own_link : (a : Link) → same_link a a ≡ true
 own_link link.None = refl
 own_link (link.Short a) = own_number a
 own_link (link.Long a) = own_number a

@@ -14,7 +14,7 @@ use Rattle.iocm_difference.specs.Examples.{Leads, OneRecord, ARenamedImage, AllP
 use Rattle.iocm_difference.proofs.Paired.{actions_listed}
 
 -- records in the order of keys are the entries of their configuration
-in_order : (rs : List Rec) → T (is_sorted key_cmp (with_keys rs)) → entries (configuration_of rs) ≡ with_keys rs
+pub in_order : (rs : List Rec) → T (is_sorted key_cmp (with_keys rs)) → entries (configuration_of rs) ≡ with_keys rs
 in_order rs up = ap entries
     (same_map keys_total keys_exact _ _
     (λ q. get-from_entries keys_total (with_keys rs) q ∙ sym (get-from_sorted key_cmp (with_keys rs) q up)))

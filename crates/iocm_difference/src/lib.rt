@@ -3,7 +3,9 @@
 //! `difference` walks over two configurations at once, in the order of keys. It gives one edit for
 //! each key at which they differ, which adds, deletes or replaces a record. The edits stand in five
 //! passes: of the orders that were tried, this one altered the fewest subchannels for a while.
-//! `is_same_record` tells whether two records are the same.
+//! `is_same_record` tells whether two records are the same, `are_same_operands` and
+//! `are_same_candidates` whether what they list is. `Merge` is the walk over two configurations, for
+//! those who ask more of each key.
 //!
 //! What the layers above rely on: in whatever order they are performed, the edits lead from one
 //! configuration to the other. A key is edited once, and only where the records differ. No shorter
@@ -27,4 +29,5 @@ pub use laws::{
     each_difference_is_edited_once, no_actions_are_fewer, same_records_are_equal,
     the_difference_goes_back, the_difference_leads_in_any_order,
 };
-pub use same::is_same_record;
+pub use merge::{Merge, Met};
+pub use same::{are_same_candidates, are_same_operands, is_same_record};

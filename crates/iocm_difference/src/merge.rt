@@ -14,19 +14,19 @@ use std::marker::Model;
 
 /// A key that a walk over two configurations came to, with the record of each under it.
 #[derive(Drop)]
-pub(crate) struct Met<'a, A: Allocator, B: Allocator> {
+pub struct Met<'a, A: Allocator, B: Allocator> {
     /// A key that one of them has, or both.
-    pub(crate) key: &'a Key,
+    pub key: &'a Key,
     /// The record of the old configuration, if it has the key.
-    pub(crate) old: Option<&'a Record<A>>,
+    pub old: Option<&'a Record<A>>,
     /// The record of the new configuration, if it has the key.
-    pub(crate) new: Option<&'a Record<B>>,
+    pub new: Option<&'a Record<B>>,
 }
 
 /// One walk over the records of two configurations, in the order of keys. Contracts see the keys
 /// that are left, each with what each configuration has there.
 #[derive(Drop)]
-pub(crate) struct Merge<'a, A: Allocator, B: Allocator> {
+pub struct Merge<'a, A: Allocator, B: Allocator> {
     olds: Walk<'a, A>,
     news: Walk<'a, B>,
 }
@@ -42,7 +42,7 @@ impl<'a, A: Allocator, B: Allocator> Model for Merge<'a, A, B> {
 
 impl<'a, A: Allocator, B: Allocator> Merge<'a, A, B> {
     /// The walk over two configurations, before the first key.
-    pub(crate) fn new(old: &'a Config<A>, new: &'a Config<B>) -> Self
+    pub fn new(old: &'a Config<A>, new: &'a Config<B>) -> Self
         ensures { result ≡ pairs_of (map.entries old.entry.now.records) (map.entries new.entry.now.records) }
     {
         Merge {
@@ -52,7 +52,7 @@ impl<'a, A: Allocator, B: Allocator> Merge<'a, A, B> {
     }
 
     /// The next key with its records, if one is left.
-    pub(crate) fn step(&mut self) -> Option<Met<'a, A, B>>
+    pub fn step(&mut self) -> Option<Met<'a, A, B>>
         ensures { TakesFirst pair_met self.old result self.new }
     {
         let key = lesser(self.olds.next_key(), self.news.next_key())?;

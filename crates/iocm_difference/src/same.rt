@@ -154,7 +154,7 @@ fn is_same_kind(old: PathKind, new: PathKind) -> bool
 }
 
 /// Whether there are the same names, or no list of them.
-fn are_same_candidates<A: Allocator, B: Allocator>(
+pub fn are_same_candidates<A: Allocator, B: Allocator>(
     old: Option<&List<Name, A>>,
     new: Option<&List<Name, B>>,
 ) -> bool
@@ -169,7 +169,7 @@ fn are_same_candidates<A: Allocator, B: Allocator>(
 
 /// Whether there are the same carried operands in the same order.
 #[tactic(auto, using(crate::proofs::SameLists::same_steps))]
-fn are_same_operands<A: Allocator, B: Allocator>(old: &[Carried<A>], new: &[Carried<B>]) -> bool
+pub fn are_same_operands<A: Allocator, B: Allocator>(old: &[Carried<A>], new: &[Carried<B>]) -> bool
     ensures { result ≡ specs.same_operands old.now new.now }
 {
     if old.len() != new.len() {

@@ -1,13 +1,11 @@
 -- Rows under keys that are sorted, and of which the first of each key is kept.
-use Rattle.std.proofs.Common.{◌≡◌, ◌+◌, ◌<◌, Bool, true, false, cond, not, ◌&&◌, List, [], ◌∷◌, length, Option, Some}
-use Rattle.std.proofs.Common.{refl, sym, ap, ap₂, subst, ◌∙◌, arith}
-use Rattle.std.proofs.lemmas.List.{get_or-map, length-map}
+use Rattle.std.proofs.Common.{◌≡◌, Bool, true, false, cond, not, ◌&&◌, List, [], ◌∷◌, Option, Some}
+use Rattle.std.proofs.Common.{refl, sym, ap, ◌∙◌}
 use Rattle.std.proofs.lemmas.List.Kept.{IsStrictlySortedBy-dedup}
 use Rattle.std.proofs.lemmas.List.Sorted.{ranks_by}
-use Rattle.std.proofs.lemmas.Map.Keys.{sorted_from_all_adjacent}
 use Rattle.std.specs.Cmp.{IsStrictWeakOrder, IsTotalOrder, on_total, tied_itself}
 use Rattle.std.specs.FinMap.{IsAntisymmetric, find}
-use Rattle.std.specs.List.{AllAdjacentBelow, AllByRecursion, dedup, dedup_from}
+use Rattle.std.specs.List.{AllByRecursion, dedup, dedup_from}
 use Rattle.std.specs.List.Sorted.{IsSortedBy, IsStableBy, IsStrictlySortedBy}
 use Rattle.std.specs.Map.{keys_of}
 use Rattle.std.specs.Ordering.{eq_by_cmp, is_lt}
@@ -37,17 +35,6 @@ module _ {K X : Type 0} (R : K → K → Ordering) (total : IsTotalOrder R) wher
   -- two rows have one key
   abbrev pub have_one_key : K × X → K × X → Bool
   have_one_key r s = eq_by_cmp R r.0 s.0
-
-  -- rows of which each is below the next have keys in order
-  pub neighbours_rise : (rows : List (K × X)) → AllAdjacentBelow (λ r s. true ≡ is_below r s) rows (length rows)
-      → IsStrictlySortedBy R (keys_of rows)
-  unfolding IsStrictlySortedBy
-  neighbours_rise [] all = tt
-  neighbours_rise (r ∷ rest) all = sorted_from_all_adjacent total (keys_of (r ∷ rest)) r.0 (λ k within.
-      let rows = r ∷ rest in
-      let inside : k + 1 < length rows = subst (λ n. k + 1 < n) (length-map rows (λ e. e.0)) within in
-      ap₂ R (get_or-map (λ e. e.0) rows k r r.0 (omega (arith, inside)))
-      (get_or-map (λ e. e.0) rows (k + 1) r r.0 inside) ∙ less_is _ (sym (all k r inside)))
 
   -- ---- a stable sort
 

@@ -11,6 +11,8 @@
 //! the addresses that units have on their paths. Where one is there twice, it lists the ranges of
 //! unit addresses on these too. It makes an index only where two ranges meet.
 //!
+//! `is_on_one_link` tells whether two control units have one link at a path.
+//!
 //! Begin with `units.rt`, then `sharing.rt`, then `sharing_at_opening.rt` and `link_ranges.rt`. What
 //! names no source is our own.
 #![tactic(auto)]
@@ -23,6 +25,7 @@ mod sharing;
 mod sharing_at_opening;
 mod units;
 
+pub use links::is_on_one_link;
 pub use ranges::{WrongRanges, is_address_held};
 pub use sharing::{first_shared_address, is_shared_on};
 pub use sharing_at_opening::first_shared_address_at_opening;

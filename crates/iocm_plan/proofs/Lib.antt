@@ -1,0 +1,11 @@
+pub mod Alone
+pub mod GoingBack
+pub mod Itself
+pub mod Lists
+pub mod MoreWorked
+pub mod OwnRoute
+pub mod RunDevices
+pub mod RunSides
+pub mod SeenViews
+pub mod ToldAlike
+pub mod Worked

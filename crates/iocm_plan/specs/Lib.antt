@@ -1,0 +1,11 @@
+pub mod Effects
+pub mod Examples
+pub mod Laws
+pub mod MoreExamples
+pub mod Objects
+pub mod Routes
+pub mod RunEffects
+pub mod Runs
+pub mod Seen
+pub mod Sides
+pub mod ToldAlike
