@@ -11,15 +11,20 @@ use Rattle.iocm_types.specs.declared.sub_id.SubId.{SubId}
 use Rattle.iocm_types.specs.declared.view.View.{View}
 use Rattle.iocm_values.proofs.Numerals.{hex1_decimal, hex1_text, hex2_text}
 use Rattle.iocm_lines.specs.Lines.{line}
+use Rattle.iocm_lines.specs.Told.{line_at, with_device}
+use Rattle.iocm_types.specs.Print.{hex1, hex2, hex4}
+use Rattle.iocm_types.specs.declared.image.Image.{Image}
+use Rattle.iocm_lines.specs.Members.{image_name}
 use Rattle.iocm_lines.specs.Members.{path_list}
-use Rattle.iocm_lines.specs.Parts.{until_installed, until_paths, until_end}
+use Rattle.iocm_lines.specs.Parts.{front, middle, back, name_begun}
 use Rattle.iocm_lines.specs.Parts.{seen_until_installed, seen_until_paths, seen_end, altered_end}
 use Rattle.iocm_lines.specs.Subchannel.{paths_in, subchannel_value}
 use Rattle.iocm_lines.specs.Altered.{seen_value, altered_value}
 use Rattle.iocm_lines.proofs.Keys.{after_key, altered_key, available_key, before_key, css_key, device_key, image_key}
 use Rattle.iocm_lines.proofs.Keys.{installed_key, name_key, number_key, pam_key, paths_key, pim_key, set_key}
 use Rattle.iocm_lines.proofs.Keys.{subchannel_key, type_key}
-use Rattle.iocm_lines.proofs.Hex.{hex4_pairs, hex2_stays, hex4_stays, image_stays, subchannel_stays, letters_stay}
+use Rattle.iocm_lines.proofs.Hex.{hex4_pairs}
+use Rattle.iocm_lines.proofs.Texts.{hex2_stays, hex4_stays, image_stays, subchannel_stays, letters_stay}
 
 -- all bits of a mask are those of at most eight paths
 all_paths : (ps : List ℕ) → length ps ≤ 8 → paths_in 255 ps ≡ ps
@@ -36,27 +41,41 @@ all_paths (a ∷ b ∷ c ∷ d ∷ e ∷ f ∷ g ∷ h ∷ j ∷ more) few = abs
 
 -- ---- parts
 
--- what is put one part after the other
-abbrev put_together : SubId → View → List ℕ → List ℕ
-put_together s v name =
-    (((((((codes "{\"available\":" ++ compact_text (path_list (paths_in v.pam v.paths))) ++ until_installed s v)
-    ++ compact_text (path_list (paths_in v.pim v.paths))) ++ codes ",\"name\":\"") ++ name) ++ until_paths s v)
-    ++ compact_text (path_list (paths_in 255 v.paths))) ++ (until_end s v ++ 10 ∷ [])
+-- parts that are put one after the other with the numbers between, and those of a text with its end
+joined : (a k b c d e f g h l m n q o p r s u v w x y t z : List ℕ)
+    → (a ++ (k ++ (b ++ (c ++ d))))
+    ++ (e ++ ((f ++ (g ++ (h ++ (l ++ (m ++ (n ++ (q ++ o)))))))
+    ++ (p ++ ((r ++ (s ++ (u ++ (v ++ (w ++ (x ++ y)))))) ++ (p ++ (t ++ z))))))
+    ≡ (a ++ (k ++ (b ++ (c ++ (d ++ (e ++ (f ++ (g ++ (h ++ (l ++ (m ++ ((n ++ q) ++ (o ++ (p ++ (r ++ (s ++ (u ++ (v
+    ++ (w ++ (x ++ (y ++ (p ++ t)))))))))))))))))))))) ++ z
+joined a k b c d e f g h l m n q o p r s u v w x y t z = simp append_assoc
 
--- parts that are put one after the other, and those of a text with its end
-joined : (a k b m c n q d o e z : List ℕ)
-    → (((((((a ++ k) ++ b) ++ m) ++ c) ++ n) ++ (q ++ d)) ++ o) ++ (e ++ z)
-    ≡ (a ++ (k ++ (b ++ (m ++ (c ++ ((n ++ q) ++ (d ++ (o ++ e)))))))) ++ z
-joined a k b m c n q d o e z = simp append_assoc
+-- bytes that are put one after the other in place of a line
+pub front_together : (a b c d e : List ℕ) → (((([] ++ a) ++ b) ++ c) ++ d) ++ e ≡ a ++ (b ++ (c ++ (d ++ e)))
+front_together a b c d e = simp append_assoc
 
-pub line_in_parts : (s : SubId) (v : View) (name : List ℕ) → s.image.css < 6 → s.image.mif < 16 → s.set < 4
-    → s.number < 65536 → v.device < 65536 → v.pim < 256 → v.pam < 256 → length v.paths ≤ 8
-    → list_all is_letter_or_digit name ≡ true
-    → put_together s v name ≡ line (subchannel_value (s, v) name)
-line_in_parts s v name css mif set number device pim pam few letters =
-    joined (codes "{\"available\":") (compact_text (path_list (paths_in v.pam v.paths))) (until_installed s v)
+pub back_together : (a b c d e f g h i j k : List ℕ)
+    → (((((((((([] ++ a) ++ b) ++ c) ++ d) ++ e) ++ f) ++ g) ++ h) ++ i) ++ j) ++ k
+    ≡ a ++ (b ++ (c ++ (d ++ (e ++ (f ++ (g ++ (h ++ (i ++ (j ++ k)))))))))
+back_together a b c d e f g h i j k = simp append_assoc
+
+-- with the numbers between the parts are the line of a subchannel
+pub line_in_parts : (i : Image) (name : List ℕ) (set : ℕ) (v : View) → i.css < 6 → i.mif < 16 → set < 4
+    → v.pim < 256 → v.pam < 256 → length v.paths ≤ 8 → list_all is_letter_or_digit name ≡ true
+    → (number device : ℕ) → number < 65536 → device < 65536
+    → front i v ++ (hex4 device ++ (middle i name v ++ (hex4 number ++ (back i set v
+    ++ (hex4 number ++ codes "\",\"type\":\"subchannel\"}\n")))))
+    ≡ line_at i name set number (with_device device v)
+line_in_parts i name set v css mif set_small pim pam few letters number device small low =
+    joined (codes "{\"available\":") (compact_text (path_list (paths_in v.pam v.paths)))
+    (codes ",\"css\":") (hex1 i.css) (codes ",\"device\":\"") (hex4 device)
+    (codes "\",\"image\":\"") (image_name i) (codes "\",\"installed\":")
     (compact_text (path_list (paths_in v.pim v.paths))) (codes ",\"name\":\"") name (34 ∷ [])
-    (drop 1 (until_paths s v)) (compact_text (path_list (paths_in 255 v.paths))) (until_end s v) (10 ∷ [])
+    (codes ",\"number\":\"") (hex4 number)
+    (codes "\",\"pam\":\"") (hex2 v.pam) (codes "\",\"paths\":")
+    (compact_text (path_list (paths_in 255 v.paths)))
+    (codes ",\"pim\":\"") (hex2 v.pim) (name_begun i set)
+    (codes "\",\"type\":\"subchannel\"}") (10 ∷ [])
     ∙ rw (
       available_key,
       css_key,
@@ -72,22 +91,22 @@ line_in_parts s v name css mif set number device pim pam few letters =
       subchannel_key,
       type_key,
       all_paths v.paths few,
-      hex4_stays v.device device,
-      hex4_stays s.number number,
-      hex2_stays v.pim pim,
-      hex2_stays v.pam pam,
-      image_stays s.image (omega arith) mif,
-      subchannel_stays s (omega arith) mif (omega arith) number,
+      hex4_stays device,
+      hex4_stays number,
+      hex2_stays v.pim,
+      hex2_stays v.pam,
+      image_stays i,
+      subchannel_stays (record { image = i; set = set; number = number }),
       letters_stay name letters,
-      ← hex1_decimal s.image.css (omega arith),
-      ← hex1_decimal s.set (omega arith),
-      hex1_text s.image.css (omega arith),
-      hex1_text s.image.mif mif,
-      hex1_text s.set (omega arith),
+      ← hex1_decimal i.css (omega arith),
+      ← hex1_decimal set (omega arith),
+      hex1_text i.css (omega arith),
+      hex1_text i.mif mif,
+      hex1_text set (omega arith),
       hex2_text v.pim pim,
       hex2_text v.pam pam,
-      hex4_pairs v.device device,
-      hex4_pairs s.number number,
+      hex4_pairs device low,
+      hex4_pairs number small,
     ) refl
 
 -- ---- a view
@@ -110,9 +129,9 @@ seen_is v device pim pam few =
       paths_key,
       pim_key,
       all_paths v.paths few,
-      hex4_stays v.device device,
-      hex2_stays v.pim pim,
-      hex2_stays v.pam pam,
+      hex4_stays v.device,
+      hex2_stays v.pim,
+      hex2_stays v.pam,
       hex2_text v.pim pim,
       hex2_text v.pam pam,
       hex4_pairs v.device device,
@@ -154,9 +173,9 @@ altered_in_parts s before after css mif set number =
       subchannel_key,
       type_key,
       altered_key,
-      hex4_stays s.number number,
-      image_stays s.image (omega arith) mif,
-      subchannel_stays s (omega arith) mif (omega arith) number,
+      hex4_stays s.number,
+      image_stays s.image,
+      subchannel_stays s,
       ← hex1_decimal s.image.css (omega arith),
       ← hex1_decimal s.set (omega arith),
       hex1_text s.image.css (omega arith),

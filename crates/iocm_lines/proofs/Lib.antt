@@ -1,9 +1,14 @@
+pub mod AnswerLines
 pub mod Escapes
 pub mod Hex
 pub mod InParts
 pub mod Keys
 pub mod Lines
 pub mod Objects
+pub mod Optional
+pub mod Parted
 pub mod ReadBack
+pub mod Refusals
 pub mod Rows
+pub mod Texts
 pub mod Worked

@@ -4,6 +4,10 @@ use Rattle.std.specs.List.{list_all}
 use Rattle.std.specs.Ordering.{nat_cmp, match_ordering}
 use Rattle.std.specs.Cmp.Lexicographic.{slice_cmp}
 use Rattle.std.specs.Prelude.{false}
+use Rattle.iocm_types.specs.declared.answer.Answer.{Answer}
+use Rattle.iocm_types.specs.declared.answer.Answer.TheVariants as answer
+use Rattle.iocm_types.specs.declared.answer.Counts.{Counts}
+use Rattle.iocm_types.specs.declared.order.Io.TheVariants as io
 use Rattle.iocm_types.specs.declared.sub_id.SubId.{SubId}
 use Rattle.iocm_types.specs.declared.view.View.{View}
 use Rattle.serde_json.specs.Data.{unsigned, negative, float, Data, null, boolean, number, string, array, object}
@@ -11,13 +15,14 @@ use Rattle.serde_json.specs.Data.{Items, no_items, item, Members, no_members, me
 use Rattle.serde_json.specs.Read.{read, max_depth}
 use Rattle.serde_json.specs.Written.{compact_text}
 use Rattle.iocm_lines.specs.declared.change.AlteredCounts.{AlteredCounts}
-use Rattle.iocm_lines.specs.declared.refused.RefusedLine.{RefusedLine}
 use Rattle.iocm_lines.specs.Accepted.{accepted_value}
 use Rattle.iocm_lines.specs.Altered.{altered_value}
+use Rattle.iocm_lines.specs.Answer.{answer_value}
 use Rattle.iocm_lines.specs.Change.{change_value, count_value}
 use Rattle.iocm_lines.specs.Lines.{line}
-use Rattle.iocm_lines.specs.Refused.{refused_value}
+use Rattle.iocm_lines.specs.Refused.{Told, refused_value}
 use Rattle.iocm_lines.specs.Subchannel.{subchannel_value}
+use Rattle.iocm_lines.specs.Trace.{trace_value}
 
 -- a name comes before each of some members
 abbrev pub is_before : List ℕ → Members → Bool
@@ -62,16 +67,43 @@ pub record IsSubchannel (s : SubId) : Type 0 where
   pub set : s.set < 16
   pub number : s.number < 65536
 
--- what is read back: the lines of subchannels, of what is accepted, changed, refused and altered
+-- the numbers that a machine counts
+pub record AreCounts (c : Counts) : Type 0 where
+  pub records : c.records < 2 ^ 64
+  pub subchannels : c.subchannels < 2 ^ 64
+  pub standing : c.standing < 2 ^ 64
+  pub undone : c.undone < 2 ^ 64
+
+-- the numbers of an answer have 64 bits
+abbrev pub IsAnswer : Answer → Type 0
+IsAnswer (answer.Io (io.Code code)) = code < 2 ^ 64
+IsAnswer (answer.Io (io.Status bits)) = ⊤
+IsAnswer (answer.Io (io.Stored s)) = ⊤
+IsAnswer (answer.Begun b) = ⊤
+IsAnswer (answer.Ended b) = ⊤
+IsAnswer answer.Held = ⊤
+IsAnswer (answer.Changed n) = n < 2 ^ 64
+IsAnswer (answer.Staged n) = n < 2 ^ 64
+IsAnswer (answer.Left n) = n < 2 ^ 64
+IsAnswer answer.Aborted = ⊤
+IsAnswer (answer.Undone n) = n < 2 ^ 64
+IsAnswer (answer.Redone n) = n < 2 ^ 64
+IsAnswer (answer.Shown c) = AreCounts c
+IsAnswer (answer.Refused why) = IfSome why.node (λ n. n < 2 ^ 64)
+
+-- what is read back: the lines of subchannels, of what is accepted, changed, refused, altered and answered, and of a trace
 pub record LinesAreReadBack : Type 0 where
   pub subchannel : (s : SubId) (v : View) (name : List ℕ) → IsSubchannel s → IsReadBack (subchannel_value (s, v) name)
   pub accepted : (records : ℕ) → records < 2 ^ 64 → IsReadBack (accepted_value records)
   pub change : (altered number : ℕ) → altered < 2 ^ 64 → number < 2 ^ 64 → IsReadBack (change_value altered number)
   pub counts : (n : AlteredCounts) → n.came < 2 ^ 64 → n.changed < 2 ^ 64 → n.gone < 2 ^ 64 → n.same < 2 ^ 64
       → IsReadBack (count_value n)
-  pub refused : (why : RefusedLine) (title : List ℕ) → IfSome why.line (λ n. n < 2 ^ 64)
-      → IfSome why.node (λ n. n < 2 ^ 64) → IsReadBack (refused_value why title)
+  pub trace : (calls : ℕ) → calls < 2 ^ 64 → IsReadBack (trace_value calls)
+  pub refused : (why : Told) → IfSome why.line (λ n. n < 2 ^ 64) → IfSome why.node (λ n. n < 2 ^ 64)
+      → IsReadBack (refused_value why)
   pub altered : (s : SubId) (before after : Option View) → IsSubchannel s → IsReadBack (altered_value s before after)
+  pub answer : (line : ℕ) (a : Answer) (title : List ℕ) → line < 2 ^ 64 → IsAnswer a
+      → IsReadBack (answer_value line a title)
 
 -- ---- a line tells its row
 

@@ -1,6 +1,7 @@
 pub mod Accepted
 pub mod Again
 pub mod Altered
+pub mod Answer
 pub mod Change
 pub mod Examples
 pub mod Lines
@@ -8,3 +9,6 @@ pub mod Members
 pub mod Parts
 pub mod Refused
 pub mod Subchannel
+pub mod Titles
+pub mod Told
+pub mod Trace

@@ -1,6 +1,6 @@
 -- The line of a value.
 -- Bytes by their codes: 10 is a line feed, 44 is a comma, 58 is a colon, 123 and 125 are braces.
-use Rattle.std.specs.Prelude.{ℕ, List, [], ◌∷◌, ◌++◌, codes, Option}
+use Rattle.std.specs.Prelude.{ℕ, List, [], ◌∷◌, ◌++◌, Option}
 use Rattle.std.specs.List.{flat_map}
 use Rattle.json.specs.Print.{quoted}
 use Rattle.serde_json.specs.Data.{Data}
@@ -20,11 +20,3 @@ with_comma (name, value) = quoted name ++ 58 ∷ (compact_text value ++ 44 ∷ [
 -- a member that may be there
 abbrev pub with_comma_if_there : List ℕ → Option Data → List ℕ
 with_comma_if_there name value = flat_map with_comma (if_there name value [])
-
--- the beginning of a line, up to the last member
-abbrev pub begun : List (List ℕ × Data) → List ℕ
-begun named = 123 ∷ flat_map with_comma named
-
--- the last member, which says of which form the line is, and the end
-abbrev pub ended : List ℕ → List ℕ
-ended form = quoted (codes "type") ++ 58 ∷ (quoted form ++ 125 ∷ 10 ∷ [])

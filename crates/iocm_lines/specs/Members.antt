@@ -1,6 +1,7 @@
 -- What the members of lines are.
 -- Bytes by their codes: 46 is a point.
-use Rattle.std.specs.Prelude.{ℕ, List, [], ◌∷◌, ◌++◌, map, Option, None, Some}
+use Rattle.std.specs.Prelude.{ℕ, ◌-◌, ◌^◌, true, false, List, [], ◌∷◌, ◌++◌, map, Option, None, Some}
+use Rattle.std.specs.Fmt.{digits, format_spec, padded_integral}
 use Rattle.iocm_types.specs.declared.image.Image.{Image}
 use Rattle.iocm_types.specs.declared.sub_id.SubId.{SubId}
 use Rattle.iocm_types.specs.Print.{hex1, hex2, hex4}
@@ -32,6 +33,10 @@ texts (text ∷ more) = item (string text) (texts more)
 -- a list of channel paths, two digits each
 abbrev pub path_list : List ℕ → Data
 path_list paths = array (texts (map hex2 paths))
+
+-- a number in hexadecimal with zeros in front, at least eight digits
+abbrev pub hex8 : ℕ → List ℕ
+hex8 n = padded_integral (format_spec 32 0 4 8 (2 ^ 64 - 1)) false [] (digits 16 true n)
 
 -- an image: channel subsystem and MIF image ID
 abbrev pub image_name : Image → List ℕ

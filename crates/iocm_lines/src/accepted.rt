@@ -1,17 +1,20 @@
-ghost use Rattle.std.specs.Prelude.{◌≡◌, IfOk};
-ghost use Rattle.iocm_lines.specs.Accepted.{accepted_value};
-ghost use Rattle.iocm_lines.specs.Lines as lines;
+use std::fmt;
 
-use crate::members::{begun_line, put_count, put_form};
-use std::alloc::{AllocError, Global};
+/// The line of a deck that keeps the rules: how many records it has.
+#[derive(Clone, Copy)]
+pub struct AcceptedLine(pub usize);
 
-/// The line of a deck that keeps the rules: how many records it has. Answers the lack of memory
-/// alone.
-pub fn accepted_line(alloc: Global, records: u64) -> Result<Vec<u8>, AllocError>
-    ensures { IfOk result (λ line. line.items ≡ lines.line (accepted_value records)) }
-{
-    let mut line = begun_line(alloc)?;
-    put_count(alloc, &mut line, b"records", records)?;
-    put_form(&mut line, b"accepted")?;
-    Ok(line)
+/// The line without its end.
+impl fmt::Display for AcceptedLine {
+    ghost use Rattle.std.specs.Prelude.{Some};
+    ghost use Rattle.serde_json.specs.Written.{compact_text};
+    ghost use Rattle.iocm_lines.specs.Accepted.{accepted_value};
+
+    ghost output = { λ l. Some (compact_text (accepted_value l.0)) };
+
+    #[tactic(auto, unfolding(json::specs::Print::escape_byte))]
+    fn fmt<W: fmt::Write>(&self, f: &mut fmt::Formatter<W>) -> fmt::Result {
+        let records = self.0;
+        write!(f, "{{\"records\":{records},\"type\":\"accepted\"}}")
+    }
 }

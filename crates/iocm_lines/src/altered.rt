@@ -6,7 +6,7 @@ ghost use Rattle.iocm_lines.specs.Altered.{altered_value, seen_value};
 ghost use Rattle.iocm_lines.specs.Lines as lines;
 ghost use Rattle.iocm_lines.specs.Parts as parts;
 
-use crate::digits::{digit, digits};
+use crate::hexadecimal::{digit, digits};
 use crate::json_line::{JsonLine, put, put_paths};
 use iocm_types::{SubId, View};
 

@@ -1,11 +1,34 @@
-ghost use Rattle.std.specs.Prelude.{◌≡◌, IfOk};
-ghost use Rattle.iocm_lines.specs.Change.{change_value, count_value};
-ghost use Rattle.iocm_lines.specs.Lines as lines;
-ghost use Rattle.iocm_lines.specs.Members.{image_name};
-
-use crate::members::{begun_line, put_count, put_form, put_text};
+use crate::names::ImageName;
 use iocm_types::Image;
-use std::alloc::{AllocError, Global};
+use std::fmt;
+
+/// The line of a change: how many subchannels it altered, and its number, counted from 1.
+#[derive(Clone, Copy)]
+pub struct ChangeLine {
+    /// How many subchannels it altered.
+    pub altered: usize,
+    /// Its number.
+    pub change: usize,
+}
+
+/// The line without its end.
+impl fmt::Display for ChangeLine {
+    ghost use Rattle.std.specs.Prelude.{Some};
+    ghost use Rattle.serde_json.specs.Written.{compact_text};
+    ghost use Rattle.iocm_lines.specs.Change.{change_value};
+
+    ghost output = { λ l. Some (compact_text (change_value l.altered l.change)) };
+
+    #[tactic(auto, unfolding(json::specs::Print::escape_byte))]
+    fn fmt<W: fmt::Write>(&self, f: &mut fmt::Formatter<W>) -> fmt::Result {
+        let altered = self.altered;
+        let change = self.change;
+        write!(
+            f,
+            "{{\"altered\":{altered},\"change\":{change},\"type\":\"change\"}}"
+        )
+    }
+}
 
 /// How many subchannels of an image a change altered, by what became of them.
 #[derive(Clone, Copy, Debug, PartialEq, Eq)]
@@ -13,48 +36,37 @@ pub struct AlteredCounts {
     /// The image.
     pub image: Image,
     /// What was seen there is gone.
-    pub gone: u64,
+    pub gone: usize,
     /// Nothing was seen there, and now something is.
-    pub came: u64,
+    pub came: usize,
     /// Something else is seen there than before.
-    pub changed: u64,
+    pub changed: usize,
     /// The same is seen there as before, or nothing was and is.
-    pub same: u64,
+    pub same: usize,
 }
 
-/// The line of a change: how many subchannels it altered, and its number, counted from 1. Answers the
-/// lack of memory alone.
-pub fn change_line(alloc: Global, altered: u64, change: u64) -> Result<Vec<u8>, AllocError>
-    ensures { IfOk result (λ line. line.items ≡ lines.line (change_value altered change)) }
-{
-    let mut line = begun_line(alloc)?;
-    put_count(alloc, &mut line, b"altered", altered)?;
-    put_count(alloc, &mut line, b"change", change)?;
-    put_form(&mut line, b"change")?;
-    Ok(line)
-}
+/// The line of what a change altered of an image.
+#[derive(Clone, Copy)]
+pub struct CountLine(pub AlteredCounts);
 
-/// The line of what a change altered of an image. Answers the lack of memory alone.
-pub fn count_line(alloc: Global, counts: &AlteredCounts) -> Result<Vec<u8>, AllocError>
-    ensures { IfOk result (λ line. line.items ≡ lines.line (count_value counts.now)) }
-{
-    let image = image_text(alloc, &counts.image)?;
-    let mut line = begun_line(alloc)?;
-    put_count(alloc, &mut line, b"came", counts.came)?;
-    put_count(alloc, &mut line, b"changed", counts.changed)?;
-    put_count(alloc, &mut line, b"gone", counts.gone)?;
-    put_text(&mut line, b"image", image.as_slice())?;
-    put_count(alloc, &mut line, b"same", counts.same)?;
-    put_form(&mut line, b"count")?;
-    Ok(line)
-}
+/// The line without its end.
+impl fmt::Display for CountLine {
+    ghost use Rattle.std.specs.Prelude.{Some};
+    ghost use Rattle.serde_json.specs.Written.{compact_text};
+    ghost use Rattle.iocm_lines.specs.Change.{count_value};
 
-/// An image by its channel subsystem and MIF image ID.
-fn image_text(alloc: Global, image: &Image) -> Result<Vec<u8>, AllocError>
-    ensures { IfOk result (λ text. text.items ≡ image_name image.now) }
-{
-    let css = image.css;
-    let mif = image.mif;
-    let text = format!(in alloc; "{css}.{mif}")?;
-    Ok(text.into_bytes())
+    ghost output = { λ l. Some (compact_text (count_value l.0)) };
+
+    fn fmt<W: fmt::Write>(&self, f: &mut fmt::Formatter<W>) -> fmt::Result {
+        let image = ImageName(self.0.image);
+        let came = self.0.came;
+        let changed = self.0.changed;
+        let gone = self.0.gone;
+        let same = self.0.same;
+        write!(
+            f,
+            "{{\"came\":{came},\"changed\":{changed},\"gone\":{gone},\"image\":\"{image}\",\
+             \"same\":{same},\"type\":\"count\"}}"
+        )
+    }
 }

@@ -6,7 +6,7 @@ ghost use Rattle.serde_json.specs.Written.{compact_text};
 ghost use Rattle.iocm_lines.specs.Members.{path_list};
 ghost use Rattle.iocm_lines.specs.Subchannel.{paths_in};
 
-use crate::digits::digits;
+use crate::hexadecimal::digits;
 use arrayvec::ArrayVec;
 use iocm_types::Chpid;
 

@@ -1,7 +1,7 @@
 //! What holds of the definitions themselves. Each law is the contract of a function that does
 //! nothing.
 ghost use Rattle.iocm_lines.specs.Again.{PlainIsReadBack, LinesAreReadBack, LineTellsTheRow, LineTellsTheAltered};
-ghost use Rattle.iocm_lines.specs.Examples.{SubchannelsAsWorked, CountsAsWorked, RefusalsAsWorked, AlteredAsWorked};
+ghost use Rattle.iocm_lines.specs.Examples.{SubchannelsAsWorked, CountsAsWorked, RefusalsAsWorked, AlteredAsWorked, AnswersAsWorked};
 
 /// Lines are written as it is worked by hand.
 pub fn lines_are_as_worked()
@@ -9,6 +9,7 @@ pub fn lines_are_as_worked()
     ensures counts { CountsAsWorked }
     ensures refusals { RefusalsAsWorked }
     ensures altered { AlteredAsWorked }
+    ensures answers { AnswersAsWorked }
 {}
 
 /// The text of each plain value is read back as that value.

@@ -1,15 +1,11 @@
-ghost use Rattle.std.specs.Prelude.{◌≡◌, ◌++◌, codes, IfOk, OnOk};
-ghost use Rattle.std.specs.Fmt.{decimal};
-ghost use Rattle.std.specs.Option.{option_map};
-ghost use Rattle.serde_json.specs.Data.{string};
-ghost use Rattle.iocm_lines.specs.Lines as lines;
-ghost use Rattle.iocm_lines.specs.Members.{subchannel_name};
-ghost use Rattle.iocm_lines.specs.Refused as meaning;
+ghost use Rattle.std.specs.Prelude.{◌≡◌};
+ghost use Rattle.json.specs.Print.{escape};
+ghost use Rattle.iocm_types.specs.Key.{key_text};
 
-use crate::members::{begun_line, put_count_if_there, put_form, put_text};
-use iocm_types::{At, Rule, SubId, Text};
-use iocm_values::printed;
-use std::alloc::{AllocError, Global};
+use crate::names::SubchannelName;
+use crate::quoted::Quoted;
+use iocm_types::{At, Key, Rule};
+use std::fmt;
 
 /// The text that was refused.
 #[derive(Clone, Copy, Debug, PartialEq, Eq)]
@@ -28,102 +24,160 @@ pub enum Input {
     ChangeOf(u64),
 }
 
-/// What a line tells of a refusal, but for its title.
-#[derive(Clone, Copy, Debug, PartialEq, Eq)]
-pub struct RefusedLine {
+/// The name of the text.
+impl fmt::Display for Input {
+    ghost use Rattle.std.specs.Prelude.{Some};
+    ghost use Rattle.iocm_lines.specs.Refused.{input_text};
+
+    ghost output = { λ i. Some (input_text i) };
+
+    fn fmt<W: fmt::Write>(&self, f: &mut fmt::Formatter<W>) -> fmt::Result {
+        match self {
+            Input::Deck => f.write_str("deck"),
+            Input::Change => f.write_str("change"),
+            Input::Old => f.write_str("old"),
+            Input::New => f.write_str("new"),
+            Input::Script => f.write_str("script"),
+            Input::ChangeOf(number) => write!(f, "change {number}"),
+        }
+    }
+}
+
+/// The line of a refusal.
+#[derive(Clone, Copy)]
+pub struct RefusedLine<'t> {
     /// Its number.
     pub number: Rule,
     /// The text where it came, if one was read.
     pub input: Option<Input>,
     /// The line of the text, counted from 1, if it names one.
-    pub line: Option<u64>,
+    pub line: Option<usize>,
     /// The node of the change tree, counted from 0, if it names one.
     pub node: Option<u64>,
     /// What it is about.
     pub about: At,
+    /// What is wrong, in a few words.
+    pub title: &'t str,
 }
 
-/// The line of a refusal with its title. Answers the lack of memory alone.
-pub fn refused_line(alloc: Global, why: &RefusedLine, title: &str) -> Result<Vec<u8>, AllocError>
-    ensures { IfOk result (λ line. line.items ≡ lines.line (meaning.refused_value why.now title.now)) }
-{
-    let number = printed(alloc, &why.number)?;
-    let mut line = begun_line(alloc)?;
-    put_about(alloc, &mut line, &why.about)?;
-    put_input(alloc, &mut line, why.input)?;
-    put_count_if_there(alloc, &mut line, b"line", why.line)?;
-    put_count_if_there(alloc, &mut line, b"node", why.node)?;
-    put_text(&mut line, b"rule", number.as_slice())?;
-    put_text(&mut line, b"title", title.as_bytes())?;
-    put_form(&mut line, b"refused")?;
-    Ok(line)
-}
+/// The line without its end.
+impl<'t> fmt::Display for RefusedLine<'t> {
+    ghost use Rattle.std.specs.Prelude.{Some};
+    ghost use Rattle.serde_json.specs.Written.{compact_text};
+    ghost use Rattle.iocm_lines.specs.Refused.{refused_value, told};
 
-/// Puts what a refusal is about, if it names anything.
-fn put_about(alloc: Global, line: &mut Vec<u8>, about: &At) -> Result<(), AllocError>
-    ensures { OnOk result (line.new.items ≡ line.old.items
-        ++ lines.with_comma_if_there (codes "about") (option_map string (meaning.about_text about.now))) }
-{
-    match about_text(alloc, about)? {
-        Some(about) => put_text(line, b"about", about.as_slice()),
-        None => Ok(()),
+    ghost output = { λ l. Some (compact_text (refused_value (told l))) };
+
+    fn fmt<W: fmt::Write>(&self, f: &mut fmt::Formatter<W>) -> fmt::Result {
+        let about = AboutMember(self.about);
+        let input = InputMember(self.input);
+        let line = LineMember(self.line);
+        let node = NodeMember(self.node);
+        let number = self.number;
+        let title = Quoted(self.title);
+        write!(
+            f,
+            "{{{about}{input}{line}{node}\"rule\":\"{number}\",\"title\":{title},\"type\":\"refused\"}}"
+        )
     }
 }
 
-/// What a refusal is about, if it names anything.
-fn about_text(alloc: Global, about: &At) -> Result<Option<Text>, AllocError>
-    ensures { IfOk result (λ text. text ≡ meaning.about_text about.now) }
-{
-    match about {
-        At::Key(key) => Ok(Some(printed(alloc, key)?)),
-        At::Subchannel(subchannel) => Ok(Some(subchannel_text(alloc, subchannel)?)),
-        At::Change(number) => Ok(Some(change_text(alloc, *number)?)),
-        At::Nothing => Ok(None),
+/// What a refusal is about, if it names anything, with a comma.
+#[derive(Clone, Copy)]
+pub(crate) struct AboutMember(pub At);
+
+impl fmt::Display for AboutMember {
+    ghost use Rattle.std.specs.Prelude.{Some, codes, option_map};
+    ghost use Rattle.serde_json.specs.Data.{string};
+    ghost use Rattle.iocm_lines.specs.Lines.{with_comma_if_there};
+    ghost use Rattle.iocm_lines.specs.Refused.{about_text};
+
+    ghost output = { λ a. Some (with_comma_if_there (codes "about") (option_map string (about_text a.0))) };
+
+    fn fmt<W: fmt::Write>(&self, f: &mut fmt::Formatter<W>) -> fmt::Result {
+        match self.0 {
+            At::Key(key) => {
+                let key = plain_key(key);
+                write!(f, "\"about\":\"{key}\",")
+            }
+            At::Subchannel(subchannel) => {
+                let name = SubchannelName(subchannel);
+                write!(f, "\"about\":\"subchannel {name}\",")
+            }
+            At::Change(number) => write!(f, "\"about\":\"change {number}\","),
+            At::Nothing => Ok(()),
+        }
     }
 }
 
-/// A subchannel by its channel subsystem, image, set and number.
-fn subchannel_text(alloc: Global, id: &SubId) -> Result<Text, AllocError>
-    ensures { IfOk result (λ text. text ≡ codes "subchannel " ++ subchannel_name id.now) }
+/// The same key: its text needs no escapes, for a name has letters and digits alone.
+fn plain_key(key: Key) -> Key
+    ensures same { result ≡ key }
+    ensures plain { escape (key_text key) ≡ key_text key }
 {
-    let css = id.image.css;
-    let mif = id.image.mif;
-    let set = id.set;
-    let number = id.number;
-    let text = format!(in alloc; "subchannel {css}.{mif}.{set}.{number:04X}")?;
-    Ok(Text::from_vec(text.into_bytes()))
+    if let Key::Online(_, _, name) = &key {
+        name.as_bytes();
+    }
+    key
 }
 
-/// A change by its number.
-fn change_text(alloc: Global, number: u64) -> Result<Text, AllocError>
-    ensures { IfOk result (λ text. text ≡ codes "change " ++ decimal number) }
-{
-    let text = format!(in alloc; "change {number}")?;
-    Ok(Text::from_vec(text.into_bytes()))
+/// The text that was refused, if one was read, with a comma.
+#[derive(Clone, Copy)]
+struct InputMember(Option<Input>);
+
+impl fmt::Display for InputMember {
+    ghost use Rattle.std.specs.Prelude.{Some, codes, option_map};
+    ghost use Rattle.serde_json.specs.Data.{string};
+    ghost use Rattle.iocm_lines.specs.Lines.{with_comma_if_there};
+    ghost use Rattle.iocm_lines.specs.Refused.{input_text};
+
+    ghost output = { λ i. Some
+        (with_comma_if_there (codes "input") (option_map (λ input. string (input_text input)) i.0)) };
+
+    fn fmt<W: fmt::Write>(&self, f: &mut fmt::Formatter<W>) -> fmt::Result {
+        match self.0 {
+            Some(input) => write!(f, "\"input\":\"{input}\","),
+            None => Ok(()),
+        }
+    }
 }
 
-/// Puts the text that was refused, if one was read.
-fn put_input(alloc: Global, line: &mut Vec<u8>, input: Option<Input>) -> Result<(), AllocError>
-    ensures { OnOk result (line.new.items ≡ line.old.items
-        ++ lines.with_comma_if_there (codes "input") (option_map (λ i. string (meaning.input_text i)) input)) }
-{
-    let Some(input) = input else {
-        return Ok(());
-    };
-    let text = input_text(alloc, input)?;
-    put_text(line, b"input", text.as_slice())
+/// The line of the text, if it is named, with a comma.
+#[derive(Clone, Copy)]
+struct LineMember(Option<usize>);
+
+impl fmt::Display for LineMember {
+    ghost use Rattle.std.specs.Prelude.{Some, codes, option_map};
+    ghost use Rattle.iocm_lines.specs.Lines.{with_comma_if_there};
+    ghost use Rattle.iocm_lines.specs.Members.{count};
+
+    ghost output = { λ l. Some (with_comma_if_there (codes "line") (option_map count l.0)) };
+
+    #[tactic(auto, unfolding(json::specs::Print::escape_byte))]
+    fn fmt<W: fmt::Write>(&self, f: &mut fmt::Formatter<W>) -> fmt::Result {
+        match self.0 {
+            Some(line) => write!(f, "\"line\":{line},"),
+            None => Ok(()),
+        }
+    }
 }
 
-/// The name of a text that was refused.
-fn input_text(alloc: Global, input: Input) -> Result<Text, AllocError>
-    ensures { IfOk result (λ text. text ≡ meaning.input_text input) }
-{
-    match input {
-        Input::Deck => Text::from_slice(alloc, b"deck"),
-        Input::Change => Text::from_slice(alloc, b"change"),
-        Input::Old => Text::from_slice(alloc, b"old"),
-        Input::New => Text::from_slice(alloc, b"new"),
-        Input::Script => Text::from_slice(alloc, b"script"),
-        Input::ChangeOf(number) => change_text(alloc, number),
+/// The node of the change tree, if it is named, with a comma.
+#[derive(Clone, Copy)]
+pub(crate) struct NodeMember(pub Option<u64>);
+
+impl fmt::Display for NodeMember {
+    ghost use Rattle.std.specs.Prelude.{Some, codes, option_map};
+    ghost use Rattle.iocm_lines.specs.Lines.{with_comma_if_there};
+    ghost use Rattle.iocm_lines.specs.Members.{count};
+
+    ghost output = { λ n. Some (with_comma_if_there (codes "node") (option_map count n.0)) };
+
+    #[tactic(auto, unfolding(json::specs::Print::escape_byte))]
+    fn fmt<W: fmt::Write>(&self, f: &mut fmt::Formatter<W>) -> fmt::Result {
+        match self.0 {
+            Some(node) => write!(f, "\"node\":{node},"),
+            None => Ok(()),
+        }
     }
 }

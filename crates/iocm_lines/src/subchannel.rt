@@ -1,94 +1,85 @@
-ghost use Rattle.std.specs.Prelude.{◌≡◌, ◌<◌, ◌++◌, ◌∷◌, [], length};
-ghost use Rattle.iocm_lines.specs.Lines as lines;
-ghost use Rattle.iocm_lines.specs.Parts as parts;
-ghost use Rattle.iocm_lines.specs.Subchannel.{subchannel_value};
+ghost use Rattle.std.specs.Prelude.{◌≡◌, []};
+ghost use Rattle.iocm_lines.specs.Told.{line_at, with_device};
 
-use crate::digits::{digit, digits};
-use crate::json_line::{JsonLine, put, put_paths};
-use iocm_types::{Name, SubId, View};
+use crate::json_line::JsonLine;
+use crate::parts::SubchannelParts;
+use iocm_types::{DevNo, Image, Name, SetNo, View};
+use std::marker::Model;
 
-/// Puts the line of a subchannel of the image of this name, with its end, where no byte is.
-#[inline]
-pub fn put_subchannel(line: &mut JsonLine, id: SubId, view: &View, name: &Name)
-    requires { line.old.items ≡ [] }
-    ensures { line.new.items ≡ lines.line (subchannel_value (id, view.now) name.now) }
-{
-    let pam = view.pam.bits();
-    let pim = view.pim.bits();
-    let paths = view.paths.as_slice();
-    put(line, b"{\"available\":");
-    put_paths(line, paths, pam);
-    put(line, &until_installed(&id, view));
-    put_paths(line, paths, pim);
-    put(line, b",\"name\":\"");
-    put(line, name.as_bytes());
-    put(line, &until_paths(&id, view));
-    put_paths(line, paths, 0xFF);
-    put(line, &until_end(&id, view));
+/// The lines of an image's subchannels, one at a time. Subchannels of one set where the same is seen
+/// but for the device have the same line but for two numbers: what stands between these is put together
+/// for the first of them. It takes no memory.
+#[derive(Drop)]
+pub struct SubchannelLines {
+    image: Image,
+    name: Name,
+    /// The set of the last subchannel, and what was seen there, with 0000 for the device.
+    set: SetNo,
+    seen: Option<View>,
+    parts: SubchannelParts,
+    line: JsonLine,
 }
 
-/// The part of a line from the available paths to the installed ones.
-#[inline]
-fn until_installed(id: &SubId, view: &View) -> [u8; 51]
-    ensures text { result ≡ parts.until_installed id.now view.now }
-    ensures device { view.now.device < 65536 }
-{
-    let css = digit(id.image.css.number());
-    let mif = digit(id.image.mif.number());
-    let device = view.device.number();
-    let [d1, d2] = digits((device / 256) as u8);
-    let [d3, d4] = digits((device % 256) as u8);
-    let mut text = *b",\"css\":0,\"device\":\"0000\",\"image\":\"0.0\",\"installed\":";
-    text[7] = css;
-    text[19] = d1;
-    text[20] = d2;
-    text[21] = d3;
-    text[22] = d4;
-    text[34] = css;
-    text[36] = mif;
-    text
+impl Model for SubchannelLines {
+    ghost use Rattle.std.specs.Prelude.{refl, List, ℕ, IfSome};
+    ghost use Rattle.std.specs.Coded.{code_by, coded×, coded_list, coded_ℕ, codes};
+    ghost use Rattle.iocm_types.specs.declared.image.Image as images;
+    ghost use Rattle.iocm_lines.specs.Told.{ArePartsOf, LineOf};
+
+    ghost Value = { LineOf };
+
+    ghost coded = { code_by (images.Image × (List ℕ × List ℕ))
+        (coded× (Prim.hlevel codes) (coded× (coded_list coded_ℕ) (coded_list coded_ℕ)))
+        (λ t. (t.image, (t.name, t.text)))
+        (λ p. record { image = p.0; name = p.1.0; text = p.1.1 }) (λ _. refl) };
+
+    ghost view = { λ s. record { image = s.image; name = s.name; text = s.line.items } };
+
+    ghost invariant = { λ s. IfSome s.seen (ArePartsOf s.parts s.image s.name s.set) };
 }
 
-/// The part of a line from the name to the paths.
-#[inline]
-fn until_paths(id: &SubId, view: &View) -> [u8; 37]
-    ensures { result ≡ parts.until_paths id.now view.now }
-{
-    let [n1, n2] = digits((id.number / 256) as u8);
-    let [n3, n4] = digits((id.number % 256) as u8);
-    let [a1, a2] = digits(view.pam.bits());
-    let mut text = *b"\",\"number\":\"0000\",\"pam\":\"00\",\"paths\":";
-    text[12] = n1;
-    text[13] = n2;
-    text[14] = n3;
-    text[15] = n4;
-    text[25] = a1;
-    text[26] = a2;
-    text
-}
+impl SubchannelLines {
+    /// No line yet of the image of this name.
+    pub fn new(image: Image, name: Name) -> Self
+        ensures { result ≡ record { image = image; name = name; text = [] } }
+    {
+        SubchannelLines {
+            image,
+            name,
+            set: SetNo::FIRST,
+            seen: None,
+            parts: SubchannelParts::none(),
+            line: JsonLine::new(),
+        }
+    }
 
-/// The part of a line from the paths to its end.
-#[inline]
-fn until_end(id: &SubId, view: &View) -> [u8; 67]
-    ensures { result ≡ parts.until_end id.now view.now ++ 10 ∷ [] }
-{
-    let [n1, n2] = digits((id.number / 256) as u8);
-    let [n3, n4] = digits((id.number % 256) as u8);
-    let [i1, i2] = digits(view.pim.bits());
-    let css = digit(id.image.css.number());
-    let mif = digit(id.image.mif.number());
-    let set = digit(id.set.number());
-    let mut text =
-        *b",\"pim\":\"00\",\"set\":0,\"subchannel\":\"0.0.0.0000\",\"type\":\"subchannel\"}\n";
-    text[8] = i1;
-    text[9] = i2;
-    text[18] = set;
-    text[34] = css;
-    text[36] = mif;
-    text[38] = set;
-    text[40] = n1;
-    text[41] = n2;
-    text[42] = n3;
-    text[43] = n4;
-    text
+    /// Makes the line that of the image's subchannel of a number in a set, with what is seen there.
+    #[inline]
+    pub fn put(&mut self, set: SetNo, number: u16, view: &View)
+        ensures { self.new ≡ record {
+          image = self.old.image;
+          name = self.old.name;
+          text = line_at self.old.image self.old.name set number view.now;
+        } }
+    {
+        let seen = View {
+            device: DevNo::new(0),
+            ..*view
+        };
+        if self.set != set || self.seen != Some(seen) {
+            self.parts.renew(&self.image, &self.name, set, &seen);
+            self.set = set;
+            self.seen = Some(seen);
+        }
+        self.line.clear();
+        self.parts.put_line(&mut self.line, number, view.device);
+    }
+
+    /// The line, with its end, or no bytes.
+    #[inline]
+    pub fn as_slice(&self) -> &[u8]
+        ensures { result.now ≡ self.now.text }
+    {
+        self.line.as_slice()
+    }
 }

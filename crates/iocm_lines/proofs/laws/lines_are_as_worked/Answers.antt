@@ -1,4 +1,5 @@
 use Rattle.iocm_lines.proofs.Worked.{subchannels_as_worked, counts_as_worked, refusals_as_worked, altered_as_worked}
+use Rattle.iocm_lines.proofs.Worked.{answers_as_worked}
 use Rattle.iocm_lines.proofs.laws.lines_are_as_worked.Goals as goal
 
 pub returns-clause-subchannels : goal.returns-clause-subchannels
@@ -12,3 +13,6 @@ returns-clause-refusals c = refusals_as_worked
 
 pub returns-clause-altered : goal.returns-clause-altered
 returns-clause-altered c = altered_as_worked
+
+pub returns-clause-answers : goal.returns-clause-answers
+returns-clause-answers c = answers_as_worked

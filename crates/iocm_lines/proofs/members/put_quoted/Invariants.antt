@@ -1,7 +1,0 @@
--- The bytes so far are put.
-use Rattle.std.proofs.Common.{◌≡◌, ◌++◌, take}
-use Rattle.json.specs.Print.{escape}
-use Rattle.iocm_lines.proofs.members.put_quoted.Given as goal
-
-abbrev pub invariant-loop-byte : goal.invariant-loop-byte
-invariant-loop-byte l = l.text.items ≡ l.initial.text.items ++ escape (take l.byte-index l.value)

@@ -1,0 +1,8 @@
+/// In which form a command prints.
+#[derive(Clone, Copy, Debug, PartialEq, Eq)]
+pub enum Form {
+    /// Plain text, for readers.
+    Text,
+    /// Lines of JSON, for programs.
+    Json,
+}
